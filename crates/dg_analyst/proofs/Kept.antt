@@ -1,11 +1,6 @@
 -- What a seat keeps of a look that it just took.
 --   look_kept    where the last of a seat's entries is a look, the seat keeps something, which is that look's
-use Rattle.std.proofs.Common.{◌≡◌, ℕ, List, [], ◌∷◌, ◌++◌, Option, Some, None, MatchOption, ap, subst, ◌∙◌}
-use Rattle.dg_game.specs.declared.entry.Entry.{Entry}
-use Rattle.dg_game.specs.declared.entry.Request.TheVariants.{Look}
-use Rattle.dg_game.specs.declared.look.LookData.{LookData}
-use Rattle.dg_table.specs.Looks.{IsLookOf, IsLastLook, last_look}
-use Rattle.dg_table.proofs.Findings.{last_after}
+use Rattle.dg_analyst.proofs.Common.{◌≡◌, ℕ, List, [], ◌∷◌, ◌++◌, Option, Some, None, MatchOption, ap, subst, ◌∙◌, Entry, Look, LookData, IsLookOf, IsLastLook, last_look, last_after}
 
 look_last : (ps qs : List (ℕ × Entry)) (p : ℕ × Entry) → p.1.request ≡ Look → qs ≡ ps ++ p ∷ [] → last_look qs ≡ Some p
 look_last ps qs p look more = ap last_look more ∙ last_after ps p look

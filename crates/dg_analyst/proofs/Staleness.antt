@@ -1,21 +1,7 @@
 -- What is entered on a look that is stale.
 --   settled_stale   a question on it is so entered as each finding that is asked for alike
 --   stale_is_committed, stale_rank_is_committed   as each verdict, and as each answer of the rank test
-use Rattle.std.proofs.Common.{◌≡◌, ℕ, ◌∷◌, [], ◌++◌, refl, sym, subst}
-use Rattle.dg_game.specs.History.{gifts_in}
-use Rattle.dg_game.specs.Look.{asked_for, asked_on, degree_of, KeepsFinding}
-use Rattle.dg_game.specs.declared.entry.Entry.{Entry}
-use Rattle.dg_game.specs.declared.entry.Reply.TheVariants.{Stale}
-use Rattle.dg_game.specs.declared.entry.Request.{Request}
-use Rattle.dg_game.specs.declared.finding.Finding.{Finding}
-use Rattle.dg_game.specs.declared.finding.Finding.TheVariants.{Judged, Ranked}
-use Rattle.dg_game.specs.declared.finding.Question.{Question}
-use Rattle.dg_game.specs.declared.finding.Question.TheVariants.{Judge, Rank}
-use Rattle.dg_log.specs.Tables.{TableData}
-use Rattle.dg_table.specs.Answered.{entering, IsEnteredAfter}
-use Rattle.dg_table.specs.Seats.{SeatView}
-use Rattle.dg_table.specs.Settled.{IsSettled, IsStale}
-use Rattle.dg_analyst.specs.Commits.{StaleIsCommitted, StaleRankIsCommitted}
+use Rattle.dg_analyst.proofs.Common.{◌≡◌, ℕ, ◌∷◌, [], ◌++◌, refl, sym, subst, gifts_in, asked_for, asked_on, degree_of, KeepsFinding, Entry, Stale, Request, Finding, Judged, Ranked, Question, Judge, Rank, TableData, entering, IsEnteredAfter, SeatView, IsSettled, IsStale, StaleIsCommitted, StaleRankIsCommitted}
 
 -- a stale entry keeps nothing of what was found
 keeps_nothing : (f : Finding) (n : ℕ) → KeepsFinding f (Stale n)

@@ -1,16 +1,14 @@
--- What is reckoned on looks, and how it is entered. x and y are a seat before and after.
---   IsReckoned q x found    == found is the look x, with the verdict that is reckoned for it from the
+-- What is computed on looks, and how it is entered. x and y are a seat before and after.
+--   IsReckoned q x found    == found is the look x, with the verdict that is computed for it from the
 --                              vertex q
 --   IsCommitted table found r x y == the seat has entered the verdict found on its look, with the
 --                              receipt r
 --   IsRankCommitted table found r x y == so it has the answer of a rank test found on its look
 --   RefusesCommit table x y fault == the entry was refused with the fault; the seat knows what it knew
---   StaleIsCommitted        == the entry of a look that is stale, though nothing was reckoned, is that
+--   StaleIsCommitted        == the entry of a look that is stale, though nothing was computed, is that
 --                              of each verdict on the look
 --   StaleRankIsCommitted    == and of each answer of the rank test that was asked for
 use Rattle.std.specs.Prelude.{◌≡◌, ℕ}
-use Rattle.dg_verdict.specs.declared.rank_verdict.RankVerdict.{RankVerdict}
-use Rattle.dg_verdict.specs.declared.verdict.Verdict.{Verdict}
 use Rattle.dg_game.specs.Look.{degree_of}
 use Rattle.dg_game.specs.declared.entry.Entry.{Entry}
 use Rattle.dg_game.specs.declared.finding.Finding.TheVariants.{Judged, Ranked}
@@ -20,6 +18,8 @@ use Rattle.dg_table.specs.Faults.{RefusesCall}
 use Rattle.dg_table.specs.Seats.{SeatView, Keeps}
 use Rattle.dg_table.specs.Settled.{IsSettled, IsStale}
 use Rattle.dg_table.specs.declared.fault.Fault.{Fault}
+use Rattle.dg_verdict.specs.declared.rank_verdict.RankVerdict.{RankVerdict}
+use Rattle.dg_verdict.specs.declared.verdict.Verdict.{Verdict}
 use Rattle.dg_analyst.specs.Views.{LookView, Found, IsJudged}
 
 pub record IsReckoned (q : ℕ) (x : LookView) (found : Found Verdict) : Type 0 where

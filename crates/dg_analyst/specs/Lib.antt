@@ -1,3 +1,3 @@
--- Looks, and what is reckoned on them.
+-- Looks, and what is computed on them.
 pub mod Views
 pub mod Commits

@@ -3,7 +3,7 @@
 --   Found A           == a look, and what was found on it: a verdict, or the answer of a rank test
 --   IsTaken o x       == what is kept of the look x of a table with the start o is that of its
 --                        entry, and has the vertices of the start
---   IsJudged q x v    == v is the verdict that is reckoned, from the vertex q, for the look x, its
+--   IsJudged q x v    == v is the verdict that is computed, from the vertex q, for the look x, its
 --                        amounts on its graph
 --   IsTried x k w v   == v is the right answer of the rank test of degree k for the look x, its
 --                        amounts on its graph; the degree is within the limits, and there may be w
@@ -11,14 +11,14 @@
 use Rattle.std.specs.Prelude.{ℕ}
 use Rattle.dg_chips.specs.Starts.{StartData}
 use Rattle.dg_chips.specs.Vector.{at}
-use Rattle.dg_verdict.specs.RankTests.{IsRankTest}
-use Rattle.dg_rank.specs.Ranks.{IsWithin, MayHaveWorkers}
-use Rattle.dg_verdict.specs.declared.rank_verdict.RankVerdict.{RankVerdict}
-use Rattle.dg_verdict.specs.Right.{IsVerdictOn}
-use Rattle.dg_verdict.specs.declared.verdict.Verdict.{Verdict}
 use Rattle.dg_game.specs.declared.entry.Entry.{Entry}
 use Rattle.dg_game.specs.declared.look.LookData.{LookData}
+use Rattle.dg_rank.specs.Ranks.{IsWithin, MayHaveWorkers}
 use Rattle.dg_table.specs.Looks.{HasVertices, IsLookOf}
+use Rattle.dg_verdict.specs.RankTests.{IsRankTest}
+use Rattle.dg_verdict.specs.Right.{IsVerdictOn}
+use Rattle.dg_verdict.specs.declared.rank_verdict.RankVerdict.{RankVerdict}
+use Rattle.dg_verdict.specs.declared.verdict.Verdict.{Verdict}
 
 pub record LookView : Type 0 where
   pub receipt : ℕ × Entry

@@ -1,4 +1,4 @@
-//! Entering what was reckoned on a look.
+//! Entering what was computed on a look.
 ghost use Rattle.std.specs.Prelude.{◌≡◌, length, IfOk, IfErr, MatchOption};
 ghost use Rattle.dg_verdict.specs.declared.verdict.Verdict.{Verdict as VerdictData};
 ghost use Rattle.dg_analyst.specs.Commits.{IsReckoned, IsCommitted, IsRankCommitted, RefusesCommit};
@@ -15,12 +15,12 @@ use dg_verdict::judge_with_inverse;
 use std::alloc::Global;
 use std::sync::Wait;
 
-/// Enters a verdict that was reckoned on a look: as stale just if gifts, levies or joins were accepted since the look;
+/// Enters a verdict that was computed on a look: as stale just if gifts, levies or joins were accepted since the look;
 /// otherwise as a verdict that is right for the position at its place in the one history, with the reduced divisor and the
 /// burning order that were found. The seat is told of the look, and need not be the one that looked.
 ///
 /// It waits for the lock. Refused with `OutOfMemory`, before it waits; with `Full`; and with `Log`, also if the history has
-/// no entry of the look's number. What was reckoned comes back, the seat knows what it knew, and there is no entry.
+/// no entry of the look's number. What was computed comes back, the seat knows what it knew, and there is no entry.
 pub fn commit<N: Name>(
     table: &Table<N>,
     rt: &impl Wait,
@@ -41,8 +41,8 @@ pub fn commit<N: Name>(
     }
 }
 
-/// Enters a question on a look as stale, as `commit` and `commit_rank` enter what was reckoned for it, if gifts, levies or joins
-/// were accepted since the look; so nothing need be reckoned on a look that is stale. `None` if none was in the history that it
+/// Enters a question on a look as stale, as `commit` and `commit_rank` enter what was computed for it, if gifts, levies or joins
+/// were accepted since the look; so nothing need be computed on a look that is stale. `None` if none was in the history that it
 /// finds, which the seat has met then; that is no event: no cell is set, and the seat knows what it knew. The look stays the
 /// caller's; the seat is told of it if there is an entry, and need not be the one that looked.
 ///

@@ -1,4 +1,4 @@
-//! An analyst looks at a table, reckons without its lock while others play, and enters what it found.
+//! An analyst looks at a table, computes without its lock while others play, and enters what it found.
 #![tactic(auto)]
 
 mod commits;

@@ -8,7 +8,7 @@ use dg_graph::Graph;
 use dg_log::{Name, Receipt};
 use std::marker::Model;
 
-/// A look at the table N, with what is needed to reckon on it while others play. A contract sees the look's entry, with
+/// A look at the table N, with what is needed to compute on it while others play. A contract sees the look's entry, with
 /// its number, and what is kept of it.
 #[derive(Drop)]
 pub struct Look<N: Name> {

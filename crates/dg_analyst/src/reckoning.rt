@@ -1,4 +1,4 @@
-//! What is reckoned on looks, with no table at hand.
+//! What is computed on looks, with no table at hand.
 ghost use Rattle.std.specs.Prelude.{◌≡◌, ◌≤◌, MatchResult, IfErr};
 ghost use Rattle.dg_analyst.specs.Commits.{IsReckoned};
 ghost use Rattle.dg_analyst.specs.Views.{IsTried};
@@ -89,7 +89,7 @@ impl<N: Name> Tried<N> {
     }
 }
 
-/// The verdict on the amounts that a look showed, on its graph, reckoned from the vertex of the start. It takes no lock,
+/// The verdict on the amounts that a look showed, on its graph, computed from the vertex of the start. It takes no lock,
 /// and needs no memory.
 pub fn reckon<N: Name>(look: Look<N>) -> Reckoned<N>
     ensures { IsReckoned N.table.start.q look result }

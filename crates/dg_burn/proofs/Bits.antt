@@ -4,16 +4,8 @@
 --   least_bit      the lowest bit of a number that is not 0
 --   all_inside     all vertices below n are below n
 --   none_burnt     and where they are left none burns
-use Rattle.std.proofs.Common.{◌≡◌, ℕ, zero, suc, ◌+◌, ◌*◌, ◌%◌, ◌^◌, ◌<◌, Bool, true, false, not, ◌&&◌, nat_eq, min, arith, refl, sym, ap, ap₂, ◌∙◌, bit_and, w16}
-use Rattle.std.specs.Prelude.{nat_lt}
-use Rattle.std.specs.Int.RustNames.{bit_xor}
-use Rattle.std.specs.Int.{bit_at, trailing_zeros}
-use Rattle.std.proofs.lemmas.Bool.{eqb-true, ltb-true, and_parts}
-use Rattle.std.proofs.lemmas.Nat.{one_shl}
-use Rattle.std.proofs.lemmas.Nat.Bits.{bit_at-lt, bit_at_and, bit_at_xor, bit_at-pow_same, bit_at-pow_other, bit_at-trailing_zeros}
-use Rattle.dg_graph.specs.Sets.{in_set, IsSetBelow}
-use Rattle.dg_graph.proofs.SetLaws.{in_set-none}
-use Rattle.dg_burn.specs.Fires.{IsLeastIn, IsWithout}
+use Rattle.dg_burn.proofs.Common.{◌≡◌, ℕ, zero, suc, ◌+◌, ◌*◌, ◌%◌, ◌^◌, ◌<◌, Bool, true, false, not, ◌&&◌, nat_eq, min, arith, refl, sym, ap, ap₂, ◌∙◌, bit_and, w16, nat_lt, bit_xor, bit_at, trailing_zeros, eqb-true, ltb-true, and_parts, one_shl, bit_at-lt, bit_at_and, bit_at_xor, bit_at-pow_same, bit_at-pow_other, bit_at-trailing_zeros, IsSetBelow, in_set-none, IsLeastIn, IsWithout}
+use Rattle.dg_graph.specs.Sets.{in_set}
 
 both_ones : (a b : ℕ) → a < 2 → b < 2 → nat_eq (min a b) 1 ≡ (nat_eq a 1 && nat_eq b 1)
 both_ones zero b few_a few_b = let none : min 0 b ≡ 0 = omega arith in rw none refl

@@ -2,16 +2,7 @@
 --   capped-less    capped and not, an amount without debt is below the same numbers up to 63
 --   same-may       who may burn is the same, where q burns
 --   same-order     so the order is the same
-use Rattle.std.proofs.Common.{◌≡◌, ℕ, suc, ◌<◌, ◌≤◌, Bool, true, false, List, [], ◌∷◌, take, arith, refl, ap, ◌∙◌}
-use Rattle.std.specs.Prelude.{◌↔◌, ℤ, negsuc, slice_get, Some, ◌<ℤ◌, ◌≤ℤ◌}
-use Rattle.std.proofs.Math.IntN.{pos}
-use Rattle.std.proofs.lemmas.Bool.{both_ways, eq-eqb}
-use Rattle.std.proofs.lemmas.Int.{ints}
-use Rattle.dg_theory.specs.Multigraph.{Multigraph}
-use Rattle.dg_theory.specs.Firing.{Amounts, HasNoDebtOff}
-use Rattle.dg_theory.specs.Burning.{among, edges_into, MayBurn, BurnsNext, BurnsInOrder}
-use Rattle.dg_graph.specs.Graph.{IsGraph}
-use Rattle.dg_burn.specs.Fires.{dollars, capped, IsHeld}
+use Rattle.dg_burn.proofs.Common.{◌≡◌, ℕ, suc, ◌<◌, ◌≤◌, Bool, true, false, List, [], ◌∷◌, take, arith, refl, ap, ◌∙◌, ◌↔◌, ℤ, negsuc, slice_get, Some, ◌<ℤ◌, ◌≤ℤ◌, pos, both_ways, eq-eqb, ints, Multigraph, Amounts, HasNoDebtOff, among, edges_into, MayBurn, BurnsNext, BurnsInOrder, IsGraph, dollars, capped, IsHeld}
 use Rattle.dg_burn.proofs.Fires.{into-few}
 
 pub capped-less : (z : ℤ) (e : ℕ) → pos 0 ≤ℤ z → e ≤ 63 → (pos (capped z) <ℤ pos e) ↔ (z <ℤ pos e)

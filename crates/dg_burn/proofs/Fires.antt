@@ -12,21 +12,8 @@
 --   left-less      where one is left less, one burns more
 --   burnt_out      in a fire, nobody may burn where each has burnt whose heat is above 127
 --   least_burns    in a fire, the least vertex that has not and whose heat is burns next
-use Rattle.std.proofs.Common.{◌≡◌, ℕ, zero, suc, ◌+◌, ◌-◌, ◌<◌, ◌≤◌, Bool, true, false, not, ◌&&◌, List, arith, refl, sym, ap, ap₂, ◌∙◌, ⊎_elim}
-use Rattle.std.specs.Prelude.{nat_lt, if◌then◌else◌, slice_index, ◌<ℤ◌}
-use Rattle.std.proofs.Math.IntN.{pos}
-use Rattle.std.proofs.lemmas.Bool.{cases_Bool, cases_eq, cases_lt, lt-ltb, both_ways, not-false}
-use Rattle.std.proofs.lemmas.Int.{ints}
-use Rattle.dg_theory.specs.Sums.{total_below}
-use Rattle.dg_theory.specs.Multigraph.{Multigraph, IsMultigraph, edges_between, valence}
-use Rattle.dg_theory.specs.Burning.{edges_into, MayBurn, BurnsNext}
-use Rattle.dg_theory.proofs.TotalLaws.{total_below-cong, total_below-term, total_below-differ_at}
-use Rattle.dg_theory.proofs.Debts.{into-le-valence}
-use Rattle.dg_graph.specs.Graph.{IsGraph}
-use Rattle.dg_graph.specs.Sets.{in_set, IsSetBelow, IsWith}
-use Rattle.dg_graph.proofs.Valences.{valence-few, valence-outside}
-use Rattle.dg_burn.specs.declared.fire.Fire.{Fire}
-use Rattle.dg_burn.specs.Fires.{dollars, heat, burns, IsUnlit, IsOut, IsLeastToBurn, IsWithout, IsFire}
+use Rattle.dg_burn.proofs.Common.{if◌then◌else◌, ◌≡◌, ℕ, zero, suc, ◌+◌, ◌-◌, ◌<◌, ◌≤◌, Bool, true, false, not, ◌&&◌, List, arith, refl, sym, ap, ap₂, ◌∙◌, ⊎_elim, nat_lt, slice_index, ◌<ℤ◌, pos, cases_Bool, cases_eq, cases_lt, lt-ltb, both_ways, not-false, ints, total_below, Multigraph, IsMultigraph, edges_between, valence, edges_into, MayBurn, BurnsNext, total_below-cong, total_below-term, total_below-differ_at, into-le-valence, IsGraph, IsSetBelow, IsWith, valence-few, valence-outside, Fire, dollars, heat, burns, IsUnlit, IsOut, IsLeastToBurn, IsWithout, IsFire}
+use Rattle.dg_graph.specs.Sets.{in_set}
 
 total-zero : (n : ℕ) → total_below n (λ _. 0) ≡ 0
 total-zero zero = refl

@@ -1,32 +1,16 @@
 -- Vectors of sixteen bytes, which a proof sees as lists of their lanes.
 --   lane-few        a lane is at most 255
---   lane_rest       a lane of a difference that does not wrap
 --   lane_lack       a lane of what is lacking to 127: the greater of it and 127, less it
 --   marks           the bits of the lanes that are above 127, as a mask of sixteen
 --   marks-few       there are sixteen of them
 --   marked          a vertex is in the set that they stand for where its lane is above 127
-use Rattle.std.proofs.Common.{◌≡◌, ℕ, ◌+◌, ◌-◌, ◌%◌, ◌^◌, ◌<◌, ◌≤◌, Bool, true, false, cond, ltb, List, map, length, get_or, replicate, arith, refl, sym, ap, ◌∙◌, ⊎_elim, Fits, w8, nat_eq}
-use Rattle.std.specs.Prelude.{slice_index, nat_lt}
-use Rattle.std.specs.Int.{bit_at}
-use Rattle.std.proofs.lemmas.Bool.{cases_lt, lt-ltb, le-ltb}
-use Rattle.std.proofs.lemmas.List.{get_or_past, length-map}
-use Rattle.std.proofs.lemmas.Simd.{Each1-get_or, tops_compared, length-zip2, length-sel_l, get_or-zip2, get_or-sel_l, get_or-replicate, mask_l-lt, mask_l-mod, bit_mask_l}
-use lib.Lanes.{Each1, zip2, sel_l, mask_l, top}
+use Rattle.dg_burn.proofs.Common.{◌≡◌, ℕ, ◌+◌, ◌-◌, ◌%◌, ◌^◌, ◌<◌, ◌≤◌, Bool, true, false, cond, ltb, List, map, length, get_or, replicate, arith, refl, sym, ap, ◌∙◌, ⊎_elim, Fits, w8, nat_eq, slice_index, nat_lt, bit_at, cases_lt, lt-ltb, le-ltb, get_or_past, length-map, Each1-get_or, tops_compared, length-zip2, length-sel_l, get_or-zip2, get_or-sel_l, get_or-replicate, mask_l-lt, mask_l-mod, bit_mask_l, Each1, zip2, sel_l, mask_l, top}
 use Rattle.dg_graph.specs.Sets.{in_set}
 
 pub lane-few : (xs : List ℕ) (v : ℕ) → v < length xs → Each1 (Fits w8) xs → slice_index xs v ≤ 255
 lane-few xs v few fits =
     let fit : Fits w8 (slice_index xs v) = Each1-get_or (Fits w8) xs v 0 few fits in
     omega (arith, fit.fits)
-
-pub lane_rest : (xs ys : List ℕ) (v : ℕ) → v < length xs → v < length ys →
-    slice_index ys v ≤ slice_index xs v → slice_index xs v ≤ 255 →
-    slice_index (zip2 (λ a b. (a + (256 - b)) % 256) xs ys) v ≡ slice_index xs v - slice_index ys v
-lane_rest xs ys v left right less few =
-    let lane : slice_index (zip2 (λ a b. (a + (256 - b)) % 256) xs ys) v
-    ≡ (slice_index xs v + (256 - slice_index ys v)) % 256 =
-    get_or-zip2 (λ a b. (a + (256 - b)) % 256) xs ys v 0 0 0 left right in
-    omega arith
 
 abbrev compared : ℕ → ℕ → ℕ
 compared a b = cond (ltb a b) (2 ^ 8 - 1) 0

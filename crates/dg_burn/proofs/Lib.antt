@@ -6,3 +6,4 @@ pub mod Fires
 pub mod Capped
 pub mod Lanes
 pub mod Bits
+pub mod Common

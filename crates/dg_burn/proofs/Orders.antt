@@ -5,12 +5,7 @@
 --   so_far-first   q alone
 --   so_far-more    one vertex more, which is the least that may burn
 --   so_far-done    the list is the whole order where none may burn
-use Rattle.std.proofs.Common.{◌≡◌, ℕ, zero, suc, ◌<◌, ◌⊎◌, Bool, List, [], ◌∷◌, ◌++◌, length, take, arith, refl, inl, inr, ⊎_elim}
-use Rattle.std.specs.Prelude.{slice_get, Some}
-use Rattle.std.proofs.lemmas.List.{take-append-le, take_all}
-use Rattle.dg_theory.specs.Multigraph.{Multigraph}
-use Rattle.dg_theory.specs.Firing.{Amounts}
-use Rattle.dg_theory.specs.Burning.{among, MayBurn, BurnsNext, BurnsSoFar, BurnsInOrder}
+use Rattle.dg_burn.proofs.Common.{◌≡◌, ℕ, zero, suc, ◌<◌, ◌⊎◌, Bool, List, [], ◌∷◌, ◌++◌, length, take, arith, refl, inl, inr, ⊎_elim, slice_get, Some, take-append-le, take_all, Multigraph, Amounts, among, MayBurn, BurnsNext, BurnsSoFar, BurnsInOrder}
 
 pub get-push : (l : List ℕ) (v i w : ℕ) → slice_get (l ++ v ∷ []) i ≡ Some w →
     ((i < length l) × (slice_get l i ≡ Some w)) ⊎ ((i ≡ length l) × (v ≡ w))

@@ -1,7 +1,6 @@
 -- The places of an order that are not used.
 --   none_after    the places after q are 0
-use Rattle.std.proofs.Common.{◌≡◌, ℕ, zero, suc, ◌≤◌, ◌∷◌, replicate, arith, refl}
-use Rattle.std.specs.List.{slice_index_or}
+use Rattle.dg_burn.proofs.Common.{◌≡◌, ℕ, zero, suc, ◌≤◌, ◌∷◌, replicate, arith, refl, slice_index_or}
 
 zero_at : (k i : ℕ) → slice_index_or {A = ℕ} (replicate k 0) i 0 ≡ 0
 zero_at zero i = refl

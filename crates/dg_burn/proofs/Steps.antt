@@ -7,17 +7,7 @@
 --   burning-fewer     a vertex that burns leaves one less that is not reached
 --   burning-more      the state after one vertex more
 --   burning-done      the order is whole where no vertex may burn
-use Rattle.std.proofs.Common.{◌≡◌, ◌≢◌, ℕ, zero, suc, ◌+◌, ◌<◌, ◌≤◌, Bool, true, false, List, [], ◌∷◌, ◌++◌, arith, refl, sym, ap, subst, ◌∙◌, ⊎_elim, length-append}
-use Rattle.std.specs.Prelude.{◌==◌, ◌||◌, if◌then◌else◌}
-use Rattle.std.proofs.lemmas.Bool.{cases_eq, eq-eqb, ne_eqb, or_right}
-use Rattle.std.proofs.lemmas.List.Folds.{list_any-append}
-use Rattle.dg_theory.specs.Sums.{total_below}
-use Rattle.dg_theory.specs.Multigraph.{Multigraph}
-use Rattle.dg_theory.specs.Firing.{Amounts}
-use Rattle.dg_theory.specs.Burning.{among, MayBurn, BurnsNext, BurnsInOrder}
-use Rattle.dg_theory.proofs.TotalLaws.{total_below-cong, total_below-term}
-use Rattle.dg_graph.specs.Sets.{IsWith}
-use Rattle.dg_burn.specs.SoFar.{unreached, IsBurning}
+use Rattle.dg_burn.proofs.Common.{if◌then◌else◌, ◌≡◌, ◌≢◌, ℕ, zero, suc, ◌+◌, ◌<◌, ◌≤◌, Bool, true, false, List, [], ◌∷◌, ◌++◌, arith, refl, sym, ap, subst, ◌∙◌, ⊎_elim, length-append, ◌==◌, ◌||◌, cases_eq, eq-eqb, ne_eqb, or_right, list_any-append, total_below, Multigraph, Amounts, among, MayBurn, BurnsNext, BurnsInOrder, total_below-cong, total_below-term, IsWith, unreached, IsBurning}
 use Rattle.dg_burn.proofs.Orders.{so_far-first, so_far-more, so_far-done}
 
 abbrev pub one_unless : Bool → ℕ

@@ -7,20 +7,8 @@
 --   unburnt_member  if it is not empty, some vertex is in it
 --   none_unreached  if no vertex is unreached, each is reached
 --   none_whole      it is empty exactly where as many vertices burn as there are
-use Rattle.std.proofs.Common.{◌≡◌, ◌≢◌, ℕ, zero, suc, ◌<◌, ◌≤◌, Bool, true, false, not, ◌&&◌, List, arith, refl, sym, ap, subst, ◌∙◌, ⊎_elim}
-use Rattle.std.specs.Prelude.{nat_lt, ◌↔◌}
-use Rattle.std.proofs.lemmas.Bool.{cases_lt, lt-ltb, le-ltb, and_left, and_right, not-false, not_from_true, true_from_ne_false}
-use Rattle.dg_theory.specs.Multigraph.{Multigraph, IsMultigraph}
-use Rattle.dg_theory.specs.Firing.{Amounts, HasNoDebtOff}
-use Rattle.dg_theory.specs.Reduced.{edges_out, IsReduced}
-use Rattle.dg_theory.specs.Burning.{among, edges_into, BurnsInOrder, IsGreatestFree}
-use Rattle.dg_theory.specs.BurningLaws.{unburnt_by}
-use Rattle.dg_theory.proofs.BurningLaws.{unburnt_by-below, rest-out, rest_fires, unburnt_fires, burnt_reduced, reduced_burnt}
-use Rattle.dg_theory.proofs.Counting.{member_or_none}
-use Rattle.dg_theory.proofs.TotalLaws.{total_below-term}
+use Rattle.dg_burn.proofs.Common.{◌≡◌, ◌≢◌, ℕ, zero, suc, ◌<◌, ◌≤◌, Bool, true, false, not, ◌&&◌, List, arith, refl, sym, ap, subst, ◌∙◌, ⊎_elim, nat_lt, ◌↔◌, cases_lt, lt-ltb, le-ltb, and_left, and_right, not-false, not_from_true, true_from_ne_false, Multigraph, IsMultigraph, Amounts, HasNoDebtOff, edges_out, IsReduced, among, edges_into, BurnsInOrder, IsGreatestFree, unburnt_by, unburnt_by-below, rest-out, rest_fires, unburnt_fires, burnt_reduced, reduced_burnt, member_or_none, total_below-term, in_set-none, no_set, unreached, IsBurning}
 use Rattle.dg_graph.specs.Sets.{in_set}
-use Rattle.dg_graph.proofs.SetLaws.{in_set-none, no_set}
-use Rattle.dg_burn.specs.SoFar.{unreached, IsBurning}
 use Rattle.dg_burn.proofs.Steps.{one_unless}
 
 pub set_is_rest : (g : Multigraph) (l : List ℕ) (S : ℕ → Bool) (k m : ℕ) → k ≡ g.size →

@@ -2,11 +2,11 @@
 --   unreached n S           == how many of n vertices are not in the set S
 --   IsBurning g q D l n S   == the n vertices of l are those that burn so far, in their order, and
 --                              S is the set of them
-use Rattle.std.specs.Prelude.{◌≡◌, ℕ, ◌+◌, Bool, if◌then◌else◌, List, length}
-use Rattle.dg_theory.specs.Sums.{total_below}
-use Rattle.dg_theory.specs.Multigraph.{Multigraph}
-use Rattle.dg_theory.specs.Firing.{Amounts}
+use Rattle.std.specs.Prelude.{if◌then◌else◌, ◌≡◌, ℕ, ◌+◌, Bool, List, length}
 use Rattle.dg_theory.specs.Burning.{among, BurnsSoFar}
+use Rattle.dg_theory.specs.Firing.{Amounts}
+use Rattle.dg_theory.specs.Multigraph.{Multigraph}
+use Rattle.dg_theory.specs.Sums.{total_below}
 
 abbrev pub unreached : ℕ → (ℕ → Bool) → ℕ
 unreached n S = total_below n (λ v. if S v then 0 else 1)

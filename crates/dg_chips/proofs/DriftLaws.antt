@@ -2,12 +2,7 @@
 --   held_difference   a machine's difference of two entries of drifts is their difference
 --   scripts_differ    two entries of scripts differ by no more than a drift may hold
 --   same_answer       a test of one fact is a test of another that is true exactly where it is
-use Rattle.std.proofs.Common.{◌≡◌, ◌≤◌, Bool, true, false, MatchBool, arith, w64}
-use Rattle.std.specs.Int.RustNames.{unsigned_abs}
-use Rattle.std.proofs.lemmas.Int.{ints}
-use Rattle.std.proofs.Math.IntN.{ℤ, ◌-ℤ◌}
-use mir.Val.{to_z, of_z}
-use Rattle.dg_theory.proofs.Absolute.{within_abs, abs_within}
+use Rattle.dg_chips.proofs.Common.{◌≡◌, ◌≤◌, Bool, true, false, MatchBool, arith, w64, unsigned_abs, ints, ℤ, ◌-ℤ◌, to_z, of_z, within_abs, abs_within}
 
 pub held_difference : (a b : ℤ) → unsigned_abs a ≤ 100000000000000 → unsigned_abs b ≤ 100000000000000 →
     to_z w64 (of_z w64 (to_z w64 (of_z w64 a) -ℤ to_z w64 (of_z w64 b))) ≡ a -ℤ b

@@ -9,22 +9,7 @@
 --   carried_held      a machine's value of what edges carry is that value, within the limit
 --   held_sum          so a machine's sum of two numbers within 2^61 is their sum
 --   product_limit     edges that each carry a limited amount carry so many times the limit together
-use Rattle.std.proofs.Common.{◌≡◌, ℕ, zero, suc, ◌*◌, ◌^◌, ◌≤◌, arith, refl, sym, w64, FitsSigned, ◌∙◌, ap, ⊎_elim}
-use Rattle.std.proofs.lemmas.Bool.{cases_eq}
-use Rattle.std.proofs.lemmas.Int.{ints, unsigned_abs-mul}
-use Rattle.std.proofs.Math.Nat.{mul-le-mul}
-use Rattle.std.proofs.Math.IntN.{ℤ, pos, ◌+ℤ◌, ◌-ℤ◌, ◌*ℤ◌, zero-*ℤ, *ℤ_comm}
-use Rattle.std.specs.Int.RustNames.{unsigned_abs}
-use Rattle.std.specs.Int.{w128}
-use mir.Val.{to_z, of_z}
-use Rattle.dg_theory.specs.Sums.{sum_below, total_below}
-use Rattle.dg_theory.specs.Multigraph.{Multigraph, IsMultigraph, edges_between, valence}
-use Rattle.dg_theory.specs.Firing.{Amounts, gain}
-use Rattle.dg_theory.proofs.Absolute.{within_abs, abs-add}
-use Rattle.dg_theory.proofs.Products.{mulz-sub}
-use Rattle.dg_theory.proofs.SumLaws.{sum_below-cong}
-use Rattle.dg_theory.proofs.SumSwap.{sum_below-scale, sum_below-sub}
-use Rattle.dg_theory.proofs.SumTotals.{sum_below-total}
+use Rattle.dg_chips.proofs.Common.{◌≡◌, ℕ, zero, suc, ◌*◌, ◌^◌, ◌≤◌, arith, refl, sym, w64, FitsSigned, ◌∙◌, ap, ⊎_elim, cases_eq, ints, unsigned_abs-mul, mul-le-mul, ℤ, pos, ◌+ℤ◌, ◌-ℤ◌, ◌*ℤ◌, zero-*ℤ, *ℤ_comm, unsigned_abs, w128, to_z, of_z, sum_below, total_below, Multigraph, IsMultigraph, edges_between, valence, Amounts, gain, within_abs, abs-add, mulz-sub, sum_below-cong, sum_below-scale, sum_below-sub, sum_below-total}
 
 pub sum_below-edges : (n : ℕ) (e : ℕ → ℕ) (y : ℤ) → sum_below n (λ w. pos (e w) *ℤ y) ≡ pos (total_below n e) *ℤ y
 sum_below-edges n e y =

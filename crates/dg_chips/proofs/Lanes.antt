@@ -1,9 +1,6 @@
 -- Vectors of sixteen bytes, which a proof sees as lists of their lanes.
 --   lane_sum   a lane of a sum that does not wrap
-use Rattle.std.proofs.Common.{◌≡◌, ℕ, ◌+◌, ◌%◌, ◌<◌, ◌≤◌, List, length, arith}
-use Rattle.std.specs.Prelude.{slice_index}
-use Rattle.std.proofs.lemmas.Simd.{get_or-zip2}
-use lib.Lanes.{zip2}
+use Rattle.dg_chips.proofs.Common.{◌≡◌, ℕ, ◌+◌, ◌%◌, ◌<◌, ◌≤◌, List, length, arith, slice_index, get_or-zip2, zip2}
 
 pub lane_sum : (xs ys : List ℕ) (v : ℕ) → v < length xs → v < length ys →
     slice_index xs v + slice_index ys v ≤ 255 →

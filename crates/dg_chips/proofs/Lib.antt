@@ -6,3 +6,4 @@ pub mod Applying
 mod LightLaws
 pub mod SetLending
 pub mod Lanes
+pub mod Common

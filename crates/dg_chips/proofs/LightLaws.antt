@@ -6,20 +6,7 @@
 --   light-edges    so do those between two vertices
 --   light-flow     what a machine says that edges carry
 --   light-sum      so do those between a vertex and the first others
-use Rattle.std.proofs.Common.{◌≡◌, ℕ, zero, suc, ◌+◌, ◌*◌, ◌^◌, ◌<◌, ◌≤◌, ◌-◌, arith, ap, w32, FitsSigned, ◌∙◌, ⊎_elim}
-use mir.Val.{to_z, of_z}
-use Rattle.std.specs.Int.RustNames.{unsigned_abs}
-use Rattle.std.proofs.lemmas.Bool.{cases_eq, cases_lt}
-use Rattle.std.proofs.lemmas.Int.{ints}
-use Rattle.std.proofs.Math.Nat.{mul-le-mul}
-use Rattle.std.proofs.Math.IntN.{ℤ, pos, ◌+ℤ◌, ◌*ℤ◌}
-use Rattle.dg_theory.specs.Sums.{sum_below, total_below}
-use Rattle.dg_theory.specs.Multigraph.{Multigraph, edges_between, valence}
-use Rattle.dg_theory.specs.Firing.{Amounts}
-use Rattle.dg_theory.proofs.Absolute.{abs-add, within_abs}
-use Rattle.dg_theory.proofs.TotalLaws.{total_below-term}
-use Rattle.dg_graph.specs.Graph.{IsGraph}
-use Rattle.dg_chips.specs.Light.{IsLight}
+use Rattle.dg_chips.proofs.Common.{◌≡◌, ℕ, zero, suc, ◌+◌, ◌*◌, ◌^◌, ◌<◌, ◌≤◌, ◌-◌, arith, ap, w32, FitsSigned, ◌∙◌, ⊎_elim, to_z, of_z, unsigned_abs, cases_eq, cases_lt, ints, mul-le-mul, ℤ, pos, ◌+ℤ◌, ◌*ℤ◌, sum_below, total_below, Multigraph, edges_between, valence, Amounts, abs-add, within_abs, total_below-term, IsGraph, IsLight}
 use Rattle.dg_chips.proofs.FlowLaws.{product_limit}
 
 pub total-within : (f : ℕ → ℕ) (n m : ℕ) → n ≤ m → total_below n f ≤ total_below m f

@@ -7,20 +7,7 @@
 --                     edges to v, has the amounts after it
 --   held_gain         a machine's sum of an amount and what comes to it is the amount after it
 --   read_back         and is read as that, where it was written
-use Rattle.std.proofs.Common.{◌≡◌, ◌≢◌, ℕ, ◌<◌, ◌≤◌, List, length, slice_set, get_or-set_same, arith, refl, ◌∙◌, ⊎_elim, w32}
-use Rattle.std.specs.Int.RustNames.{unsigned_abs}
-use Rattle.std.specs.List.{slice_index_or}
-use mir.Val.{to_z, of_z}
-use Rattle.std.proofs.lemmas.Bool.{cases_eq}
-use Rattle.std.proofs.lemmas.Int.{ints}
-use Rattle.std.proofs.Math.IntN.{ℤ, pos, ◌+ℤ◌, ◌-ℤ◌, ◌*ℤ◌, *ℤ-zero, zero-*ℤ}
-use Rattle.dg_theory.specs.Sums.{sum_below}
-use Rattle.dg_theory.specs.Multigraph.{Multigraph, IsMultigraph, edges_between, valence}
-use Rattle.dg_theory.specs.Firing.{Amounts, gain, fired, only_at}
-use Rattle.dg_theory.proofs.Absolute.{within_abs}
-use Rattle.dg_theory.proofs.Products.{mulz-sub}
-use Rattle.dg_theory.proofs.SumLaws.{sum_below-zero, sum_below-differ_at}
-use Rattle.dg_theory.proofs.Plays.{only_at-here, only_at-other}
+use Rattle.dg_chips.proofs.Common.{◌≡◌, ◌≢◌, ℕ, ◌<◌, ◌≤◌, List, length, slice_set, get_or-set_same, arith, refl, ◌∙◌, ⊎_elim, w32, unsigned_abs, slice_index_or, to_z, of_z, cases_eq, ints, ℤ, pos, ◌+ℤ◌, ◌-ℤ◌, ◌*ℤ◌, *ℤ-zero, zero-*ℤ, sum_below, Multigraph, IsMultigraph, edges_between, valence, Amounts, gain, fired, only_at, within_abs, mulz-sub, sum_below-zero, sum_below-differ_at, only_at-here, only_at-other}
 use Rattle.dg_chips.proofs.FlowLaws.{sum_below-edges}
 
 -- what comes to u from w

@@ -9,25 +9,7 @@
 --   lends-once      what is told of a vertex as a number is how often it lends
 --   held_flow       a machine's sum of an amount and what comes less what goes is the amount after it
 --   range-more      whether the first amounts are in range, and one more
-use Rattle.std.proofs.Common.{◌≡◌, ℕ, ◌+◌, ◌<◌, ◌≤◌, Bool, true, false, ◌&&◌, arith, add-one, refl, ap, ◌∙◌, below_more, ⊎_elim, w32, mul-one, MatchBool}
-use Rattle.std.specs.Prelude.{if◌then◌else◌, nat_le}
-use Rattle.std.specs.Int.RustNames.{unsigned_abs}
-use mir.Val.{to_z, of_z, bool_byte}
-use Rattle.std.proofs.lemmas.Bool.{cases_Bool, leb-true, leb-false}
-use Rattle.std.proofs.lemmas.Int.{ints}
-use Rattle.std.proofs.Math.IntN.{ℤ, pos, ◌+ℤ◌, ◌-ℤ◌, ◌*ℤ◌, *ℤ-zero}
-use Rattle.dg_theory.specs.Sums.{sum_below, total_below}
-use Rattle.dg_theory.specs.Multigraph.{Multigraph, edges_between, valence}
-use Rattle.dg_theory.specs.Burning.{edges_into}
-use Rattle.dg_theory.specs.Firing.{Amounts, gain, fired, indicator}
-use Rattle.dg_theory.proofs.Absolute.{within_abs}
-use Rattle.dg_theory.proofs.Debts.{into-le-valence}
-use Rattle.dg_theory.proofs.SetFiring.{gain-outside}
-use Rattle.dg_theory.proofs.SumTotals.{sum_below-total}
-use Rattle.dg_graph.specs.Graph.{IsGraph}
-use Rattle.dg_graph.specs.Sets.{IsSetBelow}
-use Rattle.dg_graph.proofs.Valences.{valence-few, valence-outside}
-use Rattle.dg_chips.specs.Vector.{IsInRange, IsOutOfRange}
+use Rattle.dg_chips.proofs.Common.{if◌then◌else◌, ◌≡◌, ℕ, ◌+◌, ◌<◌, ◌≤◌, Bool, true, false, ◌&&◌, arith, add-one, refl, ap, ◌∙◌, below_more, ⊎_elim, w32, mul-one, MatchBool, nat_le, unsigned_abs, to_z, of_z, bool_byte, cases_Bool, leb-true, leb-false, ints, ℤ, pos, ◌+ℤ◌, ◌-ℤ◌, ◌*ℤ◌, *ℤ-zero, sum_below, total_below, Multigraph, edges_between, valence, edges_into, Amounts, gain, fired, indicator, within_abs, into-le-valence, gain-outside, sum_below-total, IsGraph, IsSetBelow, valence-few, valence-outside, IsInRange, IsOutOfRange}
 use Rattle.dg_chips.proofs.FlowLaws.{gain-products}
 use Rattle.dg_chips.proofs.LightLaws.{total-within}
 

@@ -10,19 +10,8 @@
 --   single        zeros with x written at v are x at v and 0 elsewhere
 --   one_more      numbers of which one is replaced by so much more are so much more at that place
 --   one_written   a vector with another number within the limit at one place is within the limit
---   only_at_small a script of one small entry is within the limit
 --   within_all    past the size too, the numbers of a vector are within its limit
-use Rattle.std.proofs.Common.{◌≡◌, ◌≢◌, ℕ, ◌+◌, ◌<◌, ◌≤◌, List, length, length-set, slice_set, arith, inl, inr, get_or-set_same, get_or-set_other, below_more, sym, ◌∙◌, nat_eq, true, false, lit≤}
-use Rattle.std.specs.Int.RustNames.{unsigned_abs}
-use Rattle.std.specs.Prelude.{replicate, if◌then◌else◌}
-use Rattle.std.specs.List.{slice_index_or}
-use Rattle.std.proofs.Math.IntN.{ℤ, pos, ◌+ℤ◌, +ℤ_idr}
-use Rattle.std.proofs.lemmas.Bool.{cases_lt, cases_eq}
-use Rattle.std.proofs.lemmas.Int.{ints}
-use Rattle.std.proofs.lemmas.List.{get_or-replicate, get_or_past, length-replicate}
-use Rattle.dg_theory.specs.Firing.{only_at}
-use Rattle.dg_theory.proofs.Plays.{only_at-here, only_at-other}
-use Rattle.dg_chips.specs.Vector.{Vector, IsVector, at}
+use Rattle.dg_chips.proofs.Common.{if◌then◌else◌, ◌≡◌, ◌≢◌, ℕ, ◌+◌, ◌<◌, ◌≤◌, List, length, length-set, slice_set, arith, inl, inr, get_or-set_same, get_or-set_other, below_more, sym, ◌∙◌, lit≤, unsigned_abs, replicate, slice_index_or, ℤ, pos, ◌+ℤ◌, +ℤ_idr, cases_lt, cases_eq, ints, get_or-replicate, get_or_past, length-replicate, only_at, only_at-here, only_at-other, Vector, IsVector, at}
 
 pub at_same : {X : Type 0} (n v : ℕ) (x : X) → slice_index_or (replicate n x) v x ≡ x
 at_same n v x = elim (cases_lt v n) [
@@ -97,12 +86,6 @@ single n v x within w =
     ≡ slice_index_or (replicate n (pos 0)) w (pos 0) +ℤ only_at v x w =
     one_more (replicate n (pos 0)) v x x (omega (arith, length-replicate n (pos 0))) (omega (arith, ints)) w in
     omega (arith, ints)
-
-pub only_at_small : (v : ℕ) (x : ℤ) → unsigned_abs x ≤ 1 → (w : ℕ) → unsigned_abs (only_at v x w) ≤ 1000000000
-only_at_small v x small w = elim (nat_eq w v) as (λ same. unsigned_abs (if same then x else pos 0) ≤ 1000000000) [
-  | true ↦ omega arith
-  | false ↦ lit≤ tt
-]
 
 pub within_all : (limit : ℕ) (x : Vector) → IsVector limit x → (v : ℕ) → unsigned_abs (at x v) ≤ limit
 within_all limit x right v = elim (cases_lt v x.size) [

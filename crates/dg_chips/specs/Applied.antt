@@ -1,8 +1,8 @@
 -- What an accepted move leaves.
 --   IsAfterMove g D m d == d holds the amounts after the move m on D, all of them in range
 use Rattle.std.specs.Prelude.{◌≡◌, ℕ, ◌<◌}
-use Rattle.dg_theory.specs.Multigraph.{Multigraph}
 use Rattle.dg_theory.specs.Firing.{Amounts, fired}
+use Rattle.dg_theory.specs.Multigraph.{Multigraph}
 use Rattle.dg_chips.specs.Vector.{Vector, at, IsInRange}
 use Rattle.dg_chips.specs.Moves.{script_of, IsPlayable}
 use Rattle.dg_chips.specs.declared.moves.Move.{Move}

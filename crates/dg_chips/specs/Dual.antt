@@ -1,8 +1,8 @@
--- The dual of a divisor (Baker and Norine 2007, theorem 1.12).
---   DualOf g D E          == E is the dual of D: at each vertex the canonical divisor less D
---   IsDualFault g D fault == the dual of D is refused as a divisor, for this cause
-use Rattle.dg_theory.specs.Multigraph.{Multigraph}
+-- The residual of a divisor (Baker and Norine 2007, theorem 1.12).
+--   DualOf g D E          == E is the residual of D: at each vertex the canonical divisor less D
+--   IsDualFault g D fault == the residual of D is refused as a divisor, for this cause
 use Rattle.dg_theory.specs.Firing.{Amounts, AgreeOn}
+use Rattle.dg_theory.specs.Multigraph.{Multigraph}
 use Rattle.dg_theory.specs.Rank.{less, canonical}
 use Rattle.dg_chips.specs.VectorFaults.{IsFirstBeyond}
 use Rattle.dg_chips.specs.declared.divisor.ChipFault.{ChipFault}

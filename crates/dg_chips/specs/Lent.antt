@@ -3,8 +3,8 @@
 --                                      range
 --   IsLendingRefusal g D v x fault  == the lending is refused for this cause
 use Rattle.std.specs.Prelude.{◌≡◌, ℕ, ◌<◌, ◌≤◌, ℤ}
-use Rattle.dg_theory.specs.Multigraph.{Multigraph}
 use Rattle.dg_theory.specs.Firing.{Amounts, fired, only_at}
+use Rattle.dg_theory.specs.Multigraph.{Multigraph}
 use Rattle.dg_chips.specs.Vector.{Vector, at, IsInRange, IsOutOfRange}
 use Rattle.dg_chips.specs.declared.moves.MoveFault.{MoveFault}
 use Rattle.dg_chips.specs.declared.moves.MoveFault.TheVariants.{NoVertex, Empty, Script, Range}

@@ -3,8 +3,8 @@
 --                  borrows, carry less than 2^30
 use Rattle.std.specs.Prelude.{ℕ, ◌*◌, ◌^◌, ◌<◌, ◌≤◌}
 use Rattle.std.specs.Int.RustNames.{unsigned_abs}
-use Rattle.dg_theory.specs.Multigraph.{Multigraph, valence}
 use Rattle.dg_theory.specs.Firing.{Amounts}
+use Rattle.dg_theory.specs.Multigraph.{Multigraph, valence}
 
 pub record IsLight (g : Multigraph) (s : Amounts) : Type 0 where
   pub most : ℕ

@@ -1,25 +1,16 @@
 -- Why a move is refused. For each move at most one of the four causes stands: a set that names a
 -- number that is no vertex is not empty, and a result is judged only if the move can be played.
---   IsMisfit n m fault      == the move can't be played on n vertices, whatever they hold, for this
---                              cause
 --   IsRefusal g D m fault   == the move is refused at the amounts D for this cause
-use Rattle.std.specs.Prelude.{ℕ}
-use Rattle.dg_theory.specs.Multigraph.{Multigraph}
 use Rattle.dg_theory.specs.Firing.{Amounts, fired}
+use Rattle.dg_theory.specs.Multigraph.{Multigraph}
 use Rattle.dg_chips.specs.Vector.{IsOutOfRange}
 use Rattle.dg_chips.specs.Moves.{script_of, NamesNoVertex, IsEmptySet, HasOtherSize, IsPlayable}
 use Rattle.dg_chips.specs.declared.moves.Move.{Move}
 use Rattle.dg_chips.specs.declared.moves.MoveFault.{MoveFault}
 use Rattle.dg_chips.specs.declared.moves.MoveFault.TheVariants.{NoVertex, Empty, Script, Range}
 
-abbrev pub IsMisfit : ℕ → Move → MoveFault → Type 0
-IsMisfit n m NoVertex = NamesNoVertex n m
-IsMisfit n m Empty = IsEmptySet m
-IsMisfit n m Script = HasOtherSize n m
-IsMisfit n m Range = ⊥
-
 abbrev pub IsRefusal : Multigraph → Amounts → Move → MoveFault → Type 0
-IsRefusal g D m NoVertex = IsMisfit g.size m NoVertex
-IsRefusal g D m Empty = IsMisfit g.size m Empty
-IsRefusal g D m Script = IsMisfit g.size m Script
+IsRefusal g D m NoVertex = NamesNoVertex g.size m
+IsRefusal g D m Empty = IsEmptySet m
+IsRefusal g D m Script = HasOtherSize g.size m
 IsRefusal g D m Range = IsPlayable g.size m × IsOutOfRange g.size (fired g D (script_of m))

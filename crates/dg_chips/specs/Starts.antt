@@ -1,9 +1,9 @@
 -- The start of a game.
---   StartData     == a graph, a divisor on it, and the vertex q from which verdicts are reckoned
+--   StartData     == a graph, a divisor on it, and the vertex q from which verdicts are computed
 --   IsStart o == all three are right and fit together
 use Rattle.std.specs.Prelude.{◌≡◌, ℕ, ◌<◌}
-use Rattle.dg_theory.specs.Multigraph.{Multigraph}
 use Rattle.dg_graph.specs.Graph.{IsGraph}
+use Rattle.dg_theory.specs.Multigraph.{Multigraph}
 use Rattle.dg_chips.specs.Vector.{Vector, IsDivisor}
 
 pub record StartData : Type 0 where

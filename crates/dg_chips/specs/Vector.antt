@@ -12,10 +12,10 @@
 --   IsInRange n D        == all n amounts are within the limit of a divisor
 --   IsOutOfRange n D     == some of the n amounts is past the limit of a divisor
 use Rattle.std.specs.Prelude.{◌≡◌, ℕ, ◌<◌, ◌≤◌, ℤ, pos, List, length}
-use Rattle.std.specs.List.{slice_index_or}
 use Rattle.std.specs.Int.RustNames.{unsigned_abs}
-use Rattle.dg_theory.specs.Firing.{Amounts}
+use Rattle.std.specs.List.{slice_index_or}
 use Rattle.dg_graph.specs.declared.limits.TheConstants.{MAX_VERTICES}
+use Rattle.dg_theory.specs.Firing.{Amounts}
 use Rattle.dg_chips.specs.declared.limits.TheConstants.{MAX_AMOUNT, MAX_ENTRY, MAX_DRIFT}
 
 pub record Vector : Type 0 where

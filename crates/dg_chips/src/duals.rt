@@ -1,4 +1,4 @@
-//! The dual of a divisor: the canonical divisor of the graph less it.
+//! The residual of a divisor: the canonical divisor of the graph less it.
 ghost use Rattle.std.specs.Prelude.{◌≡◌, MatchResult};
 ghost use Rattle.dg_chips.specs.Dual.{DualOf, IsDualFault};
 ghost use Rattle.dg_chips.specs.Vector.{at, IsInRange};
@@ -6,10 +6,10 @@ ghost use Rattle.dg_chips.specs.Vector.{at, IsInRange};
 use crate::divisor::{ChipFault, Divisor};
 use dg_graph::Graph;
 
-/// The dual of a divisor: the canonical divisor of the graph less it. The condition is that the divisor has an amount for
+/// The residual of a divisor: the canonical divisor of the graph less it. The condition is that the divisor has an amount for
 /// each vertex of the graph.
 ///
-/// Refused with `Range` alone, for the first vertex at which the dual is not within 1,000,000.
+/// Refused with `Range` alone, for the first vertex at which the residual is not within 1,000,000.
 pub fn dual(graph: &Graph, divisor: &Divisor) -> Result<Divisor, ChipFault>
     requires { divisor.now.size ≡ graph.now.size }
     ensures { MatchResult result

@@ -10,12 +10,12 @@ ghost use Rattle.dg_chips.specs.Applied.{IsAfterMove};
 ghost use Rattle.dg_chips.specs.Lent.{IsLent, IsLendingRefusal};
 ghost use Rattle.dg_chips.specs.Refused.{IsRefusal};
 ghost use Rattle.dg_chips.specs.Light.{IsLight};
-ghost use Rattle.dg_chips.specs.declared.moves.Move.TheVariants.{Fire};
+ghost use Rattle.dg_chips.specs.declared.moves.Move.TheVariants.{Fire, Script as ScriptMove};
 
 use crate::divisor::Divisor;
 use crate::light::gained_lightly;
 use crate::limits::MAX_DRIFT;
-use crate::moves::{Move, MoveFault, script_of};
+use crate::moves::{Move, MoveFault};
 use crate::script::Script;
 use crate::wide::Wide;
 use dg_graph::{Graph, is_within};
@@ -35,7 +35,7 @@ pub fn apply(graph: &Graph, divisor: &Divisor, chip_move: &Move) -> Result<Divis
         Move::Lend(v) => lent(graph, divisor, usize::from(*v), 1),
         Move::Borrow(v) => lent(graph, divisor, usize::from(*v), -1),
         Move::Fire(set) => fired_set(graph, divisor, *set),
-        Move::Script(_) => apply_script(graph, divisor, chip_move),
+        Move::Script(script) => played_script(graph, divisor, script),
     }
 }
 
@@ -75,15 +75,17 @@ fn fired_set(graph: &Graph, divisor: &Divisor, set: u16) -> Result<Divisor, Move
     }
 }
 
-/// The divisor after a move of any kind, from the script of the move.
-fn apply_script(graph: &Graph, divisor: &Divisor, chip_move: &Move) -> Result<Divisor, MoveFault>
+/// The divisor after each vertex has lent as often as a script says.
+fn played_script(graph: &Graph, divisor: &Divisor, script: &Script) -> Result<Divisor, MoveFault>
     requires { divisor.now.size ≡ graph.now.size }
     ensures { MatchResult result
-        (IsAfterMove graph.now (at divisor.now) chip_move.now)
-        (IsRefusal graph.now (at divisor.now) chip_move.now) }
+        (IsAfterMove graph.now (at divisor.now) (ScriptMove script.now))
+        (IsRefusal graph.now (at divisor.now) (ScriptMove script.now)) }
 {
-    let script = script_of(graph.size(), chip_move)?;
-    let amounts = fired_amounts(graph, divisor, &script);
+    if script.size() != graph.size() {
+        return Err(MoveFault::Script);
+    }
+    let amounts = fired_amounts(graph, divisor, script);
     match Divisor::new(graph, &amounts[..graph.size()]) {
         Ok(divisor) => Ok(divisor),
         Err(_) => Err(MoveFault::Range),

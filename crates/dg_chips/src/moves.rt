@@ -1,12 +1,6 @@
-//! Moves, and the script of a move.
-
-ghost use Rattle.std.specs.Prelude.{◌≡◌, ℕ, ◌<◌, ◌≤◌, MatchResult};
-ghost use Rattle.dg_chips.specs.Vector.{at};
-ghost use Rattle.dg_chips.specs.Moves.{script_of, IsPlayable};
-ghost use Rattle.dg_chips.specs.Refused.{IsMisfit};
+//! Moves.
 
 use crate::script::Script;
-use dg_graph::{MAX_VERTICES, is_within};
 use thiserror::Error;
 
 /// A move of the dollar game. Vertices are numbered from 0.
@@ -37,46 +31,4 @@ pub enum MoveFault {
     /// It leaves an amount that is not within 1,000,000.
     #[error("an amount is out of range")]
     Range,
-}
-
-/// The script of a move on `size` vertices, or why the move can't be played there.
-pub fn script_of(size: usize, chip_move: &Move) -> Result<Script, MoveFault>
-    requires { size ≤ MAX_VERTICES }
-    ensures { MatchResult result
-        (λ s. (s.size ≡ size) × IsPlayable size chip_move.now ×
-        ((v : ℕ) → v < size → at s v ≡ script_of chip_move.now v))
-        (IsMisfit size chip_move.now) }
-{
-    match chip_move {
-        Move::Lend(v) => {
-            let v = usize::from(*v);
-            if v >= size {
-                return Err(MoveFault::NoVertex);
-            }
-            Ok(Script::only_at(size, v, 1))
-        }
-        Move::Borrow(v) => {
-            let v = usize::from(*v);
-            if v >= size {
-                return Err(MoveFault::NoVertex);
-            }
-            Ok(Script::only_at(size, v, -1))
-        }
-        Move::Fire(set) => {
-            let set = *set;
-            if !is_within(size, set) {
-                return Err(MoveFault::NoVertex);
-            }
-            if set == 0 {
-                return Err(MoveFault::Empty);
-            }
-            Ok(Script::indicator(size, set))
-        }
-        Move::Script(script) => {
-            if script.size() != size {
-                return Err(MoveFault::Script);
-            }
-            Ok(*script)
-        }
-    }
 }

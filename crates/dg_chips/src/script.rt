@@ -3,8 +3,7 @@
 ghost use Rattle.std.specs.Prelude.{◌≡◌, ℕ, ◌<◌, ◌≤◌, pos, length, ◌+ℤ◌, ◌-ℤ◌, MatchResult, MatchBool};
 ghost use Rattle.std.specs.List.{slice_index_or};
 ghost use Rattle.std.specs.Int.RustNames.{unsigned_abs};
-ghost use Rattle.dg_theory.specs.Firing.{only_at, indicator, FiresTo};
-ghost use Rattle.dg_graph.specs.Sets.{in_set};
+ghost use Rattle.dg_theory.specs.Firing.{FiresTo};
 ghost use Rattle.dg_chips.specs.Vector.{at, HoldsNumbers, IsScript};
 ghost use Rattle.dg_chips.specs.ScriptFaults.{IsFirstScriptFault};
 
@@ -14,7 +13,7 @@ use crate::firing::leads;
 use crate::limits::MAX_ENTRY;
 use crate::vector::{first_past, narrowed, widened};
 use crate::wide::Wide;
-use dg_graph::{Graph, MAX_VERTICES, contains};
+use dg_graph::{Graph, MAX_VERTICES};
 use std::marker::Model;
 use thiserror::Error;
 
@@ -102,34 +101,6 @@ impl Script {
     {
         let size = size as u8;
         Script { size, entries }
-    }
-
-    /// The script that is so much at one vertex and 0 elsewhere.
-    pub(crate) fn only_at(size: usize, v: usize, entry: i32) -> Script
-        requires size { size ≤ MAX_VERTICES }
-        requires vertex { v < size }
-        requires limit { unsigned_abs entry ≤ 1 }
-        ensures size { result.size ≡ size }
-        ensures entries { (w : ℕ) → w < size → at result w ≡ only_at v entry w }
-    {
-        let mut entries = [0; 16];
-        entries[v] = entry;
-        Script::of_row(size, entries)
-    }
-
-    /// The script by which each vertex of a set lends once.
-    pub(crate) fn indicator(size: usize, set: u16) -> Script
-        requires { size ≤ MAX_VERTICES }
-        ensures size { result.size ≡ size }
-        ensures entries { (w : ℕ) → w < size → at result w ≡ indicator (in_set set) w }
-    {
-        let mut entries = [0; 16];
-        for v in 0..size {
-            if contains(set, v) {
-                entries[v] = 1;
-            }
-        }
-        Script::of_row(size, entries)
     }
 
     /// The script by which each vertex lends as often as its amount exceeds that of q.

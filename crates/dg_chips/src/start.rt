@@ -20,7 +20,7 @@ pub enum StartFault {
     Vertex,
 }
 
-/// The start of a game: a graph, a divisor on it, and the vertex q from which verdicts are reckoned.
+/// The start of a game: a graph, a divisor on it, and the vertex q from which verdicts are computed.
 #[derive(Clone, Copy)]
 pub struct Start {
     graph: Graph,
@@ -75,7 +75,7 @@ impl Start {
         &self.divisor
     }
 
-    /// The vertex from which verdicts are reckoned.
+    /// The vertex from which verdicts are computed.
     pub fn q(&self) -> u8
         ensures { result ≡ self.now.q }
     {

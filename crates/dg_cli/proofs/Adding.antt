@@ -6,17 +6,9 @@
 --   all_arguments               with all its arguments it is the command
 --   no_command, one_command     the bare program has no command, and then one more
 --   all_commands                with all its commands it is the program
-use Rattle.std.proofs.Common.{◌≡◌, ℕ, ◌+◌, ◌<◌, ◌≤◌, ◌||◌, List, [], ◌∷◌, ◌++◌, length, map, take, get_or, false, refl, sym, ap, ap₂, ◌∙◌, append_assoc, append-nil}
-use Rattle.std.proofs.lemmas.List.{map-append, take_more, take_all}
-use Rattle.clap.specs.Words.{AddsArg, AddsSubcommand, App, Rule, Text, app_of, new_app, with_rule, with_subcommand}
-use Rattle.clap.specs.Simple.{on_top}
-use Rattle.clap.specs.declared.builder.arg.Arg.{Arg}
-use Rattle.clap.specs.declared.builder.command.Command.{Command}
+use Rattle.dg_cli.proofs.Common.{◌≡◌, ℕ, ◌+◌, ◌<◌, ◌≤◌, ◌||◌, List, [], ◌∷◌, ◌++◌, length, map, take, get_or, false, refl, sym, ap, ap₂, ◌∙◌, append_assoc, append-nil, map-append, take_more, take_all, AddsArg, AddsSubcommand, App, Rule, Text, app_of, new_app, with_rule, with_subcommand, on_top, Arg, Command, IsArgument, IsCommand, rule_for, shape_for, bare_program, command, Argument, Subcommand}
 use Rattle.clap.specs.declared.builder.command.Command.TheViews.{out-Command as fields_of}
-use Rattle.dg_cli.specs.Building.{IsArgument, IsCommand, rule_for, shape_for}
-use Rattle.dg_cli.specs.Commands.{bare_program, command, dollar}
-use Rattle.dg_cli.specs.declared.arguments.Argument.{Argument}
-use Rattle.dg_cli.specs.declared.commands.Subcommand.{Subcommand}
+use Rattle.dg_cli.specs.Commands.{dollar}
 use Rattle.dg_cli.specs.declared.commands.Subcommand.TheVariants as subcommand
 
 module _ {X : Type 0} (step : App → X → App) where

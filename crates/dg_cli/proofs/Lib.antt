@@ -1,3 +1,4 @@
 mod Telling
 mod Adding
 pub mod Parsing
+pub mod Common

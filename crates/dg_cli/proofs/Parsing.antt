@@ -1,16 +1,7 @@
 -- What a parse of the words tells.
-use Rattle.std.proofs.Common.{◌≡◌, ◌∙◌, List, [], Option, Some, None, Result, Ok, Err, IsSomeAnd, IfErr, true, inl, inr, refl, ap, subst}
-use Rattle.clap.specs.Words.{App, HasKind, IsAmong, Kinds, Row, Text, fault_of, is_simple, is_simple_and_free, kind_of, subcommand_of}
-use Rattle.clap.specs.declared.error.Error.{Error}
-use Rattle.clap.specs.declared.error.kind.ErrorKind.{ErrorKind}
-use Rattle.dg_invocation.specs.declared.invocation.Invocation.{Invocation}
+use Rattle.dg_cli.proofs.Common.{◌≡◌, ◌∙◌, List, [], Option, Some, None, Result, Ok, Err, IsSomeAnd, IfErr, true, inl, inr, refl, ap, subst, App, HasKind, IsAmong, Kinds, Row, Text, fault_of, is_simple, is_simple_and_free, kind_of, subcommand_of, Error, ErrorKind, Invocation, ArgsFault, CommandLine, NotText, OutOfMemory, Asks, AsksFor, AskNothing, Refuses, IsSaid, IsWhy}
 use Rattle.dg_invocation.specs.declared.invocation.Invocation.TheVariants as asked
-use Rattle.dg_invocation.specs.declared.parse_args.ArgsFault.{ArgsFault}
-use Rattle.dg_invocation.specs.declared.parse_args.ArgsFault.TheVariants.{CommandLine, NotText, OutOfMemory}
 use Rattle.dg_cli.specs.Commands.{dollar}
-use Rattle.dg_cli.specs.Asks.{Asks, AsksFor}
-use Rattle.dg_cli.specs.Refusals.{AskNothing, Refuses}
-use Rattle.dg_cli.specs.Faults.{IsSaid, IsWhy}
 
 pub free : is_simple_and_free dollar ≡ true
 unfolding dollar

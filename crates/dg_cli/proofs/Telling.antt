@@ -1,15 +1,5 @@
 -- How the library's account is read.
-use Rattle.std.proofs.Common.{◌≡◌, ◌≢◌, ◌∙◌, ◌⊎◌, ◌<◌, ◌^◌, ℕ, Option, Some, None, Result, Ok, Err, IsErrAnd, true≢false, is_some, inl, inr, sym, ap, arith, decimal}
-use Rattle.std.specs.Prelude.{option_map}
-use Rattle.std.specs.Option.{ok_or}
-use Rattle.std.specs.Borrow.{Bor}
-use Rattle.std.proofs.lemmas.Fmt.{decimal_injective}
-use Rattle.clap.specs.Words.{Text}
-use Rattle.dg_cli.specs.Numbers.{IsNumber, IsGiven, IsGivenOr}
-use Rattle.dg_cli.specs.Telling.{Tells, least, most}
-use Rattle.dg_cli.specs.declared.reading.NumberArgument.{NumberArgument}
-use Rattle.dg_cli.specs.declared.reading.NumberArgument.TheVariants.{Capacity, Workers, Seats, Degree, Turns}
-use Rattle.dg_cli.specs.declared.reading.Refusal.{Refusal}
+use Rattle.dg_cli.proofs.Common.{◌≡◌, ◌≢◌, ◌∙◌, ◌⊎◌, ◌<◌, ◌^◌, ℕ, Option, Some, None, Result, Ok, Err, IsErrAnd, true≢false, is_some, inl, inr, sym, ap, arith, decimal, option_map, ok_or, Bor, decimal_injective, Text, IsNumber, IsGiven, IsGivenOr, Tells, least, most, NumberArgument, Capacity, Workers, Seats, Degree, Turns, Refusal}
 use Rattle.dg_cli.specs.declared.reading.Refusal.TheVariants.{Command}
 
 pub none≢some : {X : Type 0} (x : X) → None ≡ Some x → ⊥

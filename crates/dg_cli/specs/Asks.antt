@@ -30,17 +30,17 @@ use Rattle.std.specs.Prelude.{◌≡◌, ◌-◌, ◌^◌, ◌⊎◌, ◌↔◌,
 use Rattle.clap.specs.Words.{IsAmong, Kinds, Row, Text, all_of, fault_of, first_of, subcommand_of}
 use Rattle.clap.specs.declared.error.kind.ErrorKind.TheVariants.{DisplayHelp, DisplayVersion}
 use Rattle.dg_invocation.specs.declared.invocation.Invocation.{Invocation}
-use Rattle.dg_invocation.specs.declared.invocation.Invocation.TheVariants as asked
+use Rattle.dg_invocation.specs.declared.invocation.PartyTask.{PartyTask}
+use Rattle.dg_invocation.specs.declared.invocation.ServeTask.{ServeTask}
 use Rattle.dg_invocation.specs.declared.invocation.Task.{Task}
 use Rattle.dg_invocation.specs.declared.invocation.Task.TheVariants.{Rehearse, Judge, Rank, RiemannRoch, Greedy}
-use Rattle.dg_invocation.specs.declared.invocation.ServeTask.{ServeTask}
-use Rattle.dg_invocation.specs.declared.invocation.PartyTask.{PartyTask}
-use Rattle.dg_invocation.specs.declared.numbered.RankTask.{RankTask}
-use Rattle.dg_invocation.specs.declared.numbered.GreedyTask.{GreedyTask}
-use Rattle.dg_invocation.specs.declared.question.Question.{Question}
-use Rattle.dg_invocation.specs.declared.question.Question.TheVariants as question
-use Rattle.dg_invocation.specs.declared.question.SweepTask.{SweepTask}
 use Rattle.dg_invocation.specs.declared.limits.TheConstants.{MAX_CAPACITY, MAX_SEATS, MAX_TURNS, MAX_WORKERS}
+use Rattle.dg_invocation.specs.declared.numbered.GreedyTask.{GreedyTask}
+use Rattle.dg_invocation.specs.declared.numbered.RankTask.{RankTask}
+use Rattle.dg_invocation.specs.declared.question.Question.{Question}
+use Rattle.dg_invocation.specs.declared.question.SweepTask.{SweepTask}
+use Rattle.dg_invocation.specs.declared.invocation.Invocation.TheVariants as asked
+use Rattle.dg_invocation.specs.declared.question.Question.TheVariants as question
 use Rattle.dg_cli.specs.Commands.{dollar}
 use Rattle.dg_cli.specs.Numbers.{IsNumber, IsGiven, IsGivenOr}
 

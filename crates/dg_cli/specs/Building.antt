@@ -6,9 +6,9 @@
 --   IsCommand shape made == the command has the shape, and no argument that others share
 use Rattle.std.specs.Prelude.{◌≡◌, false, codes}
 use Rattle.clap.specs.Words.{Rule, Shape, Text, rule_of, shape_of}
-use Rattle.clap.specs.declared.builder.command.Command.TheViews.{out-Command as fields_of}
 use Rattle.clap.specs.declared.builder.arg.Arg.{Arg}
 use Rattle.clap.specs.declared.builder.command.Command.{Command}
+use Rattle.clap.specs.declared.builder.command.Command.TheViews.{out-Command as fields_of}
 use Rattle.dg_cli.specs.Commands.{flag, greedy, judge, option, party, rank, rehearse, riemann_roch, serve, word, words}
 use Rattle.dg_cli.specs.declared.arguments.Argument.{Argument}
 use Rattle.dg_cli.specs.declared.arguments.Argument.TheVariants as argument

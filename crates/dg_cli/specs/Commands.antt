@@ -11,8 +11,8 @@
 --   dollar                   == the program
 use Rattle.std.specs.Prelude.{List, [], ◌∷◌, Some, true, false, codes}
 use Rattle.clap.specs.Lexer.{usize_max}
-use Rattle.clap.specs.Words.{App, Rule, Shape, Text, new_rule}
 use Rattle.clap.specs.Simple.{new_shape}
+use Rattle.clap.specs.Words.{App, Rule, Shape, Text, new_rule}
 use Rattle.clap.specs.declared.builder.action.ArgAction.TheVariants.{SetTrue}
 
 abbrev pub word : Text → Rule

@@ -55,16 +55,19 @@ pub(crate) enum Form {
 
 impl Argument {
     /// The argument as the library is told of it.
-    pub(crate) fn told<'a>(self, alloc: Global) -> Arg<'a>
+    pub(crate) fn to_clap<'a>(self, alloc: Global) -> Arg<'a>
         ensures { IsArgument (rule_for self) result }
     {
         let name = self.name();
-        let told = Arg::new(alloc, name).help(self.help());
+        let argument = Arg::new(alloc, name).help(self.help());
         match self.form() {
-            Form::Word => told.value_name(self.shown()).required(true),
-            Form::Words => told.value_name(self.shown()).required(true).num_args(1..),
-            Form::Option => told.value_name(self.shown()).long(name),
-            Form::Flag => told.long(name).action(ArgAction::SetTrue),
+            Form::Word => argument.value_name(self.shown()).required(true),
+            Form::Words => argument
+                .value_name(self.shown())
+                .required(true)
+                .num_args(1..),
+            Form::Option => argument.value_name(self.shown()).long(name),
+            Form::Flag => argument.long(name).action(ArgAction::SetTrue),
         }
     }
 

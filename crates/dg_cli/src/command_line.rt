@@ -44,13 +44,13 @@ impl ParseArgs for CommandLine {
     fn parse<'a>(&self, alloc: Global, words: &'a [String]) -> Result<Invocation<'a>, ArgsFault> {
         match command_of(alloc, words) {
             Ok(asked) => Ok(asked),
-            Err(error) => said_of(alloc, &error),
+            Err(error) => help_or_error(alloc, &error),
         }
     }
 }
 
 /// The answer to words that ask for no command: a text for the standard output after a call for help, else a fault.
-fn said_of<'a>(alloc: Global, error: &clap::Error) -> Result<Invocation<'a>, ArgsFault>
+fn help_or_error<'a>(alloc: Global, error: &clap::Error) -> Result<Invocation<'a>, ArgsFault>
     ensures { IsSaid (kind_of error.now) result }
 {
     if error.kind() == ErrorKind::OutOfMemory {
@@ -93,7 +93,7 @@ fn error_of(
     }
     let text = format!(in alloc; "{refusal}")?;
     let kind = kind_for(&refusal);
-    told_with(alloc, name.unwrap_or(""), kind, text.as_str())
+    clap_error(alloc, name.unwrap_or(""), kind, text.as_str())
 }
 
 /// The library's kind of such an error.
@@ -110,7 +110,7 @@ fn kind_for(refusal: &Refusal<'_>) -> ErrorKind
 }
 
 /// The error of that kind and text, with the usage of the command of that name; any other name stands for the whole program.
-fn told_with(
+fn clap_error(
     alloc: Global,
     name: &str,
     kind: ErrorKind,
@@ -126,7 +126,7 @@ fn told_with(
 fn shown_command<'a>(alloc: Global, name: &str) -> Result<Command<'a>, AllocError> {
     for subcommand in SUBCOMMANDS {
         if subcommand.name() == name {
-            return subcommand.told(alloc)?.bin_name(subcommand.usage());
+            return subcommand.to_clap(alloc)?.bin_name(subcommand.usage());
         }
     }
     dollar(alloc)

@@ -48,7 +48,7 @@ pub(crate) fn dollar<'a>(alloc: Global) -> Result<Command<'a>, AllocError>
 {
     let mut program = bare_program(alloc);
     'commands: for subcommand in SUBCOMMANDS {
-        let command = subcommand.told(alloc)?;
+        let command = subcommand.to_clap(alloc)?;
         program = program.subcommand(command)?;
     }
     Ok(program)
@@ -69,16 +69,16 @@ fn bare_program<'a>(alloc: Global) -> Command<'a>
 
 impl Subcommand {
     /// The command as the library is told of it.
-    pub(crate) fn told<'a>(self, alloc: Global) -> Result<Command<'a>, AllocError>
+    pub(crate) fn to_clap<'a>(self, alloc: Global) -> Result<Command<'a>, AllocError>
         ensures { IfOk result (IsCommand (shape_for self)) }
     {
-        let mut told = Command::new(alloc, self.name())
+        let mut command = Command::new(alloc, self.name())
             .about(self.about())
             .after_help(self.more());
         'arguments: for argument in self.arguments() {
-            told = told.arg(argument.told(alloc))?;
+            command = command.arg(argument.to_clap(alloc))?;
         }
-        Ok(told)
+        Ok(command)
     }
 
     /// Its name.

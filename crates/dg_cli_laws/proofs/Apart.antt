@@ -1,18 +1,11 @@
 -- No list of words asks for two things, or asks for something and is refused.
-use Rattle.std.proofs.Common.{◌≡◌, ◌∙◌, ◌⊎◌, List, [], Option, None, Some, IsSomeAnd, true, true≢false, inl, inr, refl, sym, subst}
-use Rattle.clap.specs.Words.{IsAmong, Kinds, Row, Text, fault_of, subcommand_of}
-use Rattle.clap.specs.declared.error.kind.ErrorKind.{ErrorKind}
+use Rattle.dg_cli_laws.proofs.Common.{◌≡◌, ◌∙◌, ◌⊎◌, List, [], Option, None, Some, IsSomeAnd, true, true≢false, inl, inr, refl, sym, subst, subcommand_of, ErrorKind, Invocation, ArgsFault, CommandLine, NotText, OutOfMemory, Asks, AsksFor, CallsForHelp, HasFault, Refuses, WordsHaveOneMeaning, written}
+use Rattle.clap.specs.Words.{IsAmong, Kinds, Row, Text, fault_of}
 use Rattle.clap.specs.declared.error.kind.ErrorKind.TheVariants as kind
-use Rattle.dg_invocation.specs.declared.invocation.Invocation.{Invocation}
 use Rattle.dg_invocation.specs.declared.invocation.Invocation.TheVariants as asked
-use Rattle.dg_invocation.specs.declared.parse_args.ArgsFault.{ArgsFault}
-use Rattle.dg_invocation.specs.declared.parse_args.ArgsFault.TheVariants.{CommandLine, NotText, OutOfMemory}
 use Rattle.dg_cli.specs.Commands.{dollar}
-use Rattle.dg_cli.specs.Asks.{Asks, AsksFor, CallsForHelp}
-use Rattle.dg_cli.specs.Refusals.{HasFault, Refuses}
 use Rattle.dg_cli_laws.proofs.Alike.{alike, is_call}
 use Rattle.dg_cli_laws.proofs.Written.{asks-told}
-use Rattle.dg_cli_laws.specs.OneMeaning.{WordsHaveOneMeaning, written}
 
 -- a kind that is no call is none of the two
 no_call : (k : ErrorKind) → is_call k ≡ true → (k ≡ kind.DisplayHelp → ⊥) → (k ≡ kind.DisplayVersion → ⊥) → ⊥

@@ -1,15 +1,8 @@
 -- The command lines of specs/CommandLines.antt, each by computing it.
-use Rattle.std.proofs.Common.{◌≡◌, ◌∙◌, ◌++◌, ◌≤◌, ℕ, [], ◌∷◌, Option, Some, codes, decimal, refl, sym, ap, subst, arith, true≢false, true, false}
-use Rattle.std.specs.Prelude.{slice_index, unwrap_or}
-use Rattle.std.proofs.lemmas.Fmt.{decimal_step}
-use Rattle.clap.proofs.CountText.{decimal-count_text}
+use Rattle.dg_cli_laws.proofs.Common.{◌≡◌, ◌∙◌, ◌++◌, ◌≤◌, ℕ, [], ◌∷◌, Option, Some, codes, decimal, refl, sym, ap, subst, arith, true≢false, true, false, slice_index, unwrap_or, decimal_step, decimal-count_text, DisplayHelp, DisplayHelpOnMissingArgumentOrSubcommand, DisplayVersion, InvalidSubcommand, UnknownArgument, Judge, Rank, IsGiven, IsNumber, CommandLinesAsk, IsFault, IsJudge, IsParty, IsRank, IsServe, IsSweepOf}
 use Rattle.clap.proofs.OnLiterals.{clap_on_literals}
 use Rattle.clap.specs.Words.{Text}
-use Rattle.clap.specs.declared.error.kind.ErrorKind.TheVariants.{DisplayHelp, DisplayHelpOnMissingArgumentOrSubcommand, DisplayVersion, InvalidSubcommand, UnknownArgument}
-use Rattle.dg_invocation.specs.declared.question.Question.TheVariants.{Judge, Rank}
 use Rattle.dg_cli.specs.Commands.{dollar}
-use Rattle.dg_cli.specs.Numbers.{IsGiven, IsNumber}
-use Rattle.dg_cli_laws.specs.CommandLines.{CommandLinesAsk, IsFault, IsJudge, IsParty, IsRank, IsServe, IsSweepOf}
 
 number : (low high n : ℕ) (text : Text) → text ≡ decimal n → low ≤ n → n ≤ high → (m : ℕ) → m ≡ n → IsNumber low high text m
 number low high n text is least most m same = record {

@@ -3,3 +3,4 @@ mod CommandLines
 mod Alike
 mod Apart
 mod Written
+pub mod Common

@@ -1,21 +1,11 @@
 -- Two things that the rows of one command ask for are written alike: each as the rows tell.
 --   told name rows     == the words that the rows of the command of that name tell
 --   asks-told          what is asked for is written as the rows tell
-use Rattle.std.proofs.Common.{◌≡◌, ◌∙◌, ◌==◌, ◌+◌, ◌*◌, ℕ, Bool, true, false, cond, List, [], ◌∷◌, ◌++◌, Option, None, Some, IsSomeAnd, true≢false, codes, decimal, map, refl, sym, ap}
-use Rattle.std.specs.Prelude.{slice_index, unwrap_or, is_some}
-use Rattle.std.specs.Option.{option_map_or}
-use Rattle.std.specs.Str.{bytes_eq}
-use Rattle.std.proofs.lemmas.Slice.Eq.{bytes_eq-Decides}
+use Rattle.dg_cli_laws.proofs.Common.{◌≡◌, ◌∙◌, ◌+◌, ◌*◌, ℕ, Bool, true, false, cond, List, [], ◌∷◌, ◌++◌, Option, None, Some, IsSomeAnd, true≢false, codes, decimal, map, refl, sym, ap, slice_index, unwrap_or, is_some, option_map_or, bytes_eq, bytes_eq-Decides, Invocation, Question, Judge, Rank, RiemannRoch, MAX_CAPACITY, IsGiven, IsGivenOr, IsNumber, AsksFor, AsksQuestion, HasOneTable, IsOrdered, LinesAre, divisors_of, word_of, words_of, lines_words, order_words, question_words, seats_words, written}
+use Rattle.std.proofs.Common.{◌==◌}
 use Rattle.clap.specs.Words.{Row, Text}
-use Rattle.dg_invocation.specs.declared.invocation.Invocation.{Invocation}
 use Rattle.dg_invocation.specs.declared.invocation.Invocation.TheVariants as asked
 use Rattle.dg_invocation.specs.declared.invocation.Task.TheVariants as task
-use Rattle.dg_invocation.specs.declared.question.Question.{Question}
-use Rattle.dg_invocation.specs.declared.question.Question.TheVariants.{Judge, Rank, RiemannRoch}
-use Rattle.dg_invocation.specs.declared.limits.TheConstants.{MAX_CAPACITY}
-use Rattle.dg_cli.specs.Numbers.{IsGiven, IsGivenOr, IsNumber}
-use Rattle.dg_cli.specs.Asks.{AsksFor, AsksQuestion, HasOneTable, IsOrdered, LinesAre, divisors_of, word_of, words_of}
-use Rattle.dg_cli_laws.specs.OneMeaning.{lines_words, order_words, question_words, seats_words, written}
 
 -- whether the word of a flag is that it is set
 abbrev is_set : Option Text → Bool

@@ -9,16 +9,16 @@ use Rattle.std.specs.Prelude.{◌≡◌, ℕ, Bool, true, false, List, [], ◌�
 use Rattle.std.specs.Borrow.{Bor}
 use Rattle.clap.specs.Words.{Kinds, Text, fault_of}
 use Rattle.clap.specs.declared.error.kind.ErrorKind.TheVariants.{DisplayHelp, DisplayHelpOnMissingArgumentOrSubcommand, DisplayVersion, InvalidSubcommand, UnknownArgument}
-use Rattle.dg_invocation.specs.declared.invocation.Invocation.TheVariants as asked
-use Rattle.dg_invocation.specs.declared.invocation.Task.TheVariants as task
-use Rattle.dg_invocation.specs.declared.invocation.ServeTask.{ServeTask}
+use Rattle.dg_cli.specs.Asks.{Asks}
+use Rattle.dg_cli.specs.Commands.{dollar}
 use Rattle.dg_invocation.specs.declared.invocation.PartyTask.{PartyTask}
+use Rattle.dg_invocation.specs.declared.invocation.ServeTask.{ServeTask}
 use Rattle.dg_invocation.specs.declared.numbered.RankTask.{RankTask}
 use Rattle.dg_invocation.specs.declared.question.Question.{Question}
 use Rattle.dg_invocation.specs.declared.question.Question.TheVariants.{Judge, Rank}
 use Rattle.dg_invocation.specs.declared.question.SweepTask.{SweepTask}
-use Rattle.dg_cli.specs.Commands.{dollar}
-use Rattle.dg_cli.specs.Asks.{Asks}
+use Rattle.dg_invocation.specs.declared.invocation.Invocation.TheVariants as asked
+use Rattle.dg_invocation.specs.declared.invocation.Task.TheVariants as task
 
 abbrev pub called : List Text → List Text
 called words = codes "dollar" ∷ words

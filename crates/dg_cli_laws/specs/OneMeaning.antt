@@ -9,15 +9,15 @@
 --                           memory
 use Rattle.std.specs.Prelude.{◌≡◌, ℕ, Bool, true, false, List, [], ◌∷◌, ◌++◌, Option, Some, None, codes, decimal, map, option_map}
 use Rattle.clap.specs.Words.{Text}
-use Rattle.dg_invocation.specs.declared.invocation.Invocation.{Invocation}
-use Rattle.dg_invocation.specs.declared.invocation.Invocation.TheVariants as asked
-use Rattle.dg_invocation.specs.declared.invocation.Task.TheVariants as task
-use Rattle.dg_invocation.specs.declared.question.Question.{Question}
-use Rattle.dg_invocation.specs.declared.question.Question.TheVariants.{Judge, Rank, RiemannRoch}
-use Rattle.dg_invocation.specs.declared.parse_args.ArgsFault.{ArgsFault}
-use Rattle.dg_invocation.specs.declared.parse_args.ArgsFault.TheVariants.{OutOfMemory}
 use Rattle.dg_cli.specs.Asks.{Asks}
 use Rattle.dg_cli.specs.Refusals.{Refuses}
+use Rattle.dg_invocation.specs.declared.invocation.Invocation.{Invocation}
+use Rattle.dg_invocation.specs.declared.parse_args.ArgsFault.{ArgsFault}
+use Rattle.dg_invocation.specs.declared.parse_args.ArgsFault.TheVariants.{OutOfMemory}
+use Rattle.dg_invocation.specs.declared.question.Question.{Question}
+use Rattle.dg_invocation.specs.declared.question.Question.TheVariants.{Judge, Rank, RiemannRoch}
+use Rattle.dg_invocation.specs.declared.invocation.Invocation.TheVariants as asked
+use Rattle.dg_invocation.specs.declared.invocation.Task.TheVariants as task
 
 abbrev pub lines_words : Option Text → List Text
 lines_words None = codes "--lines" ∷ []

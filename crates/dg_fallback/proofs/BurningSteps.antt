@@ -4,23 +4,8 @@
 --   burning_down-more         it holds after one more such set
 --   burning_down-falls        and the weight falls
 --   burning_down-chips, burning_down-script   amounts and script are within the limits of a firing
-use Rattle.std.proofs.Common.{◌≡◌, ℕ, ◌+◌, ◌*◌, ◌^◌, ◌<◌, ◌≤◌, Bool, true, false, arith, sym, ◌∙◌, refl}
-use Rattle.std.proofs.lemmas.Int.{ints}
-use Rattle.std.proofs.Math.IntN.{ℤ, pos, ◌+ℤ◌, ◌-ℤ◌}
-use Rattle.std.specs.Int.RustNames.{unsigned_abs}
-use Rattle.dg_theory.specs.Multigraph.{Multigraph}
-use Rattle.dg_theory.specs.Firing.{fired, indicator, multiple}
-use Rattle.dg_theory.specs.Distances.{IsDistance}
-use Rattle.dg_theory.proofs.Absolute.{within_abs, abs_within}
-use Rattle.dg_theory.proofs.Multiples.{multiple-off}
-use Rattle.dg_theory.proofs.Potential.{weights, levels_are_potential}
-use Rattle.dg_theory.proofs.Weights.{weight_of, weight_of-cong, weight_falls_by_firings}
-use Rattle.dg_theory.proofs.Range.{IsLed, clear_all, led_start, led_step, led-cong, led_limit, script_between}
-use Rattle.dg_graph.specs.Graph.{IsGraph}
-use Rattle.dg_chips.specs.Vector.{at}
-use Rattle.dg_fallback.specs.declared.walk.Walk.{Walk}
-use Rattle.dg_fallback.specs.States.{IsTied, IsFired, limit_at, IsCleared}
-use Rattle.dg_fallback.specs.Firings.{IsMost}
+use Rattle.dg_fallback.proofs.Common.{◌≡◌, ℕ, ◌+◌, ◌*◌, ◌^◌, ◌<◌, ◌≤◌, Bool, true, false, arith, sym, ◌∙◌, refl, ints, ℤ, pos, ◌+ℤ◌, ◌-ℤ◌, unsigned_abs, Multigraph, fired, indicator, multiple, IsDistance, within_abs, abs_within, multiple-off, weights, levels_are_potential, weight_of, weight_of-cong, weight_falls_by_firings, IsLed, clear_all, led_start, led_step, led-cong, led_limit, script_between, IsGraph, at, Walk, IsTied, IsFired, IsCleared, IsMost}
+use Rattle.dg_fallback.specs.States.{limit_at}
 use Rattle.dg_fallback.proofs.LevelLimits.{limit_at-small}
 
 pub record IsBurningDown (g : Multigraph) (q : ℕ) (x y : Walk) : Type 0 where

@@ -1,16 +1,7 @@
 -- That nobody off q is in debt any more, by the levels and without them.
 --   levels_cleared   once level 1 and those farther are cleared, nobody off q is in debt
 --   cleared_levels   and then they are cleared, for the distances from q
-use Rattle.std.proofs.Common.{ℕ, ◌<◌}
-use Rattle.dg_theory.specs.Multigraph.{Multigraph}
-use Rattle.dg_theory.specs.Distances.{IsDistance}
-use Rattle.dg_theory.proofs.Distances.{not_q}
-use Rattle.dg_theory.proofs.Range.{clear_all}
-use Rattle.dg_theory.proofs.Reach.{distance_from, distance_from-is}
-use Rattle.dg_graph.specs.Graph.{IsGraph}
-use Rattle.dg_chips.specs.Vector.{at}
-use Rattle.dg_fallback.specs.declared.walk.Walk.{Walk}
-use Rattle.dg_fallback.specs.States.{IsCleared, IsClearedOff}
+use Rattle.dg_fallback.proofs.Common.{ℕ, ◌<◌, Multigraph, IsDistance, not_q, clear_all, distance_from, distance_from-is, IsGraph, at, Walk, IsCleared, IsClearedOff}
 
 pub levels_cleared : (g : Multigraph) (q : ℕ) (level : ℕ → ℕ) (x : Walk) → IsDistance g q level →
     IsCleared g level 1 x →

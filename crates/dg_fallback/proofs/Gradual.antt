@@ -1,10 +1,6 @@
 -- Levels from a vertex q at which neighbours differ by at most one.
 --   gradual-distance  once every vertex but q has a nearer neighbour, the levels are the distances
-use Rattle.std.proofs.Common.{◌≢◌, ℕ, ◌+◌, ◌<◌, ◌≤◌, arith}
-use Rattle.dg_theory.specs.Multigraph.{Multigraph, IsMultigraph}
-use Rattle.dg_theory.specs.Distances.{IsDistance}
-use Rattle.dg_fallback.specs.Reaching.{HasNearer}
-use Rattle.dg_theory.proofs.Few.{IsGradual, gradual-few}
+use Rattle.dg_fallback.proofs.Common.{◌≢◌, ℕ, ◌+◌, ◌<◌, ◌≤◌, arith, Multigraph, IsMultigraph, IsDistance, HasNearer, IsGradual, gradual-few}
 
 pub gradual-distance : (g : Multigraph) (q : ℕ) (level : ℕ → ℕ) → IsMultigraph g → IsGradual g q level → q < g.size →
     ((v : ℕ) → v < g.size → v ≢ q → HasNearer g level v) → IsDistance g q level

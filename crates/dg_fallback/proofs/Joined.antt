@@ -3,15 +3,7 @@
 --   IsContinued      the script s leads from C to N but for q's amount, and t leads from N to a reduced divisor
 --   continued        then firing C by the sum of both gives a reduced divisor
 --   continued_near   and if both are 0 at q, the sum is within the limit of a script that leads to one
-use Rattle.std.proofs.Common.{◌≡◌, ◌≢◌, ℕ, ◌+◌, ◌*◌, ◌<◌, ◌≤◌, true, false, arith, ap, sym, ◌∙◌, refl}
-use Rattle.std.proofs.lemmas.Int.{ints}
-use Rattle.std.proofs.Math.IntN.{ℤ, pos, ◌+ℤ◌, ◌-ℤ◌}
-use Rattle.std.specs.Int.RustNames.{unsigned_abs}
-use Rattle.dg_theory.specs.Multigraph.{Multigraph}
-use Rattle.dg_theory.specs.Firing.{Amounts, gain, fired}
-use Rattle.dg_theory.specs.Reduced.{IsReduced}
-use Rattle.dg_theory.proofs.FiringLaws.{fired-fired}
-use Rattle.dg_graph.specs.Graph.{IsGraph}
+use Rattle.dg_fallback.proofs.Common.{◌≡◌, ◌≢◌, ℕ, ◌+◌, ◌*◌, ◌<◌, ◌≤◌, true, false, arith, ap, sym, ◌∙◌, refl, ints, ℤ, pos, ◌+ℤ◌, ◌-ℤ◌, unsigned_abs, Multigraph, Amounts, gain, fired, IsReduced, fired-fired, IsGraph}
 use Rattle.dg_fallback.proofs.Outcome.{script_near}
 
 pub reduced-off : (g : Multigraph) (q : ℕ) (D E : Amounts) → ((v : ℕ) → v < g.size → v ≢ q → D v ≡ E v) →

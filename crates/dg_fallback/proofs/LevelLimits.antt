@@ -2,10 +2,7 @@
 --   limit_at-next    the limit of a level is 64 times the limit of the next farther one
 --   limit_at-least   all are at least 2000000, which the amounts at the start are within
 --   limit_at-small   all are below 2 ^ 111
-use Rattle.std.proofs.Common.{◌≡◌, ℕ, ◌+◌, ◌-◌, ◌*◌, ◌^◌, ◌<◌, ◌≤◌, arith}
-use Rattle.std.proofs.lemmas.Nat.{mul-le}
-use Rattle.std.proofs.Math.Nat.{pow-le-pow_right, one-le-pow}
-use Rattle.dg_theory.proofs.Range.{limit_step, limit_last}
+use Rattle.dg_fallback.proofs.Common.{◌≡◌, ℕ, ◌+◌, ◌-◌, ◌*◌, ◌^◌, ◌<◌, ◌≤◌, arith, mul-le, pow-le-pow_right, one-le-pow, limit_step, limit_last}
 use Rattle.dg_fallback.specs.States.{limit_at}
 
 pub limit_at-next : (j : ℕ) → 0 < j → j ≤ 15 → limit_at (j - 1) ≡ 64 * limit_at j

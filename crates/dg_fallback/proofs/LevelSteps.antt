@@ -7,24 +7,8 @@
 --   debt_small       so as many firings are within their limit
 --   cleared_free     if nobody of the next level is in debt, it is cleared
 --   cleared_paid     and it is cleared once the nearer vertices have lent as often as its largest debt
-use Rattle.std.proofs.Common.{◌≡◌, ℕ, ◌+◌, ◌-◌, ◌*◌, ◌^◌, ◌<◌, ◌≤◌, Bool, arith, ap, sym, ◌∙◌, inl, inr, ⊎_elim}
-use Rattle.std.proofs.lemmas.Bool.{cases_eq}
-use Rattle.std.proofs.lemmas.Int.{ints}
-use Rattle.std.proofs.Math.IntN.{ℤ, pos, negsuc, ◌+ℤ◌, ◌*ℤ◌}
-use Rattle.std.specs.Prelude.{◌≤ℤ◌, ◌<ℤ◌, if◌then◌else◌}
-use Rattle.std.specs.Int.RustNames.{unsigned_abs}
-use Rattle.dg_theory.specs.Multigraph.{Multigraph}
-use Rattle.dg_theory.specs.Firing.{Amounts, indicator, multiple}
-use Rattle.dg_theory.specs.Distances.{IsDistance}
-use Rattle.dg_theory.proofs.Absolute.{within_abs, abs_within, abs-add}
-use Rattle.dg_theory.proofs.FiringLaws.{fired-cong}
-use Rattle.dg_theory.proofs.Multiples.{multiple-within}
-use Rattle.dg_theory.proofs.Debts.{nearer, fired_nearer}
-use Rattle.dg_theory.proofs.Range.{level_limit, level_paid, clear_step, clear_stays}
-use Rattle.dg_graph.specs.Graph.{IsGraph}
-use Rattle.dg_chips.specs.Vector.{at}
-use Rattle.dg_fallback.specs.declared.walk.Walk.{Walk}
-use Rattle.dg_fallback.specs.States.{IsFired, limit_at, IsCleared, IsLargestDebt}
+use Rattle.dg_fallback.proofs.Common.{if◌then◌else◌, ◌≡◌, ℕ, ◌+◌, ◌-◌, ◌*◌, ◌^◌, ◌<◌, ◌≤◌, Bool, arith, ap, sym, ◌∙◌, inl, inr, ⊎_elim, cases_eq, ints, ℤ, pos, negsuc, ◌+ℤ◌, ◌*ℤ◌, ◌≤ℤ◌, ◌<ℤ◌, unsigned_abs, Multigraph, Amounts, indicator, multiple, IsDistance, within_abs, abs_within, abs-add, fired-cong, multiple-within, nearer, fired_nearer, level_limit, level_paid, clear_step, clear_stays, IsGraph, at, Walk, IsFired, IsCleared, IsLargestDebt}
+use Rattle.dg_fallback.specs.States.{limit_at}
 use Rattle.dg_fallback.proofs.LevelLimits.{limit_at-next, limit_at-small}
 
 pub chips_small : (g : Multigraph) (level : ℕ → ℕ) (j : ℕ) (x : Walk) → IsCleared g level j x →

@@ -12,3 +12,4 @@ pub mod BurningSteps
 -- What a reduction comes to, also one that begins with a script.
 pub mod Outcome
 pub mod Joined
+pub mod Common

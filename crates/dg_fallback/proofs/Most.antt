@@ -7,24 +7,7 @@
 --   some_leaves     a set without q that has a member has an edge that leaves it
 --   least_is_most   over all vertices, the least is how often the set can fire
 --   most_within     and it is at most what a vertex holds
-use Rattle.std.proofs.Common.{◌≡◌, ◌≢◌, ℕ, ◌+◌, ◌<◌, ◌≤◌, Bool, true, false, arith, ap, sym, ◌∙◌, ◌⊎◌, inl, inr, ⊎_elim}
-use Rattle.std.proofs.lemmas.Bool.{cases_eq, cases_Bool}
-use Rattle.std.proofs.lemmas.Int.{ints}
-use Rattle.std.proofs.Math.IntN.{ℤ, pos, ◌+ℤ◌, ◌*ℤ◌, *ℤ_comm}
-use Rattle.std.specs.Prelude.{◌≤ℤ◌, ◌<ℤ◌, if◌then◌else◌}
-use Rattle.std.specs.Int.RustNames.{unsigned_abs}
-use Rattle.dg_theory.specs.Multigraph.{Multigraph, IsMultigraph, edges_between}
-use Rattle.dg_theory.specs.Firing.{Amounts, gain, fired, indicator, multiple}
-use Rattle.dg_theory.specs.Reduced.{edges_out}
-use Rattle.dg_theory.specs.Burning.{edges_into, FiresFreely}
-use Rattle.dg_theory.proofs.Absolute.{within_abs, abs_within}
-use Rattle.dg_theory.proofs.Products.{mulz-add, one-mul}
-use Rattle.dg_theory.proofs.SumBounds.{mul-mono, mul-grows}
-use Rattle.dg_theory.proofs.TotalLaws.{total_below-term}
-use Rattle.dg_theory.proofs.SetFiring.{gain-outside, fired-inside}
-use Rattle.dg_theory.proofs.Multiples.{gain-all_inside, gain-all_outside}
-use Rattle.dg_theory.proofs.Climbs.{Leaves, JoinedIn-leaves}
-use Rattle.dg_fallback.specs.Firings.{IsMost, LastsAt, Lacks, SendsNothing, largest}
+use Rattle.dg_fallback.proofs.Common.{if◌then◌else◌, ◌≡◌, ◌≢◌, ℕ, ◌+◌, ◌<◌, ◌≤◌, Bool, true, false, arith, ap, sym, ◌∙◌, ◌⊎◌, inl, inr, ⊎_elim, cases_eq, cases_Bool, ints, ℤ, pos, ◌+ℤ◌, ◌*ℤ◌, *ℤ_comm, ◌≤ℤ◌, ◌<ℤ◌, unsigned_abs, Multigraph, IsMultigraph, edges_between, Amounts, gain, fired, indicator, multiple, edges_out, edges_into, FiresFreely, within_abs, abs_within, mulz-add, one-mul, mul-mono, mul-grows, total_below-term, gain-outside, fired-inside, gain-all_inside, gain-all_outside, Leaves, JoinedIn-leaves, IsMost, LastsAt, Lacks, SendsNothing, largest}
 
 pub off_q : (S : ℕ → Bool) (q v : ℕ) → S q ≡ false → S v ≡ true → v ≢ q
 off_q S q v without member same = let clash : true ≡ false = sym member ∙ ap S same ∙ without in absurd (cc)

@@ -5,26 +5,7 @@
 --   reduced_only      the reduced divisor and its script that is 0 at q are the only ones
 --   reduction_within  a reduced divisor and a script that leads to it and is 0 at q are a reduction, within a bound
 --                     that the range of the amounts gives
-use Rattle.std.proofs.Common.{◌≡◌, ◌≢◌, ℕ, ◌+◌, ◌*◌, ◌<◌, ◌≤◌, ◌==◌, Bool, arith, ap, sym, ◌∙◌, refl}
-use Rattle.std.proofs.lemmas.Int.{ints}
-use Rattle.std.proofs.lemmas.Bool.{eq-eqb, eqb-true, ne_eqb}
-use Rattle.std.proofs.Math.IntN.{pos, ◌+ℤ◌, ◌-ℤ◌}
-use Rattle.std.specs.Prelude.{◌≤ℤ◌}
-use Rattle.std.specs.Int.RustNames.{unsigned_abs}
-use Rattle.dg_theory.specs.Multigraph.{Multigraph, valence}
-use Rattle.dg_theory.specs.Firing.{Amounts, AgreeOn, AreEquivalent, FiresTo, fired}
-use Rattle.dg_theory.specs.Reduced.{edges_out, IsReduced}
-use Rattle.dg_theory.proofs.Bounds.{script_bound}
-use Rattle.dg_theory.proofs.ConstantLaws.{same_by_constant}
-use Rattle.dg_theory.proofs.Debts.{out-le-valence}
-use Rattle.dg_theory.proofs.Agreement.{agree-trans}
-use Rattle.dg_theory.proofs.Equivalence.{equivalent-fired, equivalent-sym, equivalent-trans}
-use Rattle.dg_theory.proofs.ReducedLaws.{reduced_once}
-use Rattle.dg_theory.proofs.Scripts.{fired-shifted}
-use Rattle.dg_graph.specs.Graph.{IsGraph}
-use Rattle.dg_chips.specs.Vector.{at}
-use Rattle.dg_fallback.specs.declared.reduced.Reduced.{Reduced}
-use Rattle.dg_fallback.specs.Reductions.{IsOnly, IsReduction}
+use Rattle.dg_fallback.proofs.Common.{◌≡◌, ◌≢◌, ℕ, ◌+◌, ◌*◌, ◌<◌, ◌≤◌, ◌==◌, Bool, arith, ap, sym, ◌∙◌, refl, ints, eq-eqb, eqb-true, ne_eqb, pos, ◌+ℤ◌, ◌-ℤ◌, ◌≤ℤ◌, unsigned_abs, Multigraph, valence, Amounts, AgreeOn, AreEquivalent, FiresTo, fired, edges_out, IsReduced, script_bound, same_by_constant, out-le-valence, agree-trans, equivalent-fired, equivalent-sym, equivalent-trans, reduced_once, fired-shifted, IsGraph, at, Reduced, IsOnly, IsReduction}
 
 pub reduced_few : (g : Multigraph) (q : ℕ) (D : Amounts) (v : ℕ) → IsGraph g → IsReduced g q D → v < g.size → v ≢ q →
     D v ≤ℤ pos 62

@@ -11,13 +11,7 @@
 --   reached-next      once all vertices of a level are passed, it is the turn of the next
 --   reached-gradual   when no level is left, the levels are gradual
 --   levels-first      so the list at the start is right
-use Rattle.std.proofs.Common.{◌≡◌, ◌≢◌, ℕ, ◌+◌, ◌<◌, ◌≤◌, set, replicate, slice_index, arith, ap, sym, subst, ◌∙◌, ⊎_elim}
-use Rattle.std.proofs.lemmas.Bool.{cases_eq, cases_lt}
-use Rattle.std.proofs.lemmas.Bool.Decides.{nat_tests}
-use Rattle.std.proofs.lemmas.List.{get_or-set_same, get_or-set_other, get_or-replicate, length-replicate}
-use Rattle.dg_theory.specs.Multigraph.{Multigraph, IsMultigraph, edges_between}
-use Rattle.dg_theory.proofs.Few.{IsGradual}
-use Rattle.dg_fallback.specs.Reaching.{HasNearer, IsReached, spread}
+use Rattle.dg_fallback.proofs.Common.{◌≡◌, ◌≢◌, ℕ, ◌+◌, ◌<◌, ◌≤◌, set, replicate, slice_index, arith, ap, sym, subst, ◌∙◌, ⊎_elim, cases_eq, cases_lt, nat_tests, get_or-set_same, get_or-set_other, get_or-replicate, length-replicate, Multigraph, IsMultigraph, edges_between, IsGradual, HasNearer, IsReached, spread}
 
 spread-new : (g : Multigraph) (v k : ℕ) (level : ℕ → ℕ) (w : ℕ) → level w ≡ g.size → 0 < edges_between g v w →
     spread g v k level w ≡ k

@@ -2,17 +2,8 @@
 --   tied-start     a script of zeros leads from amounts to the same
 --   tied-more      after another script, the sum of both leads to the new amounts
 --   cleared-start  at the start no level beyond the farthest is in debt
-use Rattle.std.proofs.Common.{◌≡◌, ℕ, ◌-◌, ◌<◌, ◌≤◌, arith, ap, sym, ◌∙◌}
-use Rattle.std.proofs.Math.IntN.{ℤ, pos, ◌+ℤ◌}
-use Rattle.std.specs.Int.RustNames.{unsigned_abs}
-use Rattle.dg_theory.specs.Multigraph.{Multigraph}
-use Rattle.dg_theory.specs.Firing.{Amounts, gain, fired}
-use Rattle.dg_theory.specs.Distances.{IsDistance}
-use Rattle.dg_theory.proofs.FiringLaws.{fired-fired, fired-constant, fired-cong}
-use Rattle.dg_graph.specs.Graph.{IsGraph}
-use Rattle.dg_chips.specs.Vector.{at}
-use Rattle.dg_fallback.specs.declared.walk.Walk.{Walk}
-use Rattle.dg_fallback.specs.States.{IsTied, limit_at, IsCleared}
+use Rattle.dg_fallback.proofs.Common.{◌≡◌, ℕ, ◌-◌, ◌<◌, ◌≤◌, arith, ap, sym, ◌∙◌, ℤ, pos, ◌+ℤ◌, unsigned_abs, Multigraph, Amounts, gain, fired, IsDistance, fired-fired, fired-constant, fired-cong, IsGraph, at, Walk, IsTied, IsCleared}
+use Rattle.dg_fallback.specs.States.{limit_at}
 use Rattle.dg_fallback.proofs.LevelLimits.{limit_at-least}
 
 pub tied-start : (g : Multigraph) (D s : Amounts) → ((v : ℕ) → s v ≡ pos 0) → (v : ℕ) → v < g.size → D v ≡ fired g D s v

@@ -10,10 +10,10 @@
 --                             sends nothing, m may be the largest number
 use Rattle.std.specs.Prelude.{◌≡◌, ℕ, ◌^◌, ◌<◌, ◌≤◌, Bool, true, ℤ, pos, ◌+ℤ◌, ◌*ℤ◌, ◌≤ℤ◌, ◌<ℤ◌, ◌⊎◌}
 use Rattle.std.specs.Int.RustNames.{unsigned_abs}
-use Rattle.dg_theory.specs.Multigraph.{Multigraph}
-use Rattle.dg_theory.specs.Firing.{Amounts, fired, indicator, multiple, HasNoDebtOff}
-use Rattle.dg_theory.specs.Reduced.{edges_out}
 use Rattle.dg_theory.specs.Burning.{FiresFreely}
+use Rattle.dg_theory.specs.Firing.{Amounts, fired, indicator, multiple, HasNoDebtOff}
+use Rattle.dg_theory.specs.Multigraph.{Multigraph}
+use Rattle.dg_theory.specs.Reduced.{edges_out}
 
 pub record IsMost (g : Multigraph) (q : ℕ) (D : Amounts) (S : ℕ → Bool) (m : ℤ) : Type 0 where
   pub some : pos 1 ≤ℤ m

@@ -5,7 +5,7 @@
 --                              are passed: their neighbours are reached
 --   spread g v k level      == the levels after the neighbours of v that are not reached get level
 --                              k
-use Rattle.std.specs.Prelude.{◌≡◌, ◌≢◌, ℕ, ◌+◌, ◌<◌, ◌≤◌, ◌&&◌, nat_eq, nat_lt, if◌then◌else◌}
+use Rattle.std.specs.Prelude.{if◌then◌else◌, ◌≡◌, ◌≢◌, ℕ, ◌+◌, ◌<◌, ◌≤◌, ◌&&◌, nat_eq, nat_lt}
 use Rattle.dg_theory.specs.Multigraph.{Multigraph, edges_between}
 
 abbrev pub HasNearer : Multigraph → (ℕ → ℕ) → ℕ → Type 0

@@ -6,10 +6,10 @@
 --                                divisor, and no other script that is 0 at q and leads to it
 use Rattle.std.specs.Prelude.{◌≡◌, ℕ, ◌<◌, ◌≤◌, pos}
 use Rattle.std.specs.Int.RustNames.{unsigned_abs}
-use Rattle.dg_theory.specs.Multigraph.{Multigraph}
-use Rattle.dg_theory.specs.Firing.{Amounts, fired, FiresTo}
-use Rattle.dg_theory.specs.Reduced.{IsReduced}
 use Rattle.dg_chips.specs.Vector.{at}
+use Rattle.dg_theory.specs.Firing.{Amounts, fired, FiresTo}
+use Rattle.dg_theory.specs.Multigraph.{Multigraph}
+use Rattle.dg_theory.specs.Reduced.{IsReduced}
 use Rattle.dg_fallback.specs.declared.reduced.Reduced.{Reduced}
 
 abbrev pub IsOnly : Multigraph → ℕ → Amounts → Amounts → Amounts → Type 0

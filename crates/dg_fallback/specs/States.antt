@@ -13,9 +13,9 @@
 --                                  script are within the limit of level 0
 use Rattle.std.specs.Prelude.{◌≡◌, ℕ, ◌-◌, ◌*◌, ◌^◌, ◌<◌, ◌≤◌, Bool, ℤ, pos, ◌+ℤ◌, ◌≤ℤ◌, ◌⊎◌}
 use Rattle.std.specs.Int.RustNames.{unsigned_abs}
-use Rattle.dg_theory.specs.Multigraph.{Multigraph}
-use Rattle.dg_theory.specs.Firing.{Amounts, fired, indicator, multiple, HasNoDebtOff, FiresTo}
 use Rattle.dg_chips.specs.Vector.{at}
+use Rattle.dg_theory.specs.Firing.{Amounts, fired, indicator, multiple, HasNoDebtOff, FiresTo}
+use Rattle.dg_theory.specs.Multigraph.{Multigraph}
 use Rattle.dg_fallback.specs.declared.walk.Walk.{Walk}
 
 pub record IsTied (g : Multigraph) (x : Walk) : Type 0 where

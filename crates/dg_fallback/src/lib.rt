@@ -1,5 +1,5 @@
-//! The fallback: reductions without a guess, by the distances from a vertex. No guess is known that needs it, but no proof
-//! says that there is none. No call takes memory.
+//! The fallback: reductions without a guess, by the distances from a vertex. Few guesses need it, but some do. No call takes
+//! memory.
 #![tactic(auto)]
 
 mod burning_down;

@@ -8,7 +8,4 @@ mod OneName
 mod OneGraph
 mod OneTable
 mod OneFile
--- Files have a meaning.
-mod SomeShape
-mod SomeTable
-mod SomeFile
+pub mod Common

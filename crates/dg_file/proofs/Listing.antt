@@ -9,17 +9,8 @@
 --   parts-counted  an object of another number of members has no parts
 --   edge-three     an array of three values is an edge where they are two texts and a number of edges
 --   edge-others    an array of another number of values is no edge
-use Rattle.std.proofs.Common.{◌≡◌, ◌≢◌, ℕ, suc, ◌+◌, ◌<◌, ◌≤◌, List, [], ◌∷◌, ◌++◌, length, get_or, drop, Option, Some, None, option_map, Bor, Vec, String, Global, refl, sym, ap, ◌∙◌, codes, inl, inr, arith}
-use Rattle.std.specs.Prelude.{IsSome, option_and_then}
-use Rattle.std.proofs.lemmas.Bool.{cases_order}
-use Rattle.std.proofs.lemmas.List.{append_assoc, append-nil, drop_more, drop_all}
-use Rattle.serde_json.specs.Data.{Data, null, boolean, number, string, array, object, Members}
-use Rattle.serde_json.specs.Find.{get, get_member, get_item, as_object, as_array, as_str}
-use Rattle.serde_json.specs.View.{view, items_view, members_view}
-use Rattle.serde_json.specs.declared.value.Value.{Value}
-use Rattle.serde_json.proofs.Views.{get_item_within}
-use Rattle.dg_file.specs.Content.{Parts, HasParts, member_count, put_first, each, edge_in, edge_of, edge_from, count_in, listed}
-use Rattle.dg_file.specs.FileFaults.{IsEdgeFault}
+use Rattle.dg_file.proofs.Common.{◌≡◌, ◌≢◌, ℕ, suc, ◌+◌, ◌<◌, ◌≤◌, List, [], ◌∷◌, ◌++◌, length, get_or, drop, Option, Some, None, option_map, Bor, Vec, String, Global, refl, sym, ap, ◌∙◌, codes, inl, inr, arith, IsSome, option_and_then, cases_order, append_assoc, append-nil, drop_more, drop_all, Data, null, boolean, number, string, array, object, Members, get, get_member, get_item, as_object, as_array, as_str, view, items_view, members_view, Value, get_item_within, Parts, HasParts, put_first, edge_in, edge_from, count_in, listed, IsEdgeFault}
+use Rattle.dg_file.specs.Content.{member_count, each, edge_of}
 
 abbrev pub after : {A : Type 0} → List A → Option (List A) → Option (List A)
 after xs rest = option_map (λ more. xs ++ more) rest

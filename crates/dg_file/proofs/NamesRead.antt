@@ -9,13 +9,7 @@
 --   name-fault          a text that is no name
 --   twice-fault         a name that stood before
 --   stood               a name stood before just if it was not added
-use Rattle.std.proofs.Common.{◌≡◌, ℕ, ◌+◌, ◌<◌, ◌≤◌, Bool, true, false, not, cond, refl, List, [], ◌∷◌, ◌++◌, length, get_or, take, map, Some, Bor, option_map, sym, ap, ◌∙◌, arith}
-use Rattle.std.specs.Prelude.{slice_get}
-use Rattle.std.proofs.lemmas.List.{length-map, length-take, take-map, take_all, map_more}
-use Rattle.std.proofs.lemmas.Option.{slice_get-map, slice_get-get_or}
-use Rattle.dg_graph.specs.Faults.{IsSize}
-use Rattle.dg_tokens.specs.Names.{IsName, AreNames, has, added}
-use Rattle.dg_file.specs.FileFaults.{IsNameFault, IsTwiceFault}
+use Rattle.dg_file.proofs.Common.{◌≡◌, ℕ, ◌+◌, ◌<◌, ◌≤◌, Bool, true, false, not, cond, refl, List, [], ◌∷◌, ◌++◌, length, get_or, take, map, Some, Bor, option_map, sym, ap, ◌∙◌, arith, slice_get, length-map, length-take, take-map, take_all, map_more, slice_get-map, slice_get-get_or, IsSize, IsName, AreNames, has, added, IsNameFault, IsTwiceFault}
 
 abbrev pub the_text : Bor (List ℕ) → List ℕ
 the_text t = t.now

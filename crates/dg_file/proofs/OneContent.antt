@@ -5,12 +5,7 @@
 --   same-value     the value of bytes
 --   same-parts     the parts of a value
 --   same-content   the content of a value
-use Rattle.std.proofs.Common.{◌≡◌, ℕ, ◌<◌, List, Option, Some, None, inl, inr, sym, ◌∙◌, codes}
-use Rattle.std.specs.Prelude.{IsSome}
-use Rattle.std.proofs.lemmas.Bool.{false≢true, cases_order}
-use Rattle.serde_json.specs.Data.{Data}
-use Rattle.serde_json.specs.Find.{get_member, as_object, as_str}
-use Rattle.dg_file.specs.Content.{Content, Parts, Reads, HasParts, IsContent, texts_in, edges_in, numbers_in}
+use Rattle.dg_file.proofs.Common.{◌≡◌, ℕ, ◌<◌, List, Option, Some, None, inl, inr, sym, ◌∙◌, codes, IsSome, false≢true, cases_order, Data, get_member, as_object, as_str, Content, Parts, Reads, HasParts, IsContent, texts_in, edges_in, numbers_in}
 
 pub found-once : {A : Type 0} (o : Option A) (x y : A) → o ≡ Some x → o ≡ Some y → x ≡ y
 found-once o x y a b = let e : Some x ≡ Some y = sym a ∙ b in cc

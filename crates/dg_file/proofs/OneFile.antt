@@ -1,15 +1,8 @@
 -- Bytes have one fault at most, want of memory aside, and none where they are a table file.
 --   file-one      one fault
 --   file-none     no fault where there is a table
-use Rattle.std.proofs.Common.{◌≡◌, ◌≢◌, ℕ, List, refl, ap}
-use Rattle.serde_json.specs.Data.{Data}
-use Rattle.dg_chips.specs.Starts.{StartData}
-use Rattle.dg_file.specs.Content.{Reads, IsNotJson}
-use Rattle.dg_file.specs.TableFiles.{IsTableFile}
-use Rattle.dg_file.specs.FileFaults.{IsShapeFault, IsRefusedTable, RefusesFile}
-use Rattle.dg_file.specs.declared.fault.Shape.{Shape}
-use Rattle.dg_file.specs.declared.fault.FileFault.{FileFault}
-use Rattle.dg_file.specs.declared.fault.FileFault.TheVariants.{Json, Shape as OfShape, Graph, Name, Twice, Chip, NoQ, OutOfMemory}
+use Rattle.dg_file.proofs.Common.{◌≡◌, ◌≢◌, ℕ, List, refl, ap, Data, StartData, Reads, IsNotJson, IsTableFile, IsShapeFault, IsRefusedTable, RefusesFile, Shape, FileFault, Json, Graph, Name, Twice, Chip, NoQ, OutOfMemory}
+use Rattle.dg_file.specs.declared.fault.FileFault.TheVariants.{Shape as OfShape}
 use Rattle.dg_file.proofs.OneContent.{none-found, same-value, same-content}
 use Rattle.dg_file.proofs.OneShape.{shape-one, shape-none}
 use Rattle.dg_file.proofs.OneTable.{table-one, table-none}

@@ -1,17 +1,7 @@
 -- A list of items has one fault at most, and none where it gives a graph.
 --   graph-one     one fault
 --   graph-none    no fault where there is a graph
-use Rattle.std.proofs.Common.{◌≡◌, ℕ, ◌<◌, ◌≤◌, List, ⊎_elim, refl, ap, arith}
-use Rattle.std.specs.Prelude.{slice_get}
-use Rattle.std.proofs.lemmas.Option.{slice_get_within}
-use Rattle.dg_theory.specs.Multigraph.{Multigraph, edges_between}
-use Rattle.dg_theory.specs.Sums.{total_below}
-use Rattle.dg_theory.proofs.Chains.{JoinedIn-cong}
-use Rattle.dg_theory.proofs.TotalLaws.{total_below-cong}
-use Rattle.dg_graph.specs.Items.{Item, IsItem, IsItems, IsRightBefore, HasItem, IsGiven, edges_listed, valence_listed}
-use Rattle.dg_graph.specs.Faults.{JoinsNoVertex, IsLoop, IsEmptyItem, IsFirstHigh, IsParted, IsFirstGraphFault}
-use Rattle.dg_graph.specs.declared.fault.GraphFault.{GraphFault}
-use Rattle.dg_graph.specs.declared.fault.GraphFault.TheVariants.{Size, NoVertex, Loop, Multiplicity, Valence, NotConnected}
+use Rattle.dg_file.proofs.Common.{◌≡◌, ℕ, ◌<◌, ◌≤◌, List, ⊎_elim, refl, ap, arith, slice_get, slice_get_within, Multigraph, edges_between, total_below, JoinedIn-cong, total_below-cong, Item, IsItem, IsItems, IsRightBefore, HasItem, IsGiven, edges_listed, valence_listed, JoinsNoVertex, IsLoop, IsEmptyItem, IsFirstHigh, IsParted, IsFirstGraphFault, GraphFault, Size, NoVertex, Loop, Multiplicity, Valence, NotConnected}
 use Rattle.dg_file.proofs.OneContent.{found-once, first-once}
 
 module _ (n : ℕ) (wrong : Item) where

@@ -4,16 +4,8 @@
 --   stops-twice       a name that stood before
 --   stops-one         one place at which they stop
 --   name-or-twice     a name is at fault in one way
-use Rattle.std.proofs.Common.{◌≡◌, ℕ, zero, suc, ◌<◌, true, false, List, [], ◌∷◌, length, take, Some, refl, sym, ◌∙◌, ⊎_elim, arith}
-use Rattle.std.specs.Prelude.{bytes_eq, slice_get}
-use Rattle.std.specs.List.{AllByRecursion, IsDistinct}
-use Rattle.std.proofs.lemmas.Bool.{false≢true, or_cases}
-use Rattle.std.proofs.lemmas.List.{take-take, take_all}
-use Rattle.std.proofs.lemmas.List.Elements.{All-get_or}
-use Rattle.std.proofs.lemmas.Option.{slice_get_within, get_or_from_slice_get}
-use Rattle.dg_tokens.specs.Names.{IsName, AreNames, has}
-use Rattle.dg_file.specs.FileFaults.{IsNameFault, IsTwiceFault}
-use Rattle.dg_tokens.proofs.NamesLaws.{bytes_eq-swap}
+use Rattle.dg_file.proofs.Common.{◌≡◌, ℕ, zero, suc, ◌<◌, true, false, List, [], ◌∷◌, length, take, Some, refl, sym, ◌∙◌, ⊎_elim, arith, bytes_eq, slice_get, AllByRecursion, false≢true, or_cases, take-take, take_all, All-get_or, slice_get_within, get_or_from_slice_get, IsName, AreNames, has, IsNameFault, IsTwiceFault, bytes_eq-swap}
+use Rattle.std.specs.List.{IsDistinct}
 use Rattle.dg_file.proofs.OneContent.{found-once, first-once}
 
 pub record Stops (names : List (List ℕ)) (i : ℕ) : Type 0 where

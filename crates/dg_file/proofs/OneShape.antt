@@ -2,14 +2,8 @@
 --   each-none     an item that cannot be read leaves nothing
 --   shape-one     one shape at fault
 --   shape-none    no shape at fault where there is a content
-use Rattle.std.proofs.Common.{◌≡◌, ℕ, zero, suc, ◌<◌, ◌⊎◌, inl, inr, Option, Some, None, refl, sym, ap, ◌∙◌}
-use Rattle.std.specs.Prelude.{option_and_then}
-use Rattle.serde_json.specs.Data.{Data, Items, no_items, item}
-use Rattle.serde_json.specs.Find.{get_item, as_array}
-use Rattle.dg_file.specs.Content.{Content, Parts, HasParts, IsContent, put_first, each, edge_in, edges_in}
-use Rattle.dg_file.specs.FileFaults.{IsEdgeFault, IsShapeFaultOf, IsShapeFault}
-use Rattle.dg_file.specs.declared.fault.Shape.{Shape}
-use Rattle.dg_file.specs.declared.fault.Shape.TheVariants.{Top, Vertices, Edges, Edge, Amounts, Q}
+use Rattle.dg_file.proofs.Common.{◌≡◌, ℕ, zero, suc, ◌<◌, ◌⊎◌, inl, inr, Option, Some, None, refl, sym, ap, ◌∙◌, option_and_then, Data, Items, no_items, item, get_item, as_array, Content, Parts, HasParts, IsContent, put_first, edge_in, edges_in, IsEdgeFault, IsShapeFaultOf, IsShapeFault, Shape, Top, Vertices, Edges, Edge, Amounts, Q}
+use Rattle.dg_file.specs.Content.{each}
 use Rattle.dg_file.proofs.OneContent.{found-once, first-once, none-or-some, none-found, same-parts}
 
 nothing : {A : Type 0} (o : Option A) → put_first o None ≡ None

@@ -2,23 +2,8 @@
 --   at-one        the amounts of a divisor are those that were given
 --   table-one     one fault
 --   table-none    no fault where there is a table
-use Rattle.std.proofs.Common.{◌≡◌, ℕ, ◌<◌, ℤ, List, length, inl, inr, refl, sym, ap, ◌∙◌, arith}
-use Rattle.std.proofs.lemmas.Bool.{cases_lt}
-use Rattle.dg_graph.specs.Faults.{IsSize}
-use Rattle.dg_graph.specs.declared.fault.GraphFault.{GraphFault}
-use Rattle.dg_graph.specs.declared.fault.GraphFault.TheVariants.{Size, NoVertex, Loop, Multiplicity, Valence, NotConnected}
-use Rattle.dg_chips.specs.Starts.{StartData}
-use Rattle.dg_chips.specs.Vector.{Vector, at, HoldsNumbers, IsDivisor}
-use Rattle.dg_chips.specs.VectorFaults.{IsFirstPast}
-use Rattle.dg_chips.specs.DivisorFaults.{IsFirstChipFault}
-use Rattle.dg_chips.specs.declared.divisor.ChipFault.{ChipFault}
-use Rattle.dg_chips.specs.declared.divisor.ChipFault.TheVariants.{Length, Range}
-use Rattle.dg_file.specs.Content.{Content}
-use Rattle.dg_tokens.specs.Names.{AreNames}
-use Rattle.dg_file.specs.TableFiles.{items_of, IsTable}
-use Rattle.dg_file.specs.FileFaults.{IsGraphFault, IsNameFault, IsTwiceFault, GivesGraph, GivesDivisor, RefusesTable}
-use Rattle.dg_file.specs.declared.fault.FileFault.{FileFault}
-use Rattle.dg_file.specs.declared.fault.FileFault.TheVariants.{Json, Shape as OfShape, Graph, Name, Twice, Chip, NoQ, OutOfMemory}
+use Rattle.dg_file.proofs.Common.{◌≡◌, ℕ, ◌<◌, ℤ, List, length, inl, inr, refl, sym, ap, ◌∙◌, arith, cases_lt, IsSize, GraphFault, Size, NoVertex, Loop, Multiplicity, Valence, NotConnected, StartData, Vector, at, HoldsNumbers, IsDivisor, IsFirstPast, IsFirstChipFault, ChipFault, Length, Range, Content, AreNames, items_of, IsTable, IsGraphFault, IsNameFault, IsTwiceFault, GivesGraph, GivesDivisor, RefusesTable, FileFault, Json, Graph, Name, Twice, Chip, NoQ, OutOfMemory}
+use Rattle.dg_file.specs.declared.fault.FileFault.TheVariants.{Shape as OfShape}
 use Rattle.dg_file.proofs.OneContent.{none-found, first-once}
 use Rattle.dg_file.proofs.OneGraph.{graph-one, graph-none}
 use Rattle.dg_file.proofs.OneName.{stops-name, stops-twice, stops-one, name-or-twice}

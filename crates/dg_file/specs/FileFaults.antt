@@ -19,17 +19,17 @@
 --   RefusesFile bytes fault         == the first fault of the bytes; of want of memory nothing is
 --                                      said
 use Rattle.std.specs.Prelude.{◌≡◌, ◌≢◌, ℕ, ◌<◌, List, length, take, slice_get, Some, None, IsSome, IsTrue, ⊤}
-use Rattle.serde_json.specs.Data.{Data, Items}
-use Rattle.serde_json.specs.Find.{as_array, as_str, get_item}
-use Rattle.dg_theory.specs.Multigraph.{Multigraph}
+use Rattle.dg_chips.specs.DivisorFaults.{IsFirstChipFault}
+use Rattle.dg_chips.specs.Vector.{Vector, HoldsNumbers, IsDivisor}
 use Rattle.dg_graph.specs.Faults.{IsSize, IsFirstGraphFault}
 use Rattle.dg_graph.specs.Items.{IsGiven}
 use Rattle.dg_graph.specs.declared.fault.GraphFault.{GraphFault}
 use Rattle.dg_graph.specs.declared.fault.GraphFault.TheVariants.{Size}
-use Rattle.dg_chips.specs.Vector.{Vector, HoldsNumbers, IsDivisor}
-use Rattle.dg_chips.specs.DivisorFaults.{IsFirstChipFault}
-use Rattle.dg_file.specs.Content.{Content, Parts, Reads, IsNotJson, HasParts, texts_in, edge_in, edges_in, numbers_in, IsContent}
+use Rattle.dg_theory.specs.Multigraph.{Multigraph}
 use Rattle.dg_tokens.specs.Names.{IsName, AreNames, has, place_of}
+use Rattle.serde_json.specs.Data.{Data, Items}
+use Rattle.serde_json.specs.Find.{as_array, as_str, get_item}
+use Rattle.dg_file.specs.Content.{Content, Parts, Reads, IsNotJson, HasParts, texts_in, edge_in, edges_in, numbers_in, IsContent}
 use Rattle.dg_file.specs.TableFiles.{items_of}
 use Rattle.dg_file.specs.declared.fault.Shape.{Shape}
 use Rattle.dg_file.specs.declared.fault.Shape.TheVariants.{Top, Vertices, Edges, Edge, Amounts, Q}

@@ -1,11 +1,13 @@
 -- A law of table files.
 --   AreSameOpenings o p == the openings have the same graph, the same amounts and the same vertex q
---   FilesHaveOneMeaning == bytes describe a table, or there is a fault for which they are refused,
---                          want of memory aside; not both, and no other table and no other fault
+--   HasMeaning bytes    == the bytes describe a table, or there is a fault for which they are refused,
+--                          want of memory aside
+--   FilesHaveOneMeaning == bytes that describe a table have no such fault and describe no other table,
+--                          and no bytes have two such faults
 use Rattle.std.specs.Prelude.{◌≡◌, ◌≢◌, ◌⊎◌, ℕ, List}
-use Rattle.dg_theory.specs.Multigraph.{edges_between}
 use Rattle.dg_chips.specs.Starts.{StartData}
 use Rattle.dg_chips.specs.Vector.{at}
+use Rattle.dg_theory.specs.Multigraph.{edges_between}
 use Rattle.dg_file.specs.TableFiles.{IsTableFile}
 use Rattle.dg_file.specs.FileFaults.{RefusesFile}
 use Rattle.dg_file.specs.declared.fault.FileFault.{FileFault}
@@ -17,9 +19,11 @@ pub record AreSameOpenings (o p : StartData) : Type 0 where
   pub amounts : (v : ℕ) → at o.divisor v ≡ at p.divisor v
   pub vertex : o.q ≡ p.q
 
+abbrev pub HasMeaning : List ℕ → Type 0
+HasMeaning bytes = ((o : StartData) × (names : List (List ℕ)) × IsTableFile bytes o names)
+    ⊎ ((fault : FileFault) × (fault ≢ OutOfMemory) × RefusesFile bytes fault)
+
 pub record FilesHaveOneMeaning : Type 0 where
-  pub some : (bytes : List ℕ) → ((o : StartData) × (names : List (List ℕ)) × IsTableFile bytes o names)
-      ⊎ ((fault : FileFault) × (fault ≢ OutOfMemory) × RefusesFile bytes fault)
   pub table : (bytes : List ℕ) (o p : StartData) (names others : List (List ℕ))
       → IsTableFile bytes o names → IsTableFile bytes p others → AreSameOpenings o p ×
       (names ≡ others)

@@ -7,10 +7,10 @@
 --   RefusesNames names fault == the number of names is at fault, or else that is the first name at
 --                               fault
 use Rattle.std.specs.Prelude.{ℕ, List, length, ⊤}
-use Rattle.serde_json.specs.Data.{Data}
-use Rattle.serde_json.specs.View.{view}
 use Rattle.dg_graph.specs.Faults.{IsSize}
 use Rattle.dg_graph.specs.declared.fault.GraphFault.TheVariants.{Size}
+use Rattle.serde_json.specs.Data.{Data}
+use Rattle.serde_json.specs.View.{view}
 use Rattle.dg_file.specs.Content.{Parts, Content, IsContent}
 use Rattle.dg_file.specs.FileFaults.{IsShapeFault, IsNameFault, IsTwiceFault, RefusesTable}
 use Rattle.dg_file.specs.declared.fault.FileFault.{FileFault}

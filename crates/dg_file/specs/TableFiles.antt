@@ -7,12 +7,12 @@
 --   IsTableFile bytes o names      == the bytes are a table file, and describe the start o with
 --                                     these names
 use Rattle.std.specs.Prelude.{◌≡◌, ℕ, List, length, map, Some, unwrap_or}
-use Rattle.serde_json.specs.Data.{Data}
-use Rattle.dg_graph.specs.Items.{Item, IsGiven}
 use Rattle.dg_chips.specs.Starts.{StartData}
 use Rattle.dg_chips.specs.Vector.{HoldsNumbers, IsDivisor}
-use Rattle.dg_file.specs.Content.{Edge, Content, Reads, IsContent}
+use Rattle.dg_graph.specs.Items.{Item, IsGiven}
 use Rattle.dg_tokens.specs.Names.{AreNames, place_of}
+use Rattle.serde_json.specs.Data.{Data}
+use Rattle.dg_file.specs.Content.{Edge, Content, Reads, IsContent}
 
 abbrev pub vertex_of : List (List ℕ) → List ℕ → ℕ
 vertex_of names name = unwrap_or (place_of names name) (length names)

@@ -1,24 +1,8 @@
 -- The graphs of legal histories.
 --   graphs_hold      a legal history, from a start on a graph within the limits, leads to a position on one
-use Rattle.std.proofs.Common.{◌≡◌, ℕ, List, [], ◌∷◌, ◌++◌, length, append_assoc, append-nil, refl, sym, subst}
-use Rattle.std.proofs.Math.Seq.{take-append_seam}
-use Rattle.dg_graph.specs.Graph.{IsGraph}
-use Rattle.dg_theory.specs.Multigraph.{Multigraph}
-use Rattle.dg_theory.specs.Joins.{entry_more, with_edge}
-use Rattle.dg_graph.specs.Joins.{IsJoinable}
-use Rattle.dg_graph.proofs.Joined.{joined_graph}
-use Rattle.dg_chips.specs.Starts.{StartData}
+use Rattle.dg_game.proofs.Common.{◌≡◌, ℕ, List, [], ◌∷◌, ◌++◌, length, append_assoc, append-nil, refl, sym, subst, take-append_seam, IsGraph, Multigraph, entry_more, IsJoinable, joined_graph, StartData, IsLegal, GraphsHold, Position, Replies, after_reply, Entry, Request, Move, Gift, Join, Reply, Moved, Given, Joined}
+use Rattle.dg_theory.specs.Joins.{with_edge}
 use Rattle.dg_game.specs.History.{position_after}
-use Rattle.dg_game.specs.Legal.{IsLegal}
-use Rattle.dg_game.specs.LegalLaws.{GraphsHold}
-use Rattle.dg_game.specs.Position.{Position}
-use Rattle.dg_game.specs.Replies.{Replies}
-use Rattle.dg_game.specs.Step.{after_reply}
-use Rattle.dg_game.specs.declared.entry.Entry.{Entry}
-use Rattle.dg_game.specs.declared.entry.Request.{Request}
-use Rattle.dg_game.specs.declared.entry.Request.TheVariants.{Move, Gift, Join}
-use Rattle.dg_game.specs.declared.entry.Reply.{Reply}
-use Rattle.dg_game.specs.declared.entry.Reply.TheVariants.{Moved, Given, Joined}
 use Rattle.dg_game.proofs.ListLaws.{slice_get-seam}
 use Rattle.dg_game.proofs.StepLaw.{no_entry, one_more_entry}
 

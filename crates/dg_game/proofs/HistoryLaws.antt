@@ -2,11 +2,7 @@
 --   scripts_played-more   one more entry adds its script to the scripts played
 --   gifts_in-more         one more entry that is a change adds 1 to the gift count
 --   gifts_in-append       the gift counts of a history in two parts add up
-use Rattle.std.proofs.Common.{◌≡◌, ℕ, ◌+◌, List, [], ◌∷◌, ◌++◌, arith}
-use Rattle.std.proofs.lemmas.Int.{ints}
-use Rattle.std.proofs.Math.IntN.{◌+ℤ◌}
-use Rattle.dg_game.specs.History.{script_by, scripts_played, gift_counted, gifts_in}
-use Rattle.dg_game.specs.declared.entry.Entry.{Entry}
+use Rattle.dg_game.proofs.Common.{◌≡◌, ℕ, ◌+◌, List, [], ◌∷◌, ◌++◌, arith, ints, ◌+ℤ◌, script_by, scripts_played, gift_counted, gifts_in, Entry}
 
 pub scripts_played-more : (H : List Entry) (e : Entry) (v : ℕ) →
     scripts_played (H ++ e ∷ []) v ≡ scripts_played H v +ℤ script_by e.request e.reply v

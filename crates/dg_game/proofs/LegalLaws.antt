@@ -10,31 +10,12 @@
 --   sized_reply        a right reply has the size of the graph
 --   legal_sized        each reply of a legal history has the size of the start
 --   legal_looks        each look of a legal history is what is kept of it
-use Rattle.std.proofs.Common.{◌≡◌, ℕ, ◌<◌, ◌≤◌, List, [], ◌∷◌, ◌++◌, length, take, slice_get, Some, arith, ap, subst, ◌∙◌, inl, inr}
-use Rattle.std.proofs.Math.Seq.{take-append_seam}
-use Rattle.std.proofs.lemmas.List.{take-append-le, take-take, length-take}
-use Rattle.std.proofs.lemmas.Option.{slice_get_within}
-use Rattle.dg_theory.specs.Multigraph.{Multigraph}
-use Rattle.dg_chips.specs.Starts.{StartData}
-use Rattle.dg_verdict.specs.declared.rank_verdict.RankVerdict.TheVariants.{AtLeast, Below}
+use Rattle.dg_game.proofs.Common.{◌≡◌, ℕ, ◌<◌, ◌≤◌, List, [], ◌∷◌, ◌++◌, length, take, slice_get, Some, arith, ap, subst, ◌∙◌, inl, inr, take-append_seam, take-append-le, take-take, length-take, slice_get_within, Multigraph, StartData, AtLeast, Below, Replies, IsSeat, LooksBack, IsLegal, HasSize, LegalIsSized, LooksAreShown, IsLookAt, asked_for, asked_on, asked, Entry, Plain, Request, Move, Gift, Join, Look, Claim, Judge, Reply, Moved, Given, Joined, Looked, Verdict, Stale, Won, NotWon, Refused, Finding, Judged, Ranked, Question, LookData}
 use Rattle.dg_game.specs.History.{position_after}
-use Rattle.dg_game.specs.Replies.{Replies}
-use Rattle.dg_game.specs.Legal.{IsSeat, LooksBack, IsLegal}
-use Rattle.dg_game.specs.LegalLaws.{HasSize, LegalIsSized, LooksAreShown}
-use Rattle.dg_game.specs.Look.{IsLookAt, asked_for, asked_on}
-use Rattle.dg_game.specs.Requests.{asked}
-use Rattle.dg_game.specs.declared.entry.Entry.{Entry}
-use Rattle.dg_game.specs.declared.entry.Plain.{Plain}
 use Rattle.dg_game.specs.declared.entry.Plain.TheVariants as plain
-use Rattle.dg_game.specs.declared.entry.Request.{Request}
-use Rattle.dg_game.specs.declared.entry.Request.TheVariants.{Move, Gift, Join, Look, Claim, Judge, Rank as RankRequest}
-use Rattle.dg_game.specs.declared.entry.Reply.{Reply}
-use Rattle.dg_game.specs.declared.entry.Reply.TheVariants.{Moved, Given, Joined, Looked, Verdict, Rank as RankReply, Stale, Won, NotWon, Refused}
-use Rattle.dg_game.specs.declared.finding.Finding.{Finding}
-use Rattle.dg_game.specs.declared.finding.Finding.TheVariants.{Judged, Ranked}
-use Rattle.dg_game.specs.declared.finding.Question.{Question}
+use Rattle.dg_game.specs.declared.entry.Request.TheVariants.{Rank as RankRequest}
+use Rattle.dg_game.specs.declared.entry.Reply.TheVariants.{Rank as RankReply}
 use Rattle.dg_game.specs.declared.finding.Question.TheVariants as question
-use Rattle.dg_game.specs.declared.look.LookData.{LookData}
 use Rattle.dg_game.proofs.ListLaws.{more_holds, slice_get_taken}
 use Rattle.dg_game.proofs.StepLaw.{vertices_stay}
 

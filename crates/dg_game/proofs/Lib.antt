@@ -7,3 +7,4 @@ pub mod StateLaws
 pub mod LegalLaws
 pub mod GraphLaws
 pub mod LookLaws
+pub mod Common

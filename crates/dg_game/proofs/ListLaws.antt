@@ -3,9 +3,7 @@
 --   slice_get-seam     a list with a new element at its end holds it there
 --   slice_get_taken    what the first elements of a list hold, the list holds
 --   more_holds         in a list with one more element each is an old one at its place, or the new one at the end
-use Rattle.std.proofs.Common.{◌≡◌, ℕ, zero, suc, ◌<◌, List, [], ◌∷◌, ◌++◌, length, take, slice_get, Some, ◌⊎◌, arith, refl, sym, ap, ◌∙◌, inl, inr, length-append}
-use Rattle.std.proofs.lemmas.Bool.{cases_lt}
-use Rattle.std.proofs.lemmas.Option.{slice_get_within}
+use Rattle.dg_game.proofs.Common.{◌≡◌, ℕ, zero, suc, ◌<◌, List, [], ◌∷◌, ◌++◌, length, take, slice_get, Some, ◌⊎◌, arith, refl, sym, ap, ◌∙◌, inl, inr, length-append, cases_lt, slice_get_within}
 
 pub slice_get-append : {X : Type 0} (xs ys : List X) (k : ℕ) → k < length xs → slice_get (xs ++ ys) k ≡ slice_get xs k
 slice_get-append [] ys k below = absurd (omega arith)

@@ -1,4 +1,4 @@
--- What was reckoned on a look.
+-- What was computed on a look.
 --   moved_since             where the gift count is that of the look, moves lead from the look's amounts to those now,
 --                           on the graph of the look, which is that of the state
 --   judged_after            a verdict that is right in a state is a right reply after a history that leads to it
@@ -11,31 +11,12 @@
 --   look_new                an entry that is a look is a look of the history
 --   look_size               a look shows as many vertices as the state
 --   carried                 a verdict can be carried along a drift that leads to the amounts of a state
-use Rattle.std.proofs.Common.{◌≡◌, ◌≢◌, ℕ, ◌+◌, ◌<◌, ◌≤◌, List, [], ◌∷◌, ◌++◌, length, take, drop, slice_get, arith, refl, sym, ap, subst, ◌∙◌}
-use Rattle.std.proofs.Math.Seq.{take-append_seam}
-use Rattle.std.proofs.lemmas.Int.{ints}
-use Rattle.std.proofs.lemmas.List.{take-append-le, take-append-drop}
-use Rattle.std.proofs.lemmas.Option.{slice_get_within}
-use Rattle.dg_theory.specs.Multigraph.{Multigraph}
-use Rattle.dg_theory.specs.Firing.{Amounts, fired, FiresTo}
-use Rattle.dg_chips.specs.Vector.{Vector, at, IsDivisor}
-use Rattle.dg_chips.specs.Starts.{StartData}
-use Rattle.dg_verdict.specs.Right.{IsRight}
-use Rattle.dg_verdict.specs.Rebasing.{IsRebasable}
+use Rattle.dg_game.proofs.Common.{◌≡◌, ◌≢◌, ℕ, ◌+◌, ◌<◌, ◌≤◌, List, [], ◌∷◌, ◌++◌, length, take, drop, slice_get, arith, refl, sym, ap, subst, ◌∙◌, take-append_seam, ints, take-append-le, take-append-drop, slice_get_within, Multigraph, Amounts, fired, FiresTo, Vector, at, IsDivisor, StartData, IsRight, IsRebasable, IsRankTest, RankVerdict, Position, fired_by, scripts_played, gifts_in, IsLookAt, asked_on, Replies, State, IsState, LeadsTo, Entry, Look, Judge, Verdict, Stale, Question, LookData}
 use Rattle.dg_verdict.specs.declared.verdict.Verdict.{Verdict as AVerdict}
-use Rattle.dg_verdict.specs.RankTests.{IsRankTest}
-use Rattle.dg_verdict.specs.declared.rank_verdict.RankVerdict.{RankVerdict}
-use Rattle.dg_game.specs.Position.{Position, fired_by}
-use Rattle.dg_game.specs.History.{position_after, scripts_played, gifts_in}
-use Rattle.dg_game.specs.Look.{IsLookAt, asked_on}
-use Rattle.dg_game.specs.Replies.{Replies}
-use Rattle.dg_game.specs.State.{State, IsState, LeadsTo}
-use Rattle.dg_game.specs.declared.entry.Entry.{Entry}
-use Rattle.dg_game.specs.declared.entry.Request.TheVariants.{Look, Judge, Rank as RankRequest}
-use Rattle.dg_game.specs.declared.entry.Reply.TheVariants.{Verdict, Rank as RankReply, Stale}
-use Rattle.dg_game.specs.declared.finding.Question.{Question}
+use Rattle.dg_game.specs.History.{position_after}
+use Rattle.dg_game.specs.declared.entry.Request.TheVariants.{Rank as RankRequest}
+use Rattle.dg_game.specs.declared.entry.Reply.TheVariants.{Rank as RankReply}
 use Rattle.dg_game.specs.declared.finding.Question.TheVariants as question
-use Rattle.dg_game.specs.declared.look.LookData.{LookData}
 use Rattle.dg_game.proofs.HistoryLaws.{gifts_in-append}
 use Rattle.dg_game.proofs.ListLaws.{slice_get-append, slice_get-seam}
 use Rattle.dg_game.proofs.RankTests.{rank_test_led}

@@ -2,16 +2,7 @@
 --   rank_test_carried  what is right for a divisor is right for one that is equivalent to it
 --   rank_test-cong     what is right for a divisor is right for one that agrees with it on the vertices
 --   rank_test_led      what is right for a divisor is right for one to which a script leads
-use Rattle.std.proofs.Common.{ℕ}
-use Rattle.dg_theory.specs.Multigraph.{Multigraph}
-use Rattle.dg_theory.specs.Firing.{Amounts, AgreeOn, FiresTo, AreEquivalent}
-use Rattle.dg_theory.proofs.Equivalence.{equivalent-refl}
-use Rattle.dg_theory.proofs.RankLaws.{equivalent-rank}
-use Rattle.dg_theory.proofs.LossLaws.{equivalent-loss}
-use Rattle.dg_chips.specs.Vector.{at}
-use Rattle.dg_verdict.specs.RankTests.{IsRankTest}
-use Rattle.dg_verdict.specs.declared.rank_verdict.RankVerdict.{RankVerdict}
-use Rattle.dg_verdict.specs.declared.rank_verdict.RankVerdict.TheVariants.{AtLeast, Below}
+use Rattle.dg_game.proofs.Common.{ℕ, Multigraph, Amounts, AgreeOn, FiresTo, AreEquivalent, equivalent-refl, equivalent-rank, equivalent-loss, at, IsRankTest, RankVerdict, AtLeast, Below}
 
 rank_test_carried : (g : Multigraph) (D E : Amounts) (k : ℕ) (x : RankVerdict) → AreEquivalent g D E →
     IsRankTest g D k x → IsRankTest g E k x

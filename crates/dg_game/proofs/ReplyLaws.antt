@@ -2,26 +2,11 @@
 --   in_range-cong        amounts that agree with some in range are in range
 --   out_of_range-cong    amounts that agree with some out of range are out of range
 --   replies-cong         a right reply to a request is right for amounts that agree
-use Rattle.std.proofs.Common.{◌≡◌, ℕ, arith, ◌∙◌}
-use Rattle.std.proofs.lemmas.Int.{ints}
-use Rattle.std.proofs.Math.IntN.{ℤ}
-use Rattle.dg_theory.specs.Multigraph.{Multigraph}
-use Rattle.dg_theory.specs.Firing.{Amounts, AgreeOn}
-use Rattle.dg_chips.specs.Vector.{Vector, IsInRange, IsOutOfRange}
-use Rattle.dg_chips.specs.Moves.{script_of}
+use Rattle.dg_game.proofs.Common.{◌≡◌, ℕ, arith, ◌∙◌, ints, ℤ, Multigraph, Amounts, AgreeOn, Vector, IsInRange, IsOutOfRange, script_of, fired-here, right-cong, Shows, with_gift, RepliesToMove, RepliesToGift, RepliesToJoin, RepliesToLook, RepliesToClaim, RepliesToJudge, RepliesToRank, RepliesAt, Request, Move, Gift, Join, Look, Claim, Judge, Reply, Moved, Given, Joined, Looked, Verdict, Stale, Won, NotWon, Refused}
 use Rattle.dg_chips.specs.declared.moves.Move.{Move as AMove}
-use Rattle.dg_theory.proofs.Agreement.{fired-here}
-use Rattle.dg_verdict.proofs.Agreement.{right-cong}
-use Rattle.dg_game.specs.Position.{Shows, with_gift}
-use Rattle.dg_game.specs.MoveReplies.{RepliesToMove}
-use Rattle.dg_game.specs.GiftReplies.{RepliesToGift}
-use Rattle.dg_game.specs.JoinReplies.{RepliesToJoin}
-use Rattle.dg_game.specs.Replies.{RepliesToLook, RepliesToClaim, RepliesToJudge, RepliesToRank, RepliesAt}
 use Rattle.dg_game.specs.declared.entry.Refusal.TheVariants as refusal
-use Rattle.dg_game.specs.declared.entry.Request.{Request}
-use Rattle.dg_game.specs.declared.entry.Request.TheVariants.{Move, Gift, Join, Look, Claim, Judge, Rank as RankRequest}
-use Rattle.dg_game.specs.declared.entry.Reply.{Reply}
-use Rattle.dg_game.specs.declared.entry.Reply.TheVariants.{Moved, Given, Joined, Looked, Verdict, Rank as RankReply, Stale, Won, NotWon, Refused}
+use Rattle.dg_game.specs.declared.entry.Request.TheVariants.{Rank as RankRequest}
+use Rattle.dg_game.specs.declared.entry.Reply.TheVariants.{Rank as RankReply}
 use Rattle.dg_game.proofs.RankTests.{rank_test-cong}
 
 in_range-cong : (n : ℕ) (D E : Amounts) → AgreeOn n D E → IsInRange n D → IsInRange n E

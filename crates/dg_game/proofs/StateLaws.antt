@@ -5,23 +5,10 @@
 --   replies_after    a reply that is right in a state is right after a history that leads to it
 --   right_in         and the other way round
 --   leads_more       a reply that is right after the history leads with its entry to the next state
-use Rattle.std.proofs.Common.{◌≡◌, ℕ, ◌+◌, ◌<◌, List, [], ◌∷◌, ◌++◌, take, arith, refl, sym, ap, subst, ◌∙◌, length-append}
-use Rattle.std.proofs.lemmas.Int.{ints}
-use Rattle.std.proofs.Math.IntN.{pos}
-use Rattle.dg_theory.specs.Multigraph.{Multigraph}
-use Rattle.dg_theory.proofs.JoinLaws.{size_stays}
-use Rattle.dg_chips.specs.Vector.{Vector, at}
-use Rattle.dg_chips.specs.Starts.{StartData}
-use Rattle.dg_game.specs.Position.{Position, Shows, joined_at}
-use Rattle.dg_game.specs.History.{position_after, gifts_in, gift_counted, scripts_played}
-use Rattle.dg_game.specs.Step.{after_reply}
-use Rattle.dg_game.specs.Replies.{Replies, RepliesAt}
-use Rattle.dg_game.specs.State.{State, LeadsTo, IsRightIn, IsNext, position_of, amounts_after, gifts_after, graph_after}
-use Rattle.dg_game.specs.declared.entry.Entry.{Entry}
-use Rattle.dg_game.specs.declared.entry.Request.{Request}
-use Rattle.dg_game.specs.declared.entry.Request.TheVariants.{Move, Gift, Join, Look, Claim, Judge, Rank as RankRequest}
-use Rattle.dg_game.specs.declared.entry.Reply.{Reply}
-use Rattle.dg_game.specs.declared.entry.Reply.TheVariants.{Moved, Given, Joined, Looked, Verdict, Rank as RankReply, Stale, Won, NotWon, Refused}
+use Rattle.dg_game.proofs.Common.{◌≡◌, ℕ, ◌+◌, ◌<◌, List, [], ◌∷◌, ◌++◌, take, arith, refl, sym, ap, subst, ◌∙◌, length-append, ints, pos, Multigraph, size_stays, Vector, at, StartData, Position, Shows, joined_at, gifts_in, gift_counted, scripts_played, after_reply, Replies, RepliesAt, State, LeadsTo, IsRightIn, IsNext, position_of, amounts_after, gifts_after, graph_after, Entry, Request, Move, Gift, Join, Look, Claim, Judge, Reply, Moved, Given, Joined, Looked, Verdict, Stale, Won, NotWon, Refused}
+use Rattle.dg_game.specs.History.{position_after}
+use Rattle.dg_game.specs.declared.entry.Request.TheVariants.{Rank as RankRequest}
+use Rattle.dg_game.specs.declared.entry.Reply.TheVariants.{Rank as RankReply}
 use Rattle.dg_game.proofs.HistoryLaws.{gifts_in-more, scripts_played-more}
 use Rattle.dg_game.proofs.StepLaw.{no_entry, one_more_entry}
 use Rattle.dg_game.proofs.ReplyLaws.{replies-cong}

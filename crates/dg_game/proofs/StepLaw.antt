@@ -6,24 +6,8 @@
 --   since_start         from the start on,
 --   since_last          and from the last change on
 --   vertices_stay       entries neither add nor remove vertices
-use Rattle.std.proofs.Common.{refl, ◌≡◌, ℕ, Bool, true, false, List, [], ◌∷◌, ◌++◌, reverse, append_assoc, append-nil, arith, sym, ap, ◌∙◌}
-use Rattle.std.specs.Prelude.{cond}
-use Rattle.std.proofs.lemmas.Bool.{false≢true}
-use Rattle.std.proofs.lemmas.List.{reverse-append}
-use Rattle.std.proofs.Math.IntN.{pos, ◌+ℤ◌}
-use Rattle.dg_theory.specs.Multigraph.{Multigraph}
-use Rattle.dg_theory.specs.Firing.{Amounts}
-use Rattle.dg_theory.proofs.FiringLaws.{fired-fired, fired-constant}
-use Rattle.dg_theory.proofs.JoinLaws.{size_stays}
-use Rattle.dg_chips.specs.Starts.{StartData}
-use Rattle.dg_game.specs.Position.{Position, opened, fired_by}
-use Rattle.dg_game.specs.History.{script_by, scripts_played, is_change, changed, scripts_since, after_change, position_after, nothing}
-use Rattle.dg_game.specs.Step.{after_reply, NoEntry, OneMoreEntry, SinceChange, SinceStart, SinceLast, VerticesStay}
-use Rattle.dg_game.specs.declared.entry.Entry.{Entry}
-use Rattle.dg_game.specs.declared.entry.Request.{Request}
-use Rattle.dg_game.specs.declared.entry.Request.TheVariants.{Move, Gift, Join}
-use Rattle.dg_game.specs.declared.entry.Reply.{Reply}
-use Rattle.dg_game.specs.declared.entry.Reply.TheVariants.{Moved, Given, Joined}
+use Rattle.dg_game.proofs.Common.{refl, ◌≡◌, ℕ, Bool, true, false, List, [], ◌∷◌, ◌++◌, reverse, append_assoc, append-nil, arith, sym, ap, ◌∙◌, cond, false≢true, reverse-append, pos, ◌+ℤ◌, Multigraph, Amounts, fired-fired, fired-constant, size_stays, StartData, Position, opened, fired_by, script_by, scripts_played, is_change, changed, scripts_since, after_change, nothing, after_reply, NoEntry, OneMoreEntry, SinceChange, SinceStart, SinceLast, VerticesStay, Entry, Request, Move, Gift, Join, Reply, Moved, Given, Joined}
+use Rattle.dg_game.specs.History.{position_after}
 
 abbrev placed : Multigraph → Amounts → Position
 placed g D = record { graph = g; amounts = D }

@@ -7,7 +7,7 @@
 --   RefusesGift p v x refusal     == the gift is refused for this cause, and for no earlier one
 --   RepliesToGift p g v x reply   == the reply is the right one
 use Rattle.std.specs.Prelude.{◌≡◌, ◌≢◌, ℕ, ◌+◌, ◌<◌, ◌≤◌, ℤ, pos, neg_ℤ, ◌≤ℤ◌}
-use Rattle.dg_chips.specs.Vector.{Vector, at, IsInRange, IsOutOfRange}
+use Rattle.dg_game.specs.Common.{Vector, at, IsInRange, IsOutOfRange}
 use Rattle.dg_game.specs.Position.{Position, with_gift}
 use Rattle.dg_game.specs.declared.entry.Refusal.{Refusal}
 use Rattle.dg_game.specs.declared.entry.Refusal.TheVariants.{NoVertex, Gift, Range}

@@ -20,10 +20,8 @@
 --   position_after o H         == the position after the history H from the start o: that after
 --                                 the last change, fired on the graph there by the sum of the
 --                                 scripts of all moves accepted since
-use Rattle.std.specs.Prelude.{ℕ, ◌+◌, Bool, true, false, if◌then◌else◌, pos, ◌+ℤ◌, List, [], ◌∷◌, ◌++◌, reverse}
-use Rattle.dg_theory.specs.Firing.{Amounts}
-use Rattle.dg_chips.specs.Moves.{script_of}
-use Rattle.dg_chips.specs.Starts.{StartData}
+use Rattle.std.specs.Prelude.{if◌then◌else◌, ℕ, ◌+◌, Bool, true, false, pos, ◌+ℤ◌, List, [], ◌∷◌, ◌++◌, reverse}
+use Rattle.dg_game.specs.Common.{Amounts, script_of, StartData}
 use Rattle.dg_game.specs.Position.{Position, opened, with_gift, joined_at, fired_by}
 use Rattle.dg_game.specs.declared.entry.Entry.{Entry}
 use Rattle.dg_game.specs.declared.entry.Request.{Request}

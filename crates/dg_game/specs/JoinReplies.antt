@@ -5,9 +5,8 @@
 --   RefusesToJoin p u v refusal     == the join is refused for this cause, and for no earlier one
 --   RepliesToJoin p g u v reply     == the reply is the right one
 use Rattle.std.specs.Prelude.{◌≡◌, ℕ, ◌+◌}
-use Rattle.dg_graph.specs.Joins.{IsJoinable, RefusesJoin}
+use Rattle.dg_game.specs.Common.{IsJoinable, RefusesJoin, Vector}
 use Rattle.dg_graph.specs.declared.fault.JoinFault.TheVariants as fault
-use Rattle.dg_chips.specs.Vector.{Vector}
 use Rattle.dg_game.specs.Position.{Position, Shows}
 use Rattle.dg_game.specs.declared.entry.Refusal.{Refusal}
 use Rattle.dg_game.specs.declared.entry.Refusal.TheVariants.{NoVertex, Loop, Valence}

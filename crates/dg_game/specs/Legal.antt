@@ -7,7 +7,7 @@
 --                            for a verdict or for a rank test, and is answered rightly after the
 --                            entries before it
 use Rattle.std.specs.Prelude.{◌≡◌, ℕ, ◌≤◌, List, take, slice_get, Some, ⊤}
-use Rattle.dg_chips.specs.Starts.{StartData}
+use Rattle.dg_game.specs.Common.{StartData}
 use Rattle.dg_game.specs.Replies.{Replies}
 use Rattle.dg_game.specs.declared.entry.Entry.{Entry}
 use Rattle.dg_game.specs.declared.entry.Request.{Request}

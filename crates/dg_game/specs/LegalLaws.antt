@@ -14,9 +14,7 @@
 --   LooksAreShown         == a look of a legal history showed what `IsLookAt` says, whatever drift
 --                            is kept with it
 use Rattle.std.specs.Prelude.{◌≡◌, ℕ, List, [], ◌∷◌, ◌++◌, take, slice_get, Some, ⊤}
-use Rattle.dg_graph.specs.Graph.{IsGraph}
-use Rattle.dg_chips.specs.Starts.{StartData}
-use Rattle.dg_verdict.specs.declared.rank_verdict.RankVerdict.TheVariants.{AtLeast, Below}
+use Rattle.dg_game.specs.Common.{IsGraph, StartData, AtLeast, Below}
 use Rattle.dg_game.specs.History.{position_after}
 use Rattle.dg_game.specs.Replies.{Replies}
 use Rattle.dg_game.specs.Legal.{IsSeat, LooksBack, IsLegal}

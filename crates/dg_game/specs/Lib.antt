@@ -12,3 +12,4 @@ pub mod Legal
 pub mod Look
 pub mod LegalLaws
 pub mod State
+pub mod Common

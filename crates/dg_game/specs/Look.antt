@@ -1,4 +1,4 @@
--- What a seat keeps of a look, and what was reckoned on it.
+-- What a seat keeps of a look, and what was computed on it.
 --   IsLookAt o H x       == x holds the number of a look of the history H, and the gift count, the
 --                           graph and the amounts at it, and any drift
 --   degree_of v          == the degree of the rank test whose verdict v is
@@ -9,12 +9,7 @@
 --   KeepsFinding f reply == a verdict entered keeps the reduced divisor and the burning order that
 --                           were found, and that of a rank test is entered as it was found
 use Rattle.std.specs.Prelude.{◌≡◌, ℕ, List, take, ⊤}
-use Rattle.dg_chips.specs.Vector.{at}
-use Rattle.dg_chips.specs.Starts.{StartData}
-use Rattle.dg_verdict.specs.Right.{IsRight}
-use Rattle.dg_verdict.specs.RankTests.{IsRankTest}
-use Rattle.dg_verdict.specs.declared.rank_verdict.RankVerdict.{RankVerdict}
-use Rattle.dg_verdict.specs.declared.rank_verdict.RankVerdict.TheVariants.{AtLeast, Below}
+use Rattle.dg_game.specs.Common.{at, StartData, IsRight, IsRankTest, RankVerdict, AtLeast, Below}
 use Rattle.dg_game.specs.Position.{Shows}
 use Rattle.dg_game.specs.History.{position_after, gifts_in}
 use Rattle.dg_game.specs.Legal.{IsLookIn}

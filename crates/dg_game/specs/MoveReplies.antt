@@ -2,11 +2,7 @@
 --   RefusesMove p m refusal == the move is refused for this cause, and for no earlier one
 --   RepliesToMove p m reply == the reply is the right one: the amounts after the move, or its
 --                              refusal
-use Rattle.dg_theory.specs.Firing.{fired}
-use Rattle.dg_chips.specs.Vector.{IsOutOfRange}
-use Rattle.dg_chips.specs.Moves.{script_of, NamesNoVertex, IsEmptySet, HasOtherSize, IsPlayable}
-use Rattle.dg_chips.specs.Applied.{IsAfterMove}
-use Rattle.dg_chips.specs.declared.moves.Move.{Move}
+use Rattle.dg_game.specs.Common.{fired, IsOutOfRange, script_of, NamesNoVertex, IsEmptySet, HasOtherSize, IsPlayable, IsAfterMove, Move}
 use Rattle.dg_game.specs.Position.{Position}
 use Rattle.dg_game.specs.declared.entry.Refusal.{Refusal}
 use Rattle.dg_game.specs.declared.entry.Refusal.TheVariants.{NoVertex, Empty, Script, Range}

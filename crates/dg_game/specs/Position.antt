@@ -7,11 +7,7 @@
 --   fired_by p s         == the position p after every vertex has lent as often as the script s
 --                           says
 use Rattle.std.specs.Prelude.{◌≡◌, ℕ, ◌<◌, ℤ, ◌+ℤ◌}
-use Rattle.dg_theory.specs.Multigraph.{Multigraph}
-use Rattle.dg_theory.specs.Firing.{Amounts, fired, only_at}
-use Rattle.dg_theory.specs.Joins.{with_edge}
-use Rattle.dg_chips.specs.Starts.{StartData}
-use Rattle.dg_chips.specs.Vector.{Vector, at}
+use Rattle.dg_game.specs.Common.{Multigraph, Amounts, fired, only_at, with_edge, StartData, Vector, at}
 
 pub record Position : Type 0 where
   pub graph : Multigraph

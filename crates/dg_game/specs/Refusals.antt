@@ -1,9 +1,8 @@
 -- A refused move, and a refused join, in the words of the history.
 --   refusal_for fault       == the refusal of the same name
 --   join_refusal_for fault  == the refusal of the same name
-use Rattle.dg_chips.specs.declared.moves.MoveFault.{MoveFault}
+use Rattle.dg_game.specs.Common.{MoveFault, JoinFault}
 use Rattle.dg_chips.specs.declared.moves.MoveFault.TheVariants as fault
-use Rattle.dg_graph.specs.declared.fault.JoinFault.{JoinFault}
 use Rattle.dg_graph.specs.declared.fault.JoinFault.TheVariants as join
 use Rattle.dg_game.specs.declared.entry.Refusal.{Refusal}
 use Rattle.dg_game.specs.declared.entry.Refusal.TheVariants as refusal

@@ -11,10 +11,7 @@
 --                                     if the gift count is g, and was `before i` at entry i
 --   Replies o H request reply      == the reply is right after the history H from the start o
 use Rattle.std.specs.Prelude.{◌≡◌, ◌≢◌, ℕ, List, take}
-use Rattle.dg_theory.specs.Firing.{IsEffective}
-use Rattle.dg_chips.specs.Starts.{StartData}
-use Rattle.dg_verdict.specs.Right.{IsRight}
-use Rattle.dg_verdict.specs.RankTests.{IsRankTest}
+use Rattle.dg_game.specs.Common.{IsEffective, StartData, IsRight, IsRankTest}
 use Rattle.dg_game.specs.Position.{Position, Shows}
 use Rattle.dg_game.specs.History.{position_after, gifts_in}
 use Rattle.dg_game.specs.MoveReplies.{RepliesToMove}

@@ -1,5 +1,8 @@
 -- What calls ask.
---   asked call == the request that a call of the game makes
+--   asked call         == the request that a call of the game makes
+--   request_for choice == that of a choice: its move, and a claim if it has none
+use Rattle.std.specs.Prelude.{Option, Some, None}
+use Rattle.dg_game.specs.Common.{Move}
 use Rattle.dg_game.specs.declared.entry.Plain.{Plain}
 use Rattle.dg_game.specs.declared.entry.Plain.TheVariants as plain
 use Rattle.dg_game.specs.declared.entry.Request.{Request}
@@ -11,3 +14,7 @@ asked (plain.Gift v x) = request.Gift v x
 asked (plain.Join u v) = request.Join u v
 asked plain.Look = request.Look
 asked plain.Claim = request.Claim
+
+abbrev pub request_for : Option Move → Request
+request_for (Some m) = request.Move m
+request_for None = request.Claim

@@ -13,12 +13,7 @@
 --   IsNext s request reply t  == t is the state after s and one entry with this request and reply
 use Rattle.std.specs.Prelude.{◌≡◌, ℕ, ◌+◌, ◌*◌, ◌<◌, ◌≤◌, ◌+ℤ◌, List, length}
 use Rattle.std.specs.Int.RustNames.{unsigned_abs}
-use Rattle.dg_theory.specs.Multigraph.{Multigraph}
-use Rattle.dg_theory.specs.Joins.{with_edge}
-use Rattle.dg_graph.specs.Graph.{IsGraph}
-use Rattle.dg_chips.specs.Vector.{Vector, at}
-use Rattle.dg_chips.specs.declared.limits.TheConstants.{MAX_ENTRY}
-use Rattle.dg_chips.specs.Starts.{StartData}
+use Rattle.dg_game.specs.Common.{Multigraph, with_edge, IsGraph, Vector, at, MAX_ENTRY, StartData}
 use Rattle.dg_game.specs.Position.{Position, Shows}
 use Rattle.dg_game.specs.History.{position_after, gifts_in, scripts_played, script_by}
 use Rattle.dg_game.specs.Replies.{RepliesAt}

@@ -15,8 +15,7 @@
 --   VerticesStay                 == a history leads to a position with as many vertices as the
 --                                   start
 use Rattle.std.specs.Prelude.{◌≡◌, true, List, [], ◌∷◌, ◌++◌}
-use Rattle.dg_chips.specs.Moves.{script_of}
-use Rattle.dg_chips.specs.Starts.{StartData}
+use Rattle.dg_game.specs.Common.{script_of, StartData}
 use Rattle.dg_game.specs.Position.{Position, opened, fired_by}
 use Rattle.dg_game.specs.History.{position_after, scripts_played, is_change, changed, gifts_in}
 use Rattle.dg_game.specs.declared.entry.Entry.{Entry}

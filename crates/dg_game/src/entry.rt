@@ -1,7 +1,7 @@
 //! Entries of a history: what was asked, and what was answered.
 ghost use Rattle.std.specs.Prelude.{◌≡◌};
 ghost use Rattle.dg_game.specs.Refusals.{refusal_for, join_refusal_for};
-ghost use Rattle.dg_game.specs.Requests.{asked};
+ghost use Rattle.dg_game.specs.Requests.{asked, request_for};
 
 use dg_chips::{Divisor, Move, MoveFault};
 use dg_graph::{Graph, JoinFault};
@@ -30,6 +30,16 @@ pub enum Plain {
 }
 
 impl Plain {
+    /// The call that a choice makes: its move, or a claim if it has none.
+    pub fn of(choice: Option<Move>) -> Plain
+        ensures { asked result ≡ request_for choice }
+    {
+        match choice {
+            Some(play) => Plain::Move(play),
+            None => Plain::Claim,
+        }
+    }
+
     /// Writes what the entry of the call asks.
     pub fn ask(&self, request: &mut Request)
         ensures { request.new ≡ asked self.now }
@@ -57,9 +67,9 @@ pub enum Request {
     Look,
     /// A claim that nobody is in debt.
     Claim,
-    /// A verdict that was reckoned on the look with this number.
+    /// A verdict that was computed on the look with this number.
     Judge(u32),
-    /// A rank test that was reckoned on the look with this number, and its degree.
+    /// A rank test that was computed on the look with this number, and its degree.
     Rank(u32, u32),
 }
 

@@ -1,4 +1,4 @@
-//! What is asked on a look, and what is reckoned on it with no game at hand: verdicts and rank tests.
+//! What is asked on a look, and what is computed on it with no game at hand: verdicts and rank tests.
 ghost use Rattle.std.specs.Prelude.{◌≡◌, ℕ, ◌<◌};
 ghost use Rattle.dg_game.specs.Look.{IsFoundFor, asked_for, asked_on};
 ghost use Rattle.dg_game.specs.declared.entry.Request.TheVariants.{Judge as JudgeRequest};
@@ -30,7 +30,7 @@ impl Question {
     }
 }
 
-/// What was reckoned on a look.
+/// What was computed on a look.
 #[derive(Clone, Copy)]
 pub enum Finding {
     /// Whether the position is winnable, with what shows it.
@@ -40,7 +40,7 @@ pub enum Finding {
 }
 
 impl Finding {
-    /// What the entry of the finding asks, where it was reckoned on the look with this number.
+    /// What the entry of the finding asks, where it was computed on the look with this number.
     pub fn request(&self, number: u32) -> Request
         ensures { result ≡ asked_for number self.now }
     {
@@ -52,7 +52,7 @@ impl Finding {
     }
 }
 
-/// The verdict on the amounts that a look showed, reckoned from the vertex q of its graph. The conditions are that the
+/// The verdict on the amounts that a look showed, computed from the vertex q of its graph. The conditions are that the
 /// look showed an amount for each vertex of its graph, and that q is one of them.
 pub fn judge_look(q: usize, look: &LookData) -> Finding
     requires size { look.now.position.size ≡ look.now.graph.size }
@@ -74,7 +74,7 @@ pub fn judge_look_with_inverse(inverse: &InverseLaplacian, q: usize, look: &Look
     Finding::Judged(judge_with_inverse(&look.graph, inverse, q, &look.position))
 }
 
-/// Makes an inverse anew, unless it may serve the verdict on a look, reckoned from the vertex q. Nothing is promised of it.
+/// Makes an inverse anew, unless it may serve the verdict on a look, computed from the vertex q. Nothing is promised of it.
 pub fn renew_inverse(inverse: &mut InverseLaplacian, q: usize, look: &LookData) {
     if !inverse.may_serve(&look.graph, q) {
         make_anew(inverse, q, &look.graph);

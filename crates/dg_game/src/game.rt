@@ -18,10 +18,9 @@ ghost use Rattle.dg_game.specs.State.{IsState, LeadsTo, IsRightIn, IsNext, posit
 ghost use Rattle.dg_game.specs.Requests.{asked};
 ghost use Rattle.dg_game.specs.declared.entry.Entry.{Entry as EntryData};
 ghost use Rattle.dg_game.specs.declared.entry.Reply.TheVariants.{Given, Refused, Stale};
-ghost use Rattle.dg_game.specs.declared.finding.Question.{Question as QuestionData};
 
 use crate::entry::{BLANK, Entry, MAX_GIFT, Plain, Refusal, Reply, Request};
-use crate::finding::Finding;
+use crate::finding::{Finding, Question};
 use crate::look::LookData;
 use dg_chips::{Divisor, Drift, MAX_ENTRY, Move, Start, apply};
 use dg_graph::Graph;
@@ -98,7 +97,7 @@ impl Game {
         &self.graph
     }
 
-    /// The vertex from which verdicts are reckoned.
+    /// The vertex from which verdicts are computed.
     fn q(&self) -> usize
         ensures q { result ≡ self.now.q }
         ensures vertex { result < self.now.graph.size }
@@ -158,24 +157,28 @@ impl Game {
             IsLegal o H → IsSeat seat → IsLegal o (with_entry H seat (asked plain) result) }
     {
         let mut entry = BLANK;
-        plain.ask(&mut entry.request);
-        self.answer(&plain, &mut entry.reply);
+        self.answer_call(0, &plain, &mut entry);
         self.follow(&entry);
         entry.reply
     }
 
-    /// Writes the reply to a call, as the game answers it after its history. The game stays as it is: `follow` takes the entry
-    /// into the history.
+    /// Writes the entry of a seat's call, as the game answers it after its history. The game stays as it is: `follow` takes
+    /// the entry into the history.
     #[inline(always)]
-    pub fn answer(&self, plain: &Plain, reply: &mut Reply)
+    pub fn answer_call(&self, seat: u8, plain: &Plain, entry: &mut Entry)
+        ensures seat { entry.new.seat ≡ seat }
+        ensures request { entry.new.request ≡ asked plain.now }
         ensures here { (before : ℕ → ℕ) →
-            RepliesAt (position_of self.now) self.now.q before self.now.gifts (asked plain.now) reply.new }
+            RepliesAt (position_of self.now) self.now.q before self.now.gifts entry.new.request
+            entry.new.reply }
         ensures replies { (o : StartData) (H : List EntryData) → LeadsTo o H self.now →
-            Replies o H (asked plain.now) reply.new }
-        ensures legal { (o : StartData) (H : List EntryData) (seat : ℕ) → LeadsTo o H self.now →
-            IsLegal o H → IsSeat seat → IsLegal o (with_entry H seat (asked plain.now) reply.new) }
+            Replies o H entry.new.request entry.new.reply }
+        ensures legal { (o : StartData) (H : List EntryData) → LeadsTo o H self.now →
+            IsLegal o H → IsSeat seat → IsLegal o (H ++ entry.new ∷ []) }
     {
-        self.answer_now(plain, reply);
+        entry.seat = seat;
+        plain.ask(&mut entry.request);
+        self.answer_now(plain, &mut entry.reply);
     }
 
     /// Writes the reply to a call that is right as the game stands. If the caller knows that the game and the reply lie apart,
@@ -221,8 +224,8 @@ impl Game {
     fn reply_to_join(&self, u: u8, v: u8, reply: &mut Reply)
         ensures { RepliesToJoin (position_of self.now) self.now.gifts u v reply.new }
     {
-        match self.graph.join(u, v) {
-            Ok(_) => *reply = Reply::Joined(self.gifts + 1, self.amounts),
+        match self.graph.may_join(u, v) {
+            Ok(()) => *reply = Reply::Joined(self.gifts + 1, self.amounts),
             Err(fault) => refuse(reply, Refusal::from(fault)),
         }
     }
@@ -288,7 +291,7 @@ impl Game {
         }
     }
 
-    /// Enters what was reckoned on a look: `Stale` if gifts, levies or joins were accepted since; otherwise a verdict
+    /// Enters what was computed on a look: `Stale` if gifts, levies or joins were accepted since; otherwise a verdict
     /// that is right for the position now, with the reduced divisor and the burning order that were found, or the answer
     /// of the rank test as it was found. A legal history stays legal if a seat of 1 to 64 enters it. It takes no memory.
     /// The conditions are that there are fewer than 65,536 entries, that the look is one of the history, whatever its drift,
@@ -309,27 +312,29 @@ impl Game {
         ensures kept { KeepsFinding finding.now result }
     {
         let mut entry = BLANK;
-        entry.request = finding.request(look.number);
-        self.answer_finding(look, finding, &mut entry.reply);
+        self.answer_finding(0, look, finding, &mut entry);
         self.follow(&entry);
         entry.reply
     }
 
-    /// Writes the reply to what was reckoned on a look, as `settle` gives it. The game stays as it is: `follow` takes the entry
-    /// into the history. The conditions are those of `settle` but for the number of entries.
+    /// Writes the entry of what was computed on a look, answered as `settle` answers it. The game stays as it is: `follow` takes
+    /// the entry into the history. The conditions are those of `settle` but for the number of entries.
     #[inline(always)]
-    pub fn answer_finding(&self, look: &LookData, finding: &Finding, reply: &mut Reply)
+    pub fn answer_finding(&self, seat: u8, look: &LookData, finding: &Finding, entry: &mut Entry)
         requires look { (o : StartData) × (H : List EntryData) × LeadsTo o H self.now ×
             IsLookAt o H look.now }
         requires found { IsFoundFor self.now.q look.now finding.now }
+        ensures seat { entry.new.seat ≡ seat }
+        ensures request { entry.new.request ≡ asked_for look.now.number finding.now }
         ensures replies { (o : StartData) (H : List EntryData) → LeadsTo o H self.now →
-            IsLookAt o H look.now → Replies o H (asked_for look.now.number finding.now) reply.new }
-        ensures legal { (o : StartData) (H : List EntryData) (seat : ℕ) → LeadsTo o H self.now →
-            IsLookAt o H look.now → IsLegal o H → IsSeat seat →
-            IsLegal o (with_entry H seat (asked_for look.now.number finding.now) reply.new) }
-        ensures kept { KeepsFinding finding.now reply.new }
+            IsLookAt o H look.now → Replies o H entry.new.request entry.new.reply }
+        ensures legal { (o : StartData) (H : List EntryData) → LeadsTo o H self.now →
+            IsLookAt o H look.now → IsLegal o H → IsSeat seat → IsLegal o (H ++ entry.new ∷ []) }
+        ensures kept { KeepsFinding finding.now entry.new.reply }
     {
-        self.answer_found(look, finding, reply);
+        entry.seat = seat;
+        entry.request = finding.request(look.number);
+        self.answer_found(look, finding, &mut entry.reply);
     }
 
     /// Writes the reply to a finding that is right as the game stands.
@@ -359,20 +364,23 @@ impl Game {
         }
     }
 
-    /// Writes the reply to whatever was asked on a look, if gifts, levies or joins were accepted since: `Stale`, as `settle`
-    /// gives it for each finding, so nothing has to be reckoned. The game stays as it is: `follow` takes the entry into the
+    /// Writes the entry of a question on a look, if gifts, levies or joins were accepted since: it is answered with `Stale`, as
+    /// `settle` answers each finding, so nothing has to be computed. The game stays as it is: `follow` takes the entry into the
     /// history. The condition is that their number is another than that before the look.
-    pub fn answer_stale(&self, look: &LookData, reply: &mut Reply)
+    pub fn answer_stale(&self, seat: u8, look: &LookData, asks: &Question, entry: &mut Entry)
         requires { look.now.gifts ≢ self.now.gifts }
-        ensures stale { reply.new ≡ Stale self.now.gifts }
-        ensures replies { (o : StartData) (H : List EntryData) (asks : QuestionData) →
+        ensures seat { entry.new.seat ≡ seat }
+        ensures request { entry.new.request ≡ asked_on look.now.number asks.now }
+        ensures stale { entry.new.reply ≡ Stale self.now.gifts }
+        ensures replies { (o : StartData) (H : List EntryData) →
             LeadsTo o H self.now → IsLookAt o H look.now →
-            Replies o H (asked_on look.now.number asks) reply.new }
-        ensures legal { (o : StartData) (H : List EntryData) (asks : QuestionData) (seat : ℕ) →
-            LeadsTo o H self.now → IsLookAt o H look.now → IsLegal o H → IsSeat seat →
-            IsLegal o (with_entry H seat (asked_on look.now.number asks) reply.new) }
+            Replies o H entry.new.request entry.new.reply }
+        ensures legal { (o : StartData) (H : List EntryData) → LeadsTo o H self.now →
+            IsLookAt o H look.now → IsLegal o H → IsSeat seat → IsLegal o (H ++ entry.new ∷ []) }
     {
-        *reply = Reply::Stale(self.gifts());
+        entry.seat = seat;
+        entry.request = asks.request(look.number);
+        entry.reply = Reply::Stale(self.gifts());
     }
 
     /// Whether the position now is an earlier one.

@@ -2,7 +2,7 @@
 use dg_chips::{Divisor, Drift};
 use dg_graph::Graph;
 
-/// What a seat keeps of a look, so that what it reckons on it can be entered later.
+/// What a seat keeps of a look, so that what it computes on it can be entered later.
 #[derive(Clone, Copy)]
 pub struct LookData {
     /// The number of the look's entry.

@@ -6,9 +6,9 @@ use crate::entry::Plain;
 pub enum Command {
     /// A call of the game itself.
     Call(Plain),
-    /// Enter the verdict that was reckoned on the seat's last look, and use the look up.
+    /// Enter the verdict that was computed on the seat's last look, and use the look up.
     Commit,
-    /// Enter the rank test of this degree that was reckoned on the seat's last look, and use the look up.
+    /// Enter the rank test of this degree that was computed on the seat's last look, and use the look up.
     Rank(u32),
 }
 

@@ -1,4 +1,4 @@
-//! Games on small tables, reckoned by hand: what no row in tests/rows shows of them.
+//! Games on small tables, computed by hand: what no row in tests/rows shows of them.
 mod verdicts;
 
 use dg_chips::{Divisor, Move, Start};

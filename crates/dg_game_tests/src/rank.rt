@@ -1,4 +1,4 @@
-//! Trials and rank tests, reckoned by hand.
+//! Trials and rank tests, computed by hand.
 mod ranks;
 mod references;
 mod trials;

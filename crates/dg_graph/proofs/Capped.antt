@@ -3,11 +3,7 @@
 --   capped-low      then the sum before the cut is at most 63 too
 --   capped-high     a sum past 63 was past 63 before the cut
 --   capped-put      the edges of one item put into both cells of a symmetric table
-use Rattle.std.proofs.Common.{◌≡◌, ◌≢◌, ℕ, ◌+◌, ◌<◌, ◌≤◌, min, arith}
-use Rattle.std.proofs.lemmas.Bool.Decides.{nat_tests}
-use Rattle.dg_theory.specs.Sums.{total_below}
-use Rattle.dg_theory.proofs.TotalLaws.{total_below-cong, total_below-le, total_below-term}
-use Rattle.dg_graph.specs.Items.{Item, edges_put}
+use Rattle.dg_graph.proofs.Common.{◌≡◌, ◌≢◌, ℕ, ◌+◌, ◌<◌, ◌≤◌, min, arith, nat_tests, total_below, total_below-cong, total_below-le, total_below-term, Item, edges_put}
 
 pub capped-exact : (n : ℕ) (f h : ℕ → ℕ) → ((w : ℕ) → f w ≡ min 255 (h w)) → total_below n f ≤ 63 →
     (w : ℕ) → w < n → f w ≡ h w

@@ -2,15 +2,9 @@
 -- cut off at 255, so the table is symmetric, and its first vertex with more than 63 edges is the first in the list
 -- (high). With right items and at most 63 edges at each vertex the cells are the sums (exact), a vertex that no chain
 -- joins to vertex 0 parts the list (parted), and otherwise the table is that of a graph (graph).
-use Rattle.std.proofs.Common.{◌≡◌, ℕ, ◌<◌, ◌≤◌, min, List, arith, sym, ap, ◌∙◌, ⊎_elim}
-use Rattle.std.proofs.lemmas.Bool.{cases_lt}
-use Rattle.dg_theory.specs.Sums.{total_below}
+use Rattle.dg_graph.proofs.Common.{◌≡◌, ℕ, ◌<◌, ◌≤◌, min, List, arith, sym, ap, ◌∙◌, ⊎_elim, cases_lt, total_below, JoinedIn-cong, IsGraph, Item, IsItems, IsSize, IsFirstHigh, IsParted, IsJoined, IsApart}
 use Rattle.dg_theory.specs.Multigraph.{entry}
-use Rattle.dg_theory.proofs.Chains.{JoinedIn-cong}
-use Rattle.dg_graph.specs.Graph.{IsGraph}
-use Rattle.dg_graph.specs.Items.{Item, IsItems, edges_listed}
-use Rattle.dg_graph.specs.Faults.{IsSize, IsFirstHigh, IsParted}
-use Rattle.dg_graph.specs.Search.{IsJoined, IsApart}
+use Rattle.dg_graph.specs.Items.{edges_listed}
 use Rattle.dg_graph.proofs.Listed.{edges_listed-symmetric, edges_listed-loopless, edges_listed-inside}
 use Rattle.dg_graph.proofs.Capped.{capped-exact, capped-low, capped-high}
 

@@ -3,19 +3,11 @@
 --   set-entry_more    and to set a row of a table to that is to have one more in that row
 --   edges_few         a vertex with room for one more edge has few to each other vertex,
 --   edges_few_back    also in the table with one more edge from the other vertex
---   joinable          what the tests of a join tell
 --   joined_is         the table after both steps is that of the graph with one more edge,
 --   joined_graph      which is within the limits
-use Rattle.std.proofs.Common.{◌≡◌, ℕ, zero, suc, ◌+◌, ◌<◌, ◌≤◌, List, [], ◌∷◌, length, set, ◌≢◌, arith, refl, sym, ap, subst, ◌∙◌}
-use Rattle.std.specs.Prelude.{slice_index}
-use Rattle.std.specs.List.{slice_index_or}
-use Rattle.std.proofs.lemmas.Bool.Decides.{nat_tests}
-use Rattle.dg_theory.specs.Multigraph.{Multigraph, entry, edges_between, valence}
-use Rattle.dg_theory.specs.Joins.{one_more, entry_more, with_edge, at_either}
-use Rattle.dg_theory.proofs.JoinLaws.{entry_more-row, size_stays, joined_is_multigraph, valence_grows}
-use Rattle.dg_theory.proofs.TotalLaws.{total_below-term}
-use Rattle.dg_graph.specs.Graph.{IsGraph}
-use Rattle.dg_graph.specs.Joins.{IsJoinable}
+use Rattle.dg_graph.proofs.Common.{◌≡◌, ℕ, zero, suc, ◌+◌, ◌<◌, ◌≤◌, List, [], ◌∷◌, length, set, ◌≢◌, arith, refl, sym, ap, subst, ◌∙◌, slice_index, slice_index_or, nat_tests, Multigraph, edges_between, valence, one_more, entry_more, at_either, entry_more-row, size_stays, joined_is_multigraph, valence_grows, total_below-term, IsGraph, IsJoinable}
+use Rattle.dg_theory.specs.Multigraph.{entry}
+use Rattle.dg_theory.specs.Joins.{with_edge}
 
 pub set-one_more : (row : List ℕ) (v : ℕ) → v < length row → set row v (slice_index row v + 1) ≡ one_more row v
 set-one_more [] v inside = absurd (omega arith)
@@ -42,17 +34,6 @@ edges_few_back g u v joinable =
 
 valence_left : (a b u v w m : ℕ) → a ≡ b + at_either u v w → b ≤ m → (w ≡ u → b < m) → (w ≡ v → b < m) → a ≤ m
 valence_left a b u v w m grows few first second = grind (arith, nat_tests)
-
-pub joinable : (g h : Multigraph) (u v : ℕ) → g ≡ h → u < g.size → v < g.size → u ≢ v → valence h u < 63 →
-    valence h v < 63 →
-    IsJoinable g u v
-joinable g h u v same first second different room other_room = record {
-  first = first;
-  second = second;
-  different = different;
-  first_room = subst (λ (k : Multigraph). valence k u < 63) (sym same) room;
-  second_room = subst (λ (k : Multigraph). valence k v < 63) (sym same) other_room;
-}
 
 pub joined_is : (g : Multigraph) (u v : ℕ) (once both : List (List ℕ)) → once ≡ entry_more g.table u v →
     both ≡ entry_more once v u →

@@ -7,4 +7,4 @@ pub mod NoEdges
 pub mod Genus
 pub mod Valences
 pub mod Joined
-pub mod GivenOrNot
+pub mod Common

@@ -2,11 +2,8 @@
 -- list is empty (nil) or no item puts one there (none), and one more item adds its own to those before (more).
 -- Right items put none from a vertex to itself (loopless) and none at a number past the vertices (inside), and an item
 -- that is right among n vertices is right among more (item-right).
-use Rattle.std.proofs.Common.{◌≡◌, ℕ, suc, ◌+◌, ◌<◌, ◌≤◌, Bool, true, false, ◌||◌, ◌&&◌, ◌==◌, cond, List, [], ◌∷◌, length, get_or, take, slice_get, Some, sum_by, arith, refl, ap}
-use Rattle.std.proofs.lemmas.Bool.Decides.{nat_tests}
-use Rattle.std.proofs.lemmas.List.Sums.{sum_by-cons, sum_by_more}
-use Rattle.std.proofs.lemmas.Option.{slice_get-get_or}
-use Rattle.dg_graph.specs.Items.{Item, IsItem, IsItems, edges_put, edges_listed}
+use Rattle.dg_graph.proofs.Common.{◌≡◌, ℕ, suc, ◌+◌, ◌<◌, ◌≤◌, Bool, true, false, ◌||◌, ◌&&◌, ◌==◌, cond, List, [], ◌∷◌, length, get_or, take, slice_get, Some, sum_by, arith, refl, ap, nat_tests, sum_by-cons, sum_by_more, slice_get-get_or, Item, IsItem, IsItems, edges_put}
+use Rattle.dg_graph.specs.Items.{edges_listed}
 
 or_turned : (x y : Bool) → (x || y) ≡ (y || x)
 or_turned true true = refl

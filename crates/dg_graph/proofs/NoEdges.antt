@@ -1,6 +1,6 @@
 -- The table of no edges.
 --   entry-none    each of its cells is 0
-use Rattle.std.proofs.Common.{◌≡◌, ℕ, zero, suc, get_or, replicate, refl}
+use Rattle.dg_graph.proofs.Common.{◌≡◌, ℕ, zero, suc, get_or, replicate, refl}
 use Rattle.dg_theory.specs.Multigraph.{entry}
 
 zero_in : (k v : ℕ) → get_or {A = ℕ} (replicate k 0) v 0 ≡ 0

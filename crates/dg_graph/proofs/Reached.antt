@@ -1,13 +1,7 @@
 -- The search from vertex 0: at the start only vertex 0 is reached (first), and it stays so (start); a vertex with an
 -- edge to a reached one is joined to vertex 0 (more); each step leaves one vertex less unreached (fewer); and once no
 -- edge leads out of the reached vertices, no chain joins the others to vertex 0 (tells).
-use Rattle.std.proofs.Common.{◌≡◌, ℕ, zero, suc, ◌<◌, ◌≤◌, Bool, true, false, not, cond, List, ◌∷◌, length, set, replicate, count_by, MatchBool, arith, refl, sym, subst, ◌∙◌, ⊎_elim}
-use Rattle.std.proofs.lemmas.Bool.{cases_Bool, cases_eq, false≢true}
-use Rattle.std.proofs.lemmas.List.{get_or-set_other}
-use Rattle.std.proofs.lemmas.List.Sums.{sum_by-set}
-use Rattle.dg_theory.specs.Multigraph.{JoinedIn, here, along}
-use Rattle.dg_theory.proofs.Chains.{JoinedIn-append, JoinedIn-reverse, JoinedIn-stays}
-use Rattle.dg_graph.specs.Search.{is_in, IsNextTo, IsInOrApart, IsJoined, IsApart}
+use Rattle.dg_graph.proofs.Common.{◌≡◌, ℕ, zero, suc, ◌<◌, ◌≤◌, Bool, true, false, not, cond, List, ◌∷◌, length, set, replicate, count_by, MatchBool, arith, refl, sym, subst, ◌∙◌, ⊎_elim, cases_Bool, cases_eq, false≢true, get_or-set_other, sum_by-set, JoinedIn, here, along, JoinedIn-append, JoinedIn-reverse, JoinedIn-stays, is_in, IsNextTo, IsInOrApart, IsJoined, IsApart}
 
 none_in : (k v : ℕ) → is_in (replicate k false) v ≡ false
 none_in zero v = refl

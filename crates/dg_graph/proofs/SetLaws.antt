@@ -4,12 +4,8 @@
 --   no_set            a number that stands for a set without members is 0
 --   with_bit          to set a bit adds its place to the set
 --   complement_bits   the bits below n that are not set, as a mask of n ones picks them
-use Rattle.std.proofs.Common.{◌≡◌, ◌≢◌, ℕ, zero, suc, ◌-◌, ◌*◌, ◌/◌, ◌%◌, ◌^◌, ◌<◌, ◌≤◌, true, false, not, ◌&&◌, nat_eq, min, arith, refl, ap, sym, ◌∙◌, inl, inr, bit_and, bit_or, w16}
-use Rattle.std.specs.Prelude.{nat_lt}
-use Rattle.std.specs.Int.{bit_at, bit_not}
-use Rattle.std.proofs.lemmas.Bool.{cases_lt, lt-ltb, le-ltb, eqb-false}
-use Rattle.std.proofs.lemmas.Nat.Bits.{bit_at-zero, bit_at-lt, same_from_bits, bit_at_set_same, bit_at_set_other, bit_at_and, bit_at_not, bit_at_above, bit_at_ones, bit_at_ones_above, ones_shr}
-use Rattle.dg_graph.specs.Sets.{in_set, IsWith}
+use Rattle.dg_graph.proofs.Common.{◌≡◌, ◌≢◌, ℕ, zero, suc, ◌-◌, ◌*◌, ◌/◌, ◌%◌, ◌^◌, ◌<◌, ◌≤◌, true, false, not, ◌&&◌, nat_eq, min, arith, refl, ap, sym, ◌∙◌, inl, inr, bit_and, bit_or, w16, nat_lt, bit_at, bit_not, cases_lt, lt-ltb, le-ltb, eqb-false, bit_at-zero, bit_at-lt, same_from_bits, bit_at_set_same, bit_at_set_other, bit_at_and, bit_at_not, bit_at_above, bit_at_ones, bit_at_ones_above, ones_shr, IsWith}
+use Rattle.dg_graph.specs.Sets.{in_set}
 
 pub in_set_below : (set v : ℕ) → set < 2 ^ 16 → in_set set v ≡ true → v < 16
 unfolding in_set

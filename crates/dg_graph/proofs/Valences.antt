@@ -4,14 +4,7 @@
 --   valences_of-at    what is kept at a place
 --   valences_of-all   and past the places too
 --   filled-more       a list that is filled in one place after another
-use Rattle.std.proofs.Common.{◌≡◌, ℕ, zero, suc, ◌+◌, ◌<◌, ◌≤◌, List, length, set, arith, refl, sym, ◌∙◌, ⊎_elim}
-use Rattle.std.specs.Prelude.{slice_index}
-use Rattle.std.proofs.lemmas.Bool.{cases_lt, cases_eq}
-use Rattle.std.proofs.lemmas.List.{get_or-set_same, get_or-set_other, get_or_past}
-use Rattle.std.proofs.lemmas.List.FromFn.{get_or-map-range_with_len}
-use Rattle.dg_theory.specs.Sums.{total_below}
-use Rattle.dg_theory.specs.Multigraph.{Multigraph, valence, edges_between}
-use Rattle.dg_graph.specs.Graph.{IsGraph}
+use Rattle.dg_graph.proofs.Common.{◌≡◌, ℕ, zero, suc, ◌+◌, ◌<◌, ◌≤◌, List, length, set, arith, refl, sym, ◌∙◌, ⊎_elim, slice_index, cases_lt, cases_eq, get_or-set_same, get_or-set_other, get_or_past, get_or-map-range_with_len, total_below, Multigraph, valence, edges_between, IsGraph}
 use Rattle.dg_graph.specs.Valences.{valences_of}
 
 none_below : (n : ℕ) (f : ℕ → ℕ) → ((w : ℕ) → f w ≡ 0) → total_below n f ≡ 0

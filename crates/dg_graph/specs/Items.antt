@@ -9,9 +9,9 @@
 --   IsRightBefore n items i  == the items before item i are right
 --   HasItem items i P        == there is an item i, and it is P
 --   IsGiven n items g        == g is the graph of n vertices that the items describe
-use Rattle.std.specs.Prelude.{◌≡◌, ◌≢◌, ℕ, ◌<◌, ◌≤◌, ◌==◌, ◌&&◌, ◌||◌, if◌then◌else◌, List, length, slice_get, Some, sum_by}
-use Rattle.dg_theory.specs.Sums.{total_below}
+use Rattle.std.specs.Prelude.{if◌then◌else◌, ◌≡◌, ◌≢◌, ℕ, ◌<◌, ◌≤◌, ◌==◌, ◌&&◌, ◌||◌, List, length, slice_get, Some, sum_by}
 use Rattle.dg_theory.specs.Multigraph.{Multigraph, edges_between}
+use Rattle.dg_theory.specs.Sums.{total_below}
 use Rattle.dg_graph.specs.Graph.{IsGraph}
 
 abbrev pub Item : Type 0

@@ -81,6 +81,24 @@ impl Graph {
             (λ g. (g ≡ with_edge self.now u v) × IsGraph g × IsJoinable self.now u v)
             (RefusesJoin self.now u v) }
     {
+        self.may_join(u, v)?;
+        let (u, v) = (usize::from(u), usize::from(v));
+        let once = with_one_more(self.table, u, v);
+        let table = with_one_more(once, v, u);
+        let valences = valences_of(self.size, &table);
+        Ok(Graph {
+            size: self.size,
+            table,
+            valences,
+        })
+    }
+
+    /// Whether one more edge may be put between two vertices, or the fault for which `join` refuses it.
+    pub fn may_join(&self, u: u8, v: u8) -> Result<(), JoinFault>
+        ensures { MatchResult result
+            (λ _. IsJoinable self.now u v)
+            (RefusesJoin self.now u v) }
+    {
         let (u, v) = (usize::from(u), usize::from(v));
         if u >= self.size || v >= self.size {
             return Err(JoinFault::NoVertex);
@@ -91,14 +109,7 @@ impl Graph {
         if self.is_full(u) || self.is_full(v) {
             return Err(JoinFault::Valence);
         }
-        let once = with_one_more(self.table, u, v);
-        let table = with_one_more(once, v, u);
-        let valences = valences_of(self.size, &table);
-        Ok(Graph {
-            size: self.size,
-            table,
-            valences,
-        })
+        Ok(())
     }
 
     /// Whether as many edges as may be meet at a vertex.

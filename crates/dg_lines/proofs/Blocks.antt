@@ -2,13 +2,7 @@
 --   prefix-taken   where a test ends among the first bytes, it ends there among all
 --   some-place     where a bit is set, the test holds before the end
 --   place-first    so the lowest bit of the places among the first 32 is the first place
-use Rattle.std.proofs.Common.{◌≡◌, ℕ, zero, suc, ◌+◌, ◌*◌, ◌<◌, ◌≤◌, ◌==◌, cond, not, Bool, true, false, List, [], ◌∷◌, Some, length, take, map, refl, sym, ap, ◌∙◌, arith, length-take-le}
-use Rattle.std.specs.Prelude.{position}
-use Rattle.std.specs.List.{prefix_len}
-use Rattle.std.proofs.lemmas.Bool.{lt-ltb}
-use Rattle.std.proofs.lemmas.Simd.{trailing_mask_l}
-use lib.Lanes.{mask_l}
-use lib.Count.{count_trailing_zeros}
+use Rattle.dg_lines.proofs.Common.{◌≡◌, ℕ, zero, suc, ◌+◌, ◌*◌, ◌<◌, ◌≤◌, ◌==◌, cond, not, Bool, true, false, List, [], ◌∷◌, Some, length, take, map, refl, sym, ap, ◌∙◌, arith, length-take-le, position, prefix_len, lt-ltb, trailing_mask_l, mask_l, count_trailing_zeros}
 
 prefix-taken : (q : ℕ → Bool) (n : ℕ) (xs : List ℕ) → n ≤ length xs → prefix_len q (take n xs) < n →
     prefix_len q xs ≡ prefix_len q (take n xs)

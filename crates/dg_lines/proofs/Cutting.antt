@@ -2,13 +2,9 @@
 --   lines_after rest == the lines of what follows a newline, and none where no newline follows
 -- Proved: the pieces are what stands before the first byte that cuts, and then the pieces of what stands after it; so
 -- are the lines of bytes that are not empty; and what `position` says of the two parts.
-use Rattle.std.proofs.Common.{Bor, take, drop, length, nat_lt, suc, ◌≤◌, ◌∙◌, ◌<◌, sym, ◌≡◌, ℕ, ◌+◌, ◌==◌, cond, true, false, List, [], ◌∷◌, Option, Some, None, refl, ap, arith, not, Bool, one-add}
-use Rattle.std.proofs.lemmas.Option.{cond_some}
-use Rattle.std.proofs.lemmas.List.{take_all}
-use Rattle.std.proofs.lemmas.Bool.Decides.{nat_tests}
-use Rattle.std.specs.Option.{option_copied, unwrap_or}
-use Rattle.std.specs.List.{position, position_or_len}
-use Rattle.dg_lines.specs.Cuts.{before, after, onto_first, pieces, pieces_after, words, words_after, lines}
+use Rattle.dg_lines.proofs.Common.{Bor, take, drop, length, nat_lt, suc, ◌≤◌, ◌∙◌, ◌<◌, sym, ◌≡◌, ℕ, ◌+◌, ◌==◌, cond, true, false, List, [], ◌∷◌, Option, Some, None, refl, ap, arith, not, Bool, one-add, cond_some, take_all, nat_tests, option_copied, unwrap_or, position_or_len, onto_first, pieces_after, words, words_after}
+use Rattle.std.specs.List.{position}
+use Rattle.dg_lines.specs.Cuts.{before, after, pieces, lines}
 
 abbrev pub lines_after : Option (List ℕ) → List (List ℕ)
 lines_after None = []

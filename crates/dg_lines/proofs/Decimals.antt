@@ -1,17 +1,6 @@
 -- The decimals of whole numbers of at most 64 digits are the numerals.
 --   numerals_are_decimals
-use Rattle.std.proofs.Common.{◌≡◌, ◌≢◌, ℕ, zero, suc, ◌+◌, ◌*◌, ◌/◌, ◌%◌, ◌^◌, ◌<◌, ◌≤◌, inl, inr, ℤ, pos, negsuc, List, [], ◌∷◌, ◌++◌, length, get_or, drop, refl, ap, sym, ◌∙◌, subst, arith, codes, decimal, append_assoc}
-use Rattle.std.specs.Prelude.{All}
-use Rattle.std.specs.Fmt.{signed_decimal}
-use Rattle.std.specs.Char.{digit_value}
-use Rattle.std.specs.Str.Parse.{AllDigits, digits_value_after, digits_value}
-use Rattle.std.proofs.lemmas.Fmt.{decimal_digit, decimal_is_IsNumeral_wide, decimal_step_wide, decimal_by_steps_wide}
-use Rattle.std.proofs.Math.ListN.{get_or-append}
-use Rattle.std.proofs.lemmas.List.{append-nil, length-append}
-use Rattle.std.proofs.lemmas.List.Elements.{All-nil, All-cons, All-head, All-tail}
-use Rattle.std.proofs.lemmas.Str.{digit_value_digit}
-use Rattle.std.proofs.lemmas.Str.Parse.{digit_from_value, digits_value_short, numerals_by_value, tells_digits}
-use Rattle.dg_lines.specs.LineLaws.{IsDigit, IsUnsigned, IsNumeral, IsShort, NumeralsAreDecimals}
+use Rattle.dg_lines.proofs.Common.{◌≡◌, ◌≢◌, ℕ, zero, suc, ◌+◌, ◌*◌, ◌/◌, ◌%◌, ◌^◌, ◌<◌, ◌≤◌, inl, inr, ℤ, pos, negsuc, List, [], ◌∷◌, ◌++◌, length, get_or, drop, refl, ap, sym, ◌∙◌, subst, arith, codes, decimal, append_assoc, All, signed_decimal, digit_value, AllDigits, digits_value_after, digits_value, decimal_digit, decimal_is_IsNumeral_wide, decimal_step_wide, decimal_by_steps_wide, get_or-append, append-nil, length-append, All-nil, All-cons, All-head, All-tail, digit_value_digit, digit_from_value, digits_value_short, numerals_by_value, tells_digits, IsDigit, IsUnsigned, IsNumeral, IsShort, NumeralsAreDecimals}
 
 first_digit : (n : ℕ) → 0 < n → n < 10 ^ 64 → 48 < get_or (decimal n) 0 0
 first_digit n some small =

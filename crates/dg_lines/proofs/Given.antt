@@ -1,39 +1,19 @@
 -- The names that a word gives, and the set of the vertices that they name.
 --   same_bytes       equality of byte lists is an equivalence
---   given_or         names are given rightly, or not
 --   vertex_named     the place of a name is a vertex, and has that name
---   place_or         a name has a place, or none
 --   named_alone      a name that has a place is given rightly where it stands alone
 --   none_given       so is no name
 --   unnamed_among    names of which one has no place are not given rightly
---   place_given      a name that is given rightly where it stands alone has a place
---   named_or         each of the words names rightly what it does, or not
---   set_members      the set of the vertices of names that are given rightly
---   one_set          there is one such set
+--   one_set          the names that are given rightly have one set
 --   other_name       the name of another vertex is another name
 --   IsNamedNext names done name v == the vertex v of the names, all different, is named next
 --   one_member       with one name more the set has one vertex more
---   HasPlace names name           == the name has a place among the names, or none
 --   HasTaken names given left set == `left` are the last of the names given, and the set has those before them
 -- What a loop over the names does: none taken, one more, all, and where the next name refuses them.
-use Rattle.std.proofs.Common.{◌⊎◌, inl, inr, ◌≡◌, ◌≢◌, ℕ, zero, suc, ◌+◌, ◌*◌, ◌/◌, ◌<◌, ◌==◌, ◌||◌, ◌&&◌, not, cond, Bool, true, false, List, [], ◌∷◌, ◌++◌, length, Option, Some, None, refl, ap, sym, ◌∙◌, subst, arith, Decides, append_assoc}
-use Rattle.std.specs.Prelude.{bytes_eq, IsTrue, All}
-use Rattle.std.specs.Cmp.{IsEquivalence, both_ways}
-use Rattle.std.specs.Int.{bit_at}
-use Rattle.std.specs.List.{AllByRecursion, IsDistinct, list_all, position_or_len}
-use Rattle.std.proofs.lemmas.Bool.{eqb-true}
-use Rattle.std.proofs.lemmas.Bool.Decides.{nat_tests, Decides-and, Decides-by_and}
-use Rattle.std.proofs.lemmas.List.{append-nil}
-use Rattle.std.proofs.lemmas.List.Elements.{All-nil, All-cons, All-head, All-tail, All-push}
-use Rattle.std.proofs.lemmas.List.Folds.{list_any-append, list_any_at}
-use Rattle.std.proofs.lemmas.List.Quantifiers.{position-Some}
-use Rattle.std.proofs.lemmas.Map.Keys.{IsDistinct-push, apart_from_distinct}
-use Rattle.std.proofs.lemmas.Nat.Bits.{bit_at_lowest, bit_at-suc, bit_at-zero, bit_at-lt, same_from_bits}
-use Rattle.std.proofs.lemmas.Slice.Eq.{bytes_eq-Decides}
+use Rattle.dg_lines.proofs.Common.{◌⊎◌, ◌≡◌, ◌≢◌, ℕ, ◌+◌, ◌*◌, ◌/◌, ◌<◌, ◌==◌, ◌||◌, ◌&&◌, not, cond, Bool, true, false, List, [], ◌∷◌, ◌++◌, length, Some, None, refl, ap, sym, ◌∙◌, subst, arith, Decides, append_assoc, bytes_eq, IsTrue, All, IsEquivalence, both_ways, bit_at, AllByRecursion, position_or_len, eqb-true, nat_tests, append-nil, All-nil, All-cons, All-head, All-tail, All-push, list_any-append, list_any_at, position-Some, IsDistinct-push, apart_from_distinct, bit_at-zero, bit_at-lt, same_from_bits, bytes_eq-Decides, has, name_at, AreGiven, IsSetOf}
+use Rattle.std.specs.List.{IsDistinct}
 use Rattle.dg_graph.specs.Sets.{in_set}
-use Rattle.dg_tokens.specs.Names.{has, place_of, name_at}
-use Rattle.dg_lines.specs.CommandWords.{Kind, AreGiven, names_in, AreNamed, IsSetOf}
-use Rattle.dg_lines.proofs.Decided.{IsDecided, both_or}
+use Rattle.dg_tokens.specs.Names.{place_of}
 
 equal : (x y : List ℕ) → x ≡ y → bytes_eq x y ≡ true
 equal x y e = (bytes_eq-Decides x y).1 e
@@ -66,21 +46,6 @@ or_false false = refl
 apart : (t u : Bool) (Q : Type 0) → Decides (not u) Q → Decides (not (t || u)) ((t ≡ false) × Q)
 apart true u Q known = (λ e. absurd (cc), λ p. absurd (let no : true ≡ false = p.0 in cc))
 apart false u Q known = (λ e. (refl, known.0 e), λ p. known.1 p.1)
-
-stands_once : (x : List ℕ) (xs : List (List ℕ))
-    → Decides (not (has xs x)) (AllByRecursion (λ y. bytes_eq x y ≡ false) xs)
-stands_once x [] = (λ e. tt, λ p. refl)
-stands_once x (y ∷ ys) =
-    apart (bytes_eq x y) (has ys x) (AllByRecursion (λ z. bytes_eq x z ≡ false) ys) (stands_once x ys)
-
-is_distinct : List (List ℕ) → Bool
-is_distinct [] = true
-is_distinct (name ∷ given) = not (has given name) && is_distinct given
-
-distinct_decides : (given : List (List ℕ)) → Decides (is_distinct given) (IsDistinct bytes_eq given)
-unfolding IsDistinct is_distinct
-distinct_decides [] = (λ e. tt, λ p. refl)
-distinct_decides (x ∷ xs) = Decides-and (not (has xs x)) (is_distinct xs) (stands_once x xs) (distinct_decides xs)
 
 pub all_there : (P : List ℕ → Type 0) (done back : List (List ℕ)) (name : List ℕ) → All P (done ++ name ∷ back) → P name
 all_there P [] back name each = All-head P name back each
@@ -117,32 +82,6 @@ unfoldable members : List (List ℕ) → List (List ℕ) → ℕ
 members [] given = 0
 members (name ∷ names) given = cond (has given name) 1 0 + 2 * members names given
 
-low_bit : (t : Bool) (m : ℕ) → (bit_at (cond t 1 0 + 2 * m) 0 == 1) ≡ t
-low_bit true m = let e : bit_at (1 + 2 * m) 0 ≡ 1 = omega (arith, bit_at_lowest (1 + 2 * m)) in ap (λ k. k == 1) e
-low_bit false m = let e : bit_at (0 + 2 * m) 0 ≡ 0 = omega (arith, bit_at_lowest (0 + 2 * m)) in ap (λ k. k == 1) e
-
-high_bit : (t : Bool) (m v : ℕ) → bit_at (cond t 1 0 + 2 * m) (suc v) ≡ bit_at m v
-high_bit true m v =
-    let half : (1 + 2 * m) / 2 ≡ m = omega arith in bit_at-suc (1 + 2 * m) v ∙ ap (λ k. bit_at k v) half
-high_bit false m v =
-    let half : (0 + 2 * m) / 2 ≡ m = omega arith in bit_at-suc (0 + 2 * m) v ∙ ap (λ k. bit_at k v) half
-
-members_at : (names given : List (List ℕ)) (v : ℕ) → v < length names
-    → in_set (members names given) v ≡ has given (name_at names v)
-unfolding members in_set
-members_at [] given v less = absurd (omega arith)
-members_at (name ∷ names) given zero less = low_bit (has given name) (members names given)
-members_at (name ∷ names) given (suc v) less =
-    ap (λ k. k == 1) (high_bit (has given name) (members names given) v) ∙ members_at names given v (omega arith)
-
-members_within : (names given : List (List ℕ)) (v : ℕ) → in_set (members names given) v ≡ true → v < length names
-unfolding members in_set
-members_within [] given v e = absurd (let no : false ≡ true = sym (ap (λ k. k == 1) (bit_at-zero v)) ∙ e in cc)
-members_within (name ∷ names) given zero e = omega arith
-members_within (name ∷ names) given (suc v) e =
-    let same = ap (λ k. k == 1) (high_bit (has given name) (members names given) v) in
-    omega (arith, members_within names given v (sym same ∙ e))
-
 same_bit : (a b w : ℕ) → in_set a w ≡ in_set b w → bit_at a w ≡ bit_at b w
 unfolding in_set
 same_bit a b w same = grind (arith, nat_tests, bit_at-lt a w, bit_at-lt b w)
@@ -151,9 +90,6 @@ has_more : (done : List (List ℕ)) (name own : List ℕ)
     → has (done ++ name ∷ []) own ≡ (has done own || bytes_eq own name)
 has_more done name own =
     list_any-append (bytes_eq own) done (name ∷ []) ∙ ap (λ t. has done own || t) (or_false (bytes_eq own name))
-
-abbrev pub HasPlace : List (List ℕ) → List ℕ → Type 0
-HasPlace names name = ((v : ℕ) × (place_of names name ≡ Some v)) ⊎ (place_of names name ≡ None)
 
 -- the vertex v of the names, all different, that is named next
 pub record IsNamedNext (names done : List (List ℕ)) (name : List ℕ) (v : ℕ) : Type 0 where
@@ -169,19 +105,6 @@ pub record HasTaken (names given left : List (List ℕ)) (set : ℕ) : Type 0 wh
 module _ (names : List (List ℕ)) where
   abbrev IsNamed : List ℕ → Type 0
   IsNamed name = IsTrue (has names name)
-
-  named_decides : (given : List (List ℕ)) → Decides (list_all (has names) given) (All IsNamed given)
-  named_decides given =
-      Decides-by_and (has names) IsNamed (list_all (has names)) (λ name. (λ e. e, λ e. e)) refl (λ _ _. refl) given
-
-  pub given_or : (given : List (List ℕ)) → IsDecided (AreGiven names given)
-  given_or given = go (list_all (has names) given) (is_distinct given) refl refl
-    where
-      go : (t u : Bool) → list_all (has names) given ≡ t → is_distinct given ≡ u → IsDecided (AreGiven names given)
-      go true true e f = inl (record { each = (named_decides given).0 e; different = (distinct_decides given).0 f })
-      go true false e f =
-          inr (λ known. let no : true ≡ false = sym ((distinct_decides given).1 known.different) ∙ f in cc)
-      go false u e f = inr (λ known. let no : true ≡ false = sym ((named_decides given).1 known.each) ∙ e in cc)
 
   pub vertex_named : (name : List ℕ) (v : ℕ) → place_of names name ≡ Some v
       → (v < length names) × (name_at names v ≡ name)
@@ -204,13 +127,6 @@ module _ (names : List (List ℕ)) where
       let no : Some n ≡ None = sym (ap (λ t. cond t (Some n) None) there) ∙ e in
       cc
 
-  pub place_or : (name : List ℕ) → HasPlace names name
-  place_or name = go (place_of names name) refl
-    where
-      go : (o : Option ℕ) → place_of names name ≡ o → HasPlace names name
-      go None e = inr e
-      go (Some v) e = inl (v, e)
-
   pub none_given : AreGiven names []
   unfolding IsDistinct
   none_given = record { each = All-nil IsNamed; different = tt }
@@ -224,30 +140,12 @@ module _ (names : List (List ℕ)) where
       → AreGiven names (done ++ name ∷ back) → ⊥
   unnamed_among done back name e known = not_named name e (all_there IsNamed done back name known.each)
 
-  pub place_given : (name : List ℕ) → AreGiven names (name ∷ []) → (v : ℕ) × (place_of names name ≡ Some v)
-  place_given name known = elim (place_or name) [
-    | inl there ↦ there
-    | inr none ↦ absurd (unnamed_among [] [] name none known)
-  ]
-
-  pub named_or : (kinds : List Kind) (rest : List (List ℕ)) → IsDecided (AreNamed names kinds rest)
-  named_or [] rest = inl tt
-  named_or (kind ∷ kinds) [] = inl tt
-  named_or (kind ∷ kinds) (word ∷ rest) =
-      both_or (AreGiven names (names_in kind word)) (AreNamed names kinds rest)
-      (given_or (names_in kind word)) (named_or kinds rest)
-
   twice_among : (done back : List (List ℕ)) (name : List ℕ) → has done name ≡ true
       → AreGiven names (done ++ name ∷ back) → ⊥
   twice_among done back name there known =
       let no : true ≡ false = sym there ∙ stands_before done back name known.different in cc
 
   -- ---- sets of vertices
-  pub set_members : (given : List (List ℕ)) → AreGiven names given → (set : ℕ) × IsSetOf names given set
-  set_members given known =
-      let set = members_at names given in
-      (members names given, record { are_given = known; members = set; within = members_within names given })
-
   pub one_set : (given : List (List ℕ)) (a b : ℕ) → IsSetOf names given a → IsSetOf names given b → a ≡ b
   one_set given a b first second = same_from_bits a b (λ v. same_bit a b v (go v (in_set a v) (in_set b v) refl refl))
     where

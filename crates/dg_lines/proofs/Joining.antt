@@ -1,9 +1,5 @@
 -- Cutting undone: the two parts with the byte between make the whole, and a whole made so is cut into its parts.
-use Rattle.std.proofs.Common.{◌≡◌, ℕ, ◌<◌, ◌==◌, cond, true, false, Bool, List, [], ◌∷◌, ◌++◌, Some, None, refl, ap, arith, subst}
-use Rattle.std.proofs.lemmas.Bool.Decides.{nat_tests}
-use Rattle.std.specs.Str.Parse.{AllDigits}
-use Rattle.std.specs.Char.{digit_value}
-use Rattle.std.proofs.lemmas.Bool.{eqb-true}
+use Rattle.dg_lines.proofs.Common.{◌≡◌, ℕ, ◌<◌, ◌==◌, cond, true, false, Bool, List, [], ◌∷◌, ◌++◌, Some, None, refl, ap, arith, subst, nat_tests, AllDigits, digit_value, eqb-true}
 use Rattle.dg_lines.specs.Cuts.{before, after}
 
 same_byte : (b : ℕ) → (b == b) ≡ true

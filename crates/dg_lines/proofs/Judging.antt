@@ -1,16 +1,9 @@
 -- Verdicts that are printed.
 --   burning-vertices  an order in which all vertices burn is one of vertices
 --   judged-named      a verdict on a table with names has names in its order
-use Rattle.std.proofs.Common.{◌≡◌, ℕ, zero, suc, ◌<◌, List, length, take, All, sym, ap, subst, ◌∙◌}
+use Rattle.dg_lines.proofs.Common.{◌≡◌, ℕ, zero, suc, ◌<◌, List, length, take, sym, ap, subst, ◌∙◌, slice_index_or, slice_get-get_or, Multigraph, Amounts, BurnsAll, Verdict, IsVerdictOn, HasNamesIn}
+use Rattle.std.proofs.Common.{All}
 use Rattle.std.specs.Prelude.{Option, Some, unwrap_or}
-use Rattle.std.specs.List.{slice_index_or}
-use Rattle.std.proofs.lemmas.Option.{slice_get-get_or}
-use Rattle.dg_theory.specs.Multigraph.{Multigraph}
-use Rattle.dg_theory.specs.Firing.{Amounts}
-use Rattle.dg_theory.specs.Burning.{BurnsAll}
-use Rattle.dg_verdict.specs.declared.verdict.Verdict.{Verdict}
-use Rattle.dg_verdict.specs.Right.{IsVerdictOn}
-use Rattle.dg_lines.specs.Judgements.{HasNamesIn}
 
 burning-vertices : (g : Multigraph) (q : ℕ) (D : Amounts) (l : List ℕ) → q < g.size → BurnsAll g q D l →
     All (λ v. v < g.size) l

@@ -2,7 +2,6 @@
 pub mod Cutting
 pub mod Blocks
 pub mod Streams
-pub mod Decided
 pub mod Integers
 pub mod Keywords
 pub mod Given
@@ -19,3 +18,4 @@ pub mod Signs
 pub mod Joining
 pub mod Printing
 pub mod Judging
+pub mod Common

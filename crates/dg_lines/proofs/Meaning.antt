@@ -1,36 +1,16 @@
--- Each line spells one command or has one fault.
+-- A line spells no two commands, has no two faults, and never both.
 --   line_read        what is read of the words of a line is what the line spells, or its fault
 --   lines_have_one_meaning
-use Rattle.std.proofs.Common.{◌≡◌, ◌≢◌, ℕ, suc, ◌<◌, ◌≤◌, ◌^◌, ◌-◌, ◌⊎◌, inl, inr, cond, Bool, true, false, ℤ, pos, negsuc, neg_ℤ, ◌≤ℤ◌, List, [], ◌∷◌, length, map, Option, Some, None, Result, Ok, Err, refl, ap, sym, ◌∙◌, subst, arith, codes, FitsSigned, w64, decimal, MatchResult, IfOk, IfErr}
-use Rattle.std.specs.Prelude.{All, IsSome, is_some, bytes_eq, option_map, unwrap_or}
-use Rattle.std.specs.Fmt.{signed_decimal}
-use Rattle.std.proofs.lemmas.Bool.Decides.{nat_tests}
-use Rattle.std.proofs.lemmas.Fmt.{decimal_injective, signed_decimal_injective}
-use Rattle.std.proofs.lemmas.Int.{ints}
-use Rattle.std.proofs.lemmas.List.Elements.{All-nil, All-cons, All-head, All-tail}
-use Rattle.dg_chips.specs.Vector.{Vector, at}
-use Rattle.dg_chips.specs.declared.moves.Move.{Move}
-use Rattle.dg_chips.specs.declared.moves.Move.TheVariants.{Lend, Borrow, Fire, Script}
-use Rattle.dg_game.specs.declared.step.Command.{Command}
-use Rattle.dg_game.specs.declared.step.Command.TheVariants.{Call, Commit, Rank}
-use Rattle.dg_game.specs.declared.entry.Plain.TheVariants.{Move as Play, Gift, Join, Look, Claim}
-use Rattle.dg_tokens.specs.Names.{place_of, name_at}
-use Rattle.dg_lines.specs.declared.line.LineFault.{LineFault}
-use Rattle.dg_lines.specs.declared.line.LineFault.TheVariants.{Seat, Word, Form, Name, Number}
-use Rattle.dg_lines.specs.Cuts.{before, after, words, items}
-use Rattle.dg_lines.specs.CommandWords.{Kind, vertex, vertices, script, degree, dollars, name_part, number_part, numbers_in, IsNumberFor, AreNamed, AreNumbers, number_given, IsScriptWord, IsSetOf}
-use Rattle.dg_lines.specs.Commands.{kinds_beside, kinds_wanted, kinds_of, IsWellFormed, keywords, Means, IsCommandLine}
-use Rattle.dg_lines.specs.declared.command.Keyword.{Keyword}
-use Rattle.dg_lines.specs.declared.command.Keyword.TheVariants as of
-use Rattle.dg_lines.specs.Keywords.{spelling, kinds, AreWords}
-use Rattle.dg_lines.specs.LineFaults.{AreRefused, IsLineFault}
-use Rattle.dg_lines.specs.LineLaws.{AreAlike, LinesHaveOneMeaning}
-use Rattle.dg_lines.proofs.Cutting.{line_words}
-use Rattle.dg_lines.proofs.Decided.{IsDecided, both_or}
-use Rattle.dg_lines.proofs.Given.{named_alone, none_given, place_given, named_or, set_members, one_set}
-use Rattle.dg_lines.proofs.Integers.{fits_within, within_fits, entry_fits, degree_fits, degree_within, number_or}
-use Rattle.dg_lines.proofs.Keywords.{found_in, well_formed, ill_formed, words_or}
-use Rattle.dg_lines.proofs.Scripts.{IsEntryText, numbers_told, told_numbers, one_list, script_there}
+use Rattle.dg_lines.proofs.Common.{◌≡◌, ◌≢◌, ℕ, ◌<◌, ◌≤◌, ◌^◌, ◌⊎◌, cond, Bool, true, false, ℤ, pos, List, [], ◌∷◌, length, map, Some, None, Result, Ok, Err, refl, ap, sym, ◌∙◌, subst, arith, codes, FitsSigned, w64, decimal, MatchResult, IfOk, IfErr, All, IsSome, is_some, bytes_eq, option_map, signed_decimal, nat_tests, decimal_injective, signed_decimal_injective, ints, All-nil, All-cons, Vector, at, Move, Borrow, Fire, Script, Command, Call, Commit, Rank, Gift, Join, Look, Claim, name_at, LineFault, Seat, Word, Form, Name, Number, words, items, Kind, vertex, vertices, script, degree, dollars, name_part, number_part, IsNumberFor, AreNamed, AreNumbers, IsScriptWord, IsSetOf, kinds_wanted, kinds_of, IsWellFormed, Means, IsCommandLine, AreRefused, IsLineFault, AreAlike, LinesHaveOneMeaning}
+use Rattle.std.proofs.Common.{◌≤ℤ◌}
+use Rattle.dg_chips.specs.declared.moves.Move.TheVariants.{Lend}
+use Rattle.dg_game.specs.declared.entry.Plain.TheVariants.{Move as Play}
+use Rattle.dg_tokens.specs.Names.{place_of}
+use Rattle.dg_lines.specs.CommandWords.{number_given}
+use Rattle.dg_lines.specs.Commands.{kinds_beside}
+use Rattle.dg_lines.proofs.Given.{named_alone, none_given, one_set}
+use Rattle.dg_lines.proofs.Integers.{within_fits}
+use Rattle.dg_lines.proofs.Scripts.{told_numbers, one_list}
 
 -- ---- from words to lines
 same_words : (one other : List ℕ) (ones others : List (List ℕ)) → one ∷ ones ≡ other ∷ others
@@ -253,117 +233,8 @@ module _ (names : List (List ℕ)) (keyword : List ℕ) (rest : List (List ℕ))
       let same = one_word (decimal k) (decimal m) rest one also.1 in
       ap Rank (decimal_injective k m (omega arith) (omega (arith, also.2)) (sym same)) ∙ sym is
 
--- ---- some command or fault
-entries_or : (texts : List (List ℕ)) → IsDecided (All IsEntryText texts)
-entries_or [] = inl (All-nil IsEntryText)
-entries_or (text ∷ texts) = go (number_or (neg_ℤ (pos 1000000000)) (pos 1000000000) text entry_fits) (entries_or texts)
-  where
-    go : IsDecided (IsEntryText text) → IsDecided (All IsEntryText texts) → IsDecided (All IsEntryText (text ∷ texts))
-    go (inl first) (inl others) = inl (All-cons IsEntryText text texts first others)
-    go (inl first) (inr never) = inr (λ each. never (All-tail IsEntryText text texts each))
-    go (inr never) others = inr (λ each. never (All-head IsEntryText text texts each))
-
-one_or : (kind : Kind) (text : List ℕ) → IsDecided (IsNumberFor kind text)
-    → IsDecided (All (IsNumberFor kind) (text ∷ []))
-one_or kind text (inl good) = inl (one_number kind text good)
-one_or kind text (inr never) = inr (λ all. never (All-head (IsNumberFor kind) text [] all))
-
-numbers_in_or : (kind : Kind) (word : List ℕ) → IsDecided (All (IsNumberFor kind) (numbers_in kind word))
-numbers_in_or vertex word = inl (no_numbers vertex)
-numbers_in_or vertices word = inl (no_numbers vertices)
-numbers_in_or script word = entries_or (map number_part (items word))
-numbers_in_or degree word = one_or degree word (number_or (pos 0) (pos (2 ^ 32 - 1)) word degree_fits)
-numbers_in_or dollars word =
-    one_or dollars word (number_or (neg_ℤ (pos (2 ^ 63))) (pos (2 ^ 63 - 1)) word fits_within)
-
-numbers_or : (ks : List Kind) (rest : List (List ℕ)) → IsDecided (AreNumbers ks rest)
-numbers_or [] rest = inl tt
-numbers_or (kind ∷ ks) [] = inl tt
-numbers_or (kind ∷ ks) (word ∷ rest) =
-    both_or (All (IsNumberFor kind) (numbers_in kind word)) (AreNumbers ks rest)
-    (numbers_in_or kind word) (numbers_or ks rest)
-
--- what the words of the right kinds mean
-abbrev Meant : List (List ℕ) → Keyword → List (List ℕ) → Type 0
-Meant names k rest = (c : Command) × Means names c (spelling k) rest
-
-meant : (names : List (List ℕ)) (k : Keyword) (rest : List (List ℕ)) → length rest ≡ length (kinds k)
-    → AreNamed names (kinds k) rest → AreNumbers (kinds k) rest → Meant names k rest
-meant names of.Lend (word ∷ []) count named numbers =
-    let (v, place) = place_given names word named.0 in (play (Lend v), (word, refl, (refl, place)))
-meant names of.Borrow (word ∷ []) count named numbers =
-    let (v, place) = place_given names word named.0 in (play (Borrow v), (word, refl, (refl, place)))
-meant names of.Fire (word ∷ []) count named numbers =
-    let (members, is) = set_members names (items word) named.0 in (play (Fire members), (word, refl, (refl, is)))
-meant names of.Script (word ∷ []) count named numbers =
-    let (xs, spelled, small) = numbers_told (map number_part (items word)) numbers.0 in
-    let (s, is) = script_there names (map name_part (items word)) xs named.0 in
-    (play (Script s), (word, refl, (refl, record { numbers = xs; spelled = spelled; limit = small; script = is })))
-meant names of.Gift (first ∷ second ∷ []) count named numbers =
-    let (v, place) = place_given names first named.0 in
-    let known = All-head (IsNumberFor dollars) second [] numbers.1.0 in (
-      Call (Gift v known.number),
-      (
-        refl,
-        record {
-          name = first;
-          given = ap (λ text. first ∷ text ∷ []) known.spelled;
-          vertex = place;
-          fits = fits_within known.number known.not_less known.not_more;
-        },
-      ),
-    )
-meant names of.Join (first ∷ second ∷ []) count named numbers =
-    let (u, from) = place_given names first named.0 in
-    let (v, to) = place_given names second named.1.0 in
-    (Call (Join u v), (refl, record { first = first; second = second; given = refl; from = from; to = to }))
-meant names of.Look [] count named numbers = (Call Look, (refl, refl))
-meant names of.Claim [] count named numbers = (Call Claim, (refl, refl))
-meant names of.Commit [] count named numbers = (Commit, (refl, refl))
-meant names of.Rank (word ∷ []) count named numbers =
-    let known = All-head (IsNumberFor degree) word [] numbers.0 in
-    let (k, small, spelled) = degree_within word known in
-    (Rank k, (refl, ap (λ text. text ∷ []) spelled, small))
-meant names k rest count named numbers = absurd (omega arith)
-
-module _ (names : List (List ℕ)) (line : List ℕ) where
-  abbrev HasMeaning : Type 0
-  HasMeaning = ((c : Command) × IsCommandLine names c line) ⊎ ((fault : LineFault) × IsLineFault names fault line)
-
-  some_meaning : (keyword : List ℕ) (rest : List (List ℕ)) → words line ≡ keyword ∷ rest → HasMeaning
-  some_meaning keyword rest cut = go (kinds_wanted keyword) refl
-    where
-      refused : (fault : LineFault) → AreRefused names fault keyword rest → HasMeaning
-      refused fault bad = inr (fault, record { keyword = keyword; rest = rest; cut = cut; refused = bad })
-
-      read : (k : Keyword) → keyword ≡ spelling k → kinds_of keyword ≡ kinds k → IsWellFormed keyword rest
-          → length rest ≡ length (kinds k) → AreNamed names (kinds_of keyword) rest
-          → IsDecided (AreNumbers (kinds_of keyword) rest) → HasMeaning
-      read k same own formed count named (inr never) = refused Number (formed, named, never)
-      read k same own formed count named (inl numbers) =
-          let (c, means) =
-          meant names k rest count (subst (λ ks. AreNamed names ks rest) own named)
-          (subst (λ ks. AreNumbers ks rest) own numbers) in
-          let spelled = subst (λ word. Means names c word rest) (sym same) means in
-          inl (c, record { keyword = keyword; rest = rest; cut = cut; formed = formed; means = spelled })
-
-      counted : (ks : List Kind) → kinds_wanted keyword ≡ Some ks → IsDecided (AreWords (length ks) rest)
-          → IsDecided (AreNamed names (kinds_of keyword) rest) → HasMeaning
-      counted ks wants (inr never) named = refused Form (ill_formed keyword ks rest wants never)
-      counted ks wants (inl known) (inr never) = refused Name (well_formed keyword ks rest wants known, never)
-      counted ks wants (inl known) (inl named) =
-          let (k, same, own) = found_in keywords keyword ks wants in
-          read k same (ap (λ o. unwrap_or o []) wants ∙ own) (well_formed keyword ks rest wants known)
-          (known.count ∙ ap length own) named (numbers_or (kinds_of keyword) rest)
-
-      go : (o : Option (List Kind)) → kinds_wanted keyword ≡ o → HasMeaning
-      go None none = refused Word none
-      go (Some ks) wants = counted ks wants (words_or (length ks) rest) (named_or names (kinds_of keyword) rest)
-
 pub lines_have_one_meaning : LinesHaveOneMeaning
 lines_have_one_meaning = record {
-  some = λ names line.
-      some_meaning names line (before 32 line) _ (line_words line _ _ (after 32 line) _ refl refl refl refl);
   not_both = λ names line c fault known refused.
       no_fault names known.keyword known.rest c fault known.formed known.means
       (refused_at names line known.keyword known.rest known.cut fault refused);

@@ -3,12 +3,8 @@
 --   pairs_before  a vertex's number and its label, written before the pairs of the vertices after it, give the pairs
 --                 from it on
 --   pairs_whole   the pairs of all vertices are those from the first one on, without the space before it
-use Rattle.std.proofs.Common.{◌≡◌, ℕ, ◌+◌, ◌-◌, ◌<◌, ◌≤◌, ℤ, List, [], ◌∷◌, ◌++◌, length, take, drop, min, refl, ap, sym, ◌∙◌, add-one, append_assoc, codes}
-use Rattle.std.specs.Fmt.{signed_decimal}
-use Rattle.std.proofs.Math.Seq.{drop-cons}
-use Rattle.std.proofs.lemmas.List.{drop_all, drop-drop, drop_min, take_rest}
-use Rattle.dg_tokens.specs.Names.{label, name_at}
-use Rattle.dg_lines.specs.Texts.{pair, more_pairs, pairs}
+use Rattle.dg_lines.proofs.Common.{◌≡◌, ℕ, ◌+◌, ◌-◌, ◌<◌, ◌≤◌, ℤ, List, [], ◌∷◌, ◌++◌, length, take, drop, min, refl, ap, sym, ◌∙◌, add-one, append_assoc, codes, signed_decimal, drop-cons, drop_all, drop-drop, drop_min, take_rest, label, name_at, pair}
+use Rattle.dg_lines.specs.Texts.{more_pairs, pairs}
 
 more_pairs-at : (names : List (List ℕ)) (amounts : ℕ → ℤ) (v : ℕ) → v < length names
     → more_pairs (drop v names) amounts v

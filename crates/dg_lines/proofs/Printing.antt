@@ -1,13 +1,9 @@
 -- Histories as texts.
 --   legal_named      each reply of a legal history has as many amounts as there are vertices
 --   history_more     the text of a history with one more entry ends with that entry's line
-use Rattle.std.proofs.Common.{◌≡◌, ℕ, ◌+◌, List, [], ◌∷◌, ◌++◌, length, arith, sym, subst, ap, ◌∙◌, append_assoc, append-nil}
-use Rattle.dg_chips.specs.Starts.{StartData}
-use Rattle.dg_game.specs.Legal.{IsLegal}
-use Rattle.dg_game.specs.LegalLaws.{HasSize}
-use Rattle.dg_game.specs.declared.entry.Entry.{Entry}
-use Rattle.dg_game.proofs.LegalLaws.{legal_sized}
-use Rattle.dg_lines.specs.Texts.{entry_text, history_text, AllHaveNames}
+use Rattle.dg_lines.proofs.Common.{◌≡◌, ℕ, ◌+◌, List, [], ◌∷◌, ◌++◌, length, arith, sym, subst, ap, ◌∙◌, append_assoc, StartData, IsLegal, HasSize, Entry, legal_sized, entry_text, AllHaveNames}
+use Rattle.std.proofs.Common.{append-nil}
+use Rattle.dg_lines.specs.Texts.{history_text}
 
 pub legal_named : (names : List (List ℕ)) (o : StartData) (H : List Entry) → length names ≡ o.graph.size → IsLegal o H →
     AllHaveNames names H

@@ -2,18 +2,9 @@
 --   unnamed       a word names no vertex, or one twice
 --   misnumbered   all names are good, and a word has a number that is none of its kind
 --   no_script     the one word of a script is none
-use Rattle.std.proofs.Common.{◌≡◌, ℕ, List, [], ◌∷◌, Result, refl, ap, sym, subst, MatchResult, IsErrAnd}
+use Rattle.dg_lines.proofs.Common.{◌≡◌, ℕ, List, [], ◌∷◌, Result, refl, ap, sym, subst, MatchResult, IsErrAnd, err_from_is_err_and, Command, Keyword, LineFault, Seat, Word, Form, Name, Number, AreNamed, AreNumbers, kinds_of, IsWellFormed, Means, AreRefused, spelling, kinds, IsBadScript}
 use Rattle.std.specs.Prelude.{unwrap_or}
-use Rattle.std.proofs.lemmas.Result.{err_from_is_err_and}
-use Rattle.dg_game.specs.declared.step.Command.{Command}
-use Rattle.dg_lines.specs.declared.command.Keyword.{Keyword}
 use Rattle.dg_lines.specs.declared.command.Keyword.TheVariants as of
-use Rattle.dg_lines.specs.declared.line.LineFault.{LineFault}
-use Rattle.dg_lines.specs.declared.line.LineFault.TheVariants.{Seat, Word, Form, Name, Number}
-use Rattle.dg_lines.specs.CommandWords.{AreNamed, AreNumbers}
-use Rattle.dg_lines.specs.Commands.{kinds_of, IsWellFormed, Means}
-use Rattle.dg_lines.specs.LineFaults.{AreRefused}
-use Rattle.dg_lines.specs.Keywords.{spelling, kinds, IsBadScript}
 use Rattle.dg_lines.proofs.Keywords.{wanted_of}
 
 abbrev IsRead : List (List ℕ) → Keyword → List (List ℕ) → Result Command LineFault → Type 0

@@ -3,11 +3,7 @@
 --   AreRead names all left steps == the lines before those that are left spell the steps
 --   none_read, one_more, all_read   at first, with one more line, and at the end
 --   steps_seated                    steps that lines spell have seats
-use Rattle.std.proofs.Common.{◌≡◌, ℕ, zero, suc, ◌+◌, length, List, [], ◌∷◌, ◌++◌, Some, refl, ap, sym, ◌∙◌, subst, append_assoc, slice_get, arith}
-use Rattle.std.proofs.lemmas.List.{append-nil, length-append}
-use Rattle.dg_game.specs.declared.step.Step.{Step}
-use Rattle.dg_lines.specs.Steps.{IsStepLine}
-use Rattle.dg_lines.specs.Schedules.{AreStepsOf, HaveSeats}
+use Rattle.dg_lines.proofs.Common.{◌≡◌, ℕ, zero, suc, ◌+◌, length, List, [], ◌∷◌, ◌++◌, Some, refl, ap, sym, ◌∙◌, subst, append_assoc, slice_get, arith, append-nil, length-append, Step, IsStepLine, AreStepsOf, HaveSeats}
 
 pub record AreRead (names : List (List ℕ)) (all left : List (List ℕ)) (steps : List Step) : Type 0 where
   pub front : List (List ℕ)

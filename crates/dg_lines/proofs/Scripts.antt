@@ -1,32 +1,20 @@
 -- Scripts that words spell: the numbers of their items, and the number that each name is given.
 --   IsEntryText text      == the text is the decimal of an entry of a script
 --   IsSpelled text o      == o is the entry whose decimal the text is, where there is one
---   numbers_told          texts that are those of entries are the decimals of a list of entries
---   told_numbers          and the other way round
---   one_list              of one list
---   script_there          names given rightly, with entries for them, have a script
---   AreRead names given texts entries flag   == the entries hold, at each vertex, the number given for its name; and
---                                               the
+--   told_numbers          the texts of a list of such numbers are all decimals of entries
+--   one_list              and of no other list
+--   AreRead names given texts entries flag   == the entries hold, at each vertex, the number given for its name; and the
 --                            flag tells whether all texts are those of entries
 --   HasPairs names all left set entries flag == `left` are the last of the items, and so much is read of those before
 -- What a loop over the pairs does: none read, one more, all; and what it comes to.
-use Rattle.std.proofs.Common.{◌≡◌, ◌≢◌, ℕ, zero, suc, ◌+◌, ◌<◌, ◌≤◌, ◌==◌, ◌||◌, ◌&&◌, cond, Bool, true, false, ℤ, pos, negsuc, neg_ℤ, ◌≤ℤ◌, unsigned_abs, List, [], ◌∷◌, ◌++◌, length, take, map, Option, Some, None, refl, ap, sym, ◌∙◌, subst, arith, append_assoc, FitsSigned, w64, MatchOption, Bor}
-use Rattle.std.specs.Prelude.{bytes_eq, All, is_some, unwrap_or, replicate}
-use Rattle.std.specs.Fmt.{signed_decimal}
-use Rattle.std.specs.List.{IsDistinct, slice_index_or, slice_set}
-use Rattle.std.specs.Option.{option_copied}
-use Rattle.std.proofs.lemmas.Bool.{eqb-true}
-use Rattle.std.proofs.lemmas.Bool.Decides.{nat_tests}
-use Rattle.std.proofs.lemmas.Fmt.{signed_decimal_injective}
-use Rattle.std.proofs.lemmas.Int.{ints}
-use Rattle.std.proofs.lemmas.List.{append-nil, map-append, length-append, length-take, length-set, get_or-set_same, get_or-set_other, get_or-map, get_or_past, get_or-take, get_or-replicate, length-map, length-replicate}
-use Rattle.std.proofs.lemmas.List.Elements.{All-nil, All-cons, All-head, All-tail, All-push}
+use Rattle.dg_lines.proofs.Common.{◌≡◌, ◌≢◌, ℕ, ◌+◌, ◌<◌, ◌≤◌, ◌==◌, ◌||◌, ◌&&◌, cond, Bool, true, false, ℤ, pos, negsuc, neg_ℤ, unsigned_abs, List, [], ◌∷◌, ◌++◌, length, take, map, Option, Some, None, refl, ap, sym, ◌∙◌, subst, arith, append_assoc, FitsSigned, w64, MatchOption, Bor, bytes_eq, All, is_some, replicate, signed_decimal, slice_index_or, slice_set, option_copied, eqb-true, nat_tests, signed_decimal_injective, ints, append-nil, map-append, length-append, length-take, length-set, get_or-set_same, get_or-set_other, get_or_past, get_or-take, get_or-replicate, length-replicate, All-nil, All-cons, All-head, All-tail, All-push, Vector, IsScript, HoldsNumbers, MAX_ENTRY, has, name_at, IsNumberWithin, AreGiven, name_part, number_part, IsScriptOf}
+use Rattle.std.proofs.Common.{◌≤ℤ◌}
+use Rattle.std.specs.Prelude.{unwrap_or}
+use Rattle.std.specs.List.{IsDistinct}
 use Rattle.dg_graph.specs.Sets.{in_set}
-use Rattle.dg_chips.specs.Vector.{Vector, IsScript, HoldsNumbers}
-use Rattle.dg_chips.specs.declared.limits.TheConstants.{MAX_ENTRY}
-use Rattle.dg_tokens.specs.Names.{has, place_of, name_at}
+use Rattle.dg_tokens.specs.Names.{place_of}
 use Rattle.dg_lines.specs.Cuts.{after}
-use Rattle.dg_lines.specs.CommandWords.{IsNumberWithin, AreGiven, name_part, number_part, number_given, IsScriptOf}
+use Rattle.dg_lines.specs.CommandWords.{number_given}
 use Rattle.dg_lines.proofs.Given.{same_bytes, vertex_named, IsNamedNext, is_next, other_name, HasTaken, none_taken, one_taken, all_there}
 
 abbrev pub IsEntryText : List ℕ → Type 0
@@ -42,23 +30,9 @@ IsSmall x = unsigned_abs x ≤ MAX_ENTRY
 small_sides : (z : ℤ) → unsigned_abs z ≤ 1000000000 → (neg_ℤ (pos 1000000000) ≤ℤ z) × (z ≤ℤ pos 1000000000)
 small_sides z small = (omega (arith, ints), omega (arith, ints))
 
-sides_small : (z : ℤ) → neg_ℤ (pos 1000000000) ≤ℤ z → z ≤ℤ pos 1000000000 → unsigned_abs z ≤ 1000000000
-sides_small z low high = omega (arith, ints)
-
 small_fits : (z : ℤ) → unsigned_abs z ≤ 1000000000 → FitsSigned w64 z
 small_fits (pos n) small = record { sfits = omega arith }
 small_fits (negsuc n) small = record { sfits = omega arith }
-
-pub numbers_told : (texts : List (List ℕ)) → All IsEntryText texts
-    → (numbers : List ℤ) × (texts ≡ map signed_decimal numbers) × All IsSmall numbers
-numbers_told [] each = ([], refl, All-nil IsSmall)
-numbers_told (text ∷ texts) each =
-    let first = All-head IsEntryText text texts each in
-    let (numbers, spelled, small) = numbers_told texts (All-tail IsEntryText text texts each) in (
-      first.number ∷ numbers,
-      ap (λ x. x ∷ texts) first.spelled ∙ ap (λ xs. signed_decimal first.number ∷ xs) spelled,
-      All-cons IsSmall first.number numbers (sides_small first.number first.not_less first.not_more) small,
-    )
 
 pub told_numbers : (texts : List (List ℕ)) (numbers : List ℤ) → texts ≡ map signed_decimal numbers → All IsSmall numbers
     → All IsEntryText texts
@@ -85,20 +59,6 @@ one_list (x ∷ xs) (y ∷ ys) e first second =
     let head : x ≡ y = signed_decimal_injective x y small.sfits also.sfits heads in
     let tail : xs ≡ ys = one_list xs ys tails (All-tail IsSmall x xs first) (All-tail IsSmall y ys second) in
     cc
-
-pub script_there : (names given : List (List ℕ)) (numbers : List ℤ) → AreGiven names given
-    → (s : Vector) × IsScriptOf names given numbers s
-script_there names given numbers known = (
-  record { size = length names; numbers = map (number_given given numbers) names },
-  record {
-    are_given = known;
-    size = refl;
-    entries = λ v less. get_or-map (number_given given numbers) names v [] (pos 0) less;
-    inside = λ v past.
-        get_or_past (map (number_given given numbers) names) v (pos 0)
-        (omega (arith, length-map names (number_given given numbers)));
-  },
-)
 
 -- ---- the number that a name is given
 either_within : (t : Bool) (x y : ℤ) → IsSmall x → IsSmall y → IsSmall (cond t x y)

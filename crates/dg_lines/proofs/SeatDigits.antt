@@ -5,11 +5,8 @@
 --   seat_one      the digit of such a decimal, where it has one
 --   seat_two      the digits of such a decimal, where it has two
 --   told_weaker   what an option tells, in weaker words
-use Rattle.std.proofs.Common.{◌≡◌, ℕ, ◌+◌, ◌/◌, ◌%◌, ◌<◌, ◌≤◌, ◌⊎◌, List, [], ◌∷◌, ◌++◌, length, Option, Some, None, inl, inr, ap, sym, ◌∙◌, arith, decimal}
-use Rattle.std.specs.List.{slice_index_or}
+use Rattle.dg_lines.proofs.Common.{◌≡◌, ℕ, ◌+◌, ◌/◌, ◌%◌, ◌<◌, ◌≤◌, ◌⊎◌, List, [], ◌∷◌, ◌++◌, length, Option, Some, None, inl, inr, ap, sym, ◌∙◌, arith, decimal, slice_index_or, cases_lt, decimal_digit, decimal_step}
 use Rattle.std.specs.Option.{MatchOption}
-use Rattle.std.proofs.lemmas.Bool.{cases_lt}
-use Rattle.std.proofs.lemmas.Fmt.{decimal_digit, decimal_step}
 
 digit : (n : ℕ) → n < 10 → decimal n ≡ (48 + n % 10) ∷ []
 digit n few = let same : n % 10 ≡ n = omega (arith, few) in rw same (decimal_digit n few)

@@ -1,10 +1,7 @@
 -- Numbers below 0.
 --   one_digit     a number below 10 that is not below 0 is written as one digit
 --   minus_first   a number below 0 is written as `-` and the digits of its amount
-use Rattle.std.proofs.Common.{◌≡◌, ◌+◌, ◌<◌, true, false, [], ◌∷◌, ℤ, pos, negsuc, int_le, unsigned_abs, refl, sym, ◌∙◌, true≢false, decimal}
-use lib.Dec.{leb-zero}
-use Rattle.std.specs.Fmt.{signed_decimal}
-use Rattle.std.proofs.lemmas.Fmt.{decimal_digit}
+use Rattle.dg_lines.proofs.Common.{◌≡◌, ◌+◌, ◌<◌, true, false, [], ◌∷◌, ℤ, pos, negsuc, int_le, unsigned_abs, refl, sym, ◌∙◌, true≢false, decimal, leb-zero, signed_decimal, decimal_digit}
 
 pub minus_first : (z : ℤ) → int_le (pos 0) z ≡ false → 45 ∷ decimal (unsigned_abs z) ≡ signed_decimal z
 minus_first (pos n) e = absurd (true≢false (sym (leb-zero n) ∙ e))

@@ -1,37 +1,10 @@
--- Each line spells one step or has one fault.
+-- A line spells no two steps, has no two faults, and never both.
 --   steps_have_one_meaning
-use Rattle.std.proofs.Common.{◌≡◌, ℕ, ◌≤◌, ◌⊎◌, inl, inr, List, Option, Some, None, refl, sym, ◌∙◌, subst, decimal}
-use Rattle.dg_game.specs.declared.step.Command.{Command}
-use Rattle.dg_game.specs.declared.step.Step.{Step}
-use Rattle.dg_lines.specs.declared.line.LineFault.{LineFault}
-use Rattle.dg_lines.specs.declared.line.LineFault.TheVariants.{Seat, Word, Form, Name, Number}
-use Rattle.dg_lines.specs.Cuts.{before, after}
-use Rattle.dg_lines.specs.Commands.{IsCommandLine}
-use Rattle.dg_lines.specs.LineFaults.{IsLineFault}
-use Rattle.dg_lines.specs.LineLaws.{AreAlike, StepsHaveOneMeaning}
-use Rattle.dg_lines.specs.Steps.{IsSeated, IsStepLine, IsTextFault, IsStepFault}
+use Rattle.dg_lines.proofs.Common.{◌≡◌, ℕ, ◌≤◌, ◌⊎◌, inl, inr, List, Some, refl, sym, ◌∙◌, subst, Step, LineFault, Seat, Word, Form, Name, Number, IsCommandLine, IsLineFault, AreAlike, StepsHaveOneMeaning, IsSeated, IsStepLine, IsTextFault, IsStepFault}
 use Rattle.dg_lines.proofs.Meaning.{lines_have_one_meaning}
-use Rattle.dg_lines.proofs.Stepping.{IsNoSeat, IsUnseated, seated, seated_parts, no_seat_before, no_space_after, seat_or, text_fault}
+use Rattle.dg_lines.proofs.Stepping.{IsUnseated, seated, seated_parts}
 
 module _ (names : List (List ℕ)) (line : List ℕ) where
-  abbrev HasMeaning : Type 0
-  HasMeaning = ((step : Step) × IsStepLine names step line) ⊎ ((fault : LineFault) × IsStepFault names fault line)
-
-  of_text : (seat : ℕ) (text : List ℕ) → IsSeated seat text line
-      → ((c : Command) × IsCommandLine names c text) ⊎ ((fault : LineFault) × IsLineFault names fault text) → HasMeaning
-  of_text seat text known (inl (command, means)) =
-      inl (record { seat = seat; command = command }, record { text = text; seated = known; means = means })
-  of_text seat text known (inr (fault, refused)) =
-      inr (fault, text_fault names line fault (record { seat = seat; text = text; seated = known; refused = refused }))
-
-  of_parts : (rest : Option (List ℕ))
-      → ((seat : ℕ) × (1 ≤ seat) × (seat ≤ 64) × (before 32 line ≡ decimal seat)) ⊎ IsNoSeat (before 32 line)
-      → after 32 line ≡ rest → HasMeaning
-  of_parts rest (inr none) f = inr (Seat, no_seat_before line none)
-  of_parts None (inl seat) f = inr (Seat, no_space_after line f)
-  of_parts (Some text) (inl (seat, first, last, is)) f =
-      of_text seat text (seated line seat text (first, last, is) f) (lines_have_one_meaning.some names text)
-
   -- a line is that of one seat and one text
   one_seat : (s t : ℕ) (a b : List ℕ) → IsSeated s a line → IsSeated t b line → (s ≡ t) × (a ≡ b)
   one_seat s t a b first second =
@@ -77,7 +50,6 @@ module _ (names : List (List ℕ)) (line : List ℕ) where
 
 pub steps_have_one_meaning : StepsHaveOneMeaning
 steps_have_one_meaning = record {
-  some = λ names line. of_parts names line (after 32 line) (seat_or (before 32 line)) refl;
   not_both = λ names line step fault known refused.
       not_both names line step fault known (which names line fault refused);
   step = one_step;

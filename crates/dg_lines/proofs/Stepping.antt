@@ -2,19 +2,10 @@
 --   seated         such a line is that of the seat and the text
 --   seated_parts   a line of a seat and a text has the seat before its first space and the text after it
 --   no_seat_before, no_space_after   where there is no such seat, or no space, the line is that of no seat
---   seat_or        a text is the decimal of a seat, or of none
---   text_fault     the fault of the text is that of the line
-use Rattle.std.proofs.Common.{◌≡◌, ℕ, ◌<◌, ◌≤◌, ◌^◌, ℤ, pos, negsuc, ◌≤ℤ◌, ◌⊎◌, inl, inr, FitsSigned, w64, List, ◌∷◌, ◌++◌, Some, None, ap, sym, ◌∙◌, arith, codes, decimal, append_assoc}
-use Rattle.std.specs.Fmt.{signed_decimal}
-use Rattle.std.specs.Str.Parse.{digits_value}
-use Rattle.std.proofs.lemmas.Fmt.{decimal_is_IsNumeral}
-use Rattle.std.proofs.lemmas.Int.{ints}
-use Rattle.dg_lines.specs.declared.line.LineFault.{LineFault}
-use Rattle.dg_lines.specs.declared.line.LineFault.TheVariants.{Seat, Word, Form, Name, Number}
+use Rattle.dg_lines.proofs.Common.{◌≡◌, ℕ, ◌<◌, ◌≤◌, ◌^◌, ◌⊎◌, List, ◌∷◌, ◌++◌, Some, None, ap, sym, ◌∙◌, arith, codes, decimal, append_assoc, digits_value, decimal_is_IsNumeral, IsSeated}
+use Rattle.std.proofs.Common.{◌≤ℤ◌}
 use Rattle.dg_lines.specs.Cuts.{before, after}
-use Rattle.dg_lines.specs.Steps.{IsSeated, IsTextFault, IsStepFault}
 use Rattle.dg_lines.proofs.Joining.{cut_joined, before_joined, after_joined, no_space_in_digits}
-use Rattle.dg_lines.proofs.Integers.{fits_within, number_or}
 
 spaced : (front back : List ℕ) → front ++ 32 ∷ back ≡ front ++ codes " " ++ back
 spaced front back = sym (simp append_assoc)
@@ -54,26 +45,3 @@ no_space_after line none seat text known =
     let parts = seated_parts line seat text known in
     let no : Some text ≡ None = sym parts.1 ∙ none in
     cc
-
-pub seat_or : (text : List ℕ) → ((seat : ℕ) × (1 ≤ seat) × (seat ≤ 64) × (text ≡ decimal seat)) ⊎ IsNoSeat text
-seat_or text = elim (number_or (pos 1) (pos 64) text fits) [
-  | inl known ↦ inl (there known.number known.not_less known.not_more known.spelled)
-  | inr never ↦ inr (λ seat first last e.
-      never (record { number = pos seat; spelled = e; not_less = omega (arith, ints); not_more = omega (arith, ints) }))
-]
-  where
-    fits : (z : ℤ) → pos 1 ≤ℤ z → z ≤ℤ pos 64 → FitsSigned w64 z
-    fits z low high = fits_within z (omega (arith, ints)) (omega (arith, ints))
-
-    there : (z : ℤ) → pos 1 ≤ℤ z → z ≤ℤ pos 64 → text ≡ signed_decimal z
-        → (seat : ℕ) × (1 ≤ seat) × (seat ≤ 64) × (text ≡ decimal seat)
-    there (pos n) low high e = (n, omega (arith, ints), omega (arith, ints), e)
-    there (negsuc n) low high e = absurd (omega (arith, ints))
-
-pub text_fault : (names : List (List ℕ)) (line : List ℕ) (fault : LineFault) → IsTextFault names fault line
-    → IsStepFault names fault line
-text_fault names line Seat known = absurd known.refused.refused
-text_fault names line Word known = known
-text_fault names line Form known = known
-text_fault names line Name known = known
-text_fault names line Number known = known

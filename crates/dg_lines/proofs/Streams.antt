@@ -6,13 +6,9 @@
 --   part_plain, part_front, part_whole, part_line   what `cut` gives of bytes: a part with no newline, and what
 --       follows it
 --   line_shorter  what stands after a line is shorter
-use Rattle.std.proofs.Common.{Bor, length, length-append, ◌<◌, ◌≤◌, inl, inr, subst, append-nil, ◌≡◌, ◌≢◌, ℕ, ◌==◌, cond, Bool, true, false, List, [], ◌∷◌, ◌++◌, Option, Some, None, refl, sym, ap, ◌∙◌, arith, append_assoc, All, flat_map}
-use Rattle.std.proofs.lemmas.List.Elements.{All-head, All-tail, All-append, All-cons, All-nil}
-use Rattle.std.proofs.lemmas.Grind.{flat_map-append}
-use Rattle.std.proofs.lemmas.Bool.Decides.{nat_tests}
-use Rattle.std.specs.Option.{option_copied}
-use Rattle.dg_lines.specs.Cuts.{before, after, lines, onto_first}
-use Rattle.dg_lines.specs.Streams.{HasNoNewline, Begins, HaveCome, with_newline, last_line}
+use Rattle.dg_lines.proofs.Common.{Bor, length, ◌<◌, ◌≤◌, inl, inr, subst, ◌≡◌, ◌≢◌, ℕ, ◌==◌, cond, Bool, true, false, List, [], ◌∷◌, ◌++◌, Option, Some, None, refl, sym, ap, ◌∙◌, arith, append_assoc, flat_map, All-head, All-tail, All-append, All-cons, All-nil, flat_map-append, nat_tests, option_copied, onto_first, HasNoNewline, Begins, HaveCome, with_newline, last_line}
+use Rattle.std.proofs.Common.{length-append, append-nil, All}
+use Rattle.dg_lines.specs.Cuts.{before, after, lines}
 
 module _ {P : List ℕ → Type 0} where
   pub begins_none : (stream : List ℕ) → Begins P stream [] stream

@@ -24,12 +24,12 @@
 --   IsScriptWord names word s        == the items of the word spell the script: each a name, `=` and
 --                                       a number
 use Rattle.std.specs.Prelude.{◌≡◌, ℕ, ◌<◌, ◌≤◌, ◌-◌, ◌^◌, ℤ, pos, neg_ℤ, ◌≤ℤ◌, List, [], ◌∷◌, length, map, cond, All, IsTrue, bytes_eq, unwrap_or}
-use Rattle.std.specs.Int.RustNames.{unsigned_abs}
 use Rattle.std.specs.Fmt.{signed_decimal}
+use Rattle.std.specs.Int.RustNames.{unsigned_abs}
 use Rattle.std.specs.List.{IsDistinct}
-use Rattle.dg_graph.specs.Sets.{in_set, IsSetBelow}
 use Rattle.dg_chips.specs.Vector.{Vector, at}
 use Rattle.dg_chips.specs.declared.limits.TheConstants.{MAX_ENTRY}
+use Rattle.dg_graph.specs.Sets.{in_set, IsSetBelow}
 use Rattle.dg_tokens.specs.Names.{has, name_at}
 use Rattle.dg_lines.specs.Cuts.{before, after, items}
 

@@ -6,14 +6,14 @@
 --   HasNamesIn names x           == there are as many names as the verdict has vertices, and its
 --                                   order is one of vertices that have names
 --   IsJudgement o names ordered text == the text is that of the verdict on the amounts of the start
---                                   o, reckoned from its vertex q, and a newline
+--                                   o, computed from its vertex q, and a newline
 use Rattle.std.specs.Prelude.{◌≡◌, ℕ, ◌<◌, Bool, true, false, List, ◌++◌, length, take, All, codes}
 use Rattle.std.specs.List.{flat_map}
 use Rattle.dg_chips.specs.Starts.{StartData}
 use Rattle.dg_chips.specs.Vector.{at}
 use Rattle.dg_tokens.specs.Names.{name_at}
-use Rattle.dg_verdict.specs.declared.verdict.Verdict.{Verdict}
 use Rattle.dg_verdict.specs.Right.{IsVerdictOn}
+use Rattle.dg_verdict.specs.declared.verdict.Verdict.{Verdict}
 use Rattle.dg_lines.specs.Texts.{verdict_text}
 
 abbrev pub burning_text : List (List ℕ) → List ℕ → List ℕ

@@ -1,7 +1,7 @@
 -- What serves the reading of command lines alone.
 --   spelling keyword             == the command word
 --   kinds keyword                == the kinds of the words after it
---   first_words n a b c          == the first n of the three words
+--   first_words n a b            == the first n of the two words
 --   IsBadScript names fault word == the word is no script, by the names or else by the numbers in it
 --   AreWords n rest              == just n words, none of which is empty
 use Rattle.std.specs.Prelude.{◌≡◌, ◌≢◌, ℕ, List, [], ◌∷◌, length, take, All}
@@ -17,8 +17,8 @@ spelling keyword = (row keyword).0
 abbrev pub kinds : Keyword → List Kind
 kinds keyword = (row keyword).1
 
-abbrev pub first_words : ℕ → List ℕ → List ℕ → List ℕ → List (List ℕ)
-first_words n first second third = take n (first ∷ second ∷ third ∷ [])
+abbrev pub first_words : ℕ → List ℕ → List ℕ → List (List ℕ)
+first_words n first second = take n (first ∷ second ∷ [])
 
 pub record AreWords (n : ℕ) (rest : List (List ℕ)) : Type 0 where
   pub count : length rest ≡ n

@@ -1,9 +1,11 @@
 -- Laws of lines and of the numbers in them.
 --   AreAlike c d                == the commands are the same; scripts are if they have the same
 --                                  numbers
---   LinesHaveOneMeaning         == each line spells a command or has a fault, and not both; all
---                                  commands that it spells are alike, and it has no two faults
---   StepsHaveOneMeaning         == so does each line of a seat and a command line, as a step
+--   HasMeaning names line       == the line spells a command or has a fault
+--   LinesHaveOneMeaning         == no line spells a command and has a fault; all commands that a
+--                                  line spells are alike, and it has no two faults
+--   HasStepMeaning, StepsHaveOneMeaning == the same of a line of a seat and a command line, as a
+--                                  step
 --   IsDigit byte                == an ASCII digit
 --   IsUnsigned text             == a digit from 1 to 9, and any digits after it
 --   IsNumeral text              == `0`, or an optional `-`, a digit from 1 to 9 and any digits
@@ -31,10 +33,11 @@ AreAlike (Call (Play (Script s))) (Call (Play (Script t))) =
     (s.size ≡ t.size) × ((v : ℕ) → at s v ≡ at t v)
 AreAlike c d = c ≡ d
 
+abbrev pub HasMeaning : List (List ℕ) → List ℕ → Type 0
+HasMeaning names line =
+    ((c : Command) × IsCommandLine names c line) ⊎ ((fault : LineFault) × IsLineFault names fault line)
+
 pub record LinesHaveOneMeaning : Type 0 where
-  pub some : (names : List (List ℕ)) (line : List ℕ)
-      → ((c : Command) × IsCommandLine names c line)
-      ⊎ ((fault : LineFault) × IsLineFault names fault line)
   pub not_both : (names : List (List ℕ)) (line : List ℕ) (c : Command) (fault : LineFault)
       → IsCommandLine names c line → ¬ IsLineFault names fault line
   pub command : (names : List (List ℕ)) (line : List ℕ) (c d : Command)
@@ -42,10 +45,11 @@ pub record LinesHaveOneMeaning : Type 0 where
   pub fault : (names : List (List ℕ)) (line : List ℕ) (one other : LineFault)
       → IsLineFault names one line → IsLineFault names other line → one ≡ other
 
+abbrev pub HasStepMeaning : List (List ℕ) → List ℕ → Type 0
+HasStepMeaning names line =
+    ((step : Step) × IsStepLine names step line) ⊎ ((fault : LineFault) × IsStepFault names fault line)
+
 pub record StepsHaveOneMeaning : Type 0 where
-  pub some : (names : List (List ℕ)) (line : List ℕ)
-      → ((step : Step) × IsStepLine names step line)
-      ⊎ ((fault : LineFault) × IsStepFault names fault line)
   pub not_both : (names : List (List ℕ)) (line : List ℕ) (step : Step) (fault : LineFault)
       → IsStepLine names step line → ¬ IsStepFault names fault line
   pub step : (names : List (List ℕ)) (line : List ℕ) (c d : Step)

@@ -25,7 +25,7 @@ pub(crate) enum Keyword {
     Rank,
 }
 
-/// The command word that the bytes are, if they are one, and how many words follow it: three at most.
+/// The command word that the bytes are, if they are one, and how many words follow it: two at most.
 #[tactic(auto, using(crate::proofs::Keywords::bytes_tell), unfolding(crate::specs::Commands::kinds_beside))]
 pub(crate) fn keyword_of(word: &[u8]) -> Option<(Keyword, usize)>
     ensures { MatchOption result
@@ -65,17 +65,16 @@ pub(crate) fn keyword_of(word: &[u8]) -> Option<(Keyword, usize)>
     None
 }
 
-/// The command of a command word and as many of the three words as belong to it.
+/// The command of a command word and as many of the two words as belong to it.
 pub(crate) fn command_of(
     keyword: Keyword,
     first: &[u8],
     second: &[u8],
-    third: &[u8],
     names: &Names,
 ) -> Result<Command, LineFault>
     requires { IsWellFormed (spelling keyword)
-        (first_words (length (kinds keyword)) first.now second.now third.now) }
-    ensures { let rest = first_words (length (kinds keyword)) first.now second.now third.now in
+        (first_words (length (kinds keyword)) first.now second.now) }
+    ensures { let rest = first_words (length (kinds keyword)) first.now second.now in
         MatchResult result
         (λ command. Means names.now command (spelling keyword) rest)
         (λ fault. AreRefused names.now fault (spelling keyword) rest) }

@@ -5,7 +5,6 @@ mod amounts;
 mod command;
 mod cuts;
 mod digits;
-mod history;
 mod judgement;
 mod laws;
 mod line;
@@ -16,7 +15,6 @@ mod text;
 mod word;
 
 pub use cuts::cut;
-pub use history::history_lines;
 pub use judgement::push_judgement;
 pub use laws::{lines_have_one_meaning, numerals_are_decimals, steps_have_one_meaning};
 pub use line::{LineFault, parse_line, parse_step, split_seat};

@@ -93,35 +93,31 @@ pub fn parse_line(line: &[u8], names: &Names) -> Result<Command, LineFault>
     let Some((keyword, count)) = keyword_of(word) else {
         return Err(LineFault::Word);
     };
-    let Some((first, second, third)) = words_of(rest, count) else {
+    let Some((first, second)) = words_of(rest, count) else {
         return Err(LineFault::Form);
     };
-    command_of(keyword, first, second, third, names)
+    command_of(keyword, first, second, names)
 }
 
-/// The words of what follows the command word, if there are just so many, at most three, and none is empty. The others of
-/// the three are empty.
-fn words_of(rest: Option<&[u8]>, count: usize) -> Option<(&[u8], &[u8], &[u8])>
-    requires { count ≤ 3 }
+/// The words of what follows the command word, if there are just so many, at most two, and none is empty. The others of the
+/// two are empty.
+fn words_of(rest: Option<&[u8]>, count: usize) -> Option<(&[u8], &[u8])>
+    requires { count ≤ 2 }
     ensures { MatchOption result
         (¬ AreWords count (words_after (option_copied rest.entry)))
-        (λ p. AreWords count (first_words count p.0.now p.1.now p.2.now)
-        × (words_after (option_copied rest.entry) ≡ first_words count p.0.now p.1.now p.2.now)) }
+        (λ p. AreWords count (first_words count p.0.now p.1.now)
+        × (words_after (option_copied rest.entry) ≡ first_words count p.0.now p.1.now)) }
 {
     match count {
         0 => match rest {
-            None => Some((&[], &[], &[])),
+            None => Some((&[], &[])),
             Some(_) => None,
         },
         1 => match one_word(rest) {
-            Some(first) => Some((first, &[], &[])),
+            Some(first) => Some((first, &[])),
             None => None,
         },
-        2 => match two_words(rest) {
-            Some((first, second)) => Some((first, second, &[])),
-            None => None,
-        },
-        _ => three_words(rest),
+        _ => two_words(rest),
     }
 }
 
@@ -161,26 +157,6 @@ fn two_words(rest: Option<&[u8]>) -> Option<(&[u8], &[u8])>
     }
     match one_word(more) {
         Some(second) => Some((first, second)),
-        None => None,
-    }
-}
-
-/// The three words of what follows the command word, if there are just three and none is empty.
-fn three_words(rest: Option<&[u8]>) -> Option<(&[u8], &[u8], &[u8])>
-    ensures { MatchOption result
-        (¬ AreWords 3 (words_after (option_copied rest.entry)))
-        (λ p. AreWords 3 (p.0.now ∷ p.1.now ∷ p.2.now ∷ [])
-        × (words_after (option_copied rest.entry) ≡ p.0.now ∷ p.1.now ∷ p.2.now ∷ [])) }
-{
-    let Some(text) = rest else {
-        return None;
-    };
-    let (first, more) = cut(text, b' ');
-    if first.is_empty() {
-        return None;
-    }
-    match two_words(more) {
-        Some((second, third)) => Some((first, second, third)),
         None => None,
     }
 }

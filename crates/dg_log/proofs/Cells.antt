@@ -1,11 +1,6 @@
 -- The names of cells.
 --   cell_named   a cell of a row, by its name
-use Rattle.std.proofs.Common.{◌≡◌, ℕ, ◌<◌, List, length, map, slice_get, get_or, Some, arith, refl, ap, ◌∙◌, subst}
-use Rattle.std.proofs.lemmas.Option.{slice_get-map, slice_get_read}
-use Rattle.std.proofs.lemmas.List.{length-map}
-use Rattle.std.specs.Option.{option_map}
-use Rattle.std.specs.declared.alloc.Global.{Global}
-use Rattle.once_cell.specs.Once.{cell_name}
+use Rattle.dg_log.proofs.Common.{◌≡◌, ℕ, ◌<◌, List, length, map, slice_get, get_or, Some, arith, refl, ap, ◌∙◌, subst, slice_get-map, slice_get_read, length-map, option_map, Global, cell_name}
 
 pub cell_named : (cells : List (Global × ℕ)) (row : List ℕ) (k : ℕ) (c : Global × ℕ) → map cell_name cells ≡ row →
     k < length row →

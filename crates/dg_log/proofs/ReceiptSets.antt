@@ -15,13 +15,7 @@
 --   began          a history that a pen wrote once is the beginning of a longer one, where they agree
 --   begins_itself  a history begins with itself
 --   longer_second, longer_first   of a history and its beginning, it is the longer
-use Rattle.std.proofs.Common.{◌≡◌, ℕ, zero, suc, ◌+◌, ◌<◌, ◌≤◌, List, [], ◌∷◌, ◌++◌, length, map, take, slice_get, Some, arith, refl, sym, ap, subst, ◌∙◌, length-append}
-use Rattle.std.proofs.lemmas.Option.{slice_get_within}
-use Rattle.std.proofs.lemmas.List.{length-map, append-nil}
-use Rattle.dg_game.specs.declared.entry.Entry.{Entry}
-use Rattle.dg_witness.specs.Witnesses.{AgreesWith, Agree}
-use Rattle.dg_log.specs.Numbered.{AreBelow, StandIn, IsBeginning, IsLonger}
-use Rattle.dg_log.specs.ReceiptSets.{said_by, AreNamed, IsEnd}
+use Rattle.dg_log.proofs.Common.{◌≡◌, ℕ, zero, suc, ◌+◌, ◌<◌, ◌≤◌, List, [], ◌∷◌, ◌++◌, length, map, take, slice_get, Some, arith, refl, sym, ap, subst, ◌∙◌, length-append, slice_get_within, length-map, append-nil, Entry, AgreesWith, Agree, AreBelow, StandIn, IsBeginning, IsLonger, said_by, AreNamed, IsEnd}
 
 pub below_up : (m n : ℕ) (ps : List (ℕ × Entry)) → m ≤ n → AreBelow m ps → AreBelow n ps
 below_up m n [] up below = tt

@@ -1,10 +1,6 @@
 -- Counts that are kept while a history is read.
 --   gifts_counted   from 0 on, what the watch counts is the gift count of the history
-use Rattle.std.proofs.Common.{◌≡◌, ℕ, ◌+◌, ◌^◌, ◌<◌, ◌≤◌, Bool, true, false, cond, List, [], ◌∷◌, length, arith, ◌∙◌, subst}
-use Rattle.std.specs.List.{FoldsTo}
-use Rattle.dg_game.specs.History.{is_change, gift_counted, gifts_in}
-use Rattle.dg_game.specs.declared.entry.Entry.{Entry}
-use Rattle.dg_observer.specs.Watched.{counted, gifts_after_entry, GiftsAreCounted}
+use Rattle.dg_observer.proofs.Common.{◌≡◌, ℕ, ◌+◌, ◌^◌, ◌<◌, ◌≤◌, Bool, true, false, cond, List, [], ◌∷◌, length, arith, ◌∙◌, subst, FoldsTo, is_change, gift_counted, gifts_in, Entry, counted, gifts_after_entry, GiftsAreCounted}
 
 one_counted : (b : Bool) (n : ℕ) → n + 1 < 2 ^ 64 → cond b (counted n) n ≡ n + cond b 1 0
 one_counted true n few = omega arith

@@ -1,3 +1,4 @@
 pub mod Reading
 pub mod Shown
 pub mod Counted
+pub mod Common

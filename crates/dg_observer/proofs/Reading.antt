@@ -1,11 +1,7 @@
 -- What one more entry does to what was read.
 --   folds_more     a step more from the state of a fold is a fold with the entry last
 --   numbered_more  an entry whose number is how many were read keeps them numbered from 0 on
-use Rattle.std.proofs.Common.{◌≡◌, ℕ, List, [], ◌∷◌, ◌++◌, length, refl, ap, sym, subst, ◌∙◌, inl, inr}
-use Rattle.std.specs.List.{FoldsTo}
-use Rattle.dg_game.proofs.ListLaws.{more_holds}
-use Rattle.dg_game.specs.declared.entry.Entry.{Entry}
-use Rattle.dg_observer.specs.Folds.{Folds, AreNumbered}
+use Rattle.dg_observer.proofs.Common.{◌≡◌, ℕ, List, [], ◌∷◌, ◌++◌, length, refl, ap, sym, subst, ◌∙◌, inl, inr, FoldsTo, more_holds, Entry, Folds, AreNumbered}
 
 steps_more : {S : Type 0} (R : S → Entry → S → Type 0) (first : S) (entries : List Entry) (last : S) (e : Entry)
     (next : S) → FoldsTo R first entries last → R last e next → FoldsTo R first (entries ++ e ∷ []) next

@@ -1,20 +1,6 @@
 -- Amounts that are kept while a legal history is read.
 --   positions_shown   from the start on, what the replies show is the position
-use Rattle.std.proofs.Common.{◌≡◌, List, [], ◌∷◌, ◌++◌, length, take, append_assoc, append-nil, refl, sym, subst}
-use Rattle.std.proofs.Math.Seq.{take-append_seam}
-use Rattle.std.specs.List.{FoldsTo}
-use Rattle.dg_chips.specs.Starts.{StartData}
-use Rattle.dg_chips.specs.Vector.{Vector}
-use Rattle.dg_game.specs.History.{position_after}
-use Rattle.dg_game.specs.Legal.{IsLegal}
-use Rattle.dg_game.specs.Position.{Shows}
-use Rattle.dg_game.specs.Replies.{Replies}
-use Rattle.dg_game.specs.State.{amounts_after}
-use Rattle.dg_game.specs.declared.entry.Entry.{Entry}
-use Rattle.dg_game.proofs.ListLaws.{slice_get-seam}
-use Rattle.dg_game.proofs.StateLaws.{shows_after}
-use Rattle.dg_game.proofs.StepLaw.{no_entry, one_more_entry}
-use Rattle.dg_observer.specs.Watched.{PositionsAreShown}
+use Rattle.dg_observer.proofs.Common.{◌≡◌, List, [], ◌∷◌, ◌++◌, length, take, append_assoc, append-nil, refl, sym, subst, take-append_seam, FoldsTo, StartData, Vector, position_after, IsLegal, Shows, Replies, amounts_after, Entry, slice_get-seam, shows_after, no_entry, one_more_entry, PositionsAreShown}
 
 shown_along : (o : StartData) (K L : List Entry) (d last : Vector) → IsLegal o (K ++ L) → Shows (position_after o K) d →
     FoldsTo (λ old e next. next ≡ amounts_after old e.reply) d L last → Shows (position_after o (K ++ L)) last

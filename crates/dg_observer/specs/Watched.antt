@@ -13,7 +13,7 @@
 --                                that has less than 2^64, is its gift count
 --   PositionsAreShown         == amounts that are kept so from the start on, over all entries of a
 --                                legal history, are the position after it
-use Rattle.std.specs.Prelude.{◌≡◌, ℕ, ◌+◌, ◌-◌, ◌^◌, ◌<◌, ◌&&◌, min, Bool, true, false, cond, if◌then◌else◌, leb, List, length, slice_set}
+use Rattle.std.specs.Prelude.{if◌then◌else◌, ◌≡◌, ℕ, ◌+◌, ◌-◌, ◌^◌, ◌<◌, ◌&&◌, min, Bool, true, false, cond, leb, List, length, slice_set}
 use Rattle.std.specs.List.{slice_index_or}
 use Rattle.dg_chips.specs.Starts.{StartData, IsStart}
 use Rattle.dg_chips.specs.Vector.{Vector}
@@ -22,10 +22,10 @@ use Rattle.dg_game.specs.Legal.{IsLegal}
 use Rattle.dg_game.specs.Position.{Shows}
 use Rattle.dg_game.specs.State.{amounts_after}
 use Rattle.dg_game.specs.declared.entry.Entry.{Entry}
-use Rattle.dg_game.specs.declared.entry.Request.{Request}
-use Rattle.dg_game.specs.declared.entry.Request.TheVariants.{Move}
 use Rattle.dg_game.specs.declared.entry.Reply.{Reply}
 use Rattle.dg_game.specs.declared.entry.Reply.TheVariants.{Refused}
+use Rattle.dg_game.specs.declared.entry.Request.{Request}
+use Rattle.dg_game.specs.declared.entry.Request.TheVariants.{Move}
 use Rattle.dg_observer.specs.Folds.{Folds}
 
 abbrev pub counted : ℕ → ℕ

@@ -5,17 +5,9 @@
 --   alone_all      the one session of one seat is that of all
 --   alone_lacks    so is it where what it came to is not told
 --   party_lacks    a party whose sessions are not told is refused for what they lack
-use Rattle.std.proofs.Common.{◌≡◌, ℕ, suc, ◌≤◌, List, [], ◌∷◌, length, arith, refl, sym, ap, subst, ◌∙◌, Result}
-use Rattle.std.specs.Global.{Vec}
-use Rattle.dg_table.specs.Opened.{AreFresh}
-use Rattle.dg_table.specs.Seats.{SeatView}
-use Rattle.dg_session.specs.declared.ends.SessionEnd.{SessionEnd}
-use Rattle.dg_party.specs.Sessions.{IsSessionOver, AreSessions, HaveBegun, RefusesSessions, contents}
-use Rattle.dg_system.specs.declared.shortage.Shortage.{Shortage}
-use Rattle.dg_system.specs.declared.shortage.Shortage.TheVariants.{OutOfMemory, Spawn}
+use Rattle.dg_party.proofs.Common.{◌≡◌, ℕ, suc, ◌≤◌, List, [], ◌∷◌, length, arith, refl, sym, ap, subst, ◌∙◌, Result, Vec, AreFresh, SeatView, SessionEnd, IsSessionOver, RefusesSessions, contents, Shortage, OutOfMemory, Spawn, IsPartyRefused, TableData}
+use Rattle.dg_party.specs.Sessions.{AreSessions, HaveBegun}
 use Rattle.dg_party.specs.declared.ending.PartyRefusal.TheVariants as party
-use Rattle.dg_party.specs.Parties.{IsPartyRefused}
-use Rattle.dg_log.specs.Tables.{TableData}
 
 pub none_begun : (table : TableData) (names : List (List ℕ)) (scripts left : List (Vec ℕ)) (script : Vec ℕ)
     (xs rest ys : List SeatView) (x y : SeatView) (lack : Shortage)

@@ -8,30 +8,9 @@
 --   whole            sessions of fresh seats, which a table was closed with, are a party
 --   whole_lent       so are they where the seats were lent as the front of a list
 --   party_unclosed   where the table was not closed with them, there is no party for that
-use Rattle.std.proofs.Common.{◌≡◌, ℕ, zero, suc, ◌+◌, ◌<◌, ◌≤◌, List, [], ◌∷◌, ◌++◌, length, map, take, slice_get, Some, arith, refl, sym, ap, subst, ◌∙◌, Result, codes, decimal, unwrap_or}
-use Rattle.std.specs.List.{slice_index}
-use Rattle.std.specs.Global.{Vec}
-use Rattle.std.proofs.lemmas.Option.{none-some}
-use Rattle.std.proofs.Math.Seq.{take-append_seam}
-use Rattle.dg_chips.specs.Starts.{StartData}
-use Rattle.dg_chips.specs.Vector.{Vector, at}
-use Rattle.dg_game.specs.Position.{Shows}
-use Rattle.dg_game.specs.History.{position_after, gifts_in}
-use Rattle.dg_lines.specs.Texts.{pairs}
-use Rattle.dg_game.specs.declared.entry.Entry.{Entry}
-use Rattle.dg_game.proofs.StepLaw.{vertices_stay}
-use Rattle.dg_table.specs.Seats.{SeatView, entries_of}
-use Rattle.dg_table.specs.Opened.{AreFresh}
-use Rattle.dg_table.specs.Closing.{IsClosed, AreTotals, IsCloseRefused}
-use Rattle.dg_table.proofs.Complete.{all_there, none_missing}
-use Rattle.dg_log.specs.declared.name.Name.{Ghosts}
-use Rattle.dg_table.specs.declared.audit.Audit.{Audit}
-use Rattle.dg_session.specs.declared.ends.SessionEnd.{SessionEnd}
-use Rattle.dg_party.specs.Sessions.{IsSessionOver, AreSessions, contents}
-use Rattle.dg_transcript.specs.Printed.{entries_text, seat_text, seats_text, calls_text, totals_text}
-use Rattle.dg_party.specs.Parties.{IsParty, IsPartyRefused}
-use Rattle.dg_party.specs.declared.ending.PartyRefusal.TheVariants.{Log}
-use Rattle.dg_log.specs.Tables.{TableData}
+use Rattle.dg_party.proofs.Common.{◌≡◌, ℕ, zero, suc, ◌+◌, ◌<◌, ◌≤◌, List, [], ◌∷◌, ◌++◌, length, map, take, slice_get, Some, arith, refl, sym, ap, subst, ◌∙◌, Result, codes, decimal, unwrap_or, slice_index, Vec, none-some, take-append_seam, StartData, Vector, at, Shows, position_after, gifts_in, pairs, Entry, vertices_stay, SeatView, entries_of, AreFresh, IsClosed, AreTotals, IsCloseRefused, all_there, none_missing, Ghosts, Audit, SessionEnd, IsSessionOver, contents, entries_text, seat_text, totals_text, IsParty, IsPartyRefused, Log, TableData}
+use Rattle.dg_party.specs.Sessions.{AreSessions}
+use Rattle.dg_transcript.specs.Printed.{seats_text, calls_text}
 
 number_kept : {table : TableData} {names : List (List ℕ)} {script : List ℕ} {x y : SeatView}
     {end : Result ℕ SessionEnd}

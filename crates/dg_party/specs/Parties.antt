@@ -14,21 +14,21 @@
 --                        its seats
 use Rattle.std.specs.Prelude.{◌≡◌, ℕ, ◌+◌, ◌≤◌, List, [], ◌++◌, length, slice_get, Some, ⊤, Result}
 use Rattle.dg_chips.specs.Vector.{Vector}
-use Rattle.dg_game.specs.Position.{Shows}
 use Rattle.dg_game.specs.History.{position_after}
+use Rattle.dg_game.specs.Position.{Shows}
 use Rattle.dg_game.specs.declared.entry.Entry.{Entry}
 use Rattle.dg_log.specs.Numbered.{IsBeginning}
-use Rattle.dg_table.specs.Opened.{AreFresh}
+use Rattle.dg_log.specs.Tables.{TableData}
+use Rattle.dg_session.specs.declared.ends.SessionEnd.{SessionEnd}
+use Rattle.dg_system.specs.declared.shortage.Shortage.TheVariants.{OutOfMemory, Spawn}
 use Rattle.dg_table.specs.Closing.{IsCloseRefused}
 use Rattle.dg_table.specs.Histories.{IsHistoryOf}
+use Rattle.dg_table.specs.Opened.{AreFresh}
 use Rattle.dg_table.specs.Seats.{SeatView, entries_of}
-use Rattle.dg_session.specs.declared.ends.SessionEnd.{SessionEnd}
+use Rattle.dg_transcript.specs.Printed.{entries_text, audit_text}
 use Rattle.dg_party.specs.Sessions.{IsSessionOver, AreSessions, RefusesSessions}
 use Rattle.dg_party.specs.declared.ending.PartyRefusal.{PartyRefusal}
 use Rattle.dg_party.specs.declared.ending.PartyRefusal.TheVariants.{Shortage, Log}
-use Rattle.dg_system.specs.declared.shortage.Shortage.TheVariants.{OutOfMemory, Spawn}
-use Rattle.dg_transcript.specs.Printed.{entries_text, audit_text}
-use Rattle.dg_log.specs.Tables.{TableData}
 
 pub record IsSessionIn (table : TableData) (names : List (List ℕ)) (H : List Entry)
     (s : ℕ) (script : List ℕ)

@@ -14,16 +14,16 @@
 --                         the others are as they were
 use Rattle.std.specs.Prelude.{◌≡◌, ◌≢◌, ℕ, zero, suc, ◌<◌, List, [], ◌∷◌, length, Option, Some, ⊤, Result, Err, map}
 use Rattle.std.specs.Global.{Vec}
-use Rattle.dg_table.specs.Seats.{SeatView}
+use Rattle.dg_log.specs.Tables.{TableData}
+use Rattle.dg_session.specs.Ends.{IsSession}
 use Rattle.dg_session.specs.Setup.{setup}
 use Rattle.dg_session.specs.Streams.{Passage, passage}
-use Rattle.dg_session.specs.Ends.{IsSession}
-use Rattle.dg_session.specs.declared.line_format.LineFormat.TheVariants.{OneSeat}
 use Rattle.dg_session.specs.declared.ends.SessionEnd.{SessionEnd}
 use Rattle.dg_session.specs.declared.ends.SessionEnd.TheVariants.{Write}
+use Rattle.dg_session.specs.declared.line_format.LineFormat.TheVariants.{OneSeat}
 use Rattle.dg_system.specs.declared.shortage.Shortage.{Shortage}
 use Rattle.dg_system.specs.declared.shortage.Shortage.TheVariants.{OutOfMemory, Spawn}
-use Rattle.dg_log.specs.Tables.{TableData}
+use Rattle.dg_table.specs.Seats.{SeatView}
 
 abbrev pub contents : List (Vec ℕ) → List (List ℕ)
 contents scripts = map (λ (script : Vec ℕ). script.items) scripts

@@ -13,7 +13,7 @@ use std::sync::Wait;
 use std::thread::Threads;
 
 // What all sessions of a table share.
-struct Room<'a, N: Name, R, G> {
+struct PartyContext<'a, N: Name, R, G> {
     rt: &'a R,
     alloc: Global,
     table: &'a Table<N>,
@@ -21,7 +21,7 @@ struct Room<'a, N: Name, R, G> {
     gate: &'a G,
 }
 
-impl<'a, N: Name, R, G> Drop for Room<'a, N, R, G> {
+impl<'a, N: Name, R, G> Drop for PartyContext<'a, N, R, G> {
     fn drop(self) {
         let Self {
             rt: _,
@@ -58,7 +58,7 @@ pub fn sessions<N: Name + Send + Sync, R: Threads + Wait + Sync, G: Gate>(
         seats.new) }
     ensures spawn { IfErr result (λ shortage. shortage ≡ Shortage.Spawn → 2 ≤ length scripts.now) }
 {
-    let room = Room {
+    let context = PartyContext {
         rt,
         alloc,
         table,
@@ -66,9 +66,9 @@ pub fn sessions<N: Name + Send + Sync, R: Threads + Wait + Sync, G: Gate>(
         gate,
     };
     let played = if scripts.len() == 1 {
-        play_alone(&room, scripts, seats)
+        play_alone(&context, scripts, seats)
     } else {
-        play(&room, scripts, seats)
+        play(&context, scripts, seats)
     };
     match played {
         Ok(ends) => Ok(ends),
@@ -78,18 +78,18 @@ pub fn sessions<N: Name + Send + Sync, R: Threads + Wait + Sync, G: Gate>(
 
 // The one session of one script, in the thread that calls.
 fn play_alone<'a, N: Name, R: Threads + Wait, G: Gate>(
-    room: &Room<'a, N, R, G>,
+    context: &PartyContext<'a, N, R, G>,
     scripts: &[Vec<u8>],
     seats: &mut [Seat<N>],
 ) -> Result<Vec<Result<u32, SessionEnd>>, Shortage>
     requires one { length scripts.now ≡ 1 }
     requires scripts { length scripts.now ≡ length seats.old }
-    requires names { length room.now.names.now ≡ N.table.start.graph.size }
+    requires names { length context.now.names.now ≡ N.table.start.graph.size }
     ensures ok { IfOk result
-        (λ v. AreSessions N.table room.now.names.now (contents scripts.now)
+        (λ v. AreSessions N.table context.now.names.now (contents scripts.now)
         seats.old seats.new v.items) }
     ensures fault { IfErr result
-        (RefusesSessions N.table room.now.names.now (contents scripts.now)
+        (RefusesSessions N.table context.now.names.now (contents scripts.now)
         seats.old seats.new) }
     ensures memory { IfErr result (λ shortage. shortage ≡ Shortage.OutOfMemory) }
 {
@@ -99,8 +99,8 @@ fn play_alone<'a, N: Name, R: Threads + Wait, G: Gate>(
     let Some((script, _)) = scripts.split_first() else {
         unreachable!()
     };
-    let end = hold(room, script.as_slice(), seat);
-    match with_first(end, Vec::new(room.alloc)) {
+    let end = hold(context, script.as_slice(), seat);
+    match with_first(end, Vec::new(context.alloc)) {
         Ok(ends) => Ok(ends),
         Err(shortage) => Err(shortage),
     }
@@ -109,42 +109,42 @@ fn play_alone<'a, N: Name, R: Threads + Wait, G: Gate>(
 // The same in a room. The first seat has a thread of its own, and the others are played beside it.
 #[tactic(auto, unfolding(crate::specs::Sessions::AreSessions))]
 fn play<'a, N: Name + Send + Sync, R: Threads + Wait + Sync, G: Gate>(
-    room: &Room<'a, N, R, G>,
+    context: &PartyContext<'a, N, R, G>,
     scripts: &[Vec<u8>],
     seats: &mut [Seat<N>],
 ) -> Result<Vec<Result<u32, SessionEnd>>, Shortage>
     requires scripts { length scripts.now ≡ length seats.old }
-    requires names { length room.now.names.now ≡ N.table.start.graph.size }
+    requires names { length context.now.names.now ≡ N.table.start.graph.size }
     ensures ok { IfOk result
-        (λ v. AreSessions N.table room.now.names.now (contents scripts.now)
+        (λ v. AreSessions N.table context.now.names.now (contents scripts.now)
         seats.old seats.new v.items) }
     ensures fault { IfErr result
-        (RefusesSessions N.table room.now.names.now (contents scripts.now)
+        (RefusesSessions N.table context.now.names.now (contents scripts.now)
         seats.old seats.new) }
 {
     let Some((seat, rest)) = seats.split_first_mut() else {
-        return Ok(Vec::new(room.alloc));
+        return Ok(Vec::new(context.alloc));
     };
     let Some((script, left)) = scripts.split_first() else {
-        return Ok(Vec::new(room.alloc));
+        return Ok(Vec::new(context.alloc));
     };
     let bytes = script.as_slice();
     let mut first = || -> Result<u32, SessionEnd>
-        requires { length room.now.names.now ≡ N.table.start.graph.size }
-        ensures { IsSessionOver N.table room.entry.now.names.now
+        requires { length context.now.names.now ≡ N.table.start.graph.size }
+        ensures { IsSessionOver N.table context.entry.now.names.now
             bytes.entry.now seat.entry.now seat.exit.now result }
-    { hold(room, bytes, seat) };
+    { hold(context, bytes, seat) };
     let mut others = || -> Result<Vec<Result<u32, SessionEnd>>, Shortage>
         requires { (length left.now ≡ length rest.now)
-            × (length room.now.names.now ≡ N.table.start.graph.size) }
+            × (length context.now.names.now ≡ N.table.start.graph.size) }
         ensures { IfOk result
-            (λ v. AreSessions N.table room.entry.now.names.now
+            (λ v. AreSessions N.table context.entry.now.names.now
             (contents left.entry.now) rest.entry.now rest.exit.now v.items)
             × IfErr result
-            (RefusesSessions N.table room.entry.now.names.now
+            (RefusesSessions N.table context.entry.now.names.now
             (contents left.entry.now) rest.entry.now rest.exit.now) }
-    { play(room, left, rest) };
-    match in_parallel(room.rt, &mut first, &mut others) {
+    { play(context, left, rest) };
+    match in_parallel(context.rt, &mut first, &mut others) {
         Ok((end, Ok(ends))) => match with_first(end, ends) {
             Ok(all) => Ok(all),
             Err(shortage) => Err(shortage),
@@ -156,18 +156,24 @@ fn play<'a, N: Name + Send + Sync, R: Threads + Wait + Sync, G: Gate>(
 
 // A session of the seat over a script, after the gate. What it would say nobody hears.
 fn hold<'a, N: Name, R: Threads + Wait, G: Gate>(
-    room: &Room<'a, N, R, G>,
+    context: &PartyContext<'a, N, R, G>,
     script: &[u8],
     seat: &mut Seat<N>,
 ) -> Result<u32, SessionEnd>
-    requires { length room.now.names.now ≡ N.table.start.graph.size }
-    ensures { IsSessionOver N.table room.now.names.now script.now seat.old
+    requires { length context.now.names.now ≡ N.table.start.graph.size }
+    ensures { IsSessionOver N.table context.now.names.now script.now seat.old
         seat.new result }
 {
-    room.gate.enter(u32::from(seat.number()));
+    context.gate.enter(u32::from(seat.number()));
     let mut input = Input::new(script);
     match serve_unheard(
-        room.rt, room.alloc, room.table, seat, room.names, &mut input, 1,
+        context.rt,
+        context.alloc,
+        context.table,
+        seat,
+        context.names,
+        &mut input,
+        1,
     ) {
         Ok(count) => Ok(count),
         Err(end) => Err(end),

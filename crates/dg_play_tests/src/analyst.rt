@@ -1,2 +1,2 @@
-//! Analysts on small tables, reckoned by hand.
+//! Analysts on small tables, computed by hand.
 pub(crate) mod looks;

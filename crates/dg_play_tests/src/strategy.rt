@@ -1,3 +1,3 @@
-//! Strategies on small tables, reckoned by hand.
+//! Strategies on small tables, computed by hand.
 pub(crate) mod choices;
 pub(crate) mod plays;

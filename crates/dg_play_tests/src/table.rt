@@ -1,4 +1,4 @@
-//! Small tables, reckoned by hand, and many threads on one table.
+//! Small tables, computed by hand, and many threads on one table.
 pub(crate) mod filled;
 pub(crate) mod meetings;
 pub(crate) mod pens;

@@ -6,19 +6,8 @@
 --   keeps_more     the look that a seat keeps stays, unless the step is the seat's and uses looks
 --   keeps_new      after a look by the seat it keeps that one
 --   keeps_none     after a step of the seat that uses its look up it keeps none
-use Rattle.std.proofs.Common.{◌≡◌, ℕ, ◌+◌, List, [], ◌∷◌, ◌++◌, length, length-append, slice_get, Option, Some, None, arith, refl, sym, ap, subst, ◌∙◌, inl, inr}
-use Rattle.std.proofs.lemmas.Bool.{cases_lt}
-use Rattle.dg_chips.specs.Starts.{StartData}
-use Rattle.dg_game.specs.Look.{IsLookAt}
-use Rattle.dg_rehearsal.specs.Rehearsal.{KeepsLook}
-use Rattle.dg_rehearsal.specs.Schedule.{UsesUp, UsesLook, IsKept}
-use Rattle.dg_game.specs.declared.entry.Entry.{Entry}
+use Rattle.dg_rehearsal.proofs.Common.{◌≡◌, ℕ, ◌+◌, List, [], ◌∷◌, ◌++◌, length, length-append, slice_get, Option, Some, None, arith, refl, sym, ap, subst, ◌∙◌, inl, inr, cases_lt, StartData, IsLookAt, KeepsLook, UsesUp, UsesLook, IsKept, Entry, LookData, Command, Call, Commit, Rank, Step, look_kept}
 use Rattle.dg_game.specs.declared.entry.Plain.TheVariants as plain
-use Rattle.dg_game.specs.declared.look.LookData.{LookData}
-use Rattle.dg_game.specs.declared.step.Command.{Command}
-use Rattle.dg_game.specs.declared.step.Command.TheVariants.{Call, Commit, Rank}
-use Rattle.dg_game.specs.declared.step.Step.{Step}
-use Rattle.dg_game.proofs.LookLaws.{look_kept}
 
 -- the step is another seat's, or uses no look
 abbrev pub LeavesLook : ℕ → Step → Type 0

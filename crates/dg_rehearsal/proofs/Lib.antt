@@ -1,2 +1,3 @@
 pub mod KeptLaws
 pub mod RehearsalLaws
+pub mod Common

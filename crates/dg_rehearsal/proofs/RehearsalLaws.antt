@@ -12,35 +12,9 @@
 --   aimed          the schedule goes on with any inverse
 --   past_limits    a rank test past the limits is the first fault, where the seat keeps a look
 --   told_err       a refusal that is handed on tells what it told before
-use Rattle.std.proofs.Common.{◌≡◌, ℕ, ◌+◌, ◌<◌, List, [], ◌∷◌, ◌++◌, length, length-append, slice_get, Option, Some, None, Result, Ok, Err, set, arith, refl, sym, ap, ◌∙◌, inl, inr, length-set, replicate}
-use Rattle.std.specs.List.{slice_index_or}
-use Rattle.std.specs.Result.{MatchResult, IsErrAnd}
-use Rattle.std.proofs.lemmas.Bool.{cases_lt, cases_eq}
-use Rattle.std.proofs.lemmas.List.{get_or-set_same, get_or-set_other, get_or-replicate, length-replicate}
-use Rattle.dg_chips.specs.Starts.{StartData}
-use Rattle.dg_rank.specs.Limits.{IsPastLimits}
-use Rattle.dg_game.specs.Legal.{IsSeat, IsLegal}
-use Rattle.dg_rehearsal.specs.Rehearsal.{KeepsLook, IsPlaying}
-use Rattle.dg_game.specs.Requests.{asked}
-use Rattle.dg_rehearsal.specs.Schedule.{UsesUp, UsesLook, IsKept, IsAsked, IsEntryOf, HasLook, HasTrials, IsGood, AreGoodBefore}
-use Rattle.dg_rehearsal.specs.ScheduleFaults.{IsFirstFault}
-use Rattle.dg_game.specs.State.{LeadsTo}
-use Rattle.dg_game.specs.declared.entry.Entry.{Entry}
-use Rattle.dg_game.specs.declared.entry.Plain.{Plain}
+use Rattle.dg_rehearsal.proofs.Common.{◌≡◌, ℕ, ◌+◌, ◌<◌, List, [], ◌∷◌, ◌++◌, length, length-append, slice_get, Option, Some, None, Result, Ok, Err, set, arith, refl, sym, ap, ◌∙◌, inl, inr, length-set, replicate, slice_index_or, MatchResult, IsErrAnd, cases_lt, cases_eq, get_or-set_same, get_or-set_other, get_or-replicate, length-replicate, StartData, IsPastLimits, IsSeat, IsLegal, KeepsLook, IsPlaying, asked, UsesUp, UsesLook, IsKept, IsAsked, IsEntryOf, HasLook, HasTrials, IsGood, AreGoodBefore, IsFirstFault, LeadsTo, Entry, Plain, MAX_ENTRIES, LookData, Rehearsal, TooMany, Command, Call, Commit, Rank, Step, more_holds, legal_none, look_new}
 use Rattle.dg_game.specs.declared.entry.Plain.TheVariants as plain
-use Rattle.dg_game.specs.declared.entry.Reply.{Reply}
-use Rattle.dg_game.specs.declared.entry.Request.{Request}
-use Rattle.dg_game.specs.declared.game.TheConstants.{MAX_ENTRIES}
-use Rattle.dg_game.specs.declared.look.LookData.{LookData}
-use Rattle.dg_rehearsal.specs.declared.schedule.Rehearsal.{Rehearsal}
-use Rattle.dg_rehearsal.specs.declared.schedule.RehearseFault.TheVariants.{TooMany}
-use Rattle.dg_game.specs.declared.step.Command.{Command}
-use Rattle.dg_game.specs.declared.step.Command.TheVariants.{Call, Commit, Rank}
-use Rattle.dg_game.specs.declared.step.Step.{Step}
-use Rattle.dg_game.proofs.ListLaws.{more_holds}
-use Rattle.dg_game.proofs.LegalLaws.{legal_none}
 use Rattle.dg_rehearsal.proofs.KeptLaws.{keeps_more, keeps_new, keeps_none}
-use Rattle.dg_game.proofs.LookLaws.{look_new}
 
 entries_more : (steps : List Step) (H : List Entry) (step : Step) (e : Entry) →
     slice_get steps (length H) ≡ Some step →
@@ -116,63 +90,48 @@ no_look plain.Look other uses = other refl
 no_look p other uses = uses
 
 -- the looks kept after a call that is a look, and after one that is not
-pub looks_looked : (o : StartData) (H : List Entry) (steps : List Step) (r : Rehearsal) (seat : ℕ) (p : Plain)
-    (x : LookData) (reply : Reply) →
+pub looks_looked : (o : StartData) (H : List Entry) (e : Entry) (steps : List Step) (r : Rehearsal) (seat : ℕ) (p : Plain)
+    (x : LookData) →
     IsPlaying o steps H r → slice_get steps (length H) ≡ Some (record { seat = seat; command = Call p }) → IsSeat seat →
-    p ≡ plain.Look →
+    e.request ≡ asked p → p ≡ plain.Look →
     x.number ≡ r.game.entries → x.gifts ≡ r.game.gifts → x.graph ≡ r.game.graph → x.position ≡ r.game.amounts →
-    AreLooks o (H ++ (record { seat = seat; request = asked p; reply = reply }) ∷ []) steps (set r.looks seat (Some x))
-looks_looked o H steps r seat p x reply playing there is look number gifts graph position =
-    let e : Entry = record { seat = seat; request = asked p; reply = reply } in
+    AreLooks o (H ++ e ∷ []) steps (set r.looks seat (Some x))
+looks_looked o H e steps r seat p x playing there is asks look number gifts graph position =
     let looks : slice_get steps (length H) ≡ Some (record { seat = seat; command = Call plain.Look }) =
     rw look at there in
     looks_set o H e steps (record { seat = seat; command = Call p }) r.looks (Some x) there playing.places is
     (keeps_new o H e steps seat x looks (number ∙ playing.leads.entries)
-    (look_new o H r.game e x playing.leads (ap asked look) number gifts graph position)) playing.looks
+    (look_new o H r.game e x playing.leads (asks ∙ ap asked look) number gifts graph position)) playing.looks
 
-pub looks_left : (o : StartData) (H : List Entry) (steps : List Step) (r : Rehearsal) (seat : ℕ) (p : Plain)
-    (reply : Reply) →
+pub looks_left : (o : StartData) (H : List Entry) (e : Entry) (steps : List Step) (r : Rehearsal) (seat : ℕ) (p : Plain) →
     IsPlaying o steps H r → slice_get steps (length H) ≡ Some (record { seat = seat; command = Call p }) →
-    (p ≡ plain.Look → ⊥) →
-    AreLooks o (H ++ (record { seat = seat; request = asked p; reply = reply }) ∷ []) steps r.looks
-looks_left o H steps r seat p reply playing there other =
-    looks_same o H (record { seat = seat; request = asked p; reply = reply }) steps
-    (record { seat = seat; command = Call p }) r.looks there
-    (no_look p other) playing.looks
+    (p ≡ plain.Look → ⊥) → AreLooks o (H ++ e ∷ []) steps r.looks
+looks_left o H e steps r seat p playing there other =
+    looks_same o H e steps (record { seat = seat; command = Call p }) r.looks there (no_look p other) playing.looks
 
-pub called : (o : StartData) (H : List Entry) (steps : List Step) (r t : Rehearsal) (seat : ℕ) (p : Plain)
-    (reply : Reply) →
+pub called : (o : StartData) (H : List Entry) (e : Entry) (steps : List Step) (r t : Rehearsal) (seat : ℕ) (p : Plain) →
     IsPlaying o steps H r → slice_get steps (length H) ≡ Some (record { seat = seat; command = Call p }) → IsSeat seat →
-    IsLegal o (H ++ (record { seat = seat; request = asked p; reply = reply }) ∷ []) →
-    LeadsTo o (H ++ (record { seat = seat; request = asked p; reply = reply }) ∷ []) t.game →
-    t.q ≡ r.q → length t.looks ≡ 65 →
-    AreLooks o (H ++ (record { seat = seat; request = asked p; reply = reply }) ∷ []) steps t.looks →
-    IsPlaying o steps (H ++ (record { seat = seat; request = asked p; reply = reply }) ∷ []) t
-called o H steps r t seat p reply playing there is legal leads q places looks =
-    playing_more o H steps r t (record { seat = seat; command = Call p })
-    (record { seat = seat; request = asked p; reply = reply })
-    playing there (is, tt, tt) (record { seat = refl; request = refl }) legal leads q places looks
+    e.seat ≡ seat → e.request ≡ asked p → IsLegal o (H ++ e ∷ []) → LeadsTo o (H ++ e ∷ []) t.game →
+    t.q ≡ r.q → length t.looks ≡ 65 → AreLooks o (H ++ e ∷ []) steps t.looks → IsPlaying o steps (H ++ e ∷ []) t
+called o H e steps r t seat p playing there is its asks legal leads q places looks =
+    playing_more o H steps r t (record { seat = seat; command = Call p }) e
+    playing there (is, tt, tt) (record { seat = its; request = asks }) legal leads q places looks
 
 has_look : (steps : List Step) (seat j i : ℕ) (c : Command) → IsKept steps seat j i → HasLook steps seat j c
 has_look steps seat j i (Call p) kept = tt
 has_look steps seat j i Commit kept = (i, kept)
 has_look steps seat j i (Rank k) kept = (i, kept)
 
-pub entered : (o : StartData) (H : List Entry) (steps : List Step) (r t : Rehearsal) (seat : ℕ) (c : Command)
-    (x : LookData) (request : Request)
-    (reply : Reply) → IsPlaying o steps H r → slice_get steps (length H) ≡ Some (record { seat = seat; command = c }) →
-    IsSeat seat →
-    KeepsLook o H steps seat (Some x) → UsesUp c → HasTrials o.graph.size c →
-    IsAsked steps seat (length H) c request →
-    IsLegal o (H ++ (record { seat = seat; request = request; reply = reply }) ∷ []) →
-    LeadsTo o (H ++ (record { seat = seat; request = request; reply = reply }) ∷ []) t.game →
-    t.q ≡ r.q → t.looks ≡ set r.looks seat None →
-    IsPlaying o steps (H ++ (record { seat = seat; request = request; reply = reply }) ∷ []) t
-entered o H steps r t seat c x request reply playing there is (kept, look) up trials asks legal leads q replaced =
+pub entered : (o : StartData) (H : List Entry) (e : Entry) (steps : List Step) (r t : Rehearsal) (seat : ℕ) (c : Command)
+    (x : LookData) → IsPlaying o steps H r → slice_get steps (length H) ≡ Some (record { seat = seat; command = c }) →
+    IsSeat seat → KeepsLook o H steps seat (Some x) → UsesUp c → HasTrials o.graph.size c →
+    e.seat ≡ seat → IsAsked steps seat (length H) c e.request →
+    IsLegal o (H ++ e ∷ []) → LeadsTo o (H ++ e ∷ []) t.game →
+    t.q ≡ r.q → t.looks ≡ set r.looks seat None → IsPlaying o steps (H ++ e ∷ []) t
+entered o H e steps r t seat c x playing there is (kept, look) up trials its asks legal leads q replaced =
     let step : Step = record { seat = seat; command = c } in
-    let e : Entry = record { seat = seat; request = request; reply = reply } in
     playing_more o H steps r t step e playing there (is, has_look steps seat (length H) x.number c kept, trials)
-    (record { seat = refl; request = asks }) legal leads q (ap length replaced ∙ length-set _ _ _ ∙ playing.places)
+    (record { seat = its; request = asks }) legal leads q (ap length replaced ∙ length-set _ _ _ ∙ playing.places)
     (rw replaced (looks_set o H e steps step r.looks None there playing.places is
     (keeps_none o H e steps seat c there up) playing.looks))
 

@@ -14,14 +14,14 @@ use Rattle.dg_chips.specs.Starts.{StartData}
 use Rattle.dg_game.specs.Legal.{IsSeat, IsLegal}
 use Rattle.dg_game.specs.Look.{IsLookAt}
 use Rattle.dg_game.specs.State.{LeadsTo}
-use Rattle.dg_rehearsal.specs.Schedule.{IsKept, IsEntryOf, AreGoodBefore}
-use Rattle.dg_rehearsal.specs.ScheduleFaults.{IsFirstFault}
 use Rattle.dg_game.specs.declared.entry.Entry.{Entry}
 use Rattle.dg_game.specs.declared.look.LookData.{LookData}
+use Rattle.dg_game.specs.declared.step.Step.{Step}
+use Rattle.dg_rehearsal.specs.Schedule.{IsKept, IsEntryOf, AreGoodBefore}
+use Rattle.dg_rehearsal.specs.ScheduleFaults.{IsFirstFault}
 use Rattle.dg_rehearsal.specs.declared.schedule.Rehearsal.{Rehearsal}
 use Rattle.dg_rehearsal.specs.declared.schedule.RehearseFault.{RehearseFault}
 use Rattle.dg_rehearsal.specs.declared.schedule.RehearseFault.TheVariants.{OutOfMemory}
-use Rattle.dg_game.specs.declared.step.Step.{Step}
 
 abbrev pub KeepsLook : StartData → List Entry → List Step → ℕ → Option LookData → Type 0
 KeepsLook o H steps seat (Some x) = IsKept steps seat (length H) x.number × IsLookAt o H x

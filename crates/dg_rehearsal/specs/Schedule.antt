@@ -8,7 +8,7 @@
 --                                    step j
 --   IsEntryOf steps j step e      == the entry has the seat of step j, and the request of its
 --                                    command
---   HasLook steps seat j c        == if the command c enters what was reckoned on a look, the seat
+--   HasLook steps seat j c        == if the command c enters what was computed on a look, the seat
 --                                    keeps one before step j
 --   HasTrials n c                 == if the command c is a rank test, it is within the limits on n
 --                                    vertices
@@ -20,18 +20,18 @@
 --                                    than a history has room for
 use Rattle.std.specs.Prelude.{◌≡◌, ℕ, ◌<◌, ◌≤◌, List, length, slice_get, Some, ⊤}
 use Rattle.dg_chips.specs.Starts.{StartData}
-use Rattle.dg_rank.specs.Ranks.{IsWithin}
-use Rattle.dg_game.specs.Requests.{asked}
 use Rattle.dg_game.specs.Legal.{IsSeat, IsLegal}
+use Rattle.dg_game.specs.Requests.{asked}
 use Rattle.dg_game.specs.declared.entry.Entry.{Entry}
 use Rattle.dg_game.specs.declared.entry.Plain.{Plain}
-use Rattle.dg_game.specs.declared.entry.Plain.TheVariants as plain
 use Rattle.dg_game.specs.declared.entry.Request.{Request}
-use Rattle.dg_game.specs.declared.entry.Request.TheVariants as request
 use Rattle.dg_game.specs.declared.game.TheConstants.{MAX_ENTRIES}
 use Rattle.dg_game.specs.declared.step.Command.{Command}
 use Rattle.dg_game.specs.declared.step.Command.TheVariants.{Call, Commit, Rank}
 use Rattle.dg_game.specs.declared.step.Step.{Step}
+use Rattle.dg_rank.specs.Ranks.{IsWithin}
+use Rattle.dg_game.specs.declared.entry.Plain.TheVariants as plain
+use Rattle.dg_game.specs.declared.entry.Request.TheVariants as request
 
 abbrev pub IsLook : Plain → Type 0
 IsLook plain.Look = ⊤

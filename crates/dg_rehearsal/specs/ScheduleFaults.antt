@@ -5,15 +5,15 @@
 --   IsFirstFault n steps fault    == on n vertices the fault is the first one; nothing is said of
 --                                    want of memory
 use Rattle.std.specs.Prelude.{◌≡◌, ℕ, ◌<◌, ◌≤◌, List, slice_get, Some, ⊤}
-use Rattle.dg_rank.specs.Limits.{IsPastLimits}
 use Rattle.dg_game.specs.Legal.{IsSeat}
-use Rattle.dg_rehearsal.specs.Schedule.{HasLook, AreGoodBefore}
 use Rattle.dg_game.specs.declared.game.TheConstants.{MAX_ENTRIES}
-use Rattle.dg_rehearsal.specs.declared.schedule.RehearseFault.{RehearseFault}
-use Rattle.dg_rehearsal.specs.declared.schedule.RehearseFault.TheVariants.{Seat, Full, NoLook, TooMany, OutOfMemory}
 use Rattle.dg_game.specs.declared.step.Command.{Command}
 use Rattle.dg_game.specs.declared.step.Command.TheVariants.{Call, Commit, Rank}
 use Rattle.dg_game.specs.declared.step.Step.{Step}
+use Rattle.dg_rank.specs.Limits.{IsPastLimits}
+use Rattle.dg_rehearsal.specs.Schedule.{HasLook, AreGoodBefore}
+use Rattle.dg_rehearsal.specs.declared.schedule.RehearseFault.{RehearseFault}
+use Rattle.dg_rehearsal.specs.declared.schedule.RehearseFault.TheVariants.{Seat, Full, NoLook, TooMany, OutOfMemory}
 
 abbrev pub AsksTooMany : ℕ → Command → Type 0
 AsksTooMany n (Call p) = ⊥

@@ -1,4 +1,4 @@
-//! Rank tests that are reckoned on a look.
+//! Rank tests that are computed on a look.
 ghost use Rattle.std.specs.Prelude.{◌≡◌, ℕ, ◌<◌, MatchResult};
 ghost use Rattle.dg_rank.specs.Limits.{IsPastLimits};
 ghost use Rattle.dg_rank.specs.Ranks.{IsWithin};

@@ -47,7 +47,7 @@ pub enum RehearseFault {
 pub struct Rehearsal {
     /// The game as it stands.
     pub game: Game,
-    /// The vertex from which verdicts are reckoned.
+    /// The vertex from which verdicts are computed.
     pub q: usize,
     /// What serves its verdicts, made anew after an edge was added; no answer depends on it.
     pub inverse: InverseLaplacian,
@@ -150,9 +150,7 @@ impl Rehearsal {
         if let Plain::Look = plain {
             self.looks[usize::from(seat)] = Some(self.game.look_data());
         }
-        entry.seat = seat;
-        plain.ask(&mut entry.request);
-        self.game.answer(plain, &mut entry.reply);
+        self.game.answer_call(seat, plain, entry);
         self.game.follow(entry);
     }
 
@@ -177,7 +175,7 @@ impl Rehearsal {
         let q = self.q();
         renew_inverse(&mut self.inverse, q, &look);
         let finding = judge_look_with_inverse(&self.inverse, q, &look);
-        self.enter(seat, &look, &finding, entry);
+        self.enter_finding(seat, &look, &finding, entry);
         Ok(())
     }
 
@@ -201,7 +199,7 @@ impl Rehearsal {
         let Ok(finding) = rank_look(self.q(), &look, k) else {
             return Err(RehearseFault::TooMany(i));
         };
-        self.enter(seat, &look, &finding, entry);
+        self.enter_finding(seat, &look, &finding, entry);
         Ok(())
     }
 
@@ -232,7 +230,7 @@ impl Rehearsal {
         Ok(())
     }
 
-    /// The vertex from which verdicts are reckoned, which is that of the game.
+    /// The vertex from which verdicts are computed, which is that of the game.
     fn q(&self) -> usize
         requires { IsInPlay self.now }
         ensures q { result ≡ self.now.game.q }
@@ -252,9 +250,9 @@ impl Rehearsal {
         self.looks[usize::from(seat)]
     }
 
-    /// Enters what was reckoned on the look that a seat keeps, writes the entry, and uses the look up.
+    /// Enters what was computed on the look that a seat keeps, writes the entry, and uses the look up.
     #[inline(always)]
-    fn enter(&mut self, seat: u8, look: &LookData, finding: &Finding, entry: &mut Entry)
+    fn enter_finding(&mut self, seat: u8, look: &LookData, finding: &Finding, entry: &mut Entry)
         requires playing { (o : StartData) × (H : List Entry) × (steps : List Step) ×
             IsPlaying o steps H self.old × KeepsLook o H steps seat (Some look.now) }
         requires found { IsFoundFor self.old.game.q look.now finding.now }
@@ -267,9 +265,7 @@ impl Rehearsal {
             IsAsked steps seat (length H) c (asked_for look.now.number finding.now) →
             IsPlaying o steps (H ++ entry.new ∷ []) self.new }
     {
-        entry.seat = seat;
-        entry.request = finding.request(look.number);
-        self.game.answer_finding(look, finding, &mut entry.reply);
+        self.game.answer_finding(seat, look, finding, entry);
         self.game.follow(entry);
         self.looks[usize::from(seat)] = None;
     }
@@ -288,9 +284,7 @@ impl Rehearsal {
             IsAsked steps seat (length H) c (asked_on look.now.number asks.now) →
             IsPlaying o steps (H ++ entry.new ∷ []) self.new }
     {
-        entry.seat = seat;
-        entry.request = asks.request(look.number);
-        self.game.answer_stale(look, &mut entry.reply);
+        self.game.answer_stale(seat, look, asks, entry);
         self.game.follow(entry);
         let place = usize::from(seat);
         self.looks[place] = None;

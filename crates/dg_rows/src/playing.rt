@@ -5,7 +5,7 @@ use crate::rows::{Named, Row};
 use anyhow::Result;
 use dg_cli::CommandLine;
 use dg_server::run;
-use dg_system::{Input, Output, Shelf};
+use dg_system::{Input, MemoryFiles, Output};
 use std::alloc::{AllocError, Global};
 use std::rt::Files;
 use std::str;
@@ -21,7 +21,7 @@ where
     R: Files + AllocGlobal + Threads + Wait + Print + Sync,
 {
     let shelf = files_of(rt.alloc(), row, files)?;
-    let shelf = Shelf {
+    let shelf = MemoryFiles {
         files: shelf.as_slice(),
     };
     let mut output = Output::new(Vec::new(rt.alloc()));

@@ -2,7 +2,7 @@
 
 use dg_invocation::{Invocation, Task};
 use dg_server::{Fault, perform};
-use dg_system::{Input, Output, Shelf};
+use dg_system::{Input, MemoryFiles, Output};
 use std::process::Abort;
 use std::rt::Files;
 use std::sync::Wait;
@@ -24,7 +24,7 @@ fn has_room<R>(rt: &R, size: usize)
 where
     R: Files + AllocGlobal + Threads + Wait + Abort + Sync,
 {
-    let shelf = Shelf {
+    let shelf = MemoryFiles {
         files: &[("table.json", ALONE.as_bytes())],
     };
     let asked = Invocation::Task(Task::Judge {

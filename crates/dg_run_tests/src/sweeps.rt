@@ -1,4 +1,4 @@
-//! Sweeps over lines: what stands in no clause, that they end well, and laws before limits on tables reckoned by hand.
+//! Sweeps over lines: what stands in no clause, that they end well, and laws before limits on tables computed by hand.
 
 use dg_invocation::Question;
 use dg_sweep::{SweepEnd, sweep};

@@ -1,12 +1,7 @@
 -- Ends that came early.
 --   early_more     one end more is counted from its place
 --   early_taken    the same, of the first ends of a list
-use Rattle.std.proofs.Common.{◌≡◌, ℕ, ◌+◌, ◌<◌, List, [], ◌∷◌, ◌++◌, length, take, arith, ap, ◌∙◌}
-use Rattle.std.proofs.lemmas.List.{length-take-le}
-use Rattle.std.specs.declared.result.Result.{Result}
-use Rattle.std.specs.declared.result.Result.TheVariants.{Ok, Err}
-use Rattle.dg_session.specs.declared.ends.SessionEnd.{SessionEnd}
-use Rattle.dg_server.specs.Parties.{early}
+use Rattle.dg_server.proofs.Common.{◌≡◌, ℕ, ◌+◌, ◌<◌, List, [], ◌∷◌, ◌++◌, length, take, arith, ap, ◌∙◌, length-take-le, Result, Ok, Err, SessionEnd, early}
 
 pub early_more : (s : ℕ) (ends : List (Result ℕ SessionEnd)) (end : Result ℕ SessionEnd) →
     early s (ends ++ end ∷ []) ≡ early s ends ++ early (s + length ends) (end ∷ [])

@@ -8,33 +8,8 @@
 --   refused_on     so is one that is refused
 --   refused_lent   so is it where the start, the names and the scripts were lent
 --   as_it_was      what nobody writes to is as it was
-use Rattle.std.proofs.Common.{◌≡◌, ℕ, suc, ◌≤◌, List, [], ◌∷◌, ◌++◌, length, take, map, Option, None, Some, refl, sym, ap, subst, ◌∙◌, Bor, Vec, Global}
-use Rattle.std.proofs.lemmas.List.{length-map}
-use Rattle.std.proofs.Math.Seq.{take-append_seam}
-use Rattle.dg_game.specs.declared.entry.TheConstants.{MAX_SEATS}
-use Rattle.dg_table.specs.Opened.{MayHaveSeats}
-use Rattle.dg_table.specs.Seats.{SeatView}
-use Rattle.dg_system.specs.Held.{Held}
-use Rattle.dg_chips.specs.Starts.{StartData}
+use Rattle.dg_server.proofs.Common.{◌≡◌, ℕ, suc, ◌≤◌, List, [], ◌∷◌, ◌++◌, length, take, map, Option, None, Some, refl, sym, ap, subst, ◌∙◌, Bor, Vec, Global, length-map, take-append_seam, MAX_SEATS, MayHaveSeats, SeatView, Held, StartData, Entry, IsClosed, IsCloseRefused, all_there, none_missing, entered_all, full_at_close, Setup, Passage, IsHeard, IsServed, IsUnclosed, SessionEnd, contents, IsParty, IsPartyRefused, contents_count, PartyRefusal, PartyTask, DescribesTable, MayHoldAll, Keeps, names_in, IsPartyOn, IsRefusedOn, table_of}
 use Rattle.std.specs.Prelude.{Result, Option}
-use Rattle.dg_game.specs.declared.entry.Entry.{Entry}
-use Rattle.dg_table.specs.Closing.{IsClosed, IsCloseRefused}
-use Rattle.dg_table.proofs.Complete.{all_there, none_missing}
-use Rattle.dg_session.proofs.Entered.{entered_all, full_at_close}
-use Rattle.dg_session.specs.Setup.{Setup}
-use Rattle.dg_session.specs.Streams.{Passage}
-use Rattle.dg_server.specs.Sessions.{IsHeard, IsServed, IsUnclosed}
-use Rattle.dg_session.specs.declared.ends.SessionEnd.{SessionEnd}
-use Rattle.dg_party.specs.Sessions.{contents}
-use Rattle.dg_party.specs.Parties.{IsParty, IsPartyRefused}
-use Rattle.dg_party.proofs.Whole.{contents_count}
-use Rattle.dg_party.specs.declared.ending.PartyRefusal.{PartyRefusal}
-use Rattle.dg_invocation.specs.declared.invocation.PartyTask.{PartyTask}
-use Rattle.dg_tasks.specs.Tasks.{DescribesTable}
-use Rattle.dg_system.specs.AllHeld.{MayHoldAll}
-use Rattle.std.specs.Io.KnownBytes.{Keeps}
-use Rattle.dg_server.specs.Parties.{names_in, IsPartyOn, IsRefusedOn}
-use Rattle.dg_log.specs.Tables.{table_of}
 
 pub seats_back : (len : ℕ) (xs ys rest : List SeatView) → length xs ≡ len
     → map (λ (x : SeatView). x.number) ys ≡ map (λ (x : SeatView). x.number) xs → take len (ys ++ rest) ≡ ys

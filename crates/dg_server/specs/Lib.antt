@@ -8,3 +8,4 @@ pub mod Sweeping
 pub mod Status
 pub mod Performed
 pub mod Runs
+pub mod Common

@@ -1,6 +1,6 @@
 -- Faults of tasks.
 --   IsOfTask P fault == it is the fault of a task, and P holds of that
-use Rattle.dg_tasks.specs.declared.fault.TaskFault.{TaskFault}
+use Rattle.dg_server.specs.Common.{TaskFault}
 use Rattle.dg_server.specs.declared.fault.Fault.{Fault}
 use Rattle.dg_server.specs.declared.fault.Fault.TheVariants.{Task}
 

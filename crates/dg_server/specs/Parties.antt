@@ -24,27 +24,14 @@
 --                             a thread or the history is refused. The output is as it was, unless
 --                             sessions ended early, or it failed
 use Rattle.std.specs.Prelude.{◌≡◌, ℕ, ◌+◌, ◌<◌, ◌≤◌, List, [], ◌∷◌, length, map, Option, ◌⊎◌}
+use Rattle.std.specs.Io.KnownBytes.{Appends, Keeps}
 use Rattle.std.specs.declared.result.Result.{Result}
 use Rattle.std.specs.declared.result.Result.TheVariants.{Ok, Err}
-use Rattle.std.specs.Io.KnownBytes.{Appends, Keeps}
-use Rattle.dg_game.specs.declared.entry.TheConstants.{MAX_SEATS}
-use Rattle.dg_session.specs.declared.ends.SessionEnd.{SessionEnd}
-use Rattle.dg_system.specs.Growth.{AppendsFront}
-use Rattle.dg_log.specs.Tables.{table_of}
-use Rattle.dg_party.specs.Parties.{IsParty, IsPartyRefused}
-use Rattle.dg_party.specs.declared.ending.PartyRefusal.{PartyRefusal}
+use Rattle.dg_server.specs.Common.{MAX_SEATS, SessionEnd, AppendsFront, table_of, IsParty, IsPartyRefused, PartyRefusal, Held, MayHold, RefusesHeld, MayHoldAll, IsFirstUnread, TaskFault, Source, File, IsOnTable, RefusesContents, SourceFault, PartyTask, OutOfMemory}
 use Rattle.dg_party.specs.declared.ending.PartyRefusal.TheVariants as party
-use Rattle.dg_system.specs.Held.{Held, MayHold, RefusesHeld}
-use Rattle.dg_system.specs.AllHeld.{MayHoldAll, IsFirstUnread}
-use Rattle.dg_tasks.specs.declared.fault.TaskFault.{TaskFault}
-use Rattle.dg_tasks.specs.declared.fault.TaskFault.TheVariants.{Source, File}
 use Rattle.dg_server.specs.OfTasks.{IsOfTask}
-use Rattle.dg_tasks.specs.Tasks.{IsOnTable, RefusesContents}
-use Rattle.dg_system.specs.declared.sources.SourceFault.{SourceFault}
-use Rattle.dg_invocation.specs.declared.invocation.PartyTask.{PartyTask}
 use Rattle.dg_server.specs.declared.fault.Fault.{Fault}
 use Rattle.dg_server.specs.declared.fault.Fault.TheVariants.{Sessions, Seats, Shortage, History, Write}
-use Rattle.dg_system.specs.declared.shortage.Shortage.TheVariants.{OutOfMemory}
 
 abbrev pub names_in : PartyTask → List (List ℕ)
 names_in task = map (λ name. name.now) task.scripts.items

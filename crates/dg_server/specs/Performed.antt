@@ -10,17 +10,12 @@
 --                         output failed at the text of the answer, or of the help
 use Rattle.std.specs.Prelude.{◌≡◌, ◌⊎◌, ℕ, List, Option, string_bytes, ⊤}
 use Rattle.std.specs.Io.KnownBytes.{Appends, Keeps}
-use Rattle.dg_session.specs.Streams.{Passage}
-use Rattle.dg_system.specs.Growth.{Reading}
-use Rattle.dg_system.specs.Held.{Held}
-use Rattle.dg_tasks.specs.Tasks.{IsAnswer, RefusesTask}
+use Rattle.dg_server.specs.Common.{Passage, Reading, Held, IsAnswer, RefusesTask, Invocation, Task, Serve, Party, Sweep, Text}
 use Rattle.dg_server.specs.OfTasks.{IsOfTask}
 use Rattle.dg_server.specs.Streams.{BreaksOff}
 use Rattle.dg_server.specs.Sessions.{Serves, RefusesServing}
 use Rattle.dg_server.specs.Parties.{PlaysParty, RefusesParty}
 use Rattle.dg_server.specs.Sweeping.{Sweeps, RefusesSweeping}
-use Rattle.dg_invocation.specs.declared.invocation.Invocation.{Invocation}
-use Rattle.dg_invocation.specs.declared.invocation.Invocation.TheVariants.{Task, Serve, Party, Sweep, Text}
 use Rattle.dg_server.specs.declared.fault.Fault.{Fault}
 
 abbrev pub Performs : (List ℕ → Held) → Passage → Invocation → Option (List ℕ) → Option (List ℕ)

@@ -15,11 +15,7 @@
 --   Fails asks refuses run n == n is the status of a fault that has its cause
 use Rattle.std.specs.Prelude.{◌≡◌, ◌⊎◌, ℕ, List, true}
 use Rattle.std.specs.Io.KnownBytes.{Keeps}
-use Rattle.dg_invocation.specs.declared.invocation.Invocation.{Invocation}
-use Rattle.dg_invocation.specs.declared.parse_args.ArgsFault.{ArgsFault}
-use Rattle.dg_system.specs.Growth.{Reading, Writing}
-use Rattle.dg_system.specs.Held.{Held}
-use Rattle.dg_session.specs.Streams.{passage}
+use Rattle.dg_server.specs.Common.{Invocation, ArgsFault, Reading, Writing, Held, passage}
 use Rattle.dg_server.specs.Streams.{IsOfInput, IsOfOutput}
 use Rattle.dg_server.specs.Performed.{Performs, LeavesInput, Refuses}
 use Rattle.dg_server.specs.Status.{status}

@@ -1,5 +1,5 @@
 -- Sessions over the input.
---   how_of seats          == how the lines name the seats: by number if so many are asked for,
+--   line_format seats          == how the lines name the seats: by number if so many are asked for,
 --                         and not if none are
 --   session_of task o names == what holds for the session that is asked for, on the table of the
 --                         start o
@@ -20,40 +20,22 @@
 --   RefusesServing held input task fault old new == the table file is refused so, and the input and
 --                            the output are as they were; or the session on its table ended so
 use Rattle.std.specs.Prelude.{◌≡◌, ℕ, List, length, Option, None, Some, ◌⊎◌}
-use Rattle.std.specs.declared.result.Result.{Result}
-use Rattle.std.specs.declared.result.Result.TheVariants.{Ok, Err}
 use Rattle.std.specs.Io.KnownBytes.{Keeps}
 use Rattle.std.specs.List.{enumerate_from}
-use Rattle.dg_game.specs.declared.entry.Entry.{Entry}
-use Rattle.dg_table.specs.Opened.{AreFresh}
-use Rattle.dg_table.specs.Closing.{IsClosed, IsCloseRefused}
-use Rattle.dg_table.specs.Seats.{SeatView}
-use Rattle.dg_session.specs.Setup.{Setup, setup}
-use Rattle.dg_session.specs.Streams.{Passage, passage}
-use Rattle.dg_session.specs.Ends.{IsSession}
-use Rattle.dg_session.specs.declared.line_format.LineFormat.{LineFormat}
-use Rattle.dg_session.specs.declared.line_format.LineFormat.TheVariants.{OneSeat, BySeat}
-use Rattle.dg_session.specs.declared.ends.SessionEnd.{SessionEnd}
-use Rattle.dg_session.specs.declared.ends.SessionEnd.TheVariants.{Table}
-use Rattle.dg_table.specs.declared.fault.Fault.TheVariants.{Full}
-use Rattle.dg_system.specs.Held.{Held}
-use Rattle.dg_tasks.specs.Tasks.{IsOnTable, RefusesItsTable}
+use Rattle.std.specs.declared.result.Result.{Result}
+use Rattle.std.specs.declared.result.Result.TheVariants.{Ok, Err}
+use Rattle.dg_server.specs.Common.{Entry, AreFresh, IsClosed, IsCloseRefused, SeatView, Setup, setup, Passage, passage, IsSession, LineFormat, OneSeat, BySeat, SessionEnd, Table, Full, Held, IsOnTable, RefusesItsTable, seat_count, ServeTask, OutOfMemory, StartData, table_of}
 use Rattle.dg_server.specs.OfTasks.{IsOfTask}
-use Rattle.dg_invocation.specs.Seats.{count_of}
-use Rattle.dg_invocation.specs.declared.invocation.ServeTask.{ServeTask}
 use Rattle.dg_server.specs.declared.fault.Fault.{Fault}
 use Rattle.dg_server.specs.declared.fault.Fault.TheVariants.{Session, Shortage, History}
-use Rattle.dg_system.specs.declared.shortage.Shortage.TheVariants.{OutOfMemory}
-use Rattle.dg_chips.specs.Starts.{StartData}
-use Rattle.dg_log.specs.Tables.{table_of}
 
-abbrev pub how_of : Option ℕ → LineFormat
-how_of None = OneSeat
-how_of (Some n) = BySeat
+abbrev pub line_format : Option ℕ → LineFormat
+line_format None = OneSeat
+line_format (Some n) = BySeat
 
 abbrev pub session_of : ServeTask → StartData → List (List ℕ) → Setup
 session_of task o names =
-    setup (how_of task.seats) (table_of o (count_of task.seats) task.capacity) names task.workers
+    setup (line_format task.seats) (table_of o (seat_count task.seats) task.capacity) names task.workers
 
 pub record IsHeard (t : Setup) (input output : Passage) (end : Result ℕ SessionEnd) : Type 0 where
   pub seats : List SeatView

@@ -10,21 +10,16 @@
 --   status fault           == 2 for a refused command line, 3 for refused input, 4 for want of
 --                         memory, 5 for reading and writing
 use Rattle.std.specs.Prelude.{◌≡◌, ℕ, ◌≤◌, ◌⊎◌}
-use Rattle.dg_invocation.specs.declared.parse_args.ArgsFault.{ArgsFault}
+use Rattle.dg_server.specs.Common.{ArgsFault, TaskFault, SessionEnd, SweepEnd, Log, SourceFault, Unreadable, TooLong, FileFault}
 use Rattle.dg_invocation.specs.declared.parse_args.ArgsFault.TheVariants.{OutOfMemory as NoMemoryForWords}
 use Rattle.dg_server.specs.declared.fault.Fault.{Fault}
 use Rattle.dg_server.specs.declared.fault.Fault.TheVariants.{Words, Task, Shortage, Session, Sessions, Sweep, Seats, History, Write}
-use Rattle.dg_tasks.specs.declared.fault.TaskFault.{TaskFault}
 use Rattle.dg_tasks.specs.declared.fault.TaskFault.TheVariants as task
-use Rattle.dg_session.specs.declared.ends.SessionEnd.{SessionEnd}
 use Rattle.dg_session.specs.declared.ends.SessionEnd.TheVariants as end
-use Rattle.dg_sweep.specs.declared.ends.SweepEnd.{SweepEnd}
 use Rattle.dg_sweep.specs.declared.ends.SweepEnd.TheVariants as sweep
 use Rattle.dg_table.specs.declared.fault.Fault.{Fault as TableFault}
-use Rattle.dg_table.specs.declared.fault.Fault.TheVariants.{OutOfMemory as NoMemoryForCall, Full as FullHistory, Log}
-use Rattle.dg_system.specs.declared.sources.SourceFault.{SourceFault}
-use Rattle.dg_system.specs.declared.sources.SourceFault.TheVariants.{Unreadable, TooLong, OutOfMemory as NoMemoryToRead}
-use Rattle.dg_file.specs.declared.fault.FileFault.{FileFault}
+use Rattle.dg_table.specs.declared.fault.Fault.TheVariants.{OutOfMemory as NoMemoryForCall, Full as FullHistory}
+use Rattle.dg_system.specs.declared.sources.SourceFault.TheVariants.{OutOfMemory as NoMemoryToRead}
 use Rattle.dg_file.specs.declared.fault.FileFault.TheVariants.{OutOfMemory as NoMemoryForTable}
 
 abbrev pub status_of_words : ArgsFault → ℕ

@@ -3,7 +3,7 @@
 --   IsOfOutput fault      == the fault tells that the output failed
 --   BreaksOff fault old new text == the output failed, and has grown by a beginning of the text
 use Rattle.std.specs.Prelude.{◌≡◌, ℕ, List, [], Option, ⊤}
-use Rattle.dg_system.specs.Growth.{AppendsFront}
+use Rattle.dg_server.specs.Common.{AppendsFront}
 use Rattle.dg_session.specs.declared.ends.SessionEnd.TheVariants as session
 use Rattle.dg_sweep.specs.declared.ends.SweepEnd.TheVariants as sweep
 use Rattle.dg_server.specs.declared.fault.Fault.{Fault}

@@ -12,20 +12,10 @@
 --                         refused, which comes first if the lines are amounts
 --   RefusesSweeping held task fault old new == the files are refused so, and the output is as it
 --                         was; or the sweep ended early
-use Rattle.std.specs.Prelude.{◌⊎◌, ℕ, List, Option, None, Some, Result, Ok, Err}
 use Rattle.std.specs.Borrow.{Bor}
 use Rattle.std.specs.Io.KnownBytes.{Keeps}
-use Rattle.dg_invocation.specs.declared.question.Question.{Question}
-use Rattle.dg_invocation.specs.declared.question.SweepTask.{SweepTask}
-use Rattle.dg_system.specs.Held.{Held}
-use Rattle.dg_system.specs.Streams.{MayGive, RefusesStream}
-use Rattle.dg_sweep.specs.Answers.{AnswersTableWithin}
-use Rattle.dg_sweep.specs.Divisors.{AnswersAmounts}
-use Rattle.dg_sweep.specs.Sweeps.{IsSweep}
-use Rattle.dg_sweep.specs.declared.ends.SweepEnd.{SweepEnd}
-use Rattle.dg_tasks.specs.Tasks.{IsOnTable, RefusesItsTable}
-use Rattle.dg_tasks.specs.declared.fault.TaskFault.{TaskFault}
-use Rattle.dg_tasks.specs.declared.fault.TaskFault.TheVariants.{Source}
+use Rattle.dg_server.specs.Common.{Question, SweepTask, Held, MayGive, RefusesStream, AnswersTableWithin, AnswersAmounts, IsSweep, SweepEnd, IsOnTable, RefusesItsTable, TaskFault, Source}
+use Rattle.std.specs.Prelude.{◌⊎◌, ℕ, List, Option, None, Some, Result, Ok, Err}
 use Rattle.dg_server.specs.declared.fault.Fault.{Fault}
 use Rattle.dg_server.specs.declared.fault.Fault.TheVariants.{Task, Sweep}
 

@@ -1,6 +1,6 @@
 //! Sessions over the input of the program.
 ghost use Rattle.std.specs.Prelude.{◌≡◌, ◌≤◌, ℕ, length, Ok, Err, true, IfErr, OnOk};
-ghost use Rattle.dg_invocation.specs.Seats.{count_of};
+ghost use Rattle.dg_invocation.specs.Seats.{seat_count};
 ghost use Rattle.dg_log.specs.Tables.{table_of};
 ghost use Rattle.dg_session.specs.Ends.{IsSession};
 ghost use Rattle.dg_session.specs.Setup.{setup};
@@ -8,7 +8,7 @@ ghost use Rattle.dg_session.specs.Streams.{passage};
 ghost use Rattle.dg_session.specs.declared.line_format.LineFormat.TheVariants.{OneSeat};
 ghost use Rattle.dg_rank.specs.Ranks.{MayHaveWorkers};
 ghost use Rattle.dg_table.specs.Opened.{MayHaveSeats};
-ghost use Rattle.dg_server.specs.Sessions.{how_of, Serves, EndsEarly, IsServed, RefusesServing};
+ghost use Rattle.dg_server.specs.Sessions.{line_format, Serves, EndsEarly, IsServed, RefusesServing};
 ghost use Rattle.dg_server.specs.Streams.{IsOfInput, IsOfOutput};
 
 use crate::fault::Fault;
@@ -67,8 +67,8 @@ where
 
 /// How many seats there are, and how lines name them.
 fn places_of(seats: Option<u8>) -> (u8, LineFormat)
-    ensures count { result.0 ≡ count_of seats }
-    ensures how { result.1 ≡ how_of seats }
+    ensures count { result.0 ≡ seat_count seats }
+    ensures how { result.1 ≡ line_format seats }
 {
     match seats {
         Some(count) => (count, LineFormat::BySeat),

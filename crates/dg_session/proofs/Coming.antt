@@ -12,23 +12,7 @@
 --   line_one       a line makes at most one entry
 --   refused_made   so does one that is refused
 --   last_made      what was made is the last entry, where there is one more
-use Rattle.std.proofs.Common.{◌≡◌, ℕ, ◌+◌, ◌-◌, ◌<◌, ◌≤◌, inl, inr, List, [], ◌∷◌, ◌++◌, length, length-append, Option, Some, None, slice_get, refl, sym, ap, subst, ◌∙◌, arith}
-use Rattle.std.proofs.lemmas.Option.{slice_get_within, same_Some}
-use Rattle.dg_game.proofs.LegalLaws.{legal_none}
-use Rattle.dg_game.specs.declared.entry.Entry.{Entry}
-use Rattle.dg_table.specs.Histories.{IsHistoryOf}
-use Rattle.dg_game.specs.declared.step.Command.{Command}
-use Rattle.dg_game.specs.declared.step.Command.TheVariants.{Call, Commit, Rank}
-use Rattle.dg_log.specs.Numbered.{AreBelow, StandIn, IsBeginning}
-use Rattle.dg_table.specs.Seats.{SeatView, Keeps, Meets}
-use Rattle.dg_table.proofs.Numbered.{begins_on, begins_length, stand_longer}
-use Rattle.dg_session.specs.Order.{AscendFrom, ComeAfter}
-use Rattle.dg_session.specs.Setup.{Setup}
-use Rattle.dg_session.specs.Saying.{Gains, AnswersCommand, AnswersLine}
-use Rattle.dg_session.specs.Refusing.{RefusesCommand, RefusesLine}
-use Rattle.dg_session.specs.declared.ends.SessionEnd.{SessionEnd}
-use Rattle.dg_session.specs.declared.ends.SessionEnd.TheVariants.{Table, Memory, Spawn}
-use Rattle.dg_log.specs.Tables.{TableData}
+use Rattle.dg_session.proofs.Common.{◌≡◌, ℕ, ◌+◌, ◌-◌, ◌<◌, ◌≤◌, inl, inr, List, [], ◌∷◌, ◌++◌, length, length-append, Option, Some, None, slice_get, refl, sym, ap, subst, ◌∙◌, arith, slice_get_within, same_Some, legal_none, Entry, IsHistoryOf, Command, Call, Commit, Rank, AreBelow, StandIn, IsBeginning, SeatView, Keeps, Meets, begins_on, begins_length, stand_longer, AscendFrom, ComeAfter, Setup, Gains, AnswersCommand, AnswersLine, RefusesCommand, RefusesLine, SessionEnd, Table, Memory, Spawn, TableData}
 
 pub history_none : (table : TableData) → IsHistoryOf table []
 history_none table = record { legal = legal_none table.start; few = omega arith; seated = λ k e at. absurd (cc) }

@@ -2,11 +2,7 @@
 --   plain         a line has no newline
 --   lines_then    lines that come after others
 --   lines_end     what is pending comes as the last line
-use Rattle.std.proofs.Common.{◌+◌, ◌≤◌, List, [], ◌∷◌, ◌++◌, ℕ, length, sym, subst, append-nil, arith, length-append}
-use Rattle.dg_lines.specs.Streams.{HasNoNewline, Begins, HaveCome, last_line}
-use Rattle.dg_lines.proofs.Streams.{come_then, come_last}
-use Rattle.dg_session.specs.Streams.{IsLine, AreLines}
-use Rattle.dg_session.specs.declared.ends.TheConstants.{MAX_LINES}
+use Rattle.dg_session.proofs.Common.{◌+◌, ◌≤◌, List, [], ◌∷◌, ◌++◌, ℕ, length, sym, subst, append-nil, arith, length-append, HasNoNewline, Begins, HaveCome, last_line, come_then, come_last, IsLine, AreLines, MAX_LINES}
 
 pub plain : (line : List ℕ) → IsLine line → HasNoNewline line
 plain line is = is.no_newline

@@ -5,30 +5,9 @@
 --   calls_all       the calls of all seats are as many as the entries of their history
 --   entered_all     what was entered is all of the history
 --   full_at_close   which is full, where the session ended so
-use Rattle.std.proofs.Common.{◌≡◌, ℕ, zero, suc, ◌+◌, ◌<◌, ◌≤◌, inl, inr, List, [], ◌∷◌, ◌++◌, length, length-append, map, Some, sum, get_or, slice_get, Result, Err, refl, sym, ap, subst, ◌∙◌, arith, append_assoc}
-use Rattle.std.specs.List.{enumerate_from}
-use Rattle.std.proofs.lemmas.Option.{same_Some}
-use Rattle.std.proofs.lemmas.List.{length-map, nil_from_length}
-use Rattle.std.proofs.lemmas.List.Sums.{sum_by-cons}
-use Rattle.dg_game.specs.declared.entry.Entry.{Entry}
-use Rattle.dg_game.proofs.ListLaws.{slice_get-seam}
-use Rattle.dg_log.specs.Numbered.{AreBelow, StandIn, IsBeginning}
-use Rattle.dg_table.specs.Closing.{IsClosed}
-use Rattle.dg_table.specs.Opened.{AreFresh}
-use Rattle.dg_table.specs.Seats.{SeatView, entries_of}
-use Rattle.dg_table.specs.declared.fault.Fault.TheVariants.{Full}
-use Rattle.dg_table.proofs.Counts.{seats_counted}
-use Rattle.dg_table.proofs.Numbered.{begins_length}
-use Rattle.dg_session.specs.Setup.{Setup}
-use Rattle.dg_session.specs.Order.{AscendFrom}
-use Rattle.dg_session.specs.Streams.{Passage}
-use Rattle.dg_session.specs.Ends.{reading, EndsBy, IsOver}
-use Rattle.dg_session.specs.declared.ends.SessionEnd.{SessionEnd}
-use Rattle.dg_session.specs.declared.ends.SessionEnd.TheVariants.{Table}
+use Rattle.dg_session.proofs.Common.{◌≡◌, ℕ, zero, suc, ◌+◌, ◌<◌, ◌≤◌, inl, inr, List, [], ◌∷◌, ◌++◌, length, length-append, map, Some, sum, get_or, slice_get, Result, Err, refl, sym, ap, subst, ◌∙◌, arith, append_assoc, enumerate_from, same_Some, length-map, nil_from_length, sum_by-cons, Entry, slice_get-seam, AreBelow, StandIn, IsBeginning, IsClosed, AreFresh, SeatView, entries_of, Full, seats_counted, begins_length, Setup, AscendFrom, Passage, reading, EndsBy, IsOver, SessionEnd, Table, get_set, TableData}
 use Rattle.dg_session.proofs.Coming.{below_stand, stand_on}
 use Rattle.dg_session.proofs.InOrder.{calls_of, fits_all}
-use Rattle.dg_table.proofs.Placed.{get_set}
-use Rattle.dg_log.specs.Tables.{TableData}
 
 few_between : (a b : ℕ) (ps : List (ℕ × Entry)) → AscendFrom a ps → AreBelow b ps → a ≤ b → a + length ps ≤ b
 few_between a b [] up below few = omega (arith, few)

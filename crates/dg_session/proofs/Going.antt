@@ -7,19 +7,8 @@
 --   halts_part, halts_line       the session ends at a part that is not taken, and at a line that is refused
 --   last_none, last_one, last_halts   what is pending as the last line: none, one that is answered, and one that is
 --       refused
-use Rattle.std.proofs.Common.{◌≡◌, ◌≢◌, ℕ, ◌+◌, ◌<◌, ◌≤◌, inl, inr, List, [], ◌∷◌, ◌++◌, length, take, drop, refl, sym, ap, subst, ◌∙◌, arith, append_assoc, append-nil, length-append, take-append-drop}
-use Rattle.std.proofs.lemmas.List.Elements.{All-append, All-nil, All-take}
-use Rattle.std.proofs.lemmas.List.{length-take-le}
-use Rattle.dg_lines.specs.Streams.{HasNoNewline, Begins, last_line}
-use Rattle.dg_lines.proofs.Streams.{begins_none, begins_one, begins_then, begins_more, one_line}
-use Rattle.dg_session.specs.Setup.{Setup}
-use Rattle.dg_session.specs.Streams.{IsLine, AreLines}
-use Rattle.dg_session.specs.Speakers.{Speakers, AnswersLineOf, RefusesLineOf}
+use Rattle.dg_session.proofs.Common.{◌≡◌, ◌≢◌, ℕ, ◌+◌, ◌<◌, ◌≤◌, inl, inr, List, [], ◌∷◌, ◌++◌, length, take, drop, refl, sym, ap, subst, ◌∙◌, arith, append_assoc, append-nil, length-append, take-append-drop, All-append, All-nil, All-take, length-take-le, HasNoNewline, Begins, last_line, begins_none, begins_one, begins_then, begins_more, one_line, Setup, IsLine, AreLines, Speakers, AnswersLineOf, RefusesLineOf, SoFar, IsReady, Goes, round, Halts, RefusesPart, StaysAt, MAX_LINE, MAX_LINES, SessionEnd, LongLine, Turns}
 use Rattle.dg_session.specs.Ends.{Answers}
-use Rattle.dg_session.specs.SoFar.{SoFar, IsReady, Goes, round, Halts, RefusesPart, StaysAt}
-use Rattle.dg_session.specs.declared.ends.TheConstants.{MAX_LINE, MAX_LINES}
-use Rattle.dg_session.specs.declared.ends.SessionEnd.{SessionEnd}
-use Rattle.dg_session.specs.declared.ends.SessionEnd.TheVariants.{LongLine, Turns}
 use Rattle.dg_session.proofs.Cutting.{lines_end}
 use Rattle.dg_session.proofs.Seated.{sizes_kept}
 

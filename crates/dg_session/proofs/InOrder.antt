@@ -3,19 +3,8 @@
 --   Fits n s      what the lines entered is in order, and the seats, which had n calls, made no others
 --   fits_begun    so it is before the first line
 --   fits_all      and after all, however the session ends
-use Rattle.std.proofs.Common.{◌≡◌, ℕ, zero, suc, ◌+◌, inl, inr, List, [], ◌∷◌, ◌++◌, length, length-append, Some, slice_get, Result, Ok, Err, refl, sym, ap, subst, ◌∙◌, arith}
-use Rattle.std.specs.List.{slice_set}
-use Rattle.dg_game.specs.declared.entry.Entry.{Entry}
-use Rattle.dg_log.specs.Numbered.{StandIn}
-use Rattle.dg_table.specs.Seats.{SeatView}
-use Rattle.dg_table.proofs.Placed.{get_set}
-use Rattle.dg_session.specs.Setup.{Setup}
-use Rattle.dg_session.specs.Order.{AscendFrom}
-use Rattle.dg_session.specs.Saying.{Gains}
-use Rattle.dg_session.specs.Speakers.{Speakers, newcomers, Replaces, GoesOn, AnswersLineOf, RefusesLineOf}
-use Rattle.dg_session.specs.Ends.{Answers, Reading, StopsAt, EndsBy, AreInOrder}
-use Rattle.dg_session.specs.declared.ends.SessionEnd.{SessionEnd}
-use Rattle.dg_session.specs.declared.ends.SessionEnd.TheVariants.{Read, Write, LongLine, Turns, Table, Memory, Spawn}
+use Rattle.dg_session.proofs.Common.{◌≡◌, ℕ, zero, suc, ◌+◌, inl, inr, List, [], ◌∷◌, ◌++◌, length, length-append, Some, slice_get, Result, Ok, Err, refl, sym, ap, subst, ◌∙◌, arith, slice_set, Entry, StandIn, SeatView, get_set, Setup, AscendFrom, Gains, Speakers, newcomers, Replaces, GoesOn, AnswersLineOf, RefusesLineOf, Reading, StopsAt, EndsBy, AreInOrder, SessionEnd, Read, Write, LongLine, Turns, Table, Memory, Spawn}
+use Rattle.dg_session.specs.Ends.{Answers}
 use Rattle.dg_session.proofs.Coming.{ascend_more, below_stand, stand_on, stand_both}
 
 abbrev pub calls_of : List SeatView → ℕ

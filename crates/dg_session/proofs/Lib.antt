@@ -9,3 +9,4 @@ pub mod Seated
 pub mod Going
 pub mod Spoken
 pub mod Sessions
+pub mod Common

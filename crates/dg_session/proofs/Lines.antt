@@ -1,16 +1,7 @@
 -- Lines that a seat hears.
 --   heard       a line is answered or refused as its command
 --   bad_heard   a line with a fault is answered by it
-use Rattle.std.proofs.Common.{ℕ, inl, inr, List, [], Option, Result, Ok, Err, refl, sym, subst}
-use Rattle.dg_game.specs.declared.step.Command.{Command}
-use Rattle.dg_lines.specs.Commands.{IsCommandLine}
-use Rattle.dg_lines.specs.LineFaults.{fault_text, IsLineFault}
-use Rattle.dg_lines.specs.declared.line.LineFault.{LineFault}
-use Rattle.dg_session.specs.Refusing.{RefusesCommand, RefusesLine}
-use Rattle.dg_session.specs.Setup.{Setup}
-use Rattle.dg_session.specs.SoFar.{Speaker, Tells, Hears, Obeys}
-use Rattle.dg_session.specs.declared.ends.SessionEnd.{SessionEnd}
-use Rattle.dg_session.specs.declared.ends.SessionEnd.TheVariants.{Memory}
+use Rattle.dg_session.proofs.Common.{ℕ, inl, inr, List, [], Option, Result, Ok, Err, refl, sym, subst, Command, IsCommandLine, fault_text, IsLineFault, LineFault, RefusesCommand, RefusesLine, Setup, Speaker, Tells, Hears, Obeys, SessionEnd, Memory}
 use Rattle.dg_session.proofs.Made.{gains_same}
 
 line_refused : (t : Setup) (line : List ℕ) (command : Command) (old new : Speaker) (end : SessionEnd)

@@ -14,44 +14,10 @@
 --   obeys_after     a command that is obeyed to a seat after it met a longer history is obeyed to it
 --   with_look, with_none   so it is with the look that is kept, and with none
 --   call_keeps      a call that is no look keeps the look
-use Rattle.std.proofs.Common.{◌≡◌, ◌≢◌, ℕ, inl, inr, List, [], ◌∷◌, ◌++◌, length, Option, Some, None, slice_get, Result, Ok, Err, OnOk, refl, sym, ap, subst, ◌∙◌, append-nil, codes, arith}
-use Rattle.dg_chips.specs.Starts.{StartData}
-use Rattle.dg_rank.specs.Ranks.{IsWithin}
-use Rattle.dg_rank.specs.Limits.{IsPastLimits}
-use Rattle.dg_rank.proofs.Counts.{past_within}
-use Rattle.dg_verdict.specs.declared.rank_verdict.RankVerdict.{RankVerdict}
-use Rattle.dg_verdict.specs.declared.rank_verdict.RankVerdict.TheVariants.{AtLeast, Below}
-use Rattle.dg_game.specs.Look.{degree_of, asked_for, asked_on}
-use Rattle.dg_game.specs.Requests.{asked}
-use Rattle.dg_game.specs.declared.entry.Entry.{Entry}
-use Rattle.dg_game.specs.declared.entry.Plain.{Plain}
+use Rattle.dg_session.proofs.Common.{◌≡◌, ◌≢◌, ℕ, inl, inr, List, [], ◌∷◌, ◌++◌, length, Option, Some, None, slice_get, Result, Ok, Err, OnOk, refl, sym, ap, subst, ◌∙◌, append-nil, codes, arith, StartData, IsWithin, IsPastLimits, past_within, RankVerdict, AtLeast, Below, degree_of, asked_for, asked_on, asked, Entry, Plain, Request, Ranked, Finding, Question, Command, LookView, IsTaken, IsTried, HasNames, entry_text, HasSize, legal_sized, slice_get-seam, begins_on, begins_length, SeatView, Keeps, RefusesCall, Fault, entering, IsEnteredAfter, IsAnswered, IsSettled, IsStale, Gains, Enters, kept_after, look_after, AnswersCommand, SessionEnd, Table, kept_number, CallsTable, RefusesCommand, Setup, Speaker, Tells, Obeys, TableData}
 use Rattle.dg_game.specs.declared.entry.Plain.TheVariants as plain
-use Rattle.dg_game.specs.declared.entry.Request.{Request}
 use Rattle.dg_game.specs.declared.entry.Request.TheVariants.{Rank as RankRequest}
-use Rattle.dg_game.specs.declared.finding.Finding.TheVariants.{Ranked}
-use Rattle.dg_game.specs.declared.finding.Finding.{Finding}
-use Rattle.dg_game.specs.declared.finding.Question.{Question}
-use Rattle.dg_game.specs.declared.step.Command.{Command}
-use Rattle.dg_analyst.specs.Views.{LookView, IsTaken, IsTried}
-use Rattle.dg_lines.specs.Texts.{HasNames, entry_text}
-use Rattle.dg_game.specs.LegalLaws.{HasSize}
-use Rattle.dg_game.proofs.LegalLaws.{legal_sized}
-use Rattle.dg_game.proofs.ListLaws.{slice_get-seam}
-use Rattle.dg_table.proofs.Numbered.{begins_on, begins_length}
-use Rattle.dg_table.specs.Seats.{SeatView, Keeps}
-use Rattle.dg_table.specs.Faults.{RefusesCall}
-use Rattle.dg_table.specs.declared.fault.Fault.{Fault}
-use Rattle.dg_table.specs.Answered.{entering, IsEnteredAfter, IsAnswered}
-use Rattle.dg_table.specs.Settled.{IsSettled, IsStale}
-use Rattle.dg_session.specs.Saying.{Gains, Enters, kept_after, look_after, AnswersCommand}
-use Rattle.dg_session.specs.declared.ends.SessionEnd.{SessionEnd}
-use Rattle.dg_session.specs.declared.ends.SessionEnd.TheVariants.{Table}
-use Rattle.dg_session.specs.Speakers.{kept_number}
-use Rattle.dg_session.specs.Refusing.{CallsTable, RefusesCommand}
-use Rattle.dg_session.specs.Setup.{Setup}
-use Rattle.dg_session.specs.SoFar.{Speaker, Tells, Obeys}
 use Rattle.dg_session.proofs.Coming.{gained_met, command_met}
-use Rattle.dg_log.specs.Tables.{TableData}
 
 pub gains_none : (x y : SeatView) → Keeps x y → Gains x y []
 gains_none x y keeps = record {

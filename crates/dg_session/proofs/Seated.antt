@@ -5,24 +5,8 @@
 --   sizes_kept    a line leaves as many seats, and as many looks
 --   numbers       the numbers of the seats
 --   numbers_said, numbers_left   a line leaves each seat its number
-use Rattle.std.proofs.Common.{◌≡◌, ℕ, zero, suc, ◌+◌, ◌<◌, ◌≤◌, inl, inr, List, [], ◌∷◌, ◌++◌, length, length-set, map, Option, Some, Result, Ok, Err, refl, sym, ap, ◌∙◌, arith, slice_get}
-use Rattle.std.specs.Prelude.{⊤}
-use Rattle.std.specs.List.{slice_set, slice_index_or}
-use Rattle.std.proofs.lemmas.List.{map-set}
-use Rattle.dg_game.specs.declared.entry.Entry.{Entry}
-use Rattle.dg_table.specs.Seats.{SeatView, Meets}
-use Rattle.dg_analyst.specs.Views.{LookView}
-use Rattle.dg_lines.specs.Steps.{IsSeated}
-use Rattle.dg_lines.proofs.Stepping.{seated_parts}
-use Rattle.dg_session.specs.Refusing.{RefusesLine}
-use Rattle.dg_session.specs.Saying.{Gains}
+use Rattle.dg_session.proofs.Common.{◌≡◌, ℕ, zero, suc, ◌+◌, ◌<◌, ◌≤◌, inl, inr, List, [], ◌∷◌, ◌++◌, length, length-set, map, Option, Some, Result, Ok, Err, refl, sym, ap, ◌∙◌, arith, slice_get, ⊤, slice_set, slice_index_or, map-set, Entry, SeatView, Meets, LookView, IsSeated, seated_parts, RefusesLine, Gains, Setup, Speakers, speakers, kept_number, IsFor, IsForNone, Replaces, GoesOn, AnswersLineOf, RefusesLineOf, Hears, Handles, BySeat, SessionEnd, Table, Memory, Spawn}
 use Rattle.dg_session.proofs.Coming.{comes_from, met_keeps, gained_met, line_met, line_one, refused_made}
-use Rattle.dg_session.specs.Setup.{Setup}
-use Rattle.dg_session.specs.Speakers.{Speakers, speakers, kept_number, IsFor, IsForNone, Replaces, GoesOn, AnswersLineOf, RefusesLineOf}
-use Rattle.dg_session.specs.SoFar.{Hears, Handles}
-use Rattle.dg_session.specs.declared.line_format.LineFormat.TheVariants.{BySeat}
-use Rattle.dg_session.specs.declared.ends.SessionEnd.{SessionEnd}
-use Rattle.dg_session.specs.declared.ends.SessionEnd.TheVariants.{Table, Memory, Spawn}
 
 pub seat_past : (n seat : ℕ) (text line : List ℕ) → IsSeated seat text line → (seat ≤ n → ⊥) → IsForNone BySeat n line
 seat_past n seat text line is prefix i other for =

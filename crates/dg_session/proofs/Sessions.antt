@@ -16,27 +16,9 @@
 --   number_alone     so has the seat that is alone
 --   one_more         what holds of each seat so far, and of the next
 --   fewer_left       fewer bytes can still be read
-use Rattle.std.proofs.Common.{◌≡◌, ◌≢◌, ℕ, zero, suc, ◌+◌, ◌-◌, ◌*◌, ◌<◌, ◌≤◌, inl, inr, List, [], ◌∷◌, ◌++◌, length, take, map, Option, None, Result, Ok, Err, OnOk, IfErr, true, refl, sym, ap, subst, ◌∙◌, arith, append-nil, length-append, All, flat_map}
-use Rattle.std.specs.Prelude.{⊤}
-use Rattle.std.proofs.lemmas.List.Elements.{All-nil, All-head, All-tail, All-push}
-use Rattle.std.proofs.lemmas.List.{length-map}
-use Rattle.std.specs.List.{slice_index_or}
-use Rattle.std.specs.Io.KnownBytes.{Appends, Consumes, Keeps, IsAtEnd}
-use Rattle.dg_game.specs.declared.entry.Entry.{Entry}
-use Rattle.dg_table.specs.Seats.{SeatView}
-use Rattle.dg_lines.specs.Streams.{Begins, with_newline, last_line}
-use Rattle.dg_lines.proofs.Streams.{begins_then, begins_more, one_cutting}
-use Rattle.dg_system.specs.Growth.{Writing, AppendsFront}
-use Rattle.dg_system.proofs.Growing.{appends_none, appends_more}
-use Rattle.dg_system.proofs.InputReads.{consumes_none, consumes_more, consumes_kept}
-use Rattle.dg_session.specs.Setup.{Setup}
-use Rattle.dg_session.specs.Streams.{IsLine, AreLines, Passage, passage}
-use Rattle.dg_session.specs.Speakers.{Speakers, newcomers}
-use Rattle.dg_session.specs.Ends.{Answers, Reading, reading, StopsAt, EndsBy, Writes, IsOver}
-use Rattle.dg_session.specs.SoFar.{SoFar, beginning, IsReady, Goes, StopsIn, round, Halts, Takes, TakesEnd, IsWritten}
-use Rattle.dg_session.specs.declared.ends.TheConstants.{MAX_LINE, MAX_LINES, READ_SIZE}
-use Rattle.dg_session.specs.declared.ends.SessionEnd.{SessionEnd}
-use Rattle.dg_session.specs.declared.ends.SessionEnd.TheVariants.{Read, Write, LongLine, Turns, Table, Memory, Spawn}
+use Rattle.dg_session.proofs.Common.{◌≡◌, ◌≢◌, ℕ, zero, suc, ◌+◌, ◌-◌, ◌*◌, ◌<◌, ◌≤◌, inl, inr, List, [], ◌∷◌, ◌++◌, length, take, map, Option, None, Result, Ok, Err, OnOk, IfErr, true, refl, sym, ap, subst, ◌∙◌, arith, append-nil, length-append, All, flat_map, ⊤, All-nil, All-head, All-tail, All-push, length-map, slice_index_or, Appends, Consumes, IsAtEnd, Entry, SeatView, Begins, with_newline, last_line, begins_then, begins_more, one_cutting, Writing, AppendsFront, appends_none, appends_more, consumes_none, consumes_more, consumes_kept, Setup, IsLine, AreLines, Passage, passage, Speakers, newcomers, Reading, reading, StopsAt, EndsBy, Writes, IsOver, SoFar, beginning, IsReady, Goes, StopsIn, round, Halts, Takes, TakesEnd, IsWritten, MAX_LINE, MAX_LINES, READ_SIZE, SessionEnd, Read, Write, LongLine, Turns, Table, Memory, Spawn}
+use Rattle.std.specs.Io.KnownBytes.{Keeps}
+use Rattle.dg_session.specs.Ends.{Answers}
 use Rattle.dg_session.proofs.Cutting.{plain, lines_then, lines_end}
 use Rattle.dg_session.proofs.Going.{answers_none, goes_none, goes_more, empty_line}
 use Rattle.dg_session.proofs.InOrder.{fits_all}

@@ -4,10 +4,7 @@
 --   said_whole     after nothing, all that is kept is what was said since
 --   cleared_whole  and where that is cleared, it is nothing again
 --   unheard, silent   what is said is kept just where what was said before is
-use Rattle.std.proofs.Common.{◌≡◌, ℕ, List, [], ◌++◌, Option, Some, None, refl, sym, ap, subst, ◌∙◌, append_assoc, append-nil}
-use Rattle.std.specs.Io.KnownBytes.{append_known}
-use Rattle.dg_session.specs.Setup.{Setup}
-use Rattle.dg_session.specs.SoFar.{SoFar, Goes, IsSaid, IsCleared}
+use Rattle.dg_session.proofs.Common.{◌≡◌, ℕ, List, [], ◌++◌, Option, Some, None, refl, sym, ap, subst, ◌∙◌, append_assoc, append-nil, append_known, Setup, SoFar, Goes, IsSaid, IsCleared}
 
 pub said_none : (a : Option (List ℕ)) → a ≡ append_known a []
 said_none None = refl

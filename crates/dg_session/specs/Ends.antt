@@ -25,12 +25,7 @@
 --                            of the table, and has its number
 use Rattle.std.specs.Prelude.{◌≡◌, ℕ, ◌+◌, ◌<◌, ◌≤◌, ◌⊎◌, List, [], ◌∷◌, ◌++◌, length, slice_get, Option, Some, All, map, flat_map, Result, Ok, Err}
 use Rattle.std.specs.Io.KnownBytes.{Appends, Consumes, IsAtEnd}
-use Rattle.dg_log.specs.Numbered.{StandIn}
-use Rattle.dg_table.specs.Histories.{HasPrefix}
-use Rattle.dg_table.specs.Seats.{SeatView}
-use Rattle.dg_lines.specs.Cuts.{lines}
-use Rattle.dg_lines.specs.Streams.{HasNoNewline, Begins, with_newline}
-use Rattle.dg_system.specs.Growth.{AppendsFront}
+use Rattle.dg_session.specs.Common.{StandIn, HasPrefix, SeatView, lines, HasNoNewline, Begins, with_newline, AppendsFront}
 use Rattle.dg_session.specs.Setup.{Setup}
 use Rattle.dg_session.specs.Streams.{IsLine, AreLines, Passage}
 use Rattle.dg_session.specs.Order.{AscendFrom}

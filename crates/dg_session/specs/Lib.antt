@@ -8,5 +8,6 @@ pub mod Refusing
 pub mod Speakers
 pub mod Ends
 -- What serves the steps of a session alone.
-pub mod Course
+pub mod EntriesSoFar
 pub mod SoFar
+pub mod Common

@@ -2,8 +2,7 @@
 --   AscendFrom n ps    == the numbers of the entries ps ascend, and are n or more
 --   ComeAfter K made H == the history H begins with K, and has the entries made after it, in order
 use Rattle.std.specs.Prelude.{ℕ, ◌+◌, ◌≤◌, List, [], ◌∷◌, length, ⊤}
-use Rattle.dg_game.specs.declared.entry.Entry.{Entry}
-use Rattle.dg_log.specs.Numbered.{StandIn, IsBeginning}
+use Rattle.dg_session.specs.Common.{Entry, StandIn, IsBeginning}
 
 abbrev pub AscendFrom : ℕ → List (ℕ × Entry) → Type 0
 AscendFrom n [] = ⊤

@@ -11,13 +11,7 @@
 --                                stand
 --   RefusesLine t kept line x y end       == so is the line, as its command
 use Rattle.std.specs.Prelude.{◌≡◌, ℕ, ◌≤◌, ◌⊎◌, List, [], Option, None, Some, ⊤}
-use Rattle.dg_rank.specs.Ranks.{IsWithin}
-use Rattle.dg_game.specs.declared.entry.Entry.{Entry}
-use Rattle.dg_game.specs.declared.step.Command.{Command}
-use Rattle.dg_game.specs.declared.step.Command.TheVariants.{Call, Commit, Rank}
-use Rattle.dg_table.specs.Seats.{SeatView}
-use Rattle.dg_table.specs.Faults.{RefusesCall}
-use Rattle.dg_lines.specs.Commands.{IsCommandLine}
+use Rattle.dg_session.specs.Common.{IsWithin, Entry, Command, Call, Commit, Rank, SeatView, RefusesCall, IsCommandLine}
 use Rattle.dg_session.specs.Setup.{Setup}
 use Rattle.dg_session.specs.Saying.{Gains, AnswersCommand, AnswersLine}
 use Rattle.dg_session.specs.declared.ends.SessionEnd.{SessionEnd}

@@ -3,7 +3,7 @@
 -- it. `names` are the names of the vertices, and `kept` is the number of the look that the session
 -- keeps, if it keeps one.
 --   kept_after kept p           == the look that is kept after the entry p: it, if it is a look;
---                                  none, if it enters what was reckoned on the look; otherwise the
+--                                  none, if it enters what was computed on the look; otherwise the
 --                                  one that was kept
 --   Says kept words made after text == no entry is made, and these words are said
 --   Enters names kept request made after text == one entry is made, that of the request, and its
@@ -18,21 +18,10 @@
 --                           the one that it had met; and where it made none, it was told of no
 --                           entry, and found no history
 use Rattle.std.specs.Prelude.{◌≡◌, ℕ, ◌⊎◌, List, [], ◌∷◌, ◌++◌, Option, Some, None, codes}
-use Rattle.dg_rank.specs.Ranks.{IsWithin}
-use Rattle.dg_game.specs.Requests.{asked}
-use Rattle.dg_game.specs.declared.entry.Entry.{Entry}
-use Rattle.dg_game.specs.declared.entry.Request.{Request}
-use Rattle.dg_game.specs.declared.entry.Request.TheVariants.{Look, Judge, Rank as RankRequest}
-use Rattle.dg_game.specs.declared.step.Command.{Command}
-use Rattle.dg_game.specs.declared.step.Command.TheVariants.{Call, Commit, Rank}
-use Rattle.dg_log.specs.Numbered.{IsBeginning}
-use Rattle.dg_table.specs.Seats.{SeatView}
-use Rattle.dg_lines.specs.Commands.{IsCommandLine}
-use Rattle.dg_lines.specs.LineFaults.{IsLineFault, fault_text}
-use Rattle.dg_lines.specs.Texts.{entry_text}
+use Rattle.dg_session.specs.Common.{IsWithin, asked, Entry, Request, Look, Judge, Command, Call, Commit, Rank, IsBeginning, SeatView, IsCommandLine, IsLineFault, fault_text, entry_text, LineFault}
+use Rattle.dg_game.specs.declared.entry.Request.TheVariants.{Rank as RankRequest}
 use Rattle.dg_session.specs.Setup.{Setup}
 use Rattle.dg_session.specs.Order.{ComeAfter}
-use Rattle.dg_lines.specs.declared.line.LineFault.{LineFault}
 
 abbrev pub look_after : Option ℕ → ℕ → Request → Option ℕ
 look_after kept number Look = Some number

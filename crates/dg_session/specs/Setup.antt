@@ -2,7 +2,7 @@
 --   Setup == how lines name the seats, the table, the names of its vertices, and how many workers a
 --            rank test has
 use Rattle.std.specs.Prelude.{ℕ, List}
-use Rattle.dg_log.specs.Tables.{TableData}
+use Rattle.dg_session.specs.Common.{TableData}
 use Rattle.dg_session.specs.declared.line_format.LineFormat.{LineFormat}
 
 pub record Setup : Type 0 where

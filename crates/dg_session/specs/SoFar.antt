@@ -35,20 +35,15 @@
 use Rattle.std.specs.Prelude.{◌≡◌, ◌≢◌, ℕ, ◌+◌, ◌<◌, ◌≤◌, ◌⊎◌, List, [], ◌∷◌, ◌++◌, length, true, Option, None, Some, Result, Ok, Err, OnOk, OnErr, IfErr, ⊤}
 use Rattle.std.specs.Global.{Vec}
 use Rattle.std.specs.Io.KnownBytes.{Appends, append_known}
-use Rattle.dg_game.specs.declared.entry.Entry.{Entry}
-use Rattle.dg_game.specs.declared.step.Command.{Command}
-use Rattle.dg_table.specs.Seats.{SeatView}
-use Rattle.dg_analyst.specs.Views.{LookView}
-use Rattle.dg_system.specs.Growth.{Writing, AppendsFront}
-use Rattle.dg_lines.specs.Streams.{Begins, last_line}
+use Rattle.dg_session.specs.Common.{Entry, Command, SeatView, LookView, Writing, AppendsFront, Begins, last_line}
 use Rattle.dg_session.specs.Setup.{Setup}
-use Rattle.dg_session.specs.Course.{CourseView}
+use Rattle.dg_session.specs.EntriesSoFar.{EntriesSoFarView}
 use Rattle.dg_session.specs.Streams.{IsLine, AreLines, Passage}
 use Rattle.dg_session.specs.Saying.{Gains, AnswersCommand, AnswersLine}
 use Rattle.dg_session.specs.Refusing.{RefusesCommand, RefusesLine}
 use Rattle.dg_session.specs.Speakers.{Speakers, speakers, newcomers, kept_number, AnswersLineOf, RefusesLineOf}
 use Rattle.dg_session.specs.Ends.{Answers, IsTooLong}
-use Rattle.dg_session.specs.declared.answering.Said.{Said}
+use Rattle.dg_session.specs.declared.answering.AnswerBuffer.{AnswerBuffer}
 use Rattle.dg_session.specs.declared.taking.Progress.{Progress}
 use Rattle.dg_session.specs.declared.ends.TheConstants.{MAX_LINE, MAX_LINES}
 use Rattle.dg_session.specs.declared.ends.SessionEnd.{SessionEnd}
@@ -63,16 +58,16 @@ pub record Speaker : Type 0 where
   pub kept : Option ℕ
   pub said : Option (List ℕ)
 
-abbrev pub speaker : SeatView → Option LookView → Said → Speaker
+abbrev pub speaker : SeatView → Option LookView → AnswerBuffer → Speaker
 speaker x look said = record { seat = x; kept = kept_number look; said = heard said.text }
 
 pub record Talk : Type 0 where
   pub who : Speakers
   pub said : Option (List ℕ)
 
-abbrev pub talk : List SeatView → List (Option LookView) → CourseView → Said → Talk
-talk xs looks course said =
-    record { who = speakers xs looks course.latest course.entered; said = heard said.text }
+abbrev pub talk : List SeatView → List (Option LookView) → EntriesSoFarView → AnswerBuffer → Talk
+talk xs looks entries_so_far said =
+    record { who = speakers xs looks entries_so_far.latest entries_so_far.entered; said = heard said.text }
 
 pub record SoFar : Type 0 where
   pub pending : List ℕ
@@ -83,7 +78,7 @@ abbrev pub so_far : {N : Type 0} → Progress N → List SeatView → SoFar
 so_far p xs = record {
   pending = p.pending.items;
   count = p.count;
-  who = speakers xs p.kept.items p.course.latest p.course.entered;
+  who = speakers xs p.kept.items p.entries_so_far.latest p.entries_so_far.entered;
 }
 
 abbrev pub beginning : List SeatView → SoFar

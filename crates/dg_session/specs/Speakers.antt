@@ -22,12 +22,7 @@
 --                                that it is for
 use Rattle.std.specs.Prelude.{◌≡◌, ℕ, ◌+◌, ◌<◌, ◌⊎◌, List, [], ◌++◌, length, map, Option, None, Some, slice_get}
 use Rattle.std.specs.List.{slice_set}
-use Rattle.dg_game.specs.declared.entry.Entry.{Entry}
-use Rattle.dg_table.specs.Seats.{SeatView}
-use Rattle.dg_analyst.specs.Views.{LookView}
-use Rattle.dg_lines.specs.Steps.{IsSeated}
-use Rattle.dg_lines.specs.LineFaults.{fault_text}
-use Rattle.dg_lines.specs.declared.line.LineFault.TheVariants.{Seat}
+use Rattle.dg_session.specs.Common.{Entry, SeatView, LookView, IsSeated, fault_text, Seat}
 use Rattle.dg_session.specs.Setup.{Setup}
 use Rattle.dg_session.specs.Order.{ComeAfter}
 use Rattle.dg_session.specs.Saying.{Gains, AnswersLine}

@@ -10,8 +10,7 @@
 --                               and the rest has no newline, its lines are those lines, and the
 --                               rest as a last line if it has a byte
 use Rattle.std.specs.Prelude.{◌≡◌, ℕ, ◌≤◌, List, ◌++◌, length, Option}
-use Rattle.dg_lines.specs.Cuts.{lines}
-use Rattle.dg_lines.specs.Streams.{HasNoNewline, Begins, HaveCome, last_line}
+use Rattle.dg_session.specs.Common.{lines, HasNoNewline, Begins, HaveCome, last_line}
 use Rattle.dg_session.specs.declared.ends.TheConstants.{MAX_LINE, MAX_LINES}
 
 pub record IsLine (line : List ℕ) : Type 0 where

@@ -35,7 +35,7 @@ pub(crate) struct Shared<'a, N: Name, R: Threads + Wait> {
 
 /// What was said and is not written yet, always whole lines; and what serves to find what is said.
 #[derive(Drop)]
-pub(crate) struct Said {
+pub(crate) struct AnswerBuffer {
     /// `None` if nobody hears it.
     pub(crate) text: Option<Vec<u8>>,
     /// The buffer in which the line of an entry is made.
@@ -44,7 +44,7 @@ pub(crate) struct Said {
     pub(crate) inverse: InverseLaplacian,
 }
 
-impl Said {
+impl AnswerBuffer {
     /// Says the words. If memory is refused, nothing more is said.
     pub(crate) fn say(&mut self, words: &[u8]) -> Result<(), SessionEnd>
         ensures { Tells words.now (heard self.old.text) (heard self.new.text) result }
@@ -94,7 +94,7 @@ impl Said {
 pub(crate) fn answer_seat<N: Name, R: Threads + Wait>(
     shared: &Shared<N, R>,
     kept: &mut Option<Look<N>>,
-    said: &mut Said,
+    said: &mut AnswerBuffer,
     seat: &mut Seat<N>,
     line: &[u8],
 ) -> Result<(), SessionEnd>
@@ -112,7 +112,7 @@ pub(crate) fn answer_seat<N: Name, R: Threads + Wait>(
 fn obey<N: Name, R: Threads + Wait>(
     shared: &Shared<N, R>,
     kept: &mut Option<Look<N>>,
-    said: &mut Said,
+    said: &mut AnswerBuffer,
     seat: &mut Seat<N>,
     command: &Command,
 ) -> Result<(), SessionEnd>
@@ -135,7 +135,7 @@ fn obey<N: Name, R: Threads + Wait>(
 fn take_look<N: Name, R: Threads + Wait>(
     shared: &Shared<N, R>,
     kept: &mut Option<Look<N>>,
-    said: &mut Said,
+    said: &mut AnswerBuffer,
     seat: &mut Seat<N>,
 ) -> Result<(), SessionEnd>
     ensures { Obeys (setup shared.now.how N.table shared.now.names.now shared.now.workers)
@@ -158,7 +158,7 @@ fn take_look<N: Name, R: Threads + Wait>(
 fn call<N: Name, R: Threads + Wait>(
     shared: &Shared<N, R>,
     kept: &mut Option<Look<N>>,
-    said: &mut Said,
+    said: &mut AnswerBuffer,
     seat: &mut Seat<N>,
     plain: &Plain,
 ) -> Result<(), SessionEnd>
@@ -177,7 +177,7 @@ fn call<N: Name, R: Threads + Wait>(
 fn enter_verdict<N: Name, R: Threads + Wait>(
     shared: &Shared<N, R>,
     kept: &mut Option<Look<N>>,
-    said: &mut Said,
+    said: &mut AnswerBuffer,
     seat: &mut Seat<N>,
 ) -> Result<(), SessionEnd>
     ensures { Obeys (setup shared.now.how N.table shared.now.names.now shared.now.workers)
@@ -207,7 +207,7 @@ fn enter_verdict<N: Name, R: Threads + Wait>(
 fn reckon_verdict<N: Name, R: Threads + Wait>(
     shared: &Shared<N, R>,
     kept: &mut Option<Look<N>>,
-    said: &mut Said,
+    said: &mut AnswerBuffer,
     seat: &mut Seat<N>,
 ) -> Result<(), SessionEnd>
     ensures { Obeys (setup shared.now.how N.table shared.now.names.now shared.now.workers)
@@ -238,7 +238,7 @@ fn reckon_verdict<N: Name, R: Threads + Wait>(
 fn enter_rank<N: Name, R: Threads + Wait>(
     shared: &Shared<N, R>,
     kept: &mut Option<Look<N>>,
-    said: &mut Said,
+    said: &mut AnswerBuffer,
     seat: &mut Seat<N>,
     k: u32,
 ) -> Result<(), SessionEnd>
@@ -272,7 +272,7 @@ fn enter_rank<N: Name, R: Threads + Wait>(
 fn try_kept<N: Name, R: Threads + Wait>(
     shared: &Shared<N, R>,
     kept: &mut Option<Look<N>>,
-    said: &mut Said,
+    said: &mut AnswerBuffer,
     seat: &mut Seat<N>,
     k: u32,
 ) -> Result<(), SessionEnd>

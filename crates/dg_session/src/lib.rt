@@ -2,8 +2,8 @@
 #![tactic(auto)]
 
 mod answering;
-mod course;
 mod ends;
+mod entries_so_far;
 mod laws;
 mod line_format;
 mod serving;

@@ -8,7 +8,7 @@ ghost use Rattle.dg_session.specs.Streams.{passage};
 ghost use Rattle.dg_session.specs.declared.line_format.LineFormat.TheVariants.{OneSeat};
 ghost use Rattle.dg_session.specs.SoFar.{heard, IsSaid, IsCleared, IsWritten};
 
-use crate::answering::{Said, Shared};
+use crate::answering::{AnswerBuffer, Shared};
 use crate::ends::{READ_SIZE, SessionEnd};
 use crate::line_format::LineFormat;
 use crate::taking::{Progress, take_bytes, take_end};
@@ -185,7 +185,7 @@ fn serve_lines<N: Name, R: Threads + Wait, I: Read, O: Write>(
 /// Writes what was said, if anybody hears it, and clears it. Then it ends as the taking did, if that ended.
 fn write_said<O: Write>(
     writer: &mut Output<O>,
-    said: &mut Said,
+    said: &mut AnswerBuffer,
     taken: Result<(), SessionEnd>,
 ) -> Result<(), SessionEnd>
     requires { heard said.old.text ≡ None → writer.old.contents ≡ None }

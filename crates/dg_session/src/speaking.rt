@@ -3,9 +3,9 @@ ghost use Rattle.std.specs.Prelude.{◌≡◌, ◌≤◌, length};
 ghost use Rattle.dg_session.specs.Setup.{setup};
 ghost use Rattle.dg_session.specs.SoFar.{talk, Handles};
 
-use crate::answering::{Said, Shared, answer_seat};
-use crate::course::Course;
+use crate::answering::{AnswerBuffer, Shared, answer_seat};
 use crate::ends::SessionEnd;
+use crate::entries_so_far::EntriesSoFar;
 use crate::line_format::addressed;
 use dg_analyst::Look;
 use dg_lines::LineFault;
@@ -20,24 +20,24 @@ use std::thread::Threads;
 pub(crate) fn answer_line<N: Name, R: Threads + Wait>(
     shared: &Shared<N, R>,
     kept: &mut [Option<Look<N>>],
-    course: &mut Course<N>,
-    said: &mut Said,
+    entries_so_far: &mut EntriesSoFar<N>,
+    said: &mut AnswerBuffer,
     seats: &mut [Seat<N>],
     line: &[u8],
 ) -> Result<(), SessionEnd>
     requires some { 1 ≤ length seats.old }
     requires each { length kept.old ≡ length seats.old }
     ensures { Handles (setup shared.now.how N.table shared.now.names.now shared.now.workers)
-        line.now (talk seats.old kept.old course.old said.old)
-        (talk seats.new kept.new course.new said.new) result }
+        line.now (talk seats.old kept.old entries_so_far.old said.old)
+        (talk seats.new kept.new entries_so_far.new said.new) result }
 {
     let Some((place, text)) = addressed(shared.how, seats.len(), line) else {
         return said.say(LineFault::Seat.line().as_bytes());
     };
     let seat = &mut seats[place];
     let calls = seat.calls();
-    course.tell(seat);
+    entries_so_far.tell(seat);
     let ended = answer_seat(shared, &mut kept[place], said, seat, text);
-    course.follow(seat, calls);
+    entries_so_far.follow(seat, calls);
     ended
 }

@@ -5,9 +5,9 @@ ghost use Rattle.dg_session.specs.Setup.{setup};
 ghost use Rattle.dg_session.specs.Streams.{passage};
 ghost use Rattle.dg_session.specs.SoFar.{heard, talk, so_far, Handles, IsReady, RefusesPart, Takes, TakesEnd};
 
-use crate::answering::{Said, Shared};
-use crate::course::Course;
+use crate::answering::{AnswerBuffer, Shared};
 use crate::ends::{MAX_LINE, MAX_LINES, SessionEnd};
+use crate::entries_so_far::EntriesSoFar;
 use crate::speaking::answer_line;
 use dg_analyst::Look;
 use dg_lines::cut;
@@ -28,8 +28,8 @@ pub(crate) struct Progress<N: Name> {
     /// The look that each seat keeps.
     pub(crate) kept: Vec<Option<Look<N>>>,
     /// What the lines have come to.
-    pub(crate) course: Course<N>,
-    pub(crate) said: Said,
+    pub(crate) entries_so_far: EntriesSoFar<N>,
+    pub(crate) said: AnswerBuffer,
 }
 
 impl<N: Name> Progress<N> {
@@ -45,8 +45,8 @@ impl<N: Name> Progress<N> {
         ensures count { IfSome result (λ p. p.count ≡ 0) }
         ensures kept { IfSome result (λ p.
             map kept_number p.kept.items ≡ map (λ x. None) seats.now) }
-        ensures latest { IfSome result (λ p. p.course.latest ≡ []) }
-        ensures entered { IfSome result (λ p. p.course.entered ≡ []) }
+        ensures latest { IfSome result (λ p. p.entries_so_far.latest ≡ []) }
+        ensures entered { IfSome result (λ p. p.entries_so_far.entered ≡ []) }
         ensures said { IfSome result (λ p. p.said.text ≡ text) }
     {
         let kept = match no_looks(alloc, seats) {
@@ -57,8 +57,8 @@ impl<N: Name> Progress<N> {
             pending: Vec::new(alloc),
             count: 0,
             kept,
-            course: Course::new(),
-            said: Said {
+            entries_so_far: EntriesSoFar::new(),
+            said: AnswerBuffer {
                 text,
                 line: Vec::new(alloc),
                 inverse: *inverse,
@@ -109,15 +109,15 @@ fn answer_pending<N: Name, R: Threads + Wait>(
     ensures handled { Handles
         (setup shared.now.how N.table shared.now.names.now shared.now.workers)
         (progress.old.pending.items ++ part.now)
-        (talk seats.old progress.old.kept.items progress.old.course progress.old.said)
-        (talk seats.new progress.new.kept.items progress.new.course progress.new.said) result }
+        (talk seats.old progress.old.kept.items progress.old.entries_so_far progress.old.said)
+        (talk seats.new progress.new.kept.items progress.new.entries_so_far progress.new.said) result }
     ensures count { progress.new.count ≡ progress.old.count }
 {
     if progress.pending.is_empty() {
         return answer_line(
             shared,
             progress.kept.as_mut_slice(),
-            &mut progress.course,
+            &mut progress.entries_so_far,
             &mut progress.said,
             seats,
             part,
@@ -127,7 +127,7 @@ fn answer_pending<N: Name, R: Threads + Wait>(
         Ok(()) => answer_line(
             shared,
             progress.kept.as_mut_slice(),
-            &mut progress.course,
+            &mut progress.entries_so_far,
             &mut progress.said,
             seats,
             &progress.pending,
@@ -149,8 +149,8 @@ fn end_line<N: Name, R: Threads + Wait>(
     ensures handled { Handles
         (setup shared.now.how N.table shared.now.names.now shared.now.workers)
         (progress.old.pending.items ++ part.now)
-        (talk seats.old progress.old.kept.items progress.old.course progress.old.said)
-        (talk seats.new progress.new.kept.items progress.new.course progress.new.said) result }
+        (talk seats.old progress.old.kept.items progress.old.entries_so_far progress.old.said)
+        (talk seats.new progress.new.kept.items progress.new.entries_so_far progress.new.said) result }
     ensures pending { OnOk result (progress.new.pending.items ≡ []) }
     ensures count { OnOk result (progress.new.count ≡ progress.old.count + 1) }
 {

@@ -7,21 +7,7 @@
 --   stopped_by       a turn that is refused
 --   played_out       turns that were all moves
 --   gained_as, played_as, stopped_as   turns that are each of another kind too
-use Rattle.std.proofs.Common.{◌≡◌, ℕ, ◌+◌, ◌<◌, List, [], ◌∷◌, ◌++◌, length, length-append, Option, Some, None, append_assoc, append-nil, arith, refl, sym, ap, subst, ◌∙◌}
-use Rattle.std.proofs.lemmas.Fn.{FoldsTo-push}
-use Rattle.std.specs.List.{FoldsTo}
-use Rattle.dg_chips.specs.declared.moves.Move.{Move}
-use Rattle.dg_game.specs.declared.entry.Entry.{Entry}
-use Rattle.dg_game.specs.declared.entry.Request.TheVariants.{Claim}
-use Rattle.dg_table.specs.Faults.{RefusesCall}
-use Rattle.dg_table.specs.Turns.{request_for}
-use Rattle.dg_table.specs.Seats.{SeatView, Keeps}
-use Rattle.dg_table.specs.declared.fault.Fault.{Fault}
-use Rattle.dg_strategy.specs.Choices.{Choosing}
-use Rattle.dg_strategy.specs.Plays.{IsTurnBy, IsMove, AreMoves, Gains, IsPlayedOut, IsClaimed, IsPlayed, IsStopped}
-use Rattle.dg_strategy.specs.declared.playing.Ended.{Ended}
-use Rattle.dg_strategy.specs.declared.playing.Ended.TheVariants.{Settled, Turns}
-use Rattle.dg_log.specs.Tables.{TableData}
+use Rattle.dg_strategy.proofs.Common.{◌≡◌, ℕ, ◌+◌, ◌<◌, List, [], ◌∷◌, ◌++◌, length, length-append, Option, Some, None, append_assoc, append-nil, arith, refl, sym, ap, subst, ◌∙◌, FoldsTo-push, FoldsTo, Move, Entry, Claim, RefusesCall, request_for, SeatView, Keeps, Fault, Choosing, IsTurnBy, IsMove, AreMoves, Gains, IsPlayedOut, IsClaimed, IsPlayed, IsStopped, Ended, Settled, Turns, TableData}
 
 -- the seat y is the seat x with the entries es
 pub record Left (x : SeatView) (es : List (ℕ × Entry)) (y : SeatView) : Type 0 where

@@ -6,22 +6,7 @@
 --   went_on        with one more turn that is a move
 --   settled_game   with one more turn that is the claim the game is settled
 --   used_up        or its turns are used up
-use Rattle.std.proofs.Common.{◌≡◌, ℕ, ◌<◌, Bool, true, false, not, is_some, List, [], ◌∷◌, ◌++◌, length, Option, Some, None, arith, refl, sym, subst, append_assoc, append-nil}
-use Rattle.dg_theory.specs.Firing.{IsEffective}
-use Rattle.dg_chips.specs.Starts.{StartData}
-use Rattle.dg_chips.specs.declared.moves.Move.{Move}
-use Rattle.dg_game.specs.History.{position_after}
-use Rattle.dg_game.specs.Legal.{IsLegal, LooksBack}
-use Rattle.dg_game.specs.Position.{Position}
-use Rattle.dg_game.specs.Replies.{Replies}
-use Rattle.dg_game.specs.State.{State, LeadsTo}
-use Rattle.dg_game.specs.declared.entry.Entry.{Entry}
-use Rattle.dg_game.specs.declared.entry.Request.{Request}
-use Rattle.dg_game.proofs.LegalLaws.{legal_none, legal_more}
-use Rattle.dg_table.specs.Turns.{request_for}
-use Rattle.dg_strategy.specs.Choices.{BorrowsAtLeast}
-use Rattle.dg_strategy.specs.Greedy.{IsGreedyCall, AreGreedy, AllMoves, EndsTurn, IsGreedyGame, IsGreedyTurn}
-use Rattle.dg_strategy.specs.Plays.{IsMove}
+use Rattle.dg_strategy.proofs.Common.{◌≡◌, ℕ, ◌<◌, Bool, true, false, not, is_some, List, [], ◌∷◌, ◌++◌, length, Option, Some, None, arith, refl, sym, subst, append_assoc, append-nil, IsEffective, StartData, Move, position_after, IsLegal, LooksBack, Position, Replies, State, LeadsTo, Entry, Request, legal_none, legal_more, request_for, BorrowsAtLeast, IsGreedyCall, AreGreedy, AllMoves, EndsTurn, IsGreedyGame, IsGreedyTurn, IsMove}
 use Rattle.dg_strategy.proofs.Turned.{claim_won}
 
 pub record IsUnderWay (o : StartData) (H : List Entry) (s : State) : Type 0 where

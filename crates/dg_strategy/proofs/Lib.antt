@@ -4,3 +4,4 @@ pub mod Turned
 pub mod Greedily
 pub mod SettledGreedily
 pub mod OneGame
+pub mod Common

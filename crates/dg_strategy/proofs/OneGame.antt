@@ -11,35 +11,8 @@
 --   ends_on         so does a greedy game
 --   one_game_on     greedy games that go on from one position are the same
 --   greedy_game_is_one   so are those from one start
-use Rattle.std.proofs.Common.{◌≡◌, ℕ, ◌-◌, ◌<◌, ◌≤◌, Bool, true, false, List, [], ◌∷◌, ◌++◌, length, take, Option, Some, None, ◌⊎◌, inl, inr, arith, refl, sym, ap, subst, ◌∙◌, append_assoc, ⊎_elim}
-use Rattle.std.proofs.Math.Seq.{take-append_seam}
-use Rattle.std.proofs.lemmas.Bool.{cases_lt}
-use Rattle.std.proofs.lemmas.Int.{ints}
-use Rattle.dg_theory.specs.Firing.{AgreeOn}
-use Rattle.dg_chips.specs.Starts.{StartData}
-use Rattle.dg_chips.specs.Vector.{Vector, at}
-use Rattle.dg_chips.specs.Applied.{IsAfterMove}
-use Rattle.dg_chips.specs.declared.moves.Move.{Move}
-use Rattle.dg_chips.specs.declared.moves.Move.TheVariants.{Borrow}
-use Rattle.dg_game.specs.History.{position_after, gifts_in}
-use Rattle.dg_game.specs.Legal.{IsLegal}
-use Rattle.dg_game.specs.MoveReplies.{RepliesToMove}
-use Rattle.dg_game.specs.Position.{Position, Shows}
-use Rattle.dg_game.specs.Replies.{Replies, RepliesAt}
-use Rattle.dg_game.specs.Step.{after_reply}
-use Rattle.dg_game.specs.declared.entry.Entry.{Entry}
-use Rattle.dg_game.specs.declared.entry.Refusal.TheVariants.{Range}
-use Rattle.dg_game.specs.declared.entry.Request.{Request}
+use Rattle.dg_strategy.proofs.Common.{◌≡◌, ℕ, ◌-◌, ◌<◌, ◌≤◌, Bool, true, false, List, [], ◌∷◌, ◌++◌, length, take, Option, Some, None, ◌⊎◌, inl, inr, arith, refl, sym, ap, subst, ◌∙◌, append_assoc, ⊎_elim, take-append_seam, cases_lt, ints, AgreeOn, StartData, Vector, at, IsAfterMove, Move, Borrow, position_after, gifts_in, IsLegal, RepliesToMove, Position, Shows, Replies, RepliesAt, after_reply, Entry, Range, Request, Reply, Moved, Refused, Won, slice_get-seam, one_more_entry, request_for, IsLeastInDebt, BorrowsAtLeast, IsGreedyCall, AreGreedy, AllMoves, EndsSo, ShowTheSame, AreSameGame, GreedyGameIsOne, IsMove, IsMadeOrPastRange}
 use Rattle.dg_game.specs.declared.entry.Request.TheVariants as request
-use Rattle.dg_game.specs.declared.entry.Reply.{Reply}
-use Rattle.dg_game.specs.declared.entry.Reply.TheVariants.{Moved, Refused, Won}
-use Rattle.dg_game.proofs.ListLaws.{slice_get-seam}
-use Rattle.dg_game.proofs.StepLaw.{one_more_entry}
-use Rattle.dg_table.specs.Turns.{request_for}
-use Rattle.dg_strategy.specs.Choices.{IsLeastInDebt, BorrowsAtLeast}
-use Rattle.dg_strategy.specs.Greedy.{IsGreedyCall, AreGreedy, AllMoves, EndsSo}
-use Rattle.dg_strategy.specs.GreedyLaws.{ShowTheSame, AreSameGame, GreedyGameIsOne}
-use Rattle.dg_strategy.specs.Plays.{IsMove, IsMadeOrPastRange}
 use Rattle.dg_strategy.proofs.Turned.{move_answered}
 
 least_of : (d : Vector) (m : Move) → BorrowsAtLeast d (Some m) → (v : ℕ) × (m ≡ Borrow v) × IsLeastInDebt d v

@@ -10,32 +10,7 @@
 --   last_asked      how the last entry of a greedy history is asked for
 --   claim_at_end    the claim at the end of a legal and greedy history is won
 --   settling_out_is_greedy   a greedy game is made
-use Rattle.std.proofs.Common.{◌≡◌, ℕ, ◌+◌, ◌<◌, List, [], ◌∷◌, ◌++◌, length, map, Some, Option, None, arith, refl, sym, ap, subst, ◌∙◌, append_assoc, append-nil}
-use Rattle.std.specs.List.{FoldsTo, enumerate_from}
-use Rattle.std.proofs.Math.Seq.{take-append_seam}
-use Rattle.std.proofs.lemmas.Option.{slice_get_within}
-use Rattle.dg_theory.specs.Firing.{IsEffective}
-use Rattle.dg_chips.specs.Starts.{StartData}
-use Rattle.dg_chips.specs.declared.moves.Move.{Move}
-use Rattle.dg_game.specs.History.{position_after}
-use Rattle.dg_game.specs.Legal.{IsLegal}
-use Rattle.dg_game.specs.Position.{Position}
-use Rattle.dg_game.specs.Replies.{Replies}
-use Rattle.dg_game.specs.declared.entry.Entry.{Entry}
-use Rattle.dg_game.specs.declared.entry.Request.{Request}
-use Rattle.dg_game.specs.declared.entry.Request.TheVariants.{Claim}
-use Rattle.dg_game.specs.declared.entry.Reply.TheVariants.{Won}
-use Rattle.dg_game.proofs.LegalLaws.{legal_none}
-use Rattle.dg_game.proofs.ListLaws.{slice_get-append, slice_get-seam}
-use Rattle.dg_log.specs.Tables.{TableData}
-use Rattle.dg_table.specs.Seats.{SeatView, AreSeated, entries_of}
-use Rattle.dg_table.specs.Turns.{request_for}
-use Rattle.dg_table.proofs.Entries.{enumerate_from-more, entries_enumerated, own_alone}
-use Rattle.dg_strategy.specs.Choices.{BorrowsAtLeast}
-use Rattle.dg_strategy.specs.Greedy.{IsGreedyCall, AreGreedy, AllMoves}
-use Rattle.dg_strategy.specs.GreedyLaws.{LeastDebtors, IsAloneAt, SettlingOutIsGreedy}
-use Rattle.dg_strategy.specs.Plays.{AreMoves, IsTurnBy, IsSettlerTurn, Gains}
-use Rattle.dg_strategy.specs.declared.playing.Ended.TheVariants.{Settled, Turns}
+use Rattle.dg_strategy.proofs.Common.{◌≡◌, ℕ, ◌+◌, ◌<◌, List, [], ◌∷◌, ◌++◌, length, map, Some, Option, None, arith, refl, sym, ap, subst, ◌∙◌, append_assoc, append-nil, FoldsTo, enumerate_from, take-append_seam, slice_get_within, IsEffective, StartData, Move, position_after, IsLegal, Position, Replies, Entry, Request, Claim, Won, legal_none, slice_get-append, slice_get-seam, TableData, SeatView, AreSeated, entries_of, request_for, enumerate_from-more, entries_enumerated, own_alone, BorrowsAtLeast, IsGreedyCall, AreGreedy, AllMoves, LeastDebtors, IsAloneAt, SettlingOutIsGreedy, AreMoves, IsTurnBy, IsSettlerTurn, Gains, Settled, Turns}
 use Rattle.dg_strategy.proofs.Turned.{claim_won}
 
 pub bare : List (ℕ × Entry) → List Entry

@@ -4,30 +4,9 @@
 --   settler_moves    a settler's moves can be made
 --   strategy_turn    a turn by a choice whose moves can be made
 --   settler_turn     a turn by a choice that settles debts
-use Rattle.std.proofs.Common.{◌≡◌, ℕ, ◌<◌, [], ◌∷◌, Option, Some, None, arith, refl, ap, subst, ◌∙◌}
-use Rattle.dg_theory.specs.Firing.{IsEffective}
-use Rattle.dg_graph.specs.Graph.{IsGraph}
-use Rattle.dg_chips.specs.Vector.{at}
-use Rattle.dg_chips.specs.Moves.{IsPlayable}
-use Rattle.dg_chips.specs.declared.moves.Move.{Move}
-use Rattle.dg_chips.specs.declared.moves.Move.TheVariants.{Lend, Borrow, Fire, Script}
-use Rattle.dg_game.specs.History.{position_after, gift_counted}
-use Rattle.dg_game.specs.Position.{Position}
-use Rattle.dg_game.specs.MoveReplies.{RepliesToMove}
-use Rattle.dg_game.specs.Replies.{Replies, RepliesToClaim}
-use Rattle.dg_game.specs.declared.entry.Entry.{Entry}
-use Rattle.dg_game.specs.declared.entry.Refusal.TheVariants.{NoVertex, Empty, Script as OtherScript, Range}
-use Rattle.dg_game.specs.declared.entry.Reply.{Reply}
-use Rattle.dg_game.specs.declared.entry.Reply.TheVariants.{Moved, Refused, Won, NotWon}
+use Rattle.dg_strategy.proofs.Common.{◌≡◌, ℕ, ◌<◌, [], ◌∷◌, Option, Some, None, arith, refl, ap, subst, ◌∙◌, IsEffective, IsGraph, at, IsPlayable, Move, Lend, Borrow, Fire, Script, position_after, gift_counted, Position, RepliesToMove, Replies, RepliesToClaim, Entry, NoVertex, Empty, Range, Reply, Moved, Refused, Won, NotWon, gifts_in-more, legal_part, graphs_hold, SeatView, request_for, Choosing, GivesMoves, SettlesDebts, BorrowsInDebt, IsTurnBy, IsMove, IsMadeOrPastRange, IsStrategyTurn, IsSettlerTurn, TableData}
+use Rattle.dg_game.specs.declared.entry.Refusal.TheVariants.{Script as OtherScript}
 use Rattle.dg_game.specs.declared.entry.Request.TheVariants as request
-use Rattle.dg_game.proofs.HistoryLaws.{gifts_in-more}
-use Rattle.dg_game.proofs.LegalLaws.{legal_part}
-use Rattle.dg_game.proofs.GraphLaws.{graphs_hold}
-use Rattle.dg_table.specs.Seats.{SeatView}
-use Rattle.dg_table.specs.Turns.{request_for}
-use Rattle.dg_strategy.specs.Choices.{Choosing, GivesMoves, SettlesDebts, BorrowsInDebt}
-use Rattle.dg_strategy.specs.Plays.{IsTurnBy, IsMove, IsMadeOrPastRange, IsStrategyTurn, IsSettlerTurn}
-use Rattle.dg_log.specs.Tables.{TableData}
 
 pub move_answered : (p : Position) (m : Move) (reply : Reply) → IsPlayable p.graph.size m → RepliesToMove p m reply →
     IsMadeOrPastRange reply × (gift_counted reply ≡ 0)

@@ -11,13 +11,7 @@
 --   BorrowsAtLeast d m   == m is the borrowing by the least vertex in debt, and no move if
 --                           nobody is in debt
 use Rattle.std.specs.Prelude.{◌≡◌, ℕ, ◌<◌, pos, ◌≤ℤ◌, ◌<ℤ◌, Option, Some, None}
-use Rattle.dg_theory.specs.Multigraph.{Multigraph}
-use Rattle.dg_theory.specs.Firing.{IsEffective}
-use Rattle.dg_graph.specs.Graph.{IsGraph}
-use Rattle.dg_chips.specs.Vector.{Vector, at}
-use Rattle.dg_chips.specs.Moves.{IsPlayable}
-use Rattle.dg_chips.specs.declared.moves.Move.{Move}
-use Rattle.dg_chips.specs.declared.moves.Move.TheVariants.{Borrow}
+use Rattle.dg_strategy.specs.Common.{Multigraph, IsEffective, IsGraph, Vector, at, IsPlayable, Move, Borrow}
 
 abbrev pub Choosing : Type 1
 Choosing = Multigraph → Vector → Option Move → Type 0

@@ -12,18 +12,7 @@
 --   IsGreedyTurn o H e settled == after the history H the entry e of seat 1 is so asked for and
 --                                 answered rightly, and ends so
 use Rattle.std.specs.Prelude.{◌≡◌, ℕ, ◌<◌, Bool, true, false, List, [], ◌∷◌, ◌++◌, length, Option, ⊤}
-use Rattle.dg_chips.specs.Starts.{StartData}
-use Rattle.dg_chips.specs.Vector.{Vector}
-use Rattle.dg_chips.specs.declared.moves.Move.{Move}
-use Rattle.dg_game.specs.Position.{Position, Shows}
-use Rattle.dg_game.specs.History.{position_after}
-use Rattle.dg_game.specs.Legal.{IsLegal}
-use Rattle.dg_game.specs.Replies.{Replies}
-use Rattle.dg_game.specs.declared.entry.Entry.{Entry}
-use Rattle.dg_game.specs.declared.entry.Request.{Request}
-use Rattle.dg_game.specs.declared.entry.Request.TheVariants.{Claim}
-use Rattle.dg_game.specs.declared.entry.Reply.TheVariants.{Won}
-use Rattle.dg_table.specs.Turns.{request_for}
+use Rattle.dg_strategy.specs.Common.{StartData, Vector, Move, Position, Shows, position_after, IsLegal, Replies, Entry, Request, Claim, Won, request_for}
 use Rattle.dg_strategy.specs.Choices.{BorrowsAtLeast}
 use Rattle.dg_strategy.specs.Plays.{IsMove}
 

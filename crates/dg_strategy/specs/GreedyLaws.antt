@@ -15,14 +15,7 @@
 --                           history, and end in the same way
 use Rattle.std.specs.Prelude.{◌≡◌, ℕ, Bool, List, [], ◌∷◌, Ok, ⊤, ◌⊎◌}
 use Rattle.std.specs.List.{enumerate_from}
-use Rattle.dg_theory.specs.Firing.{AgreeOn}
-use Rattle.dg_chips.specs.Starts.{StartData}
-use Rattle.dg_chips.specs.Vector.{Vector, at}
-use Rattle.dg_game.specs.declared.entry.Entry.{Entry}
-use Rattle.dg_game.specs.declared.entry.Reply.{Reply}
-use Rattle.dg_game.specs.declared.entry.Reply.TheVariants.{Moved}
-use Rattle.dg_log.specs.Tables.{TableData}
-use Rattle.dg_table.specs.Seats.{SeatView}
+use Rattle.dg_strategy.specs.Common.{AgreeOn, StartData, Vector, at, Entry, Reply, Moved, TableData, SeatView}
 use Rattle.dg_strategy.specs.Choices.{Choosing, BorrowsAtLeast}
 use Rattle.dg_strategy.specs.Greedy.{IsGreedyGame}
 use Rattle.dg_strategy.specs.Plays.{IsSettlerTurn, Plays, is_settled}

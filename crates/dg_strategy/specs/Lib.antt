@@ -3,3 +3,4 @@ pub mod Choices
 pub mod Plays
 pub mod Greedy
 pub mod GreedyLaws
+pub mod Common

@@ -21,25 +21,11 @@
 --   Plays T table n x y result == the seat has so played, or was so stopped
 use Rattle.std.specs.Prelude.{◌≡◌, ℕ, ◌<◌, Bool, true, false, List, [], ◌∷◌, ◌++◌, length, Option, Some, None, ⊤, Result, Ok, Err}
 use Rattle.std.specs.List.{FoldsTo}
-use Rattle.dg_chips.specs.Vector.{Vector}
-use Rattle.dg_chips.specs.declared.moves.Move.{Move}
-use Rattle.dg_game.specs.Position.{Shows}
-use Rattle.dg_game.specs.History.{position_after, gifts_in}
-use Rattle.dg_game.specs.declared.entry.Entry.{Entry}
-use Rattle.dg_game.specs.declared.entry.Refusal.TheVariants.{Range}
-use Rattle.dg_game.specs.declared.entry.Request.{Request}
+use Rattle.dg_strategy.specs.Common.{Vector, Move, Shows, position_after, gifts_in, Entry, Range, Request, Reply, Moved, Refused, Won, entering, IsAnsweredAfter, RefusesCall, SeatView, Keeps, request_for, Fault, TableData}
 use Rattle.dg_game.specs.declared.entry.Request.TheVariants as request
-use Rattle.dg_game.specs.declared.entry.Reply.{Reply}
-use Rattle.dg_game.specs.declared.entry.Reply.TheVariants.{Moved, Refused, Won}
-use Rattle.dg_table.specs.Answered.{entering, IsAnsweredAfter}
-use Rattle.dg_table.specs.Faults.{RefusesCall}
-use Rattle.dg_table.specs.Seats.{SeatView, Keeps}
-use Rattle.dg_table.specs.Turns.{request_for}
-use Rattle.dg_table.specs.declared.fault.Fault.{Fault}
 use Rattle.dg_strategy.specs.Choices.{Choosing, BorrowsInDebt}
 use Rattle.dg_strategy.specs.declared.playing.Ended.{Ended}
 use Rattle.dg_strategy.specs.declared.playing.Ended.TheVariants.{Settled, Turns}
-use Rattle.dg_log.specs.Tables.{TableData}
 
 abbrev pub IsMove : Request → Type 0
 IsMove (request.Move m) = ⊤

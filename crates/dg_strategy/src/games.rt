@@ -1,16 +1,13 @@
 //! The greedy game, turn by turn on a game alone.
-ghost use Rattle.std.specs.Prelude.{◌≡◌, ◌<◌, ◌++◌, [], ◌∷◌, List};
+ghost use Rattle.std.specs.Prelude.{◌<◌, ◌++◌, [], ◌∷◌, List};
 ghost use Rattle.dg_chips.specs.Starts.{StartData};
-ghost use Rattle.dg_game.specs.Requests.{asked};
 ghost use Rattle.dg_game.specs.State.{LeadsTo};
 ghost use Rattle.dg_game.specs.declared.entry.Entry.{Entry as EntryData};
 ghost use Rattle.dg_game.specs.declared.game.TheConstants.{MAX_ENTRIES};
-ghost use Rattle.dg_table.specs.Turns.{request_for};
 ghost use Rattle.dg_strategy.specs.Greedy.{IsGreedyTurn};
 
 use crate::choice::Choose;
 use crate::least_debtor::LeastDebtor;
-use dg_chips::Move;
 use dg_game::{Entry, Game, Plain};
 
 /// Plays the next turn of a greedy game, and writes its entry: seat 1 lets the least vertex in debt borrow, or claims if nobody
@@ -24,20 +21,7 @@ pub fn greedy_turn(game: &mut Game, entry: &mut Entry) -> bool
 {
     let choice = LeastDebtor.choose(game.graph(), game.position());
     let settled = choice.is_none();
-    let call = call_for(choice);
-    entry.seat = 1;
-    call.ask(&mut entry.request);
-    game.answer(&call, &mut entry.reply);
+    game.answer_call(1, &Plain::of(choice), entry);
     game.follow(entry);
     settled
-}
-
-/// The call of a choice: its move, or a claim if it has none.
-fn call_for(choice: Option<Move>) -> Plain
-    ensures { asked result ≡ request_for choice }
-{
-    match choice {
-        Some(play) => Plain::Move(play),
-        None => Plain::Claim,
-    }
 }

@@ -3,13 +3,7 @@
 --   read_none, read_one, read_all   none are read; one more; all are
 --   none_read                 where a word is no decimal, the line spells no numbers
 --   one_digit, minus_digit    a word of one digit is a decimal; so is one of a minus and a digit that is not 0
-use Rattle.std.proofs.Common.{◌≡◌, ◌≢◌, ℕ, suc, ◌-◌, ◌≤◌, ℤ, pos, negsuc, List, [], ◌∷◌, ◌++◌, map, All, FitsSigned, w64, refl, sym, ap, ◌∙◌, ◌+◌, append-nil, arith, length}
-use Rattle.std.specs.Fmt.{signed_decimal}
-use Rattle.std.specs.List.{slice_index_or}
-use Rattle.std.proofs.lemmas.Fmt.{decimal_digit}
-use Rattle.std.proofs.lemmas.List.Elements.{All-nil, All-push, All-head, All-tail}
-use Rattle.dg_lines.specs.Cuts.{words}
-use Rattle.dg_sweep.specs.Divisors.{SpellsAmounts, SpellsNone}
+use Rattle.dg_sweep.proofs.Common.{◌≡◌, ◌≢◌, ℕ, suc, ◌-◌, ◌≤◌, ℤ, pos, negsuc, List, [], ◌∷◌, ◌++◌, map, All, FitsSigned, w64, refl, sym, ap, ◌∙◌, ◌+◌, append-nil, arith, length, signed_decimal, slice_index_or, decimal_digit, All-nil, All-push, All-head, All-tail, words, SpellsAmounts, SpellsNone}
 
 pub record IsReadTo (line : List ℕ) (left : List (List ℕ)) (xs : List ℤ) : Type 0 where
   pub spelled : words line ≡ map signed_decimal xs ++ left

@@ -7,6 +7,5 @@ pub mod Amounts
 pub mod SameTables
 pub mod OneText
 pub mod OneMeaning
-pub mod SomeVerdict
-pub mod SomeAnswer
 pub mod OneAnswer
+pub mod Common

@@ -1,36 +1,13 @@
 -- A line has just one answer.
 --   answer_moves   what answers a table answers the same table, however it is written
 --   answer_once    a table has one answer
---   lines_have_one_answer
-use Rattle.std.proofs.Common.{◌≡◌, ℕ, Bool, ◌<◌, ◌⊎◌, inl, inr, List, ◌++◌, length, codes, sym, ap, ◌∙◌, arith, subst}
-use Rattle.std.proofs.Math.Path.{fun_ext}
+--   table_once, amounts_once   so has a line of a table, and one of amounts
+--   just_one       a line that is answered, and by no other text, has just one answer
+use Rattle.dg_sweep.proofs.Common.{◌≡◌, ℕ, Bool, ◌<◌, ◌⊎◌, inl, inr, List, ◌++◌, length, codes, sym, ap, ◌∙◌, arith, subst, fun_ext, Multigraph, IsMultigraph, Amounts, degree, less, canonical, HasRankAtLeast, IsRank, rank_once, StartData, IsStart, at, IsVerdictOn, IsJudgement, IsRankTest, RankVerdict, IsPastLimits, IsWithin, IsUntold, NeedsPastTests, past_within, AreSameOpenings, FilesHaveOneMeaning, RefusesFile, FileFault, Question, Judge, Rank, RiemannRoch, HasOneAnswer, AmountsHaveOneAnswer, IsTested, IsBelow, AnswersRank, number_after, numbers_text, AreRanks, AreUntested, AnswersTable, refusal, IsRefused, AnswersTableWithin, AnswersLine, RefusesAmounts, AnswersAmounts, file_fault_text}
 use Rattle.std.proofs.Math.IntN.{ℤ}
-use Rattle.dg_theory.specs.Multigraph.{Multigraph, IsMultigraph}
-use Rattle.dg_theory.specs.Firing.{Amounts, degree}
-use Rattle.dg_theory.specs.Rank.{less, canonical, HasRankAtLeast, IsRank}
-use Rattle.dg_theory.proofs.RankNumbers.{rank_once}
-use Rattle.dg_chips.specs.Starts.{StartData, IsStart}
-use Rattle.dg_chips.specs.Vector.{at}
-use Rattle.dg_verdict.specs.Right.{IsVerdictOn}
-use Rattle.dg_lines.specs.Judgements.{IsJudgement}
-use Rattle.dg_verdict.specs.RankTests.{IsRankTest}
-use Rattle.dg_verdict.specs.declared.rank_verdict.RankVerdict.{RankVerdict}
-use Rattle.dg_rank.specs.Limits.{IsPastLimits}
-use Rattle.dg_rank.specs.Ranks.{IsWithin, IsUntold, NeedsPastTests}
-use Rattle.dg_rank.proofs.Counts.{past_within}
 use Rattle.dg_lines.proofs.Given.{vertex_named}
-use Rattle.dg_file.specs.FileLaws.{AreSameOpenings, FilesHaveOneMeaning}
-use Rattle.dg_file.specs.FileFaults.{RefusesFile}
-use Rattle.dg_file.specs.declared.fault.FileFault.{FileFault}
-use Rattle.dg_invocation.specs.declared.question.Question.{Question}
-use Rattle.dg_invocation.specs.declared.question.Question.TheVariants.{Judge, Rank, RiemannRoch}
-use Rattle.dg_sweep.specs.AnswerLaws.{HasOneAnswer, LinesHaveOneAnswer}
-use Rattle.dg_sweep.specs.Answers.{IsTested, IsBelow, AnswersRank, number_after, numbers_text, AreRanks, AreUntested, AnswersTable, refusal, IsRefused, AnswersTableWithin, AnswersLine}
-use Rattle.dg_sweep.specs.Divisors.{RefusesAmounts, AnswersAmounts}
-use Rattle.dg_sweep.specs.FaultTexts.{file_fault_text}
 use Rattle.dg_sweep.proofs.OneMeaning.{amounts_have_one_meaning}
 use Rattle.dg_sweep.proofs.OneText.{judgement_same, test_same}
-use Rattle.dg_sweep.proofs.SomeAnswer.{HasText, some_table, some_amounts}
 use Rattle.dg_sweep.proofs.SameTables.{IsSameGraph, same_back, same_genus, same_canonical, found_on, tested_on, rank_on, is_rank_on, untold_on, needs_on}
 
 same_graph : (o p : StartData) → AreSameOpenings o p → IsSameGraph o.graph p.graph
@@ -194,7 +171,7 @@ line_once right line once text other (inr (short, a)) (inl (long, b)) = absurd (
 line_once right line once text other (inr (short, a)) (inr (short', b)) = once text other a b
 
 module _ (question : Question) where
-  table_once : FilesHaveOneMeaning → (line text other : List ℕ) → AnswersTableWithin question line text
+  pub table_once : FilesHaveOneMeaning → (line text other : List ℕ) → AnswersTableWithin question line text
       → AnswersTableWithin question line other → text ≡ other
   table_once files line text other (inl a) (inl b) =
       refused_once (RefusesFile line) text other a b
@@ -231,16 +208,11 @@ module _ (question : Question) where
       (omega (arith, q, size, start.vertex)) (fit ∙ sym size) question text other a.answer
       (answer_moves b.start a.start alike question names other b.answer)
 
-just_one : (right : List ℕ → List ℕ → Type 0) (line : List ℕ) → HasText (AnswersLine right line)
+pub just_one : (right : List ℕ → List ℕ → Type 0) (line text : List ℕ) → AnswersLine right line text
     → ((text other : List ℕ) → right line text → right line other → text ≡ other) → HasOneAnswer right line
-just_one right line (text, answers) once =
-    (text, answers, λ other also. line_once right line once other text also answers)
+just_one right line text answers once = (text, answers, λ other also. line_once right line once other text also answers)
 
-pub lines_have_one_answer : FilesHaveOneMeaning → LinesHaveOneAnswer
-lines_have_one_answer files = record {
-  tables = λ question line.
-      just_one (AnswersTableWithin question) line (some_table files question line) (table_once question files line);
-  amounts = λ question o names line start fit.
-      just_one (AnswersAmounts question o names) line (some_amounts question o names line start)
-      (λ text other. amounts_once question o names line text other start fit);
-}
+pub amounts_have_one_answer : AmountsHaveOneAnswer
+amounts_have_one_answer question o names line text other start fit =
+    line_once (AnswersAmounts question o names) line
+    (λ text other. amounts_once question o names line text other start fit) text other

@@ -1,32 +1,9 @@
 -- A line of amounts has one meaning.
 --   spelled_once      numbers are spelled in one way
---   numbers_or        words are the decimals of numbers that 64 bits hold, or are not
---   divisor_or_fault  numbers are the amounts of a divisor, or have a first fault
 --   amounts_have_one_meaning
-use Rattle.std.proofs.Common.{◌≡◌, ◌≢◌, ℕ, ◌<◌, ◌≤◌, ◌⊎◌, inl, inr, ℤ, pos, List, [], ◌∷◌, length, map, All, FitsSigned, w64, get_or, unsigned_abs, refl, sym, ap, ◌∙◌, arith, subst, ⊎_elim, ◌^◌, ◌-◌, neg_ℤ}
-use Rattle.std.specs.Fmt.{signed_decimal}
-use Rattle.std.proofs.lemmas.Bool.{cases_eq, cases_lt, cases_order}
-use Rattle.std.proofs.lemmas.Fmt.{signed_decimal_injective}
-use Rattle.std.proofs.lemmas.List.{get_or_past}
-use Rattle.std.proofs.lemmas.List.Elements.{All-nil, All-cons, All-head, All-tail}
-use Rattle.dg_theory.specs.Multigraph.{edges_between}
-use Rattle.dg_theory.proofs.Searching.{first_or_all}
-use Rattle.dg_chips.specs.Starts.{StartData, IsStart}
-use Rattle.dg_chips.specs.Vector.{Vector, at, HoldsNumbers, IsDivisor}
-use Rattle.dg_chips.specs.VectorFaults.{IsFirstPast}
-use Rattle.dg_chips.specs.DivisorFaults.{IsFirstChipFault}
-use Rattle.dg_chips.specs.declared.divisor.ChipFault.{ChipFault}
-use Rattle.dg_chips.specs.declared.divisor.ChipFault.TheVariants.{Length, Range}
-use Rattle.dg_lines.specs.CommandWords.{IsNumberWithin}
-use Rattle.dg_lines.specs.Cuts.{words}
-use Rattle.dg_lines.proofs.Decided.{IsDecided}
-use Rattle.dg_lines.proofs.Integers.{number_or, fits_within, within_fits}
-use Rattle.dg_file.specs.FileLaws.{AreSameOpenings}
-use Rattle.dg_file.specs.declared.fault.FileFault.{FileFault}
+use Rattle.dg_sweep.proofs.Common.{◌≡◌, ◌≢◌, ℕ, ◌<◌, ◌≤◌, ◌⊎◌, inl, inr, ℤ, pos, List, [], ◌∷◌, length, map, All, FitsSigned, w64, refl, sym, ap, ◌∙◌, arith, subst, ⊎_elim, ◌^◌, ◌-◌, neg_ℤ, signed_decimal, cases_lt, cases_order, signed_decimal_injective, All-head, All-tail, edges_between, StartData, Vector, at, HoldsNumbers, IsDivisor, IsFirstPast, IsFirstChipFault, ChipFault, Length, Range, IsNumberWithin, fits_within, AreSameOpenings, FileFault, AmountsHaveOneMeaning, SpellsAmounts, SpellsNone, HasAmountsOf, RefusesAmounts}
 use Rattle.dg_file.specs.declared.fault.FileFault.TheVariants as fault
 use Rattle.dg_file.specs.declared.fault.Shape.TheVariants as shape
-use Rattle.dg_sweep.specs.AnswerLaws.{AmountsHaveOneMeaning}
-use Rattle.dg_sweep.specs.Divisors.{SpellsAmounts, SpellsNone, HasAmountsOf, RefusesAmounts}
 
 abbrev Fits : ℤ → Type 0
 Fits = FitsSigned w64
@@ -63,61 +40,9 @@ no_others w ws never (y ∷ ys, e, held) =
     let (head, tail) = same_words w (signed_decimal y) ws (map signed_decimal ys) e in
     never y (All-head Fits y ys held) head (ys, tail, All-tail Fits y ys held)
 
-numbers_or : (ws : List (List ℕ)) → IsDecided (AreNumbers ws)
-numbers_or [] = inl ([], refl, All-nil Fits)
-numbers_or (w ∷ ws) = more (number_or (neg_ℤ (pos (2 ^ 63))) (pos (2 ^ 63 - 1)) w fits_within) (numbers_or ws)
-  where
-    more : IsDecided (IsWord w) → IsDecided (AreNumbers ws) → IsDecided (AreNumbers (w ∷ ws))
-    more (inl known) (inl (xs, e, held)) = inl (
-      known.number ∷ xs,
-      ap (λ (v : List ℕ). v ∷ ws) known.spelled ∙ ap (λ (vs : List (List ℕ)). signed_decimal known.number ∷ vs) e,
-      All-cons Fits known.number xs (fits w known) held,
-    )
-    more (inl known) (inr never) = inr (no_others w ws (λ z fit is rest. never rest))
-    more (inr never) rest =
-        inr (no_others w ws (λ z fit is others. never (record {
-          number = z;
-          spelled = is;
-          not_less = (within_fits z fit).0;
-          not_more = (within_fits z fit).1;
-        })))
-
 module _ (n : ℕ) (xs : List ℤ) where
   abbrev IsOfDivisor : Vector → Type 0
   IsOfDivisor d = HoldsNumbers xs d × (d.size ≡ n) × IsDivisor d
-
-  abbrev HasFault : Type 0
-  HasFault = (f : ChipFault) × IsFirstChipFault n xs f
-
-  with_length : n ≤ 16 → length xs ≡ n → ((d : Vector) × IsOfDivisor d) ⊎ HasFault
-  with_length few as_many =
-      let Low : ℕ → Type 0 = λ v. unsigned_abs (get_or xs v (pos 0)) ≤ 1_000_000 in
-      let High : ℕ → Type 0 = λ v. 1_000_000 < unsigned_abs (get_or xs v (pos 0)) in
-      elim (first_or_all (length xs) Low High (λ v below. ⊎_elim
-      (λ (high : 1_000_000 < unsigned_abs (get_or xs v (pos 0))). inr high)
-      (λ (low : unsigned_abs (get_or xs v (pos 0)) ≤ 1_000_000). inl low)
-      (cases_lt 1_000_000 (unsigned_abs (get_or xs v (pos 0)))))) [
-        | inl all ↦ inl (
-          record { size = n; numbers = xs },
-          (
-            record { size = sym as_many; numbers = λ v below. refl },
-            refl,
-            record {
-              few = few;
-              within = λ v below. all v (omega (arith, as_many));
-              inside = λ v past. get_or_past xs v (pos 0) (omega (arith, as_many));
-            },
-          ),
-        )
-        | inr first ↦
-            inr (Range first.0, (as_many, record { place = first.1; past = first.2; least = first.3 }))
-      ]
-
-  divisor_or_fault : n ≤ 16 → ((d : Vector) × IsOfDivisor d) ⊎ HasFault
-  divisor_or_fault few = elim (cases_eq (length xs) n) [
-    | inl same ↦ with_length few same
-    | inr other ↦ inr (Length, other)
-  ]
 
   divisor_once : (d e : Vector) → IsOfDivisor d → IsOfDivisor e → (v : ℕ) → at d v ≡ at e v
   divisor_once d e first second v = elim (cases_lt v (length xs)) [
@@ -202,36 +127,8 @@ start_once o p r line a b =
       vertex = ap (λ (s : StartData). s.q) a.rest ∙ sym (ap (λ (s : StartData). s.q) b.rest);
     }
 
-abbrev HasMeaning : StartData → List ℕ → Type 0
-HasMeaning o line = ((p : StartData) × HasAmountsOf o line p)
-    ⊎ ((f : FileFault) × (f ≢ fault.OutOfMemory) × RefusesAmounts o.graph.size line f)
-
-some_meaning : (o : StartData) (line : List ℕ) → IsStart o → HasMeaning o line
-some_meaning o line start = elim (numbers_or (words line)) [
-  | inl (xs, e, held) ↦
-      let spells : SpellsAmounts line xs = record { spelled = e; held = held } in
-      elim (divisor_or_fault o.graph.size xs start.graph.few) [
-        | inl (d, is) ↦ inl (
-          record o { divisor = d },
-          record {
-            xs = xs;
-            spelled = spells;
-            divisor = d;
-            amounts = is.0;
-            size = is.1;
-            within = is.2;
-            rest = refl;
-          },
-        )
-        | inr (f, first) ↦ inr (fault.Chip f, (λ e. cc), (xs, spells, first))
-      ]
-  | inr never ↦
-      inr (fault.Shape shape.Amounts, (λ e. cc), λ xs spells. never (xs, spells.spelled, spells.held))
-]
-
 pub amounts_have_one_meaning : AmountsHaveOneMeaning
 amounts_have_one_meaning = record {
-  some = some_meaning;
   start = start_once;
   refused = λ o p line f known refused has. no_start o p line f (cause o.graph.size line f known refused) has;
   fault = λ n line one other known known' a b.

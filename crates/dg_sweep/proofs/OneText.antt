@@ -4,29 +4,9 @@
 --   order_same     vertices burn in one order, the least first
 --   judgement_same verdicts on one divisor are printed alike, with the order of burning or without
 --   test_same      so have right rank tests of one degree
-use Rattle.std.proofs.Common.{◌≡◌, ℕ, zero, suc, ◌+◌, ◌<◌, Bool, true, false, List, [], ◌∷◌, ◌++◌, length, take, get_or, codes, inl, inr, arith, refl, sym, ap, ◌∙◌, subst}
-use Rattle.std.specs.Prelude.{◌↔◌, ◌<ℤ◌, decimal, slice_get, Some}
-use Rattle.std.proofs.lemmas.Bool.{cases_eq, cases_lt}
-use Rattle.std.proofs.lemmas.List.{take_all, take_more}
-use Rattle.std.proofs.lemmas.Option.{slice_get-get_or, slice_get_within, get_or_from_slice_get}
-use Rattle.std.proofs.lemmas.Int.{ints}
+use Rattle.dg_sweep.proofs.Common.{◌≡◌, ℕ, zero, suc, ◌+◌, ◌<◌, Bool, true, false, List, [], ◌∷◌, ◌++◌, length, take, get_or, codes, inl, inr, arith, refl, sym, ap, ◌∙◌, subst, ◌↔◌, ◌<ℤ◌, decimal, slice_get, Some, cases_eq, cases_lt, take_all, take_more, slice_get-get_or, slice_get_within, get_or_from_slice_get, ints, Multigraph, IsMultigraph, Amounts, AgreeOn, IsWinnable, among, edges_into, MayBurn, BurnsNext, BurnsInOrder, same_by_constant, equivalent-sym, equivalent-trans, loss_once, loss_bounds_rank, reduced_once, Vector, at, IsRight, IsVerdictOn, IsRankTest, Verdict, RankVerdict, AtLeast, Below, pair, verdict_word, verdict_text, rank_text, burning_text, judgement_text}
 use Rattle.std.proofs.Math.IntN.{ℤ, pos}
-use Rattle.dg_theory.specs.Multigraph.{Multigraph, IsMultigraph}
-use Rattle.dg_theory.specs.Firing.{Amounts, AgreeOn}
-use Rattle.dg_theory.specs.Play.{IsWinnable}
-use Rattle.dg_theory.specs.Burning.{among, edges_into, MayBurn, BurnsNext, BurnsInOrder}
-use Rattle.dg_theory.proofs.ConstantLaws.{same_by_constant}
-use Rattle.dg_theory.proofs.Equivalence.{equivalent-sym, equivalent-trans}
-use Rattle.dg_theory.proofs.LossLaws.{loss_once, loss_bounds_rank}
-use Rattle.dg_theory.proofs.ReducedLaws.{reduced_once}
-use Rattle.dg_chips.specs.Vector.{Vector, at}
-use Rattle.dg_verdict.specs.Right.{IsRight, IsVerdictOn}
-use Rattle.dg_verdict.specs.RankTests.{IsRankTest}
-use Rattle.dg_verdict.specs.declared.verdict.Verdict.{Verdict}
-use Rattle.dg_verdict.specs.declared.rank_verdict.RankVerdict.{RankVerdict}
-use Rattle.dg_verdict.specs.declared.rank_verdict.RankVerdict.TheVariants.{AtLeast, Below}
-use Rattle.dg_lines.specs.Texts.{pair, more_pairs, pairs, verdict_word, verdict_text, rank_text}
-use Rattle.dg_lines.specs.Judgements.{burning_text, judgement_text}
+use Rattle.dg_lines.specs.Texts.{more_pairs, pairs}
 
 more_same : (names : List (List ℕ)) (x y : Amounts) (n : ℕ)
     → ((v : ℕ) → v < n + length names → x v ≡ y v) → more_pairs names x n ≡ more_pairs names y n

@@ -6,12 +6,7 @@
 --   puts_piece                 the text has the answers to one piece more
 --   puts_all                   it has those to all
 --   leads_rest                 pieces, and then what follows them
-use Rattle.std.proofs.Common.{◌≡◌, ℕ, ◌+◌, ◌<◌, ◌≤◌, List, [], ◌∷◌, ◌++◌, length, map, get_or, All, Bor, refl, sym, ap, subst, ◌∙◌, arith, append_assoc, append-nil, flat_map, take}
-use Rattle.std.proofs.lemmas.List.{get_or-map, take_more, take_all}
-use Rattle.std.proofs.lemmas.List.Elements.{All-append, All-cons, All-nil, All-get_or}
-use Rattle.std.proofs.lemmas.Grind.{flat_map-append}
-use Rattle.dg_sweep.specs.Steps.{AnswersFront, EndsLine}
-use Rattle.dg_sweep.specs.Pieces.{AnswersPiece, Leads}
+use Rattle.dg_sweep.proofs.Common.{◌≡◌, ℕ, ◌+◌, ◌<◌, ◌≤◌, List, [], ◌∷◌, ◌++◌, length, map, get_or, All, Bor, refl, sym, ap, subst, ◌∙◌, arith, append_assoc, append-nil, flat_map, take, get_or-map, take_more, take_all, All-append, All-cons, All-nil, All-get_or, flat_map-append, AnswersFront, EndsLine, AnswersPiece, Leads}
 use Rattle.dg_sweep.proofs.Taken.{pieces_both}
 
 pub all_both : {X : Type 0} (P : X → Type 0) (xs ys zs : List X) → All P xs → All P ys → zs ≡ xs ++ ys → All P zs

@@ -6,25 +6,9 @@
 --   tested_on       a right rank test
 --   rank_on, is_rank_on   the rank
 --   untold_on, needs_on   what nothing tells
-use Rattle.std.proofs.Common.{◌≡◌, ℕ, suc, ◌+◌, List, subst, sym, ap, ◌∙◌, if◌then◌else◌, Bool}
-use Rattle.std.proofs.Math.Path.{fun_ext}
-use Rattle.std.proofs.Math.IntN.{ℤ, pos, negsuc, ◌+ℤ◌, ◌-ℤ◌, ◌*ℤ◌}
-use Rattle.std.specs.Prelude.{◌<ℤ◌, take}
-use Rattle.dg_theory.specs.Sums.{sum_below, total_below}
-use Rattle.dg_theory.specs.Multigraph.{Multigraph, entry, edges_between, genus}
-use Rattle.dg_theory.specs.Firing.{Amounts, IsEffective, FiresTo, fired, degree}
-use Rattle.dg_theory.specs.Play.{IsWinnable}
-use Rattle.dg_theory.specs.Reduced.{IsReduced}
-use Rattle.dg_theory.specs.Burning.{among, MayBurn, BurnsAll, BurnsInOrder}
-use Rattle.dg_theory.specs.Rank.{less, canonical, HasRankAtLeast, IsRank}
-use Rattle.dg_theory.proofs.Winning.{winnable_by_script}
-use Rattle.dg_chips.specs.Vector.{at}
-use Rattle.dg_verdict.specs.Right.{IsRight, IsVerdictOn}
-use Rattle.dg_verdict.specs.RankTests.{IsRankTest}
-use Rattle.dg_verdict.specs.declared.verdict.Verdict.{Verdict}
-use Rattle.dg_verdict.specs.declared.rank_verdict.RankVerdict.{RankVerdict}
-use Rattle.dg_verdict.specs.declared.rank_verdict.RankVerdict.TheVariants.{AtLeast, Below}
-use Rattle.dg_rank.specs.Ranks.{IsUntold, NeedsPastTests}
+use Rattle.dg_sweep.proofs.Common.{if◌then◌else◌, ◌≡◌, ℕ, suc, ◌+◌, List, subst, sym, ap, ◌∙◌, Bool, fun_ext, ◌+ℤ◌, ◌-ℤ◌, ◌*ℤ◌, ◌<ℤ◌, sum_below, total_below, Multigraph, entry, edges_between, genus, Amounts, IsEffective, FiresTo, fired, degree, IsWinnable, IsReduced, among, MayBurn, BurnsAll, BurnsInOrder, less, canonical, HasRankAtLeast, IsRank, winnable_by_script, at, IsRight, IsVerdictOn, IsRankTest, Verdict, RankVerdict, AtLeast, Below, IsUntold, NeedsPastTests}
+use Rattle.std.proofs.Math.IntN.{ℤ, pos, negsuc}
+use Rattle.std.specs.Prelude.{take}
 
 pub record IsSameGraph (g h : Multigraph) : Type 0 where
   pub size : g.size ≡ h.size

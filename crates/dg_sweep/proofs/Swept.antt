@@ -9,22 +9,8 @@
 --   sweep_ends       it ends where its input does
 --   sweep_unsaid     it ends before it reads, for want of memory
 --   sweep_halts, sweep_halts_last   it ends early in what was read, or at the last line
-use Rattle.std.proofs.Common.{◌≡◌, ◌≢◌, ℕ, ◌≤◌, inl, List, [], ◌∷◌, ◌++◌, length, take, Option, Result, Ok, Err, sym, subst, arith, append-nil}
-use Rattle.std.proofs.lemmas.List.Elements.{All-nil}
-use Rattle.std.specs.Io.KnownBytes.{Appends, Consumes, Keeps, IsAtEnd}
-use Rattle.dg_lines.specs.Cuts.{lines}
-use Rattle.dg_lines.specs.Streams.{HasNoNewline, Begins, HaveCome, last_line}
-use Rattle.dg_lines.proofs.Streams.{begins_none, begins_more, begins_then, one_cutting, come_then, come_last}
-use Rattle.dg_system.specs.Growth.{AppendsFront}
-use Rattle.dg_system.proofs.Growing.{appends_none, appends_more}
-use Rattle.dg_system.proofs.InputReads.{consumes_none, consumes_more, consumes_kept}
+use Rattle.dg_sweep.proofs.Common.{◌≡◌, ◌≢◌, ℕ, ◌≤◌, inl, List, [], ◌∷◌, ◌++◌, length, take, Option, Result, Ok, Err, sym, subst, arith, append-nil, All-nil, Appends, Consumes, Keeps, IsAtEnd, lines, HasNoNewline, Begins, HaveCome, last_line, begins_none, begins_more, begins_then, one_cutting, come_then, come_last, AppendsFront, appends_none, appends_more, consumes_none, consumes_more, consumes_kept, IsSweep, EndsAfter, WritesAnswers, StandsFor, TakesBytes, AnswersLast, Passes, READ_SIZE, SweepEnd, Read, Write, Shortage, OutOfMemory}
 use Rattle.dg_sweep.specs.Answers.{AnswersLines}
-use Rattle.dg_sweep.specs.Sweeps.{IsSweep, EndsAfter, WritesAnswers}
-use Rattle.dg_sweep.specs.Steps.{StandsFor, TakesBytes, AnswersLast, Passes}
-use Rattle.dg_sweep.specs.declared.ends.TheConstants.{READ_SIZE}
-use Rattle.dg_sweep.specs.declared.ends.SweepEnd.{SweepEnd}
-use Rattle.dg_sweep.specs.declared.ends.SweepEnd.TheVariants.{Read, Write, Shortage}
-use Rattle.dg_system.specs.declared.shortage.Shortage.TheVariants.{OutOfMemory}
 use Rattle.dg_sweep.proofs.Taken.{answers_none, answers_more}
 
 pub record HasSwept (right : List ℕ → List ℕ → Type 0) (input rest old new : Option (List ℕ)) (pending : List ℕ) : Type 0 where

@@ -7,14 +7,9 @@
 --   takes_part, takes_lines    bytes without a newline, and with one
 --   nothing                    a list of length 0
 --   takes_no_end, takes_end    the end
-use Rattle.std.proofs.Common.{◌≡◌, ◌≢◌, ℕ, ◌+◌, ◌-◌, ◌≤◌, take, drop, inl, inr, List, [], ◌∷◌, ◌++◌, length, refl, sym, ap, subst, ◌∙◌, arith, append_assoc, append-nil, length-append, flat_map}
-use Rattle.std.proofs.lemmas.List.Elements.{All-append, All-head, All-tail}
-use Rattle.std.proofs.Math.Seq.{take-append_seam}
-use Rattle.std.proofs.lemmas.List.{take-append-drop}
-use Rattle.dg_sweep.specs.Answers.{AnswersLine, AnswersLines}
-use Rattle.dg_lines.specs.Streams.{HasNoNewline, Begins, with_newline, last_line}
-use Rattle.dg_lines.proofs.Streams.{begins_none, begins_one, begins_more, begins_then}
-use Rattle.dg_sweep.specs.Steps.{StandsFor, KeepsPart, AnswersFront, EndsLine, TakesBytes, AnswersLast}
+use Rattle.dg_sweep.proofs.Common.{◌≡◌, ◌≢◌, ℕ, ◌+◌, ◌-◌, ◌≤◌, take, drop, inl, inr, List, [], ◌∷◌, ◌++◌, length, refl, sym, ap, subst, ◌∙◌, arith, append_assoc, append-nil, flat_map, All-append, All-head, All-tail, take-append_seam, take-append-drop, AnswersLine, HasNoNewline, Begins, with_newline, last_line, begins_none, begins_one, begins_more, begins_then, StandsFor, KeepsPart, AnswersFront, EndsLine, TakesBytes, AnswersLast}
+use Rattle.std.proofs.Common.{length-append}
+use Rattle.dg_sweep.specs.Answers.{AnswersLines}
 
 pub answers_none : (right : List ℕ → List ℕ → Type 0) → AnswersLines right [] []
 unfolding AnswersLines

@@ -8,7 +8,7 @@
 --   AnswersRank o k names text == one of these
 --   number_after label z   == the label and the number
 --   numbers_text o         == the degree of the amounts and the genus of the graph
---   AreRanks o text        == the text is that of the rank of the amounts and that of their dual;
+--   AreRanks o text        == the text is that of the rank of the amounts and that of their residual;
 --                             no test is needed that nothing tells
 --   AreUntested o text     == all rank tests are passed before one that nothing tells; the text has
 --                             marks in the place of the ranks
@@ -26,26 +26,9 @@
 --   AnswersLines right ls text == the text is the answers to the lines ls, one after another
 use Rattle.std.specs.Prelude.{◌≡◌, ◌≢◌, ℕ, ◌<◌, ◌≤◌, ◌⊎◌, ℤ, List, [], ◌∷◌, ◌++◌, length, codes, decimal}
 use Rattle.std.specs.Fmt.{signed_decimal}
-use Rattle.dg_theory.specs.Multigraph.{genus}
-use Rattle.dg_theory.specs.Firing.{degree}
-use Rattle.dg_theory.specs.Rank.{less, canonical, HasRankAtLeast, IsRank}
-use Rattle.dg_chips.specs.Starts.{StartData}
-use Rattle.dg_chips.specs.Vector.{at}
-use Rattle.dg_rank.specs.Limits.{IsPastLimits}
-use Rattle.dg_verdict.specs.RankTests.{IsRankTest}
-use Rattle.dg_rank.specs.Ranks.{IsWithin, IsUntold, NeedsPastTests}
-use Rattle.dg_verdict.specs.declared.rank_verdict.RankVerdict.{RankVerdict}
-use Rattle.dg_verdict.specs.declared.rank_verdict.RankVerdict.TheVariants.{AtLeast}
+use Rattle.dg_sweep.specs.Common.{genus, degree, less, canonical, HasRankAtLeast, IsRank, StartData, at, IsPastLimits, IsRankTest, IsWithin, IsUntold, NeedsPastTests, RankVerdict, AtLeast, IsJudgement, text_of, IsTableFile, RefusesFile, FileFault, OutOfMemory, Question, Judge, Rank, RiemannRoch}
 use Rattle.dg_game.specs.declared.entry.Reply.TheVariants.{Rank as Tested}
-use Rattle.dg_lines.specs.Judgements.{IsJudgement}
-use Rattle.dg_lines.specs.Texts.{text_of}
-use Rattle.dg_file.specs.TableFiles.{IsTableFile}
-use Rattle.dg_file.specs.FileFaults.{RefusesFile}
-use Rattle.dg_file.specs.declared.fault.FileFault.{FileFault}
-use Rattle.dg_file.specs.declared.fault.FileFault.TheVariants.{OutOfMemory}
 use Rattle.dg_sweep.specs.FaultTexts.{file_fault_text}
-use Rattle.dg_invocation.specs.declared.question.Question.{Question}
-use Rattle.dg_invocation.specs.declared.question.Question.TheVariants.{Judge, Rank, RiemannRoch}
 use Rattle.dg_sweep.specs.declared.ends.TheConstants.{MAX_LINE}
 
 pub record IsTested (o : StartData) (k : ℕ) (names : List (List ℕ)) (text : List ℕ) : Type 0 where

@@ -4,12 +4,7 @@
 --                          number or range, it spells numbers with which the file that says the table
 --                          would describe that start, or would be refused so
 use Rattle.std.specs.Prelude.{ℕ, ℤ, List}
-use Rattle.dg_chips.specs.Starts.{StartData}
-use Rattle.dg_chips.specs.declared.divisor.ChipFault.{ChipFault}
-use Rattle.dg_file.specs.Content.{Content}
-use Rattle.dg_file.specs.TableFiles.{IsTable}
-use Rattle.dg_file.specs.FileFaults.{RefusesTable}
-use Rattle.dg_file.specs.declared.fault.FileFault.TheVariants.{Chip}
+use Rattle.dg_sweep.specs.Common.{StartData, ChipFault, Content, IsTable, RefusesTable, Chip}
 use Rattle.dg_sweep.specs.Divisors.{SpellsAmounts, HasAmountsOf, RefusesAmounts}
 
 abbrev pub with_amounts : Content → List ℤ → Content

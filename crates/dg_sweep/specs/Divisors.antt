@@ -11,14 +11,7 @@
 use Rattle.std.specs.Prelude.{◌≡◌, ℕ, ◌⊎◌, ℤ, List, map, All, FitsSigned, ⊤}
 use Rattle.std.specs.Fmt.{signed_decimal}
 use Rattle.std.specs.Int.{w64}
-use Rattle.dg_chips.specs.Starts.{StartData}
-use Rattle.dg_chips.specs.Vector.{Vector, HoldsNumbers, IsDivisor}
-use Rattle.dg_chips.specs.DivisorFaults.{IsFirstChipFault}
-use Rattle.dg_lines.specs.Cuts.{words}
-use Rattle.dg_file.specs.declared.fault.FileFault.{FileFault}
-use Rattle.dg_file.specs.declared.fault.FileFault.TheVariants.{Shape, Chip, OutOfMemory}
-use Rattle.dg_file.specs.declared.fault.Shape.TheVariants.{Amounts}
-use Rattle.dg_invocation.specs.declared.question.Question.{Question}
+use Rattle.dg_sweep.specs.Common.{StartData, Vector, HoldsNumbers, IsDivisor, IsFirstChipFault, words, FileFault, Shape, Chip, OutOfMemory, Amounts, Question}
 use Rattle.dg_sweep.specs.Answers.{AnswersTable, IsRefused}
 
 pub record SpellsAmounts (line : List ℕ) (xs : List ℤ) : Type 0 where

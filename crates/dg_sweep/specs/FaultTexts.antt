@@ -4,14 +4,9 @@
 --   chip_text fault  == of amounts that are no divisor
 --   file_fault_text fault == of any fault of a table
 use Rattle.std.specs.Prelude.{ℕ, List, ◌++◌, codes, decimal}
-use Rattle.dg_graph.specs.declared.fault.GraphFault.{GraphFault}
-use Rattle.dg_graph.specs.declared.fault.GraphFault.TheVariants.{Size, NoVertex, Loop, Multiplicity, Valence, NotConnected}
-use Rattle.dg_chips.specs.declared.divisor.ChipFault.{ChipFault}
-use Rattle.dg_chips.specs.declared.divisor.ChipFault.TheVariants.{Length, Range}
+use Rattle.dg_sweep.specs.Common.{GraphFault, Size, NoVertex, Loop, Multiplicity, Valence, NotConnected, ChipFault, Length, Range, Top, Vertices, Edges, Edge, Amounts, Q, FileFault, Json, Graph, Name, Twice, Chip, NoQ, OutOfMemory}
 use Rattle.dg_file.specs.declared.fault.Shape.{Shape}
-use Rattle.dg_file.specs.declared.fault.Shape.TheVariants.{Top, Vertices, Edges, Edge, Amounts, Q}
-use Rattle.dg_file.specs.declared.fault.FileFault.{FileFault}
-use Rattle.dg_file.specs.declared.fault.FileFault.TheVariants.{Json, Shape as OfShape, Graph, Name, Twice, Chip, NoQ, OutOfMemory}
+use Rattle.dg_file.specs.declared.fault.FileFault.TheVariants.{Shape as OfShape}
 
 abbrev pub shape_text : Shape → List ℕ
 shape_text Top = codes "shape of top"

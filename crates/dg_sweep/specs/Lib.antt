@@ -8,3 +8,4 @@ pub mod AnswerLaws
 -- What serves the steps of a sweep alone.
 pub mod Steps
 pub mod Pieces
+pub mod Common

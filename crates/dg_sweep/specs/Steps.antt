@@ -16,8 +16,7 @@
 --                             and the writer took no more
 use Rattle.std.specs.Prelude.{◌≡◌, ℕ, ◌<◌, ◌≤◌, ◌⊎◌, List, [], ◌∷◌, ◌++◌, length, Option, Result, Ok, Err}
 use Rattle.std.specs.Io.KnownBytes.{Appends}
-use Rattle.dg_lines.specs.Streams.{HasNoNewline, Begins, last_line}
-use Rattle.dg_system.specs.Growth.{AppendsFront}
+use Rattle.dg_sweep.specs.Common.{HasNoNewline, Begins, last_line, AppendsFront}
 use Rattle.dg_sweep.specs.Answers.{AnswersLines}
 use Rattle.dg_sweep.specs.declared.ends.TheConstants.{MAX_LINE}
 use Rattle.dg_sweep.specs.declared.ends.SweepEnd.{SweepEnd}

@@ -11,9 +11,7 @@
 --                       no more than the bytes of one read
 use Rattle.std.specs.Prelude.{◌≡◌, ℕ, ◌≤◌, List, ◌++◌, length, Option, Result, Ok, Err, ⊤}
 use Rattle.std.specs.Io.KnownBytes.{Appends, Consumes, IsAtEnd}
-use Rattle.dg_lines.specs.Cuts.{lines}
-use Rattle.dg_lines.specs.Streams.{HasNoNewline, Begins, HaveCome}
-use Rattle.dg_system.specs.Growth.{AppendsFront}
+use Rattle.dg_sweep.specs.Common.{lines, HasNoNewline, Begins, HaveCome, AppendsFront}
 use Rattle.dg_sweep.specs.Answers.{AnswersLines}
 use Rattle.dg_sweep.specs.declared.ends.TheConstants.{READ_SIZE}
 use Rattle.dg_sweep.specs.declared.ends.SweepEnd.{SweepEnd}

@@ -77,8 +77,8 @@ pub(crate) fn push_refusal(fault: &FileFault, answer: &mut Vec<u8>) -> Result<()
     Ok(())
 }
 
-/// The answer for a start whose vertices have these names, into an empty buffer. An inverse that was made for its graph and q
-/// saves the time to make one.
+/// The answer for a start whose vertices have these names, into an empty buffer. An inverse that `inverse_for` made of its
+/// graph saves the time to make one.
 pub(crate) fn push_answer(
     question: Question,
     start: &Start,
@@ -92,8 +92,8 @@ pub(crate) fn push_answer(
 {
     match question {
         Question::Judge { ordered } => push_verdict(start, names, inverse, ordered, answer),
-        Question::Rank(k) => push_rank(start, names, k, answer),
-        Question::RiemannRoch => push_ranks(start, answer),
+        Question::Rank(k) => push_rank(start, names, k, inverse, answer),
+        Question::RiemannRoch => push_ranks(start, inverse, answer),
     }
 }
 

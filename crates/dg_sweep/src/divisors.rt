@@ -19,7 +19,7 @@ use std::alloc::{AllocError, Global};
 pub(crate) struct Divisors<'a> {
     question: Question,
     table: &'a TableFile,
-    /// What verdicts on the table's graph share.
+    /// What the answers for the table's graph share.
     inverse: InverseLaplacian,
 }
 
@@ -29,14 +29,21 @@ impl<'a> Divisors<'a> {
         ensures question { result.question ≡ question }
         ensures table { result.table.now ≡ table.now }
     {
-        let start = table.start();
-        let inverse = InverseLaplacian::new(start.graph(), usize::from(start.q()));
         Divisors {
             question,
             table,
-            inverse,
+            inverse: inverse_for(question, table.start()),
         }
     }
+}
+
+/// The inverse by which a question for a start is answered soonest: verdicts are computed from q, ranks from the first vertex.
+fn inverse_for(question: Question, start: &Start) -> InverseLaplacian {
+    let vertex = match question {
+        Question::Judge { .. } => usize::from(start.q()),
+        Question::Rank(_) | Question::RiemannRoch => 0,
+    };
+    InverseLaplacian::new(start.graph(), vertex)
 }
 
 impl LineKind for Divisors<'_> {

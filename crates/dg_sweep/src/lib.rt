@@ -14,5 +14,8 @@ mod workers;
 
 pub use answering::answer_line;
 pub use ends::{MAX_LINE, READ_SIZE, SweepEnd};
-pub use laws::{amounts_have_one_meaning, lines_have_one_answer, lines_stand_for_tables};
+pub use laws::{
+    amounts_have_one_answer, amounts_have_one_meaning, lines_have_one_answer,
+    lines_stand_for_tables,
+};
 pub use sweeping::{sweep, sweep_divisors};

@@ -1,22 +1,28 @@
 //! Rank tests, and the four numbers of Riemann-Roch: laws come before limits.
-ghost use Rattle.std.specs.Prelude.{◌≡◌, ◌++◌, ◌⊎◌, [], length, codes, decimal, OnOk};
+ghost use Rattle.std.specs.Prelude.{◌≡◌, ◌<◌, ◌++◌, ◌⊎◌, [], length, codes, decimal, OnOk, MatchOption};
+ghost use Rattle.dg_chips.specs.Vector.{at};
+ghost use Rattle.dg_rank.specs.Ladders.{AnswersRankTest};
+ghost use Rattle.dg_rank.specs.Ranks.{AreBothRanks, NeedsPastTests};
 ghost use Rattle.dg_sweep.specs.Answers.{AnswersRank, AreRanks, AreUntested, number_after, numbers_text};
 
 use crate::answering::push_line;
-use dg_chips::Start;
+use dg_chips::{Divisor, Start};
 use dg_game::Reply;
-use dg_rank::{both_ranks, has_rank, rank_at_least};
+use dg_graph::Graph;
+use dg_rank::{RankFault, both_ranks, both_ranks_by, has_rank, rank_at_least, rank_at_least_by};
+use dg_reduce::InverseLaplacian;
 use dg_tokens::Names;
 use dg_verdict::RankVerdict;
 use itoa::Buffer;
 use std::alloc::AllocError;
 
 /// Whether the rank of a start's amounts is at least k, into an empty buffer. If there are too many trials to name the first
-/// loss, a law or the trials of the dual may still tell.
+/// loss, a law or the trials of the residual may still tell.
 pub(crate) fn push_rank(
     start: &Start,
     names: &Names,
     k: u32,
+    inverse: Option<&InverseLaplacian>,
     answer: &mut Vec<u8>,
 ) -> Result<(), AllocError>
     requires names { length names.now ≡ start.now.graph.size }
@@ -25,7 +31,7 @@ pub(crate) fn push_rank(
 {
     let q = usize::from(start.q());
     let (graph, divisor) = (start.graph(), start.divisor());
-    if let Ok(verdict) = rank_at_least(graph, q, divisor, k) {
+    if let Ok(verdict) = rank_on(graph, inverse, q, divisor, k) {
         push_line(answer, &Reply::Rank(verdict), names)?;
         return Ok(());
     }
@@ -42,6 +48,43 @@ pub(crate) fn push_rank(
     Ok(())
 }
 
+/// The rank test, by an inverse if there is one.
+fn rank_on(
+    graph: &Graph,
+    inverse: Option<&InverseLaplacian>,
+    q: usize,
+    divisor: &Divisor,
+    k: u32,
+) -> Result<RankVerdict, RankFault>
+    requires size { divisor.now.size ≡ graph.now.size }
+    requires vertex { q < graph.now.size }
+    ensures { AnswersRankTest graph.now (at divisor.now) k result }
+{
+    match inverse {
+        Some(inverse) => rank_at_least_by(graph, inverse, divisor, k),
+        None => rank_at_least(graph, q, divisor, k),
+    }
+}
+
+/// Both ranks, by an inverse if there is one.
+fn ranks_on(
+    graph: &Graph,
+    inverse: Option<&InverseLaplacian>,
+    q: usize,
+    divisor: &Divisor,
+) -> Option<(i64, i64)>
+    requires size { divisor.now.size ≡ graph.now.size }
+    requires vertex { q < graph.now.size }
+    ensures { MatchOption result
+        (NeedsPastTests graph.now (at divisor.now))
+        (AreBothRanks graph.now (at divisor.now)) }
+{
+    match inverse {
+        Some(inverse) => both_ranks_by(graph, inverse, divisor),
+        None => both_ranks(graph, q, divisor),
+    }
+}
+
 /// That the rank is below k, with a mark in place of the first loss.
 fn push_below(k: u32, answer: &mut Vec<u8>) -> Result<(), AllocError>
     requires { answer.old.items ≡ [] }
@@ -55,14 +98,18 @@ fn push_below(k: u32, answer: &mut Vec<u8>) -> Result<(), AllocError>
 
 /// The degree, the genus and the two ranks of a start, into an empty buffer; with marks in place of ranks that no test
 /// within the limits tells.
-pub(crate) fn push_ranks(start: &Start, answer: &mut Vec<u8>) -> Result<(), AllocError>
+pub(crate) fn push_ranks(
+    start: &Start,
+    inverse: Option<&InverseLaplacian>,
+    answer: &mut Vec<u8>,
+) -> Result<(), AllocError>
     requires { answer.old.items ≡ [] }
     ensures { OnOk result
         (AreRanks start.now answer.new.items ⊎ AreUntested start.now answer.new.items) }
 {
     let graph = start.graph();
     let q = usize::from(start.q());
-    let Some((rank, dual_rank)) = both_ranks(graph, q, start.divisor()) else {
+    let Some((rank, dual_rank)) = ranks_on(graph, inverse, q, start.divisor()) else {
         push_untold(start, answer)?;
         return Ok(());
     };

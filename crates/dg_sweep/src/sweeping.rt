@@ -10,7 +10,7 @@ use crate::divisors::Divisors;
 use crate::ends::{READ_SIZE, SweepEnd};
 use crate::tables::Tables;
 use crate::taking::Progress;
-use crate::workers::Room;
+use crate::workers::SweepContext;
 use dg_file::TableFile;
 use dg_invocation::Question;
 use dg_system::{Input, Output, Shortage};
@@ -88,7 +88,7 @@ fn sweep_kind<R: Threads + Wait + Sync, K: LineKind + Sync, I: Read, O: Write>(
     let Ok(mut buffer) = vec![in alloc; 0u8; READ_SIZE] else {
         return Err(SweepEnd::Shortage(Shortage::OutOfMemory));
     };
-    let room = Room {
+    let context = SweepContext {
         rt,
         alloc,
         kind,
@@ -105,7 +105,7 @@ fn sweep_kind<R: Threads + Wait + Sync, K: LineKind + Sync, I: Read, O: Write>(
                 Err(end) => return Err(end),
             }
         }
-        match progress.pass_bytes(&room, writer, &buffer[..size]) {
+        match progress.pass_bytes(&context, writer, &buffer[..size]) {
             Ok(()) => {}
             Err(end) => return Err(end),
         }

@@ -6,7 +6,7 @@ ghost use Rattle.dg_system.specs.declared.shortage.Shortage.TheVariants.{Spawn};
 
 use crate::answering::{LineKind, answer_of_kind};
 use crate::ends::{MAX_LINE, SweepEnd};
-use crate::workers::{Room, answer_batch};
+use crate::workers::{SweepContext, answer_batch};
 use dg_lines::cut;
 use dg_system::{Output, Shortage};
 use std::alloc::{AllocError, Global};
@@ -40,17 +40,17 @@ impl Progress {
     /// Takes bytes that were read, and writes the answers to the lines that end in them.
     pub(crate) fn pass_bytes<R: Threads + Wait + Sync, K: LineKind + Sync, O: Write>(
         &mut self,
-        room: &Room<'_, R, K>,
+        context: &SweepContext<'_, R, K>,
         writer: &mut Output<O>,
         bytes: &[u8],
     ) -> Result<(), SweepEnd>
         ensures passed { Passes
-            (TakesBytes (K.answers room.now.kind.now) self.old.pending.items bytes.now self.new.pending.items)
+            (TakesBytes (K.answers context.now.kind.now) self.old.pending.items bytes.now self.new.pending.items)
             writer.old.contents writer.new.contents result }
         ensures write { result ≡ Err WriteEnd → writer.new.has_failed ≡ true }
-        ensures spawn { result ≡ Err (ShortageEnd Spawn) → 2 ≤ room.now.workers }
+        ensures spawn { result ≡ Err (ShortageEnd Spawn) → 2 ≤ context.now.workers }
     {
-        match self.take_bytes(room, bytes) {
+        match self.take_bytes(context, bytes) {
             Ok(()) => match writer.write_whole(&self.text) {
                 Ok(()) => Ok(()),
                 Err(_) => Err(SweepEnd::Write),
@@ -83,12 +83,12 @@ impl Progress {
     /// Takes bytes that were read: answers the lines that end in them, and keeps the part of a line that follows.
     fn take_bytes<R: Threads + Wait + Sync, K: LineKind + Sync>(
         &mut self,
-        room: &Room<'_, R, K>,
+        context: &SweepContext<'_, R, K>,
         bytes: &[u8],
     ) -> Result<(), Shortage>
-        ensures taken { OnOk result (TakesBytes (K.answers room.now.kind.now)
+        ensures taken { OnOk result (TakesBytes (K.answers context.now.kind.now)
             self.old.pending.items bytes.now self.new.pending.items self.new.text.items) }
-        ensures spawn { result ≡ Err Spawn → 2 ≤ room.now.workers }
+        ensures spawn { result ≡ Err Spawn → 2 ≤ context.now.workers }
     {
         self.text.clear();
         let (part, after) = cut(bytes, b'\n');
@@ -96,9 +96,9 @@ impl Progress {
         let Some(after) = after else {
             return Ok(());
         };
-        answer_of_kind(room.alloc, room.kind, &self.pending, &mut self.text)?;
+        answer_of_kind(context.alloc, context.kind, &self.pending, &mut self.text)?;
         self.pending.clear();
-        let part = answer_batch(room, after, &mut self.text, &mut self.answer)?;
+        let part = answer_batch(context, after, &mut self.text, &mut self.answer)?;
         keep_part(&mut self.pending, part)?;
         Ok(())
     }

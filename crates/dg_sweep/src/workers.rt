@@ -20,7 +20,7 @@ const SHARE_SIZE: usize = 1_024;
 const PIECE_SIZE: usize = 512;
 
 /// What all workers of a sweep share.
-pub(crate) struct Room<'a, R, K> {
+pub(crate) struct SweepContext<'a, R, K> {
     pub(crate) rt: &'a R,
     pub(crate) alloc: Global,
     pub(crate) kind: &'a K,
@@ -28,7 +28,7 @@ pub(crate) struct Room<'a, R, K> {
     pub(crate) workers: usize,
 }
 
-impl<'a, R, K> Drop for Room<'a, R, K> {
+impl<'a, R, K> Drop for SweepContext<'a, R, K> {
     fn drop(self) {
         let Self {
             rt: _,
@@ -49,51 +49,51 @@ struct Answered {
 /// Puts the answers to the lines of the bytes after the text, and gives what follows the last newline. The lines are shared
 /// among the workers, if there are enough lines.
 pub(crate) fn answer_batch<'a, R: Threads + Wait + Sync, K: LineKind + Sync>(
-    room: &Room<'_, R, K>,
+    context: &SweepContext<'_, R, K>,
     bytes: &'a [u8],
     text: &mut Vec<u8>,
     answer: &mut Vec<u8>,
 ) -> Result<&'a [u8], Shortage>
     ensures answered { IfOk result (λ rest. (said : List ℕ)
-        × AnswersFront (K.answers room.now.kind.now) bytes.now rest.now said
+        × AnswersFront (K.answers context.now.kind.now) bytes.now rest.now said
         × (text.new.items ≡ text.old.items ++ said)) }
-    ensures spawn { result ≡ Err Spawn → 2 ≤ room.now.workers }
+    ensures spawn { result ≡ Err Spawn → 2 ≤ context.now.workers }
 {
-    let workers = room.workers.min(bytes.len() / SHARE_SIZE);
+    let workers = context.workers.min(bytes.len() / SHARE_SIZE);
     if workers < 2 {
-        return Ok(answer_lines(room.alloc, room.kind, bytes, text, answer)?);
+        return Ok(answer_lines(context.alloc, context.kind, bytes, text, answer)?);
     }
-    let (pieces, rest) = cut_pieces(room.alloc, bytes)?;
+    let (pieces, rest) = cut_pieces(context.alloc, bytes)?;
     let next = AtomicUsize::new(0);
-    let done = answer_among(room, workers.min(pieces.len()), &pieces, &next)?;
-    put_answers(room, &pieces, &done, text)?;
-    Ok(answer_lines(room.alloc, room.kind, rest, text, answer)?)
+    let done = answer_among(context, workers.min(pieces.len()), &pieces, &next)?;
+    put_answers(context, &pieces, &done, text)?;
+    Ok(answer_lines(context.alloc, context.kind, rest, text, answer)?)
 }
 
 /// The answers to pieces that so many workers take, each the next that none has taken. The first has a thread of its own, and
 /// the others work beside it.
 fn answer_among<R: Threads + Wait + Sync, K: LineKind + Sync>(
-    room: &Room<'_, R, K>,
+    context: &SweepContext<'_, R, K>,
     workers: usize,
     pieces: &[&[u8]],
     next: &AtomicUsize,
 ) -> Result<Vec<Answered>, Shortage>
     ensures { IfOk result (λ done.
-        All (IsAnswered (K.answers room.now.kind.now) (map (λ piece. piece.now) pieces.now)) done.items) }
+        All (IsAnswered (K.answers context.now.kind.now) (map (λ piece. piece.now) pieces.now)) done.items) }
 {
     if workers < 2 {
-        return Ok(answer_next(room, pieces, next)?);
+        return Ok(answer_next(context, pieces, next)?);
     }
     let mut first = || -> Result<Vec<Answered>, AllocError>
-        ensures { IfOk result (λ done. All (IsAnswered (K.answers room.entry.now.kind.now)
+        ensures { IfOk result (λ done. All (IsAnswered (K.answers context.entry.now.kind.now)
             (map (λ piece. piece.now) pieces.entry.now)) done.items) }
-    { answer_next(room, pieces, next) };
+    { answer_next(context, pieces, next) };
     let mut others = || -> Result<Vec<Answered>, Shortage>
         requires { 2 ≤ workers }
-        ensures { IfOk result (λ done. All (IsAnswered (K.answers room.entry.now.kind.now)
+        ensures { IfOk result (λ done. All (IsAnswered (K.answers context.entry.now.kind.now)
             (map (λ piece. piece.now) pieces.entry.now)) done.items) }
-    { answer_among(room, workers - 1, pieces, next) };
-    let (here, there) = match in_parallel(room.rt, &mut first, &mut others) {
+    { answer_among(context, workers - 1, pieces, next) };
+    let (here, there) = match in_parallel(context.rt, &mut first, &mut others) {
         Ok(both) => both,
         Err(shortage) => return Err(shortage),
     };
@@ -113,20 +113,20 @@ fn answer_among<R: Threads + Wait + Sync, K: LineKind + Sync>(
 
 /// The answers to the pieces that one worker takes.
 fn answer_next<R, K: LineKind>(
-    room: &Room<'_, R, K>,
+    context: &SweepContext<'_, R, K>,
     pieces: &[&[u8]],
     next: &AtomicUsize,
 ) -> Result<Vec<Answered>, AllocError>
     ensures { IfOk result (λ done.
-        All (IsAnswered (K.answers room.now.kind.now) (map (λ piece. piece.now) pieces.now)) done.items) }
+        All (IsAnswered (K.answers context.now.kind.now) (map (λ piece. piece.now) pieces.now)) done.items) }
 {
-    let mut done = Vec::new(room.alloc);
+    let mut done = Vec::new(context.alloc);
     for _ in 0..pieces.len() {
         let place = next.fetch_add(1, Ordering::SeqCst);
         if place >= pieces.len() {
             break;
         }
-        let answered = answer_piece(room, pieces[place], place)?;
+        let answered = answer_piece(context, pieces[place], place)?;
         done.push(answered)?;
     }
     Ok(done)
@@ -134,17 +134,17 @@ fn answer_next<R, K: LineKind>(
 
 /// The answers to the piece at a place.
 fn answer_piece<R, K: LineKind>(
-    room: &Room<'_, R, K>,
+    context: &SweepContext<'_, R, K>,
     piece: &[u8],
     place: usize,
 ) -> Result<Answered, AllocError>
     ensures text { IfOk result (λ answered.
-        AnswersPiece (K.answers room.now.kind.now) piece.now answered.text.items) }
+        AnswersPiece (K.answers context.now.kind.now) piece.now answered.text.items) }
     ensures place { IfOk result (λ answered. answered.place ≡ place) }
 {
-    let mut text = Vec::new(room.alloc);
-    let mut answer = Vec::new(room.alloc);
-    match answer_lines(room.alloc, room.kind, piece, &mut text, &mut answer) {
+    let mut text = Vec::new(context.alloc);
+    let mut answer = Vec::new(context.alloc);
+    match answer_lines(context.alloc, context.kind, piece, &mut text, &mut answer) {
         Ok(_) => Ok(Answered { place, text }),
         Err(error) => Err(error),
     }
@@ -152,42 +152,49 @@ fn answer_piece<R, K: LineKind>(
 
 /// Puts the answers to all pieces after the text, in the order of the pieces.
 fn put_answers<R, K: LineKind>(
-    room: &Room<'_, R, K>,
+    context: &SweepContext<'_, R, K>,
     pieces: &[&[u8]],
     done: &[Answered],
     text: &mut Vec<u8>,
 ) -> Result<(), AllocError>
     requires lines { All (λ piece. EndsLine piece.now) pieces.now }
-    requires done { All (IsAnswered (K.answers room.now.kind.now) (map (λ piece. piece.now) pieces.now)) done.now }
-    ensures { OnOk result ((said : List ℕ) × Leads (K.answers room.now.kind.now) (flat_map (λ piece. piece.now) pieces.now) said
+    requires done { All (IsAnswered (K.answers context.now.kind.now) (map (λ piece. piece.now) pieces.now)) done.now }
+    ensures { OnOk result ((said : List ℕ) ×
+        Leads (K.answers context.now.kind.now) (flat_map (λ piece. piece.now) pieces.now) said
         × (text.new.items ≡ text.old.items ++ said)) }
 {
     for place in 0..pieces.len() {
-        put_answer(room, pieces, place, done, text)?;
+        put_answer(context, pieces, place, done, text)?;
     }
     Ok(())
 }
 
 /// Puts the answers to the piece at the place after the text. A piece that no worker took is answered here.
 fn put_answer<R, K: LineKind>(
-    room: &Room<'_, R, K>,
+    context: &SweepContext<'_, R, K>,
     pieces: &[&[u8]],
     place: usize,
     done: &[Answered],
     text: &mut Vec<u8>,
 ) -> Result<(), AllocError>
     requires place { place < length pieces.now }
-    requires done { All (IsAnswered (K.answers room.now.kind.now) (map (λ piece. piece.now) pieces.now)) done.now }
+    requires done { All (IsAnswered (K.answers context.now.kind.now) (map (λ piece. piece.now) pieces.now)) done.now }
     ensures { OnOk result ((said : List ℕ)
-        × AnswersPiece (K.answers room.now.kind.now) (get_or (map (λ piece. piece.now) pieces.now) place []) said
+        × AnswersPiece (K.answers context.now.kind.now) (get_or (map (λ piece. piece.now) pieces.now) place []) said
         × (text.new.items ≡ text.old.items ++ said)) }
 {
     if let Some(found) = text_at(done, place) {
         text.extend_from_slice(found)?;
         return Ok(());
     }
-    let mut answer = Vec::new(room.alloc);
-    answer_lines(room.alloc, room.kind, pieces[place], text, &mut answer)?;
+    let mut answer = Vec::new(context.alloc);
+    answer_lines(
+        context.alloc,
+        context.kind,
+        pieces[place],
+        text,
+        &mut answer,
+    )?;
     Ok(())
 }
 

@@ -2,10 +2,7 @@
 --   appends_none    what is kept has grown by nothing
 --   appends_more    two texts, one after the other
 --   more_written    a write takes the next bytes
-use Rattle.std.proofs.Common.{◌≡◌, ℕ, ◌+◌, ◌-◌, ◌≤◌, List, [], ◌++◌, Option, Some, None, length, take, drop, sym, ap, subst, ◌∙◌, arith, append_assoc, append-nil}
-use Rattle.std.specs.Io.KnownBytes.{Appends}
-use Rattle.std.proofs.lemmas.List.{take_all, length-drop}
-use Rattle.std.proofs.Math.Seq.{take-add}
+use Rattle.dg_system.proofs.Common.{◌≡◌, ℕ, ◌+◌, ◌-◌, ◌≤◌, List, [], ◌++◌, Option, Some, None, length, take, drop, sym, ap, subst, ◌∙◌, arith, append_assoc, append-nil, Appends, take_all, length-drop, take-add}
 
 pub appends_none : (a : Option (List ℕ)) → Appends a a []
 appends_none None = tt

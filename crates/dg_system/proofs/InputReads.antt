@@ -2,9 +2,7 @@
 --   consumes_none   nothing is read
 --   consumes_more, consumes_kept   two reads, one after the other, and a read after which one fails
 --   chunk_size, read_chunk, read_nothing   a read filled the front of the buffer
-use Rattle.std.proofs.Common.{◌≡◌, ℕ, ◌≤◌, List, [], ◌++◌, Option, Some, None, length, take, sym, refl, ap, subst, ◌∙◌, arith, append_assoc}
-use Rattle.std.specs.Io.KnownBytes.{Consumes, Keeps}
-use Rattle.std.proofs.lemmas.List.{length-take-le}
+use Rattle.dg_system.proofs.Common.{◌≡◌, ℕ, ◌≤◌, List, [], ◌++◌, Option, Some, None, length, take, sym, refl, ap, subst, ◌∙◌, arith, append_assoc, Consumes, Keeps, length-take-le}
 
 pub consumes_none : (a : Option (List ℕ)) → Consumes a a []
 consumes_none None = tt

@@ -3,3 +3,4 @@ mod Limited
 mod OneByOne
 pub mod Growing
 pub mod InputReads
+pub mod Common

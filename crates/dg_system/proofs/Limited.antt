@@ -1,7 +1,5 @@
 -- What a reader gives up to a limit that it does not reach is all that it has left.
-use Rattle.std.proofs.Common.{◌≡◌, ℕ, ◌<◌, ◌≤◌, List, [], ◌++◌, length, take, Option, Some, None, IfSome, ◌∙◌, ap, subst, arith}
-use Rattle.std.specs.Option.{option_map}
-use Rattle.std.proofs.lemmas.List.{take_all, length-take}
+use Rattle.dg_system.proofs.Common.{◌≡◌, ℕ, ◌<◌, ◌≤◌, List, [], ◌++◌, length, take, Option, Some, None, IfSome, ◌∙◌, ap, subst, arith, option_map, take_all, length-take}
 
 pub whole_below : (limit : ℕ) (known : Option (List ℕ)) (items : List ℕ)
     → IfSome (option_map (take limit) known) (λ given. items ≡ given) → length items < limit

@@ -4,12 +4,7 @@
 --   held_pushed    the same, of the bytes in lists of their own
 --   unread_taken   a file that is refused after the first of a list is the first that is refused
 --   short_of       the same, where memory is refused for its bytes
-use Rattle.std.proofs.Common.{◌≡◌, ℕ, ◌+◌, List, [], ◌∷◌, ◌++◌, take, drop, map, sym, ap, subst, ◌∙◌, append_assoc, Bor, Vec, Global}
-use Rattle.std.proofs.lemmas.List.{map-append, take-append-drop}
-use Rattle.dg_system.specs.Held.{Held, MayHold, RefusesHeld}
-use Rattle.dg_system.specs.AllHeld.{MayHoldAll, IsFirstUnread}
-use Rattle.dg_system.specs.declared.sources.SourceFault.{SourceFault}
-use Rattle.dg_system.specs.declared.sources.SourceFault.TheVariants.{OutOfMemory}
+use Rattle.dg_system.proofs.Common.{◌≡◌, ℕ, ◌+◌, List, [], ◌∷◌, ◌++◌, take, drop, map, sym, ap, subst, ◌∙◌, append_assoc, Bor, Vec, Global, map-append, take-append-drop, Held, MayHold, RefusesHeld, MayHoldAll, IsFirstUnread, SourceFault, OutOfMemory}
 
 pub held_more : (held : List ℕ → Held) (names all : List (List ℕ)) (name bytes : List ℕ) → MayHoldAll held names all
     → MayHold (held name) bytes → MayHoldAll held (names ++ name ∷ []) (all ++ bytes ∷ [])

@@ -14,6 +14,6 @@ pub use input::Input;
 pub use output::{Output, WriteFailed};
 pub use reading::read_all;
 pub use shortage::Shortage;
-pub use sources::{Disk, MAX_FILE, Shelf, SourceFault, Sources, read_within};
+pub use sources::{DiskFiles, MAX_FILE, MemoryFiles, SourceFault, Sources, read_within};
 pub use stream::Stream;
 pub use threads::in_parallel;

@@ -66,9 +66,9 @@ pub trait Sources {
 
 /// The files of the machine.
 #[derive(Clone, Copy)]
-pub struct Disk;
+pub struct DiskFiles;
 
-impl Sources for Disk {
+impl Sources for DiskFiles {
     ghost use Rattle.dg_system.specs.Held.{unknown};
 
     ghost held = { λ _ name. unknown };
@@ -88,12 +88,12 @@ impl Sources for Disk {
 
 /// Files in memory: each a name and its bytes. Of two with one name the first counts.
 #[derive(Clone, Copy)]
-pub struct Shelf<'a> {
+pub struct MemoryFiles<'a> {
     /// The files.
     pub files: &'a [(&'a str, &'a [u8])],
 }
 
-impl Sources for Shelf<'_> {
+impl Sources for MemoryFiles<'_> {
     ghost use Rattle.std.specs.Prelude.{map};
     ghost use Rattle.dg_system.specs.Held.{held_among};
 

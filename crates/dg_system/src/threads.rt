@@ -21,15 +21,15 @@ pub fn in_parallel<R: Threads + Wait, F: FnMut() -> A + Send, G: FnMut() -> B, A
         (λ r. F.step f.old r.0 f.new × G.step g.old r.1 g.new)
         (λ shortage. (shortage ≡ Shortage.Spawn) × (f.new ≡ f.old) × (g.new ≡ g.old)) }
 {
-    match run_both(rt, Lent { f }, Lent { f: g }) {
+    match run_both(rt, BorrowedTask { f }, BorrowedTask { f: g }) {
         Ok(((f, a), (g, b))) => {
-            take_back(f);
-            take_back(g);
+            restore(f);
+            restore(g);
             Ok((a, b))
         }
-        Err((Lent { f }, Lent { f: g })) => {
-            take_back(f);
-            take_back(g);
+        Err((BorrowedTask { f }, BorrowedTask { f: g })) => {
+            restore(f);
+            restore(g);
             Err(Shortage::Spawn)
         }
     }
@@ -50,11 +50,11 @@ trait Task {
 }
 
 #[derive(Drop)]
-struct Lent<'a, F> {
+struct BorrowedTask<'a, F> {
     f: &'a mut F,
 }
 
-impl<'a, F: FnMut() -> A, A> Task for Lent<'a, F> {
+impl<'a, F: FnMut() -> A, A> Task for BorrowedTask<'a, F> {
     type Output = (&'a mut F, A);
 
     ghost can_run = { λ t. F.pre t.f.now };
@@ -62,7 +62,7 @@ impl<'a, F: FnMut() -> A, A> Task for Lent<'a, F> {
     ghost run_gives = { λ t r. (r.0.ghost_name ≡ t.f.ghost_name) × F.step t.f.now r.1 r.0.now };
 
     fn run(self) -> (&'a mut F, A) {
-        let Lent { f } = self;
+        let BorrowedTask { f } = self;
         let a = f();
         (f, a)
     }
@@ -70,11 +70,11 @@ impl<'a, F: FnMut() -> A, A> Task for Lent<'a, F> {
 
 /// What the thread gives: what its task gives, or the task itself.
 #[derive(Drop)]
-struct Given<S> {
+struct TaskResult<S> {
     task: Snapshot<S>,
 }
 
-impl<A, S: Task<Output = A>> Promise<Result<A, S>> for Given<S> {
+impl<A, S: Task<Output = A>> Promise<Result<A, S>> for TaskResult<S> {
     ghost kept_by = { λ p r. MatchResult r (λ a. S.run_gives p.task.value a) (λ s. s ≡ p.task.value) };
 }
 
@@ -92,7 +92,7 @@ fn run_both<
 {
     let flag = AtomicBool::new(false);
     let stop = &flag;
-    let given = Given {
+    let given = TaskResult {
         task: Snapshot::of(&s),
     };
     thread::scope(
@@ -136,6 +136,6 @@ fn run_both<
 }
 
 /// Does nothing. This use of a reference that came back ties it, for the borrow checker, to the parameter that lent it.
-fn take_back<T>(x: &mut T)
+fn restore<T>(x: &mut T)
     ensures { x.new ≡ x.old }
 {}

@@ -1,12 +1,7 @@
 -- A close to which all seats are handed in.
 --   all_there      seats with the numbers of those that a table began with are complete
 --   none_missing   a close with all seats is refused with 0
-use Rattle.std.proofs.Common.{◌≡◌, ℕ, zero, suc, ◌+◌, ◌-◌, ◌<◌, List, [], ◌∷◌, length, map, slice_get, Some, arith, refl, ap, ◌∙◌, inl, inr}
-use Rattle.std.proofs.lemmas.Option.{same_Some}
-use Rattle.dg_table.specs.Closing.{IsComplete, IsCloseRefused}
-use Rattle.dg_table.specs.Opened.{AreFresh}
-use Rattle.dg_table.specs.Seats.{SeatView}
-use Rattle.dg_log.specs.Tables.{TableData}
+use Rattle.dg_table.proofs.Common.{◌≡◌, ℕ, zero, suc, ◌+◌, ◌-◌, ◌<◌, List, [], ◌∷◌, length, map, slice_get, Some, arith, refl, ap, ◌∙◌, inl, inr, same_Some, IsComplete, IsCloseRefused, AreFresh, SeatView, TableData}
 
 abbrev numbers : List SeatView → List ℕ
 numbers xs = map (λ (x : SeatView). x.number) xs

@@ -6,16 +6,7 @@
 --   none_past        a history of the seats 1 to n has no entry of a seat past n
 --   seats_counted    the numbers of the entries of the seats 1 to n add up to the length of their history
 --   all_counted      the counts of all seats add up to the length of the history
-use Rattle.std.proofs.Common.{◌≡◌, ◌≢◌, ℕ, zero, suc, ◌+◌, ◌<◌, ◌≤◌, ◌==◌, Bool, true, false, cond, List, [], ◌∷◌, ◌++◌, length, get_or, set, slice_get, Some, sum, arith, refl, sym, ap, ◌∙◌, inl, inr, eq-eqb}
-use Rattle.std.proofs.lemmas.List.{get_or-set_same, get_or-set_other, length_push}
-use Rattle.std.proofs.lemmas.List.Sums.{sum_by-cons}
-use Rattle.std.proofs.lemmas.Bool.{ne_eqb, cases_eq}
-use Rattle.dg_game.specs.declared.entry.Entry.{Entry}
-use Rattle.dg_game.specs.declared.entry.TheConstants.{MAX_SEATS}
-use Rattle.dg_game.proofs.ListLaws.{more_holds}
-use Rattle.dg_table.specs.Lock.{AreCountsOf}
-use Rattle.dg_table.specs.Seats.{AreSeated}
-use Rattle.dg_table.specs.Seats.{entries_of}
+use Rattle.dg_table.proofs.Common.{◌≡◌, ◌≢◌, ℕ, zero, suc, ◌+◌, ◌<◌, ◌≤◌, ◌==◌, Bool, true, false, cond, List, [], ◌∷◌, ◌++◌, length, get_or, set, slice_get, Some, sum, arith, refl, sym, ap, ◌∙◌, inl, inr, eq-eqb, get_or-set_same, get_or-set_other, length_push, sum_by-cons, ne_eqb, cases_eq, Entry, MAX_SEATS, more_holds, AreCountsOf, AreSeated, entries_of}
 use Rattle.dg_table.proofs.Entries.{entries_from, own_more, other_more}
 
 pub seated_more : (n : ℕ) (H : List Entry) (e : Entry) → AreSeated n H → 1 ≤ e.seat → e.seat ≤ n →

@@ -11,17 +11,8 @@
 --   own_alone             in a history of one seat its entries are all
 --   own_stand             the entries of the seat in the beginning of a history stand in it
 --   all_own               the entries of the seat in the beginning of a history are all, where they are as many as all
-use Rattle.std.proofs.Common.{◌≡◌, ℕ, suc, ◌+◌, ◌==◌, Bool, true, false, cond, List, [], ◌∷◌, ◌++◌, length, length-append, map, slice_get, Some, arith, refl, sym, ap, subst, ◌∙◌, eq-eqb}
-use Rattle.std.specs.Bool.{⊤}
-use Rattle.std.specs.List.{filter, enumerate_from}
-use Rattle.std.proofs.lemmas.List.{append-nil, nil_from_length}
-use Rattle.std.proofs.lemmas.List.Elements.{filter-append}
-use Rattle.std.proofs.lemmas.Bool.{ne_eqb}
-use Rattle.dg_game.specs.declared.entry.Entry.{Entry}
-use Rattle.dg_log.specs.Numbered.{StandIn, IsBeginning}
-use Rattle.dg_table.specs.Seats.{AreSeated, entries_of}
+use Rattle.dg_table.proofs.Common.{◌≡◌, ℕ, suc, ◌+◌, ◌==◌, Bool, true, false, cond, List, [], ◌∷◌, ◌++◌, length, length-append, map, slice_get, Some, arith, refl, sym, ap, subst, ◌∙◌, eq-eqb, ⊤, filter, enumerate_from, append-nil, nil_from_length, filter-append, ne_eqb, Entry, StandIn, IsBeginning, AreSeated, entries_of, OneSeat, NoEntries, OwnEntry, OtherEntry, EntriesStand}
 use Rattle.dg_table.proofs.Numbered.{stand_longer}
-use Rattle.dg_table.specs.SeatLaws.{OneSeat, NoEntries, OwnEntry, OtherEntry, EntriesStand}
 
 pub enumerate_from-more : {X : Type 0} (n : ℕ) (xs : List X) (x : X) →
     enumerate_from n (xs ++ x ∷ []) ≡ enumerate_from n xs ++ (n + length xs, x) ∷ []

@@ -9,31 +9,8 @@
 --   stale_both       the reply to a finding on an entry is stale just where a gift was accepted after it
 --   carried_over     where none was, the finding is carried to the position now
 --   look_stands      what is kept of an entry of a legal history that is a look, is of a look of it
-use Rattle.std.proofs.Common.{◌≡◌, ◌≢◌, ◌↔◌, ℕ, Bool, true, false, cond, List, [], ◌∷◌, ◌++◌, take, slice_get, Option, Some, None, refl, sym, ap, subst, ◌∙◌}
-use Rattle.std.specs.List.{filter, last_or}
-use Rattle.std.proofs.lemmas.List.{append-nil}
-use Rattle.std.proofs.lemmas.Option.{same_Some}
-use Rattle.std.proofs.lemmas.List.Elements.{filter-append}
-use Rattle.dg_theory.specs.Multigraph.{Multigraph}
-use Rattle.dg_chips.specs.Starts.{StartData}
-use Rattle.dg_chips.specs.Vector.{Vector}
-use Rattle.dg_game.specs.History.{position_after, gifts_in}
-use Rattle.dg_game.specs.Legal.{IsLegal}
-use Rattle.dg_game.specs.Look.{IsLookAt, asked_for, KeepsFinding}
-use Rattle.dg_game.specs.Replies.{Replies}
-use Rattle.dg_game.specs.declared.entry.Entry.{Entry}
-use Rattle.dg_game.specs.declared.entry.Request.{Request}
-use Rattle.dg_game.specs.declared.entry.Request.TheVariants.{Look}
-use Rattle.dg_game.specs.declared.entry.Reply.{Reply}
-use Rattle.dg_game.specs.declared.entry.Reply.TheVariants.{Looked, Verdict, Rank as RankReply, Stale}
-use Rattle.dg_game.specs.declared.finding.Finding.{Finding}
-use Rattle.dg_game.specs.declared.finding.Finding.TheVariants.{Judged, Ranked}
-use Rattle.dg_game.specs.declared.look.LookData.{LookData}
-use Rattle.dg_game.proofs.LegalLaws.{legal_looks}
-use Rattle.dg_game.proofs.StepLaw.{vertices_stay}
-use Rattle.dg_table.specs.Lock.{IsKeptLook}
-use Rattle.dg_table.specs.Looks.{LastLook, HasVertices, IsLastLook, IsLookOf, is_look, last_look, asks_look}
-use Rattle.dg_table.specs.Settled.{IsCarriedTo}
+use Rattle.dg_table.proofs.Common.{◌≡◌, ◌≢◌, ◌↔◌, ℕ, Bool, true, false, cond, List, [], ◌∷◌, ◌++◌, take, slice_get, Option, Some, None, refl, sym, ap, subst, ◌∙◌, filter, last_or, append-nil, same_Some, filter-append, Multigraph, StartData, Vector, position_after, gifts_in, IsLegal, IsLookAt, asked_for, KeepsFinding, Replies, Entry, Request, Look, Reply, Looked, Verdict, Stale, Finding, Judged, Ranked, LookData, legal_looks, vertices_stay, IsKeptLook, LastLook, HasVertices, IsLastLook, IsLookOf, is_look, last_look, asks_look, IsCarriedTo}
+use Rattle.dg_game.specs.declared.entry.Reply.TheVariants.{Rank as RankReply}
 
 last_or-snoc : {A : Type 0} (o : Option A) (xs : List A) (x : A) → last_or o (xs ++ x ∷ []) ≡ Some x
 last_or-snoc o [] x = refl

@@ -7,3 +7,4 @@ pub mod Totals
 pub mod Findings
 pub mod Placed
 pub mod Complete
+pub mod Common

@@ -3,11 +3,7 @@
 --   stand_longer   entries that stand in a history stand in a longer one
 --   begins_on      what begins the beginning of a history begins the history
 --   begins_length  and has no more entries
-use Rattle.std.proofs.Common.{◌≡◌, ℕ, ◌≤◌, List, [], ◌∷◌, ◌++◌, length, length-append, slice_get, Some, ap, arith, append_assoc, ◌∙◌}
-use Rattle.std.proofs.lemmas.Option.{slice_get_within}
-use Rattle.dg_game.specs.declared.entry.Entry.{Entry}
-use Rattle.dg_game.proofs.ListLaws.{slice_get-append}
-use Rattle.dg_log.specs.Numbered.{StandIn, IsBeginning}
+use Rattle.dg_table.proofs.Common.{◌≡◌, ℕ, ◌≤◌, List, [], ◌∷◌, ◌++◌, length, length-append, slice_get, Some, ap, arith, append_assoc, ◌∙◌, slice_get_within, Entry, slice_get-append, StandIn, IsBeginning}
 
 pub stand_more : (H : List Entry) (ps : List (ℕ × Entry)) (p : ℕ × Entry) → StandIn H ps → slice_get H p.0 ≡ Some p.1 →
     StandIn H (ps ++ p ∷ [])

@@ -2,8 +2,7 @@
 --   get_set     the place that was set holds what it was set to
 --   get_other   the others hold what they held
 --   length_set  there are as many
-use Rattle.std.proofs.Common.{◌≡◌, ◌≢◌, ℕ, zero, suc, List, [], ◌∷◌, length, slice_get, Some, refl, ap}
-use Rattle.std.specs.List.{slice_set}
+use Rattle.dg_table.proofs.Common.{◌≡◌, ◌≢◌, ℕ, zero, suc, List, [], ◌∷◌, length, slice_get, Some, refl, ap, slice_set}
 
 pub get_set : {A : Type 0} (xs : List A) (i : ℕ) (x y : A) → slice_get xs i ≡ Some x → slice_get (slice_set xs i y) i ≡ Some y
 get_set [] i x y at = absurd cc

@@ -13,40 +13,11 @@
 --                 is refused
 --   held_none     what the lock holds at the start
 --   held_more     what the lock holds after one more entry
-use Rattle.std.proofs.Common.{inl, inr, ◌≡◌, ◌≢◌, Option, take, ℕ, ◌+◌, ◌<◌, ◌≤◌, List, [], ◌∷◌, ◌++◌, length, get_or, set, slice_get, Some, arith, refl, sym, ap, subst, ◌∙◌}
-use Rattle.std.proofs.lemmas.List.{length-set, length_push, append-nil}
-use Rattle.std.proofs.lemmas.Option.{slice_get_within}
-use Rattle.dg_chips.specs.Starts.{StartData}
-use Rattle.dg_game.specs.Legal.{IsLegal}
-use Rattle.dg_game.specs.History.{gifts_in}
-use Rattle.dg_game.specs.Look.{IsLookAt, asked_for, asked_on, KeepsFinding}
-use Rattle.dg_game.specs.Replies.{Replies}
-use Rattle.dg_game.specs.State.{State, LeadsTo}
-use Rattle.dg_game.specs.declared.entry.Entry.{Entry}
-use Rattle.dg_game.specs.declared.entry.TheConstants.{MAX_SEATS}
-use Rattle.dg_game.specs.declared.entry.Reply.TheVariants.{Stale}
-use Rattle.dg_game.specs.declared.entry.Request.{Request}
-use Rattle.dg_game.specs.declared.finding.Finding.{Finding}
-use Rattle.dg_game.specs.declared.finding.Question.{Question}
-use Rattle.dg_game.specs.declared.look.LookData.{LookData}
-use Rattle.dg_game.proofs.LegalLaws.{legal_none}
-use Rattle.dg_game.proofs.ListLaws.{slice_get-append}
-use Rattle.dg_table.specs.Answered.{entering, IsEnteredAfter, IsAnsweredAfter}
-use Rattle.dg_table.specs.Faults.{RefusesStep, RefusesSettling}
-use Rattle.dg_table.specs.declared.fault.Fault.{Fault}
-use Rattle.dg_table.specs.declared.fault.Fault.TheVariants.{OutOfMemory, Full, Log}
-use Rattle.dg_table.specs.Lock.{IsUnderLock, IsReady, IsKeptLook, IsSeatState}
-use Rattle.dg_log.specs.Numbered.{IsBeginning}
-use Rattle.dg_table.specs.Histories.{IsHistoryOf}
-use Rattle.dg_table.specs.Looks.{IsLookOf}
-use Rattle.dg_table.specs.Seats.{SeatView, Holds, IsAdmissible, Meets, AreSeated, entries_of}
-use Rattle.dg_table.specs.Settled.{IsSettledAfter, IsStaleAfter, IsNotStaleAfter}
+use Rattle.dg_table.proofs.Common.{inl, inr, ◌≡◌, ◌≢◌, Option, take, ℕ, ◌+◌, ◌<◌, ◌≤◌, List, [], ◌∷◌, ◌++◌, length, get_or, set, slice_get, Some, arith, refl, sym, ap, subst, ◌∙◌, length-set, length_push, append-nil, slice_get_within, StartData, IsLegal, gifts_in, IsLookAt, asked_for, asked_on, KeepsFinding, Replies, State, LeadsTo, Entry, MAX_SEATS, Stale, Request, Finding, Question, LookData, legal_none, slice_get-append, entering, IsEnteredAfter, IsAnsweredAfter, RefusesStep, RefusesSettling, Fault, OutOfMemory, Full, Log, IsUnderLock, IsReady, IsKeptLook, IsSeatState, IsBeginning, IsHistoryOf, IsLookOf, SeatView, Holds, IsAdmissible, Meets, AreSeated, entries_of, IsSettledAfter, IsStaleAfter, IsNotStaleAfter, TableData, Written}
 use Rattle.dg_table.proofs.Entries.{own_more}
 use Rattle.dg_table.proofs.Findings.{stale_both, carried_over}
 use Rattle.dg_table.proofs.Numbered.{stand_more, stand_longer}
 use Rattle.dg_table.proofs.Counts.{seated_more, counted_more, counted_none}
-use Rattle.dg_log.specs.Tables.{TableData}
-use Rattle.dg_log.specs.Written.{Written}
 
 pub holds_more : (H : List Entry) (e : Entry) (x y : SeatView) → Holds H x → e.seat ≡ x.number → y.number ≡ x.number →
     y.mine ≡ x.mine ++ (length H, e) ∷ [] → y.told ≡ x.told → y.prefix ≡ H ++ e ∷ [] → y.met ≡ H ++ e ∷ [] →

@@ -2,24 +2,8 @@
 --   totals       the counts of what the lock holds are those of the seats, and add up to the number of entries
 --   history_of   the history of what the lock holds is legal, and its entries are of the table's seats
 --   longer_history   the longer of two histories of a table is one
-use Rattle.std.proofs.Common.{◌≡◌, ℕ, ◌+◌, ◌≤◌, List, length, get_or, arith, sym, ap, subst, ◌∙◌, inl, inr}
-use Rattle.std.proofs.lemmas.List.{get_or_past}
-use Rattle.std.proofs.lemmas.Bool.{cases_lt}
-use Rattle.dg_chips.specs.Starts.{StartData}
-use Rattle.dg_game.specs.History.{position_after}
-use Rattle.dg_game.specs.Position.{Shows}
-use Rattle.dg_game.specs.State.{State}
-use Rattle.dg_game.specs.declared.entry.Entry.{Entry}
-use Rattle.dg_game.specs.declared.entry.TheConstants.{MAX_SEATS}
-use Rattle.dg_log.specs.Numbered.{IsLonger}
-use Rattle.dg_table.specs.Closing.{AllHeld, AreTotals}
-use Rattle.dg_table.specs.Histories.{IsHistoryOf}
-use Rattle.dg_table.specs.Lock.{IsUnderLock}
-use Rattle.dg_table.specs.Seats.{SeatView, entries_of}
+use Rattle.dg_table.proofs.Common.{◌≡◌, ℕ, ◌+◌, ◌≤◌, List, length, get_or, arith, sym, ap, subst, ◌∙◌, inl, inr, get_or_past, cases_lt, StartData, position_after, Shows, State, Entry, MAX_SEATS, IsLonger, AllHeld, AreTotals, IsHistoryOf, IsUnderLock, SeatView, entries_of, Ghosts, Audit, TableData}
 use Rattle.dg_table.proofs.Counts.{none_past, all_counted}
-use Rattle.dg_log.specs.declared.name.Name.{Ghosts}
-use Rattle.dg_table.specs.declared.audit.Audit.{Audit}
-use Rattle.dg_log.specs.Tables.{TableData}
 
 counted_at : {o : StartData} {seats : ℕ} {H : List Entry} {game : State} {counts : List ℕ} (s : ℕ) →
     IsUnderLock o seats H game counts → get_or counts s 0 ≡ length (entries_of (s + 1) H)

@@ -1,19 +1,7 @@
 -- A turn that is barred before the choice is asked.
 --   barred_turn      the choice was not asked, as it should not be
 --   turn_refused     what is known of a turn that is refused under the lock
-use Rattle.std.proofs.Common.{◌≡◌, Option, arith, refl, inr}
-use Rattle.std.specs.Fn.{Mut}
-use Rattle.std.specs.Borrow.{Bor}
-use Rattle.dg_theory.specs.Multigraph.{Multigraph}
-use Rattle.dg_chips.specs.Vector.{Vector}
-use Rattle.dg_chips.specs.declared.moves.Move.{Move}
-use Rattle.dg_table.specs.Faults.{RefusesStep}
-use Rattle.dg_table.specs.Seats.{SeatView, IsAdmissible}
-use Rattle.dg_table.specs.Turns.{asking, IsAskedToEnter}
-use Rattle.dg_table.specs.declared.fault.Fault.{Fault}
-use Rattle.dg_table.specs.declared.fault.Fault.TheVariants.{OutOfMemory, Full, Log}
-use Rattle.dg_log.specs.Tables.{TableData}
-use Rattle.dg_log.specs.Written.{Written}
+use Rattle.dg_table.proofs.Common.{◌≡◌, Option, arith, refl, inr, Mut, Bor, Multigraph, Vector, Move, RefusesStep, SeatView, IsAdmissible, asking, IsAskedToEnter, Fault, OutOfMemory, Full, Log, TableData, Written}
 
 pub barred_turn : {F : Type 0} (c : Mut F (Bor Multigraph × (Bor Vector × Unit {0})) (Option Move)) (f : F)
     (table : TableData) (p : Written) (x : SeatView) (e : Fault) → RefusesStep table p p x e →

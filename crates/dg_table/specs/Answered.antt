@@ -10,12 +10,9 @@
 --   IsAnsweredAfter table request e == the call is so entered, and the seat is told of nothing more
 --   IsAnswered table request r x y  == it is so answered after some history
 use Rattle.std.specs.Prelude.{◌≡◌, ℕ, List, [], ◌∷◌, ◌++◌, length}
-use Rattle.dg_game.specs.Replies.{Replies}
-use Rattle.dg_game.specs.declared.entry.Entry.{Entry}
-use Rattle.dg_game.specs.declared.entry.Request.{Request}
+use Rattle.dg_table.specs.Common.{Replies, Entry, Request, TableData}
 use Rattle.dg_table.specs.Histories.{IsHistoryOf}
 use Rattle.dg_table.specs.Seats.{SeatView, Holds}
-use Rattle.dg_log.specs.Tables.{TableData}
 
 pub record Entering : Type 0 where
   pub history : List Entry

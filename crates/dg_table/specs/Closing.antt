@@ -18,14 +18,9 @@
 --                                   refused with s; they come back as ys, and have met that history
 use Rattle.std.specs.Prelude.{◌≡◌, ℕ, ◌+◌, ◌<◌, ◌≤◌, List, length, slice_get, Some, ◌⊎◌, sum}
 use Rattle.std.specs.List.{slice_index}
-use Rattle.dg_game.specs.Position.{Shows}
-use Rattle.dg_game.specs.History.{position_after, gifts_in}
-use Rattle.dg_game.specs.declared.entry.Entry.{Entry}
-use Rattle.dg_game.specs.declared.entry.TheConstants.{MAX_SEATS}
+use Rattle.dg_table.specs.Common.{Shows, position_after, gifts_in, Entry, MAX_SEATS, Ghosts, TableData}
 use Rattle.dg_table.specs.Histories.{IsHistoryOf}
 use Rattle.dg_table.specs.Seats.{SeatView, Holds, IsAdmissible, Meets}
-use Rattle.dg_log.specs.declared.name.Name.{Ghosts}
-use Rattle.dg_log.specs.Tables.{TableData}
 use Rattle.dg_table.specs.declared.audit.Audit.{Audit}
 
 abbrev pub HasSeat : List SeatView → ℕ → Type 0

@@ -11,14 +11,11 @@
 --                                  after `Full`, the history that it has met then fills the table;
 --                                  after `Log`, that has room
 use Rattle.std.specs.Prelude.{◌≡◌, ℕ, ◌<◌, ◌≤◌, List, true, length, ⊤, ◌⊎◌}
-use Rattle.dg_game.specs.declared.entry.Entry.{Entry}
-use Rattle.dg_log.specs.Numbered.{StandIn, IsBeginning}
+use Rattle.dg_table.specs.Common.{Entry, StandIn, IsBeginning, TableData, Written}
 use Rattle.dg_table.specs.Histories.{IsHistoryOf}
 use Rattle.dg_table.specs.Seats.{SeatView, IsAdmissible}
 use Rattle.dg_table.specs.declared.fault.Fault.{Fault}
 use Rattle.dg_table.specs.declared.fault.Fault.TheVariants.{OutOfMemory, Full, Log}
-use Rattle.dg_log.specs.Tables.{TableData}
-use Rattle.dg_log.specs.Written.{Written}
 
 pub record StandsFull (table : TableData) (H : List Entry) (x : SeatView) : Type 0 where
   pub full : length H ≡ table.capacity

@@ -6,11 +6,8 @@
 --                          in order; before its first call it is empty. The longest history that the
 --                          seat has met begins with it, and is such a history too
 use Rattle.std.specs.Prelude.{◌≡◌, ◌≤◌, List, length}
-use Rattle.dg_log.specs.Numbered.{IsBeginning}
-use Rattle.dg_game.specs.Legal.{IsLegal}
-use Rattle.dg_game.specs.declared.entry.Entry.{Entry}
+use Rattle.dg_table.specs.Common.{IsBeginning, IsLegal, Entry, TableData}
 use Rattle.dg_table.specs.Seats.{SeatView, AreSeated, entries_of}
-use Rattle.dg_log.specs.Tables.{TableData}
 
 pub record IsHistoryOf (table : TableData) (H : List Entry) : Type 0 where
   pub legal : IsLegal table.start H

@@ -11,3 +11,4 @@ pub mod Closing
 pub mod Turns
 -- Words of private fields.
 pub mod Lock
+pub mod Common

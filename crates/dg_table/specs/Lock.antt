@@ -16,19 +16,11 @@
 use Rattle.std.specs.Prelude.{◌≡◌, ℕ, ◌+◌, ◌<◌, ◌≤◌, ◌&&◌, nat_lt, List, length, Option, IfSome}
 use Rattle.std.specs.List.{slice_index}
 use Rattle.std.specs.Vec.{vec_len, vec_capacity}
-use Rattle.dg_chips.specs.Starts.{StartData}
-use Rattle.dg_game.specs.Legal.{IsSeat, IsLegal}
-use Rattle.dg_game.specs.State.{State, LeadsTo}
-use Rattle.dg_game.specs.declared.entry.Entry.{Entry}
-use Rattle.dg_game.specs.declared.entry.TheConstants.{MAX_SEATS}
-use Rattle.dg_game.specs.declared.game.TheConstants.{MAX_ENTRIES}
-use Rattle.dg_game.specs.declared.look.LookData.{LookData}
-use Rattle.dg_log.specs.Numbered.{IsBeginning}
+use Rattle.dg_table.specs.Common.{StartData, IsSeat, IsLegal, State, LeadsTo, Entry, MAX_SEATS, MAX_ENTRIES, LookData, IsBeginning, TableData}
 use Rattle.dg_table.specs.Histories.{IsHistoryOf}
 use Rattle.dg_table.specs.Looks.{HasVertices, IsLastLook}
 use Rattle.dg_table.specs.Seats.{SeatView, Holds, IsAdmissible, AreSeated, entries_of}
 use Rattle.dg_table.specs.declared.seat.Seat.TheInside.{Inside}
-use Rattle.dg_log.specs.Tables.{TableData}
 
 abbrev pub AreCountsOf : List ℕ → List Entry → Type 0
 AreCountsOf counts H =

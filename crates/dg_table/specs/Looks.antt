@@ -10,11 +10,7 @@
 --   LastLook             == after a look there is a last look, and it is that look
 use Rattle.std.specs.Prelude.{◌≡◌, ℕ, List, [], ◌∷◌, ◌++◌, Option, Some, None, Bool, true, false, MatchOption}
 use Rattle.std.specs.List.{filter, last_or}
-use Rattle.dg_game.specs.declared.entry.Entry.{Entry}
-use Rattle.dg_game.specs.declared.entry.Request.{Request}
-use Rattle.dg_game.specs.declared.entry.Request.TheVariants.{Look}
-use Rattle.dg_game.specs.declared.entry.Reply.TheVariants.{Looked}
-use Rattle.dg_game.specs.declared.look.LookData.{LookData}
+use Rattle.dg_table.specs.Common.{Entry, Request, Look, Looked, LookData}
 
 abbrev pub asks_look : Request → Bool
 asks_look Look = true

@@ -3,7 +3,7 @@
 --   AreFresh n xs          == xs are the seats 1 to n, in order, which know of no entry
 --   RefusesOpening n fault   == a table with n seats is refused with the fault
 use Rattle.std.specs.Prelude.{◌≡◌, ℕ, ◌+◌, ◌≤◌, List, [], length, slice_get, Some}
-use Rattle.dg_game.specs.declared.entry.TheConstants.{MAX_SEATS}
+use Rattle.dg_table.specs.Common.{MAX_SEATS}
 use Rattle.dg_table.specs.Seats.{SeatView}
 use Rattle.dg_table.specs.declared.fault.TableFault.{TableFault}
 use Rattle.dg_table.specs.declared.fault.TableFault.TheVariants.{Seats, OutOfMemory}

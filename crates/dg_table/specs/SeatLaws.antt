@@ -7,8 +7,7 @@
 --   OneSeat        == in a history of the seat 1 alone its entries are all, numbered from 0 on
 use Rattle.std.specs.Prelude.{◌≡◌, ◌≢◌, ℕ, List, [], ◌∷◌, ◌++◌, length}
 use Rattle.std.specs.List.{enumerate_from}
-use Rattle.dg_game.specs.declared.entry.Entry.{Entry}
-use Rattle.dg_log.specs.Numbered.{StandIn}
+use Rattle.dg_table.specs.Common.{Entry, StandIn}
 use Rattle.dg_table.specs.Seats.{AreSeated, entries_of}
 
 abbrev pub NoEntries : Type 0

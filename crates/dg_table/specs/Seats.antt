@@ -19,8 +19,7 @@
 --                         H and what it had met it keeps the longer
 use Rattle.std.specs.Prelude.{◌≡◌, ℕ, ◌==◌, ◌≤◌, List, Bool, Some, length, slice_get}
 use Rattle.std.specs.List.{filter, enumerate_from}
-use Rattle.dg_game.specs.declared.entry.Entry.{Entry}
-use Rattle.dg_log.specs.Numbered.{AreBelow, StandIn, IsBeginning, IsLonger}
+use Rattle.dg_table.specs.Common.{Entry, AreBelow, StandIn, IsBeginning, IsLonger}
 
 abbrev pub entries_of : ℕ → List Entry → List (ℕ × Entry)
 entries_of s H = filter (λ p. p.1.seat == s) (enumerate_from 0 H)

@@ -14,23 +14,10 @@
 --                                  accepted since; the seat has met H, and knows what it knew
 --   IsNotStale table look x y   == so it is after the history that the seat has met then
 use Rattle.std.specs.Prelude.{◌≡◌, ◌≢◌, ◌↔◌, ℕ, List, [], ◌∷◌, ◌++◌, take, slice_get, Some}
-use Rattle.dg_theory.specs.Firing.{FiresTo}
-use Rattle.dg_chips.specs.Vector.{at}
-use Rattle.dg_verdict.specs.Right.{IsRight}
-use Rattle.dg_verdict.specs.RankTests.{IsRankTest}
-use Rattle.dg_game.specs.Position.{Position}
-use Rattle.dg_game.specs.History.{position_after, gifts_in}
-use Rattle.dg_game.specs.Look.{asked_for, asked_on, degree_of, KeepsFinding}
-use Rattle.dg_game.specs.declared.entry.Entry.{Entry}
-use Rattle.dg_game.specs.declared.entry.Reply.{Reply}
-use Rattle.dg_game.specs.declared.entry.Reply.TheVariants.{Verdict, Rank, Stale}
-use Rattle.dg_game.specs.declared.finding.Finding.{Finding}
-use Rattle.dg_game.specs.declared.finding.Finding.TheVariants.{Judged, Ranked}
-use Rattle.dg_game.specs.declared.finding.Question.{Question}
+use Rattle.dg_table.specs.Common.{FiresTo, at, IsRight, IsRankTest, Position, position_after, gifts_in, asked_for, asked_on, degree_of, KeepsFinding, Entry, Reply, Verdict, Rank, Stale, Finding, Judged, Ranked, Question, TableData}
 use Rattle.dg_table.specs.Answered.{Entering, entering, IsEnteredAfter}
 use Rattle.dg_table.specs.Histories.{IsHistoryOf}
 use Rattle.dg_table.specs.Seats.{SeatView, Holds, Keeps}
-use Rattle.dg_log.specs.Tables.{TableData}
 
 abbrev pub IsCarriedTo : Position → ℕ → Finding → Reply → Type 0
 IsCarriedTo p q (Judged v) (Verdict w) =

@@ -4,8 +4,6 @@
 --   Asking                == a choice before and after
 --   asking f f'           == that of these
 --   IsAsked c a g d m     == asked once, at the graph g and the amounts d, the choice answers m
---   request_for m         == what is asked of the game if the answer is m: that move, and a claim if
---                            it is none
 --   IsAskedAfter c table H a m == the choice is so asked at the table's position after the history H
 --   IsTurnAfter c table a e    == the choice is so asked, once, and its answer is the call that is
 --                                 so entered
@@ -15,18 +13,10 @@
 --   RefusesTurn c table x a f  == if the turn of the seat x was refused with f, this is known, as of
 --                                 a call; and the choice was not asked, or, if the cell refused the
 --                                 entry, after the history that the seat has met then
-use Rattle.std.specs.Prelude.{◌≡◌, ℕ, ◌<◌, List, length, Option, Some, None, ◌⊎◌}
-use Rattle.std.specs.Fn.{Mut, Called, Takes}
+use Rattle.std.specs.Prelude.{◌≡◌, ℕ, ◌<◌, List, length, Option, ◌⊎◌}
 use Rattle.std.specs.Borrow.{Bor}
-use Rattle.dg_theory.specs.Multigraph.{Multigraph}
-use Rattle.dg_log.specs.Tables.{TableData}
-use Rattle.dg_chips.specs.Vector.{Vector}
-use Rattle.dg_chips.specs.declared.moves.Move.{Move}
-use Rattle.dg_game.specs.Position.{Shows}
-use Rattle.dg_game.specs.History.{position_after}
-use Rattle.dg_game.specs.declared.entry.Entry.{Entry}
-use Rattle.dg_game.specs.declared.entry.Request.{Request}
-use Rattle.dg_game.specs.declared.entry.Request.TheVariants as request
+use Rattle.std.specs.Fn.{Mut, Called, Takes}
+use Rattle.dg_table.specs.Common.{Multigraph, TableData, Vector, Move, Shows, position_after, Entry, request_for}
 use Rattle.dg_table.specs.Answered.{Entering, entering, IsAnsweredAfter}
 use Rattle.dg_table.specs.Faults.{StandsFull, MayEnter}
 use Rattle.dg_table.specs.Seats.{SeatView}
@@ -50,10 +40,6 @@ module _ {F : Type 0} (c : Mut F (Bor Multigraph × (Bor Vector × Unit {0})) (O
     pub amounts : Bor Vector
     pub shows : (graph.now ≡ g) × (amounts.now ≡ d)
     pub called : Called c a.before (graph, (amounts, tt)) m a.after
-
-abbrev pub request_for : Option Move → Request
-request_for (Some m) = request.Move m
-request_for None = request.Claim
 
 module _ {F : Type 0} (c : Mut F (Bor Multigraph × (Bor Vector × Unit {0})) (Option Move))
     (table : TableData) where

@@ -18,7 +18,7 @@ ghost use Rattle.dg_table.specs.Looks.{IsLookOf};
 ghost use Rattle.dg_table.specs.Opened.{MayHaveSeats};
 ghost use Rattle.dg_table.specs.Seats.{SeatView, Holds, IsAdmissible, Meets};
 ghost use Rattle.dg_table.specs.Settled.{IsSettledAfter, IsStaleAfter, IsNotStaleAfter};
-ghost use Rattle.dg_table.specs.Turns.{MayBeAsked, asking, request_for, IsTurnAfter, IsAskedToEnter};
+ghost use Rattle.dg_table.specs.Turns.{MayBeAsked, asking, IsTurnAfter, IsAskedToEnter};
 
 use crate::audit::Audit;
 use crate::fault::Fault;
@@ -157,10 +157,7 @@ impl<N: Name> Held<N> {
             }
         }
         let mut slot = slot;
-        let entry = &mut *slot;
-        entry.seat = seat.number();
-        plain.ask(&mut entry.request);
-        self.game.answer(plain, &mut entry.reply);
+        self.game.answer_call(seat.number(), plain, &mut *slot);
         self.enter(log, seat, slot)
     }
 
@@ -195,12 +192,9 @@ impl<N: Name> Held<N> {
                 return Err(fault);
             }
         }
-        let chosen = call_for(choose(self.game.graph(), self.game.position()));
+        let chosen = Plain::of(choose(self.game.graph(), self.game.position()));
         let mut slot = slot;
-        let entry = &mut *slot;
-        entry.seat = seat.number();
-        chosen.ask(&mut entry.request);
-        self.game.answer(&chosen, &mut entry.reply);
+        self.game.answer_call(seat.number(), &chosen, &mut *slot);
         self.enter(log, seat, slot)
     }
 
@@ -236,10 +230,8 @@ impl<N: Name> Held<N> {
             }
         }
         let mut slot = slot;
-        let entry = &mut *slot;
-        entry.seat = seat.number();
-        entry.request = finding.request(shown.number);
-        self.game.answer_finding(shown, finding, &mut entry.reply);
+        self.game
+            .answer_finding(seat.number(), shown, finding, &mut *slot);
         let receipt = self.enter(log, seat, slot)?;
         seat.hear(look);
         Ok(receipt)
@@ -281,10 +273,8 @@ impl<N: Name> Held<N> {
             return Ok(None);
         }
         let mut slot = slot;
-        let entry = &mut *slot;
-        entry.seat = seat.number();
-        entry.request = asks.request(shown.number);
-        self.game.answer_stale(shown, &mut entry.reply);
+        self.game
+            .answer_stale(seat.number(), shown, asks, &mut *slot);
         let receipt = self.enter(log, seat, slot)?;
         seat.hear(taken);
         Ok(Some(receipt))
@@ -426,16 +416,6 @@ fn keep_look(look: &mut Option<LookData>, game: &Game, entry: &Entry)
         | Reply::Won
         | Reply::NotWon
         | Reply::Refused(_) => {}
-    }
-}
-
-/// The call that is chosen by an answer: the move, or a claim if there is none.
-fn call_for(answer: Option<Move>) -> Plain
-    ensures { asked result ≡ request_for answer }
-{
-    match answer {
-        Some(play) => Plain::Move(play),
-        None => Plain::Claim,
     }
 }
 

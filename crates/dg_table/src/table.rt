@@ -154,7 +154,7 @@ impl<N: Name> Table<N> {
         self.held.lock(rt).turn(&self.log, seat, slot, choose)
     }
 
-    /// Enters what was reckoned on the look of a receipt: as stale if gifts, levies or joins were accepted since; otherwise
+    /// Enters what was computed on the look of a receipt: as stale if gifts, levies or joins were accepted since; otherwise
     /// a verdict that is right for the position at its place in the one history, with the reduced divisor and the burning
     /// order that were found, or the answer of the rank test as it was found. The seat is told of the look. The conditions are
     /// that the data is that of the look, whatever its drift, and that the finding is right for the look's amounts on the
@@ -184,7 +184,7 @@ impl<N: Name> Table<N> {
     }
 
     /// Enters a question on the look of a receipt as stale, as `settle` enters each finding on it, if gifts, levies or joins were
-    /// accepted since; so nothing need be reckoned on a look that is stale. The seat is told of the look. The condition is that
+    /// accepted since; so nothing need be computed on a look that is stale. The seat is told of the look. The condition is that
     /// the data is that of the look, whatever its drift. `None` if none was accepted in the history that it finds, which the seat
     /// has met then; that is no event: no cell is set, and the seat knows what it knew.
     ///

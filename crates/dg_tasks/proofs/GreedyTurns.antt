@@ -6,16 +6,8 @@
 --   one_played     with one more turn that is a move
 --   all_settled    with one more turn that is the claim the text is the answer
 --   all_used_up    and with `turns` where its turns are used up
-use Rattle.std.proofs.Common.{◌≡◌, ℕ, ◌+◌, ◌<◌, Bool, true, false, List, [], ◌∷◌, ◌++◌, length, arith, refl, sym, ap, ◌∙◌, append-nil, length-append}
-use Rattle.dg_chips.specs.Starts.{StartData}
-use Rattle.dg_game.specs.State.{State, LeadsTo}
-use Rattle.dg_game.specs.declared.entry.Entry.{Entry}
-use Rattle.dg_game.proofs.ListLaws.{slice_get-seam}
-use Rattle.dg_strategy.specs.Greedy.{IsGreedyTurn}
-use Rattle.dg_strategy.proofs.Greedily.{IsUnderWay, begun, legal_turn, went_on, settled_game, used_up}
-use Rattle.dg_lines.specs.Texts.{HasNames, history_text, entry_text}
-use Rattle.dg_lines.proofs.Printing.{legal_named, history_more}
-use Rattle.dg_tasks.specs.Games.{IsGreedyAnswer, turns_text}
+use Rattle.dg_tasks.proofs.Common.{◌≡◌, ℕ, ◌+◌, ◌<◌, Bool, true, false, List, [], ◌∷◌, ◌++◌, length, arith, refl, sym, ap, ◌∙◌, append-nil, length-append, StartData, State, LeadsTo, Entry, slice_get-seam, IsGreedyTurn, IsUnderWay, begun, legal_turn, went_on, settled_game, used_up, HasNames, entry_text, legal_named, history_more, IsGreedyAnswer, turns_text}
+use Rattle.dg_lines.specs.Texts.{history_text}
 
 pub record IsPlayedTo (o : StartData) (names : List (List ℕ)) (s : State) (n : ℕ) (text : List ℕ) : Type 0 where
   pub history : List Entry

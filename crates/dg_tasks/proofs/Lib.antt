@@ -3,3 +3,4 @@ pub mod UnderWay
 pub mod GreedyTurns
 pub mod OneReply
 pub mod OneText
+pub mod Common

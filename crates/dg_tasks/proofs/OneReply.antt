@@ -3,45 +3,11 @@
 --   pairs_same      amounts that agree on the vertices have the same pairs
 --   move_once, gift_once, join_once, look_once, claim_once, judge_once, rank_once   so it is of replies to each request
 --   reply_once      and to any
-use Rattle.std.proofs.Common.{◌≡◌, ◌≢◌, ℕ, ◌+◌, ◌<◌, ◌≤◌, ◌⊎◌, inl, inr, Bool, true, false, List, [], ◌∷◌, ◌++◌, length, codes, arith, refl, sym, ap, ◌∙◌}
-use Rattle.std.specs.Prelude.{◌↔◌, decimal}
-use Rattle.std.proofs.lemmas.Bool.{false≢true}
-use Rattle.std.proofs.lemmas.Int.{ints}
-use Rattle.std.proofs.Math.IntN.{ℤ}
-use Rattle.dg_theory.specs.Multigraph.{Multigraph}
-use Rattle.dg_theory.specs.Firing.{Amounts, AgreeOn, IsEffective}
-use Rattle.dg_theory.specs.Play.{IsWinnable}
-use Rattle.dg_theory.proofs.ConstantLaws.{same_by_constant}
-use Rattle.dg_theory.proofs.Equivalence.{equivalent-sym, equivalent-trans}
-use Rattle.dg_theory.proofs.LossLaws.{loss_once, loss_bounds_rank}
-use Rattle.dg_theory.proofs.ReducedLaws.{reduced_once}
-use Rattle.dg_graph.specs.Graph.{IsGraph}
-use Rattle.dg_graph.proofs.SetLaws.{in_set-none}
-use Rattle.dg_graph.specs.Sets.{in_set}
-use Rattle.dg_chips.specs.Vector.{Vector, at}
-use Rattle.dg_chips.specs.Moves.{NamesNoVertex, IsEmptySet, HasOtherSize, IsPlayable}
-use Rattle.dg_chips.specs.Applied.{IsAfterMove}
-use Rattle.dg_chips.specs.declared.moves.Move.{Move}
-use Rattle.dg_chips.specs.declared.moves.Move.TheVariants.{Lend, Borrow, Fire, Script}
-use Rattle.dg_verdict.specs.Right.{IsRight}
-use Rattle.dg_verdict.specs.RankTests.{IsRankTest}
+use Rattle.dg_tasks.proofs.Common.{◌≡◌, ◌≢◌, ℕ, ◌+◌, ◌<◌, ◌≤◌, ◌⊎◌, inl, inr, Bool, true, false, List, [], ◌∷◌, ◌++◌, length, codes, arith, refl, sym, ap, ◌∙◌, ◌↔◌, decimal, false≢true, ints, ℤ, Multigraph, Amounts, AgreeOn, IsEffective, IsWinnable, same_by_constant, equivalent-sym, equivalent-trans, loss_once, loss_bounds_rank, reduced_once, IsGraph, in_set-none, in_set, Vector, at, NamesNoVertex, IsEmptySet, HasOtherSize, IsPlayable, IsAfterMove, Move, Lend, Borrow, Fire, Script, IsRight, IsRankTest, RankVerdict, AtLeast, Below, gift_counted, IsGivenTo, RefusesGift, RepliesToGift, IsJoinedTo, RefusesToJoin, RepliesToJoin, RefusesMove, RepliesToMove, Position, Shows, RepliesAt, RepliesToLook, RepliesToClaim, RepliesToJudge, RepliesToRank, after_reply, Refusal, Request, Reply, Moved, Given, Joined, Looked, Verdict, Rank, Stale, Won, NotWon, Refused, pair, verdict_word, verdict_text, rank_text, text_of}
 use Rattle.dg_verdict.specs.declared.verdict.Verdict.{Verdict as VerdictFound}
-use Rattle.dg_verdict.specs.declared.rank_verdict.RankVerdict.{RankVerdict}
-use Rattle.dg_verdict.specs.declared.rank_verdict.RankVerdict.TheVariants.{AtLeast, Below}
-use Rattle.dg_game.specs.History.{gift_counted}
-use Rattle.dg_game.specs.GiftReplies.{IsGivenTo, RefusesGift, RepliesToGift}
-use Rattle.dg_game.specs.JoinReplies.{IsJoinedTo, RefusesToJoin, RepliesToJoin}
-use Rattle.dg_game.specs.MoveReplies.{RefusesMove, RepliesToMove}
-use Rattle.dg_game.specs.Position.{Position, Shows}
-use Rattle.dg_game.specs.Replies.{RepliesAt, RepliesToLook, RepliesToClaim, RepliesToJudge, RepliesToRank}
-use Rattle.dg_game.specs.Step.{after_reply}
-use Rattle.dg_game.specs.declared.entry.Refusal.{Refusal}
 use Rattle.dg_game.specs.declared.entry.Refusal.TheVariants as refusal
-use Rattle.dg_game.specs.declared.entry.Request.{Request}
 use Rattle.dg_game.specs.declared.entry.Request.TheVariants as request
-use Rattle.dg_game.specs.declared.entry.Reply.{Reply}
-use Rattle.dg_game.specs.declared.entry.Reply.TheVariants.{Moved, Given, Joined, Looked, Verdict, Rank, Stale, Won, NotWon, Refused}
-use Rattle.dg_lines.specs.Texts.{pair, more_pairs, pairs, verdict_word, verdict_text, rank_text, text_of}
+use Rattle.dg_lines.specs.Texts.{more_pairs, pairs}
 
 pub record Alike (names : List (List ℕ)) (p : Position) (r : Request) (a b : Reply) : Type 0 where
   pub counted : gift_counted a ≡ gift_counted b

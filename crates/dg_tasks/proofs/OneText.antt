@@ -12,34 +12,10 @@
 --   rehearsals_have_one_text   histories of the same steps have one text
 --   same_asks         greedy games that are the same ask for the same
 --   greedy_has_one_text   what is printed of a greedy game
-use Rattle.std.proofs.Common.{◌≡◌, ℕ, zero, suc, ◌+◌, ◌<◌, ◌≤◌, Bool, List, [], ◌∷◌, ◌++◌, length, take, slice_get, Some, arith, refl, sym, ap, subst, ◌∙◌, append_assoc, ⊎_elim, codes}
-use Rattle.std.proofs.Math.Seq.{take-append_seam}
-use Rattle.std.specs.Prelude.{decimal}
-use Rattle.std.proofs.lemmas.Option.{slice_get_within}
-use Rattle.std.proofs.lemmas.Bool.{cases_lt}
-use Rattle.dg_chips.specs.Starts.{StartData, IsStart}
-use Rattle.dg_game.specs.History.{position_after, gifts_in, gift_counted}
-use Rattle.dg_game.specs.Legal.{IsLegal}
-use Rattle.dg_game.specs.Position.{Position}
-use Rattle.dg_game.specs.Replies.{Replies, RepliesAt}
-use Rattle.dg_game.specs.Step.{after_reply}
-use Rattle.dg_game.specs.declared.entry.Entry.{Entry}
-use Rattle.dg_game.specs.declared.entry.Request.{Request}
+use Rattle.dg_tasks.proofs.Common.{◌≡◌, ℕ, zero, suc, ◌+◌, ◌<◌, ◌≤◌, Bool, List, [], ◌∷◌, ◌++◌, length, take, slice_get, Some, arith, refl, sym, ap, subst, ◌∙◌, append_assoc, ⊎_elim, codes, take-append_seam, decimal, slice_get_within, cases_lt, StartData, IsStart, position_after, gifts_in, gift_counted, IsLegal, Position, Replies, RepliesAt, after_reply, Entry, Request, Reply, Command, Call, Commit, Step, graphs_hold, legal_part, slice_get-seam, one_more_entry, vertices_stay, IsKept, IsAsked, IsEntryOf, AreSameGame, greedy_game_is_one, entry_text, turns_text, asked_in, LegalHaveOneText, RehearsalsHaveOneText, GreedyHasOneText}
 use Rattle.dg_game.specs.declared.entry.Request.TheVariants as request
-use Rattle.dg_game.specs.declared.entry.Reply.{Reply}
-use Rattle.dg_game.specs.declared.step.Command.{Command}
-use Rattle.dg_game.specs.declared.step.Command.TheVariants.{Call, Commit, Rank}
-use Rattle.dg_game.specs.declared.step.Step.{Step}
-use Rattle.dg_game.proofs.GraphLaws.{graphs_hold}
-use Rattle.dg_game.proofs.LegalLaws.{legal_part}
-use Rattle.dg_game.proofs.ListLaws.{slice_get-seam}
-use Rattle.dg_game.proofs.StepLaw.{one_more_entry, vertices_stay}
-use Rattle.dg_rehearsal.specs.Schedule.{IsKept, IsAsked, IsEntryOf}
-use Rattle.dg_strategy.specs.GreedyLaws.{AreSameGame}
-use Rattle.dg_strategy.proofs.OneGame.{greedy_game_is_one}
-use Rattle.dg_lines.specs.Texts.{entry_text, history_text}
-use Rattle.dg_tasks.specs.Games.{turns_text}
-use Rattle.dg_tasks.specs.OneText.{asked_in, LegalHaveOneText, RehearsalsHaveOneText, GreedyHasOneText}
+use Rattle.dg_game.specs.declared.step.Command.TheVariants.{Rank}
+use Rattle.dg_lines.specs.Texts.{history_text}
 use Rattle.dg_tasks.proofs.OneReply.{Alike, reply_once}
 
 pub counts : List Entry → List ℕ

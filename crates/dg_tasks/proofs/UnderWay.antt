@@ -15,25 +15,9 @@
 --   all_played       after the last line the text is that of the history
 --   first_fault      after the last line the fault is the first one of the steps
 --   never_unseated   a step that a line spells has a seat
-use Rattle.std.proofs.Common.{◌≡◌, ℕ, ◌+◌, ◌<◌, ◌≤◌, ◌==◌, cond, true, false, List, [], ◌∷◌, ◌++◌, length, slice_get, Option, Some, None, arith, refl, sym, ap, subst, ◌∙◌, append_assoc, append-nil, length-append}
-use Rattle.std.specs.Option.{is_none}
-use Rattle.dg_chips.specs.Starts.{StartData}
-use Rattle.dg_rehearsal.specs.Rehearsal.{IsPlaying, PlaysOn, StopsPlay}
-use Rattle.dg_rehearsal.specs.ScheduleFaults.{IsFirstFault}
-use Rattle.dg_game.specs.declared.entry.Entry.{Entry}
-use Rattle.dg_game.specs.declared.game.TheConstants.{MAX_ENTRIES}
-use Rattle.dg_rehearsal.specs.declared.schedule.Rehearsal.{Rehearsal}
-use Rattle.dg_rehearsal.specs.declared.schedule.RehearseFault.{RehearseFault}
-use Rattle.dg_rehearsal.specs.declared.schedule.RehearseFault.TheVariants.{Seat}
-use Rattle.dg_game.specs.declared.step.Step.{Step}
-use Rattle.dg_game.proofs.ListLaws.{slice_get-seam}
-use Rattle.dg_lines.specs.Cuts.{lines, onto_first}
-use Rattle.dg_lines.specs.Steps.{IsStepLine}
-use Rattle.dg_lines.specs.Texts.{history_text, entry_text}
-use Rattle.dg_lines.proofs.Printing.{history_more}
-use Rattle.dg_lines.proofs.Schedule.{AreRead, none_read, one_more, all_read, steps_seated}
-use Rattle.dg_tasks.specs.Rehearsals.{IsPrinted, IsPlayed, IsStopped}
-use Rattle.dg_tasks.specs.Refusals.{IsFaultOf}
+use Rattle.dg_tasks.proofs.Common.{◌≡◌, ℕ, ◌+◌, ◌<◌, ◌≤◌, ◌==◌, cond, true, false, List, [], ◌∷◌, ◌++◌, length, slice_get, Option, Some, None, arith, refl, sym, ap, subst, ◌∙◌, append_assoc, append-nil, length-append, is_none, StartData, IsPlaying, PlaysOn, StopsPlay, IsFirstFault, Entry, MAX_ENTRIES, Rehearsal, RehearseFault, Seat, Step, slice_get-seam, onto_first, IsStepLine, entry_text, history_more, AreRead, none_read, one_more, all_read, steps_seated, IsPrinted, IsPlayed, IsStopped, IsFaultOf}
+use Rattle.dg_lines.specs.Cuts.{lines}
+use Rattle.dg_lines.specs.Texts.{history_text}
 
 abbrev pub StandsAt : StartData → List (List ℕ) → List Step → Rehearsal → List ℕ → Option RehearseFault → Type 0
 StandsAt o names steps r text None = IsPlayed o names steps r text

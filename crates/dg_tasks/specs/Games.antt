@@ -5,13 +5,9 @@
 --                                    turns from the start o, and of how it ended
 --   RefusesTurns fault         == memory was refused
 use Rattle.std.specs.Prelude.{◌≡◌, ℕ, Bool, true, false, List, [], ◌++◌, codes, ⊤}
-use Rattle.dg_chips.specs.Starts.{StartData}
-use Rattle.dg_game.specs.declared.entry.Entry.{Entry}
-use Rattle.dg_strategy.specs.Greedy.{IsGreedyGame}
-use Rattle.dg_lines.specs.Texts.{history_text}
+use Rattle.dg_tasks.specs.Common.{StartData, Entry, IsGreedyGame, history_text, OutOfMemory}
 use Rattle.dg_tasks.specs.declared.fault.TaskFault.{TaskFault}
 use Rattle.dg_tasks.specs.declared.fault.TaskFault.TheVariants.{Shortage}
-use Rattle.dg_system.specs.declared.shortage.Shortage.TheVariants.{OutOfMemory}
 
 abbrev pub turns_text : Bool → List ℕ
 turns_text true = []

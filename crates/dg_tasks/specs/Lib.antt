@@ -5,3 +5,4 @@ pub mod Games
 pub mod OneText
 pub mod Refusals
 pub mod Tasks
+pub mod Common

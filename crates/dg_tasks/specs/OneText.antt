@@ -6,13 +6,7 @@
 --   GreedyHasOneText     == and what is printed of a greedy game of so many turns is the same for all
 --                           of them from one start
 use Rattle.std.specs.Prelude.{◌≡◌, ℕ, List, length, map}
-use Rattle.dg_chips.specs.Starts.{StartData, IsStart}
-use Rattle.dg_game.specs.Legal.{IsLegal}
-use Rattle.dg_game.specs.declared.entry.Entry.{Entry}
-use Rattle.dg_game.specs.declared.entry.Request.{Request}
-use Rattle.dg_game.specs.declared.step.Step.{Step}
-use Rattle.dg_lines.specs.Texts.{history_text}
-use Rattle.dg_rehearsal.specs.Schedule.{IsRehearsal}
+use Rattle.dg_tasks.specs.Common.{StartData, IsStart, IsLegal, Entry, Request, Step, history_text, IsRehearsal}
 use Rattle.dg_tasks.specs.Games.{IsGreedyAnswer}
 
 abbrev pub asked_in : List Entry → List Request

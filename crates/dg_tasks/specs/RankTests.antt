@@ -9,28 +9,16 @@
 --   number_line label z         == the label, the number and a newline
 --   riemann_roch_text o r s     == the lines of the start divisor's degree, of the genus, and of
 --                                  the ranks r and s
---   IsRiemannRoch o text        == the dual is in range, and the text is those lines, with the rank
---                                  of the divisor and that of its dual, each told by tests within
+--   IsRiemannRoch o text        == the residual is in range, and the text is those lines, with the rank
+--                                  of the divisor and that of its residual, each told by tests within
 --                                  the limits; the two differ by the degree, plus 1, less the genus
---   RefusesRiemannRoch o fault  == the dual is out of range; else one of the two ranks needs a test
+--   RefusesRiemannRoch o fault  == the residual is out of range; else one of the two ranks needs a test
 --                                  past the limits; of want of memory nothing is said
 use Rattle.std.specs.Prelude.{◌≡◌, ◌≤◌, ℕ, ℤ, pos, ◌+ℤ◌, ◌-ℤ◌, List, ◌++◌, codes, ⊤}
 use Rattle.std.specs.Fmt.{signed_decimal}
-use Rattle.dg_theory.specs.Multigraph.{genus}
-use Rattle.dg_theory.specs.Firing.{degree}
-use Rattle.dg_theory.specs.Rank.{less, canonical}
-use Rattle.dg_chips.specs.Dual.{IsDualFault}
-use Rattle.dg_chips.specs.Starts.{StartData}
-use Rattle.dg_chips.specs.Vector.{at, IsInRange}
-use Rattle.dg_rank.specs.Limits.{IsPastLimits}
-use Rattle.dg_verdict.specs.RankTests.{IsRankTest}
-use Rattle.dg_rank.specs.Ranks.{IsWithin, IsRankInLimits, DualNeedsTooMany}
-use Rattle.dg_verdict.specs.declared.rank_verdict.RankVerdict.{RankVerdict}
-use Rattle.dg_game.specs.declared.entry.Reply.TheVariants.{Rank}
-use Rattle.dg_lines.specs.Texts.{text_of}
+use Rattle.dg_tasks.specs.Common.{genus, degree, less, canonical, IsDualFault, StartData, at, IsInRange, IsPastLimits, IsRankTest, IsWithin, IsRankInLimits, RefusesBothRanks, RankVerdict, Rank, text_of, OutOfMemory, Spawn}
 use Rattle.dg_tasks.specs.declared.fault.TaskFault.{TaskFault}
 use Rattle.dg_tasks.specs.declared.fault.TaskFault.TheVariants.{TooMany, Chip, Shortage}
-use Rattle.dg_system.specs.declared.shortage.Shortage.TheVariants.{OutOfMemory, Spawn}
 
 pub record IsRankAnswer (o : StartData) (k : ℕ) (names : List (List ℕ)) (text : List ℕ) : Type 0 where
   pub within : IsWithin o.graph.size k
@@ -65,6 +53,6 @@ pub record IsRiemannRoch (o : StartData) (text : List ℕ) : Type 0 where
 
 abbrev pub RefusesRiemannRoch : StartData → TaskFault → Type 0
 RefusesRiemannRoch o (Chip fault) = IsDualFault o.graph (at o.divisor) fault
-RefusesRiemannRoch o TooMany = DualNeedsTooMany o.graph (at o.divisor)
+RefusesRiemannRoch o TooMany = RefusesBothRanks o.graph (at o.divisor)
 RefusesRiemannRoch o (Shortage OutOfMemory) = ⊤
 RefusesRiemannRoch o fault = ⊥

@@ -7,14 +7,10 @@
 --                                          rank test past the limits; of want of memory nothing is
 --                                          said, and no other fault comes
 use Rattle.std.specs.Prelude.{ℕ, List, ⊤}
-use Rattle.dg_rehearsal.specs.ScheduleFaults.{IsFirstFault}
-use Rattle.dg_rehearsal.specs.declared.schedule.RehearseFault.{RehearseFault}
+use Rattle.dg_tasks.specs.Common.{IsFirstFault, RehearseFault, Step, AreStepsOf, IsFirstRefused, OutOfMemory}
 use Rattle.dg_rehearsal.specs.declared.schedule.RehearseFault.TheVariants as schedule
-use Rattle.dg_game.specs.declared.step.Step.{Step}
-use Rattle.dg_lines.specs.Schedules.{AreStepsOf, IsFirstRefused}
 use Rattle.dg_tasks.specs.declared.fault.TaskFault.{TaskFault}
 use Rattle.dg_tasks.specs.declared.fault.TaskFault.TheVariants.{Line, Full, NoLook, StepTrials, Shortage}
-use Rattle.dg_system.specs.declared.shortage.Shortage.TheVariants.{OutOfMemory}
 
 abbrev pub IsFaultOf : ℕ → List (List ℕ) → List (List ℕ) → RehearseFault → Type 0
 IsFaultOf n names lines fault =

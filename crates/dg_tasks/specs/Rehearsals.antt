@@ -11,17 +11,7 @@
 --   GoesOn names step old new result == of all such steps, with this one they come to the new; or
 --                                      the fault is the first of them with this one
 use Rattle.std.specs.Prelude.{◌≡◌, ℕ, List, [], ◌∷◌, ◌++◌, length, ◌≤◌, Result, MatchResult}
-use Rattle.dg_chips.specs.Starts.{StartData}
-use Rattle.dg_rehearsal.specs.Rehearsal.{IsPlaying}
-use Rattle.dg_rehearsal.specs.Schedule.{IsRehearsal}
-use Rattle.dg_rehearsal.specs.ScheduleFaults.{IsFirstFault}
-use Rattle.dg_game.specs.declared.entry.Entry.{Entry}
-use Rattle.dg_game.specs.declared.game.TheConstants.{MAX_ENTRIES}
-use Rattle.dg_rehearsal.specs.declared.schedule.Rehearsal.{Rehearsal}
-use Rattle.dg_rehearsal.specs.declared.schedule.RehearseFault.{RehearseFault}
-use Rattle.dg_game.specs.declared.step.Step.{Step}
-use Rattle.dg_lines.specs.Schedules.{AreStepsOf}
-use Rattle.dg_lines.specs.Texts.{history_text}
+use Rattle.dg_tasks.specs.Common.{StartData, IsPlaying, IsRehearsal, IsFirstFault, Entry, MAX_ENTRIES, Rehearsal, RehearseFault, Step, AreStepsOf, history_text}
 
 pub record IsPrinted (o : StartData) (names : List (List ℕ)) (lines : List (List ℕ))
     (text : List ℕ) : Type 0 where

@@ -14,28 +14,19 @@
 --   RefusesItsTable h fault       == the table file h is not read, or it is refused
 --   RefusesOn held o names task fault == the task is refused so on the table o with these names:
 --                                        STEPS is not read, or it is refused; or the test is past
---                                        the limits, or the dual is no divisor; or memory is
+--                                        the limits, or the residual is no divisor; or memory is
 --                                        refused, or a thread of a rank test by some workers
 --   RefusesTask held task fault   == the table file is refused so, or it is good, and the task is
 --                                    refused so on its table
 use Rattle.std.specs.Prelude.{◌≡◌, ◌⊎◌, ℕ, List}
-use Rattle.dg_chips.specs.Starts.{StartData}
-use Rattle.dg_file.specs.TableFiles.{IsTableFile}
-use Rattle.dg_file.specs.FileFaults.{RefusesFile}
-use Rattle.dg_file.specs.declared.fault.FileFault.{FileFault}
-use Rattle.dg_lines.specs.Cuts.{lines}
-use Rattle.dg_lines.specs.Judgements.{IsJudgement}
-use Rattle.dg_system.specs.Held.{Held, MayHold, RefusesHeld}
+use Rattle.dg_tasks.specs.Common.{StartData, IsTableFile, RefusesFile, FileFault, lines, IsJudgement, Held, MayHold, RefusesHeld, file_of, Task, Rehearse, Judge, RiemannRoch, Greedy, OutOfMemory}
 use Rattle.dg_tasks.specs.Rehearsals.{IsPrinted}
 use Rattle.dg_tasks.specs.RankTests.{IsRankAnswer, IsRiemannRoch, RefusesRank, RefusesRiemannRoch}
 use Rattle.dg_tasks.specs.Refusals.{RefusesSchedule}
 use Rattle.dg_tasks.specs.Games.{IsGreedyAnswer, RefusesTurns}
-use Rattle.dg_invocation.specs.Files.{file_of}
-use Rattle.dg_invocation.specs.declared.invocation.Task.{Task}
-use Rattle.dg_invocation.specs.declared.invocation.Task.TheVariants.{Rehearse, Judge, Rank, RiemannRoch, Greedy}
+use Rattle.dg_invocation.specs.declared.invocation.Task.TheVariants.{Rank}
 use Rattle.dg_tasks.specs.declared.fault.TaskFault.{TaskFault}
 use Rattle.dg_tasks.specs.declared.fault.TaskFault.TheVariants.{Source, File, Shortage}
-use Rattle.dg_system.specs.declared.shortage.Shortage.TheVariants.{OutOfMemory}
 
 pub record DescribesTable (h : Held) (o : StartData) (names : List (List ℕ)) : Type 0 where
   pub bytes : List ℕ

@@ -12,7 +12,7 @@ use dg_tokens::Names;
 use dg_verdict::judge;
 use std::alloc::{AllocError, Global};
 
-/// The verdict on a table's amounts as text, reckoned from its vertex q: the text of a reply; if it is `ordered`, the order in
+/// The verdict on a table's amounts as text, computed from its vertex q: the text of a reply; if it is `ordered`, the order in
 /// which the vertices burn; and a newline.
 ///
 /// Refused with `Shortage` at the growth that was refused, and with nothing else.

@@ -2,11 +2,7 @@
 --   within_abs   a number whose absolute value is at most n lies from -n to n
 --   abs_within   and the other way round
 --   abs-add      the absolute value of a sum is at most the sum of the absolute values
-use Rattle.std.proofs.Common.{ℕ, ◌+◌, ◌≤◌, arith}
-use Rattle.std.proofs.lemmas.Int.{ints}
-use Rattle.std.proofs.Math.IntN.{ℤ, pos, negsuc, ◌+ℤ◌, neg_ℤ}
-use Rattle.std.specs.Prelude.{◌≤ℤ◌}
-use Rattle.std.specs.Int.RustNames.{unsigned_abs}
+use Rattle.dg_theory.proofs.Common.{ℕ, ◌+◌, ◌≤◌, arith, ints, ℤ, pos, negsuc, ◌+ℤ◌, neg_ℤ, ◌≤ℤ◌, unsigned_abs}
 
 pub within_abs : (z : ℤ) (n : ℕ) → unsigned_abs z ≤ n → (neg_ℤ (pos n) ≤ℤ z) × (z ≤ℤ pos n)
 within_abs (pos a) n bound = (omega (arith, ints), omega (arith, ints))

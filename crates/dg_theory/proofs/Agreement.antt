@@ -6,13 +6,7 @@
 --   played-cong     divisors that agree do so after a list of plays
 --   winnable-cong   divisors that agree are winnable together
 --   reduced-cong    divisors that agree are reduced together
-use Rattle.std.proofs.Common.{ℕ, List, [], ◌∷◌, arith, sym, ◌∙◌}
-use Rattle.std.proofs.lemmas.Int.{ints}
-use Rattle.dg_theory.specs.Multigraph.{Multigraph}
-use Rattle.dg_theory.specs.Firing.{Amounts, IsEffective, AgreeOn, fired}
-use Rattle.dg_theory.specs.Play.{Play, script_of_play, played, IsWinnable}
-use Rattle.dg_theory.specs.Reduced.{IsReduced}
-use Rattle.dg_theory.specs.Rank.{less}
+use Rattle.dg_theory.proofs.Common.{ℕ, List, [], ◌∷◌, arith, sym, ◌∙◌, ints, Multigraph, Amounts, IsEffective, AgreeOn, fired, Play, script_of_play, played, IsWinnable, IsReduced, less}
 
 pub agree-sym : (n : ℕ) (D E : Amounts) → AgreeOn n D E → AgreeOn n E D
 agree-sym n D E same v below = sym (same v below)

@@ -3,14 +3,7 @@
 --   gentle_between  if off q nobody gets more than K nor less than - K, the entries are within (n - 1)² K of that at q
 --   script_bound    the entries of a script that takes a divisor with amounts from - M to M to one with amounts from
 --                   0 to 62 off q are within 225 (M + 62) of that at q, for at most 16 vertices
-use Rattle.std.proofs.Common.{◌≡◌, ◌≢◌, ℕ, zero, suc, ◌+◌, ◌*◌, ◌<◌, ◌≤◌, arith, refl, ◌∙◌}
-use Rattle.std.proofs.lemmas.Int.{ints}
-use Rattle.std.proofs.lemmas.Nat.{mul-le}
-use Rattle.std.proofs.Math.IntN.{pos, ◌+ℤ◌, ◌-ℤ◌, neg_ℤ, *ℤ-zero}
-use Rattle.std.specs.Prelude.{◌≤ℤ◌}
-use Rattle.std.specs.Int.RustNames.{unsigned_abs}
-use Rattle.dg_theory.specs.Multigraph.{Multigraph, IsMultigraph}
-use Rattle.dg_theory.specs.Firing.{Amounts, gain, fired}
+use Rattle.dg_theory.proofs.Common.{◌≡◌, ◌≢◌, ℕ, zero, suc, ◌+◌, ◌*◌, ◌<◌, ◌≤◌, arith, refl, ◌∙◌, ints, mul-le, pos, ◌+ℤ◌, ◌-ℤ◌, neg_ℤ, *ℤ-zero, ◌≤ℤ◌, unsigned_abs, Multigraph, IsMultigraph, Amounts, gain, fired}
 use Rattle.dg_theory.proofs.Absolute.{within_abs, abs_within}
 use Rattle.dg_theory.proofs.SumLaws.{sum_below-zero}
 use Rattle.dg_theory.proofs.Equivalence.{opposite}

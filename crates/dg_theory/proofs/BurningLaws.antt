@@ -8,15 +8,8 @@
 --   burnt_reduced      if burning leaves nothing, the divisor is reduced
 --   reduced_burnt      if the divisor is reduced, burning leaves nothing
 --   burnt_is_reduced   burning leaves nothing exactly where the divisor is reduced
-use Rattle.std.proofs.Common.{◌≡◌, ◌≢◌, ℕ, ◌<◌, Bool, true, false, not, List, arith, refl, sym, ap, ◌∙◌, ⊎_elim}
-use Rattle.std.specs.Prelude.{nat_lt, pos, ◌≤ℤ◌, if◌then◌else◌}
-use Rattle.std.proofs.lemmas.Int.{ints, by_lt_z}
-use Rattle.std.proofs.lemmas.Bool.{cases_Bool, lt-ltb, ltb-true, and_parts, and_right, not_from_true, not_from_false, not-true, false_from_ne_true, true_from_ne_false, both_ways}
-use Rattle.dg_theory.specs.Multigraph.{Multigraph, edges_between}
-use Rattle.dg_theory.specs.Firing.{Amounts, HasNoDebtOff}
-use Rattle.dg_theory.specs.Reduced.{edges_out, IsReduced}
-use Rattle.dg_theory.specs.Burning.{among, edges_into, BurnsInOrder, FiresFreely}
-use Rattle.dg_theory.specs.BurningLaws.{unburnt_by, UnburntFires, GreatestIsOne, BurntIsReduced}
+use Rattle.dg_theory.proofs.Common.{if◌then◌else◌, ◌≡◌, ◌≢◌, ℕ, ◌<◌, Bool, true, false, not, List, arith, refl, sym, ap, ◌∙◌, ⊎_elim, nat_lt, ◌≤ℤ◌, ints, by_lt_z, cases_Bool, lt-ltb, ltb-true, and_parts, and_right, not_from_true, not_from_false, not-true, false_from_ne_true, true_from_ne_false, both_ways, Multigraph, edges_between, Amounts, HasNoDebtOff, edges_out, IsReduced, among, edges_into, BurnsInOrder, FiresFreely, unburnt_by, UnburntFires, GreatestIsOne, BurntIsReduced}
+use Rattle.std.specs.Prelude.{pos}
 use Rattle.dg_theory.proofs.TotalLaws.{total_below-cong}
 use Rattle.dg_theory.proofs.SetFiring.{fired-inside, inside-fired, outside-fired}
 use Rattle.dg_theory.proofs.BurningOrder.{burnt_of_set, may_burn, q_burns}

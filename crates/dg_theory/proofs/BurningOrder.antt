@@ -7,15 +7,8 @@
 --                    fewer dollars than edges lead from it out of the set: the first one of the set that burns
 --   may_burn         in the order in which vertices burn, each may burn when those before it have
 --   q_burns          q burns
-use Rattle.std.proofs.Common.{◌≡◌, ℕ, zero, suc, ◌<◌, ◌≤◌, ◌==◌, Bool, true, false, List, [], ◌∷◌, take, arith, refl, sym, ap, ◌∙◌, ⊎_elim}
-use Rattle.std.specs.Prelude.{slice_get, Some, pos, ◌<ℤ◌, if◌then◌else◌}
-use Rattle.std.specs.List.{list_any}
-use Rattle.std.proofs.lemmas.Int.{ints}
-use Rattle.std.proofs.lemmas.Bool.{cases_Bool, eqb-true, eq-eqb, or_cases, or_left, or_right, or_from, false_from_ne_true, both_ways}
-use Rattle.dg_theory.specs.Multigraph.{Multigraph, edges_between}
-use Rattle.dg_theory.specs.Firing.{Amounts}
-use Rattle.dg_theory.specs.Reduced.{edges_out}
-use Rattle.dg_theory.specs.Burning.{among, edges_into, MayBurn, BurnsInOrder}
+use Rattle.dg_theory.proofs.Common.{if◌then◌else◌, ◌≡◌, ℕ, zero, suc, ◌<◌, ◌≤◌, ◌==◌, Bool, true, false, List, [], ◌∷◌, take, arith, refl, sym, ap, ◌∙◌, ⊎_elim, slice_get, Some, ◌<ℤ◌, list_any, ints, cases_Bool, eqb-true, eq-eqb, or_cases, or_left, or_right, or_from, false_from_ne_true, both_ways, Multigraph, edges_between, Amounts, edges_out, among, edges_into, MayBurn, BurnsInOrder}
+use Rattle.std.specs.Prelude.{pos}
 use Rattle.dg_theory.proofs.TotalLaws.{total_below-le}
 
 pub list_any-among : (T : ℕ → Bool) (l : List ℕ) (v : ℕ) → among l v ≡ true → T v ≡ true → list_any T l ≡ true

@@ -11,15 +11,7 @@
 --   burning_next           a vertex that falls in S can be put before those of the set S without it
 --   burning_exists         so all vertices can be placed
 --   burns_below            then each vertex holds at most what the divisor of the order has there
-use Rattle.std.proofs.Common.{◌≡◌, ◌≢◌, ℕ, zero, suc, ◌<◌, ◌≤◌, ◌==◌, Bool, true, false, ◌&&◌, arith, refl, sym, ap, ◌∙◌, ⊎_elim}
-use Rattle.std.specs.Prelude.{◌≤ℤ◌, ◌<ℤ◌, if◌then◌else◌}
-use Rattle.std.proofs.lemmas.Int.{ints}
-use Rattle.std.proofs.lemmas.Bool.{cases_eq, cases_Bool, and_parts, and_from, false_from_ne_true, both_ways}
-use Rattle.std.proofs.lemmas.Bool.Decides.{nat_tests}
-use Rattle.std.proofs.Math.IntN.{pos}
-use Rattle.dg_theory.specs.Multigraph.{Multigraph}
-use Rattle.dg_theory.specs.Firing.{Amounts}
-use Rattle.dg_theory.specs.Reduced.{edges_out, IsReduced}
+use Rattle.dg_theory.proofs.Common.{if◌then◌else◌, ◌≡◌, ◌≢◌, ℕ, zero, suc, ◌<◌, ◌≤◌, ◌==◌, Bool, true, false, ◌&&◌, arith, refl, sym, ap, ◌∙◌, ⊎_elim, ◌≤ℤ◌, ◌<ℤ◌, ints, cases_eq, cases_Bool, and_parts, and_from, false_from_ne_true, both_ways, nat_tests, pos, Multigraph, Amounts, edges_out, IsReduced}
 use Rattle.dg_theory.proofs.Counting.{count_of, count_of-some, count_of-more, member_or_none}
 use Rattle.dg_theory.proofs.Leaving.{removed, removed-here, removed-other, removed-of}
 use Rattle.dg_theory.proofs.Levels.{level, in_level, level_in}

@@ -1,6 +1,6 @@
 -- Burning in any order.
 --   burns_to_reduced   a divisor from which all vertices burn, in any order, is reduced
-use Rattle.dg_theory.specs.BurningLaws.{BurnsToReduced}
+use Rattle.dg_theory.proofs.Common.{BurnsToReduced}
 use Rattle.dg_theory.proofs.BurningOrder.{burnt_of_set}
 
 pub burns_to_reduced : BurnsToReduced

@@ -2,8 +2,7 @@
 -- a chain (append), where edges have no direction a chain can be walked back (reverse), a chain from within a set
 -- that no edge leaves ends within it (stays), a chain is one where there are more edges (more), and equal numbers of
 -- edges give the same chains (cong).
-use Rattle.std.proofs.Common.{◌≡◌, ℕ, ◌<◌, ◌≤◌, arith}
-use Rattle.dg_theory.specs.Multigraph.{JoinedIn, here, along}
+use Rattle.dg_theory.proofs.Common.{◌≡◌, ℕ, ◌<◌, ◌≤◌, arith, JoinedIn, here, along}
 
 pub JoinedIn-end : {n : ℕ} {e : ℕ → ℕ → ℕ} {u w : ℕ} → u < n → JoinedIn n e u w → w < n
 JoinedIn-end vertex here = vertex

@@ -4,14 +4,7 @@
 --   borrowed_gains   by it everybody off q gets at least a dollar
 --   debts_cleared    from debts of at most k dollars off q, some script leaves none
 --   can_be_cleared   so some script leaves no debt off q
-use Rattle.std.proofs.Common.{◌≡◌, ◌≢◌, ℕ, zero, suc, ◌<◌, ◌≤◌, arith}
-use Rattle.std.proofs.lemmas.Int.{ints}
-use Rattle.std.proofs.Math.IntN.{ℤ, pos, negsuc, ◌+ℤ◌}
-use Rattle.std.specs.Prelude.{◌≤ℤ◌}
-use borrow.Author.Differences.{down}
-use Rattle.dg_theory.specs.Sums.{total_below}
-use Rattle.dg_theory.specs.Multigraph.{Multigraph}
-use Rattle.dg_theory.specs.Firing.{Amounts, gain, fired, HasNoDebtOff}
+use Rattle.dg_theory.proofs.Common.{◌≡◌, ◌≢◌, ℕ, zero, suc, ◌<◌, ◌≤◌, arith, ints, ℤ, pos, negsuc, ◌+ℤ◌, ◌≤ℤ◌, down, total_below, Multigraph, Amounts, gain, fired, HasNoDebtOff}
 use Rattle.dg_theory.proofs.TotalLaws.{total_below-term}
 use Rattle.dg_theory.proofs.FiringLaws.{fired-fired, fired-constant}
 use Rattle.dg_theory.proofs.Bounds.{gain-opposite}

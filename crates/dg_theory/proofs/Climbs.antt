@@ -6,13 +6,7 @@
 --                    joins entries that differ by at most m K
 --   not_far_above    no entry of a gentle script lies more than m times m K above that at q: below each level above q
 --                    the next vertex is at most m K lower, and there are m vertices off q
-use Rattle.std.proofs.Common.{◌≡◌, ◌≢◌, ℕ, zero, suc, ◌+◌, ◌*◌, ◌<◌, ◌≤◌, suc-mul, arith, refl, sym, ap, ◌∙◌, ◌⊎◌, inl, inr, ⊎_elim, Bool, true, false}
-use Rattle.std.proofs.lemmas.Int.{ints, by_lt_z}
-use Rattle.std.proofs.Math.IntN.{ℤ, pos, ◌+ℤ◌, ◌-ℤ◌}
-use Rattle.std.specs.Prelude.{◌≤ℤ◌, ◌<ℤ◌, if◌then◌else◌}
-use Rattle.dg_theory.specs.Sums.{sum_below}
-use Rattle.dg_theory.specs.Multigraph.{Multigraph, IsMultigraph, edges_between, JoinedIn, here, along}
-use Rattle.dg_theory.specs.Firing.{Amounts, gain}
+use Rattle.dg_theory.proofs.Common.{if◌then◌else◌, ◌≡◌, ◌≢◌, ℕ, zero, suc, ◌+◌, ◌*◌, ◌<◌, ◌≤◌, suc-mul, arith, refl, sym, ap, ◌∙◌, ◌⊎◌, inl, inr, ⊎_elim, Bool, true, false, ints, by_lt_z, ℤ, pos, ◌+ℤ◌, ◌-ℤ◌, ◌≤ℤ◌, ◌<ℤ◌, sum_below, Multigraph, IsMultigraph, edges_between, JoinedIn, here, along, Amounts, gain}
 use Rattle.dg_theory.proofs.Chains.{JoinedIn-end}
 use Rattle.dg_theory.proofs.SumBounds.{sum_below-but_one}
 use Rattle.dg_theory.proofs.Levels.{level, in_level, off_level, level_in, level_off}

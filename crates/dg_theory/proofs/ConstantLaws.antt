@@ -2,13 +2,7 @@
 --   level_next       a script that changes nothing, where it is largest: the neighbours lend as often
 --   changes_nothing  a script that changes nothing on the vertices of a multigraph is constant on them
 --   same_by_constant two scripts give the same amounts exactly where they differ by a constant
-use Rattle.std.proofs.Common.{◌≡◌, ℕ, zero, suc, ◌<◌, arith, refl, ◌∙◌}
-use Rattle.std.proofs.lemmas.Int.{ints}
-use Rattle.std.proofs.Math.IntN.{ℤ, pos, ◌+ℤ◌, ◌-ℤ◌, ◌*ℤ◌}
-use Rattle.std.specs.Prelude.{◌≤ℤ◌}
-use Rattle.dg_theory.specs.Multigraph.{Multigraph, IsMultigraph, edges_between}
-use Rattle.dg_theory.specs.Firing.{Amounts, gain, fired}
-use Rattle.dg_theory.specs.FiringLaws.{SameByConstant}
+use Rattle.dg_theory.proofs.Common.{◌≡◌, ℕ, zero, suc, ◌<◌, arith, refl, ◌∙◌, ints, ℤ, pos, ◌+ℤ◌, ◌-ℤ◌, ◌*ℤ◌, ◌≤ℤ◌, Multigraph, IsMultigraph, edges_between, Amounts, gain, fired, SameByConstant}
 use Rattle.dg_theory.proofs.SumBounds.{mul-nonpos, mul-cancel, sum_below-le_term}
 use Rattle.dg_theory.proofs.Chains.{JoinedIn-stays}
 use Rattle.dg_theory.proofs.Largest.{largest, IsLargest}

@@ -5,10 +5,7 @@
 --   count_of-more      a set with one member more has more
 --   count_of-missing   a set in which a number below n is missing has fewer than n
 --   member_or_none     a set has a member below n, or none
-use Rattle.std.proofs.Common.{◌≡◌, ℕ, zero, suc, ◌<◌, ◌≤◌, arith, refl, ap, ◌∙◌, ◌⊎◌, inl, inr, ⊎_elim, Bool, true, false}
-use Rattle.std.proofs.lemmas.Bool.{cases_eq, cases_Bool}
-use Rattle.std.specs.Prelude.{if◌then◌else◌}
-use Rattle.dg_theory.specs.Sums.{total_below}
+use Rattle.dg_theory.proofs.Common.{if◌then◌else◌, ◌≡◌, ℕ, zero, suc, ◌<◌, ◌≤◌, arith, refl, ap, ◌∙◌, ◌⊎◌, inl, inr, ⊎_elim, Bool, true, false, cases_eq, cases_Bool, total_below}
 use Rattle.dg_theory.proofs.TotalLaws.{total_below-le, total_below-term}
 
 pub total_below-less : (n : ℕ) (f h : ℕ → ℕ) → ((w : ℕ) → w < n → f w ≤ h w) → (v : ℕ) → v < n → f v < h v →

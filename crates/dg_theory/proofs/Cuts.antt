@@ -4,13 +4,7 @@
 --                      every vertex outside S
 --   cut_loses          if every vertex of S lends at least as often as every other, all of S together loses at least
 --                      what goes along one edge out of S
-use Rattle.std.proofs.Common.{◌≡◌, ℕ, zero, suc, ◌<◌, arith, refl, sym, ◌∙◌, Bool, true, false}
-use Rattle.std.proofs.lemmas.Int.{ints}
-use Rattle.std.proofs.Math.IntN.{ℤ, pos, ◌+ℤ◌, ◌-ℤ◌, ◌*ℤ◌, *ℤ-zero}
-use Rattle.std.specs.Prelude.{◌≤ℤ◌, if◌then◌else◌}
-use Rattle.dg_theory.specs.Sums.{sum_below}
-use Rattle.dg_theory.specs.Multigraph.{Multigraph, IsMultigraph, edges_between}
-use Rattle.dg_theory.specs.Firing.{Amounts, gain}
+use Rattle.dg_theory.proofs.Common.{if◌then◌else◌, ◌≡◌, ℕ, zero, suc, ◌<◌, arith, refl, sym, ◌∙◌, Bool, true, false, ints, ℤ, pos, ◌+ℤ◌, ◌-ℤ◌, ◌*ℤ◌, *ℤ-zero, ◌≤ℤ◌, sum_below, Multigraph, IsMultigraph, edges_between, Amounts, gain}
 use Rattle.dg_theory.proofs.Products.{mul-change}
 use Rattle.dg_theory.proofs.SumLaws.{sum_below-cong, sum_below-add, sum_below-zero}
 use Rattle.dg_theory.proofs.SumBounds.{mul-nonpos, mul-once, sum_below-nonpos, sum_below-le_term}

@@ -7,18 +7,7 @@
 --   level_gains             vertices of level j gain at least k and at most 63 k
 --   nearer_loses            vertices of level below j gain nothing and lose at most 63 k
 --   changes_little          nobody gains or loses more than 63 k
-use Rattle.std.proofs.Common.{◌≡◌, ℕ, zero, suc, ◌+◌, ◌*◌, ◌<◌, ◌≤◌, Bool, true, false, arith, refl, ap, ◌∙◌, ⊎_elim, zero-mul}
-use Rattle.std.proofs.lemmas.Bool.{cases_eq, cases_lt, lt-ltb, le-ltb, ltb-true}
-use Rattle.std.proofs.lemmas.Int.{ints}
-use Rattle.std.proofs.lemmas.Nat.{mul-le}
-use Rattle.std.proofs.Math.IntN.{pos, ◌+ℤ◌}
-use Rattle.std.specs.Prelude.{◌≤ℤ◌, nat_lt, if◌then◌else◌}
-use Rattle.dg_theory.specs.Sums.{total_below}
-use Rattle.dg_theory.specs.Multigraph.{Multigraph, edges_between, valence}
-use Rattle.dg_theory.specs.Firing.{Amounts, gain, fired, indicator, multiple}
-use Rattle.dg_theory.specs.Reduced.{edges_out}
-use Rattle.dg_theory.specs.Burning.{edges_into}
-use Rattle.dg_theory.specs.Distances.{IsDistance}
+use Rattle.dg_theory.proofs.Common.{if◌then◌else◌, ◌≡◌, ℕ, zero, suc, ◌+◌, ◌*◌, ◌<◌, ◌≤◌, Bool, true, false, arith, refl, ap, ◌∙◌, ⊎_elim, zero-mul, cases_eq, cases_lt, lt-ltb, le-ltb, ltb-true, ints, mul-le, pos, ◌+ℤ◌, ◌≤ℤ◌, nat_lt, total_below, Multigraph, edges_between, valence, Amounts, gain, fired, indicator, multiple, edges_out, edges_into, IsDistance}
 use Rattle.dg_theory.proofs.Distances.{not_q}
 use Rattle.dg_theory.proofs.TotalLaws.{total_below-le, total_below-term}
 use Rattle.dg_theory.proofs.Multiples.{gain-all_inside, gain-all_outside}

@@ -1,9 +1,7 @@
 -- Distances from a vertex q.
 --   not_q            a vertex of a level above 0 is not q
 --   level_positive   every vertex but q has a level above 0
-use Rattle.std.proofs.Common.{◌≡◌, ◌≢◌, ℕ, ◌<◌, arith, ap}
-use Rattle.dg_theory.specs.Multigraph.{Multigraph}
-use Rattle.dg_theory.specs.Distances.{IsDistance}
+use Rattle.dg_theory.proofs.Common.{◌≡◌, ◌≢◌, ℕ, ◌<◌, arith, ap, Multigraph, IsDistance}
 
 pub not_q : (g : Multigraph) (q : ℕ) (level : ℕ → ℕ) (v : ℕ) → IsDistance g q level → 0 < level v → v ≢ q
 not_q g q level v distance far same =

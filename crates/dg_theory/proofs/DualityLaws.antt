@@ -2,24 +2,16 @@
 --   Owes g D             by some script each vertex comes to hold at most what the divisor of some order has there
 --   winnable_or_owes     a divisor is winnable, or it owes
 --   IsDual g D k l       k less l is the degree of D, plus 1, less the genus
---   dual-degree          the degree of the dual
---   dual_of_dual         for the dual, k and l have exchanged their parts
---   loss_from_order      where the dual less F owes, what it lacks of the divisor of the order is a loss that D can't
+--   dual-degree          the degree of the residual
+--   dual_of_dual         for the residual, k and l have exchanged their parts
+--   loss_from_order      where the residual less F owes, what it lacks of the divisor of the order is a loss that D can't
 --                        bear: it leaves what the reversed order's divisor less F is fired to
---   pass_of_dual         so where D passes its test, the dual passes its own
+--   pass_of_dual         so where D passes its test, the residual passes its own
 --   dual_tests           and the other way round
---   loss_of_dual         a loss that the dual can't bear shows one that D can't bear
+--   loss_of_dual         a loss that the residual can't bear shows one that D can't bear
 --   natural              a whole number that is not negative is a natural number
 --   high_rank            from the genus on only rich divisors pass a test
-use Rattle.std.proofs.Common.{◌≡◌, ℕ, ◌<◌, ◌⊎◌, inl, inr, arith, refl, ⊎_elim}
-use Rattle.std.specs.Prelude.{◌≤ℤ◌, ◌<ℤ◌}
-use Rattle.std.proofs.lemmas.Int.{ints, by_lt_z}
-use Rattle.std.proofs.Math.IntN.{ℤ, pos, negsuc, ◌+ℤ◌, ◌-ℤ◌}
-use Rattle.dg_theory.specs.Multigraph.{Multigraph, IsMultigraph, genus}
-use Rattle.dg_theory.specs.Firing.{Amounts, degree, fired, IsEffective}
-use Rattle.dg_theory.specs.Play.{IsWinnable}
-use Rattle.dg_theory.specs.Rank.{less, canonical, HasRankAtLeast}
-use Rattle.dg_theory.specs.DualityLaws.{DualTests, LossOfDual, HighRank}
+use Rattle.dg_theory.proofs.Common.{◌≡◌, ℕ, ◌<◌, ◌⊎◌, inl, inr, arith, refl, ⊎_elim, ◌≤ℤ◌, ◌<ℤ◌, ints, by_lt_z, ℤ, pos, negsuc, ◌+ℤ◌, ◌-ℤ◌, Multigraph, IsMultigraph, genus, Amounts, degree, fired, IsEffective, IsWinnable, less, canonical, HasRankAtLeast, DualTests, LossOfDual, HighRank}
 use Rattle.dg_theory.proofs.Agreement.{winnable-cong}
 use Rattle.dg_theory.proofs.Equivalence.{opposite, equivalent-fired, equivalent-refl}
 use Rattle.dg_theory.proofs.Exchange.{degree_stays}

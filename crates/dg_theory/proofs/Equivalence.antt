@@ -8,13 +8,7 @@
 --   equivalent-less         equivalent divisors are so after the same loss
 --   equivalent_by_plays     divisors are equivalent exactly where some list of plays leads from one to the other
 --   equivalent-degree       equivalent divisors have the same degree
-use Rattle.std.proofs.Common.{arith, refl, sym, ◌∙◌}
-use Rattle.std.proofs.lemmas.Int.{ints}
-use Rattle.std.proofs.Math.IntN.{pos, neg_ℤ, ◌+ℤ◌}
-use Rattle.dg_theory.specs.Multigraph.{Multigraph}
-use Rattle.dg_theory.specs.Firing.{Amounts, fired, FiresTo, AreEquivalent}
-use Rattle.dg_theory.specs.Rank.{less}
-use Rattle.dg_theory.specs.EquivalenceLaws.{EquivalenceIsReflexive, EquivalenceIsSymmetric, EquivalenceIsTransitive, EquivalentByPlays, EquivalentDegrees}
+use Rattle.dg_theory.proofs.Common.{arith, refl, sym, ◌∙◌, ints, pos, neg_ℤ, ◌+ℤ◌, Multigraph, Amounts, fired, FiresTo, AreEquivalent, less, EquivalenceIsReflexive, EquivalenceIsSymmetric, EquivalenceIsTransitive, EquivalentByPlays, EquivalentDegrees}
 use Rattle.dg_theory.proofs.Agreement.{fired-here}
 use Rattle.dg_theory.proofs.Exchange.{degree_stays}
 use Rattle.dg_theory.proofs.FiringLaws.{fired-fired, fired-constant, fired-constant_script}

@@ -10,13 +10,7 @@
 --   gain-symmetric       weighted by c, the gains by s add up to as much as the gains by c, weighted by s
 --   gains_cancel         the gains of all vertices add up to nothing
 --   degree_stays         the law that firing keeps the degree
-use Rattle.std.proofs.Common.{◌≡◌, ℕ, arith, refl, sym, ◌∙◌}
-use Rattle.std.proofs.lemmas.Int.{ints}
-use Rattle.std.proofs.Math.IntN.{ℤ, pos, ◌-ℤ◌, ◌*ℤ◌, *ℤ-zero, *ℤ_comm}
-use Rattle.dg_theory.specs.Sums.{sum_below}
-use Rattle.dg_theory.specs.Multigraph.{Multigraph, IsMultigraph, edges_between}
-use Rattle.dg_theory.specs.Firing.{Amounts, gain}
-use Rattle.dg_theory.specs.FiringLaws.{FiringKeepsDegree}
+use Rattle.dg_theory.proofs.Common.{◌≡◌, ℕ, arith, refl, sym, ◌∙◌, ints, ℤ, pos, ◌-ℤ◌, ◌*ℤ◌, *ℤ-zero, *ℤ_comm, sum_below, Multigraph, IsMultigraph, edges_between, Amounts, gain, FiringKeepsDegree}
 use Rattle.dg_theory.proofs.Products.{mulz-sub, mul-swap, one-mul}
 use Rattle.dg_theory.proofs.SumLaws.{sum_below-add, sum_below-cong, sum_below-zero}
 use Rattle.dg_theory.proofs.FiringLaws.{gain-constant}

@@ -3,14 +3,7 @@
 --   reduced_somewhere  from any divisor some script does
 --   reduced_exists     and so does one that is 0 at q
 --   rich_is_winnable   a divisor whose degree is at least the genus is winnable
-use Rattle.std.proofs.Common.{◌≡◌, ℕ, zero, suc, ◌<◌, arith, sym, ⊎_elim}
-use Rattle.std.proofs.lemmas.Int.{ints, by_lt_z}
-use Rattle.std.proofs.Math.IntN.{pos, ◌+ℤ◌, ◌-ℤ◌}
-use Rattle.std.specs.Prelude.{◌≤ℤ◌, ◌<ℤ◌}
-use Rattle.dg_theory.specs.Multigraph.{Multigraph, IsMultigraph, genus}
-use Rattle.dg_theory.specs.Firing.{Amounts, degree, HasNoDebtOff, fired, indicator}
-use Rattle.dg_theory.specs.Reduced.{IsReduced}
-use Rattle.dg_theory.specs.ExistenceLaws.{ReducedExists, RichIsWinnable}
+use Rattle.dg_theory.proofs.Common.{◌≡◌, ℕ, zero, suc, ◌<◌, arith, sym, ⊎_elim, ints, by_lt_z, pos, ◌+ℤ◌, ◌-ℤ◌, ◌≤ℤ◌, ◌<ℤ◌, Multigraph, IsMultigraph, genus, Amounts, degree, HasNoDebtOff, fired, indicator, IsReduced, ReducedExists, RichIsWinnable}
 use Rattle.dg_theory.proofs.FiringLaws.{fired-fired, fired-constant}
 use Rattle.dg_theory.proofs.Scripts.{fired-shifted}
 use Rattle.dg_theory.proofs.Exchange.{degree_stays}

@@ -3,9 +3,7 @@
 --   before_many   at least k vertices have a level below k, if some vertex has level k or more: an edge leaves the
 --                 vertices below level k, and it leads to a vertex of level k
 --   gradual-few   so every level is less than the number of vertices
-use Rattle.std.proofs.Common.{◌≡◌, ℕ, zero, suc, ◌+◌, ◌<◌, ◌≤◌, arith, ltb, Bool, true, false}
-use Rattle.std.proofs.lemmas.Bool.Decides.{nat_tests}
-use Rattle.dg_theory.specs.Multigraph.{Multigraph, IsMultigraph, edges_between}
+use Rattle.dg_theory.proofs.Common.{◌≡◌, ℕ, zero, suc, ◌+◌, ◌<◌, ◌≤◌, arith, ltb, Bool, true, false, nat_tests, Multigraph, IsMultigraph, edges_between}
 use Rattle.dg_theory.proofs.Climbs.{Leaves, JoinedIn-leaves}
 use Rattle.dg_theory.proofs.Counting.{count_of, count_of-some, count_of-more, count_of-missing}
 

@@ -5,12 +5,7 @@
 --   fired-constant          so it changes nothing
 --   fired-cong              scripts that agree on the vertices fire alike
 --   fired-constant_script   the law for a script that is constant on the vertices
-use Rattle.std.proofs.Common.{◌≡◌, ℕ, ◌<◌, arith, refl, sym, ◌∙◌}
-use Rattle.std.proofs.lemmas.Int.{ints}
-use Rattle.std.proofs.Math.IntN.{ℤ, pos, ◌+ℤ◌, ◌-ℤ◌, ◌*ℤ◌, *ℤ-zero}
-use Rattle.dg_theory.specs.Multigraph.{Multigraph, edges_between}
-use Rattle.dg_theory.specs.Firing.{Amounts, gain, fired}
-use Rattle.dg_theory.specs.FiringLaws.{FiringAddsUp, ConstantScriptsDoNothing}
+use Rattle.dg_theory.proofs.Common.{◌≡◌, ℕ, ◌<◌, arith, refl, sym, ◌∙◌, ints, ℤ, pos, ◌+ℤ◌, ◌-ℤ◌, ◌*ℤ◌, *ℤ-zero, Multigraph, edges_between, Amounts, gain, fired, FiringAddsUp, ConstantScriptsDoNothing}
 use Rattle.dg_theory.proofs.Products.{mul-change}
 use Rattle.dg_theory.proofs.SumLaws.{sum_below-add, sum_below-cong, sum_below-zero}
 

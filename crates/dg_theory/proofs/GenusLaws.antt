@@ -7,15 +7,7 @@
 --   paid_to_end           if the divisor is reduced, so it is for a set without vertices
 --   reduced_below_genus   the law: then the degree and the number of vertices are at most R q + 1 and the number of
 --                         edges
-use Rattle.std.proofs.Common.{◌≡◌, ℕ, zero, suc, ◌+◌, ◌<◌, ◌≤◌, Bool, true, false, arith, refl, ⊎_elim}
-use Rattle.std.specs.Prelude.{◌≤ℤ◌, ◌<ℤ◌}
-use Rattle.std.proofs.lemmas.Int.{ints}
-use Rattle.std.proofs.lemmas.Bool.{false_from_ne_true, both_ways}
-use Rattle.std.proofs.Math.IntN.{pos, ◌+ℤ◌}
-use Rattle.dg_theory.specs.Multigraph.{Multigraph, IsMultigraph, edges_between, edge_count}
-use Rattle.dg_theory.specs.Firing.{Amounts, degree}
-use Rattle.dg_theory.specs.Reduced.{edges_out, IsReduced}
-use Rattle.dg_theory.specs.ReducedLaws.{ReducedBelowGenus}
+use Rattle.dg_theory.proofs.Common.{◌≡◌, ℕ, zero, suc, ◌+◌, ◌<◌, ◌≤◌, Bool, true, false, arith, refl, ⊎_elim, ◌≤ℤ◌, ◌<ℤ◌, ints, false_from_ne_true, both_ways, pos, ◌+ℤ◌, Multigraph, IsMultigraph, edges_between, edge_count, Amounts, degree, edges_out, IsReduced, ReducedBelowGenus}
 use Rattle.dg_theory.proofs.SumLaws.{sum_below-zero}
 use Rattle.dg_theory.proofs.Counting.{count_of, count_of-some, count_of-more, member_or_none}
 use Rattle.dg_theory.proofs.Leaving.{removed, removed-here, removed-of, burnt_edges, burnt_weight, burnt_edges-removed, burnt_weight-removed, burnt_edges-all, burnt_weight-all}

@@ -5,16 +5,7 @@
 --   effective-only_at k dollars at one vertex are no debt
 --   none_of_degree_0  an effective divisor of degree 0 is 0 at every vertex
 --   degree-winnable   a winnable divisor has a degree of at least 0
-use Rattle.std.proofs.Common.{◌≡◌, ℕ, ◌*◌, ◌<◌, arith, refl, ⊎_elim}
-use Rattle.std.proofs.lemmas.Int.{ints}
-use Rattle.std.proofs.lemmas.Bool.{cases_eq}
-use Rattle.std.proofs.Math.IntN.{ℤ, pos, ◌+ℤ◌, ◌-ℤ◌}
-use Rattle.std.specs.Prelude.{◌≤ℤ◌}
-use Rattle.dg_theory.specs.Sums.{sum_below}
-use Rattle.dg_theory.specs.Multigraph.{Multigraph, IsMultigraph}
-use Rattle.dg_theory.specs.Firing.{Amounts, degree, fired, only_at, IsEffective}
-use Rattle.dg_theory.specs.Play.{IsWinnable}
-use Rattle.dg_theory.specs.Rank.{less}
+use Rattle.dg_theory.proofs.Common.{◌≡◌, ℕ, ◌*◌, ◌<◌, arith, refl, ⊎_elim, ints, cases_eq, ℤ, pos, ◌+ℤ◌, ◌-ℤ◌, ◌≤ℤ◌, sum_below, Multigraph, IsMultigraph, Amounts, degree, fired, only_at, IsEffective, IsWinnable, less}
 use Rattle.dg_theory.proofs.SumLaws.{sum_below-zero, sum_below-differ_at}
 use Rattle.dg_theory.proofs.SumSwap.{sum_below-sub}
 use Rattle.dg_theory.proofs.SumBounds.{sum_below-at_least}

@@ -7,15 +7,7 @@
 --                    on
 --   order_potential  the weights by the places of such an order are a potential for q
 --   has_potential    so every multigraph has one for each of its vertices
-use Rattle.std.proofs.Common.{◌≡◌, ℕ, zero, suc, ◌+◌, ◌-◌, ◌*◌, ◌<◌, ◌≤◌, Bool, true, arith, ap, ⊎_elim}
-use Rattle.std.proofs.lemmas.Bool.{cases_eq}
-use Rattle.std.proofs.lemmas.Int.{ints}
-use Rattle.std.proofs.lemmas.Nat.{mul-le}
-use Rattle.std.proofs.Math.IntN.{pos, ◌+ℤ◌, ◌-ℤ◌}
-use Rattle.std.specs.Prelude.{◌≤ℤ◌}
-use Rattle.dg_theory.specs.Sums.{total_below}
-use Rattle.dg_theory.specs.Multigraph.{Multigraph, IsMultigraph, edges_between, valence}
-use Rattle.dg_theory.specs.Firing.{gain}
+use Rattle.dg_theory.proofs.Common.{◌≡◌, ℕ, zero, suc, ◌+◌, ◌-◌, ◌*◌, ◌<◌, ◌≤◌, Bool, true, arith, ap, ⊎_elim, cases_eq, ints, mul-le, pos, ◌+ℤ◌, ◌-ℤ◌, ◌≤ℤ◌, total_below, Multigraph, IsMultigraph, edges_between, valence, gain}
 use Rattle.dg_theory.proofs.TotalLaws.{total_below-term}
 use Rattle.dg_theory.proofs.Potential.{IsPotential, as_script, pulled}
 use Rattle.dg_theory.proofs.Orders.{IsOrder, order_exists}

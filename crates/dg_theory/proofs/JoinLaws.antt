@@ -9,15 +9,9 @@
 --   size_stays           the law of the size
 --   joined_is_multigraph the law of multigraphs
 --   valence_grows        the law of valences
-use Rattle.std.proofs.Common.{◌≡◌, ◌≢◌, ℕ, zero, suc, ◌+◌, ◌<◌, ◌≤◌, List, [], ◌∷◌, arith, refl, ap, ◌∙◌, inl, inr}
-use Rattle.std.specs.Prelude.{slice_index}
-use Rattle.std.specs.List.{slice_index_or}
-use Rattle.std.proofs.lemmas.Bool.{cases_eq}
-use Rattle.std.proofs.lemmas.Bool.Decides.{nat_tests}
-use Rattle.dg_theory.specs.Sums.{total_below}
-use Rattle.dg_theory.specs.Multigraph.{JoinedIn, entry, edges_between}
-use Rattle.dg_theory.specs.Joins.{one_more, entry_more, with_edge, on_pair, at_either}
-use Rattle.dg_theory.specs.JoinLaws.{EdgeIsAdded, JoinedIsMultigraph, ValenceGrows, SizeStays}
+use Rattle.dg_theory.proofs.Common.{◌≡◌, ◌≢◌, ℕ, zero, suc, ◌+◌, ◌<◌, ◌≤◌, List, [], ◌∷◌, arith, refl, ap, ◌∙◌, inl, inr, slice_index, slice_index_or, cases_eq, nat_tests, total_below, JoinedIn, edges_between, one_more, entry_more, on_pair, at_either, EdgeIsAdded, JoinedIsMultigraph, ValenceGrows, SizeStays}
+use Rattle.dg_theory.specs.Multigraph.{entry}
+use Rattle.dg_theory.specs.Joins.{with_edge}
 use Rattle.dg_theory.proofs.Chains.{JoinedIn-more}
 use Rattle.dg_theory.proofs.TotalLaws.{total_below-cong, total_below-differ_at}
 

@@ -1,11 +1,7 @@
 -- A largest value.
 --   IsLargest n f u   the value of f at u is the largest among those at the numbers below n
 --   largest   among the values of a function at the numbers below n, where there are any, one is the largest
-use Rattle.std.proofs.Common.{◌≡◌, ℕ, zero, suc, ◌<◌, arith, ap, ⊎_elim}
-use Rattle.std.proofs.lemmas.Bool.{cases_eq}
-use Rattle.std.proofs.lemmas.Int.{ints, by_lt_z}
-use Rattle.std.proofs.Math.IntN.{ℤ}
-use Rattle.std.specs.Prelude.{◌≤ℤ◌, ◌<ℤ◌}
+use Rattle.dg_theory.proofs.Common.{◌≡◌, ℕ, zero, suc, ◌<◌, arith, ap, ⊎_elim, cases_eq, ints, by_lt_z, ℤ, ◌≤ℤ◌, ◌<ℤ◌}
 
 abbrev pub IsLargest : ℕ → (ℕ → ℤ) → ℕ → Type 0
 IsLargest n f u = (w : ℕ) → w < n → f w ≤ℤ f u

@@ -9,14 +9,7 @@
 --   burnt_weight-removed   if v leaves S, the weight grows by R v + 1
 --   burnt_edges-all        if none is left in S, all edges are burnt, each pair of numbers counted once
 --   burnt_weight-all       if none is left in S, the weight is the sum of R and the number of terms
-use Rattle.std.proofs.Common.{◌≡◌, ◌≢◌, ℕ, zero, suc, ◌+◌, ◌<◌, ◌≤◌, ◌==◌, Bool, true, false, arith, refl, sym, ap, ◌∙◌, ⊎_elim}
-use Rattle.std.specs.Prelude.{if◌then◌else◌}
-use Rattle.std.proofs.lemmas.Int.{ints}
-use Rattle.std.proofs.lemmas.Bool.{cases_eq, both_ways}
-use Rattle.std.proofs.lemmas.Bool.Decides.{nat_tests}
-use Rattle.std.proofs.Math.IntN.{ℤ, pos, ◌+ℤ◌}
-use Rattle.dg_theory.specs.Sums.{sum_below, total_below}
-use Rattle.dg_theory.specs.Firing.{Amounts, degree}
+use Rattle.dg_theory.proofs.Common.{if◌then◌else◌, ◌≡◌, ◌≢◌, ℕ, zero, suc, ◌+◌, ◌<◌, ◌≤◌, ◌==◌, Bool, true, false, arith, refl, sym, ap, ◌∙◌, ⊎_elim, ints, cases_eq, both_ways, nat_tests, ℤ, pos, ◌+ℤ◌, sum_below, total_below, Amounts, degree}
 use Rattle.dg_theory.proofs.TotalLaws.{total_below-cong, total_below-differ_at}
 use Rattle.dg_theory.proofs.SumLaws.{sum_below-cong, sum_below-differ_at}
 

@@ -3,14 +3,7 @@
 --                 the script v loses at least as much as its edges out of S
 --   lends_most_gains_none  a vertex that lends at least as often as every vertex gains nothing
 --   q_lends_most  if from a divisor that is reduced for q a script leaves nobody off q in debt, q lends most
-use Rattle.std.proofs.Common.{◌≡◌, ◌≢◌, ℕ, zero, suc, ◌<◌, arith, refl, sym, ap, ◌∙◌, Bool, true, false}
-use Rattle.std.proofs.lemmas.Int.{ints, by_lt_z}
-use Rattle.std.proofs.Math.IntN.{ℤ, pos, ◌+ℤ◌, ◌-ℤ◌, ◌*ℤ◌}
-use Rattle.std.specs.Prelude.{◌≤ℤ◌, ◌<ℤ◌, if◌then◌else◌}
-use Rattle.dg_theory.specs.Sums.{sum_below, total_below}
-use Rattle.dg_theory.specs.Multigraph.{Multigraph, edges_between}
-use Rattle.dg_theory.specs.Firing.{Amounts, gain, fired}
-use Rattle.dg_theory.specs.Reduced.{edges_out, IsReduced}
+use Rattle.dg_theory.proofs.Common.{if◌then◌else◌, ◌≡◌, ◌≢◌, ℕ, zero, suc, ◌<◌, arith, refl, sym, ap, ◌∙◌, Bool, true, false, ints, by_lt_z, ℤ, pos, ◌+ℤ◌, ◌-ℤ◌, ◌*ℤ◌, ◌≤ℤ◌, ◌<ℤ◌, sum_below, total_below, Multigraph, edges_between, Amounts, gain, fired, edges_out, IsReduced}
 use Rattle.dg_theory.proofs.SumBounds.{mul-nonpos, mul-negative, sum_below-nonpos}
 use Rattle.dg_theory.proofs.Levels.{level, in_level, off_level, level_in, level_off}
 use Rattle.dg_theory.proofs.Largest.{largest, IsLargest}

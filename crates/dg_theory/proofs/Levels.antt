@@ -2,11 +2,7 @@
 --   level f x        the places w with x ≤ f w
 --   in_level, off_level      from the order to the test
 --   level_in, level_off      from the test to the order
-use Rattle.std.proofs.Common.{◌≡◌, ℕ, arith, Bool, true, false}
-use Rattle.std.proofs.lemmas.Int.{ints}
-use Rattle.std.proofs.Math.IntN.{ℤ}
-use Rattle.std.specs.Int.Signed.{le_z}
-use Rattle.std.specs.Prelude.{◌≤ℤ◌, ◌<ℤ◌}
+use Rattle.dg_theory.proofs.Common.{◌≡◌, ℕ, arith, Bool, true, false, ints, ℤ, le_z, ◌≤ℤ◌, ◌<ℤ◌}
 
 abbrev pub level : (ℕ → ℤ) → ℤ → ℕ → Bool
 level f x w = le_z x (f w)

@@ -64,3 +64,4 @@ pub mod DualityLaws
 pub mod RankNumbers
 pub mod RankSums
 pub mod RankExists
+pub mod Common

@@ -10,14 +10,7 @@
 --   same_or_before  any two divisors are the same at n vertices, or one is before the other
 --   loss_once       there is at most one first loss
 --   loss_bounds_rank    where there is a first loss of degree k, the rank is not at least k
-use Rattle.std.proofs.Common.{◌≡◌, ℕ, zero, suc, ◌⊎◌, arith, sym, ap, inl, inr, ⊎_elim}
-use Rattle.std.proofs.lemmas.Bool.{cases_eq}
-use Rattle.std.proofs.lemmas.Int.{ints, by_lt_z}
-use Rattle.std.specs.Prelude.{◌≤ℤ◌, ◌<ℤ◌}
-use Rattle.dg_theory.specs.Multigraph.{Multigraph}
-use Rattle.dg_theory.specs.Firing.{Amounts, AgreeOn, AreEquivalent}
-use Rattle.dg_theory.specs.Rank.{IsBefore, IsFirstLoss}
-use Rattle.dg_theory.specs.RankLaws.{EquivalentLoss, LossOnce, LossBoundsRank}
+use Rattle.dg_theory.proofs.Common.{◌≡◌, ℕ, zero, suc, ◌⊎◌, arith, sym, ap, inl, inr, ⊎_elim, cases_eq, ints, by_lt_z, ◌≤ℤ◌, ◌<ℤ◌, Multigraph, Amounts, AgreeOn, AreEquivalent, IsBefore, IsFirstLoss, EquivalentLoss, LossOnce, LossBoundsRank}
 use Rattle.dg_theory.proofs.RankLaws.{less_winnable}
 use Rattle.dg_theory.proofs.Equivalence.{equivalent-sym}
 

@@ -6,16 +6,7 @@
 --   multiple-within    what it lends is within every bound of k
 --   gain-all_inside    a vertex of the set loses k dollars along each edge that leaves the set
 --   gain-all_outside   a vertex outside the set gets k dollars along each edge that comes from the set
-use Rattle.std.proofs.Common.{◌≡◌, ℕ, ◌≤◌, Bool, true, false, arith, ap, sym, ◌∙◌, ⊎_elim}
-use Rattle.std.proofs.lemmas.Bool.{cases_Bool}
-use Rattle.std.proofs.lemmas.Int.{ints}
-use Rattle.std.proofs.Math.IntN.{ℤ, pos, ◌+ℤ◌, ◌-ℤ◌, ◌*ℤ◌, *ℤ-zero, *ℤ_comm}
-use Rattle.std.specs.Prelude.{if◌then◌else◌}
-use Rattle.std.specs.Int.RustNames.{unsigned_abs}
-use Rattle.dg_theory.specs.Multigraph.{Multigraph, edges_between}
-use Rattle.dg_theory.specs.Firing.{Amounts, gain, indicator, multiple}
-use Rattle.dg_theory.specs.Reduced.{edges_out}
-use Rattle.dg_theory.specs.Burning.{edges_into}
+use Rattle.dg_theory.proofs.Common.{if◌then◌else◌, ◌≡◌, ℕ, ◌≤◌, Bool, true, false, arith, ap, sym, ◌∙◌, ⊎_elim, cases_Bool, ints, ℤ, pos, ◌+ℤ◌, ◌-ℤ◌, ◌*ℤ◌, *ℤ-zero, *ℤ_comm, unsigned_abs, Multigraph, edges_between, Amounts, gain, indicator, multiple, edges_out, edges_into}
 use Rattle.dg_theory.proofs.Products.{mulz-add, mulz-sub, mul-swap, one-mul}
 use Rattle.dg_theory.proofs.SumLaws.{sum_below-cong}
 use Rattle.dg_theory.proofs.SumSwap.{sum_below-scale}

@@ -7,14 +7,7 @@
 --   earlier_total          in any order, each edge leads to an earlier vertex from one of its ends
 --   order_divisor-degree   so the divisor of an order has the degree g - 1
 --   canonical-degree       and the canonical divisor has the degree 2g - 2
-use Rattle.std.proofs.Common.{◌≡◌, ℕ, zero, suc, ◌+◌, ◌<◌, Bool, true, false, arith, refl, ap, sym, ◌∙◌}
-use Rattle.std.specs.Prelude.{◌≤ℤ◌, if◌then◌else◌}
-use Rattle.std.proofs.lemmas.Int.{ints}
-use Rattle.std.proofs.Math.IntN.{pos, ◌+ℤ◌, ◌-ℤ◌}
-use Rattle.dg_theory.specs.Sums.{sum_below, total_below}
-use Rattle.dg_theory.specs.Multigraph.{Multigraph, IsMultigraph, edges_between, valence, edge_count, genus}
-use Rattle.dg_theory.specs.Firing.{Amounts, degree, AgreeOn}
-use Rattle.dg_theory.specs.Rank.{canonical}
+use Rattle.dg_theory.proofs.Common.{if◌then◌else◌, ◌≡◌, ℕ, zero, suc, ◌+◌, ◌<◌, Bool, true, false, arith, refl, ap, sym, ◌∙◌, ◌≤ℤ◌, ints, pos, ◌+ℤ◌, ◌-ℤ◌, sum_below, total_below, Multigraph, IsMultigraph, edges_between, valence, edge_count, genus, Amounts, degree, AgreeOn, canonical}
 use Rattle.dg_theory.proofs.SumLaws.{sum_below-cong, sum_below-add}
 use Rattle.dg_theory.proofs.SumTotals.{sum_below-total}
 use Rattle.dg_theory.proofs.TotalLaws.{total_below-cong, total_below-add}

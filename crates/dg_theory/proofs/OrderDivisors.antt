@@ -4,15 +4,7 @@
 --   order_divisor g place    at each vertex a dollar less than so many
 --   first_in                 in a set with a vertex, some vertex has the least place
 --   order_divisor-lost       the divisor of an order can't be won
-use Rattle.std.proofs.Common.{◌≡◌, ℕ, ◌<◌, ◌≤◌, Bool, true, false, arith, ap, ⊎_elim}
-use Rattle.std.specs.Prelude.{◌≤ℤ◌, if◌then◌else◌}
-use Rattle.std.proofs.lemmas.Int.{ints}
-use Rattle.std.proofs.lemmas.Bool.{cases_Bool}
-use Rattle.std.proofs.Math.IntN.{ℤ, pos, neg_ℤ, ◌+ℤ◌, ◌-ℤ◌}
-use Rattle.dg_theory.specs.Multigraph.{Multigraph}
-use Rattle.dg_theory.specs.Firing.{Amounts, gain}
-use Rattle.dg_theory.specs.Play.{IsWinnable}
-use Rattle.dg_theory.specs.Reduced.{edges_out}
+use Rattle.dg_theory.proofs.Common.{if◌then◌else◌, ◌≡◌, ℕ, ◌<◌, ◌≤◌, Bool, true, false, arith, ap, ⊎_elim, ◌≤ℤ◌, ints, cases_Bool, ℤ, pos, neg_ℤ, ◌+ℤ◌, ◌-ℤ◌, Multigraph, Amounts, gain, IsWinnable, edges_out}
 use Rattle.dg_theory.proofs.Largest.{largest}
 use Rattle.dg_theory.proofs.Levels.{level, in_level, level_in, level_off}
 use Rattle.dg_theory.proofs.Lending.{loses}

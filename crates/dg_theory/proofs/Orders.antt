@@ -4,11 +4,7 @@
 --   order_start             the set of q alone has such an order
 --   order_next              a neighbour of a vertex of S can be added, at the place n
 --   order_exists            so in a multigraph all vertices have such an order
-use Rattle.std.proofs.Common.{◌≡◌, ◌≢◌, ℕ, zero, suc, ◌<◌, ◌≤◌, ◌==◌, Bool, true, false, not, arith, refl, sym, ap, ◌∙◌, ⊎_elim}
-use Rattle.std.specs.Prelude.{if◌then◌else◌}
-use Rattle.std.proofs.lemmas.Bool.{cases_eq, eqb-true, both_ways, not-true, not-false, not_from_false, not_from_true, true_from_ne_false, false_from_ne_true}
-use Rattle.std.proofs.lemmas.Bool.Decides.{nat_tests}
-use Rattle.dg_theory.specs.Multigraph.{Multigraph, IsMultigraph, edges_between}
+use Rattle.dg_theory.proofs.Common.{if◌then◌else◌, ◌≡◌, ◌≢◌, ℕ, zero, suc, ◌<◌, ◌≤◌, ◌==◌, Bool, true, false, not, arith, refl, sym, ap, ◌∙◌, ⊎_elim, cases_eq, eqb-true, both_ways, not-true, not-false, not_from_false, not_from_true, true_from_ne_false, false_from_ne_true, nat_tests, Multigraph, IsMultigraph, edges_between}
 use Rattle.dg_theory.proofs.Climbs.{Leaves, JoinedIn-leaves}
 use Rattle.dg_theory.proofs.Counting.{count_of, count_of-some, count_of-more, member_or_none}
 

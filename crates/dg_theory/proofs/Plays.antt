@@ -14,14 +14,8 @@
 --   plays_for-past       the plays for the vertices below n have a total script that is 0 from n on
 --   plays_for-total      and below n it is the script that they are for
 --   played-plays_for     to play the plays for a script is to fire by it
-use Rattle.std.proofs.Common.{◌≡◌, ◌≢◌, ℕ, zero, suc, ◌<◌, ◌≤◌, List, [], ◌∷◌, arith, refl, sym, ◌∙◌, ⊎_elim}
-use Rattle.std.proofs.lemmas.Int.{ints}
-use Rattle.std.proofs.lemmas.Bool.{cases_eq}
-use Rattle.std.proofs.lemmas.Bool.Decides.{nat_tests}
-use Rattle.std.proofs.Math.IntN.{ℤ, pos, negsuc, ◌+ℤ◌}
-use Rattle.dg_theory.specs.Multigraph.{Multigraph}
-use Rattle.dg_theory.specs.Firing.{Amounts, fired, only_at}
-use Rattle.dg_theory.specs.Play.{Play, lend, borrow, script_of_play, played}
+use Rattle.dg_theory.proofs.Common.{◌≡◌, ◌≢◌, ℕ, zero, suc, ◌<◌, ◌≤◌, List, [], ◌∷◌, arith, refl, sym, ◌∙◌, ⊎_elim, ints, cases_eq, nat_tests, ℤ, pos, negsuc, ◌+ℤ◌, Multigraph, Amounts, fired, only_at, Play, lend, script_of_play, played}
+use Rattle.dg_theory.specs.Play.{borrow}
 use Rattle.dg_theory.proofs.FiringLaws.{fired-fired, fired-cong, fired-constant}
 
 abbrev pub total_script : List Play → Amounts

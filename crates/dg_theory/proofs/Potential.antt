@@ -9,17 +9,7 @@
 --   pulled                 a sum over edges, one of which leads down by L and the others up by at most K
 --   levels_pull            if one neighbour is lower by L > 63 K, and no neighbour higher by more than K, one loses
 --   levels_are_potential   the weights by distance are such a potential
-use Rattle.std.proofs.Common.{◌≡◌, ◌≢◌, ℕ, zero, suc, ◌+◌, ◌-◌, ◌*◌, ◌^◌, ◌<◌, ◌≤◌, arith, ap, suc-mul, add-mul, pow-suc, ⊎_elim}
-use Rattle.std.proofs.lemmas.Bool.{cases_eq, cases_lt}
-use Rattle.std.proofs.lemmas.Int.{ints}
-use Rattle.std.proofs.lemmas.Nat.{mul-le}
-use Rattle.std.proofs.Math.Nat.{one-le-pow}
-use Rattle.std.proofs.Math.IntN.{ℤ, pos, ◌+ℤ◌, ◌-ℤ◌, ◌*ℤ◌, suc_ℤ-*ℤ, zero-*ℤ}
-use Rattle.std.specs.Prelude.{◌≤ℤ◌}
-use Rattle.dg_theory.specs.Sums.{sum_below, total_below}
-use Rattle.dg_theory.specs.Multigraph.{Multigraph, IsMultigraph, edges_between, valence}
-use Rattle.dg_theory.specs.Firing.{Amounts, gain}
-use Rattle.dg_theory.specs.Distances.{IsDistance}
+use Rattle.dg_theory.proofs.Common.{◌≡◌, ◌≢◌, ℕ, zero, suc, ◌+◌, ◌-◌, ◌*◌, ◌^◌, ◌<◌, ◌≤◌, arith, ap, suc-mul, add-mul, pow-suc, ⊎_elim, cases_eq, cases_lt, ints, mul-le, one-le-pow, ℤ, pos, ◌+ℤ◌, ◌-ℤ◌, ◌*ℤ◌, suc_ℤ-*ℤ, zero-*ℤ, ◌≤ℤ◌, sum_below, total_below, Multigraph, IsMultigraph, edges_between, valence, Amounts, gain, IsDistance}
 use Rattle.dg_theory.proofs.SumBounds.{mul-once}
 use Rattle.dg_theory.proofs.Distances.{level_positive}
 

@@ -4,9 +4,7 @@
 --   mulz-sub x a b   x (a - b) = x a - x b
 --   mul-swap x k a   x (k a) = k (x a)
 --   one-mul a        1 a = a
-use Rattle.std.proofs.Common.{◌≡◌, ℕ, zero, suc, arith, refl}
-use Rattle.std.proofs.lemmas.Int.{ints}
-use Rattle.std.proofs.Math.IntN.{ℤ, pos, negsuc, ◌+ℤ◌, ◌-ℤ◌, ◌*ℤ◌, suc_ℤ-*ℤ, pred_ℤ-*ℤ, zero-*ℤ, *ℤ-zero}
+use Rattle.dg_theory.proofs.Common.{◌≡◌, ℕ, zero, suc, arith, refl, ints, ℤ, pos, negsuc, ◌+ℤ◌, ◌-ℤ◌, ◌*ℤ◌, suc_ℤ-*ℤ, pred_ℤ-*ℤ, zero-*ℤ, *ℤ-zero}
 
 pub mulz-add : (x a b : ℤ) → x *ℤ (a +ℤ b) ≡ x *ℤ a +ℤ x *ℤ b
 mulz-add (pos zero) a b = omega (arith, ints, zero-*ℤ (a +ℤ b), zero-*ℤ a, zero-*ℤ b)

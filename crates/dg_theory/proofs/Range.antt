@@ -20,18 +20,7 @@
 -- For any firing:
 --   script_between       a script that takes amounts off q within A to amounts within B has all its entries within
 --                        225 (A + B) of that at q, for at most 16 vertices
-use Rattle.std.proofs.Common.{◌≡◌, ◌≢◌, ℕ, zero, suc, ◌+◌, ◌-◌, ◌*◌, ◌^◌, ◌<◌, ◌≤◌, Bool, false, arith, refl, ap, sym, ◌∙◌, ⊎_elim, suc-mul, pow-suc, mul_assoc, mul_comm}
-use Rattle.std.proofs.lemmas.Bool.{cases_eq}
-use Rattle.std.proofs.lemmas.Int.{ints}
-use Rattle.std.proofs.lemmas.Nat.{mul-le}
-use Rattle.std.proofs.Math.IntN.{ℤ, pos, ◌+ℤ◌, ◌-ℤ◌, ◌*ℤ◌, *ℤ-zero}
-use Rattle.std.specs.Prelude.{◌≤ℤ◌}
-use Rattle.std.specs.Int.RustNames.{unsigned_abs}
-use Rattle.dg_theory.specs.Sums.{sum_below}
-use Rattle.dg_theory.specs.Multigraph.{Multigraph, IsMultigraph, valence}
-use Rattle.dg_theory.specs.Firing.{Amounts, degree, gain, fired, indicator, multiple, HasNoDebtOff}
-use Rattle.dg_theory.specs.Burning.{edges_into}
-use Rattle.dg_theory.specs.Distances.{IsDistance}
+use Rattle.dg_theory.proofs.Common.{◌≡◌, ◌≢◌, ℕ, zero, suc, ◌+◌, ◌-◌, ◌*◌, ◌^◌, ◌<◌, ◌≤◌, Bool, false, arith, refl, ap, sym, ◌∙◌, ⊎_elim, suc-mul, pow-suc, mul_assoc, mul_comm, cases_eq, ints, mul-le, ℤ, pos, ◌+ℤ◌, ◌-ℤ◌, ◌*ℤ◌, *ℤ-zero, ◌≤ℤ◌, unsigned_abs, sum_below, Multigraph, IsMultigraph, valence, Amounts, degree, gain, fired, indicator, multiple, HasNoDebtOff, edges_into, IsDistance}
 use Rattle.dg_theory.proofs.Absolute.{within_abs, abs_within}
 use Rattle.dg_theory.proofs.Bounds.{gentle_between}
 use Rattle.dg_theory.proofs.Multiples.{gain-all_outside}

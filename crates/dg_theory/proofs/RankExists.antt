@@ -6,16 +6,7 @@
 --   rank_decided        a divisor passes a rank test or not
 --   last_pass           between a test that passes and one that fails there is a last one that passes
 --   rank_exists         every divisor has a rank
-use Rattle.std.proofs.Common.{◌≡◌, ℕ, zero, suc, ◌+◌, ◌<◌, ◌⊎◌, inl, inr, arith, refl, subst, ⊎_elim}
-use Rattle.std.proofs.lemmas.Bool.{cases_eq}
-use Rattle.std.proofs.lemmas.Int.{ints, by_lt_z}
-use Rattle.std.proofs.Math.IntN.{pos, negsuc, ◌+ℤ◌}
-use Rattle.std.specs.Prelude.{◌≤ℤ◌, ◌<ℤ◌}
-use Rattle.dg_theory.specs.Multigraph.{Multigraph, IsMultigraph}
-use Rattle.dg_theory.specs.Firing.{Amounts, degree, fired, only_at, IsEffective}
-use Rattle.dg_theory.specs.Play.{IsWinnable}
-use Rattle.dg_theory.specs.Rank.{less, HasRankAtLeast}
-use Rattle.dg_theory.specs.DualityLaws.{RankExists}
+use Rattle.dg_theory.proofs.Common.{◌≡◌, ℕ, zero, suc, ◌+◌, ◌<◌, ◌⊎◌, inl, inr, arith, refl, subst, ⊎_elim, cases_eq, ints, by_lt_z, pos, negsuc, ◌+ℤ◌, ◌≤ℤ◌, ◌<ℤ◌, Multigraph, IsMultigraph, Amounts, degree, fired, only_at, IsEffective, IsWinnable, less, HasRankAtLeast, RankExists}
 use Rattle.dg_theory.proofs.Searching.{AllBelow, FirstOf, first_or_all}
 use Rattle.dg_theory.proofs.SumLaws.{sum_below-add}
 use Rattle.dg_theory.proofs.Agreement.{winnable-cong}

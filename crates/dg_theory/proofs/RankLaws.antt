@@ -7,16 +7,7 @@
 --   rank_zero        the rank is at least 0 exactly where the divisor is winnable
 --   rich_rank        a divisor whose degree is at least the genus and k more has a rank of at least k
 --   poor_rank        a divisor whose degree is less than k has no rank of at least k
-use Rattle.std.proofs.Common.{◌≡◌, ℕ, ◌+◌, ◌<◌, [], arith, refl, ⊎_elim}
-use Rattle.std.proofs.lemmas.Bool.{cases_eq}
-use Rattle.std.proofs.lemmas.Int.{ints}
-use Rattle.std.proofs.Math.IntN.{pos, ◌+ℤ◌}
-use Rattle.std.specs.Prelude.{◌↔◌, ◌≤ℤ◌}
-use Rattle.dg_theory.specs.Multigraph.{Multigraph}
-use Rattle.dg_theory.specs.Firing.{Amounts, degree, only_at, IsEffective, AreEquivalent}
-use Rattle.dg_theory.specs.Play.{IsWinnable}
-use Rattle.dg_theory.specs.Rank.{less, HasRankAtLeast}
-use Rattle.dg_theory.specs.RankLaws.{EquivalentRank, RankBelow, RankZero, RichRank, PoorRank}
+use Rattle.dg_theory.proofs.Common.{◌≡◌, ℕ, ◌+◌, ◌<◌, [], arith, refl, ⊎_elim, cases_eq, ints, pos, ◌+ℤ◌, ◌↔◌, ◌≤ℤ◌, Multigraph, Amounts, degree, only_at, IsEffective, AreEquivalent, IsWinnable, less, HasRankAtLeast, EquivalentRank, RankBelow, RankZero, RichRank, PoorRank}
 use Rattle.dg_theory.proofs.SumLaws.{sum_below-add, sum_below-zero}
 use Rattle.dg_theory.proofs.Winning.{equivalent-winnable}
 use Rattle.dg_theory.proofs.Equivalence.{equivalent-less}

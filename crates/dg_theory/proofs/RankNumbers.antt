@@ -1,20 +1,12 @@
--- The rank as a number, and that of the dual.
+-- The rank as a number, and that of the residual.
 --   rank_down          a rank of at least k is one of at least each j ≤ k
 --   not_above          where D has a rank of at least k and none of at least j + 1, k is at most j
 --   not_rich           where D has no rank of at least k, its degree is below the genus and k more
 --   rank_passes        the rank is at least each k that it is not below
 --   rank_once          a divisor has at most one rank
---   rank_of_dual       the rank of a divisor tells that of its dual
+--   rank_of_dual       the rank of a divisor tells that of its residual
 --   riemann_roch       the two ranks differ by the degree, plus 1, less the genus
-use Rattle.std.proofs.Common.{◌≡◌, ℕ, zero, suc, ◌+◌, ◌<◌, ◌≤◌, arith, ap, sym, ◌∙◌, subst, ⊎_elim}
-use Rattle.std.specs.Prelude.{◌≤ℤ◌, ◌<ℤ◌}
-use Rattle.std.proofs.lemmas.Bool.{cases_eq, cases_lt}
-use Rattle.std.proofs.lemmas.Int.{ints, by_lt_z}
-use Rattle.std.proofs.Math.IntN.{ℤ, pos, negsuc, ◌+ℤ◌, ◌-ℤ◌}
-use Rattle.dg_theory.specs.Multigraph.{Multigraph, IsMultigraph, genus}
-use Rattle.dg_theory.specs.Firing.{Amounts, degree}
-use Rattle.dg_theory.specs.Rank.{less, canonical, HasRankAtLeast, IsRank}
-use Rattle.dg_theory.specs.DualityLaws.{RankOnce, RankOfDual, RiemannRoch}
+use Rattle.dg_theory.proofs.Common.{◌≡◌, ℕ, zero, suc, ◌+◌, ◌<◌, ◌≤◌, arith, ap, sym, ◌∙◌, subst, ⊎_elim, ◌≤ℤ◌, ◌<ℤ◌, cases_eq, cases_lt, ints, by_lt_z, ℤ, pos, negsuc, ◌+ℤ◌, ◌-ℤ◌, Multigraph, IsMultigraph, genus, Amounts, degree, less, canonical, HasRankAtLeast, IsRank, RankOnce, RankOfDual, RiemannRoch}
 use Rattle.dg_theory.proofs.RankLaws.{rank_below, rich_rank}
 use Rattle.dg_theory.proofs.DualityLaws.{dual_tests, dual-degree}
 

@@ -4,17 +4,8 @@
 --   sum_winnable      the sum of two winnable divisors is winnable
 --   rank_of_sum       the rank of a sum is at least the sum of the ranks, where neither is -1
 --   canonical_below   the rank of the canonical divisor is less than the genus
---   clifford          where the dual is winnable, the rank is at most half of the degree
-use Rattle.std.proofs.Common.{◌≡◌, ℕ, zero, suc, ◌+◌, ◌<◌, true, false, arith, refl, ⊎_elim}
-use Rattle.std.specs.Prelude.{◌≤ℤ◌, ◌<ℤ◌}
-use Rattle.std.proofs.lemmas.Bool.{cases_eq}
-use Rattle.std.proofs.lemmas.Int.{ints, by_lt_z}
-use Rattle.std.proofs.Math.IntN.{ℤ, pos, ◌+ℤ◌, ◌-ℤ◌}
-use Rattle.dg_theory.specs.Multigraph.{Multigraph, IsMultigraph, genus}
-use Rattle.dg_theory.specs.Firing.{Amounts, degree, only_at, IsEffective}
-use Rattle.dg_theory.specs.Play.{IsWinnable}
-use Rattle.dg_theory.specs.Rank.{less, canonical, HasRankAtLeast}
-use Rattle.dg_theory.specs.DualityLaws.{RankOfSum, Clifford}
+--   clifford          where the residual is winnable, the rank is at most half of the degree
+use Rattle.dg_theory.proofs.Common.{◌≡◌, ℕ, zero, suc, ◌+◌, ◌<◌, true, false, arith, refl, ⊎_elim, ◌≤ℤ◌, ◌<ℤ◌, cases_eq, ints, by_lt_z, ℤ, pos, ◌+ℤ◌, ◌-ℤ◌, Multigraph, IsMultigraph, genus, Amounts, degree, only_at, IsEffective, IsWinnable, less, canonical, HasRankAtLeast, RankOfSum, Clifford}
 use Rattle.dg_theory.proofs.SumLaws.{sum_below-add, sum_below-zero}
 use Rattle.dg_theory.proofs.SumBounds.{sum_below-nonpos}
 use Rattle.dg_theory.proofs.FiringLaws.{fired-fired}
@@ -91,7 +82,7 @@ canonical_below g k graph some rank =
     (λ (high : genus g ≤ℤ pos k).
     absurd (omega (arith, ints, high_rank g (canonical g) k graph some high rank, canonical-degree g graph)))
 
--- a divisor and its dual share the rank of the canonical divisor
+-- a divisor and its residual share the rank of the canonical divisor
 shared : (g : Multigraph) (D : Amounts) (k l : ℕ) → IsMultigraph g → 0 < g.size → HasRankAtLeast g D k →
     HasRankAtLeast g (less (canonical g) D) l → pos (k + l) <ℤ genus g
 shared g D k l graph some rank dual_rank =

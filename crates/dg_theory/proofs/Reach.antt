@@ -5,11 +5,7 @@
 --   reached-back         a vertex that one edge more reaches has a neighbour that is reached
 --   distance-gradual     q is at 0, and neighbours differ by at most one
 --   distance_from-is     in a multigraph it is the distance
-use Rattle.std.proofs.Common.{◌≡◌, ◌≢◌, ℕ, zero, suc, ◌+◌, ◌<◌, ◌≤◌, ◌==◌, ◌&&◌, Bool, true, false, arith, refl, sym, ap, ◌∙◌, ⊎_elim}
-use Rattle.std.specs.Prelude.{◌||◌, nat_lt}
-use Rattle.std.proofs.lemmas.Bool.{cases_lt, or_cases, or_left, or_right, and_parts, and_from, both_ways, eq-eqb, ne_eqb, lt-ltb, ltb-true, false_from_ne_true}
-use Rattle.dg_theory.specs.Multigraph.{Multigraph, IsMultigraph, edges_between}
-use Rattle.dg_theory.specs.Distances.{IsDistance}
+use Rattle.dg_theory.proofs.Common.{◌≡◌, ◌≢◌, ℕ, zero, suc, ◌+◌, ◌<◌, ◌≤◌, ◌==◌, ◌&&◌, Bool, true, false, arith, refl, sym, ap, ◌∙◌, ⊎_elim, ◌||◌, nat_lt, cases_lt, or_cases, or_left, or_right, and_parts, and_from, both_ways, eq-eqb, ne_eqb, lt-ltb, ltb-true, false_from_ne_true, Multigraph, IsMultigraph, edges_between, IsDistance}
 use Rattle.dg_theory.proofs.Waits.{some_below, some_below-at, some_below-witness, Lasts, wait, wait-few, wait-over, wait-on, wait-end}
 use Rattle.dg_theory.proofs.Few.{IsGradual, gradual-few}
 

@@ -4,15 +4,7 @@
 --   paid_at_q        a reduced divisor from which a script clears all debts is not in debt at q
 --   reduced_decides  a divisor is winnable exactly where the reduced divisor that it is equivalent to is not in debt at
 --                    q
-use Rattle.std.proofs.Common.{◌≡◌, ℕ, ◌<◌, [], arith, ap, sym, ◌∙◌, ⊎_elim}
-use Rattle.std.proofs.lemmas.Bool.{cases_eq}
-use Rattle.std.proofs.lemmas.Int.{ints}
-use Rattle.std.proofs.Math.IntN.{pos}
-use Rattle.std.specs.Prelude.{◌≤ℤ◌}
-use Rattle.dg_theory.specs.Multigraph.{Multigraph}
-use Rattle.dg_theory.specs.Firing.{Amounts, gain, fired, IsEffective, FiresTo}
-use Rattle.dg_theory.specs.Reduced.{IsReduced}
-use Rattle.dg_theory.specs.ReducedLaws.{ReducedDecides, ReducedOnce}
+use Rattle.dg_theory.proofs.Common.{◌≡◌, ℕ, ◌<◌, [], arith, ap, sym, ◌∙◌, ⊎_elim, cases_eq, ints, pos, ◌≤ℤ◌, Multigraph, Amounts, gain, fired, IsEffective, FiresTo, IsReduced, ReducedDecides, ReducedOnce}
 use Rattle.dg_theory.proofs.Equivalence.{opposite, opposite_leads}
 use Rattle.dg_theory.proofs.FiringLaws.{fired-constant_script}
 use Rattle.dg_theory.proofs.Largest.{IsLargest}

@@ -2,11 +2,7 @@
 --   difference t s    the script t less the script s
 --   fired-difference  to fire by s, and then by t less s, is to fire by t
 --   fired-shifted     two scripts that differ by a constant on the vertices fire alike
-use Rattle.std.proofs.Common.{◌≡◌, ℕ, ◌<◌, arith, sym, ◌∙◌}
-use Rattle.std.proofs.lemmas.Int.{ints}
-use Rattle.std.proofs.Math.IntN.{ℤ, ◌+ℤ◌, ◌-ℤ◌}
-use Rattle.dg_theory.specs.Multigraph.{Multigraph}
-use Rattle.dg_theory.specs.Firing.{Amounts, gain, fired}
+use Rattle.dg_theory.proofs.Common.{◌≡◌, ℕ, ◌<◌, arith, sym, ◌∙◌, ints, ℤ, ◌+ℤ◌, ◌-ℤ◌, Multigraph, Amounts, gain, fired}
 use Rattle.dg_theory.proofs.FiringLaws.{fired-fired, fired-cong, fired-constant}
 
 abbrev pub difference : Amounts → Amounts → Amounts

@@ -3,8 +3,7 @@
 --   FirstOf n P Q   there is a first number below n that does not hold as P does, and Q holds of it
 --   all_to          what holds of all numbers below n, and of n, holds of all below n + 1
 --   first_or_all    where P or Q holds of each number, P holds of all, or there is a first of which Q holds
-use Rattle.std.proofs.Common.{◌≡◌, ℕ, zero, suc, ◌<◌, ◌⊎◌, inl, inr, arith, subst, ⊎_elim}
-use Rattle.std.proofs.lemmas.Bool.{cases_eq}
+use Rattle.dg_theory.proofs.Common.{◌≡◌, ℕ, zero, suc, ◌<◌, ◌⊎◌, inl, inr, arith, subst, ⊎_elim, cases_eq}
 
 abbrev pub AllBelow : ℕ → (ℕ → Type 0) → Type 0
 AllBelow n P = (v : ℕ) → v < n → P v

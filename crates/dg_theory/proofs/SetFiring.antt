@@ -4,14 +4,7 @@
 --   fired-inside    if no debt is at a vertex of the set after the firing, it held a dollar for each edge that leaves
 --   inside-fired    and the other way round
 --   outside-fired   a vertex outside the set that was not in debt is not in debt after the firing
-use Rattle.std.proofs.Common.{◌≡◌, ℕ, Bool, true, false, ap, mul-one, arith}
-use Rattle.std.proofs.lemmas.Int.{ints}
-use Rattle.std.proofs.Math.IntN.{pos, ◌+ℤ◌, ◌-ℤ◌, ◌*ℤ◌, *ℤ-zero, *ℤ-one, *ℤ-negsuc}
-use Rattle.std.specs.Prelude.{◌≤ℤ◌, if◌then◌else◌}
-use Rattle.dg_theory.specs.Multigraph.{Multigraph, edges_between}
-use Rattle.dg_theory.specs.Firing.{Amounts, gain, fired, indicator}
-use Rattle.dg_theory.specs.Reduced.{edges_out}
-use Rattle.dg_theory.specs.Burning.{edges_into}
+use Rattle.dg_theory.proofs.Common.{if◌then◌else◌, ◌≡◌, ℕ, Bool, true, false, ap, mul-one, arith, ints, pos, ◌+ℤ◌, ◌-ℤ◌, ◌*ℤ◌, *ℤ-zero, *ℤ-one, *ℤ-negsuc, ◌≤ℤ◌, Multigraph, edges_between, Amounts, gain, fired, indicator, edges_out, edges_into}
 use Rattle.dg_theory.proofs.SumTotals.{sum_below-total, sum_below-minus}
 
 -- along e edges, from a vertex that lends once to one that lends once or not

@@ -9,12 +9,7 @@
 --   sum_below-le_term   a sum of terms that are at most 0 is at most each of them
 --   sum_below-at_least  a sum of n terms that are at least - K is at least - n K
 --   sum_below-but_one   if one of the terms is at least 0, the sum is at least - (n - 1) K
-use Rattle.std.proofs.Common.{◌≡◌, ◌≢◌, ℕ, zero, suc, ◌+◌, ◌*◌, ◌<◌, suc-mul, arith, ap, ⊎_elim}
-use Rattle.std.proofs.lemmas.Bool.{cases_eq}
-use Rattle.std.proofs.lemmas.Int.{ints, by_lt_z}
-use Rattle.std.proofs.Math.IntN.{ℤ, pos, ◌+ℤ◌, ◌*ℤ◌, suc_ℤ-*ℤ, zero-*ℤ}
-use Rattle.std.specs.Prelude.{◌≤ℤ◌, ◌<ℤ◌}
-use Rattle.dg_theory.specs.Sums.{sum_below}
+use Rattle.dg_theory.proofs.Common.{◌≡◌, ◌≢◌, ℕ, zero, suc, ◌+◌, ◌*◌, ◌<◌, suc-mul, arith, ap, ⊎_elim, cases_eq, ints, by_lt_z, ℤ, pos, ◌+ℤ◌, ◌*ℤ◌, suc_ℤ-*ℤ, zero-*ℤ, ◌≤ℤ◌, ◌<ℤ◌, sum_below}
 
 pub mul-nonpos : (k : ℕ) (x : ℤ) → x ≤ℤ pos 0 → (pos k *ℤ x) ≤ℤ pos 0
 mul-nonpos zero x low = omega (arith, ints, zero-*ℤ x)

@@ -4,11 +4,7 @@
 --   sum_below-zero        a sum of zeros is zero
 --   sum_below-more        a sum of n + 1 terms is the sum of n and the last
 --   sum_below-differ_at   sums whose terms agree but at v differ by their terms at v
-use Rattle.std.proofs.Common.{◌≡◌, ◌≢◌, ℕ, zero, suc, ◌+◌, ◌<◌, add-one, arith, refl, ap, ⊎_elim}
-use Rattle.std.proofs.lemmas.Bool.{cases_eq}
-use Rattle.std.proofs.lemmas.Int.{ints}
-use Rattle.std.proofs.Math.IntN.{ℤ, pos, ◌+ℤ◌}
-use Rattle.dg_theory.specs.Sums.{sum_below}
+use Rattle.dg_theory.proofs.Common.{◌≡◌, ◌≢◌, ℕ, zero, suc, ◌+◌, ◌<◌, add-one, arith, refl, ap, ⊎_elim, cases_eq, ints, ℤ, pos, ◌+ℤ◌, sum_below}
 
 pub sum_below-cong : (n : ℕ) (f h : ℕ → ℤ) → ((w : ℕ) → w < n → f w ≡ h w) → sum_below n f ≡ sum_below n h
 sum_below-cong zero f h same = refl

@@ -2,10 +2,7 @@
 --   sum_below-scale   a multiple of a sum is the sum of the multiples
 --   sum_below-sub     a sum of differences is the difference of the sums
 --   sum_below-swap    a sum over rows of sums over columns is the sum over columns of sums over rows
-use Rattle.std.proofs.Common.{◌≡◌, ℕ, zero, suc, arith, refl, sym}
-use Rattle.std.proofs.lemmas.Int.{ints}
-use Rattle.std.proofs.Math.IntN.{ℤ, pos, ◌-ℤ◌, ◌*ℤ◌, *ℤ-zero}
-use Rattle.dg_theory.specs.Sums.{sum_below}
+use Rattle.dg_theory.proofs.Common.{◌≡◌, ℕ, zero, suc, arith, refl, sym, ints, ℤ, pos, ◌-ℤ◌, ◌*ℤ◌, *ℤ-zero, sum_below}
 use Rattle.dg_theory.proofs.Products.{mulz-add}
 use Rattle.dg_theory.proofs.SumLaws.{sum_below-add, sum_below-zero}
 

@@ -1,10 +1,7 @@
 -- Sums of whole numbers that are totals of natural numbers, or their negatives.
 --   sum_below-total   where each term of a sum is a natural number, the sum is their total
 --   sum_below-minus   where each term is the negative of a natural number, sum and total cancel
-use Rattle.std.proofs.Common.{◌≡◌, ℕ, zero, suc, ◌<◌, arith, refl}
-use Rattle.std.proofs.lemmas.Int.{ints}
-use Rattle.std.proofs.Math.IntN.{ℤ, pos, ◌+ℤ◌}
-use Rattle.dg_theory.specs.Sums.{sum_below, total_below}
+use Rattle.dg_theory.proofs.Common.{◌≡◌, ℕ, zero, suc, ◌<◌, arith, refl, ints, ℤ, pos, ◌+ℤ◌, sum_below, total_below}
 
 pub sum_below-total : (n : ℕ) (f : ℕ → ℤ) (h : ℕ → ℕ) → ((w : ℕ) → w < n → f w ≡ pos (h w)) →
     sum_below n f ≡ pos (total_below n h)

@@ -4,9 +4,7 @@
 --   total_below-term        a term is at most the sum
 --   total_below-add         a sum of sums is the sum of both
 --   total_below-differ_at   sums whose terms agree but at v differ by their terms at v
-use Rattle.std.proofs.Common.{◌≡◌, ◌≢◌, ℕ, zero, suc, ◌+◌, ◌<◌, ◌≤◌, arith, refl, ap, ⊎_elim}
-use Rattle.std.proofs.lemmas.Bool.{cases_eq}
-use Rattle.dg_theory.specs.Sums.{total_below}
+use Rattle.dg_theory.proofs.Common.{◌≡◌, ◌≢◌, ℕ, zero, suc, ◌+◌, ◌<◌, ◌≤◌, arith, refl, ap, ⊎_elim, cases_eq, total_below}
 
 pub total_below-cong : (n : ℕ) (f h : ℕ → ℕ) → ((w : ℕ) → w < n → f w ≡ h w) → total_below n f ≡ total_below n h
 total_below-cong zero f h same = refl

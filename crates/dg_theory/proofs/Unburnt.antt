@@ -7,15 +7,8 @@
 --   holds_start           the set of all vertices but q holds each such set
 --   holds_next            so does S without a vertex that falls in S, where S does
 --   reduced_or_fires      the divisor is reduced, or some set with a vertex fires freely
-use Rattle.std.proofs.Common.{◌≡◌, ◌≢◌, ℕ, zero, suc, ◌<◌, ◌≤◌, ◌⊎◌, inl, inr, Bool, true, false, ◌&&◌, arith, refl, sym, ap, ◌∙◌, ⊎_elim}
-use Rattle.std.specs.Prelude.{nat_lt, pos, ◌≤ℤ◌, ◌<ℤ◌, ◌+ℤ◌, if◌then◌else◌}
-use Rattle.std.specs.Int.Signed.{le_z}
-use Rattle.std.proofs.lemmas.Int.{ints, by_lt_z}
-use Rattle.std.proofs.lemmas.Bool.{cases_Bool, lt-ltb, ltb-true, and_parts, and_from, false_from_ne_true, both_ways}
-use Rattle.dg_theory.specs.Multigraph.{Multigraph, edges_between}
-use Rattle.dg_theory.specs.Firing.{Amounts, HasNoDebtOff}
-use Rattle.dg_theory.specs.Reduced.{edges_out, IsReduced}
-use Rattle.dg_theory.specs.Burning.{FiresFreely}
+use Rattle.dg_theory.proofs.Common.{if◌then◌else◌, ◌≡◌, ◌≢◌, ℕ, zero, suc, ◌<◌, ◌≤◌, ◌⊎◌, inl, inr, Bool, true, false, ◌&&◌, arith, refl, sym, ap, ◌∙◌, ⊎_elim, nat_lt, ◌≤ℤ◌, ◌<ℤ◌, le_z, ints, by_lt_z, cases_Bool, lt-ltb, ltb-true, and_parts, and_from, false_from_ne_true, both_ways, Multigraph, edges_between, Amounts, HasNoDebtOff, edges_out, IsReduced, FiresFreely}
+use Rattle.std.specs.Prelude.{pos, ◌+ℤ◌}
 use Rattle.dg_theory.proofs.TotalLaws.{total_below-le}
 use Rattle.dg_theory.proofs.SetFiring.{inside-fired, outside-fired}
 use Rattle.dg_theory.proofs.Counting.{count_of, count_of-some, count_of-more, member_or_none}

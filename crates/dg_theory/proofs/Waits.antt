@@ -8,9 +8,7 @@
 --   wait-over            where it holds at step k, the wait is at most k
 --   wait-on              where it does not hold at a step k below n, the wait is longer than k
 --   wait-end             so at the step after the wait it holds, if that is below n
-use Rattle.std.proofs.Common.{◌≡◌, ℕ, zero, suc, ◌<◌, ◌≤◌, Bool, true, false, not, arith, refl, sym, ap, ◌∙◌, ⊎_elim}
-use Rattle.std.specs.Prelude.{◌||◌}
-use Rattle.std.proofs.lemmas.Bool.{cases_eq, cases_lt, cases_Bool, or_cases, or_left, or_right, true_from_ne_false}
+use Rattle.dg_theory.proofs.Common.{◌≡◌, ℕ, zero, suc, ◌<◌, ◌≤◌, Bool, true, false, not, arith, refl, sym, ap, ◌∙◌, ⊎_elim, ◌||◌, cases_eq, cases_lt, cases_Bool, or_cases, or_left, or_right, true_from_ne_false}
 use Rattle.dg_theory.proofs.Counting.{one_if, count_of}
 
 abbrev pub some_below : ℕ → (ℕ → Bool) → Bool

@@ -8,16 +8,7 @@
 --   weight_falls_by_firings   if a set without q that has a member fires at least once, and nobody off q is in debt
 --                       before and after, the weight falls
 --   weight_falls_by_set so it does where a set with a member fires freely
-use Rattle.std.proofs.Common.{◌≡◌, ℕ, zero, suc, ◌+◌, ◌*◌, ◌<◌, ◌≤◌, Bool, true, false, arith, refl, ap, sym, ◌∙◌, ⊎_elim, zero-mul, mul-zero, mul-one}
-use Rattle.std.proofs.lemmas.Bool.{cases_eq}
-use Rattle.std.proofs.lemmas.Int.{ints}
-use Rattle.std.proofs.Math.IntN.{ℤ, pos, negsuc, ◌+ℤ◌, ◌*ℤ◌, zero-*ℤ}
-use Rattle.std.specs.Prelude.{◌≤ℤ◌, if◌then◌else◌}
-use borrow.Author.Differences.{up}
-use Rattle.dg_theory.specs.Sums.{sum_below, total_below}
-use Rattle.dg_theory.specs.Multigraph.{Multigraph, IsMultigraph}
-use Rattle.dg_theory.specs.Firing.{Amounts, gain, fired, indicator, multiple, HasNoDebtOff}
-use Rattle.dg_theory.specs.Burning.{FiresFreely}
+use Rattle.dg_theory.proofs.Common.{if◌then◌else◌, ◌≡◌, ℕ, zero, suc, ◌+◌, ◌*◌, ◌<◌, ◌≤◌, Bool, true, false, arith, refl, ap, sym, ◌∙◌, ⊎_elim, zero-mul, mul-zero, mul-one, cases_eq, ints, ℤ, pos, negsuc, ◌+ℤ◌, ◌*ℤ◌, zero-*ℤ, ◌≤ℤ◌, up, sum_below, total_below, Multigraph, IsMultigraph, Amounts, gain, fired, indicator, multiple, HasNoDebtOff, FiresFreely}
 use Rattle.dg_theory.proofs.Products.{mulz-add}
 use Rattle.dg_theory.proofs.SumLaws.{sum_below-cong, sum_below-add}
 use Rattle.dg_theory.proofs.SumBounds.{mul-negative, sum_below-nonpos}

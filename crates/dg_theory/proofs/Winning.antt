@@ -5,10 +5,7 @@
 --   winnable_by_class    a divisor is winnable exactly where it is equivalent to an effective one
 --   win_carried          what is equivalent to a winnable divisor is winnable
 --   equivalent-winnable  of equivalent divisors either both are winnable or neither is
-use Rattle.dg_theory.specs.Multigraph.{Multigraph}
-use Rattle.dg_theory.specs.Firing.{Amounts, IsEffective, fired, AreEquivalent}
-use Rattle.dg_theory.specs.Play.{played, IsWinnable}
-use Rattle.dg_theory.specs.WinningLaws.{WinnableByScript, WinnableByClass, EquivalentWinnable}
+use Rattle.dg_theory.proofs.Common.{Multigraph, Amounts, IsEffective, fired, AreEquivalent, played, IsWinnable, WinnableByScript, WinnableByClass, EquivalentWinnable}
 use Rattle.dg_theory.proofs.Agreement.{effective-cong}
 use Rattle.dg_theory.proofs.Equivalence.{equivalent-fired, equivalent-sym, equivalent-trans}
 use Rattle.dg_theory.proofs.Plays.{total_script, plays_for, played-total, played-plays_for}

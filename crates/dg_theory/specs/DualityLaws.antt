@@ -1,12 +1,12 @@
 -- The theorem of Riemann and Roch for multigraphs (Baker and Norine 2007, theorem 1.12; Corry and
--- Perkinson, chapter 5), and what follows from it. The dual of a divisor D is the canonical divisor
+-- Perkinson, chapter 5), and what follows from it. The residual of a divisor D is the canonical divisor
 -- less D. A function of src/laws.rt promises them.
---   RiemannRoch  == the rank of a divisor D less that of its dual is the degree of D, plus 1, less
+--   RiemannRoch  == the rank of a divisor D less that of its residual is the degree of D, plus 1, less
 --                   the genus
---   RankOfDual   == so the rank of D tells that of the dual, and -1 is no exception
+--   RankOfDual   == so the rank of D tells that of the residual, and -1 is no exception
 --   DualTests    == the same of rank tests: if k less l is the degree of D, plus 1, less the
---                   genus, D has a rank of at least k exactly if the dual has one of at least l
---   LossOfDual   == and where the dual can't bear the loss of some effective divisor of degree l, D
+--                   genus, D has a rank of at least k exactly if the residual has one of at least l
+--   LossOfDual   == and where the residual can't bear the loss of some effective divisor of degree l, D
 --                   can't bear that of some effective divisor of degree k
 --   HighRank     == if k is at least the genus, a divisor with a rank of at least k has a degree
 --                   of at least the genus and k more
@@ -14,7 +14,7 @@
 --   RankOnce     == a divisor has at most one rank
 --   RankOfSum    == the rank of a sum is at least the sum of the ranks, if neither is -1 (lemma
 --                   2.1)
---   Clifford     == if the ranks of D and of its dual are at least 0, that of D is at most half of
+--   Clifford     == if the ranks of D and of its residual are at least 0, that of D is at most half of
 --                   its degree (Clifford's theorem, corollary 3.5)
 use Rattle.std.specs.Prelude.{◌≡◌, ℕ, ◌+◌, ◌<◌, ◌↔◌, ℤ, pos, ◌+ℤ◌, ◌-ℤ◌, ◌≤ℤ◌}
 use Rattle.dg_theory.specs.Multigraph.{Multigraph, IsMultigraph, genus}

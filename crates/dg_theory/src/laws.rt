@@ -90,12 +90,12 @@ pub fn laws_of_joining()
     ensures size { SizeStays }
 {}
 
-/// The theorem of Riemann and Roch: the rank of a divisor less that of its dual, which is the canonical divisor less it, is
+/// The theorem of Riemann and Roch: the rank of a divisor less that of its residual, which is the canonical divisor less it, is
 /// the degree, plus 1, less the genus. So one rank tells the other; a rank test of one passes exactly if that of the
 /// other does, at degrees that differ by as much; and a loss that one can't bear shows that the other can't bear all. From
 /// the genus on, only rich divisors pass. Every divisor has a rank, and just one; that of a sum is at least the sum of the
-/// ranks, if neither is -1; and by Clifford's theorem it is at most half of the degree, if neither it nor the rank of the dual
-/// is -1.
+/// ranks, if neither is -1; and by Clifford's theorem it is at most half of the degree, if neither it nor the rank of the
+/// residual is -1.
 pub fn laws_of_duality()
     ensures ranks { RiemannRoch }
     ensures dual { RankOfDual }

@@ -1,13 +1,7 @@
 -- The labels of vertices.
 --   AreLabels-pushed   the label of the next name, put at the next vertex
 --   AreLabels-added    the same if the name may be among them already
-use Rattle.std.proofs.Common.{◌≡◌, ℕ, ◌<◌, List, [], ◌∷◌, ◌++◌, length, set, sym, subst, inl, inr, arith, length-append}
-use Rattle.std.specs.List.{slice_index_or}
-use Rattle.std.proofs.lemmas.Bool.{cases_order, cond_both}
-use Rattle.std.proofs.lemmas.List.{get_or-set_same, get_or-set_other, get_or_append_left, get_or_at}
-use Rattle.dg_tokens.specs.declared.label.Label.{Label}
-use Rattle.dg_tokens.specs.Names.{has, added, name_at}
-use Rattle.dg_tokens.specs.Labels.{AreLabels, IsLabel}
+use Rattle.dg_tokens.proofs.Common.{◌≡◌, ℕ, ◌<◌, List, [], ◌∷◌, ◌++◌, length, set, sym, subst, inl, inr, arith, length-append, slice_index_or, cases_order, cond_both, get_or-set_same, get_or-set_other, get_or_append_left, get_or_at, Label, has, added, name_at, AreLabels, IsLabel}
 
 module _ (labels : List Label) (names : List (List ℕ)) (name : List ℕ) (next : ℕ) (l : Label)
     (last : length names ≡ next) (inside : next < length labels) (is : IsLabel l name)

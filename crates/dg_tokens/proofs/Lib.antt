@@ -5,3 +5,4 @@ mod Labelling
 mod Naming
 mod NoDecimals
 mod NoIntegers
+pub mod Common

@@ -1,7 +1,5 @@
 -- Names of vertices.
 --   is_name            whether bytes are a name
---   IsName-tested      bytes that pass the test are a name
---   is_name-IsName     a name passes the test
 --   IsUtf8-name        a name is UTF-8
 --   AreNames-nil       no names are names
 --   AreNames-push      a new name after names gives names
@@ -10,47 +8,12 @@
 --   name_at-place_of   the vertex of a name has that name
 --   place_of-name_at   the name of a vertex has that vertex
 --   bytes_eq-swaps     comparing bytes is symmetric
-use Rattle.std.proofs.Common.{◌≡◌, ℕ, zero, suc, ◌<◌, Bool, true, false, not, ◌&&◌, List, [], ◌∷◌, ◌++◌, length, Some, IsTrue, refl, sym, subst, ◌||◌, ◌∙◌, arith, inl, inr}
-use Rattle.std.specs.Prelude.{All, bytes_eq, leb, ◌==◌}
-use Rattle.std.specs.Str.{IsUtf8}
-use Rattle.std.specs.List.{AllByRecursion, IsDistinct, list_all, prefix_len}
-use Rattle.std.proofs.lemmas.Bool.{false≢true, false_from_ne_true, and_parts, and_from, leb-true, le-leb, lt-ltb, eqb-true, cond_both, or_cases}
-use Rattle.std.proofs.lemmas.List.Elements.{All-nil, All-cons, All-head, All-tail, All-push}
-use Rattle.std.proofs.lemmas.List.Quantifiers.{position-Some}
-use Rattle.std.proofs.lemmas.Slice.Eq.{bytes_eq-Decides}
-use Rattle.std.proofs.lemmas.Str.{IsUtf8-from_ascii}
-use Rattle.std.proofs.lemmas.Str.Ascii.{IsAscii-from_all}
-use Rattle.dg_tokens.specs.Names.{IsName, AreNames, is_from_to, is_name_byte, has, added, place_of, name_at}
+use Rattle.dg_tokens.proofs.Common.{◌≡◌, ℕ, zero, suc, ◌<◌, Bool, true, false, not, ◌&&◌, List, [], ◌∷◌, ◌++◌, length, Some, IsTrue, refl, sym, subst, ◌||◌, ◌∙◌, arith, inl, inr, All, bytes_eq, leb, ◌==◌, IsUtf8, AllByRecursion, list_all, prefix_len, false≢true, false_from_ne_true, and_parts, leb-true, lt-ltb, eqb-true, cond_both, or_cases, All-nil, All-cons, All-head, All-tail, All-push, position-Some, bytes_eq-Decides, IsUtf8-from_ascii, IsAscii-from_all, IsName, AreNames, is_from_to, is_name_byte, has, added, name_at}
+use Rattle.std.specs.List.{IsDistinct}
+use Rattle.dg_tokens.specs.Names.{place_of}
 
 abbrev pub is_name : List ℕ → Bool
 is_name bytes = leb 1 (length bytes) && leb (length bytes) 16 && list_all is_name_byte bytes
-
-all-tested : (p : ℕ → Bool) (xs : List ℕ) → list_all p xs ≡ true → All (λ x. IsTrue (p x)) xs
-all-tested p [] passes = All-nil (λ x. IsTrue (p x))
-all-tested p (x ∷ xs) passes =
-    let parts = and_parts (p x) (list_all p xs) passes in
-    All-cons (λ x. IsTrue (p x)) x xs parts.0 (all-tested p xs parts.1)
-
-list_all-All : (p : ℕ → Bool) (xs : List ℕ) → All (λ x. IsTrue (p x)) xs → list_all p xs ≡ true
-list_all-All p [] all = refl
-list_all-All p (x ∷ xs) all =
-    and_from (p x) (list_all p xs) (All-head (λ x. IsTrue (p x)) x xs all)
-    (list_all-All p xs (All-tail (λ x. IsTrue (p x)) x xs all))
-
-pub IsName-tested : (bytes : List ℕ) → is_name bytes ≡ true → IsName bytes
-IsName-tested bytes passes =
-    let parts = and_parts _ _ passes in
-    let sizes = and_parts _ _ parts.0 in
-    record {
-      not_empty = leb-true 1 (length bytes) sizes.0;
-      short = leb-true (length bytes) 16 sizes.1;
-      each = all-tested is_name_byte bytes parts.1;
-    }
-
-pub is_name-IsName : (bytes : List ℕ) → IsName bytes → is_name bytes ≡ true
-is_name-IsName bytes name =
-    and_from _ _ (and_from _ _ (le-leb 1 (length bytes) name.not_empty) (le-leb (length bytes) 16 name.short))
-    (list_all-All is_name_byte bytes name.each)
 
 below : (low high b : ℕ) → is_from_to low high b ≡ true → high < 128 → b < 128
 below low high b within few =

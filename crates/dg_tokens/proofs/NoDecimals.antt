@@ -2,12 +2,8 @@
 --   no_utf8       a text that is no UTF-8
 --   no_number     a text that is not read as a number
 --   no_decimal    a text that is read as a number, and is not how the number is written
-use Rattle.std.proofs.Common.{◌≡◌, ℕ, ◌^◌, ◌<◌, List, Result, Ok, Err, true, false, ap, sym, ◌∙◌, subst, decimal}
-use Rattle.std.specs.Prelude.{bytes_eq, IsUtf8}
-use Rattle.std.specs.Str.Parse.{ParsesUnsigned}
-use Rattle.std.proofs.lemmas.Fmt.{IsAscii-decimal, parse-decimal}
-use Rattle.std.proofs.lemmas.Str.{IsUtf8-from_ascii}
-use Rattle.std.proofs.lemmas.Slice.Eq.{bytes_eq-Decides}
+use Rattle.dg_tokens.proofs.Common.{◌≡◌, ℕ, ◌^◌, ◌<◌, List, Result, Ok, Err, true, false, ap, sym, ◌∙◌, subst, decimal, bytes_eq, ParsesUnsigned, IsAscii-decimal, parse-decimal, IsUtf8-from_ascii, bytes_eq-Decides}
+use Rattle.std.specs.Prelude.{IsUtf8}
 
 pub no_utf8 : (text : List ℕ) → (IsUtf8 text → ⊥) → (n : ℕ) → n < 2 ^ 64 → text ≡ decimal n → ⊥
 no_utf8 text never n small e = never (subst IsUtf8 (sym e) (IsUtf8-from_ascii (decimal n) (IsAscii-decimal n small)))

@@ -2,13 +2,8 @@
 --   no_utf8       a text that is no UTF-8
 --   no_number     a text that is not read as a number
 --   no_decimal    a text that is read as a number, and is not how the number is written
-use Rattle.std.proofs.Common.{◌≡◌, ℕ, ℤ, List, Result, Ok, Err, true, false, ap, sym, ◌∙◌, subst, FitsSigned, w64, to_z, of_z, to_z-of_z}
-use Rattle.std.specs.Prelude.{bytes_eq, IsUtf8}
-use Rattle.std.specs.Fmt.{signed_decimal}
-use Rattle.std.specs.Str.Parse.{ParsesSigned}
-use Rattle.std.proofs.lemmas.Fmt.{IsAscii-signed, parse-signed_decimal}
-use Rattle.std.proofs.lemmas.Str.{IsUtf8-from_ascii}
-use Rattle.std.proofs.lemmas.Slice.Eq.{bytes_eq-Decides}
+use Rattle.dg_tokens.proofs.Common.{◌≡◌, ℕ, ℤ, List, Result, Ok, Err, true, false, ap, sym, ◌∙◌, subst, FitsSigned, w64, to_z, of_z, to_z-of_z, bytes_eq, signed_decimal, ParsesSigned, IsAscii-signed, parse-signed_decimal, IsUtf8-from_ascii, bytes_eq-Decides}
+use Rattle.std.specs.Prelude.{IsUtf8}
 
 pub no_utf8 : (text : List ℕ) → (IsUtf8 text → ⊥) → (z : ℤ) → FitsSigned w64 z → text ≡ signed_decimal z → ⊥
 no_utf8 text never z fits e =

@@ -4,12 +4,7 @@
 --   chunk_before    a chunk that is written from a on stands before what stood behind it
 --   label_written   all bytes of a label, written in two parts, the last two first, so that they end at end: the label stands
 --                   before what stood from there on
-use Rattle.std.proofs.Common.{◌≡◌, ℕ, ◌+◌, ◌-◌, ◌<◌, ◌≤◌, List, [], ◌∷◌, ◌++◌, length, take, drop, set, sym, ap, ◌∙◌, arith, length-take-le, length-drop, length-append, append_assoc, take-add}
-use Rattle.std.proofs.Math.Seq.{take-length}
-use Rattle.std.proofs.lemmas.Simd.{put_chunk_is, length-put_chunk}
-use lib.Lanes.{put_chunk}
-use Rattle.std.proofs.lemmas.List.{drop_at, drop-drop, drop-append-le, drop-set}
-use borrow.Rule.Slice.PartMut.{put_mid}
+use Rattle.dg_tokens.proofs.Common.{◌≡◌, ℕ, ◌+◌, ◌-◌, ◌<◌, ◌≤◌, List, [], ◌∷◌, ◌++◌, length, take, drop, set, sym, ap, ◌∙◌, arith, length-take-le, length-drop, length-append, append_assoc, take-add, take-length, put_chunk_is, length-put_chunk, put_chunk, drop_at, drop-drop, drop-append-le, drop-set, put_mid}
 
 pub put_before : (a k end : ℕ) (xs ys : List ℕ) → a + k ≡ end → end ≤ length xs
     → drop a (put_mid a k xs ys) ≡ ys ++ drop end xs

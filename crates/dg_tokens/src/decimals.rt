@@ -29,6 +29,11 @@ pub fn integer(text: &[u8]) -> Option<i64>
         ((z : ℤ) → FitsSigned w64 z → text.now ≢ signed_decimal z)
         (λ z. text.now ≡ signed_decimal z) }
 {
+    // To write the number that the digits come to is less work than to parse the text, and mostly enough.
+    let guess = number_of_digits(text);
+    if Buffer::new().format(guess).as_bytes() == text {
+        return Some(guess);
+    }
     let Ok(written) = str::from_utf8(text) else {
         return None;
     };
@@ -39,5 +44,25 @@ pub fn integer(text: &[u8]) -> Option<i64>
         Some(whole)
     } else {
         None
+    }
+}
+
+/// The number that the text's digits come to, with the sign before them, if the text is a decimal. Of another text it is any
+/// number.
+fn number_of_digits(text: &[u8]) -> i64 {
+    let (digits, is_negative) = match text.split_first() {
+        Some((b'-', digits)) => (digits, true),
+        _ => (text, false),
+    };
+    let mut number: i64 = 0;
+    for digit in digits {
+        number = number
+            .wrapping_mul(10)
+            .wrapping_add(i64::from(digit.wrapping_sub(b'0')));
+    }
+    if is_negative {
+        number.wrapping_neg()
+    } else {
+        number
     }
 }

@@ -1,12 +1,6 @@
 -- A verdict is right for each of two divisors that agree on the vertices, or for neither.
 --   right-cong  what is right for one is right for the other
-use Rattle.std.proofs.Common.{ℕ, ◌∙◌}
-use Rattle.dg_theory.specs.Multigraph.{Multigraph}
-use Rattle.dg_theory.specs.Firing.{Amounts, AgreeOn}
-use Rattle.dg_theory.proofs.Agreement.{agree-sym, fired-here, winnable-cong}
-use Rattle.dg_chips.specs.Vector.{at}
-use Rattle.dg_verdict.specs.Right.{IsRight}
-use Rattle.dg_verdict.specs.declared.verdict.Verdict.{Verdict}
+use Rattle.dg_verdict.proofs.Common.{ℕ, ◌∙◌, Multigraph, Amounts, AgreeOn, agree-sym, fired-here, winnable-cong, at, IsRight, Verdict}
 
 pub right-cong : (g : Multigraph) (q : ℕ) (D E : Amounts) (x : Verdict) → AgreeOn g.size D E → IsRight g q D x →
     IsRight g q E x

@@ -1,16 +1,6 @@
 -- Two right verdicts on equivalent divisors.
 --   between_leads   what the script of the first lends more than that of the second leads from divisor to divisor
-use Rattle.std.proofs.Common.{◌≡◌, ℕ, ◌<◌, arith}
-use Rattle.std.proofs.lemmas.Int.{ints}
-use Rattle.std.proofs.Math.IntN.{◌+ℤ◌, ◌-ℤ◌}
-use Rattle.dg_theory.specs.Multigraph.{Multigraph}
-use Rattle.dg_theory.specs.Firing.{Amounts, AgreeOn, fired, FiresTo, AreEquivalent}
-use Rattle.dg_theory.proofs.Equivalence.{equivalent-sym, equivalent-trans}
-use Rattle.dg_theory.proofs.FiringLaws.{gain-add, fired-cong}
-use Rattle.dg_theory.proofs.ReducedLaws.{reduced_once}
-use Rattle.dg_chips.specs.Vector.{at}
-use Rattle.dg_verdict.specs.Right.{IsRight}
-use Rattle.dg_verdict.specs.declared.verdict.Verdict.{Verdict}
+use Rattle.dg_verdict.proofs.Common.{◌≡◌, ℕ, ◌<◌, arith, ints, ◌+ℤ◌, ◌-ℤ◌, Multigraph, Amounts, AgreeOn, fired, FiresTo, AreEquivalent, equivalent-sym, equivalent-trans, gain-add, fired-cong, reduced_once, at, IsRight, Verdict}
 
 pub between_leads : (g : Multigraph) (q : ℕ) (D E d : Amounts) (x y : Verdict) → q < g.size → AreEquivalent g D E →
     IsRight g q D x → IsRight g q E y → AgreeOn g.size d (λ v. at x.script v -ℤ at y.script v) → FiresTo g d D E

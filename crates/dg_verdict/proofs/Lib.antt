@@ -4,3 +4,4 @@ pub mod Verdicts
 pub mod Rebased
 pub mod Agreement
 pub mod Between
+pub mod Common

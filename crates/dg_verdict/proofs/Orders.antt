@@ -5,19 +5,7 @@
 --   order-more    an order so far with one more vertex that may burn is one
 --   order-done    an order so far of as many vertices as there are burns them all
 --   order-fails   where a vertex stands that may not burn after those before it, not all burn
-use Rattle.std.proofs.Common.{◌≡◌, ℕ, zero, suc, ◌+◌, ◌<◌, ◌≤◌, Bool, false, List, [], ◌∷◌, length, take, arith, sym, ap, subst, ◌∙◌}
-use Rattle.std.specs.Prelude.{slice_get, Some}
-use Rattle.std.specs.List.{slice_index_or}
-use Rattle.std.proofs.lemmas.List.{take_more, take-take, get_or-take, length-take}
-use Rattle.std.proofs.lemmas.Option.{slice_get-get_or}
-use Rattle.dg_theory.specs.Multigraph.{Multigraph}
-use Rattle.dg_theory.specs.Firing.{Amounts}
-use Rattle.dg_theory.specs.Burning.{among, MayBurn, BurnsAll}
-use Rattle.dg_graph.specs.Sets.{IsWith}
-use Rattle.dg_burn.specs.SoFar.{unreached, IsBurning}
-use Rattle.dg_burn.proofs.Orders.{get-first, next-more}
-use Rattle.dg_burn.proofs.Steps.{unreached-fewer, same-more, burning-lit}
-use Rattle.dg_burn.proofs.Told.{none_unreached}
+use Rattle.dg_verdict.proofs.Common.{◌≡◌, ℕ, zero, suc, ◌+◌, ◌<◌, ◌≤◌, Bool, false, List, [], ◌∷◌, length, take, arith, sym, ap, subst, ◌∙◌, slice_get, Some, slice_index_or, take_more, take-take, get_or-take, length-take, slice_get-get_or, Multigraph, Amounts, among, MayBurn, BurnsAll, IsWith, unreached, IsBurning, get-first, next-more, unreached-fewer, same-more, burning-lit, none_unreached}
 
 pub record IsOrderSoFar (g : Multigraph) (q : ℕ) (D : Amounts) (l : List ℕ) (n : ℕ) (S : ℕ → Bool) : Type 0 where
   pub first : slice_get l 0 ≡ Some q

@@ -2,21 +2,7 @@
 --   rebased_leads   the new script leads from the divisor after the drift to the same reduced divisor
 --   rebased_small   if that divisor is in range, the new script fits
 --   rebased_right   the verdict with the new script is right for it
-use Rattle.std.proofs.Common.{◌≡◌, ℕ, ◌+◌, ◌*◌, ◌<◌, ◌≤◌, arith, sym, ◌∙◌}
-use Rattle.std.specs.Int.RustNames.{unsigned_abs}
-use Rattle.std.proofs.lemmas.Int.{ints}
-use Rattle.std.proofs.Math.IntN.{pos, ◌+ℤ◌, ◌-ℤ◌}
-use Rattle.dg_theory.specs.Multigraph.{Multigraph}
-use Rattle.dg_theory.specs.Firing.{Amounts, AgreeOn, fired, FiresTo}
-use Rattle.dg_theory.proofs.FiringLaws.{fired-fired}
-use Rattle.dg_theory.proofs.Scripts.{fired-shifted}
-use Rattle.dg_theory.proofs.Equivalence.{equivalent-fired}
-use Rattle.dg_theory.proofs.Winning.{equivalent-winnable}
-use Rattle.dg_chips.specs.Vector.{Vector, at}
-use Rattle.dg_fallback.proofs.Outcome.{script_near}
-use Rattle.dg_verdict.specs.declared.verdict.Verdict.{Verdict}
-use Rattle.dg_verdict.specs.Right.{IsRight}
-use Rattle.dg_verdict.specs.Rebasing.{IsRebasable}
+use Rattle.dg_verdict.proofs.Common.{◌≡◌, ℕ, ◌+◌, ◌*◌, ◌<◌, ◌≤◌, arith, sym, ◌∙◌, unsigned_abs, ints, pos, ◌+ℤ◌, ◌-ℤ◌, Multigraph, Amounts, AgreeOn, fired, FiresTo, fired-fired, fired-shifted, equivalent-fired, equivalent-winnable, Vector, at, script_near, Verdict, IsRight, IsRebasable}
 
 pub rebased_leads : (g : Multigraph) (q : ℕ) (D R s m t : Amounts) → FiresTo g s D R →
     AgreeOn g.size t (λ v. s v -ℤ m v +ℤ m q) → FiresTo g t (fired g D m) R

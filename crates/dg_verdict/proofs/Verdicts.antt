@@ -2,19 +2,8 @@
 --   all_in_order    where the order in which vertices burn is that of a reduced divisor, all burn
 --   is_right        a script that leads to a reduced divisor, the order in which all vertices burn there, and whether q owes
 --   told_apart      a flag and a test that is right tell by their being equal whether the flag is right
-use Rattle.std.proofs.Common.{◌≡◌, ℕ, ◌<◌, Bool, true, false, List, take, refl, pos}
-use Rattle.std.specs.Prelude.{◌↔◌, ◌≤ℤ◌, MatchBool}
-use mathlib.Core.Bool.{beq}
-use Rattle.dg_theory.specs.Multigraph.{Multigraph}
-use Rattle.dg_theory.specs.Firing.{Amounts, FiresTo}
-use Rattle.dg_theory.specs.Reduced.{IsReduced}
-use Rattle.dg_theory.specs.Burning.{BurnsInOrder, BurnsAll}
-use Rattle.dg_theory.proofs.BurningOrder.{may_burn}
-use Rattle.dg_theory.proofs.BurningLaws.{reduced_burnt}
-use Rattle.dg_theory.proofs.ReducedLaws.{reduced_decides}
-use Rattle.dg_chips.specs.Vector.{at}
-use Rattle.dg_verdict.specs.declared.verdict.Verdict.{Verdict}
-use Rattle.dg_verdict.specs.Right.{IsRight}
+use Rattle.dg_verdict.proofs.Common.{◌≡◌, ℕ, ◌<◌, Bool, true, false, List, take, refl, ◌↔◌, ◌≤ℤ◌, MatchBool, beq, Multigraph, Amounts, FiresTo, IsReduced, BurnsInOrder, BurnsAll, may_burn, reduced_burnt, reduced_decides, at, Verdict, IsRight}
+use Rattle.std.proofs.Common.{pos}
 
 pub all_in_order : (g : Multigraph) (q : ℕ) (D : Amounts) (l : List ℕ) → BurnsInOrder g q D l → IsReduced g q D →
     BurnsAll g q D l

@@ -1,10 +1,10 @@
 -- What rank tests answer.
 --   IsRankTest g D k x     == the verdict x of the rank test of degree k is right for D
 use Rattle.std.specs.Prelude.{◌≡◌, ℕ}
-use Rattle.dg_theory.specs.Multigraph.{Multigraph}
-use Rattle.dg_theory.specs.Firing.{Amounts}
-use Rattle.dg_theory.specs.Rank.{HasRankAtLeast, IsFirstLoss}
 use Rattle.dg_chips.specs.Vector.{at}
+use Rattle.dg_theory.specs.Firing.{Amounts}
+use Rattle.dg_theory.specs.Multigraph.{Multigraph}
+use Rattle.dg_theory.specs.Rank.{HasRankAtLeast, IsFirstLoss}
 use Rattle.dg_verdict.specs.declared.rank_verdict.RankVerdict.{RankVerdict}
 use Rattle.dg_verdict.specs.declared.rank_verdict.RankVerdict.TheVariants.{AtLeast, Below}
 

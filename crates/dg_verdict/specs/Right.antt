@@ -3,16 +3,16 @@
 --   IsRight g q D x     == the script is 0 at q and leads from D to a divisor that is reduced for
 --                          q; the first vertices of the order show that it is; and the verdict
 --                          says winnable exactly if D is
---   IsVerdictOn g q D x == x is the verdict that is reckoned on D: it is right, and its order is
+--   IsVerdictOn g q D x == x is the verdict that is computed on D: it is right, and its order is
 --                          that in which the least vertex burns first
 use Rattle.std.specs.Prelude.{◌≡◌, ℕ, ◌↔◌, true, take, pos}
-use Rattle.dg_theory.specs.Multigraph.{Multigraph}
-use Rattle.dg_theory.specs.Firing.{Amounts, FiresTo}
-use Rattle.dg_theory.specs.Play.{IsWinnable}
-use Rattle.dg_theory.specs.Reduced.{IsReduced}
-use Rattle.dg_theory.specs.Burning.{BurnsAll}
 use Rattle.dg_chips.specs.Vector.{at}
 use Rattle.dg_reduce.specs.Certificates.{IsBurningOrder}
+use Rattle.dg_theory.specs.Burning.{BurnsAll}
+use Rattle.dg_theory.specs.Firing.{Amounts, FiresTo}
+use Rattle.dg_theory.specs.Multigraph.{Multigraph}
+use Rattle.dg_theory.specs.Play.{IsWinnable}
+use Rattle.dg_theory.specs.Reduced.{IsReduced}
 use Rattle.dg_verdict.specs.declared.verdict.Verdict.{Verdict}
 
 pub record IsRight (g : Multigraph) (q : ℕ) (D : Amounts) (x : Verdict) : Type 0 where

@@ -22,7 +22,7 @@ pub struct Verdict {
     pub order: [u8; 16],
 }
 
-/// The verdict on a divisor, reckoned from vertex q. The order is that in which the least vertex burns first; past the
+/// The verdict on a divisor, computed from vertex q. The order is that in which the least vertex burns first; past the
 /// last vertex it holds zeros. It takes no memory.
 pub fn judge(graph: &Graph, q: usize, divisor: &Divisor) -> Verdict
     requires size { divisor.now.size ≡ graph.now.size }

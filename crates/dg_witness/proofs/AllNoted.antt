@@ -1,21 +1,6 @@
 -- Notes of many cells: they can be had twice, one more can be added, one can be taken out, and two lists of them agree.
 -- Each lemma goes by induction on the list. Assumes `Logic`.
-use Rattle.std.proofs.Common.{◌≡◌, ℕ, zero, suc, ◌<◌, List, [], ◌∷◌, ◌++◌}
-use Rattle.std.proofs.Common.{length, map, refl, ap, ◌∙◌, subst, unwrap_or, option_map, arith}
-use Rattle.std.proofs.lemmas.Option.{slice_get_within, slice_get-map}
-use native.Mathlib.Decide.{ℕ_discrete}
-use seplogic.Ra.Ura.{Ura}
-use base.Logic.{ent, sep, emp, emp∗, via}
-use types.Logic.{Logic, sem}
-use types.Kit.{‵, ◌⊛◌, ◌$◌, ◌∵◌, !, qed, by, move, keep, fsplit, fjoin, split, use1, use2, rewrite, done}
-use contract.Monad.{fact, fact_i, fact_mono, fact_use}
-use base.Shift.{Keyless}
-use denote.RattleType.{RattleType}
-use Rattle.std.specs.List.{slice_get}
-use Rattle.std.specs.declared.option.Option.TheVariants.{Some}
-use Rattle.once_cell.specs.Once.{noted}
-use Rattle.once_cell.proofs.Notes.{noted_twice, noted_agree}
-use Rattle.dg_witness.specs.Witnesses.{noted_all, AgreesWith, Agree}
+use Rattle.dg_witness.proofs.Common.{◌≡◌, ℕ, zero, suc, ◌<◌, List, [], ◌∷◌, ◌++◌, length, map, refl, ap, ◌∙◌, subst, unwrap_or, option_map, arith, slice_get_within, slice_get-map, ℕ_discrete, Ura, ent, sep, emp, emp∗, via, Logic, sem, ‵, ◌⊛◌, ◌$◌, ◌∵◌, !, qed, by, move, keep, fsplit, fjoin, split, use1, use2, rewrite, done, fact, fact_i, fact_mono, fact_use, Keyless, RattleType, slice_get, Some, noted, noted_twice, noted_agree, noted_all, AgreesWith, Agree}
 
 pub all_keyless : (R : RattleType) (items : List (ℕ × ℕ × R.Denot)) → Keyless (noted_all R items)
 all_keyless R [] = tt

@@ -1,2 +1,3 @@
 pub mod AllNoted
 pub mod Tokens
+pub mod Common

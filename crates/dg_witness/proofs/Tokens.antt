@@ -1,20 +1,5 @@
 -- A `Witness` and a `Witnesses` as values, and a `&` to what can be had twice. Assumes `Logic`.
-use Rattle.std.proofs.Common.{ℕ, List, [], ◌∷◌, refl}
-use seplogic.Ra.Ura.{Ura}
-use mir.Val.{Val, vstruct, vcons, vnil}
-use base.Logic.{ent, sep, wand, apply∗}
-use base.Fml.{Lft, Fml, fbor}
-use types.Logic.{Logic, sem, lfts}
-use types.Kit.{‵, raw, ◌⊛◌, later, ◌$◌, ◌∵◌, !, qed, move, drop, use0, use1, use2, split, await, updating, now, done}
-use denote.RattleType.{RattleType}
-use denote.Shadow.{makes_shadow}
-use denote.Sharing.{said}
-use denote.Struct.Struct.{Struct}
-use denote.Struct.Owning.{shape}
-use denote.Struct.Lending.{Lends}
-use Rattle.std.specs.declared.option.Option.TheVariants.{Some}
-use Rattle.once_cell.specs.Once.{noted}
-use Rattle.dg_witness.specs.Witnesses.{noted_all}
+use Rattle.dg_witness.proofs.Common.{ℕ, List, [], ◌∷◌, refl, Ura, Val, vstruct, vcons, vnil, ent, sep, wand, apply∗, Lft, Fml, fbor, Logic, sem, lfts, ‵, raw, ◌⊛◌, later, ◌$◌, ◌∵◌, !, qed, move, drop, use0, use1, use2, split, await, updating, now, done, RattleType, makes_shadow, said, Struct, shape, Lends, Some, noted, noted_all}
 use Rattle.dg_witness.specs.contracts.witnesses.Witnesses as witnesses
 use Rattle.dg_witness.specs.contracts.witness.Witness as witness
 

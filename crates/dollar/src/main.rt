@@ -3,7 +3,7 @@
 
 use dg_cli::{CommandLine, words_of};
 use dg_server::{Fault, report, run};
-use dg_system::{Disk, Input, Output};
+use dg_system::{DiskFiles, Input, Output};
 use std::process::ExitCode;
 
 fn main(rt: HostRuntime) -> ExitCode {
@@ -15,7 +15,7 @@ fn main(rt: HostRuntime) -> ExitCode {
             &rt,
             &CommandLine,
             words.as_slice(),
-            &Disk,
+            &DiskFiles,
             &mut input,
             &mut output,
             &mut faults,

@@ -1,7 +1,7 @@
 //! Verdicts that are entered after a call, with drifts that lead there and drifts that don't.
 use crate::game::{start, triangle};
 use dg_chips::{Drift, Move, Script, Start, Wide};
-use dg_game::{Finding, Game, LookData, Plain, Reply};
+use dg_game::{BLANK, Finding, Game, LookData, Plain, Reply};
 use dg_graph::Graph;
 use dg_verdict::{Verdict, check};
 use std::process::Abort;
@@ -77,10 +77,10 @@ fn settled(start: &Start, call: Plain, drift: &Drift, verdict: &Verdict) -> Opti
         return None;
     }
     let finding = Finding::Judged(*verdict);
-    let mut answered = Reply::Won;
-    game.answer_finding(&look, &finding, &mut answered);
+    let mut answered = BLANK;
+    game.answer_finding(1, &look, &finding, &mut answered);
     let entered = game.settle(&look, &finding);
-    Some([answered, entered])
+    Some([answered.reply, entered])
 }
 
 /// The verdict with this script and order that wins with no dollar left.

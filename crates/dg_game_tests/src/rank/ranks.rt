@@ -66,7 +66,7 @@ fn plain_rank(graph: &Graph, divisor: &Divisor) -> Option<i64>
     None
 }
 
-// Whether the ranks of a divisor and of its dual are those of the plain way, and both sides of Riemann-Roch agree, for each
+// Whether the ranks of a divisor and of its residual are those of the plain way, and both sides of Riemann-Roch agree, for each
 // of `count` divisors: their amounts, less `least`, are the digits of the numbers below it.
 fn agree(graph: &Graph, least: i8, digits: u16, count: u16) -> Result<bool, Fail>
     requires digits { 0 < digits }
@@ -145,7 +145,7 @@ fn ranks_past_the_limits(rt: HostRuntime) -> Result<(), Fail> {
     is_past_the_limits(&rt, &triangle, &rich, 999_998, -1)
 }
 
-// Whether these are the ranks of the divisor and of its dual, and only the two together tell them.
+// Whether these are the ranks of the divisor and of its residual, and only the two together tell them.
 fn is_past_the_limits(
     rt: &impl Abort,
     graph: &Graph,

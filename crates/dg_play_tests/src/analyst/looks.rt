@@ -45,7 +45,7 @@ fn findings_are_entered_on_what_is_found(rt: HostRuntime) -> Result<(), Fail> {
     Ok(())
 }
 
-// The first seat looks and reckons, the second makes its call, and the first then enters its verdict.
+// The first seat looks and computes, the second makes its call, and the first then enters its verdict.
 pub(crate) fn judged<N: Name, R: Wait + Abort>(
     rt: &R,
     alloc: Global,

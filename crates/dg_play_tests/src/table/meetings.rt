@@ -30,7 +30,7 @@ enum Player {
     Joins(u8, u8),
     // Makes calls that are drawn, on a graph of so many vertices.
     Draws(u8),
-    // Looks, reckons and commits.
+    // Looks, computes and commits.
     Analyses,
     // Plays a strategy.
     LendsFirst,
@@ -287,7 +287,7 @@ fn take_part<N: Name>(
     }
 }
 
-// Looks, reckons and commits so many times.
+// Looks, computes and commits so many times.
 fn analyse<N: Name>(
     rt: &impl Wait,
     alloc: Global,

@@ -1,4 +1,4 @@
-use Rattle.std.proofs.Common.{rules, refl}
+use Rattle.dg_analyst.proofs.Common.{rules, refl}
 use Rattle.dg_analyst.proofs.commits.commit_look.Goals as goal
 
 pub returns-clause-settled : goal.returns-clause-settled

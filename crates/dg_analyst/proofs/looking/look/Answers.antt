@@ -1,4 +1,4 @@
-use Rattle.std.proofs.Common.{◌<◌, Some, None}
+use Rattle.dg_analyst.proofs.Common.{◌<◌, Some, None}
 use Rattle.dg_analyst.proofs.Kept.{look_kept}
 use Rattle.dg_analyst.proofs.looking.look.Goals as goal
 

@@ -1,5 +1,4 @@
-use Rattle.std.proofs.Common.{◌≡◌, refl, ap}
-use Rattle.dg_analyst.specs.Views.{LookView}
+use Rattle.dg_analyst.proofs.Common.{◌≡◌, refl, ap, LookView}
 use Rattle.dg_analyst.proofs.reckoning.try_rank_alone.Goals as goal
 
 pub returns-in-Err-clause-tried : goal.returns-in-Err-clause-tried

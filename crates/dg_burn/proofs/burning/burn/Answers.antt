@@ -1,5 +1,4 @@
-use Rattle.std.proofs.Common.{take}
-use Rattle.dg_chips.specs.Vector.{at}
+use Rattle.dg_burn.proofs.Common.{take, at}
 use Rattle.dg_burn.proofs.Capped.{same-order}
 use Rattle.dg_burn.proofs.Told.{rest_is_free, none_reduced, reduced_none}
 use Rattle.dg_burn.proofs.burning.burn.Goals as goal

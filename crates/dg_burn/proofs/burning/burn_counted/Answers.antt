@@ -1,25 +1,14 @@
-use Rattle.std.proofs.Common.{◌<◌, length, take, arith, refl, length-set, ◌∙◌, get_or-set_other}
-use Rattle.std.proofs.lemmas.Int.{ints}
-use Rattle.std.proofs.lemmas.List.{take_more_set}
-use Rattle.dg_theory.specs.Burning.{BurnsNext}
-use Rattle.dg_burn.specs.Fires.{dollars, burns}
+use Rattle.dg_burn.proofs.Common.{◌<◌, length, take, arith, refl, length-set, ◌∙◌, get_or-set_other, ints, take_more_set, BurnsNext, dollars, burns}
 use Rattle.dg_burn.proofs.Rests.{none_after}
 use Rattle.dg_burn.proofs.Steps.{unreached-some, burning-lit, burning-fewer, burning-more, burning-done}
 use Rattle.dg_burn.proofs.Told.{set_is_rest, rest_is_free, rest_counts, none_whole}
-use Rattle.dg_burn.proofs.Fires.{fire-unlit, fire-room, fire-more, fire-counts, out-left, left-less, left-rest, burnt_out, least_burns}
+use Rattle.dg_burn.proofs.Fires.{fire-unlit, fire-room, fire-more, fire-counts, left-less, left-rest, burnt_out, least_burns}
 use Rattle.dg_burn.proofs.burning.burn_counted.Goals as goal
 
 pub burn_vertex-requires-clause-room : goal.burn_vertex-requires-clause-room
 burn_vertex-requires-clause-room c =
     λ w. fire-room c.args.graph.now c.args.held.now c.new-unlit.result c.args.q w c.size-size.ensures.graph
     (fire-unlit c.args.graph.now c.args.held.now c.new-unlit.result c.new-unlit.ensures)
-
-pub burn_vertex-requires-clause-left : goal.burn_vertex-requires-clause-left
-burn_vertex-requires-clause-left c =
-    out-left c.args.graph.now.size c.new-unlit.result c.args.q c.requires (c.new-unlit.ensures.none_burns c.args.q)
-
-pub burn_vertex-requires-in-Some-clause-left : goal.burn_vertex-requires-in-Some-clause-left
-burn_vertex-requires-in-Some-clause-left c = c.in-Some.ensures.new
 
 pub burning-init : goal.burning-init
 burning-init c = record {
@@ -47,13 +36,6 @@ bounds-order-count c =
       c.burning.invariant.state.left,
       unreached-some c.args.graph.now _ _ c.in-Some.v next,
     )
-
-pub burn_vertex-requires-in-Some-clause-vertex : goal.burn_vertex-requires-in-Some-clause-vertex
-burn_vertex-requires-in-Some-clause-vertex c =
-    let next :
-    BurnsNext c.args.graph.now (dollars c.args.held.now) (burns c.args.graph.now.size c.burning.fire) c.in-Some.v =
-    least_burns _ _ _ _ c.size-size.ensures.graph c.burning.invariant.fire c.in-Some.ensures in
-    next.may.vertex
 
 pub burn_vertex-requires-in-Some-clause-room : goal.burn_vertex-requires-in-Some-clause-room
 burn_vertex-requires-in-Some-clause-room c = λ w.

@@ -1,7 +1,4 @@
-use Rattle.std.proofs.Common.{◌≡◌, ℕ, ◌≤◌, length, take}
-use Rattle.std.specs.List.{slice_index_or}
-use Rattle.dg_burn.specs.SoFar.{unreached, IsBurning}
-use Rattle.dg_burn.specs.Fires.{dollars, burns, IsFire}
+use Rattle.dg_burn.proofs.Common.{◌≡◌, ℕ, ◌≤◌, length, take, slice_index_or, unreached, IsBurning, dollars, burns, IsFire}
 use Rattle.dg_burn.proofs.burning.burn_counted.Given as goal
 
 abbrev pub invariant-burning : goal.invariant-burning

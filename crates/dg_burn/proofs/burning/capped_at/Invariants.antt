@@ -1,6 +1,4 @@
-use Rattle.std.proofs.Common.{◌≡◌, length}
-use Rattle.dg_chips.specs.Vector.{at}
-use Rattle.dg_burn.specs.Fires.{IsHeld}
+use Rattle.dg_burn.proofs.Common.{◌≡◌, length, at, IsHeld}
 use Rattle.dg_burn.proofs.burning.capped_at.Given as goal
 
 abbrev pub invariant-loop-v : goal.invariant-loop-v

@@ -1,4 +1,4 @@
-use Rattle.std.proofs.Common.{arith}
+use Rattle.dg_burn.proofs.Common.{arith}
 use Rattle.dg_burn.proofs.Lanes.{lane-few, lane_lack}
 use Rattle.dg_burn.proofs.fire.lack_of.Goals as goal
 

@@ -1,6 +1,5 @@
-use Rattle.std.proofs.Common.{ap, ◌∙◌, arith}
+use Rattle.dg_burn.proofs.Common.{ap, ◌∙◌, arith, in_set-none}
 use Rattle.dg_graph.specs.Sets.{in_set}
-use Rattle.dg_graph.proofs.SetLaws.{in_set-none}
 use Rattle.dg_burn.proofs.Bits.{least_bit}
 use Rattle.dg_burn.proofs.fire.least_in.Goals as goal
 

@@ -1,7 +1,4 @@
-use Rattle.std.proofs.Common.{◌≡◌, ◌≤◌, ℕ, FitsSigned, arith, w64}
-use Rattle.std.specs.Int.RustNames.{unsigned_abs}
-use Rattle.std.proofs.Math.IntN.{ℤ, pos, ◌*ℤ◌}
-use mir.Val.{to_z, of_z}
+use Rattle.dg_chips.proofs.Common.{◌≡◌, ◌≤◌, ℕ, FitsSigned, arith, w64, unsigned_abs, ℤ, pos, ◌*ℤ◌, to_z, of_z}
 use Rattle.dg_chips.proofs.FlowLaws.{product_limit, held}
 use Rattle.dg_chips.proofs.firing.carried.Goals as goal
 

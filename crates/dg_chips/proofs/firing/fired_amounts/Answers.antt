@@ -1,9 +1,4 @@
-use Rattle.std.proofs.Common.{◌≡◌, List, arith, ap, ◌∙◌}
-use Rattle.std.specs.List.{slice_index_or}
-use Rattle.std.proofs.Math.IntN.{ℤ, pos}
-use Rattle.std.proofs.lemmas.Int.{ints}
-use Rattle.dg_theory.specs.Firing.{gain}
-use Rattle.dg_chips.specs.Vector.{at}
+use Rattle.dg_chips.proofs.Common.{◌≡◌, List, arith, ap, ◌∙◌, slice_index_or, ℤ, pos, ints, gain, at}
 use Rattle.dg_chips.proofs.VectorLaws.{filled_more}
 use Rattle.dg_chips.proofs.firing.fired_amounts.Goals as goal
 

@@ -1,5 +1,4 @@
-use Rattle.dg_theory.specs.Firing.{fired}
-use Rattle.dg_chips.specs.Vector.{at}
+use Rattle.dg_chips.proofs.Common.{fired, at}
 use Rattle.dg_chips.proofs.VectorLaws.{IsFilled}
 use Rattle.dg_chips.proofs.firing.fired_amounts.Given as goal
 

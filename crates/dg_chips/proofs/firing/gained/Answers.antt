@@ -1,11 +1,4 @@
-use Rattle.std.proofs.Common.{◌≡◌, ℕ, ◌*◌, arith, refl, ap, w64, ◌∙◌}
-use mir.Val.{to_z}
-use Rattle.std.specs.List.{slice_index_or}
-use Rattle.std.proofs.lemmas.Int.{ints}
-use Rattle.std.proofs.Math.IntN.{ℤ, pos, ◌*ℤ◌, ◌+ℤ◌}
-use Rattle.dg_theory.specs.Multigraph.{edges_between, valence}
-use Rattle.dg_theory.proofs.Absolute.{within_abs, abs-add}
-use Rattle.dg_theory.proofs.SumLaws.{sum_below-more}
+use Rattle.dg_chips.proofs.Common.{◌≡◌, ℕ, ◌*◌, arith, refl, ap, w64, ◌∙◌, to_z, slice_index_or, ints, ℤ, pos, ◌*ℤ◌, ◌+ℤ◌, edges_between, valence, within_abs, abs-add, sum_below-more}
 use Rattle.dg_chips.proofs.FlowLaws.{carried_held, held, gain-row}
 use Rattle.dg_chips.proofs.firing.gained.Goals as goal
 

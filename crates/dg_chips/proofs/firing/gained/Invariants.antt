@@ -1,9 +1,4 @@
-use Rattle.std.proofs.Common.{◌≡◌, ◌≤◌, ◌*◌}
-use Rattle.std.specs.List.{slice_index_or}
-use Rattle.std.specs.Int.RustNames.{unsigned_abs}
-use Rattle.std.proofs.Math.IntN.{pos, ◌*ℤ◌}
-use Rattle.dg_theory.specs.Sums.{sum_below}
-use Rattle.dg_theory.specs.Multigraph.{edges_between}
+use Rattle.dg_chips.proofs.Common.{◌≡◌, ◌≤◌, ◌*◌, slice_index_or, unsigned_abs, pos, ◌*ℤ◌, sum_below, edges_between}
 use Rattle.dg_chips.proofs.firing.gained.Given as goal
 
 abbrev pub invariant-loop-w : goal.invariant-loop-w

@@ -1,11 +1,5 @@
-use Rattle.std.proofs.Common.{◌≡◌, arith, ap, below_more}
-use Rattle.std.specs.List.{slice_index_or}
-use Rattle.std.proofs.Math.IntN.{pos}
+use Rattle.dg_chips.proofs.Common.{◌≡◌, arith, ap, below_more, slice_index_or, pos, of_z, ints, fired, at}
 use mir.Syntax.{w128}
-use mir.Val.{of_z}
-use Rattle.std.proofs.lemmas.Int.{ints}
-use Rattle.dg_theory.specs.Firing.{fired}
-use Rattle.dg_chips.specs.Vector.{at}
 use Rattle.dg_chips.proofs.firing.leads.Goals as goal
 
 pub returns-then-from-get : goal.returns-then-from-get

@@ -1,8 +1,4 @@
-use Rattle.std.proofs.Common.{◌≡◌, ℕ, ◌<◌}
-use Rattle.std.specs.List.{slice_index_or}
-use Rattle.std.proofs.Math.IntN.{pos}
-use Rattle.dg_theory.specs.Firing.{fired}
-use Rattle.dg_chips.specs.Vector.{at}
+use Rattle.dg_chips.proofs.Common.{◌≡◌, ℕ, ◌<◌, slice_index_or, pos, fired, at}
 use Rattle.dg_chips.proofs.firing.leads.Given as goal
 
 abbrev pub invariant-loop-v : goal.invariant-loop-v

@@ -1,14 +1,4 @@
-use Rattle.std.proofs.Common.{◌≡◌, ◌^◌, ◌<◌, arith, refl, w32, ◌+◌, ◌-◌}
-use mir.Val.{to_z}
-use Rattle.std.specs.List.{slice_index_or}
-use Rattle.std.specs.Int.RustNames.{unsigned_abs}
-use Rattle.std.proofs.lemmas.Int.{ints}
-use Rattle.std.proofs.Math.IntN.{pos, ◌+ℤ◌, ◌*ℤ◌}
-use Rattle.dg_theory.specs.Sums.{sum_below}
-use Rattle.dg_theory.specs.Multigraph.{edges_between, valence}
-use Rattle.dg_theory.specs.Firing.{Amounts}
-use Rattle.dg_theory.proofs.Absolute.{within_abs}
-use Rattle.dg_theory.proofs.SumLaws.{sum_below-more}
+use Rattle.dg_chips.proofs.Common.{◌≡◌, ◌^◌, ◌<◌, arith, refl, w32, ◌+◌, ◌-◌, to_z, slice_index_or, unsigned_abs, ints, pos, ◌+ℤ◌, ◌*ℤ◌, sum_below, edges_between, valence, Amounts, within_abs, sum_below-more}
 use Rattle.dg_chips.proofs.FlowLaws.{gain-row}
 use Rattle.dg_chips.proofs.LightLaws.{small_held, light-valence, light-edges, light-flow, light-sum}
 use Rattle.dg_chips.proofs.light.gained_lightly.Goals as goal

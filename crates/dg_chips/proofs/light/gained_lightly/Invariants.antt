@@ -1,8 +1,4 @@
-use Rattle.std.proofs.Common.{◌≡◌}
-use Rattle.std.specs.List.{slice_index_or}
-use Rattle.std.proofs.Math.IntN.{pos, ◌*ℤ◌}
-use Rattle.dg_theory.specs.Sums.{sum_below}
-use Rattle.dg_theory.specs.Multigraph.{edges_between}
+use Rattle.dg_chips.proofs.Common.{◌≡◌, slice_index_or, pos, ◌*ℤ◌, sum_below, edges_between}
 use Rattle.dg_chips.proofs.light.gained_lightly.Given as goal
 
 abbrev pub invariant-loop-w : goal.invariant-loop-w

@@ -1,4 +1,5 @@
-use Rattle.std.proofs.Common.{ℕ, ◌<◌, ◌≤◌, slice_index}
+use Rattle.dg_chips.proofs.Common.{ℕ, ◌<◌, ◌≤◌}
+use Rattle.std.proofs.Common.{slice_index}
 use Rattle.dg_chips.proofs.light.most_edges.Given as goal
 
 abbrev pub invariant-loop-v : goal.invariant-loop-v

@@ -1,8 +1,4 @@
-use Rattle.std.proofs.Common.{◌≡◌, ◌≤◌, ◌^◌, ℕ, FitsSigned, arith}
-use Rattle.std.specs.Int.{w128}
-use Rattle.std.specs.Int.RustNames.{unsigned_abs}
-use Rattle.std.proofs.Math.IntN.{ℤ, pos, ◌*ℤ◌}
-use mir.Val.{to_z, of_z}
+use Rattle.dg_chips.proofs.Common.{◌≡◌, ◌≤◌, ◌^◌, ℕ, FitsSigned, arith, w128, unsigned_abs, ℤ, pos, ◌*ℤ◌, to_z, of_z}
 use Rattle.dg_chips.proofs.FlowLaws.{product_limit, wide_held}
 use Rattle.dg_chips.proofs.set_firing.carried.Goals as goal
 

@@ -1,5 +1,4 @@
-use Rattle.std.proofs.Common.{◌≡◌, ◌∙◌, true, sym, arith}
-use Rattle.dg_graph.specs.Sets.{in_set}
+use Rattle.dg_chips.proofs.Common.{◌≡◌, ◌∙◌, true, sym, arith, in_set}
 use Rattle.dg_chips.proofs.SetLending.{into_first-in}
 use Rattle.dg_chips.proofs.set_firing.flows.Goals as goal
 

@@ -1,7 +1,4 @@
-use Rattle.std.proofs.Common.{◌≡◌, ℕ, ◌<◌, ◌≤◌, length}
-use Rattle.std.specs.Prelude.{if◌then◌else◌, slice_index}
-use Rattle.dg_theory.specs.Multigraph.{valence}
-use Rattle.dg_graph.specs.Sets.{in_set}
+use Rattle.dg_chips.proofs.Common.{if◌then◌else◌, ◌≡◌, ℕ, ◌<◌, ◌≤◌, length, slice_index, valence, in_set}
 use Rattle.dg_chips.proofs.SetLending.{into_first}
 use Rattle.dg_chips.proofs.set_firing.flows.Given as goal
 

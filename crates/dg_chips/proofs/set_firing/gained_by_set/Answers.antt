@@ -1,13 +1,4 @@
-use Rattle.std.proofs.Common.{◌≡◌, ℕ, ◌*◌, ◌^◌, true, false, arith, ap, sym, ◌∙◌}
-use Rattle.std.specs.Int.{w128}
-use mir.Val.{to_z, of_z}
-use Rattle.std.proofs.lemmas.Int.{ints}
-use Rattle.std.proofs.Math.IntN.{pos, ◌*ℤ◌}
-use Rattle.dg_theory.specs.Reduced.{edges_out}
-use Rattle.dg_theory.specs.Burning.{edges_into}
-use Rattle.dg_theory.proofs.Absolute.{within_abs}
-use Rattle.dg_theory.proofs.Multiples.{gain-all_inside, gain-all_outside}
-use Rattle.dg_graph.specs.Sets.{in_set}
+use Rattle.dg_chips.proofs.Common.{◌≡◌, ℕ, ◌*◌, ◌^◌, true, false, arith, ap, sym, ◌∙◌, w128, to_z, of_z, ints, pos, ◌*ℤ◌, edges_out, edges_into, within_abs, gain-all_inside, gain-all_outside, in_set}
 use Rattle.dg_chips.proofs.FlowLaws.{wide_held}
 use Rattle.dg_chips.proofs.set_firing.gained_by_set.Goals as goal
 

@@ -1,4 +1,4 @@
-use Rattle.std.proofs.Common.{arith}
+use Rattle.dg_chips.proofs.Common.{arith}
 use Rattle.dg_chips.proofs.Lanes.{lane_sum}
 use Rattle.dg_chips.proofs.set_firing.with_row.Goals as goal
 

@@ -1,7 +1,4 @@
-use Rattle.std.proofs.Common.{ℕ, ◌<◌, ◌≤◌}
-use Rattle.std.specs.List.{slice_index_or}
-use Rattle.std.specs.Int.RustNames.{unsigned_abs}
-use Rattle.std.proofs.Math.IntN.{pos}
+use Rattle.dg_chips.proofs.Common.{ℕ, ◌<◌, ◌≤◌, slice_index_or, unsigned_abs, pos}
 use Rattle.dg_chips.proofs.vector.first_past.Given as goal
 
 abbrev pub invariant-loop-v : goal.invariant-loop-v

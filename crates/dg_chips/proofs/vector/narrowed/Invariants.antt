@@ -1,5 +1,4 @@
-use Rattle.std.specs.List.{slice_index_or}
-use Rattle.std.proofs.Math.IntN.{pos}
+use Rattle.dg_chips.proofs.Common.{slice_index_or, pos}
 use Rattle.dg_chips.proofs.VectorLaws.{IsFilled}
 use Rattle.dg_chips.proofs.vector.narrowed.Given as goal
 

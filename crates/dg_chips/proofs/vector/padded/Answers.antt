@@ -1,6 +1,4 @@
-use Rattle.std.proofs.Common.{◌<◌, length, length-set, arith, refl, ◌∙◌}
-use Rattle.std.proofs.lemmas.List.{get_or_default}
-use Rattle.std.specs.List.{slice_index_or}
+use Rattle.dg_chips.proofs.Common.{◌<◌, length, length-set, arith, refl, ◌∙◌, get_or_default, slice_index_or}
 use Rattle.dg_chips.proofs.VectorLaws.{at_same, filled, rest}
 use Rattle.dg_chips.proofs.vector.padded.Goals as goal
 

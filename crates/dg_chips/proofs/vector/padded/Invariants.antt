@@ -1,5 +1,4 @@
-use Rattle.std.proofs.Common.{◌≡◌, ℕ, ◌<◌, ◌≤◌, length}
-use Rattle.std.specs.List.{slice_index_or}
+use Rattle.dg_chips.proofs.Common.{◌≡◌, ℕ, ◌<◌, ◌≤◌, length, slice_index_or}
 use Rattle.dg_chips.proofs.vector.padded.Given as goal
 
 abbrev pub invariant-loop-v : goal.invariant-loop-v

@@ -1,5 +1,4 @@
-use Rattle.std.proofs.Common.{arith, ext_get_or, sym, ◌∙◌}
-use Rattle.std.proofs.Math.IntN.{pos}
+use Rattle.dg_chips.proofs.Common.{arith, ext_get_or, sym, ◌∙◌, pos}
 use Rattle.dg_chips.proofs.vector.widened.Goals as goal
 
 pub returns : goal.returns

@@ -1,6 +1,4 @@
-use Rattle.std.proofs.Common.{◌≡◌, ℕ, ◌<◌, length}
-use Rattle.std.specs.List.{slice_index_or}
-use Rattle.std.proofs.Math.IntN.{pos}
+use Rattle.dg_chips.proofs.Common.{◌≡◌, ℕ, ◌<◌, length, slice_index_or, pos}
 use Rattle.dg_chips.proofs.vector.widened.Given as goal
 
 abbrev pub invariant-loop-v : goal.invariant-loop-v

@@ -1,6 +1,4 @@
-use Rattle.std.proofs.Common.{Result, Err, Ok, ◌≡◌, IsErrAnd, IfErr, inl, inr, sym, ap, subst}
-use Rattle.clap.specs.declared.error.Error.{Error}
-use Rattle.dg_cli.specs.Asks.{AsksFor}
+use Rattle.dg_cli.proofs.Common.{Result, Err, Ok, ◌≡◌, IsErrAnd, IfErr, inl, inr, sym, subst, Error, AsksFor}
 use Rattle.dg_cli.proofs.Parsing.{ask_nothing, asks, entered, faultless, why}
 use Rattle.dg_cli.proofs.command_line.command_of.Goals as goal
 

@@ -1,5 +1,4 @@
-use Rattle.std.proofs.Common.{◌∙◌, ap, true}
-use Rattle.clap.specs.Simple.{app_of_fields, on_top}
+use Rattle.dg_cli.proofs.Common.{◌∙◌, ap, true, app_of_fields, on_top}
 use Rattle.dg_cli.proofs.commands.bare_program.Goals as goal
 
 pub returns : goal.returns

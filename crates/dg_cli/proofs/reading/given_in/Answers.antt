@@ -1,6 +1,4 @@
-use Rattle.std.proofs.Common.{◌∙◌, ap}
-use Rattle.dg_cli.specs.Asks.{word_of}
-use Rattle.dg_cli.specs.Telling.{rows_in}
+use Rattle.dg_cli.proofs.Common.{◌∙◌, ap, word_of, rows_in}
 use Rattle.dg_cli.proofs.Telling.{passes, number_before}
 use Rattle.dg_cli.proofs.reading.given_in.Goals as goal
 

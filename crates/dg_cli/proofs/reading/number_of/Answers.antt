@@ -1,5 +1,4 @@
-use Rattle.std.proofs.Common.{◌<◌, ◌^◌, ◌∙◌, inl, inr, sym, arith}
-use Rattle.dg_cli.specs.Telling.{least, most}
+use Rattle.dg_cli.proofs.Common.{◌<◌, ◌^◌, ◌∙◌, inl, inr, sym, arith, least, most}
 use Rattle.dg_cli.proofs.Telling.{no_decimal, out_of_range}
 use Rattle.dg_cli.proofs.reading.number_of.Goals.{in_default-via-in-Some+then-least-number+else-number-most, in_default-via-in-Some+else-least-number, in_default-via-in_default}
 use Rattle.dg_cli.proofs.reading.number_of.Goals as goal

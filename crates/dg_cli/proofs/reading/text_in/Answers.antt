@@ -1,6 +1,4 @@
-use Rattle.std.proofs.Common.{◌∙◌}
-use Rattle.clap.specs.Words.{found_of}
-use Rattle.clap.proofs.WalkLemmas.{first_value-rows}
+use Rattle.dg_cli.proofs.Common.{◌∙◌, found_of, first_value-rows}
 use Rattle.dg_cli.proofs.reading.text_in.Goals as goal
 
 pub returns : goal.returns

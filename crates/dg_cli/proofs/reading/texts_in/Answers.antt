@@ -1,6 +1,4 @@
-use Rattle.std.proofs.Common.{◌∙◌}
-use Rattle.clap.specs.Words.{found_of}
-use Rattle.clap.proofs.WalkLemmas.{raw_values-rows}
+use Rattle.dg_cli.proofs.Common.{◌∙◌, found_of, raw_values-rows}
 use Rattle.dg_cli.proofs.reading.texts_in.Goals as goal
 
 pub returns : goal.returns

@@ -1,6 +1,4 @@
-use Rattle.dg_theory.proofs.Reach.{distance_from, distance_from-is}
-use Rattle.dg_graph.specs.Sets.{in_set}
-use Rattle.dg_chips.proofs.FlowLaws.{times_held}
+use Rattle.dg_fallback.proofs.Common.{distance_from, distance_from-is, in_set, times_held}
 use Rattle.dg_fallback.proofs.BurningSteps.{burning_down-start, burning_down-more, burning_down-falls, burning_down-chips, burning_down-script}
 use Rattle.dg_fallback.proofs.Cleared.{cleared_levels}
 use Rattle.dg_fallback.proofs.burning_down.burn_down.Goals as goal

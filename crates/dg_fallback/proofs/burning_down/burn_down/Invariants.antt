@@ -1,7 +1,4 @@
-use Rattle.dg_theory.proofs.Potential.{weights}
-use Rattle.dg_theory.proofs.Reach.{distance_from}
-use Rattle.dg_theory.proofs.Weights.{weight_of}
-use Rattle.dg_chips.specs.Vector.{at}
+use Rattle.dg_fallback.proofs.Common.{weights, distance_from, weight_of, at}
 use Rattle.dg_fallback.proofs.BurningSteps.{IsBurningDown}
 use Rattle.dg_fallback.proofs.burning_down.burn_down.Given as goal
 

@@ -1,6 +1,4 @@
-use Rattle.std.proofs.Common.{ℕ, ◌<◌, ◌≤◌}
-use Rattle.std.specs.Int.RustNames.{unsigned_abs}
-use Rattle.dg_chips.specs.Vector.{at}
+use Rattle.dg_fallback.proofs.Common.{ℕ, ◌<◌, ◌≤◌, unsigned_abs, at}
 use Rattle.dg_fallback.proofs.by_levels.is_within_start.Given as goal
 
 abbrev pub invariant-loop-v : goal.invariant-loop-v

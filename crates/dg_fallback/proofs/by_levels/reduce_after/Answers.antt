@@ -1,11 +1,4 @@
-use Rattle.std.proofs.Common.{◌≡◌, ℕ, ◌+◌, ◌*◌, ◌<◌, ◌≤◌, arith, sym, ◌∙◌}
-use Rattle.std.proofs.lemmas.Int.{ints}
-use Rattle.std.proofs.Math.IntN.{◌+ℤ◌}
-use Rattle.std.specs.Int.RustNames.{unsigned_abs}
-use Rattle.dg_theory.specs.Reduced.{IsReduced}
-use Rattle.dg_theory.proofs.Agreement.{reduced-cong}
-use Rattle.dg_theory.proofs.FiringLaws.{fired-cong}
-use Rattle.dg_chips.specs.Vector.{at}
+use Rattle.dg_fallback.proofs.Common.{◌≡◌, ℕ, ◌+◌, ◌*◌, ◌<◌, ◌≤◌, arith, sym, ◌∙◌, ints, ◌+ℤ◌, unsigned_abs, IsReduced, reduced-cong, fired-cong, at}
 use Rattle.dg_fallback.proofs.Joined.{IsContinued, continued, continued_near}
 use Rattle.dg_fallback.proofs.Outcome.{reduction_within}
 use Rattle.dg_fallback.proofs.by_levels.reduce_after.Goals as goal

@@ -1,9 +1,4 @@
-use Rattle.std.proofs.Common.{◌≡◌, ℕ, ◌*◌, ◌+◌, ◌<◌, ◌≤◌, slice_index, arith}
-use Rattle.std.proofs.lemmas.Int.{ints}
-use Rattle.std.proofs.Math.IntN.{◌-ℤ◌}
-use Rattle.std.specs.Int.RustNames.{unsigned_abs}
-use Rattle.dg_theory.specs.Firing.{fired}
-use Rattle.dg_chips.specs.Vector.{at}
+use Rattle.dg_fallback.proofs.Common.{◌≡◌, ℕ, ◌*◌, ◌+◌, ◌<◌, ◌≤◌, slice_index, arith, ints, ◌-ℤ◌, unsigned_abs, fired, at}
 use Rattle.dg_fallback.proofs.Cleared.{levels_cleared}
 use Rattle.dg_fallback.proofs.Outcome.{script_near, relative_leads, reduction_within}
 use Rattle.dg_fallback.proofs.by_levels.reduce_by_levels.Goals as goal

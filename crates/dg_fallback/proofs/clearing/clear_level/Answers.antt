@@ -1,14 +1,5 @@
-use Rattle.std.proofs.Common.{◌≡◌, ◌+◌, ◌≤◌, ◌^◌, arith, subst}
+use Rattle.dg_fallback.proofs.Common.{◌≡◌, ◌+◌, ◌≤◌, ◌^◌, arith, subst, w128, unsigned_abs, to_z, of_z, ints, pos, in_set, at, times_held, IsFired, IsLargestDebt}
 use Rattle.std.specs.Prelude.{slice_index}
-use Rattle.std.specs.Int.{w128}
-use Rattle.std.specs.Int.RustNames.{unsigned_abs}
-use mir.Val.{to_z, of_z}
-use Rattle.std.proofs.lemmas.Int.{ints}
-use Rattle.std.proofs.Math.IntN.{pos}
-use Rattle.dg_graph.specs.Sets.{in_set}
-use Rattle.dg_chips.specs.Vector.{at}
-use Rattle.dg_chips.proofs.FlowLaws.{times_held}
-use Rattle.dg_fallback.specs.States.{IsFired, IsLargestDebt}
 use Rattle.dg_fallback.proofs.LevelSteps.{chips_small, script_small, debt_small, cleared_free, cleared_paid}
 use Rattle.dg_fallback.proofs.clearing.clear_level.Goals as goal
 use Rattle.dg_fallback.proofs.clearing.clear_level.Goals.{After-largest_debt-debt}

@@ -1,4 +1,4 @@
-use Rattle.std.proofs.Common.{◌≡◌, ◌+◌, ◌-◌, arith}
+use Rattle.dg_fallback.proofs.Common.{◌≡◌, ◌+◌, ◌-◌, arith}
 use Rattle.std.specs.Prelude.{slice_index}
 use Rattle.dg_fallback.proofs.Ties.{cleared-start}
 use Rattle.dg_fallback.proofs.clearing.clear_levels.Goals as goal

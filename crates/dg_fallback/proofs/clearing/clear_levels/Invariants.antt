@@ -1,6 +1,5 @@
-use Rattle.std.proofs.Common.{◌≡◌, ◌≤◌, ◌+◌}
+use Rattle.dg_fallback.proofs.Common.{◌≡◌, ◌≤◌, ◌+◌, IsCleared}
 use Rattle.std.specs.Prelude.{slice_index}
-use Rattle.dg_fallback.specs.States.{IsCleared}
 use Rattle.dg_fallback.proofs.clearing.clear_levels.Given as goal
 
 abbrev pub invariant-levels : goal.invariant-levels

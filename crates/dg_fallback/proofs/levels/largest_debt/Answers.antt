@@ -1,10 +1,5 @@
-use Rattle.std.proofs.Common.{◌≡◌, ◌^◌, arith}
+use Rattle.dg_fallback.proofs.Common.{◌≡◌, ◌^◌, arith, w128, to_z, ints, within_abs, at}
 use Rattle.std.specs.Prelude.{slice_index}
-use Rattle.std.specs.Int.{w128}
-use mir.Val.{to_z}
-use Rattle.std.proofs.lemmas.Int.{ints}
-use Rattle.dg_theory.proofs.Absolute.{within_abs}
-use Rattle.dg_chips.specs.Vector.{at}
 use Rattle.dg_fallback.proofs.LevelSteps.{debt_more, debt_same}
 use Rattle.dg_fallback.proofs.levels.largest_debt.Goals as goal
 use Rattle.dg_fallback.proofs.levels.largest_debt.Goals.{then-levels-v+then-get-debt, else-levels-v, else-levels-v-via-then-levels-v+else-get-debt, else-levels-v-via-else-levels-v}

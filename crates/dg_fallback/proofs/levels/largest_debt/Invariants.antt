@@ -1,6 +1,5 @@
+use Rattle.dg_fallback.proofs.Common.{at, IsLargestDebt}
 use Rattle.std.specs.Prelude.{slice_index}
-use Rattle.dg_chips.specs.Vector.{at}
-use Rattle.dg_fallback.specs.States.{IsLargestDebt}
 use Rattle.dg_fallback.proofs.levels.largest_debt.Given as goal
 
 abbrev pub invariant-loop-v : goal.invariant-loop-v

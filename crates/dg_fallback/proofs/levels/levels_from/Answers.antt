@@ -1,5 +1,4 @@
-use Rattle.std.proofs.Common.{arith, slice_index}
-use Rattle.dg_theory.proofs.Few.{IsGradual, gradual-few}
+use Rattle.dg_fallback.proofs.Common.{arith, slice_index, IsGradual, gradual-few}
 use Rattle.dg_fallback.proofs.Gradual.{gradual-distance}
 use Rattle.dg_fallback.proofs.Reaching.{levels-first, reached-gradual}
 use Rattle.dg_fallback.proofs.levels.levels_from.Goals as goal

@@ -1,5 +1,4 @@
-use Rattle.std.proofs.Common.{slice_index}
-use Rattle.dg_fallback.specs.Reaching.{IsReached}
+use Rattle.dg_fallback.proofs.Common.{slice_index, IsReached}
 use Rattle.dg_fallback.proofs.levels.levels_from.Given as goal
 
 abbrev pub invariant-loop-level : goal.invariant-loop-level

@@ -1,5 +1,4 @@
-use Rattle.std.proofs.Common.{arith}
-use Rattle.dg_graph.proofs.SetLaws.{in_set-none}
+use Rattle.dg_fallback.proofs.Common.{arith, in_set-none}
 use Rattle.dg_fallback.proofs.levels.nearer_set.Goals as goal
 
 pub loop-v-init : goal.loop-v-init

@@ -1,6 +1,5 @@
-use Rattle.std.proofs.Common.{◌≡◌, ℕ, ◌<◌, ◌≤◌, false}
-use Rattle.std.specs.Prelude.{nat_lt, slice_index}
-use Rattle.dg_graph.specs.Sets.{in_set}
+use Rattle.dg_fallback.proofs.Common.{◌≡◌, ℕ, ◌<◌, ◌≤◌, false, nat_lt, in_set}
+use Rattle.std.specs.Prelude.{slice_index}
 use Rattle.dg_fallback.proofs.levels.nearer_set.Given as goal
 
 abbrev pub invariant-loop-v : goal.invariant-loop-v

@@ -1,5 +1,4 @@
-use Rattle.std.proofs.Common.{◌≡◌, ℕ, ◌<◌, ◌≤◌, length, slice_index}
-use Rattle.dg_fallback.specs.Reaching.{spread}
+use Rattle.dg_fallback.proofs.Common.{◌≡◌, ℕ, ◌<◌, ◌≤◌, length, slice_index, spread}
 use Rattle.dg_fallback.proofs.levels.with_neighbours.Given as goal
 
 abbrev pub invariant-loop-w : goal.invariant-loop-w

@@ -1,4 +1,4 @@
-use Rattle.std.proofs.Common.{arith, slice_index}
+use Rattle.dg_fallback.proofs.Common.{arith, slice_index}
 use Rattle.dg_fallback.proofs.Reaching.{reached-passed, reached-other, reached-next}
 use Rattle.dg_fallback.proofs.levels.with_next_level.Goals as goal
 use Rattle.dg_fallback.proofs.levels.with_next_level.Goals.{then-reached-v, else-reached-v}

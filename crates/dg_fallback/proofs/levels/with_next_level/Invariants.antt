@@ -1,5 +1,4 @@
-use Rattle.std.proofs.Common.{ℕ, ◌<◌, slice_index}
-use Rattle.dg_fallback.specs.Reaching.{IsReached}
+use Rattle.dg_fallback.proofs.Common.{ℕ, ◌<◌, slice_index, IsReached}
 use Rattle.dg_fallback.proofs.levels.with_next_level.Given as goal
 
 abbrev pub invariant-loop-v : goal.invariant-loop-v

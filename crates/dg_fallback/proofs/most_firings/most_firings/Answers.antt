@@ -1,9 +1,4 @@
-use Rattle.std.proofs.Common.{◌≡◌, ◌<◌, arith}
-use Rattle.std.specs.Int.{w128}
-use mir.Val.{to_z}
-use Rattle.std.proofs.lemmas.Int.{ints}
-use Rattle.dg_graph.specs.Sets.{in_set}
-use Rattle.dg_chips.specs.Vector.{at}
+use Rattle.dg_fallback.proofs.Common.{◌≡◌, ◌<◌, arith, w128, to_z, ints, in_set, at}
 use Rattle.dg_fallback.proofs.Most.{IsLeast, member_holds, least_lower, least_kept, least_is_most}
 use Rattle.dg_fallback.proofs.most_firings.most_firings.Goals as goal
 use Rattle.dg_fallback.proofs.most_firings.most_firings.Goals.{then-times-most, else-times-most}

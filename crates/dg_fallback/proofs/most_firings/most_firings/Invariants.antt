@@ -1,5 +1,4 @@
-use Rattle.dg_graph.specs.Sets.{in_set}
-use Rattle.dg_chips.specs.Vector.{at}
+use Rattle.dg_fallback.proofs.Common.{in_set, at}
 use Rattle.dg_fallback.proofs.Most.{IsLeast}
 use Rattle.dg_fallback.proofs.most_firings.most_firings.Given as goal
 

@@ -1,9 +1,4 @@
-use Rattle.std.proofs.Common.{◌≤◌, ◌^◌}
-use Rattle.std.specs.Int.RustNames.{unsigned_abs}
-use Rattle.dg_graph.specs.Sets.{in_set}
-use Rattle.dg_chips.specs.Vector.{at}
-use Rattle.dg_chips.proofs.FlowLaws.{times_held}
-use Rattle.dg_fallback.specs.Firings.{IsMost}
+use Rattle.dg_fallback.proofs.Common.{◌≤◌, ◌^◌, unsigned_abs, in_set, at, times_held, IsMost}
 use Rattle.dg_fallback.proofs.Most.{most_within}
 use Rattle.dg_fallback.proofs.next_firing.next_firing.Goals as goal
 

@@ -1,6 +1,4 @@
-use Rattle.std.proofs.Common.{take, arith}
-use Rattle.dg_burn.proofs.Told.{unburnt_member}
-use Rattle.dg_chips.specs.Vector.{at}
+use Rattle.dg_fallback.proofs.Common.{take, arith, unburnt_member, at}
 use Rattle.dg_fallback.proofs.next_firing.unburnt.Goals as goal
 
 pub returns : goal.returns

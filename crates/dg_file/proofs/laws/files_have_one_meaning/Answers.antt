@@ -1,14 +1,8 @@
 -- One value, one content, one table or one fault.
-use Rattle.std.proofs.Common.{◌≡◌, ℕ, List, length, sym, ap, ◌∙◌}
-use Rattle.dg_chips.specs.Starts.{StartData}
-use Rattle.dg_file.specs.Content.{Content}
-use Rattle.dg_tokens.specs.Names.{place_of}
-use Rattle.dg_file.specs.TableFiles.{IsTable, IsTableFile}
-use Rattle.dg_file.specs.FileLaws.{AreSameOpenings}
+use Rattle.dg_file.proofs.Common.{◌≡◌, ℕ, List, length, sym, ap, ◌∙◌, StartData, Content, place_of, IsTable, IsTableFile, AreSameOpenings, FilesHaveOneMeaning}
 use Rattle.dg_file.proofs.OneContent.{found-once, same-value, same-content}
 use Rattle.dg_file.proofs.OneTable.{at-one}
 use Rattle.dg_file.proofs.OneFile.{file-none, file-one}
-use Rattle.dg_file.proofs.SomeFile.{some-file}
 use Rattle.dg_file.proofs.laws.files_have_one_meaning.Goals as goal
 
 alike : (content : Content) (o p : StartData) (names others : List (List ℕ)) → IsTable content o names
@@ -31,5 +25,8 @@ one-table bytes o p names others a b =
     let content : a.content ≡ b.content = same-content b.value a.content b.content (rw value at a.says) b.says in
     alike b.content o p names others (rw content at a.describes) b.describes
 
-pub returns : goal.returns
-returns c = record { some = some-file; table = one-table; refused = file-none; fault = file-one }
+one : FilesHaveOneMeaning
+one = record { table = one-table; refused = file-none; fault = file-one }
+
+pub returns-clause-one : goal.returns-clause-one
+returns-clause-one c = one

@@ -1,8 +1,6 @@
 -- The numbers read so far, and the values that are left.
-use Rattle.std.proofs.Common.{◌≡◌, sym, ◌∙◌, w64, rules}
-use Rattle.std.proofs.lemmas.Int.{to_z-of_z}
-use Rattle.serde_json.specs.View.{view, items_view}
-use Rattle.dg_file.specs.Content.{numbers_in, each, whole}
+use Rattle.dg_file.proofs.Common.{◌≡◌, sym, ◌∙◌, w64, rules, to_z-of_z, view, items_view, numbers_in, whole}
+use Rattle.dg_file.specs.Content.{each}
 use Rattle.dg_file.proofs.Listing.{each-more, each-failed, each-all, listed-each}
 use Rattle.dg_file.proofs.shape.amounts_of.Goals as goal
 use Rattle.dg_file.proofs.shape.amounts_of.Goals.{After-deref-item-items}

@@ -1,6 +1,5 @@
-use Rattle.std.proofs.Common.{◌≡◌, drop}
-use Rattle.serde_json.specs.View.{items_view}
-use Rattle.dg_file.specs.Content.{each, whole}
+use Rattle.dg_file.proofs.Common.{◌≡◌, drop, items_view, whole}
+use Rattle.dg_file.specs.Content.{each}
 use Rattle.dg_file.proofs.Listing.{after}
 use Rattle.dg_file.proofs.shape.amounts_of.Given as goal
 

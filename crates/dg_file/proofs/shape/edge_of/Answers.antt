@@ -1,8 +1,5 @@
 -- The array has three items, and each is what an edge wants there.
-use Rattle.std.proofs.Common.{◌≡◌, sym, ◌∙◌, arith}
-use Rattle.serde_json.specs.Find.{as_str}
-use Rattle.serde_json.specs.View.{view}
-use Rattle.dg_file.specs.Content.{edge_in, edge_from, count_in}
+use Rattle.dg_file.proofs.Common.{◌≡◌, sym, ◌∙◌, arith, as_str, view, edge_in, edge_from, count_in}
 use Rattle.dg_file.proofs.Listing.{edge-three, edge-others}
 use Rattle.dg_file.proofs.shape.edge_of.Goals as goal
 use Rattle.dg_file.proofs.shape.edge_of.Goals.{After-index-3}

@@ -1,6 +1,5 @@
 -- The edges read so far, and the values that are left.
-use Rattle.std.proofs.Common.{sym, ◌∙◌, arith}
-use Rattle.dg_file.specs.Content.{edge_in}
+use Rattle.dg_file.proofs.Common.{sym, ◌∙◌, arith, edge_in}
 use Rattle.dg_file.proofs.Listing.{each-start, each-more, each-all, edge-fault, some-before}
 use Rattle.dg_file.proofs.shape.edges_of.Goals as goal
 

@@ -1,9 +1,5 @@
-use Rattle.std.proofs.Common.{◌≡◌, ℕ, ◌<◌, Some, drop}
-use Rattle.std.specs.Prelude.{IsSome}
-use Rattle.serde_json.specs.Data.{Data}
-use Rattle.serde_json.specs.Find.{get_item}
-use Rattle.serde_json.specs.View.{items_view}
-use Rattle.dg_file.specs.Content.{each, edge_in}
+use Rattle.dg_file.proofs.Common.{◌≡◌, ℕ, ◌<◌, Some, drop, IsSome, Data, get_item, items_view, edge_in}
+use Rattle.dg_file.specs.Content.{each}
 use Rattle.dg_file.proofs.Listing.{after}
 use Rattle.dg_file.proofs.shape.edges_of.Given as goal
 

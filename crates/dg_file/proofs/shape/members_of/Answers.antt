@@ -1,5 +1,5 @@
 -- The object has four members, and each part is found in it.
-use Rattle.std.proofs.Common.{arith}
+use Rattle.dg_file.proofs.Common.{arith}
 use Rattle.dg_file.proofs.Listing.{parts-given, parts-counted}
 use Rattle.dg_file.proofs.shape.members_of.Goals as goal
 

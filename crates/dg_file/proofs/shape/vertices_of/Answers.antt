@@ -1,9 +1,6 @@
 -- The texts read so far, and the values that are left.
-use Rattle.std.proofs.Common.{◌≡◌, option_map, sym, ap, ◌∙◌}
-use Rattle.std.proofs.lemmas.List.{map_push}
-use Rattle.serde_json.specs.Find.{as_str}
-use Rattle.serde_json.specs.View.{view, items_view}
-use Rattle.dg_file.specs.Content.{texts_in, each}
+use Rattle.dg_file.proofs.Common.{◌≡◌, option_map, sym, ap, ◌∙◌, map_push, as_str, view, items_view, texts_in}
+use Rattle.dg_file.specs.Content.{each}
 use Rattle.dg_file.proofs.Listing.{each-more, each-failed, each-all, listed-each}
 use Rattle.dg_file.proofs.NamesRead.{the_text, texts}
 use Rattle.dg_file.proofs.shape.vertices_of.Goals as goal

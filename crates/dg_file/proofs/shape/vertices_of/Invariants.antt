@@ -1,6 +1,4 @@
-use Rattle.std.proofs.Common.{◌≡◌, ℕ, List, map, drop, Bor}
-use Rattle.serde_json.specs.Find.{as_str}
-use Rattle.serde_json.specs.View.{items_view}
+use Rattle.dg_file.proofs.Common.{◌≡◌, ℕ, List, map, drop, Bor, as_str, items_view}
 use Rattle.dg_file.specs.Content.{each}
 use Rattle.dg_file.proofs.Listing.{after}
 use Rattle.dg_file.proofs.shape.vertices_of.Given as goal

@@ -1,5 +1,4 @@
-use Rattle.std.proofs.Common.{◌≡◌, take, map}
-use Rattle.dg_file.specs.TableFiles.{item_of}
+use Rattle.dg_file.proofs.Common.{◌≡◌, take, map, item_of}
 use Rattle.dg_file.proofs.table_file.items_of.Given as goal
 
 abbrev pub invariant-loop-edge : goal.invariant-loop-edge

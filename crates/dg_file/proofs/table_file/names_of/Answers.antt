@@ -1,8 +1,5 @@
 -- The names so far are the first of the texts.
-use Rattle.std.proofs.Common.{◌≡◌, ap, false, not, ◌∙◌, arith, rules}
-use Rattle.std.proofs.lemmas.Bool.{iff_false}
-use Rattle.dg_tokens.specs.Names.{IsName, has}
-use Rattle.dg_tokens.proofs.NamesLaws.{AreNames-nil, AreNames-added}
+use Rattle.dg_file.proofs.Common.{◌≡◌, ap, false, not, ◌∙◌, arith, rules, iff_false, IsName, has, AreNames-nil, AreNames-added}
 use Rattle.dg_file.proofs.NamesRead.{text_at, names-added, names-all, names-few, name-fault, twice-fault, stood}
 use Rattle.dg_file.proofs.table_file.names_of.Goals as goal
 

@@ -1,5 +1,4 @@
-use Rattle.std.proofs.Common.{◌≡◌, take}
-use Rattle.dg_tokens.specs.Names.{AreNames}
+use Rattle.dg_file.proofs.Common.{◌≡◌, take, AreNames}
 use Rattle.dg_file.proofs.NamesRead.{texts}
 use Rattle.dg_file.proofs.table_file.names_of.Given as goal
 

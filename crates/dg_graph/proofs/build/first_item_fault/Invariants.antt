@@ -1,4 +1,4 @@
-use Rattle.dg_graph.specs.Items.{IsRightBefore}
+use Rattle.dg_graph.proofs.Common.{IsRightBefore}
 use Rattle.dg_graph.proofs.build.first_item_fault.Given as goal
 
 abbrev pub invariant-loop-i : goal.invariant-loop-i

@@ -1,4 +1,4 @@
-use Rattle.std.proofs.Common.{arith}
+use Rattle.dg_graph.proofs.Common.{arith}
 use Rattle.dg_graph.proofs.Listed.{edges_listed-nil, edges_listed-more, item-right}
 use Rattle.dg_graph.proofs.NoEdges.{entry-none}
 use Rattle.dg_graph.proofs.build.table_of.Goals as goal

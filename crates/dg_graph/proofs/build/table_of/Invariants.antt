@@ -1,4 +1,4 @@
-use Rattle.std.proofs.Common.{◌≡◌, ℕ, min, take}
+use Rattle.dg_graph.proofs.Common.{◌≡◌, ℕ, min, take}
 use Rattle.dg_theory.specs.Multigraph.{entry}
 use Rattle.dg_graph.specs.Items.{edges_listed}
 use Rattle.dg_graph.proofs.build.table_of.Given as goal

@@ -1,5 +1,4 @@
-use Rattle.std.proofs.Common.{◌≡◌, ℕ, ◌<◌, true}
-use Rattle.dg_graph.specs.Search.{is_in}
+use Rattle.dg_graph.proofs.Common.{◌≡◌, ℕ, ◌<◌, true, is_in}
 use Rattle.dg_graph.proofs.connected.has_all.Given as goal
 
 abbrev pub invariant-loop-v : goal.invariant-loop-v

@@ -1,4 +1,4 @@
-use Rattle.std.proofs.Common.{arith, rules}
+use Rattle.dg_graph.proofs.Common.{arith, rules}
 use Rattle.dg_theory.specs.Multigraph.{entry}
 use Rattle.dg_graph.proofs.Reached.{reached-first, reached-start, reached-more, reached-fewer, reached-tells}
 use Rattle.dg_graph.proofs.connected.is_connected.Goals as goal

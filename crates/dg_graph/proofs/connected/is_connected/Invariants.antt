@@ -1,6 +1,5 @@
-use Rattle.std.proofs.Common.{◌≡◌, ℕ, not, true, count_by, length}
-use Rattle.dg_theory.specs.Multigraph.{entry, JoinedIn}
-use Rattle.dg_graph.specs.Search.{is_in}
+use Rattle.dg_graph.proofs.Common.{◌≡◌, ℕ, not, true, count_by, length, JoinedIn, is_in}
+use Rattle.dg_theory.specs.Multigraph.{entry}
 use Rattle.dg_graph.proofs.connected.is_connected.Given as goal
 
 abbrev pub invariant-search : goal.invariant-search

@@ -1,5 +1,5 @@
-use Rattle.std.proofs.Common.{◌≡◌, ℕ, ◌<◌, true, slice_index}
-use Rattle.dg_graph.specs.Search.{is_in}
+use Rattle.dg_graph.proofs.Common.{◌≡◌, ℕ, ◌<◌, true, is_in}
+use Rattle.std.proofs.Common.{slice_index}
 use Rattle.dg_graph.proofs.connected.is_next_to.Given as goal
 
 abbrev pub invariant-loop-w : goal.invariant-loop-w

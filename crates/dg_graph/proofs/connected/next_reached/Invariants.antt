@@ -1,6 +1,5 @@
-use Rattle.std.proofs.Common.{ℕ, ◌<◌}
+use Rattle.dg_graph.proofs.Common.{ℕ, ◌<◌, IsInOrApart}
 use Rattle.dg_theory.specs.Multigraph.{entry}
-use Rattle.dg_graph.specs.Search.{IsInOrApart}
 use Rattle.dg_graph.proofs.connected.next_reached.Given as goal
 
 abbrev pub invariant-loop-v : goal.invariant-loop-v

@@ -1,5 +1,4 @@
-use Rattle.std.proofs.Common.{ap, nat_eq}
-use Rattle.std.proofs.lemmas.Nat.Bits.{shr_and_one}
+use Rattle.dg_graph.proofs.Common.{ap, nat_eq, shr_and_one}
 use Rattle.dg_graph.specs.Sets.{in_set}
 use Rattle.dg_graph.proofs.sets.contains.Goals as goal
 

@@ -1,5 +1,4 @@
-use Rattle.std.proofs.Common.{◌≡◌, ◌<◌, true, false, arith, inl, inr, sym, ◌∙◌}
-use Rattle.std.proofs.lemmas.Bool.{cases_lt}
+use Rattle.dg_graph.proofs.Common.{◌≡◌, ◌<◌, true, false, arith, inl, inr, sym, ◌∙◌, cases_lt}
 use Rattle.dg_graph.specs.Sets.{in_set}
 use Rattle.dg_graph.proofs.SetLaws.{in_set_below}
 use Rattle.dg_graph.proofs.sets.is_within.Goals as goal

@@ -1,4 +1,4 @@
-use Rattle.std.proofs.Common.{◌≡◌, ℕ, ◌<◌, ◌≤◌, false}
+use Rattle.dg_graph.proofs.Common.{◌≡◌, ℕ, ◌<◌, ◌≤◌, false}
 use Rattle.dg_graph.specs.Sets.{in_set}
 use Rattle.dg_graph.proofs.sets.is_within.Given as goal
 

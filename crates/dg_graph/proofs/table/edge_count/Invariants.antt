@@ -1,5 +1,4 @@
-use Rattle.std.proofs.Common.{◌≡◌, ◌*◌, ◌≤◌}
-use Rattle.dg_theory.specs.Sums.{total_below}
+use Rattle.dg_graph.proofs.Common.{◌≡◌, ◌*◌, ◌≤◌, total_below}
 use Rattle.dg_theory.specs.Multigraph.{entry}
 use Rattle.dg_graph.proofs.table.edge_count.Given as goal
 

@@ -1,5 +1,4 @@
-use Rattle.std.proofs.Common.{ℕ, ◌<◌, ◌≤◌}
-use Rattle.dg_theory.specs.Sums.{total_below}
+use Rattle.dg_graph.proofs.Common.{ℕ, ◌<◌, ◌≤◌, total_below}
 use Rattle.dg_theory.specs.Multigraph.{entry}
 use Rattle.dg_graph.proofs.table.first_high.Given as goal
 

@@ -1,5 +1,5 @@
-use Rattle.std.proofs.Common.{◌≡◌, ◌*◌, ◌≤◌, slice_index}
-use Rattle.dg_theory.specs.Sums.{total_below}
+use Rattle.dg_graph.proofs.Common.{◌≡◌, ◌*◌, ◌≤◌, total_below}
+use Rattle.std.proofs.Common.{slice_index}
 use Rattle.dg_graph.proofs.table.row_sum.Given as goal
 
 abbrev pub invariant-loop-v : goal.invariant-loop-v

@@ -1,4 +1,4 @@
-use Rattle.std.proofs.Common.{◌<◌, length, rules}
+use Rattle.dg_graph.proofs.Common.{◌<◌, length, rules}
 use Rattle.dg_graph.proofs.Joined.{set-one_more}
 use Rattle.dg_graph.proofs.table.row_with_one_more.Goals as goal
 

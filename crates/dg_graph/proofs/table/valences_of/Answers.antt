@@ -1,6 +1,5 @@
-use Rattle.std.proofs.Common.{length-set, arith, ◌∙◌}
-use Rattle.std.proofs.lemmas.List.FromFn.{fill_by_all}
-use Rattle.dg_theory.specs.Multigraph.{entry, valence}
+use Rattle.dg_graph.proofs.Common.{length-set, arith, ◌∙◌, fill_by_all, valence}
+use Rattle.dg_theory.specs.Multigraph.{entry}
 use Rattle.dg_graph.specs.Valences.{valences_of}
 use Rattle.dg_graph.proofs.Valences.{valence-few, filled-more}
 use Rattle.dg_graph.proofs.table.valences_of.Goals as goal

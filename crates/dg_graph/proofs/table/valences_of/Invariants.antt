@@ -1,5 +1,5 @@
-use Rattle.std.proofs.Common.{◌≡◌, ℕ, ◌<◌, length, slice_index}
-use Rattle.dg_theory.specs.Multigraph.{valence}
+use Rattle.dg_graph.proofs.Common.{◌≡◌, ℕ, ◌<◌, length, valence}
+use Rattle.std.proofs.Common.{slice_index}
 use Rattle.dg_graph.proofs.table.valences_of.Given as goal
 
 abbrev pub invariant-loop-v : goal.invariant-loop-v

@@ -1,8 +1,6 @@
 -- A word that is not as its kind wants it refuses the line, and what stands before it is good.
-use Rattle.std.proofs.Common.{[]}
-use Rattle.std.proofs.lemmas.List.Elements.{All-head}
+use Rattle.dg_lines.proofs.Common.{[], All-head, degree, dollars, IsNumberFor}
 use Rattle.dg_lines.specs.declared.command.Keyword.TheVariants as of
-use Rattle.dg_lines.specs.CommandWords.{degree, dollars, IsNumberFor}
 use Rattle.dg_lines.proofs.Given.{named_alone, none_given}
 use Rattle.dg_lines.proofs.Refusing.{unnamed, misnumbered, no_script}
 use Rattle.dg_lines.proofs.command.command_of.Goals as goal

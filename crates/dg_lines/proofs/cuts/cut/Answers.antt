@@ -1,6 +1,5 @@
 -- The two parts, by the place of the first byte that cuts.
-use Rattle.std.proofs.Common.{◌+◌, Some, sym, ap, ◌∙◌}
-use Rattle.std.proofs.lemmas.List.{take_rest}
+use Rattle.dg_lines.proofs.Common.{◌+◌, Some, sym, ap, ◌∙◌, take_rest}
 use Rattle.dg_lines.proofs.Cutting.{cut_at, cut_nowhere}
 use Rattle.dg_lines.proofs.cuts.cut.Goals as goal
 

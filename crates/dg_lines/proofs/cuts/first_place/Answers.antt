@@ -1,4 +1,4 @@
-use Rattle.std.proofs.Common.{refl, arith}
+use Rattle.dg_lines.proofs.Common.{refl, arith}
 use Rattle.dg_lines.proofs.Blocks.{place-first}
 use Rattle.dg_lines.proofs.cuts.first_place.Goals as goal
 

@@ -1,5 +1,4 @@
-use Rattle.std.proofs.Common.{◌==◌, take, length-take-le, lit≤, w8}
-use Rattle.std.proofs.lemmas.Simd.{bitmask_splat}
+use Rattle.dg_lines.proofs.Common.{◌==◌, take, length-take-le, lit≤, w8, bitmask_splat}
 use Rattle.dg_lines.proofs.cuts.places_in_32.Goals as goal
 
 pub returns : goal.returns

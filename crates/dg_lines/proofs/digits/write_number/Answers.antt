@@ -1,9 +1,6 @@
 -- The digits, and the sign before them where the number is below 0.
-use Rattle.std.proofs.Common.{◌≡◌, ◌<◌, ◌+◌, ◌-◌, ◌++◌, List, ℕ, drop, ap, arith, rules, to_z-of_z}
+use Rattle.dg_lines.proofs.Common.{◌≡◌, ◌<◌, ◌+◌, ◌-◌, ◌++◌, List, ℕ, drop, ap, arith, rules, to_z-of_z, ints, length-decimal-le, drop-set}
 use Rattle.std.specs.Int.RustNames.{unsigned_abs}
-use Rattle.std.proofs.lemmas.Int.{ints}
-use Rattle.std.proofs.lemmas.Fmt.{length-decimal-le}
-use Rattle.std.proofs.lemmas.List.{drop-set}
 use Rattle.dg_lines.proofs.Signs.{minus_first, one_digit}
 use Rattle.dg_lines.proofs.digits.write_number.Goals as goal
 

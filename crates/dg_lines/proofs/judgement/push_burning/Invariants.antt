@@ -1,6 +1,5 @@
 -- The names that are written so far are those of the vertices before the turn's one.
-use Rattle.std.proofs.Common.{◌≡◌, ◌++◌, take}
-use Rattle.dg_lines.specs.Judgements.{burning_text}
+use Rattle.dg_lines.proofs.Common.{◌≡◌, ◌++◌, take, burning_text}
 use Rattle.dg_lines.proofs.judgement.push_burning.Given as goal
 
 abbrev pub invariant-vertices : goal.invariant-vertices

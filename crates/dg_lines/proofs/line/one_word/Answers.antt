@@ -1,7 +1,5 @@
 -- The words are the first one and those after it.
-use Rattle.std.proofs.Common.{List, ℕ, Option, Bor, ap, ◌∙◌, ◌∷◌, [], arith}
-use Rattle.std.specs.Option.{option_copied}
-use Rattle.dg_lines.specs.Cuts.{words_after}
+use Rattle.dg_lines.proofs.Common.{List, ℕ, Option, Bor, ap, ◌∙◌, ◌∷◌, [], arith, option_copied, words_after}
 use Rattle.dg_lines.proofs.Cutting.{pieces_left}
 use Rattle.dg_lines.proofs.Keywords.{empty_word, some_words, word_more, none_there}
 use Rattle.dg_lines.proofs.line.one_word.Goals as goal

@@ -1,8 +1,5 @@
 -- Each step refuses the line by its own case of the definition, or hands on what the definition says of the rest.
-use Rattle.std.specs.Option.{option_copied}
-use Rattle.std.proofs.Common.{refl}
-use Rattle.dg_lines.specs.Cuts.{words_after}
-use Rattle.dg_lines.specs.Keywords.{spelling, kinds}
+use Rattle.dg_lines.proofs.Common.{option_copied, refl, words_after, spelling, kinds}
 use Rattle.dg_lines.proofs.Cutting.{line_words}
 use Rattle.dg_lines.proofs.Keywords.{wanted_of, well_formed, ill_formed}
 use Rattle.dg_lines.proofs.Meaning.{line_read}

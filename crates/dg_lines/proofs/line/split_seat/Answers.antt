@@ -1,6 +1,5 @@
 -- The seat stands before the first space, and the text after it.
-use Rattle.std.proofs.Common.{sym, ◌∙◌, ap}
-use Rattle.std.specs.Option.{option_copied}
+use Rattle.dg_lines.proofs.Common.{sym, ◌∙◌, ap, option_copied}
 use Rattle.dg_lines.proofs.Stepping.{seated, no_seat_before}
 use Rattle.dg_lines.proofs.line.split_seat.Goals as goal
 

@@ -1,5 +1,5 @@
 -- The words are the first one and the one after it.
-use Rattle.std.proofs.Common.{ap, ◌∙◌, ◌∷◌, []}
+use Rattle.dg_lines.proofs.Common.{ap, ◌∙◌, ◌∷◌, []}
 use Rattle.dg_lines.proofs.Cutting.{pieces_left}
 use Rattle.dg_lines.proofs.Keywords.{empty_word, word_more, word_less}
 use Rattle.dg_lines.proofs.line.two_words.Goals as goal

@@ -1,5 +1,5 @@
 -- A number that does not fit is not that of a degree.
-use Rattle.std.proofs.Common.{rules, FitsSigned, w64, to_z-of_z}
+use Rattle.dg_lines.proofs.Common.{rules, FitsSigned, w64, to_z-of_z}
 use Rattle.dg_lines.proofs.Integers.{other_degree}
 use Rattle.dg_lines.proofs.number.degree.Goals as goal
 

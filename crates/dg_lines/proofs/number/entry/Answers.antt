@@ -1,5 +1,5 @@
 -- A number past the limit is no other number within it.
-use Rattle.std.proofs.Common.{rules, arith, FitsSigned, w64, to_z-of_z}
+use Rattle.dg_lines.proofs.Common.{rules, arith, FitsSigned, w64, to_z-of_z}
 use Rattle.dg_lines.proofs.Integers.{large_entry}
 use Rattle.dg_lines.proofs.number.entry.Goals as goal
 

@@ -1,5 +1,5 @@
 -- A seat has one digit, or two of which the first is not 0.
-use Rattle.std.proofs.Common.{inl, inr, arith}
+use Rattle.dg_lines.proofs.Common.{inl, inr, arith}
 use Rattle.dg_lines.proofs.SeatDigits.{one_digit, two_digits, seat_one, seat_two, seat_length, told_weaker}
 use Rattle.dg_lines.proofs.number.seat.Goals as goal
 

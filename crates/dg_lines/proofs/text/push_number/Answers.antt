@@ -1,5 +1,4 @@
-use Rattle.std.proofs.Common.{◌++◌, List, ℕ, sym, ap, ◌∙◌}
-use Rattle.std.proofs.lemmas.Fmt.{decimal_digit}
+use Rattle.dg_lines.proofs.Common.{◌++◌, List, ℕ, sym, ap, ◌∙◌, decimal_digit}
 use Rattle.dg_lines.proofs.text.push_number.Goals as goal
 
 pub returns-then-number-lt10 : goal.returns-then-number-lt10

@@ -1,6 +1,5 @@
 -- Each turn writes the vertex's pair, and its space, before those of the vertices after it.
-use Rattle.std.proofs.Common.{◌≡◌, ◌++◌, ◌+◌, ◌-◌, ◌<◌, ℕ, length, sym, ap, ◌∙◌, List, arith, rules}
-use Rattle.dg_chips.specs.Vector.{at}
+use Rattle.dg_lines.proofs.Common.{◌≡◌, ◌++◌, ◌+◌, ◌-◌, ◌<◌, ℕ, length, sym, ap, ◌∙◌, List, arith, rules, at}
 use Rattle.dg_lines.proofs.Pairs.{pairs_last, pairs_before, pairs_whole}
 use Rattle.dg_lines.proofs.text.push_pairs.Goals as goal
 

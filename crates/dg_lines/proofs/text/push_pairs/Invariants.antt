@@ -1,7 +1,6 @@
 -- What stands at the end of the line are the pairs of the vertices from the turn's one on, and there is room for the
 -- others.
-use Rattle.std.proofs.Common.{◌≡◌, ◌*◌, ◌≤◌, drop}
-use Rattle.dg_chips.specs.Vector.{at}
+use Rattle.dg_lines.proofs.Common.{◌≡◌, ◌*◌, ◌≤◌, drop, at}
 use Rattle.dg_lines.specs.Texts.{more_pairs}
 use Rattle.dg_lines.proofs.text.push_pairs.Given as goal
 

@@ -1,8 +1,6 @@
 -- An item whose name is a vertex gives it its number; one that names none, or one that is given, refuses them all.
-use Rattle.std.proofs.Common.{◌≡◌, length, map, sym, ap, ◌∙◌, arith, rules, refl, subst, FitsSigned, w64, to_z-of_z}
+use Rattle.dg_lines.proofs.Common.{◌≡◌, length, map, sym, ap, ◌∙◌, arith, rules, refl, subst, FitsSigned, w64, to_z-of_z, items, name_part, number_part}
 use Rattle.dg_tokens.specs.Names.{place_of}
-use Rattle.dg_lines.specs.Cuts.{items}
-use Rattle.dg_lines.specs.CommandWords.{name_part, number_part}
 use Rattle.dg_lines.proofs.Cutting.{pieces_left, none_left}
 use Rattle.dg_lines.proofs.Given.{unnamed_taken, twice_taken}
 use Rattle.dg_lines.proofs.Scripts.{IsSpelled, no_pairs, one_pair, all_pairs, vertex_of, entries_within, script_of, part_after}

@@ -1,7 +1,5 @@
 -- What the items so far give; each turn reads a shorter rest.
-use Rattle.std.proofs.Common.{length}
-use Rattle.std.specs.Option.{option_copied}
-use Rattle.dg_lines.specs.Cuts.{items, pieces_after}
+use Rattle.dg_lines.proofs.Common.{length, option_copied, items, pieces_after}
 use Rattle.dg_lines.proofs.Scripts.{HasPairs}
 use Rattle.dg_lines.proofs.word.script_of.Given as goal
 

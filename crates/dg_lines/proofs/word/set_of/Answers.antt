@@ -1,7 +1,6 @@
 -- An item that names a vertex puts it into the set; one that names none, or one that is there, refuses them all.
-use Rattle.std.proofs.Common.{◌≡◌, Some, length, refl, sym, ap, ◌∙◌, arith}
+use Rattle.dg_lines.proofs.Common.{◌≡◌, Some, length, refl, sym, ap, ◌∙◌, arith, items}
 use Rattle.dg_tokens.specs.Names.{place_of}
-use Rattle.dg_lines.specs.Cuts.{items}
 use Rattle.dg_lines.proofs.Cutting.{pieces_left, none_left}
 use Rattle.dg_lines.proofs.Given.{none_taken, one_taken, all_taken, unnamed_taken, twice_taken}
 use Rattle.dg_lines.proofs.word.set_of.Goals as goal

@@ -1,5 +1,5 @@
 -- What is the name of no vertex names none.
-use Rattle.std.proofs.Common.{sym, refl, []}
+use Rattle.dg_lines.proofs.Common.{sym, refl, []}
 use Rattle.dg_lines.proofs.Given.{unnamed_among}
 use Rattle.dg_lines.proofs.word.vertex_of.Goals as goal
 

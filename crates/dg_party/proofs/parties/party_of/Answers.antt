@@ -1,6 +1,4 @@
-use Rattle.std.proofs.Common.{rules, length, ap, sym, ◌∙◌}
-use Rattle.dg_party.specs.Sessions.{contents}
-use Rattle.dg_lines.proofs.Printing.{legal_named}
+use Rattle.dg_party.proofs.Common.{rules, length, ap, sym, ◌∙◌, contents, legal_named}
 use Rattle.dg_party.proofs.Begun.{party_lacks}
 use Rattle.dg_party.proofs.Whole.{contents_count, shown_size, whole_lent, party_unclosed}
 use Rattle.dg_party.proofs.parties.party_of.Goals as goal

@@ -1,4 +1,4 @@
-use Rattle.std.proofs.Common.{rules}
+use Rattle.dg_party.proofs.Common.{rules}
 use Rattle.dg_party.proofs.Begun.{none_begun, more_begun, all_begun}
 use Rattle.dg_party.proofs.threads.+fn-play-others+play.Goals as goal
 

@@ -1,4 +1,4 @@
-use Rattle.std.proofs.Common.{◌+◌, ◌*◌, length}
+use Rattle.dg_party.proofs.Common.{◌+◌, ◌*◌, length}
 use Rattle.dg_party.proofs.threads.+fn-play-others+play.Given as goal
 
 abbrev pub decreases-others : goal.decreases-others

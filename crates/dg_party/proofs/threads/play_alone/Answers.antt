@@ -1,4 +1,4 @@
-use Rattle.std.proofs.Common.{rules, refl}
+use Rattle.dg_party.proofs.Common.{rules, refl}
 use Rattle.dg_party.proofs.Begun.{alone_all, alone_lacks}
 use Rattle.dg_party.proofs.threads.play_alone.Goals as goal
 

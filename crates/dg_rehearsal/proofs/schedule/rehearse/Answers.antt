@@ -1,5 +1,4 @@
-use Rattle.std.proofs.Common.{◌≡◌, ◌<◌, [], ◌∷◌, ◌++◌, length, length-append, slice_get, Some, arith, refl, ◌∙◌, ap}
-use Rattle.std.proofs.lemmas.Option.{slice_get_read}
+use Rattle.dg_rehearsal.proofs.Common.{◌≡◌, ◌<◌, [], ◌∷◌, ◌++◌, length, length-append, slice_get, Some, arith, refl, ◌∙◌, ap, slice_get_read}
 use Rattle.dg_rehearsal.proofs.RehearsalLaws.{told_err}
 use Rattle.dg_rehearsal.proofs.schedule.rehearse.Goals as goal
 

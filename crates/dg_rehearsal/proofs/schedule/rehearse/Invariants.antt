@@ -1,7 +1,4 @@
-use Rattle.std.proofs.Common.{◌≡◌, ◌≤◌, length, vec_capacity}
-use Rattle.std.specs.Prelude.{min}
-use Rattle.dg_rehearsal.specs.Rehearsal.{IsPlaying}
-use Rattle.dg_game.specs.declared.game.TheConstants.{MAX_ENTRIES}
+use Rattle.dg_rehearsal.proofs.Common.{◌≡◌, ◌≤◌, length, vec_capacity, min, IsPlaying, MAX_ENTRIES}
 use Rattle.dg_rehearsal.proofs.schedule.rehearse.Given as goal
 
 abbrev pub invariant-loop-step : goal.invariant-loop-step

@@ -1,9 +1,4 @@
-use Rattle.std.proofs.Common.{rules, ◌≡◌, ℕ, ◌+◌, ◌<◌, List, [], ◌∷◌, ◌++◌, length, take, sym, ap, ◌∙◌}
-use Rattle.std.proofs.lemmas.List.{take_more}
-use Rattle.std.specs.declared.result.Result.{Result}
-use Rattle.std.specs.declared.result.Result.TheVariants.{Ok, Err}
-use Rattle.dg_session.specs.declared.ends.SessionEnd.{SessionEnd}
-use Rattle.dg_server.specs.Parties.{early}
+use Rattle.dg_server.proofs.Common.{rules, ◌≡◌, ℕ, ◌+◌, ◌<◌, List, [], ◌∷◌, ◌++◌, length, take, sym, ap, ◌∙◌, take_more, Result, Ok, Err, SessionEnd, early}
 use Rattle.dg_server.proofs.Ends.{early_taken}
 use Rattle.dg_server.proofs.parties.early_ends.Goals.{in-Err+in_ok-push, in_default}
 use Rattle.dg_server.proofs.parties.early_ends.Goals as goal

@@ -1,6 +1,5 @@
 -- The ends that came early among those that were looked at.
-use Rattle.std.proofs.Common.{◌≡◌, take}
-use Rattle.dg_server.specs.Parties.{early}
+use Rattle.dg_server.proofs.Common.{◌≡◌, take, early}
 use Rattle.dg_server.proofs.parties.early_ends.Given as goal
 
 abbrev pub invariant-ends : goal.invariant-ends

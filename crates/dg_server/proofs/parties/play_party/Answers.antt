@@ -1,5 +1,4 @@
-use Rattle.std.proofs.Common.{rules, inl, inr}
-use Rattle.dg_party.specs.declared.ending.PartyRefusal.TheVariants.{Shortage, Log}
+use Rattle.dg_server.proofs.Common.{rules, inl, inr, Shortage, Log}
 use Rattle.dg_server.proofs.Serving.{may_play, party_on, refused_on, refused_lent, as_it_was}
 use Rattle.dg_server.proofs.parties.play_party.Goals as goal
 

@@ -1,4 +1,4 @@
-use Rattle.std.proofs.Common.{inl}
+use Rattle.dg_server.proofs.Common.{inl}
 use Rattle.dg_server.proofs.Serving.{as_it_was}
 use Rattle.dg_server.proofs.program.perform.Goals as goal
 

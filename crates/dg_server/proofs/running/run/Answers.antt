@@ -1,7 +1,6 @@
 -- Words that are refused leave the output as it was.
-use Rattle.std.proofs.Common.{refl, sym, inl}
+use Rattle.dg_server.proofs.Common.{refl, sym, inl, Words}
 use Rattle.dg_server.proofs.Serving.{as_it_was}
-use Rattle.dg_server.specs.declared.fault.Fault.TheVariants.{Words}
 use Rattle.dg_server.proofs.running.run.Goals as goal
 
 pub returns-in-Err-clause-failed : goal.returns-in-Err-clause-failed

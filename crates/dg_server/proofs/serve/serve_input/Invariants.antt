@@ -1,5 +1,4 @@
-use Rattle.std.proofs.Common.{length}
-use Rattle.dg_log.specs.Tables.{table_of}
+use Rattle.dg_server.proofs.Common.{length, table_of}
 use Rattle.dg_server.proofs.serve.serve_input.Given as goal
 
 -- A table is named by its row, its start and its number of seats.

@@ -1,6 +1,4 @@
-use Rattle.std.proofs.Common.{rules, sym, subst}
-use Rattle.dg_table.specs.Opened.{AreFresh}
-use Rattle.dg_table.specs.Closing.{IsClosed, IsCloseRefused}
+use Rattle.dg_server.proofs.Common.{rules, sym, subst, AreFresh, IsClosed, IsCloseRefused}
 use Rattle.dg_server.proofs.Serving.{seats_back, served, unclosed}
 use Rattle.dg_server.proofs.serve.serve_on.Goals as goal
 

@@ -1,4 +1,4 @@
-use Rattle.std.proofs.Common.{sym, refl}
+use Rattle.dg_session.proofs.Common.{sym, refl}
 use Rattle.dg_session.proofs.Made.{call_made, named, entered, any_ok, call_keeps, call_refused}
 use Rattle.dg_session.proofs.answering.call.Goals as goal
 

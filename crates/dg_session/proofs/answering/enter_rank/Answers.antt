@@ -1,5 +1,4 @@
-use Rattle.std.proofs.Common.{refl, inr}
-use Rattle.dg_rank.specs.Ranks.{IsWithin}
+use Rattle.dg_session.proofs.Common.{refl, inr, IsWithin}
 use Rattle.dg_game.specs.declared.finding.Question.TheVariants as question
 use Rattle.dg_session.proofs.Made.{stale_made, rank_within, entered, any_ok, call_refused, obeys_after, with_look}
 use Rattle.dg_session.proofs.answering.enter_rank.Goals as goal

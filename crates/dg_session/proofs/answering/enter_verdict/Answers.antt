@@ -1,4 +1,4 @@
-use Rattle.std.proofs.Common.{refl}
+use Rattle.dg_session.proofs.Common.{refl}
 use Rattle.dg_game.specs.declared.finding.Question.TheVariants as question
 use Rattle.dg_session.proofs.Made.{stale_made, entered, any_ok, call_refused, obeys_after, with_look}
 use Rattle.dg_session.proofs.answering.enter_verdict.Goals as goal

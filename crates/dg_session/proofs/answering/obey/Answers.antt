@@ -1,5 +1,4 @@
-use Rattle.std.proofs.Common.{◌∙◌, ap}
-use Rattle.dg_game.specs.declared.step.Command.TheVariants.{Call}
+use Rattle.dg_session.proofs.Common.{◌∙◌, ap, Call}
 use Rattle.dg_session.proofs.Made.{at_command}
 use Rattle.dg_session.proofs.answering.obey.Goals as goal
 

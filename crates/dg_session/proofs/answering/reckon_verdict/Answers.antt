@@ -1,4 +1,4 @@
-use Rattle.std.proofs.Common.{refl}
+use Rattle.dg_session.proofs.Common.{refl}
 use Rattle.dg_session.proofs.Made.{settled_made, entered, any_ok, call_refused, with_look, with_none}
 use Rattle.dg_session.proofs.answering.reckon_verdict.Goals as goal
 

@@ -1,4 +1,4 @@
-use Rattle.std.proofs.Common.{refl}
+use Rattle.dg_session.proofs.Common.{refl}
 use Rattle.dg_session.proofs.Made.{call_made, entered, call_refused}
 use Rattle.dg_session.proofs.answering.take_look.Goals as goal
 

@@ -1,7 +1,4 @@
-use Rattle.std.proofs.Common.{◌∙◌, ap, sym, refl, subst, inl, inr, Some, codes}
-use Rattle.dg_rank.specs.Ranks.{IsRankFault}
-use Rattle.dg_analyst.specs.Views.{LookView}
-use Rattle.dg_session.specs.Speakers.{kept_number}
+use Rattle.dg_session.proofs.Common.{◌∙◌, ap, sym, refl, subst, inl, inr, Some, codes, IsRankFault, LookView, kept_number}
 use Rattle.dg_session.proofs.Made.{rank_made, rank_within, rank_past, gains_same, entered, any_ok, words_said, call_refused, with_look, with_none}
 use Rattle.dg_session.proofs.answering.try_kept.Goals as goal
 

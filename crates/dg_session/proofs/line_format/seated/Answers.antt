@@ -1,4 +1,4 @@
-use Rattle.std.proofs.Common.{arith}
+use Rattle.dg_session.proofs.Common.{arith}
 use Rattle.dg_session.proofs.Seated.{seat_past}
 use Rattle.dg_session.proofs.line_format.seated.Goals as goal
 

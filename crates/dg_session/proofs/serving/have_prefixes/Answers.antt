@@ -1,6 +1,4 @@
-use Rattle.std.proofs.Common.{subst, arith, All}
-use Rattle.std.proofs.lemmas.List.{take_all}
-use Rattle.dg_table.specs.Histories.{HasPrefix}
+use Rattle.dg_session.proofs.Common.{subst, arith, All, take_all, HasPrefix}
 use Rattle.dg_session.proofs.Sessions.{one_more}
 use Rattle.dg_session.proofs.serving.have_prefixes.Goals as goal
 

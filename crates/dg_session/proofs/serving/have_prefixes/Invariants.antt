@@ -1,6 +1,5 @@
 -- Each seat so far has found a history of its table.
-use Rattle.std.proofs.Common.{take, All}
-use Rattle.dg_table.specs.Histories.{HasPrefix}
+use Rattle.dg_session.proofs.Common.{take, All, HasPrefix}
 use Rattle.dg_session.proofs.serving.have_prefixes.Given as goal
 
 abbrev pub invariant-loop-seat : goal.invariant-loop-seat

@@ -1,8 +1,5 @@
-use Rattle.std.proofs.Common.{◌<◌, ◌∙◌, [], length, refl, ap, arith, map, None}
-use Rattle.dg_system.proofs.InputReads.{chunk_size, read_chunk, read_nothing}
-use Rattle.dg_session.specs.Speakers.{kept_number}
+use Rattle.dg_session.proofs.Common.{◌<◌, ◌∙◌, [], length, refl, ap, arith, map, None, chunk_size, read_chunk, read_nothing, kept_number, heard}
 use Rattle.dg_session.proofs.Sessions.{so_far_new, so_far_more, session_unsaid, session_reads, session_ends, session_closes, session_halts, written_ok, not_read, write_failed, halts_by, fewer_left}
-use Rattle.dg_session.specs.SoFar.{heard}
 use Rattle.dg_session.proofs.Spoken.{said_whole, cleared_whole, unheard, silent}
 use Rattle.dg_session.proofs.serving.serve_lines.Goals as goal
 
@@ -16,8 +13,8 @@ returns-in_default-new-clause-session g c =
 
 pub reads-init : goal.reads-init
 reads-init g c = (
-  so_far_new (map kept_number c.in-Some.progress.kept.items) c.in-Some.progress.course.latest
-      c.in-Some.progress.course.entered c.in-Some.progress.pending.items c.in-Some.progress.count
+  so_far_new (map kept_number c.in-Some.progress.kept.items) c.in-Some.progress.entries_so_far.latest
+      c.in-Some.progress.entries_so_far.entered c.in-Some.progress.pending.items c.in-Some.progress.count
       c.in-Some.ensures.latest c.in-Some.ensures.entered c.in-Some.ensures.pending c.in-Some.ensures.count
       c.in-Some.ensures.kept c.requires.some,
   ap heard c.in-Some.ensures.said,

@@ -1,9 +1,6 @@
 -- All that was read is handled but what is pending, and all that there was to say is written, where it is heard; otherwise
 -- the writer is as it was.
-use Rattle.std.proofs.Common.{◌≡◌, length, None}
-use Rattle.dg_session.specs.Setup.{setup}
-use Rattle.dg_session.specs.SoFar.{heard, so_far}
-use Rattle.dg_session.specs.declared.ends.TheConstants.{READ_SIZE}
+use Rattle.dg_session.proofs.Common.{◌≡◌, length, None, setup, heard, so_far, READ_SIZE}
 use Rattle.dg_session.proofs.Sessions.{IsSoFar, bytes_left}
 use Rattle.dg_session.proofs.serving.serve_lines.Given as goal
 

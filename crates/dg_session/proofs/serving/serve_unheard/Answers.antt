@@ -1,5 +1,4 @@
-use Rattle.std.proofs.Common.{[], ◌∷◌, ap, arith}
-use Rattle.std.proofs.lemmas.Grind.{common_steps}
+use Rattle.dg_session.proofs.Common.{[], ◌∷◌, ap, arith, common_steps}
 use Rattle.dg_session.proofs.Sessions.{numbers_of, number_alone}
 use Rattle.dg_session.proofs.serving.serve_unheard.Goals as goal
 

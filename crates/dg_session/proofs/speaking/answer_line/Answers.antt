@@ -1,4 +1,4 @@
-use Rattle.std.proofs.Common.{sym, ◌∙◌}
+use Rattle.dg_session.proofs.Common.{sym, ◌∙◌}
 use Rattle.dg_session.proofs.Seated.{spoken}
 use Rattle.dg_session.proofs.speaking.answer_line.Goals as goal
 

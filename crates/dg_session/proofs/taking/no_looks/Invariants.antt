@@ -1,6 +1,5 @@
 -- There is no look for each seat so far.
-use Rattle.std.proofs.Common.{◌≡◌, map, take, None}
-use Rattle.dg_session.specs.Speakers.{kept_number}
+use Rattle.dg_session.proofs.Common.{◌≡◌, map, take, None, kept_number}
 use Rattle.dg_session.proofs.taking.no_looks.Given as goal
 
 abbrev pub invariant-loop : goal.invariant-loop

@@ -1,8 +1,5 @@
 -- All but the rest is taken at each turn.
-use Rattle.std.proofs.Common.{◌<◌, ◌≤◌, ◌+◌, ◌∙◌, ◌++◌, List, [], ℕ, length, refl, subst, append-nil, rules, tests}
-use Rattle.dg_session.specs.SoFar.{RefusesPart}
-use Rattle.dg_session.specs.declared.ends.TheConstants.{MAX_LINE, MAX_LINES}
-use Rattle.dg_lines.proofs.Streams.{part_plain, part_front, part_whole, part_line, line_shorter}
+use Rattle.dg_session.proofs.Common.{◌<◌, ◌≤◌, ◌+◌, ◌∙◌, ◌++◌, List, [], ℕ, length, refl, subst, append-nil, rules, tests, RefusesPart, MAX_LINE, MAX_LINES, part_plain, part_front, part_whole, part_line, line_shorter}
 use Rattle.dg_session.proofs.Going.{goes_none, goes_part, goes_line, halts_part, halts_line, line_with}
 use Rattle.dg_session.proofs.Spoken.{said_none, said_more}
 use Rattle.dg_session.proofs.taking.take_bytes.Goals as goal

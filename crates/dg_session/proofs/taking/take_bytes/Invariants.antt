@@ -1,7 +1,5 @@
 -- All but the rest is taken.
-use Rattle.std.proofs.Common.{length}
-use Rattle.dg_session.specs.Setup.{setup}
-use Rattle.dg_session.specs.SoFar.{heard, so_far}
+use Rattle.dg_session.proofs.Common.{length, setup, heard, so_far}
 use Rattle.dg_session.proofs.Spoken.{HaveGone}
 use Rattle.dg_session.proofs.taking.take_bytes.Given as goal
 

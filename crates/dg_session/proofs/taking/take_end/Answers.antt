@@ -1,5 +1,4 @@
-use Rattle.std.proofs.Common.{◌≡◌, ◌≤◌, ◌∙◌, [], length, ap, arith, rules, tests}
-use Rattle.dg_lines.proofs.Streams.{one_line}
+use Rattle.dg_session.proofs.Common.{◌≡◌, ◌≤◌, ◌∙◌, [], length, ap, arith, rules, tests, one_line}
 use Rattle.dg_session.proofs.Going.{last_none, last_counted, last_one, last_halts}
 use Rattle.dg_session.proofs.Spoken.{said_none}
 use Rattle.dg_session.proofs.taking.take_end.Goals as goal

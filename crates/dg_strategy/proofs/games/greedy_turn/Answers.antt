@@ -1,19 +1,18 @@
-use Rattle.std.proofs.Common.{ℕ, refl}
+use Rattle.dg_strategy.proofs.Common.{ℕ, ◌∙◌}
 use Rattle.dg_strategy.proofs.Greedily.{turn_made}
 use Rattle.dg_strategy.proofs.games.greedy_turn.Goals as goal
 
 pub follow-requires-clause-right : goal.follow-requires-clause-right
 follow-requires-clause-right c =
     let before : ℕ → ℕ = λ i. 0 in
-    rw c.ask.ensures (before, c.answer.ensures.here before)
+    (before, c.answer_call.ensures.here before)
 
 pub returns-clause-turn : goal.returns-clause-turn
 returns-clause-turn c = λ o H leads.
-    rw c.ask.ensures
-    (turn_made o H c.args.game.now c.choose-choice.result _ c.is_none-settled.result leads
-    (rw c.position.ensures.amounts at c.choose-choice.ensures) refl c.call_for-call.ensures
-    (c.answer.ensures.replies o H leads) c.is_none-settled.ensures)
+    turn_made o H c.args.game.now c.choose-choice.result _ c.is_none-settled.result leads
+    (rw c.position.ensures.amounts at c.choose-choice.ensures) c.answer_call.ensures.seat
+    (c.answer_call.ensures.request ∙ c.of.ensures) (c.answer_call.ensures.replies o H leads) c.is_none-settled.ensures
 
 pub returns-clause-leads : goal.returns-clause-leads
 returns-clause-leads c = λ o H leads.
-    c.follow.ensures.leads o H leads (rw c.ask.ensures (c.answer.ensures.replies o H leads))
+    c.follow.ensures.leads o H leads (c.answer_call.ensures.replies o H leads)

@@ -1,7 +1,4 @@
-use Rattle.std.proofs.Common.{subst}
-use Rattle.dg_graph.specs.Graph.{IsGraph}
-use Rattle.dg_chips.specs.Starts.{IsStart}
-use Rattle.dg_strategy.specs.Plays.{IsTurnBy, IsSettlerTurn}
+use Rattle.dg_strategy.proofs.Common.{subst, IsGraph, IsStart, IsTurnBy, IsSettlerTurn}
 use Rattle.dg_strategy.proofs.Gained.{played_as, stopped_as}
 use Rattle.dg_strategy.proofs.Turned.{settler_turn}
 use Rattle.dg_strategy.proofs.playing.settle_out.Goals as goal

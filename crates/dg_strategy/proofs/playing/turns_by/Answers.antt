@@ -1,7 +1,4 @@
-use Rattle.std.proofs.Common.{rules, ◌≡◌, ◌<◌, arith, refl, sym, ap, ◌∙◌}
-use Rattle.std.proofs.lemmas.Bool.{both_ways}
-use Rattle.dg_game.specs.declared.entry.Entry.{Entry}
-use Rattle.dg_game.specs.declared.entry.Request.TheVariants.{Claim}
+use Rattle.dg_strategy.proofs.Common.{rules, ◌≡◌, ◌<◌, arith, refl, sym, ap, ◌∙◌, both_ways, Entry, Claim}
 use Rattle.dg_strategy.proofs.Gained.{one_more, claimed_by, stopped_by, played_out}
 use Rattle.dg_strategy.proofs.playing.turns_by.Goals as goal
 

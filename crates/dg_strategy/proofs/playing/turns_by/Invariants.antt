@@ -1,7 +1,4 @@
-use Rattle.std.proofs.Common.{◌≡◌, ℕ, List, length}
-use Rattle.std.specs.List.{FoldsTo}
-use Rattle.dg_game.specs.declared.entry.Entry.{Entry}
-use Rattle.dg_strategy.specs.Plays.{IsTurnBy, AreMoves}
+use Rattle.dg_strategy.proofs.Common.{◌≡◌, ℕ, List, length, FoldsTo, Entry, IsTurnBy, AreMoves}
 use Rattle.dg_strategy.proofs.playing.turns_by.Given as goal
 
 abbrev pub invariant-loop : goal.invariant-loop

@@ -1,5 +1,4 @@
-use Rattle.dg_chips.specs.Vector.{at}
-use Rattle.dg_lines.proofs.Judging.{judged-named}
+use Rattle.dg_sweep.proofs.Common.{at, judged-named}
 use Rattle.dg_sweep.proofs.answering.push_verdict.Goals as goal
 
 pub push_judgement-requires : goal.push_judgement-requires

@@ -1,6 +1,5 @@
 -- A word that is a number is read; one that is none leaves the line without numbers.
-use Rattle.std.proofs.Common.{FitsSigned, w64, to_z-of_z, rules, ap, arith, length}
-use Rattle.dg_lines.proofs.Cutting.{pieces_left, none_left}
+use Rattle.dg_sweep.proofs.Common.{FitsSigned, w64, to_z-of_z, rules, ap, arith, length, pieces_left, none_left}
 use Rattle.dg_sweep.proofs.Amounts.{read_none, read_one, read_all, none_read}
 use Rattle.dg_sweep.proofs.divisors.amounts_of.Goals as goal
 

@@ -1,7 +1,5 @@
 -- The amounts are the numbers of the words so far; each turn reads a shorter rest.
-use Rattle.std.proofs.Common.{length}
-use Rattle.std.specs.Option.{option_copied}
-use Rattle.dg_lines.specs.Cuts.{pieces_after}
+use Rattle.dg_sweep.proofs.Common.{length, option_copied, pieces_after}
 use Rattle.dg_sweep.proofs.Amounts.{IsReadTo}
 use Rattle.dg_sweep.proofs.divisors.amounts_of.Given as goal
 

@@ -1,8 +1,6 @@
 -- A digit, and a minus with a digit that is not 0, are the decimals of their numbers.
-use Rattle.std.proofs.Common.{rules, ◌≡◌, ◌-◌, ◌-ℤ◌, pos, negsuc, arith, FitsSigned, to_z-of_z, w64}
-use Rattle.std.specs.List.{slice_index_or}
-use Rattle.std.proofs.lemmas.Int.{ints}
-use Rattle.dg_lines.proofs.Integers.{fits_within}
+use Rattle.dg_sweep.proofs.Common.{rules, ◌≡◌, ◌-◌, pos, negsuc, arith, FitsSigned, to_z-of_z, w64, slice_index_or, ints, fits_within}
+use Rattle.std.proofs.Common.{◌-ℤ◌}
 use Rattle.dg_sweep.proofs.Amounts.{one_digit, minus_digit}
 use Rattle.dg_sweep.proofs.divisors.digit_of.Goals as goal
 

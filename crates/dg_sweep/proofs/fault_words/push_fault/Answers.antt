@@ -1,4 +1,5 @@
-use Rattle.std.proofs.Common.{◌++◌, ap, ◌∙◌, append_assoc, codes, decimal}
+use Rattle.dg_sweep.proofs.Common.{◌++◌, ap, ◌∙◌, append_assoc, codes}
+use Rattle.std.proofs.Common.{decimal}
 use Rattle.dg_sweep.proofs.fault_words.push_fault.Goals as goal
 
 pub returns-in_ok-extend_from_slice-in-Twice : goal.returns-in_ok-extend_from_slice-in-Twice

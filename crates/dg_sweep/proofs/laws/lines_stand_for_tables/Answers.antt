@@ -1,14 +1,5 @@
 -- The table with other amounts has the same names, graph and q.
-use Rattle.std.proofs.Common.{◌≡◌, ℕ, ℤ, List, length, sym, ap, ◌∙◌, subst}
-use Rattle.dg_chips.specs.Starts.{StartData}
-use Rattle.dg_chips.specs.DivisorFaults.{IsFirstChipFault}
-use Rattle.dg_chips.specs.declared.divisor.ChipFault.{ChipFault}
-use Rattle.dg_file.specs.Content.{Content}
-use Rattle.dg_file.specs.TableFiles.{IsTable}
-use Rattle.dg_file.specs.FileFaults.{RefusesTable}
-use Rattle.dg_file.specs.declared.fault.FileFault.TheVariants.{Chip}
-use Rattle.dg_sweep.specs.Divisors.{SpellsAmounts, HasAmountsOf, RefusesAmounts}
-use Rattle.dg_sweep.specs.DivisorLaws.{with_amounts}
+use Rattle.dg_sweep.proofs.Common.{◌≡◌, ℕ, ℤ, List, length, sym, ap, ◌∙◌, subst, StartData, IsFirstChipFault, ChipFault, Content, IsTable, RefusesTable, Chip, SpellsAmounts, HasAmountsOf, RefusesAmounts, with_amounts}
 use Rattle.dg_sweep.proofs.laws.lines_stand_for_tables.Goals as goal
 
 stands : (content : Content) (o p : StartData) (names : List (List ℕ)) (line : List ℕ) → IsTable content o names

@@ -1,6 +1,4 @@
-use Rattle.std.proofs.Common.{inl, inr, refl}
-use Rattle.dg_verdict.specs.declared.rank_verdict.RankVerdict.TheVariants.{AtLeast}
-use Rattle.dg_rank.proofs.Counts.{past_within}
+use Rattle.dg_sweep.proofs.Common.{inl, inr, refl, AtLeast, past_within}
 use Rattle.dg_sweep.proofs.ranking.push_rank.Goals as goal
 
 pub returns-in-Ok : goal.returns-in-Ok

@@ -1,5 +1,4 @@
-use Rattle.std.proofs.Common.{◌≡◌, inl, arith, w64, to_z, of_z}
-use Rattle.std.proofs.lemmas.Int.{ints}
+use Rattle.dg_sweep.proofs.Common.{◌≡◌, inl, arith, w64, to_z, of_z, ints}
 use Rattle.dg_sweep.proofs.ranking.push_ranks.Goals as goal
 
 pub returns : goal.returns

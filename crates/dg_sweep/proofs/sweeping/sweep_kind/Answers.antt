@@ -1,6 +1,4 @@
-use Rattle.std.proofs.Common.{◌≡◌, ◌<◌, ◌∙◌, [], length, take, refl, arith}
-use Rattle.dg_system.proofs.InputReads.{chunk_size, read_chunk, read_nothing}
-use Rattle.dg_sweep.specs.declared.ends.TheConstants.{READ_SIZE}
+use Rattle.dg_sweep.proofs.Common.{◌≡◌, ◌<◌, ◌∙◌, [], length, take, refl, arith, chunk_size, read_chunk, read_nothing, READ_SIZE}
 use Rattle.dg_sweep.proofs.Swept.{swept_none, swept_more, sweep_reads, sweep_ends, sweep_unsaid, sweep_halts, sweep_halts_last}
 use Rattle.dg_sweep.proofs.sweeping.sweep_kind.Goals as goal
 

@@ -1,6 +1,5 @@
 -- All whole lines that were read are answered, and their answers written.
-use Rattle.std.proofs.Common.{◌≡◌, length}
-use Rattle.dg_sweep.specs.declared.ends.TheConstants.{READ_SIZE}
+use Rattle.dg_sweep.proofs.Common.{◌≡◌, length, READ_SIZE}
 use Rattle.dg_sweep.proofs.Swept.{HasSwept}
 use Rattle.dg_sweep.proofs.sweeping.sweep_kind.Given as goal
 

@@ -1,5 +1,4 @@
-use Rattle.std.proofs.Common.{◌++◌, ap, ◌∙◌}
-use Rattle.dg_lines.proofs.Streams.{part_plain, part_whole, part_line, line_shorter}
+use Rattle.dg_sweep.proofs.Common.{◌++◌, ap, ◌∙◌, part_plain, part_whole, part_line, line_shorter}
 use Rattle.dg_sweep.proofs.Taken.{so_far_none, so_far_line, so_far_rest}
 use Rattle.dg_sweep.proofs.taking.answer_lines.Goals as goal
 

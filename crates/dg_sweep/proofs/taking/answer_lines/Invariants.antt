@@ -1,5 +1,5 @@
 -- All lines but those of the rest are answered; each turn reads a shorter rest.
-use Rattle.std.proofs.Common.{length}
+use Rattle.dg_sweep.proofs.Common.{length}
 use Rattle.dg_sweep.proofs.Taken.{IsSoFar}
 use Rattle.dg_sweep.proofs.taking.answer_lines.Given as goal
 

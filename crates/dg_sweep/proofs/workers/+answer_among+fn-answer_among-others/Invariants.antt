@@ -1,4 +1,4 @@
-use Rattle.std.proofs.Common.{◌-◌, ◌*◌}
+use Rattle.dg_sweep.proofs.Common.{◌-◌, ◌*◌}
 use Rattle.dg_sweep.proofs.workers.+answer_among+fn-answer_among-others.Given as goal
 
 abbrev pub decreases-answer_among : goal.decreases-answer_among

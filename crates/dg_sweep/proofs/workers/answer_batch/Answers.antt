@@ -1,6 +1,4 @@
-use Rattle.std.proofs.Common.{All, map, flat_map, ◌++◌, sym, ap, subst, ◌∙◌}
-use Rattle.dg_sweep.specs.Steps.{EndsLine}
-use Rattle.dg_sweep.specs.Pieces.{IsAnswered}
+use Rattle.dg_sweep.proofs.Common.{All, map, flat_map, ◌++◌, sym, ap, subst, ◌∙◌, EndsLine, IsAnswered}
 use Rattle.dg_sweep.proofs.Pieces.{leads_rest}
 use Rattle.dg_sweep.proofs.workers.answer_batch.Goals as goal
 
@@ -10,7 +8,7 @@ put_answers-requires-clause-lines g c =
 
 pub put_answers-requires-clause-done : goal.put_answers-requires-clause-done
 put_answers-requires-clause-done g c =
-    let right = g.K.LineKind.answers c.args.room.now.kind.now in
+    let right = g.K.LineKind.answers c.args.context.now.kind.now in
     subst (All (IsAnswered right (map (λ piece. piece.now) c.deref-2.result.now))) (sym c.deref-3.ensures.value)
     (subst (λ l. All (IsAnswered right (map (λ piece. piece.now) l)) c.in_ok-done.done.items)
     (c.deref.ensures.value ∙ sym c.deref-2.ensures.value) c.in_ok-done.ensures)

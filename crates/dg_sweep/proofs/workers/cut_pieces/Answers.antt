@@ -1,4 +1,4 @@
-use Rattle.dg_sweep.specs.Steps.{EndsLine}
+use Rattle.dg_sweep.proofs.Common.{EndsLine}
 use Rattle.dg_sweep.proofs.Pieces.{all_and_one, pieces_more}
 use Rattle.dg_sweep.proofs.workers.cut_pieces.Goals as goal
 

@@ -1,6 +1,5 @@
 -- The pieces so far end lines, and they and the rest are the bytes; each turn leaves a shorter rest.
-use Rattle.std.proofs.Common.{◌≡◌, ◌++◌, length, flat_map, All}
-use Rattle.dg_sweep.specs.Steps.{EndsLine}
+use Rattle.dg_sweep.proofs.Common.{◌≡◌, ◌++◌, length, flat_map, All, EndsLine}
 use Rattle.dg_sweep.proofs.workers.cut_pieces.Given as goal
 
 abbrev pub invariant-loop-piece : goal.invariant-loop-piece

@@ -1,4 +1,4 @@
-use Rattle.dg_lines.proofs.Streams.{part_line}
+use Rattle.dg_sweep.proofs.Common.{part_line}
 use Rattle.dg_sweep.proofs.Taken.{front_ends}
 use Rattle.dg_sweep.proofs.workers.first_piece.Goals as goal
 

@@ -1,11 +1,9 @@
-use Rattle.std.proofs.Common.{[], ◌++◌, map, get_or, ap, subst, ◌∙◌}
-use Rattle.std.proofs.lemmas.List.Elements.{All-contains}
-use Rattle.dg_sweep.specs.Pieces.{AnswersPiece, IsAnswered}
+use Rattle.dg_sweep.proofs.Common.{[], ◌++◌, map, get_or, ap, subst, ◌∙◌, All-contains, AnswersPiece, IsAnswered}
 use Rattle.dg_sweep.proofs.workers.put_answer.Goals as goal
 
 pub returns-in-Some : goal.returns-in-Some
 returns-in-Some g c =
-    let right = g.K.LineKind.answers c.args.room.now.kind.now in
+    let right = g.K.LineKind.answers c.args.context.now.kind.now in
     let pieces = map (λ piece. piece.now) c.args.pieces.now in
     let (answered, done, here, text) = c.in-Some.ensures in (
       answered.text.items,

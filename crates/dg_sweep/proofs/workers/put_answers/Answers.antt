@@ -1,4 +1,4 @@
-use Rattle.std.proofs.Common.{rules, [], sym, append-nil}
+use Rattle.dg_sweep.proofs.Common.{rules, [], sym, append-nil}
 use Rattle.dg_sweep.proofs.Pieces.{leads_none, puts_piece, puts_all}
 use Rattle.dg_sweep.proofs.workers.put_answers.Goals as goal
 

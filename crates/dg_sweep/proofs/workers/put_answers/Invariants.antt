@@ -1,9 +1,8 @@
 -- The text has the answers to the pieces so far.
-use Rattle.std.proofs.Common.{◌≡◌, ◌++◌, ℕ, List, flat_map, take}
-use Rattle.dg_sweep.specs.Pieces.{Leads}
+use Rattle.dg_sweep.proofs.Common.{◌≡◌, ◌++◌, ℕ, List, flat_map, take, Leads}
 use Rattle.dg_sweep.proofs.workers.put_answers.Given as goal
 
 abbrev pub invariant-loop-place : goal.invariant-loop-place
 invariant-loop-place g l =
-    (said : List ℕ) × Leads (g.K.LineKind.answers l.room.kind.now) (flat_map (λ piece. piece.now) (take l.place l.pieces)) said
+    (said : List ℕ) × Leads (g.K.LineKind.answers l.context.kind.now) (flat_map (λ piece. piece.now) (take l.place l.pieces)) said
     × (l.text.items ≡ l.fn.text.items ++ said)

@@ -1,4 +1,4 @@
-use Rattle.std.proofs.Common.{sym}
+use Rattle.dg_sweep.proofs.Common.{sym}
 use Rattle.dg_sweep.proofs.workers.text_at.Goals as goal
 
 pub returns-then-answered-place : goal.returns-then-answered-place

@@ -1,4 +1,4 @@
-use Rattle.std.proofs.lemmas.List.{take_more}
+use Rattle.dg_system.proofs.Common.{take_more}
 use Rattle.dg_system.proofs.OneByOne.{held_pushed, unread_taken, short_of}
 use Rattle.dg_system.proofs.reading.read_all.Goals as goal
 

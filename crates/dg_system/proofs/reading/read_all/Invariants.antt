@@ -1,6 +1,5 @@
 -- The files so far are held.
-use Rattle.std.proofs.Common.{take, map}
-use Rattle.dg_system.specs.AllHeld.{MayHoldAll}
+use Rattle.dg_system.proofs.Common.{take, map, MayHoldAll}
 use Rattle.dg_system.proofs.reading.read_all.Given as goal
 
 abbrev pub invariant-names : goal.invariant-names

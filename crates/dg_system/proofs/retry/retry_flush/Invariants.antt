@@ -1,5 +1,5 @@
 -- An interrupted flush has changed nothing.
-use Rattle.std.specs.Io.KnownBytes.{Keeps}
+use Rattle.dg_system.proofs.Common.{Keeps}
 use Rattle.dg_system.proofs.retry.retry_flush.Given as goal
 
 abbrev pub invariant-loop : goal.invariant-loop

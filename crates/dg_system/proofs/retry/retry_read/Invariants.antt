@@ -1,6 +1,5 @@
 -- The buffer keeps its length, and an interrupted read has consumed nothing.
-use Rattle.std.proofs.Common.{◌≡◌, length}
-use Rattle.std.specs.Io.KnownBytes.{Keeps}
+use Rattle.dg_system.proofs.Common.{◌≡◌, length, Keeps}
 use Rattle.dg_system.proofs.retry.retry_read.Given as goal
 
 abbrev pub invariant-loop : goal.invariant-loop

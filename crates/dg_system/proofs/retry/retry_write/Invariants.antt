@@ -1,5 +1,5 @@
 -- An interrupted write has appended nothing.
-use Rattle.std.specs.Io.KnownBytes.{Keeps}
+use Rattle.dg_system.proofs.Common.{Keeps}
 use Rattle.dg_system.proofs.retry.retry_write.Given as goal
 
 abbrev pub invariant-loop : goal.invariant-loop

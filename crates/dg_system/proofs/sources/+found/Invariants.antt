@@ -1,4 +1,4 @@
-use Rattle.std.proofs.Common.{length}
+use Rattle.dg_system.proofs.Common.{length}
 use Rattle.dg_system.proofs.sources.+found.Given as goal
 
 -- proposed from what the function passes where it calls itself

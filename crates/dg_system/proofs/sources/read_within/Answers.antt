@@ -1,4 +1,4 @@
-use Rattle.std.proofs.Common.{rules, ◌<◌, length}
+use Rattle.dg_system.proofs.Common.{rules, ◌<◌, length}
 use Rattle.dg_system.proofs.Limited.{whole_of}
 use Rattle.dg_system.proofs.sources.read_within.Goals as goal
 

@@ -1,6 +1,4 @@
-use Rattle.std.proofs.Common.{◌≡◌, ◌+◌, arith, subst, inl, inr}
-use Rattle.std.proofs.lemmas.Bool.{cases_lt}
-use Rattle.dg_table.specs.Closing.{HasSeat}
+use Rattle.dg_table.proofs.Common.{◌≡◌, ◌+◌, arith, subst, inl, inr, cases_lt, HasSeat}
 use Rattle.dg_table.proofs.held.first_missing.Goals as goal
 
 pub loop-i-preserved : goal.loop-i-preserved

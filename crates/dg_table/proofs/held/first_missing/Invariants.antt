@@ -1,5 +1,4 @@
-use Rattle.std.proofs.Common.{ℕ, ◌≤◌}
-use Rattle.dg_table.specs.Closing.{HasSeat}
+use Rattle.dg_table.proofs.Common.{ℕ, ◌≤◌, HasSeat}
 use Rattle.dg_table.proofs.held.first_missing.Given as goal
 
 abbrev pub invariant-loop-i : goal.invariant-loop-i

@@ -1,5 +1,4 @@
-use Rattle.std.proofs.Common.{◌≡◌, ◌≢◌, ℕ, ◌<◌, slice_get, Some}
-use Rattle.dg_table.specs.Seats.{SeatView}
+use Rattle.dg_table.proofs.Common.{◌≡◌, ◌≢◌, ℕ, ◌<◌, slice_get, Some, SeatView}
 use Rattle.dg_table.proofs.held.has_seat.Given as goal
 
 abbrev pub invariant-loop-seat : goal.invariant-loop-seat

@@ -1,8 +1,4 @@
-use Rattle.std.proofs.Common.{◌≡◌, ◌∙◌, length}
-use Rattle.dg_game.specs.Replies.{Replies}
-use Rattle.dg_game.specs.declared.entry.Request.TheVariants.{Look}
-use Rattle.dg_game.specs.declared.entry.Reply.TheVariants.{Looked}
-use Rattle.dg_game.specs.declared.look.LookData.{LookData}
+use Rattle.dg_table.proofs.Common.{◌≡◌, ◌∙◌, length, Replies, Look, Looked, LookData}
 use Rattle.dg_table.proofs.Findings.{look_asked, look_seen, looked_vertices}
 use Rattle.dg_table.proofs.held.keep_look.Goals as goal
 

@@ -1,4 +1,4 @@
-use Rattle.std.proofs.Common.{◌≡◌, arith}
+use Rattle.dg_tasks.proofs.Common.{◌≡◌, arith}
 use Rattle.dg_tasks.proofs.GreedyTurns.{none_played, turn_named, one_played, all_settled, all_used_up}
 use Rattle.dg_tasks.proofs.games.greedy_lines.Goals as goal
 

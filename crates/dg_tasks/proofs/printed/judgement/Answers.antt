@@ -1,5 +1,4 @@
-use Rattle.std.proofs.Common.{◌≡◌, ◌∙◌, ◌<◌, length, sym, ap, arith}
-use Rattle.dg_lines.proofs.Judging.{judged-named}
+use Rattle.dg_tasks.proofs.Common.{◌≡◌, ◌∙◌, ◌<◌, length, sym, ap, arith, judged-named}
 use Rattle.dg_tasks.proofs.printed.judgement.Goals as goal
 
 pub push_judgement-requires : goal.push_judgement-requires

@@ -1,17 +1,10 @@
-use Rattle.std.proofs.Common.{◌≡◌, arith, rules, w64, to_z, of_z}
-use Rattle.std.specs.Int.RustNames.{FitsSigned}
-use Rattle.std.proofs.lemmas.Int.{ints, to_z-of_z}
-use Rattle.dg_theory.specs.Rank.{less, canonical}
-use Rattle.dg_theory.proofs.RankNumbers.{riemann_roch}
-use Rattle.dg_chips.specs.Vector.{at, IsInRange}
-use Rattle.dg_rank.specs.Ranks.{IsRankInLimits, DualNeedsTooMany}
-use Rattle.dg_tasks.specs.RankTests.{riemann_roch_text, IsRiemannRoch}
+use Rattle.dg_tasks.proofs.Common.{◌≡◌, arith, rules, w64, to_z, of_z, FitsSigned, ints, to_z-of_z, less, canonical, riemann_roch, at, IsInRange, IsRankInLimits, RefusesBothRanks, riemann_roch_text, IsRiemannRoch}
 use Rattle.dg_tasks.proofs.ranks.riemann_roch.Goals as goal
 
 pub returns-in_default-both_ranks_in_limits-clause-refused : goal.returns-in_default-both_ranks_in_limits-clause-refused
 returns-in_default-both_ranks_in_limits-clause-refused c =
     let (size, is_dual, in_range) = c.in_default.ensures in
-    let needs : DualNeedsTooMany c.graph-graph.result.now (at c.divisor-divisor.result.now) = record {
+    let needs : RefusesBothRanks c.graph-graph.result.now (at c.divisor-divisor.result.now) = record {
       in_range = λ v inside. omega (arith, ints, is_dual v inside, in_range v inside);
       either = c.in_default-both_ranks_in_limits.ensures;
     } in

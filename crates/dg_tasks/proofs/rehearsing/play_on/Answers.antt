@@ -1,8 +1,4 @@
-use Rattle.std.proofs.Common.{List, [], ◌∷◌, ◌++◌, length}
-use Rattle.dg_game.specs.declared.entry.Entry.{Entry}
-use Rattle.dg_game.specs.declared.step.Step.{Step}
-use Rattle.dg_game.proofs.ListLaws.{slice_get-seam}
-use Rattle.dg_lines.proofs.Printing.{legal_named}
+use Rattle.dg_tasks.proofs.Common.{List, [], ◌∷◌, ◌++◌, length, Entry, Step, slice_get-seam, legal_named}
 use Rattle.dg_tasks.proofs.UnderWay.{played_more, stopped_at, next_is}
 use Rattle.dg_tasks.proofs.rehearsing.play_on.Goals as goal
 

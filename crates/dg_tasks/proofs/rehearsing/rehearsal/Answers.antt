@@ -1,6 +1,5 @@
-use Rattle.std.proofs.Common.{arith, ap, not, ◌∙◌}
+use Rattle.dg_tasks.proofs.Common.{arith, ap, not, ◌∙◌, Lines}
 use Rattle.dg_lines.specs.Cuts.{lines}
-use Rattle.dg_lines.specs.declared.lines.Lines.{Lines}
 use Rattle.dg_tasks.proofs.UnderWay.{under_way_none, one_played, one_refused, one_passed, lines_read, all_played, first_fault, never_unseated}
 use Rattle.dg_tasks.proofs.rehearsing.rehearsal.Goals as goal
 

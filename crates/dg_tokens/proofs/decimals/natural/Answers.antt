@@ -1,5 +1,5 @@
 -- A text that is refused is the decimal of no number.
-use Rattle.std.proofs.Common.{◌∙◌}
+use Rattle.dg_tokens.proofs.Common.{◌∙◌}
 use Rattle.dg_tokens.proofs.NoDecimals.{no_utf8, no_number, no_decimal}
 use Rattle.dg_tokens.proofs.decimals.natural.Goals as goal
 

@@ -1,7 +1,4 @@
-use Rattle.std.proofs.Common.{arith}
-use Rattle.dg_graph.specs.Sets.{in_set}
-use Rattle.dg_graph.proofs.SetLaws.{in_set-none}
-use Rattle.dg_chips.specs.Vector.{at}
+use Rattle.dg_verdict.proofs.Common.{arith, in_set, in_set-none, at}
 use Rattle.dg_verdict.proofs.Orders.{order-first, order-more, order-done, order-fails}
 use Rattle.dg_verdict.proofs.checking.all_burn.Goals as goal
 

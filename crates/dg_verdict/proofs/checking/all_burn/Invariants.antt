@@ -1,6 +1,4 @@
-use Rattle.std.proofs.Common.{take}
-use Rattle.dg_graph.specs.Sets.{in_set}
-use Rattle.dg_chips.specs.Vector.{at}
+use Rattle.dg_verdict.proofs.Common.{take, in_set, at}
 use Rattle.dg_verdict.proofs.Orders.{IsOrderSoFar}
 use Rattle.dg_verdict.proofs.checking.all_burn.Given as goal
 

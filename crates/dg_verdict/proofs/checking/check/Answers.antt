@@ -1,16 +1,4 @@
-use Rattle.std.proofs.Common.{◌≡◌, true, take, rules, arith, sym}
-use Rattle.std.specs.Prelude.{◌≤ℤ◌}
-use Rattle.std.specs.Int.{w128}
-use lib.Signed.{le_z}
-use mir.Val.{to_z, of_z}
-use Rattle.std.proofs.lemmas.Int.{ints}
-use Rattle.std.proofs.Math.IntN.{pos}
-use Rattle.dg_theory.specs.Reduced.{IsReduced}
-use Rattle.dg_theory.specs.Burning.{BurnsAll}
-use Rattle.dg_theory.specs.Firing.{HasNoDebtOff, FiresTo}
-use Rattle.dg_theory.proofs.BurntWhole.{burns_to_reduced}
-use Rattle.dg_chips.specs.Vector.{at}
-use Rattle.dg_theory.proofs.ReducedLaws.{reduced_decides}
+use Rattle.dg_verdict.proofs.Common.{◌≡◌, true, take, rules, arith, sym, ◌≤ℤ◌, w128, le_z, to_z, of_z, ints, pos, IsReduced, BurnsAll, HasNoDebtOff, FiresTo, burns_to_reduced, at, reduced_decides}
 use Rattle.dg_verdict.proofs.Verdicts.{told_apart}
 use Rattle.dg_verdict.proofs.checking.check.Goals as goal
 

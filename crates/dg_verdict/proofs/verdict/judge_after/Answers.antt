@@ -1,9 +1,4 @@
-use Rattle.std.proofs.Common.{arith, sym, ap, ◌∙◌}
-use Rattle.std.specs.Prelude.{◌≤ℤ◌}
-use Rattle.std.proofs.lemmas.Int.{ints}
-use Rattle.std.proofs.Math.IntN.{ℤ, pos, ◌+ℤ◌}
-use Rattle.dg_theory.specs.Firing.{gain}
-use Rattle.dg_chips.specs.Vector.{at}
+use Rattle.dg_verdict.proofs.Common.{arith, sym, ap, ◌∙◌, ◌≤ℤ◌, ints, ℤ, pos, ◌+ℤ◌, gain, at}
 use Rattle.dg_verdict.proofs.Verdicts.{is_right}
 use Rattle.dg_verdict.proofs.verdict.judge_after.Goals as goal
 

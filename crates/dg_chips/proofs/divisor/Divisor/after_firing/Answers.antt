@@ -1,18 +1,4 @@
-use Rattle.std.proofs.Common.{◌≡◌, ◌∙◌, ℕ, ◌<◌, ◌≤◌, List, length, length-set, get_or-set_other, ◌≢◌, Bool, ap, arith, inl, inr, w32}
-use Rattle.std.specs.List.{slice_index_or}
-use Rattle.std.specs.Prelude.{slice_index}
-use Rattle.std.specs.Int.RustNames.{unsigned_abs}
-use Rattle.std.proofs.Math.IntN.{ℤ, pos, ◌+ℤ◌, ◌-ℤ◌}
-use Rattle.std.proofs.lemmas.Bool.{cases_lt}
-use Rattle.std.proofs.lemmas.Int.{ints}
-use Rattle.std.proofs.lemmas.List.{get_or_past}
-use mir.Val.{to_z, of_z}
-use Rattle.dg_theory.specs.Firing.{Amounts, fired, indicator, gain}
-use Rattle.dg_theory.specs.Multigraph.{Multigraph, valence}
-use Rattle.dg_graph.specs.Graph.{IsGraph}
-use Rattle.dg_graph.specs.Sets.{in_set, IsSetBelow}
-use Rattle.dg_graph.proofs.Valences.{valence-few}
-use Rattle.dg_chips.specs.Vector.{Vector, IsVector, at}
+use Rattle.dg_chips.proofs.Common.{◌≡◌, ◌∙◌, ℕ, ◌<◌, ◌≤◌, List, length, length-set, get_or-set_other, ◌≢◌, Bool, ap, arith, inl, inr, w32, slice_index_or, slice_index, unsigned_abs, ℤ, pos, ◌+ℤ◌, ◌-ℤ◌, cases_lt, ints, get_or_past, to_z, of_z, Amounts, fired, indicator, gain, Multigraph, valence, IsGraph, in_set, IsSetBelow, valence-few, Vector, IsVector, at}
 use Rattle.dg_chips.proofs.VectorLaws.{filled-set, within_all}
 use Rattle.dg_chips.proofs.OneLending.{read_back}
 use Rattle.dg_chips.proofs.SetLending.{set-gain, set-outside, some-few, held_flow, range-more}

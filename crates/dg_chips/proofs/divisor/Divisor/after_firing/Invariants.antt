@@ -1,9 +1,4 @@
-use Rattle.std.proofs.Common.{◌≡◌, ℕ, ◌<◌, ◌≤◌, length, MatchBool}
-use Rattle.std.specs.List.{slice_index_or}
-use Rattle.std.proofs.Math.IntN.{pos}
-use Rattle.dg_theory.specs.Firing.{fired, indicator}
-use Rattle.dg_graph.specs.Sets.{in_set}
-use Rattle.dg_chips.specs.Vector.{at, IsInRange, IsOutOfRange}
+use Rattle.dg_chips.proofs.Common.{◌≡◌, ℕ, ◌<◌, ◌≤◌, length, MatchBool, slice_index_or, pos, fired, indicator, in_set, at, IsInRange, IsOutOfRange}
 use Rattle.dg_chips.proofs.divisor.Divisor.after_firing.Given as goal
 
 abbrev pub invariant-loop-w : goal.invariant-loop-w

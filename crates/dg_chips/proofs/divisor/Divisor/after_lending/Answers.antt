@@ -1,15 +1,4 @@
-use Rattle.std.proofs.Common.{◌≡◌, ◌≢◌, ℕ, ◌+◌, ◌<◌, ◌≤◌, List, length, length-set, slice_set, get_or-set_same, get_or-set_other, arith, inl, inr, sym, ap, subst, ◌∙◌, ⊎_elim, w32}
-use Rattle.std.specs.List.{slice_index_or}
-use Rattle.std.specs.Int.RustNames.{unsigned_abs}
-use Rattle.std.proofs.lemmas.Bool.{cases_eq, cases_lt}
-use Rattle.std.proofs.lemmas.Int.{ints, to_z-of_z}
-use Rattle.std.proofs.lemmas.List.{get_or_past}
-use Rattle.std.proofs.Math.IntN.{ℤ, pos, ◌+ℤ◌, ◌-ℤ◌, ◌*ℤ◌}
-use mir.Val.{to_z, of_z}
-use Rattle.dg_theory.specs.Multigraph.{valence}
-use Rattle.dg_theory.specs.Firing.{Amounts, fired, only_at}
-use Rattle.dg_theory.proofs.Absolute.{within_abs}
-use Rattle.dg_chips.specs.Vector.{Vector, at}
+use Rattle.dg_chips.proofs.Common.{◌≡◌, ◌≢◌, ℕ, ◌+◌, ◌<◌, ◌≤◌, List, length, length-set, slice_set, get_or-set_same, get_or-set_other, arith, inl, inr, sym, ap, subst, ◌∙◌, ⊎_elim, w32, slice_index_or, unsigned_abs, cases_eq, cases_lt, ints, to_z-of_z, get_or_past, ℤ, pos, ◌+ℤ◌, ◌-ℤ◌, ◌*ℤ◌, to_z, of_z, valence, Amounts, fired, only_at, within_abs, Vector, at}
 use Rattle.dg_chips.proofs.VectorLaws.{filled-set, within_all}
 use Rattle.dg_chips.proofs.SetLending.{range-more}
 use Rattle.dg_chips.proofs.OneLending.{fired-lender, fired-outside, held_gain, read_back}

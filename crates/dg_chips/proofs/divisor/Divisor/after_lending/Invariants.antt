@@ -1,10 +1,4 @@
-use Rattle.std.proofs.Common.{◌≡◌, ℕ, ◌<◌, ◌≤◌, length, MatchBool}
-use Rattle.std.specs.List.{slice_index_or}
-use Rattle.std.specs.Int.RustNames.{unsigned_abs}
-use Rattle.std.proofs.Math.IntN.{pos, ◌+ℤ◌, ◌*ℤ◌}
-use Rattle.dg_theory.specs.Multigraph.{edges_between}
-use Rattle.dg_theory.specs.Firing.{fired, only_at}
-use Rattle.dg_chips.specs.Vector.{at, IsInRange, IsOutOfRange}
+use Rattle.dg_chips.proofs.Common.{◌≡◌, ℕ, ◌<◌, ◌≤◌, length, MatchBool, slice_index_or, unsigned_abs, pos, ◌+ℤ◌, ◌*ℤ◌, edges_between, fired, only_at, at, IsInRange, IsOutOfRange}
 use Rattle.dg_chips.proofs.divisor.Divisor.after_lending.Given as goal
 
 abbrev pub invariant-loop-w : goal.invariant-loop-w

@@ -1,5 +1,4 @@
-use Rattle.std.proofs.Common.{arith, below_more}
-use Rattle.std.proofs.lemmas.Int.{ints}
+use Rattle.dg_chips.proofs.Common.{arith, below_more, ints}
 use Rattle.dg_chips.proofs.VectorLaws.{filled_more}
 use Rattle.dg_chips.proofs.divisor.Divisor.canonical.Goals as goal
 

@@ -1,6 +1,4 @@
-use Rattle.std.proofs.Common.{ℕ, ◌<◌, ◌≤◌}
-use Rattle.std.specs.Int.RustNames.{unsigned_abs}
-use Rattle.dg_theory.specs.Rank.{canonical}
+use Rattle.dg_chips.proofs.Common.{ℕ, ◌<◌, ◌≤◌, unsigned_abs, canonical}
 use Rattle.dg_chips.proofs.VectorLaws.{IsFilled}
 use Rattle.dg_chips.proofs.divisor.Divisor.canonical.Given as goal
 

@@ -1,10 +1,4 @@
-use Rattle.std.proofs.Common.{◌≡◌, sym, arith, ap, ◌∙◌, w32, w64}
-use mir.Val.{to_z, of_z}
-use Rattle.std.proofs.lemmas.Int.{ints}
-use Rattle.std.specs.Int.RustNames.{unsigned_abs}
-use Rattle.std.proofs.Math.IntN.{ℤ, ◌+ℤ◌}
-use Rattle.dg_theory.specs.Firing.{only_at}
-use Rattle.dg_chips.specs.Vector.{Vector, at}
+use Rattle.dg_chips.proofs.Common.{◌≡◌, sym, arith, ap, ◌∙◌, w32, w64, to_z, of_z, ints, unsigned_abs, ℤ, ◌+ℤ◌, only_at, Vector, at}
 use Rattle.dg_chips.proofs.FlowLaws.{held_sum}
 use Rattle.dg_chips.proofs.VectorLaws.{one_more, one_written}
 use Rattle.dg_chips.proofs.divisor.Divisor.checked_add_at.Goals as goal

@@ -1,9 +1,4 @@
-use Rattle.std.proofs.Common.{◌*◌, arith, refl, w64}
-use Rattle.std.proofs.Math.IntN.{◌+ℤ◌}
-use mir.Val.{to_z}
-use Rattle.dg_theory.proofs.Absolute.{abs-add}
-use Rattle.dg_theory.proofs.SumLaws.{sum_below-more}
-use Rattle.dg_chips.specs.Vector.{at}
+use Rattle.dg_chips.proofs.Common.{◌*◌, arith, refl, w64, ◌+ℤ◌, to_z, abs-add, sum_below-more, at}
 use Rattle.dg_chips.proofs.FlowLaws.{held}
 use Rattle.dg_chips.proofs.divisor.Divisor.degree.Goals as goal
 

@@ -1,7 +1,4 @@
-use Rattle.std.proofs.Common.{◌≡◌, ◌≤◌, ◌*◌}
-use Rattle.std.specs.Int.RustNames.{unsigned_abs}
-use Rattle.dg_theory.specs.Sums.{sum_below}
-use Rattle.dg_chips.specs.Vector.{at}
+use Rattle.dg_chips.proofs.Common.{◌≡◌, ◌≤◌, ◌*◌, unsigned_abs, sum_below, at}
 use Rattle.dg_chips.proofs.divisor.Divisor.degree.Given as goal
 
 abbrev pub invariant-loop-v : goal.invariant-loop-v

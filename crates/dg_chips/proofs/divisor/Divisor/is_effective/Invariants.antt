@@ -1,7 +1,4 @@
-use Rattle.std.proofs.Common.{ℕ, ◌<◌}
-use Rattle.std.specs.Prelude.{◌≤ℤ◌}
-use Rattle.std.proofs.Math.IntN.{pos}
-use Rattle.dg_chips.specs.Vector.{at}
+use Rattle.dg_chips.proofs.Common.{ℕ, ◌<◌, ◌≤ℤ◌, pos, at}
 use Rattle.dg_chips.proofs.divisor.Divisor.is_effective.Given as goal
 
 abbrev pub invariant-loop-v : goal.invariant-loop-v

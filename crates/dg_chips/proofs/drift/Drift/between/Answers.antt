@@ -1,7 +1,4 @@
-use Rattle.std.proofs.Common.{◌≤◌, arith, below_more}
-use Rattle.std.specs.Int.RustNames.{unsigned_abs}
-use Rattle.std.proofs.lemmas.Int.{ints}
-use Rattle.std.proofs.Math.IntN.{◌-ℤ◌}
+use Rattle.dg_chips.proofs.Common.{◌≤◌, arith, below_more, unsigned_abs, ints, ◌-ℤ◌}
 use Rattle.dg_chips.proofs.VectorLaws.{filled_more}
 use Rattle.dg_chips.proofs.DriftLaws.{scripts_differ}
 use Rattle.dg_chips.proofs.drift.Drift.between.Goals as goal

@@ -1,6 +1,4 @@
-use Rattle.std.proofs.Common.{ℕ, arith, ap, sym, ◌∙◌}
-use Rattle.dg_theory.specs.Firing.{fired}
-use Rattle.dg_chips.specs.Vector.{Vector, at}
+use Rattle.dg_chips.proofs.Common.{ℕ, arith, ap, sym, ◌∙◌, fired, Vector, at}
 use Rattle.dg_chips.proofs.VectorLaws.{within_all}
 use Rattle.dg_chips.proofs.DriftLaws.{same_answer}
 use Rattle.dg_chips.proofs.drift.Drift.leads.Goals as goal

@@ -1,7 +1,4 @@
-use Rattle.std.proofs.Common.{◌≡◌, sym, arith, ap, ◌∙◌}
-use Rattle.std.proofs.Math.IntN.{◌+ℤ◌}
-use Rattle.dg_theory.specs.Firing.{only_at}
-use Rattle.dg_chips.specs.Vector.{Vector, at}
+use Rattle.dg_chips.proofs.Common.{◌≡◌, sym, arith, ap, ◌∙◌, ◌+ℤ◌, only_at, Vector, at}
 use Rattle.dg_chips.proofs.FlowLaws.{held_sum}
 use Rattle.dg_chips.proofs.VectorLaws.{one_more, one_written}
 use Rattle.dg_chips.proofs.drift.Drift.plus_at.Goals as goal

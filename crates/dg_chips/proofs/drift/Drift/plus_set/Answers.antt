@@ -1,6 +1,4 @@
-use Rattle.std.proofs.Common.{arith}
-use Rattle.std.proofs.lemmas.Int.{ints}
-use Rattle.dg_graph.specs.Sets.{in_set}
+use Rattle.dg_chips.proofs.Common.{arith, ints, in_set}
 use Rattle.dg_chips.proofs.VectorLaws.{filled_more}
 use Rattle.dg_chips.proofs.SetLending.{lends-once}
 use Rattle.dg_chips.proofs.drift.Drift.plus_set.Goals as goal

@@ -1,7 +1,4 @@
-use Rattle.std.proofs.Math.IntN.{◌+ℤ◌}
-use Rattle.dg_theory.specs.Firing.{indicator}
-use Rattle.dg_graph.specs.Sets.{in_set}
-use Rattle.dg_chips.specs.Vector.{at}
+use Rattle.dg_chips.proofs.Common.{◌+ℤ◌, indicator, in_set, at}
 use Rattle.dg_chips.proofs.VectorLaws.{IsFilled}
 use Rattle.dg_chips.proofs.drift.Drift.plus_set.Given as goal
 

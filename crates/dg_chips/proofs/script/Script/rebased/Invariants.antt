@@ -1,5 +1,4 @@
-use Rattle.std.proofs.Math.IntN.{◌+ℤ◌, ◌-ℤ◌}
-use Rattle.dg_chips.specs.Vector.{at}
+use Rattle.dg_chips.proofs.Common.{◌+ℤ◌, ◌-ℤ◌, at}
 use Rattle.dg_chips.proofs.VectorLaws.{IsFilled}
 use Rattle.dg_chips.proofs.script.Script.rebased.Given as goal
 

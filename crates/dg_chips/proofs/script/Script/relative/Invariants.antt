@@ -1,5 +1,4 @@
-use Rattle.std.proofs.Math.IntN.{◌-ℤ◌}
-use Rattle.dg_chips.specs.Vector.{at}
+use Rattle.dg_chips.proofs.Common.{◌-ℤ◌, at}
 use Rattle.dg_chips.proofs.VectorLaws.{IsFilled}
 use Rattle.dg_chips.proofs.script.Script.relative.Given as goal
 

@@ -1,7 +1,4 @@
-use Rattle.std.proofs.Common.{◌≤◌, ◌^◌, arith}
-use Rattle.std.specs.Int.RustNames.{unsigned_abs}
-use Rattle.std.proofs.lemmas.Int.{ints}
-use Rattle.dg_chips.specs.Vector.{at}
+use Rattle.dg_chips.proofs.Common.{◌≤◌, ◌^◌, arith, unsigned_abs, ints, at}
 use Rattle.dg_chips.proofs.VectorLaws.{filled_more}
 use Rattle.dg_chips.proofs.wide.Wide.fired.Goals as goal
 

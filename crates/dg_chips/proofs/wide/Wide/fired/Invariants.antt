@@ -1,6 +1,4 @@
-use Rattle.dg_theory.specs.Firing.{fired, indicator, multiple}
-use Rattle.dg_graph.specs.Sets.{in_set}
-use Rattle.dg_chips.specs.Vector.{at}
+use Rattle.dg_chips.proofs.Common.{fired, indicator, multiple, in_set, at}
 use Rattle.dg_chips.proofs.VectorLaws.{IsFilled}
 use Rattle.dg_chips.proofs.wide.Wide.fired.Given as goal
 

@@ -1,4 +1,4 @@
-use Rattle.dg_chips.specs.Vector.{at}
+use Rattle.dg_chips.proofs.Common.{at}
 use Rattle.dg_chips.proofs.VectorLaws.{IsFilled}
 use Rattle.dg_chips.proofs.wide.Wide.of.Given as goal
 

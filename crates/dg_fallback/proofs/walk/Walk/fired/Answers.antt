@@ -1,11 +1,4 @@
-use Rattle.std.proofs.Common.{◌≡◌, ℕ, ◌<◌, arith, ap, refl, ◌∙◌}
-use Rattle.std.specs.Int.{w128}
-use mir.Val.{to_z, of_z}
-use Rattle.std.proofs.Math.IntN.{ℤ, ◌+ℤ◌}
-use Rattle.dg_theory.specs.Firing.{fired, indicator, multiple}
-use Rattle.dg_graph.specs.Sets.{in_set}
-use Rattle.dg_chips.specs.Vector.{at}
-use Rattle.dg_chips.proofs.FlowLaws.{times_held}
+use Rattle.dg_fallback.proofs.Common.{◌≡◌, ℕ, ◌<◌, arith, ap, refl, ◌∙◌, w128, to_z, of_z, ℤ, ◌+ℤ◌, fired, indicator, multiple, in_set, at, times_held}
 use Rattle.dg_fallback.proofs.Ties.{tied-more}
 use Rattle.dg_fallback.proofs.walk.Walk.fired.Goals as goal
 

@@ -1,4 +1,4 @@
-use Rattle.dg_chips.specs.Vector.{at}
+use Rattle.dg_fallback.proofs.Common.{at}
 use Rattle.dg_fallback.proofs.Ties.{tied-start}
 use Rattle.dg_fallback.proofs.walk.Walk.new.Goals as goal
 

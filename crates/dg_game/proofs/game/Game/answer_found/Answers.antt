@@ -1,9 +1,4 @@
-use Rattle.std.proofs.Common.{◌≡◌, List, arith, ap, subst}
-use Rattle.std.specs.List.{slice_index_or}
-use Rattle.std.proofs.Math.IntN.{ℤ, pos}
-use Rattle.dg_chips.specs.Vector.{at}
-use Rattle.dg_verdict.specs.Right.{IsRight}
-use Rattle.dg_game.specs.State.{State}
+use Rattle.dg_game.proofs.Common.{◌≡◌, List, arith, ap, subst, slice_index_or, ℤ, pos, at, IsRight, State}
 use Rattle.dg_game.proofs.LookLaws.{moved_since, judged_after, ranked_after, look_size}
 use Rattle.dg_game.proofs.game.Game.answer_found.Goals as goal
 

@@ -3,11 +3,12 @@ use Rattle.dg_game.proofs.LookLaws.{stale_after}
 use Rattle.dg_game.proofs.game.Game.answer_stale.Goals as goal
 
 pub returns-clause-replies : goal.returns-clause-replies
-returns-clause-replies c = λ o H asks leads look.
-    rw c.gifts.ensures (stale_after o H c.args.self.now c.args.look.now asks leads look c.requires)
+returns-clause-replies c = λ o H leads look.
+    rw (c.request-entry.ensures, c.gifts.ensures)
+    (stale_after o H c.args.self.now c.args.look.now c.args.asks.now leads look c.requires)
 
 pub returns-clause-legal : goal.returns-clause-legal
-returns-clause-legal c = λ o H asks seat leads look legal is.
-    rw c.gifts.ensures
-    (legal_more o H _ legal is (back_on o H c.args.look.now asks look)
-    (stale_after o H c.args.self.now c.args.look.now asks leads look c.requires))
+returns-clause-legal c = λ o H leads look legal is.
+    rw (c.request-entry.ensures, c.gifts.ensures)
+    (legal_more o H _ legal is (back_on o H c.args.look.now c.args.asks.now look)
+    (stale_after o H c.args.self.now c.args.look.now c.args.asks.now leads look c.requires))

@@ -1,8 +1,4 @@
-use Rattle.std.proofs.Common.{◌<◌, sym, subst}
-use Rattle.dg_theory.specs.Firing.{FiresTo, AreEquivalent}
-use Rattle.dg_chips.specs.Vector.{at}
-use Rattle.dg_game.specs.State.{State}
-use Rattle.dg_verdict.proofs.Between.{between_leads}
+use Rattle.dg_game.proofs.Common.{◌<◌, sym, subst, FiresTo, AreEquivalent, at, State, between_leads}
 use Rattle.dg_game.proofs.game.Game.drift_from.Goals as goal
 
 pub returns-2-clause-led : goal.returns-2-clause-led

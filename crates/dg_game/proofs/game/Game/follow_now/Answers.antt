@@ -1,7 +1,4 @@
-use Rattle.std.proofs.Common.{◌≡◌, ℕ, ◌<◌, arith, sym, ap, subst, ◌∙◌}
-use Rattle.dg_theory.specs.Multigraph.{Multigraph}
-use Rattle.dg_theory.proofs.JoinLaws.{size_stays}
-use Rattle.dg_game.specs.State.{State}
+use Rattle.dg_game.proofs.Common.{◌≡◌, ℕ, ◌<◌, arith, sym, ap, subst, ◌∙◌, Multigraph, size_stays, State}
 use Rattle.dg_game.proofs.game.Game.follow_now.Goals as goal
 
 pub invariant_of-self-in-Joined : goal.invariant_of-self-in-Joined

@@ -1,9 +1,4 @@
-use Rattle.std.proofs.Common.{◌≡◌, Bool, true, false, ap, refl, sym, ◌∙◌}
-use Rattle.std.specs.Bool.{OnTrue}
-use Rattle.std.proofs.lemmas.Bool.{and_parts}
-use Rattle.std.proofs.lemmas.Bool.Decides.{Decides-int_eq}
-use Rattle.std.proofs.lemmas.Slice.Eq.{slice_eq-Decides}
-use Rattle.dg_game.specs.State.{State}
+use Rattle.dg_game.proofs.Common.{◌≡◌, Bool, true, false, ap, refl, sym, ◌∙◌, OnTrue, and_parts, Decides-int_eq, slice_eq-Decides, State}
 use Rattle.dg_game.proofs.game.Game.stands_at.Goals as goal
 
 on-true : (b : Bool) (P : Type 0) → (b ≡ true → P) → OnTrue b P

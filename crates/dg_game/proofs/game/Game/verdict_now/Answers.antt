@@ -1,9 +1,4 @@
-use Rattle.std.proofs.Common.{sym, subst}
-use Rattle.dg_theory.specs.Firing.{fired}
-use Rattle.dg_chips.specs.Vector.{at, IsDivisor}
-use Rattle.dg_verdict.specs.Right.{IsRight}
-use Rattle.dg_verdict.proofs.Agreement.{right-cong}
-use Rattle.dg_game.specs.State.{State, IsState}
+use Rattle.dg_game.proofs.Common.{sym, subst, fired, at, IsDivisor, IsRight, right-cong, State, IsState}
 use Rattle.dg_game.proofs.LookLaws.{carried}
 use Rattle.dg_game.proofs.game.Game.verdict_now.Goals as goal
 

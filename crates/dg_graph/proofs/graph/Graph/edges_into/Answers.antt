@@ -1,7 +1,4 @@
-use Rattle.std.proofs.Common.{◌≡◌, ◌≤◌, arith}
-use Rattle.dg_theory.specs.Multigraph.{valence}
-use Rattle.dg_theory.specs.Burning.{edges_into}
-use Rattle.dg_theory.proofs.Debts.{into-le-valence}
+use Rattle.dg_graph.proofs.Common.{◌≡◌, ◌≤◌, arith, valence, edges_into, into-le-valence}
 use Rattle.dg_graph.specs.Sets.{in_set}
 use Rattle.dg_graph.proofs.graph.Graph.edges_into.Goals as goal
 

@@ -1,7 +1,4 @@
-use Rattle.std.proofs.Common.{◌≡◌, ◌≤◌, arith}
-use Rattle.dg_theory.specs.Multigraph.{valence}
-use Rattle.dg_theory.specs.Reduced.{edges_out}
-use Rattle.dg_theory.proofs.Debts.{out-le-valence}
+use Rattle.dg_graph.proofs.Common.{◌≡◌, ◌≤◌, arith, valence, edges_out, out-le-valence}
 use Rattle.dg_graph.specs.Sets.{in_set}
 use Rattle.dg_graph.proofs.graph.Graph.edges_out.Goals as goal
 

@@ -1,7 +1,4 @@
-use Rattle.std.proofs.Common.{◌≡◌, ◌*◌, ◌≤◌}
-use Rattle.std.specs.Prelude.{if◌then◌else◌}
-use Rattle.dg_theory.specs.Sums.{total_below}
-use Rattle.dg_theory.specs.Multigraph.{edges_between}
+use Rattle.dg_graph.proofs.Common.{if◌then◌else◌, ◌≡◌, ◌*◌, ◌≤◌, total_below, edges_between}
 use Rattle.dg_graph.specs.Sets.{in_set}
 use Rattle.dg_graph.proofs.graph.Graph.edges_out.Given as goal
 

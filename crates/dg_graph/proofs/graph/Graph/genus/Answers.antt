@@ -1,4 +1,4 @@
-use Rattle.std.proofs.Common.{arith}
+use Rattle.dg_graph.proofs.Common.{arith}
 use Rattle.dg_graph.proofs.Genus.{genus_fits}
 use Rattle.dg_graph.proofs.graph.Graph.genus.Goals as goal
 

@@ -1,49 +1,42 @@
-use Rattle.std.proofs.Common.{arith}
-use Rattle.dg_graph.proofs.Joined.{joinable, edges_few, edges_few_back, joined_is, joined_graph}
+use Rattle.dg_graph.proofs.Common.{ℕ, ◌≡◌, Multigraph, IsJoinable}
+use Rattle.dg_graph.proofs.Joined.{edges_few, edges_few_back, joined_is, joined_graph}
 use Rattle.dg_graph.proofs.graph.Graph.join.Goals as goal
+
+fits : {g h : Multigraph} {x y u v : ℕ} → g ≡ h → x ≡ u → y ≡ v → IsJoinable h u v → IsJoinable g x y
+fits graph first second joinable = rw (graph, first, second) joinable
 
 pub with_one_more-once-requires-clause-few : goal.with_one_more-once-requires-clause-few
 with_one_more-once-requires-clause-few c =
-    let fits = joinable _ _ c.from-u.result c.from-v.result c.self.view_is (omega (arith, c.if-u-self.false))
-    (omega (arith, c.if-v-self.false))
-    c.if-u-v.false c.if-is_full.ensures c.if-is_full-2.ensures in
+    let fit = fits c.self.view_is c.from-u.ensures c.from-v.ensures c.in_ok-may_join.ensures in
     edges_few (record { size = c.self.inside.size; table = c.self.inside.table }) c.from-u.result c.from-v.result
-    fits.second fits.first_room
+    fit.second fit.first_room
 
 pub with_one_more-table-requires-clause-few : goal.with_one_more-table-requires-clause-few
 with_one_more-table-requires-clause-few c =
-    let fits = joinable _ _ c.from-u.result c.from-v.result c.self.view_is (omega (arith, c.if-u-self.false))
-    (omega (arith, c.if-v-self.false))
-    c.if-u-v.false c.if-is_full.ensures c.if-is_full-2.ensures in
     rw c.with_one_more-once.ensures
     (edges_few_back (record { size = c.self.inside.size; table = c.self.inside.table }) c.from-u.result c.from-v.result
-    fits)
+    (fits c.self.view_is c.from-u.ensures c.from-v.ensures c.in_ok-may_join.ensures))
 
 pub valences_of-valences-requires : goal.valences_of-valences-requires
 valences_of-valences-requires c =
-    let fits = joinable _ _ c.from-u.result c.from-v.result c.self.view_is (omega (arith, c.if-u-self.false))
-    (omega (arith, c.if-v-self.false))
-    c.if-u-v.false c.if-is_full.ensures c.if-is_full-2.ensures in
-    joined_graph _ _ _ _ _ c.self.invariant.graph fits c.with_one_more-once.ensures c.with_one_more-table.ensures
+    joined_graph _ _ _ _ _ c.self.invariant.graph
+    (fits c.self.view_is c.from-u.ensures c.from-v.ensures c.in_ok-may_join.ensures)
+    c.with_one_more-once.ensures c.with_one_more-table.ensures
 
 pub invariant_of-result : goal.invariant_of-result
-invariant_of-result c =
-    let fits = joinable _ _ c.from-u.result c.from-v.result c.self.view_is (omega (arith, c.if-u-self.false))
-    (omega (arith, c.if-v-self.false))
-    c.if-u-v.false c.if-is_full.ensures c.if-is_full-2.ensures in
-    record {
-      graph = joined_graph _ _ _ _ _ c.self.invariant.graph fits c.with_one_more-once.ensures
-          c.with_one_more-table.ensures;
-      valences = c.valences_of-valences.ensures;
-    }
+invariant_of-result c = record {
+  graph =
+      joined_graph _ _ _ _ _ c.self.invariant.graph
+      (fits c.self.view_is c.from-u.ensures c.from-v.ensures c.in_ok-may_join.ensures)
+      c.with_one_more-once.ensures c.with_one_more-table.ensures;
+  valences = c.valences_of-valences.ensures;
+}
 
 pub returns : goal.returns
 returns c =
-    let fits = joinable _ _ c.from-u.result c.from-v.result c.self.view_is (omega (arith, c.if-u-self.false))
-    (omega (arith, c.if-v-self.false))
-    c.if-u-v.false c.if-is_full.ensures c.if-is_full-2.ensures in
+    let fit = fits c.self.view_is c.from-u.ensures c.from-v.ensures c.in_ok-may_join.ensures in
     rw (← c.self.view_is, ← c.from-u.ensures, ← c.from-v.ensures) (
       joined_is _ _ _ _ _ c.with_one_more-once.ensures c.with_one_more-table.ensures,
-      joined_graph _ _ _ _ _ c.self.invariant.graph fits c.with_one_more-once.ensures c.with_one_more-table.ensures,
-      fits,
+      joined_graph _ _ _ _ _ c.self.invariant.graph fit c.with_one_more-once.ensures c.with_one_more-table.ensures,
+      fit,
     )

@@ -1,4 +1,4 @@
-use Rattle.std.proofs.Common.{arith, refl}
+use Rattle.dg_graph.proofs.Common.{arith, refl}
 use Rattle.dg_graph.proofs.Given.{cells-symmetric, cells-high, cells-exact, cells-parted, cells-graph}
 use Rattle.dg_graph.proofs.graph.Graph.new.Goals as goal
 

@@ -1,5 +1,4 @@
-use Rattle.std.proofs.Common.{ap, ◌∙◌}
-use Rattle.std.specs.Prelude.{slice_index}
+use Rattle.dg_graph.proofs.Common.{ap, ◌∙◌, slice_index}
 use Rattle.dg_graph.specs.Valences.{valences_of}
 use Rattle.dg_graph.proofs.Valences.{valences_of-all}
 use Rattle.dg_graph.proofs.graph.Graph.valences.Goals as goal

@@ -1,5 +1,5 @@
 -- The first line, and the lines of what stands after its newline.
-use Rattle.std.proofs.Common.{◌<◌, length, refl, sym, ap, arith}
+use Rattle.dg_lines.proofs.Common.{◌<◌, length, refl, sym, ap, arith}
 use Rattle.dg_lines.specs.Cuts.{lines}
 use Rattle.dg_lines.proofs.Cutting.{lines_step}
 use Rattle.dg_lines.proofs.lines.LinesIterator.next.Goals as goal

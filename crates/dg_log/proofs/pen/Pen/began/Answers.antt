@@ -1,7 +1,4 @@
-use Rattle.std.proofs.Common.{◌≡◌, ◌≤◌, length, map, ap, subst, arith}
-use Rattle.std.proofs.lemmas.List.{length-map}
-use Rattle.dg_log.specs.Written.{Written}
-use Rattle.dg_log.specs.Numbered.{IsBeginning}
+use Rattle.dg_log.proofs.Common.{◌≡◌, ◌≤◌, length, map, ap, subst, arith, length-map, Written, IsBeginning}
 use Rattle.dg_log.proofs.ReceiptSets.{began}
 use Rattle.dg_log.proofs.pen.Pen.began.Goals as goal
 

@@ -1,7 +1,4 @@
-use Rattle.std.proofs.Common.{◌≡◌, length, map, ap, subst, sym}
-use Rattle.dg_log.specs.ReceiptSets.{said_by}
-use Rattle.dg_log.specs.Written.{Written}
-use Rattle.dg_log.specs.Numbered.{AreBelow, StandIn}
+use Rattle.dg_log.proofs.Common.{◌≡◌, length, map, ap, subst, sym, said_by, Written, AreBelow, StandIn}
 use Rattle.dg_log.proofs.ReceiptSets.{stands}
 use Rattle.dg_log.proofs.pen.Pen.holds.Goals as goal
 

@@ -1,11 +1,6 @@
-use Rattle.std.proofs.Common.{◌≡◌, ◌+◌, ◌<◌, [], ◌∷◌, ◌++◌, length, map, ℕ, Some, slice_get, arith, ap, sym, ◌∙◌, subst, length-append}
-use Rattle.std.proofs.lemmas.Option.{slice_get_within}
-use Rattle.dg_game.specs.declared.entry.Entry.{Entry}
+use Rattle.dg_log.proofs.Common.{◌≡◌, ◌+◌, ◌<◌, [], ◌∷◌, ◌++◌, length, map, ℕ, Some, slice_get, arith, ap, sym, ◌∙◌, subst, length-append, slice_get_within, Entry, Written, cell_name, length-map}
 use Rattle.dg_log.proofs.ReceiptSets.{cells_more}
 use Rattle.dg_log.proofs.Cells.{cell_named}
-use Rattle.dg_log.specs.Written.{Written}
-use Rattle.once_cell.specs.Once.{cell_name}
-use Rattle.std.proofs.lemmas.List.{length-map}
 use Rattle.dg_log.proofs.pen.Pen.put.Goals as goal
 
 -- src/pen.rt:60:5

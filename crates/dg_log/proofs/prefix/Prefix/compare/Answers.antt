@@ -1,6 +1,4 @@
-use Rattle.std.proofs.Common.{◌≡◌, length, map, subst, arith, inl, inr}
-use Rattle.std.proofs.lemmas.Bool.{cases_lt}
-use Rattle.dg_log.specs.Numbered.{IsBeginning}
+use Rattle.dg_log.proofs.Common.{◌≡◌, length, map, subst, arith, inl, inr, cases_lt, IsBeginning}
 use Rattle.dg_log.proofs.ReceiptSets.{began}
 use Rattle.dg_log.proofs.prefix.Prefix.compare.Goals as goal
 

@@ -1,6 +1,4 @@
-use Rattle.std.proofs.Common.{◌≡◌, length, map, ap, subst, arith}
-use Rattle.std.proofs.lemmas.List.{length-map}
-use Rattle.dg_log.specs.Numbered.{IsBeginning}
+use Rattle.dg_log.proofs.Common.{◌≡◌, length, map, ap, subst, arith, length-map, IsBeginning}
 use Rattle.dg_log.proofs.ReceiptSets.{began, longer_first, longer_second}
 use Rattle.dg_log.proofs.prefix.Prefix.longer.Goals as goal
 

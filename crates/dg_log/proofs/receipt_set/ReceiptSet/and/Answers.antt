@@ -1,6 +1,4 @@
-use Rattle.std.proofs.Common.{◌≡◌, ℕ, ◌+◌, [], ◌∷◌, ◌++◌, Some, slice_get, rules, ap, ◌∙◌, sym}
-use Rattle.dg_game.specs.declared.entry.Entry.{Entry}
-use Rattle.dg_log.specs.ReceiptSets.{said_by}
+use Rattle.dg_log.proofs.Common.{◌≡◌, ℕ, ◌+◌, [], ◌∷◌, ◌++◌, Some, slice_get, rules, ap, ◌∙◌, sym, Entry, said_by}
 use Rattle.dg_log.proofs.ReceiptSets.{said_more, named_more, end_more, end_same}
 use Rattle.dg_log.proofs.receipt_set.ReceiptSet.and.Goals as goal
 use Rattle.dg_log.proofs.receipt_set.ReceiptSet.and.Goals.{then-prefix-self, else-prefix-self}

@@ -1,6 +1,4 @@
-use Rattle.std.proofs.Common.{◌≡◌, length, arith, sym}
-use Rattle.std.proofs.lemmas.Bool.Decides.{nat_tests}
-use Rattle.dg_log.specs.ReceiptSets.{said_by}
+use Rattle.dg_log.proofs.Common.{◌≡◌, length, arith, sym, nat_tests, said_by}
 use Rattle.dg_log.proofs.ReceiptSets.{below_up, named_below}
 use Rattle.dg_log.proofs.receipt_set.ReceiptSet.below.Goals as goal
 

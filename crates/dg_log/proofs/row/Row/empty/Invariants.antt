@@ -1,5 +1,4 @@
-use Rattle.std.proofs.Common.{◌≡◌}
-use Rattle.std.specs.Vec.{vec_len}
+use Rattle.dg_log.proofs.Common.{◌≡◌, vec_len}
 use Rattle.dg_log.proofs.row.Row.empty.Given as goal
 
 -- As many cells as turns.

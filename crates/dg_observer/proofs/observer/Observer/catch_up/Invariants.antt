@@ -1,4 +1,4 @@
-use Rattle.std.proofs.Common.{◌≡◌, ◌++◌, ◌-◌, List, length}
+use Rattle.dg_observer.proofs.Common.{◌≡◌, ◌++◌, ◌-◌, List, length}
 use Rattle.dg_game.specs.declared.entry.Entry.{Entry as EntryData}
 use Rattle.dg_observer.proofs.observer.Observer.catch_up.Given as goal
 

@@ -1,7 +1,4 @@
-use Rattle.std.proofs.Common.{◌≡◌, ◌<◌, ◌+◌, ℕ, List, [], ◌∷◌, ◌++◌, length, map, arith, sym, ap, subst, ◌∙◌, length-append}
-use Rattle.std.proofs.lemmas.List.{length-map, map-append}
-use Rattle.dg_game.specs.declared.entry.Entry.{Entry}
-use Rattle.dg_observer.specs.Folds.{Observed}
+use Rattle.dg_observer.proofs.Common.{◌≡◌, ◌<◌, ◌+◌, ℕ, List, [], ◌∷◌, ◌++◌, length, map, arith, sym, ap, subst, ◌∙◌, length-append, length-map, map-append, Entry, Observed}
 use Rattle.dg_observer.proofs.Reading.{folds_more, numbered_more}
 use Rattle.dg_observer.proofs.observer.Observer.fold.Goals as goal
 

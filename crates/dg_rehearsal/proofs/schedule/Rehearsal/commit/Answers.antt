@@ -1,6 +1,4 @@
-use Rattle.std.proofs.Common.{refl}
-use Rattle.dg_game.specs.declared.step.Command.TheVariants.{Commit}
-use Rattle.dg_game.proofs.LookLaws.{look_fits, look_vertices}
+use Rattle.dg_rehearsal.proofs.Common.{refl, Commit, look_fits, look_vertices}
 use Rattle.dg_rehearsal.proofs.RehearsalLaws.{aimed}
 use Rattle.dg_rehearsal.proofs.schedule.Rehearsal.commit.Goals as goal
 
@@ -26,16 +24,16 @@ judge_look_with_inverse-finding-requires-clause-vertex c =
     let (kept, look) = c.in-Some.ensures o H steps playing in
     rw (look_vertices o H _ _ playing.leads look) c.q-q.ensures.vertex
 
-pub enter-requires-clause-playing : goal.enter-requires-clause-playing
-enter-requires-clause-playing c =
+pub enter_finding-requires-clause-playing : goal.enter_finding-requires-clause-playing
+enter_finding-requires-clause-playing c =
     let (o, H, steps, playing) = c.requires.playing in
     (o, H, steps, aimed o H steps c.args.self.now _ refl refl refl playing, c.in-Some.ensures o H steps playing)
 
-pub enter-requires-clause-found : goal.enter-requires-clause-found
-enter-requires-clause-found c = rw c.q-q.ensures.q at c.judge_look_with_inverse-finding.ensures.found
+pub enter_finding-requires-clause-found : goal.enter_finding-requires-clause-found
+enter_finding-requires-clause-found c = rw c.q-q.ensures.q at c.judge_look_with_inverse-finding.ensures.found
 
 pub returns-clause-plays : goal.returns-clause-plays
 returns-clause-plays c = λ o H steps playing there.
     let keeps = c.in-Some.ensures o H steps playing in
-    c.enter.ensures o H steps Commit (aimed o H steps c.args.self.now _ refl refl refl playing) keeps there tt tt
+    c.enter_finding.ensures o H steps Commit (aimed o H steps c.args.self.now _ refl refl refl playing) keeps there tt tt
     (c.in-Some.look.number, keeps.0, c.judge_look_with_inverse-finding.ensures.asks c.in-Some.look.number)

@@ -1,4 +1,4 @@
-use Rattle.std.proofs.Common.{refl, ◌∙◌}
+use Rattle.dg_rehearsal.proofs.Common.{refl, ◌∙◌}
 use Rattle.dg_rehearsal.proofs.RehearsalLaws.{playing_none}
 use Rattle.dg_rehearsal.proofs.schedule.Rehearsal.new.Goals as goal
 

@@ -1,7 +1,4 @@
-use Rattle.std.proofs.Common.{◌≡◌, length, slice_get, Some, ap, ◌∙◌}
-use Rattle.std.proofs.lemmas.Result.{MatchResult-weaker}
-use Rattle.dg_game.specs.declared.step.Command.{Command}
-use Rattle.dg_game.specs.declared.step.Command.TheVariants.{Call}
+use Rattle.dg_rehearsal.proofs.Common.{◌≡◌, length, slice_get, Some, ap, ◌∙◌, MatchResult-weaker, Command, Call}
 use Rattle.dg_rehearsal.proofs.schedule.Rehearsal.play.Goals as goal
 
 pub returns-in-Some-clause-plays : goal.returns-in-Some-clause-plays

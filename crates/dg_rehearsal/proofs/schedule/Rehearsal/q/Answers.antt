@@ -1,4 +1,4 @@
-use Rattle.std.proofs.Common.{sym, ◌∙◌}
+use Rattle.dg_rehearsal.proofs.Common.{sym, ◌∙◌}
 use Rattle.dg_rehearsal.proofs.schedule.Rehearsal.q.Goals as goal
 
 pub returns-clause-q : goal.returns-clause-q

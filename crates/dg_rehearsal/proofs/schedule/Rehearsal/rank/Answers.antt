@@ -1,9 +1,5 @@
-use Rattle.std.proofs.Common.{◌≡◌, arith, rules, ap, ◌∙◌}
-use Rattle.dg_theory.specs.Multigraph.{Multigraph}
-use Rattle.dg_game.specs.declared.step.Command.TheVariants.{Rank}
-use Rattle.dg_game.proofs.LookLaws.{look_fits, look_vertices}
+use Rattle.dg_rehearsal.proofs.Common.{◌≡◌, arith, rules, ap, ◌∙◌, Multigraph, Rank, look_fits, look_vertices, vertices_stay}
 use Rattle.dg_rehearsal.proofs.RehearsalLaws.{past_limits}
-use Rattle.dg_game.proofs.StepLaw.{vertices_stay}
 use Rattle.dg_rehearsal.proofs.schedule.Rehearsal.rank.Goals as goal
 
 pub rank_look-requires-clause-size : goal.rank_look-requires-clause-size
@@ -18,13 +14,13 @@ rank_look-requires-clause-vertex c =
     let (kept, look) = c.in-Some.ensures o H steps playing in
     rw (look_vertices o H _ _ playing.leads look) c.q.ensures.vertex
 
-pub enter-requires-clause-playing : goal.enter-requires-clause-playing
-enter-requires-clause-playing c =
+pub enter_finding-requires-clause-playing : goal.enter_finding-requires-clause-playing
+enter_finding-requires-clause-playing c =
     let (o, H, steps, playing) = c.requires.playing in
     (o, H, steps, playing, c.in-Some.ensures o H steps playing)
 
-pub enter-requires-clause-found : goal.enter-requires-clause-found
-enter-requires-clause-found c = let (within, found, asks) = c.in-Ok.ensures in rw c.q.ensures.q at found
+pub enter_finding-requires-clause-found : goal.enter_finding-requires-clause-found
+enter_finding-requires-clause-found c = let (within, found, asks) = c.in-Ok.ensures in rw c.q.ensures.q at found
 
 pub returns-in_default-rank_look-clause-plays : goal.returns-in_default-rank_look-clause-plays
 returns-in_default-rank_look-clause-plays c = (
@@ -48,5 +44,5 @@ returns-clause-plays c = λ o H steps playing there.
     let size : c.in-Some.look.graph.size ≡ o.graph.size =
     look_vertices o H _ _ playing.leads keeps.1 ∙ ap (λ (g : Multigraph). g.size) playing.leads.graph
     ∙ vertices_stay o H in
-    c.enter.ensures o H steps (Rank c.args.k) playing keeps there tt (rw size at within)
+    c.enter_finding.ensures o H steps (Rank c.args.k) playing keeps there tt (rw size at within)
     (c.in-Some.look.number, keeps.0, asks c.in-Some.look.number)

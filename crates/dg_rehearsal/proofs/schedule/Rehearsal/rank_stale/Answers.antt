@@ -1,9 +1,5 @@
-use Rattle.std.proofs.Common.{◌≡◌, arith, rules, ap, ◌∙◌, refl}
-use Rattle.dg_theory.specs.Multigraph.{Multigraph}
-use Rattle.dg_game.specs.declared.step.Command.TheVariants.{Rank}
-use Rattle.dg_game.proofs.LookLaws.{look_vertices}
+use Rattle.dg_rehearsal.proofs.Common.{◌≡◌, arith, rules, ap, ◌∙◌, refl, Multigraph, Rank, look_vertices, vertices_stay}
 use Rattle.dg_rehearsal.proofs.RehearsalLaws.{past_limits}
-use Rattle.dg_game.proofs.StepLaw.{vertices_stay}
 use Rattle.dg_rehearsal.proofs.schedule.Rehearsal.rank_stale.Goals as goal
 
 pub enter_stale-requires-clause-playing : goal.enter_stale-requires-clause-playing

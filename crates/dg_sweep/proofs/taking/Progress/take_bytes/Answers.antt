@@ -1,4 +1,4 @@
-use Rattle.dg_lines.proofs.Streams.{part_plain, part_whole, part_line}
+use Rattle.dg_sweep.proofs.Common.{part_plain, part_whole, part_line}
 use Rattle.dg_sweep.proofs.Taken.{takes_part, takes_lines}
 use Rattle.dg_sweep.proofs.taking.Progress.take_bytes.Goals as goal
 

@@ -1,5 +1,4 @@
-use Rattle.std.proofs.Common.{◌≡◌, ◌≢◌, [], arith, rules, tests}
-use Rattle.std.proofs.lemmas.Grind.{common_steps}
+use Rattle.dg_sweep.proofs.Common.{◌≡◌, ◌≢◌, [], arith, rules, tests, common_steps}
 use Rattle.dg_sweep.proofs.Taken.{nothing, takes_no_end, takes_end}
 use Rattle.dg_sweep.proofs.taking.Progress.take_end.Goals as goal
 

@@ -1,6 +1,5 @@
 -- What is behind `at` was taken, and no write has failed since.
-use Rattle.std.proofs.Common.{◌≡◌, length, ◌-◌, ◌≤◌, take}
-use Rattle.std.specs.Io.KnownBytes.{Appends}
+use Rattle.dg_system.proofs.Common.{◌≡◌, length, ◌-◌, ◌≤◌, take, Appends}
 use Rattle.dg_system.proofs.output.Output.write_whole.Given as goal
 
 abbrev pub invariant-writes : goal.invariant-writes

@@ -1,6 +1,4 @@
-use Rattle.std.proofs.Common.{[], ◌∷◌, ◌++◌, take, sym, ap, ◌∙◌}
-use Rattle.std.proofs.lemmas.List.{take_more}
-use Rattle.std.proofs.lemmas.Option.{slice_get_within, get_or_from_slice_get}
+use Rattle.dg_table.proofs.Common.{[], ◌∷◌, ◌++◌, take, sym, ap, ◌∙◌, take_more, slice_get_within, get_or_from_slice_get}
 use Rattle.dg_table.proofs.audit.Audit.history.Goals as goal
 
 pub loop-number-preserved : goal.loop-number-preserved

@@ -1,4 +1,4 @@
-use Rattle.std.proofs.Common.{◌≡◌, take}
+use Rattle.dg_table.proofs.Common.{◌≡◌, take}
 use Rattle.dg_table.proofs.audit.Audit.history.Given as goal
 
 abbrev pub invariant-loop-number : goal.invariant-loop-number

@@ -1,5 +1,4 @@
-use Rattle.std.proofs.Common.{rules}
-use Rattle.dg_table.specs.Seats.{IsAdmissible}
+use Rattle.dg_table.proofs.Common.{rules, IsAdmissible}
 use Rattle.dg_table.proofs.Entries.{all_own}
 use Rattle.dg_table.proofs.Numbered.{begins_on}
 use Rattle.dg_table.proofs.held.Held.admits.Goals as goal

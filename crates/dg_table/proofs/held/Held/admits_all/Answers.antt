@@ -1,7 +1,4 @@
-use Rattle.std.proofs.Common.{◌≡◌, ◌<◌, arith, refl, sym, ap, subst, ◌∙◌, inl, inr, length, slice_get, Some}
-use Rattle.std.proofs.lemmas.Bool.{cases_lt}
-use Rattle.std.proofs.lemmas.Option.{slice_get_within, slice_get_read, same_Some}
-use Rattle.dg_table.specs.Seats.{Holds}
+use Rattle.dg_table.proofs.Common.{◌≡◌, ◌<◌, arith, refl, sym, ap, subst, ◌∙◌, inl, inr, length, slice_get, Some, cases_lt, slice_get_within, slice_get_read, same_Some, Holds}
 use Rattle.dg_table.proofs.held.Held.admits_all.Goals as goal
 
 pub loop-seat-preserved : goal.loop-seat-preserved

@@ -1,5 +1,4 @@
-use Rattle.std.proofs.Common.{◌≡◌, ℕ, ◌<◌, slice_get, Some}
-use Rattle.dg_table.specs.Seats.{SeatView, Holds}
+use Rattle.dg_table.proofs.Common.{◌≡◌, ℕ, ◌<◌, slice_get, Some, SeatView, Holds}
 use Rattle.dg_table.proofs.held.Held.admits_all.Given as goal
 
 abbrev pub invariant-loop-seat : goal.invariant-loop-seat

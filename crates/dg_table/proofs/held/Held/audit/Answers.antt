@@ -1,4 +1,4 @@
-use Rattle.std.proofs.Common.{refl}
+use Rattle.dg_table.proofs.Common.{refl}
 use Rattle.dg_table.proofs.Totals.{totals}
 use Rattle.dg_table.proofs.held.Held.audit.Goals as goal
 

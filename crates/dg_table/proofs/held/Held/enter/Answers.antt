@@ -1,11 +1,4 @@
-use Rattle.std.proofs.Common.{◌≡◌, ℕ, [], ◌∷◌, ◌++◌, length, arith, refl, sym, ap, subst, ◌∙◌}
-use Rattle.dg_game.specs.Replies.{Replies}
-use Rattle.dg_game.specs.State.{LeadsTo}
-use Rattle.dg_game.specs.declared.entry.Entry.{Entry}
-use Rattle.dg_game.proofs.StateLaws.{right_in}
-use Rattle.dg_log.specs.Written.{Written}
-use Rattle.dg_table.specs.Histories.{IsHistoryOf}
-use Rattle.dg_table.specs.Lock.{IsKeptLook}
+use Rattle.dg_table.proofs.Common.{◌≡◌, ℕ, [], ◌∷◌, ◌++◌, length, arith, refl, sym, ap, subst, ◌∙◌, Replies, LeadsTo, Entry, right_in, Written, IsHistoryOf, IsKeptLook}
 use Rattle.dg_table.proofs.Steps.{held_more, history_more, kept_more, answered}
 use Rattle.dg_table.proofs.Totals.{history_of}
 use Rattle.dg_table.proofs.held.Held.enter.Goals as goal

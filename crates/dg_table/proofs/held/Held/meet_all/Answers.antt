@@ -1,8 +1,4 @@
-use Rattle.std.proofs.Common.{◌≡◌, ◌≢◌, ◌<◌, arith, refl, sym, ap, ◌∙◌, inl, inr, length, slice_get, Some}
-use Rattle.std.specs.List.{slice_set}
-use Rattle.std.proofs.lemmas.Bool.{cases_lt}
-use Rattle.std.proofs.lemmas.Option.{slice_get_within, slice_get_read, same_Some}
-use Rattle.dg_table.specs.Seats.{SeatView}
+use Rattle.dg_table.proofs.Common.{◌≡◌, ◌≢◌, ◌<◌, arith, refl, sym, ap, ◌∙◌, inl, inr, length, slice_get, Some, slice_set, cases_lt, slice_get_within, slice_get_read, same_Some, SeatView}
 use Rattle.dg_table.proofs.Placed.{get_set, get_other, length_set}
 use Rattle.dg_table.proofs.held.Held.meet_all.Goals as goal
 

@@ -1,5 +1,4 @@
-use Rattle.std.proofs.Common.{◌≡◌, ℕ, ◌<◌, ◌≤◌, length, slice_get, Some}
-use Rattle.dg_table.specs.Seats.{SeatView, Meets}
+use Rattle.dg_table.proofs.Common.{◌≡◌, ℕ, ◌<◌, ◌≤◌, length, slice_get, Some, SeatView, Meets}
 use Rattle.dg_table.proofs.held.Held.meet_all.Given as goal
 
 abbrev pub invariant-loop-seat : goal.invariant-loop-seat

@@ -1,5 +1,4 @@
-use Rattle.std.proofs.Common.{ℕ, arith}
-use Rattle.std.proofs.lemmas.List.{get_or-replicate, length-replicate}
+use Rattle.dg_table.proofs.Common.{ℕ, arith, get_or-replicate, length-replicate}
 use Rattle.dg_table.proofs.Steps.{held_none}
 use Rattle.dg_table.proofs.held.Held.new.Goals as goal
 

@@ -1,4 +1,4 @@
-use Rattle.std.proofs.Common.{◌≡◌, length, arith, refl}
+use Rattle.dg_table.proofs.Common.{◌≡◌, length, arith, refl}
 use Rattle.dg_table.proofs.Entries.{own_stand}
 use Rattle.dg_table.proofs.Numbered.{begins_on}
 use Rattle.dg_table.proofs.Totals.{history_of}

@@ -1,6 +1,4 @@
-use Rattle.std.proofs.Common.{◌<◌, length, rules}
-use Rattle.std.proofs.lemmas.Option.{slice_get_within}
-use Rattle.dg_game.specs.Look.{KeepsFinding}
+use Rattle.dg_table.proofs.Common.{◌<◌, length, rules, slice_get_within, KeepsFinding}
 use Rattle.dg_table.proofs.Findings.{look_stands}
 use Rattle.dg_table.proofs.Steps.{settling_refused, settled}
 use Rattle.dg_table.proofs.held.Held.settle.Goals as goal
@@ -24,7 +22,7 @@ enter-requires-clause-replies g c =
     let held = rw c.self.view_is at c.self.invariant.0 in
     let look = look_stands g.N.Name.table.start H c.args.look.now c.args.shown.now held.legal c.requires.look
     c.in-Ok.ensures.1 in
-    rw c.request-entry.ensures (c.answer_finding.ensures.replies g.N.Name.table.start H held.game' look)
+    c.answer_finding.ensures.replies g.N.Name.table.start H held.game' look
 
 pub enter-requires-clause-legal : goal.enter-requires-clause-legal
 enter-requires-clause-legal g c =
@@ -32,9 +30,8 @@ enter-requires-clause-legal g c =
     let held = rw c.self.view_is at c.self.invariant.0 in
     let look = look_stands g.N.Name.table.start H c.args.look.now c.args.shown.now held.legal c.requires.look
     c.in-Ok.ensures.1 in
-    rw (c.request-entry.ensures, c.number-entry.ensures)
-    (c.answer_finding.ensures.legal g.N.Name.table.start H c.args.seat.now.number held.game' look held.legal
-    c.in-Ok.ensures.0.seat)
+    c.answer_finding.ensures.legal g.N.Name.table.start H held.game' look held.legal
+    (rw c.number.ensures c.in-Ok.ensures.0.seat)
 
 pub returns-in_err-receipt-clause-refused : goal.returns-in_err-receipt-clause-refused
 returns-in_err-receipt-clause-refused g c =
@@ -55,7 +52,7 @@ returns-clause-settled g c =
     rw c.in_ok-receipt.ensures.reply c.answer_finding.ensures.kept in (
       settled g.N.Name.table H c.args.look.now c.args.shown.now c.args.finding.now c.in_ok-receipt.receipt
           c.args.seat.now c.enter.new.seat
-          c.hear.new.self (rw c.request-entry.ensures at entered.0) c.requires.look c.in-Ok.ensures.1
+          c.hear.new.self (rw c.answer_finding.ensures.request at entered.0) c.requires.look c.in-Ok.ensures.1
           kept c.hear.ensures.number c.hear.ensures.mine c.hear.ensures.told c.hear.ensures.prefix c.hear.ensures.met,
       entered.1,
     )

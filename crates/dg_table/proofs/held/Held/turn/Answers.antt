@@ -9,6 +9,5 @@ returns-in-Err-clause-asked g c =
 pub enter-requires-clause-legal : goal.enter-requires-clause-legal
 enter-requires-clause-legal g c =
     let held = rw c.self.view_is at c.self.invariant.0 in
-    rw (c.ask.ensures, c.number-entry.ensures)
-    (c.answer.ensures.legal g.N.Name.table.start c.args.self.now.entries c.args.seat.now.number
-    held.game' held.legal c.in-Ok.ensures.stands.seat)
+    c.answer_call.ensures.legal g.N.Name.table.start c.args.self.now.entries
+    held.game' held.legal (rw c.number.ensures c.in-Ok.ensures.stands.seat)

@@ -1,6 +1,4 @@
-use Rattle.std.proofs.Common.{◌≡◌, ◌+◌, [], ◌∷◌, ◌++◌, length, arith, ap, ◌∙◌, inl, inr}
-use Rattle.std.proofs.lemmas.List.{length_push}
-use Rattle.dg_game.proofs.ListLaws.{more_holds}
+use Rattle.dg_table.proofs.Common.{◌≡◌, ◌+◌, [], ◌∷◌, ◌++◌, length, arith, ap, ◌∙◌, inl, inr, length_push, more_holds}
 use Rattle.dg_table.proofs.seat.Seat.all.Goals as goal
 
 pub loop-i-preserved : goal.loop-i-preserved

@@ -1,6 +1,4 @@
-use Rattle.std.proofs.Common.{◌≡◌, ◌+◌, ◌≤◌, ℕ, [], length, slice_get, Some}
-use Rattle.std.specs.Vec.{vec_capacity}
-use Rattle.dg_table.specs.Seats.{SeatView}
+use Rattle.dg_table.proofs.Common.{◌≡◌, ◌+◌, ◌≤◌, ℕ, [], length, slice_get, Some, vec_capacity, SeatView}
 use Rattle.dg_table.proofs.seat.Seat.all.Given as goal
 
 abbrev pub invariant-loop-i : goal.invariant-loop-i

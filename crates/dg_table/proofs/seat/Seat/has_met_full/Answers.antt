@@ -1,4 +1,4 @@
-use Rattle.std.proofs.Common.{arith}
+use Rattle.dg_table.proofs.Common.{arith}
 use Rattle.dg_table.proofs.Entries.{own_stand}
 use Rattle.dg_table.proofs.seat.Seat.has_met_full.Goals as goal
 

@@ -1,6 +1,4 @@
-use Rattle.std.proofs.Common.{◌≡◌, ◌++◌, drop, take, length, sym, ap, subst, ◌∙◌}
-use Rattle.std.proofs.Math.Seq.{take-append_seam}
-use Rattle.dg_table.specs.Closing.{HaveMet}
+use Rattle.dg_table.proofs.Common.{◌≡◌, ◌++◌, drop, take, length, sym, ap, subst, ◌∙◌, take-append_seam, HaveMet}
 use Rattle.dg_table.proofs.table.Table.close.Goals as goal
 
 pub returns-in-Some : goal.returns-in-Some

@@ -1,5 +1,5 @@
 -- The sign is the last byte, the name stands before it, and the space before the name.
-use Rattle.std.proofs.Common.{◌-◌, [], ◌∷◌, length, refl, arith, length-append}
+use Rattle.dg_tokens.proofs.Common.{◌-◌, [], ◌∷◌, length, refl, arith, length-append}
 use Rattle.dg_tokens.proofs.Writing.{label_made}
 use Rattle.dg_tokens.proofs.label.Label.new.Goals as goal
 

@@ -1,4 +1,4 @@
-use Rattle.std.proofs.Common.{◌-◌, arith, refl, rules}
+use Rattle.dg_tokens.proofs.Common.{◌-◌, arith, refl, rules}
 use Rattle.dg_tokens.proofs.Writing.{label_written}
 use Rattle.dg_tokens.proofs.label.Label.write.Goals as goal
 

@@ -1,9 +1,5 @@
 -- What `insert` leaves, as a list of names.
-use Rattle.std.proofs.Common.{◌≡◌, ℕ, ◌≤◌, Bool, true, false, ap, not, cond, ◌∙◌, sym, length, List, map, string_bytes, arith, rules}
-use Rattle.std.proofs.lemmas.List.{length-map}
-use Rattle.std.specs.Prelude.{String}
-use Rattle.std.specs.declared.alloc.Global.{Global}
-use Rattle.dg_tokens.specs.Names.{added}
+use Rattle.dg_tokens.proofs.Common.{◌≡◌, ℕ, ◌≤◌, Bool, true, false, ap, not, cond, ◌∙◌, sym, length, List, map, string_bytes, arith, rules, length-map, String, Global, added}
 use Rattle.dg_tokens.proofs.Naming.{has_text, insert_text}
 use Rattle.dg_tokens.proofs.NamesLaws.{AreNames-added}
 use Rattle.dg_tokens.proofs.Labelling.{AreLabels-added}

@@ -1,7 +1,5 @@
 -- The key at the vertex, as the name there.
-use Rattle.std.proofs.Common.{◌≡◌, ap, ◌∙◌, [], map, string_bytes, option_map}
-use Rattle.std.proofs.lemmas.Option.{slice_get-map, get_or_from_slice_get}
-use Rattle.dg_tokens.specs.Names.{name_at}
+use Rattle.dg_tokens.proofs.Common.{◌≡◌, ap, ◌∙◌, [], map, string_bytes, option_map, slice_get-map, get_or_from_slice_get, name_at}
 use Rattle.dg_tokens.proofs.NamesLaws.{place_of-name_at}
 use Rattle.dg_tokens.proofs.names.Names.name.Goals as goal
 

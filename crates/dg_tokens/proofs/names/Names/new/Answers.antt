@@ -1,4 +1,4 @@
-use Rattle.std.proofs.Common.{arith}
+use Rattle.dg_tokens.proofs.Common.{arith}
 use Rattle.dg_tokens.proofs.NamesLaws.{AreNames-nil}
 use Rattle.dg_tokens.proofs.names.Names.new.Goals as goal
 

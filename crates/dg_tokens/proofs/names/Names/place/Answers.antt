@@ -1,5 +1,5 @@
 -- The key of that text is the name; what is not UTF-8 is no name.
-use Rattle.std.proofs.Common.{◌∙◌, sym}
+use Rattle.dg_tokens.proofs.Common.{◌∙◌, sym}
 use Rattle.dg_tokens.proofs.Naming.{position_text, no_place}
 use Rattle.dg_tokens.proofs.NamesLaws.{IsUtf8-name, name_at-place_of}
 use Rattle.dg_tokens.proofs.names.Names.place.Goals as goal

@@ -1,15 +1,6 @@
 -- A `&` to a `Witness` holds what it knows, which can be had twice. Assumes `Logic`.
-use base.Logic.{snd∗}
-use base.Before.{before}
-use types.Logic.{sem}
-use denote.RattleType.{RattleType}
-use denote.Param.Laws.{Laws}
-use denote.Param.Shared.{copy_shared}
-use denote.Struct.Laws.{field_copy}
-use denote.Struct.Lending.{of_Lends}
-use Rattle.std.specs.declared.option.Option.TheVariants.{Some}
+use Rattle.dg_witness.proofs.Common.{snd∗, before, sem, RattleType, Laws, copy_shared, field_copy, of_Lends, Some, noted, mark}
 use Rattle.std.specs.contracts.marker.PhantomData as phantom
-use Rattle.once_cell.specs.Once.{noted, mark}
 use Rattle.dg_witness.specs.contracts.witness.Witness as witness
 use Rattle.dg_witness.proofs.Tokens.{lends_twice}
 use Rattle.dg_witness.proofs.witness.Witness.TheLaw.Statement.{statement}

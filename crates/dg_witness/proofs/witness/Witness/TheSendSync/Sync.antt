@@ -1,8 +1,5 @@
 -- A `&` to a `Witness` says the same in each thread.
-use denote.RattleType.{RattleType}
-use denote.Param.Send.{IsSync, sendable}
-use denote.Struct.Owning.{shape}
-use denote.Struct.Struct.{Struct}
+use Rattle.dg_witness.proofs.Common.{RattleType, IsSync, sendable, shape, Struct}
 use Rattle.dg_witness.specs.contracts.witness.Witness as witness
 
 pub sync : (T : RattleType) → IsSync (witness.the_row T)

@@ -1,30 +1,6 @@
 -- Two tokens of one cell know one value.
-use Rattle.std.proofs.Common.{◌≡◌, ℕ, List, [], ◌∷◌, refl}
-use mir.Syntax.{a_type, named}
-use mir.Val.{Val, vunit, vptr}
-use mir.MapTy.{inst_fn}
-use base.Logic.{SProp}
-use types.Kit.{‵, raw, ◌⊛◌, ◌$◌, ◌∵◌, !, qed, by, move, keep, drop, use2, split, fsplit, fsplit3, fjoin, rewrite, feq_i}
-use types.Run.{unit_lit, of_opd, returns, enter}
-use types.ByLocal.{alloc_all, pass_all, free_all, look_at, sets}
-use contract.Running.{tables}
-use contract.Monad.{fact}
-use denote.Exit.{yes}
-use denote.RattleType.{RattleType, owns}
-use denote.Signature.{types_at, plain}
-use denote.Steps.{nothing, heard}
-use denote.Opens.{unhide}
-use denote.Param.{param, layouts}
-use denote.Builtin.{RefOf}
-use denote.Ref.{shr_vals, shr_Tells}
-use denote.Triple.Entry.{alive}
-use denote.Triple.Walked.{Stays, stay_dropped, walk_of, Goes-dropped}
-use Rattle.std.specs.declared.option.Option.TheVariants.{Some}
-use Rattle.std.proofs.raw_atomic.Walks.{proved, leaves}
-use Rattle.once_cell.specs.Once.{noted}
-use Rattle.once_cell.proofs.Notes.{noted_agree}
+use Rattle.dg_witness.proofs.Common.{◌≡◌, ℕ, List, [], ◌∷◌, refl, a_type, named, Val, vunit, vptr, inst_fn, SProp, ‵, raw, ◌⊛◌, ◌$◌, ◌∵◌, !, qed, by, move, keep, drop, use2, split, fsplit, fsplit3, fjoin, rewrite, feq_i, unit_lit, of_opd, returns, enter, alloc_all, pass_all, free_all, look_at, sets, tables, fact, yes, RattleType, owns, types_at, plain, nothing, heard, unhide, param, layouts, RefOf, shr_vals, shr_Tells, alive, Stays, stay_dropped, walk_of, Goes-dropped, Some, proved, leaves, noted, noted_agree, ended, clauses}
 use Rattle.dg_witness.specs.contracts.witness.Witness as witness
-use Rattle.dg_witness.specs.contracts.witness.Witness.agrees.{ended, clauses}
 use Rattle.dg_witness.specs.contracts.witness.Witness.agrees.Key.{name as #self}
 use Rattle.dg_witness.proofs.witness.Witness.agrees.Statement.{statement}
 use Rattle.dg_witness.proofs.witness.Witness.agrees.Code as code

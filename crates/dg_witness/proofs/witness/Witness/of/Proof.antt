@@ -1,28 +1,5 @@
 -- What a note knows can be had twice: the note keeps the one, and the token takes the other.
-use Rattle.std.proofs.Common.{◌≡◌, ℕ, List, [], ◌∷◌, refl}
-use mir.Syntax.{a_type, named}
-use mir.Val.{Val, vptr}
-use mir.MapTy.{inst_fn}
-use base.Logic.{SProp, emp, apply∗, all, all_e}
-use base.Fml.{Lft, Share, Fml, ftrue, fsep, flft}
-use types.Logic.{sem}
-use types.Kit.{‵, raw, ◌⊛◌, later, ◌$◌, ◌∵◌, !, qed, by, move, keep}
-use types.Kit.{split, join, fsplit, fjoin, use0, use1, use2, await, rewrite, feq_i}
-use types.Run.{no_more, and_then, returns, enter}
-use types.ByLocal.{alloc_all, pass_all, free_all, look_at, get, sets}
-use types.Part.{agg}
-use contract.Running.{tables}
-use contract.Monad.{fact, fact_i}
-use denote.RattleType.{RattleType, owns}
-use denote.Signature.{types_at, plain}
-use denote.Steps.{nothing, heard}
-use denote.Param.{param, layouts}
-use denote.Ref.{mut_vals, mut_Tells}
-use denote.Triple.Walked.{Stays, walk_of, stay_ref, Goes-ref}
-use Rattle.std.specs.declared.option.Option.{Option}
-use Rattle.std.specs.declared.option.Option.TheVariants.{Some}
-use Rattle.std.proofs.raw_atomic.Walks.{proved, leaves}
-use Rattle.once_cell.specs.Once.{noted}
+use Rattle.dg_witness.proofs.Common.{◌≡◌, ℕ, List, [], ◌∷◌, refl, a_type, named, Val, vptr, inst_fn, SProp, emp, apply∗, all, all_e, Lft, Share, Fml, ftrue, fsep, flft, sem, ‵, raw, ◌⊛◌, later, ◌$◌, ◌∵◌, !, qed, by, move, keep, split, join, fsplit, fjoin, use0, use1, use2, await, rewrite, feq_i, no_more, and_then, returns, enter, alloc_all, pass_all, free_all, look_at, get, sets, agg, tables, fact, fact_i, RattleType, owns, types_at, plain, nothing, heard, param, layouts, mut_vals, mut_Tells, Stays, walk_of, stay_ref, Goes-ref, Option, Some, proved, leaves, noted}
 use Rattle.once_cell.proofs.Notes as notes
 use Rattle.dg_witness.specs.contracts.witness.Witness as witness
 use Rattle.dg_witness.proofs.Tokens.{token, witness_made}

@@ -1,29 +1,5 @@
 -- What the token knows can be had twice, so the note is shut with a copy of it.
-use Rattle.std.proofs.Common.{◌≡◌, ℕ, List, [], ◌∷◌, refl, sym}
-use mir.Syntax.{a_type, named}
-use mir.Val.{Val, vunit, vptr}
-use mir.MapTy.{inst_fn}
-use base.Logic.{SProp, emp, apply∗, all, all_e}
-use base.Fml.{Lft, Share, Fml, ftrue, fsep, flft}
-use types.Logic.{sem}
-use types.Kit.{‵, raw, ◌⊛◌, later, ◌$◌, ◌∵◌, !, qed, by, move, keep, drop}
-use types.Kit.{split, split3, join, fsplit, fsplit3, fjoin, use0, use1, use2, await, rewrite, feq_i}
-use types.Run.{of_opd, unit_lit, returns, enter}
-use types.ByLocal.{alloc_all, pass_all, free_all, look_at, sets}
-use contract.Running.{tables}
-use contract.Monad.{fact, fact_i}
-use denote.Exit.{yes}
-use denote.RattleType.{RattleType, owns}
-use denote.Signature.{types_at, plain}
-use denote.Steps.{nothing, heard}
-use denote.Opens.{unhide}
-use denote.Param.{param, layouts}
-use denote.Builtin.{RefOf}
-use denote.Ref.{shr_vals, shr_Tells, mut_vals, mut_Tells}
-use denote.Triple.Walked.{Stays, walk_of, stay_dropped, Goes-dropped, stay_ref, Goes-ref}
-use Rattle.std.specs.declared.option.Option.TheVariants.{Some}
-use Rattle.std.proofs.raw_atomic.Walks.{proved, leaves}
-use Rattle.once_cell.specs.Once.{noted}
+use Rattle.dg_witness.proofs.Common.{◌≡◌, ℕ, List, [], ◌∷◌, refl, sym, a_type, named, Val, vunit, vptr, inst_fn, SProp, emp, apply∗, all, all_e, Lft, Share, Fml, ftrue, fsep, flft, sem, ‵, raw, ◌⊛◌, later, ◌$◌, ◌∵◌, !, qed, by, move, keep, drop, split, split3, join, fsplit, fsplit3, fjoin, use0, use1, use2, await, rewrite, feq_i, of_opd, unit_lit, returns, enter, alloc_all, pass_all, free_all, look_at, sets, tables, fact, fact_i, yes, RattleType, owns, types_at, plain, nothing, heard, unhide, param, layouts, RefOf, shr_vals, shr_Tells, mut_vals, mut_Tells, Stays, walk_of, stay_dropped, Goes-dropped, stay_ref, Goes-ref, Some, proved, leaves, noted}
 use Rattle.once_cell.proofs.Notes as notes
 use Rattle.dg_witness.specs.contracts.witness.Witness as witness
 use Rattle.dg_witness.specs.contracts.witness.Witness.tell.{ended, clauses}

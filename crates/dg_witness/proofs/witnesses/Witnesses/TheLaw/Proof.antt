@@ -1,14 +1,6 @@
 -- A `&` to a `Witnesses` holds what it knows, which can be had twice. Assumes `Logic`.
-use base.Logic.{snd∗}
-use base.Before.{before}
-use types.Logic.{sem}
-use denote.RattleType.{RattleType}
-use denote.Param.Laws.{Laws}
-use denote.Param.Shared.{copy_shared}
-use denote.Struct.Laws.{field_copy}
-use denote.Struct.Lending.{of_Lends}
+use Rattle.dg_witness.proofs.Common.{snd∗, before, sem, RattleType, Laws, copy_shared, field_copy, of_Lends, noted_all}
 use Rattle.std.specs.contracts.marker.PhantomData as phantom
-use Rattle.dg_witness.specs.Witnesses.{noted_all}
 use Rattle.dg_witness.specs.contracts.witnesses.Witnesses as witnesses
 use Rattle.dg_witness.proofs.AllNoted.{all_twice}
 use Rattle.dg_witness.proofs.Tokens.{lends_twice}

@@ -1,6 +1,5 @@
 -- A `Witnesses` holds names of cells and values that no thread has to itself.
-use denote.RattleType.{RattleType}
-use denote.Param.Send.{IsSend}
+use Rattle.dg_witness.proofs.Common.{RattleType, IsSend}
 use Rattle.dg_witness.specs.contracts.witnesses.Witnesses.{the_row}
 use Rattle.dg_witness.proofs.AllNoted.{all_keyless}
 

@@ -1,8 +1,5 @@
 -- A `&` to a `Witnesses` says the same in each thread.
-use denote.RattleType.{RattleType}
-use denote.Param.Send.{IsSync, sendable}
-use denote.Struct.Owning.{shape}
-use denote.Struct.Struct.{Struct}
+use Rattle.dg_witness.proofs.Common.{RattleType, IsSync, sendable, shape, Struct}
 use Rattle.dg_witness.specs.contracts.witnesses.Witnesses as witnesses
 use Rattle.dg_witness.proofs.AllNoted.{all_keyless}
 

@@ -1,26 +1,5 @@
 -- Notes of one cell know one value, whichever list they stand in.
-use Rattle.std.proofs.Common.{ℕ, List, [], ◌∷◌, refl}
-use mir.Syntax.{a_type, named}
-use mir.Val.{Val, vunit, vptr}
-use mir.MapTy.{inst_fn}
-use base.Logic.{SProp}
-use types.Kit.{‵, raw, ◌⊛◌, ◌$◌, ◌∵◌, !, qed, by, move, keep, drop, use2, split, fsplit, fsplit3, fjoin, feq_i}
-use types.Run.{unit_lit, of_opd, returns, enter}
-use types.ByLocal.{alloc_all, pass_all, free_all, look_at, sets}
-use contract.Running.{tables}
-use contract.Monad.{fact}
-use denote.Exit.{yes}
-use denote.RattleType.{RattleType, owns}
-use denote.Signature.{types_at, plain}
-use denote.Steps.{nothing}
-use denote.Opens.{unhide}
-use denote.Param.{param, layouts}
-use denote.Builtin.{RefOf}
-use denote.Ref.{shr_vals, shr_Tells}
-use denote.Triple.Entry.{alive}
-use denote.Triple.Walked.{Stays, stay_dropped, walk_of, Goes-dropped}
-use Rattle.std.proofs.raw_atomic.Walks.{proved, leaves}
-use Rattle.dg_witness.specs.Witnesses.{Agree}
+use Rattle.dg_witness.proofs.Common.{ℕ, List, [], ◌∷◌, refl, a_type, named, Val, vunit, vptr, inst_fn, SProp, ‵, raw, ◌⊛◌, ◌$◌, ◌∵◌, !, qed, by, move, keep, drop, use2, split, fsplit, fsplit3, fjoin, feq_i, unit_lit, of_opd, returns, enter, alloc_all, pass_all, free_all, look_at, sets, tables, fact, yes, RattleType, owns, types_at, plain, nothing, unhide, param, layouts, RefOf, shr_vals, shr_Tells, alive, Stays, stay_dropped, walk_of, Goes-dropped, proved, leaves, Agree}
 use Rattle.dg_witness.specs.contracts.witnesses.Witnesses as witnesses
 use Rattle.dg_witness.proofs.AllNoted.{all_agree}
 use Rattle.dg_witness.specs.contracts.witnesses.Witnesses.agree.{ended, clauses}

@@ -1,30 +1,5 @@
 -- `at` copies what the reference holds, and takes one note out of the many.
-use Rattle.std.proofs.Common.{◌≡◌, ℕ, ◌<◌, List, [], ◌∷◌, length, map, refl, w32}
-use mir.Syntax.{a_type, named}
-use mir.Val.{Val, vptr, vint}
-use mir.MapTy.{inst_fn}
-use base.Logic.{SProp, emp}
-use types.Kit.{‵, raw, ◌⊛◌, ◌$◌, ◌∵◌, !, qed, by, move, keep, drop, use0, use1, split, fsplit, fjoin}
-use types.Run.{no_more, and_then, returns, enter}
-use types.ByLocal.{alloc_all, pass_all, free_all, look_at, get, sets}
-use types.Part.{agg}
-use contract.Running.{tables}
-use contract.Monad.{fact, fact_i}
-use denote.Exit.{yes}
-use denote.RattleType.{RattleType, owns}
-use denote.Signature.{types_at, plain}
-use denote.Steps.{nothing, heard}
-use denote.Opens.{unhide}
-use denote.Param.{param, layouts}
-use denote.Builtin.{RefOf, u32}
-use denote.Plain.{uint_vals, uint_Tells}
-use denote.Ref.{shr_vals, shr_Tells}
-use denote.Triple.Entry.{alive}
-use denote.Triple.Walked.{Stays, stay_dropped, walk_of, Goes-dropped}
-use Rattle.std.specs.List.{slice_get}
-use Rattle.std.specs.declared.option.Option.TheVariants.{Some}
-use Rattle.std.proofs.raw_atomic.Walks.{proved, leaves}
-use Rattle.once_cell.specs.Once.{noted}
+use Rattle.dg_witness.proofs.Common.{◌≡◌, ℕ, ◌<◌, List, [], ◌∷◌, length, map, refl, w32, a_type, named, Val, vptr, vint, inst_fn, SProp, emp, ‵, raw, ◌⊛◌, ◌$◌, ◌∵◌, !, qed, by, move, keep, drop, use0, use1, split, fsplit, fjoin, no_more, and_then, returns, enter, alloc_all, pass_all, free_all, look_at, get, sets, agg, tables, fact, fact_i, yes, RattleType, owns, types_at, plain, nothing, heard, unhide, param, layouts, RefOf, u32, uint_vals, uint_Tells, shr_vals, shr_Tells, alive, Stays, stay_dropped, walk_of, Goes-dropped, slice_get, Some, proved, leaves, noted}
 use Rattle.dg_witness.specs.contracts.witnesses.Witnesses as witnesses
 use Rattle.dg_witness.specs.contracts.witness.Witness as witness
 use Rattle.dg_witness.proofs.AllNoted.{all_at, item_at, part_at}

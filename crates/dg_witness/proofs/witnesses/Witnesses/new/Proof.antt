@@ -1,22 +1,5 @@
 -- Of no cells there is nothing to own.
-use Rattle.std.proofs.Common.{◌≡◌, [], ◌∷◌, refl}
-use mir.Syntax.{a_type}
-use mir.Val.{Val}
-use mir.MapTy.{inst_fn}
-use base.Logic.{SProp, emp}
-use types.Kit.{‵, raw, ◌⊛◌, ◌$◌, ◌∵◌, !, qed, by, keep, split, use0, use1}
-use types.Run.{no_more, and_then, returns, enter}
-use types.ByLocal.{alloc_all, pass_all, free_all, look_at, get, sets}
-use types.Part.{agg}
-use contract.Running.{tables}
-use contract.Monad.{fact, fact_i}
-use denote.RattleType.{RattleType, owns}
-use denote.Signature.{types_at}
-use denote.Steps.{nothing}
-use denote.Param.{param, layouts}
-use denote.Triple.Entry.{alive}
-use denote.Triple.Walked.{Stays, walk_of}
-use Rattle.std.proofs.raw_atomic.Walks.{proved, leaves}
+use Rattle.dg_witness.proofs.Common.{◌≡◌, [], ◌∷◌, refl, a_type, Val, inst_fn, SProp, emp, ‵, raw, ◌⊛◌, ◌$◌, ◌∵◌, !, qed, by, keep, split, use0, use1, no_more, and_then, returns, enter, alloc_all, pass_all, free_all, look_at, get, sets, agg, tables, fact, fact_i, RattleType, owns, types_at, nothing, param, layouts, alive, Stays, walk_of, proved, leaves}
 use Rattle.dg_witness.specs.contracts.witnesses.Witnesses as witnesses
 use Rattle.dg_witness.proofs.Tokens.{token, witnesses_made}
 use Rattle.dg_witness.specs.contracts.witnesses.Witnesses.new.{ended, clauses}

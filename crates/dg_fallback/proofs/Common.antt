@@ -1,0 +1,51 @@
+-- The names that the proofs of this crate cite, passed on from one place. Declares nothing.
+pub use Rattle.dg_burn.proofs.Told.{unburnt_member}
+pub use Rattle.dg_chips.proofs.FlowLaws.{times_held}
+pub use Rattle.dg_chips.specs.Vector.{at}
+pub use Rattle.dg_fallback.specs.Firings.{IsMost, Lacks, LastsAt, SendsNothing, largest}
+pub use Rattle.dg_fallback.specs.Reaching.{HasNearer, IsReached, spread}
+pub use Rattle.dg_fallback.specs.Reductions.{IsOnly, IsReduction}
+pub use Rattle.dg_fallback.specs.States.{IsCleared, IsClearedOff, IsFired, IsLargestDebt, IsTied}
+pub use Rattle.dg_fallback.specs.declared.reduced.Reduced.{Reduced}
+pub use Rattle.dg_fallback.specs.declared.walk.Walk.{Walk}
+pub use Rattle.dg_graph.proofs.SetLaws.{in_set-none}
+pub use Rattle.dg_graph.specs.Graph.{IsGraph}
+pub use Rattle.dg_graph.specs.Sets.{in_set}
+pub use Rattle.dg_theory.proofs.Absolute.{abs-add, abs_within, within_abs}
+pub use Rattle.dg_theory.proofs.Agreement.{agree-trans, reduced-cong}
+pub use Rattle.dg_theory.proofs.Bounds.{script_bound}
+pub use Rattle.dg_theory.proofs.Climbs.{JoinedIn-leaves, Leaves}
+pub use Rattle.dg_theory.proofs.ConstantLaws.{same_by_constant}
+pub use Rattle.dg_theory.proofs.Debts.{fired_nearer, nearer, out-le-valence}
+pub use Rattle.dg_theory.proofs.Distances.{not_q}
+pub use Rattle.dg_theory.proofs.Equivalence.{equivalent-fired, equivalent-sym, equivalent-trans}
+pub use Rattle.dg_theory.proofs.Few.{IsGradual, gradual-few}
+pub use Rattle.dg_theory.proofs.FiringLaws.{fired-cong, fired-constant, fired-fired}
+pub use Rattle.dg_theory.proofs.Multiples.{gain-all_inside, gain-all_outside, multiple-off, multiple-within}
+pub use Rattle.dg_theory.proofs.Potential.{levels_are_potential, weights}
+pub use Rattle.dg_theory.proofs.Products.{mulz-add, one-mul}
+pub use Rattle.dg_theory.proofs.Range.{IsLed, clear_all, clear_stays, clear_step, led-cong, led_limit, led_start, led_step, level_limit, level_paid, limit_last, limit_step, script_between}
+pub use Rattle.dg_theory.proofs.Reach.{distance_from, distance_from-is}
+pub use Rattle.dg_theory.proofs.ReducedLaws.{reduced_once}
+pub use Rattle.dg_theory.proofs.Scripts.{fired-shifted}
+pub use Rattle.dg_theory.proofs.SetFiring.{fired-inside, gain-outside}
+pub use Rattle.dg_theory.proofs.SumBounds.{mul-grows, mul-mono}
+pub use Rattle.dg_theory.proofs.TotalLaws.{total_below-term}
+pub use Rattle.dg_theory.proofs.Weights.{weight_falls_by_firings, weight_of, weight_of-cong}
+pub use Rattle.dg_theory.specs.Burning.{FiresFreely, edges_into}
+pub use Rattle.dg_theory.specs.Distances.{IsDistance}
+pub use Rattle.dg_theory.specs.Firing.{AgreeOn, Amounts, AreEquivalent, FiresTo, fired, gain, indicator, multiple}
+pub use Rattle.dg_theory.specs.Multigraph.{IsMultigraph, Multigraph, edges_between, valence}
+pub use Rattle.dg_theory.specs.Reduced.{IsReduced, edges_out}
+pub use Rattle.std.proofs.Common.{Bool, ap, arith, false, inl, inr, length, refl, replicate, set, slice_index, subst, sym, take, true, ℕ, ⊎_elim, ◌*◌, ◌+◌, ◌-◌, ◌<◌, ◌==◌, ◌^◌, ◌∙◌, ◌≡◌, ◌≢◌, ◌≤◌, ◌⊎◌}
+pub use Rattle.std.proofs.Math.IntN.{*ℤ_comm, negsuc, pos, ℤ, ◌*ℤ◌, ◌+ℤ◌, ◌-ℤ◌}
+pub use Rattle.std.proofs.Math.Nat.{one-le-pow, pow-le-pow_right}
+pub use Rattle.std.proofs.lemmas.Bool.{cases_Bool, cases_eq, cases_lt, eq-eqb, eqb-true, ne_eqb}
+pub use Rattle.std.proofs.lemmas.Bool.Decides.{nat_tests}
+pub use Rattle.std.proofs.lemmas.Int.{ints}
+pub use Rattle.std.proofs.lemmas.List.{get_or-replicate, get_or-set_other, get_or-set_same, length-replicate}
+pub use Rattle.std.proofs.lemmas.Nat.{mul-le}
+pub use Rattle.std.specs.Int.{w128}
+pub use Rattle.std.specs.Int.RustNames.{unsigned_abs}
+pub use Rattle.std.specs.Prelude.{if◌then◌else◌, nat_lt, ◌<ℤ◌, ◌≤ℤ◌}
+pub use mir.Val.{of_z, to_z}

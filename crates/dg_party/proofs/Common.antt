@@ -1,0 +1,28 @@
+-- The names that the proofs of this crate cite, passed on from one place. Declares nothing.
+pub use Rattle.dg_chips.specs.Starts.{StartData}
+pub use Rattle.dg_chips.specs.Vector.{Vector, at}
+pub use Rattle.dg_game.proofs.StepLaw.{vertices_stay}
+pub use Rattle.dg_game.specs.History.{gifts_in, position_after}
+pub use Rattle.dg_game.specs.Position.{Shows}
+pub use Rattle.dg_game.specs.declared.entry.Entry.{Entry}
+pub use Rattle.dg_lines.proofs.Printing.{legal_named}
+pub use Rattle.dg_lines.specs.Texts.{pairs}
+pub use Rattle.dg_log.specs.Tables.{TableData, table_of}
+pub use Rattle.dg_log.specs.declared.name.Name.{Ghosts}
+pub use Rattle.dg_party.specs.Parties.{IsParty, IsPartyRefused}
+pub use Rattle.dg_party.specs.Sessions.{IsSessionOver, RefusesSessions, contents}
+pub use Rattle.dg_party.specs.declared.ending.PartyRefusal.TheVariants.{Log}
+pub use Rattle.dg_session.specs.declared.ends.SessionEnd.{SessionEnd}
+pub use Rattle.dg_system.specs.declared.shortage.Shortage.{Shortage}
+pub use Rattle.dg_system.specs.declared.shortage.Shortage.TheVariants.{OutOfMemory, Spawn}
+pub use Rattle.dg_table.proofs.Complete.{all_there, none_missing}
+pub use Rattle.dg_table.specs.Closing.{AreTotals, IsCloseRefused, IsClosed}
+pub use Rattle.dg_table.specs.Opened.{AreFresh}
+pub use Rattle.dg_table.specs.Seats.{SeatView, entries_of}
+pub use Rattle.dg_table.specs.declared.audit.Audit.{Audit}
+pub use Rattle.dg_transcript.specs.Printed.{entries_text, seat_text, totals_text}
+pub use Rattle.std.proofs.Common.{List, Result, Some, [], ap, arith, codes, decimal, length, map, refl, rules, slice_get, subst, suc, sym, take, unwrap_or, zero, ℕ, ◌*◌, ◌++◌, ◌+◌, ◌<◌, ◌∙◌, ◌∷◌, ◌≡◌, ◌≤◌}
+pub use Rattle.std.proofs.Math.Seq.{take-append_seam}
+pub use Rattle.std.proofs.lemmas.Option.{none-some}
+pub use Rattle.std.specs.Global.{Vec}
+pub use Rattle.std.specs.List.{slice_index}

@@ -1,0 +1,33 @@
+-- The names that the proofs of this crate cite, passed on from one place. Declares nothing.
+pub use Rattle.dg_chips.specs.Starts.{StartData}
+pub use Rattle.dg_game.proofs.LegalLaws.{legal_none}
+pub use Rattle.dg_game.proofs.ListLaws.{more_holds}
+pub use Rattle.dg_game.proofs.LookLaws.{look_fits, look_kept, look_new, look_vertices}
+pub use Rattle.dg_game.proofs.StateLaws.{right_in}
+pub use Rattle.dg_game.proofs.StepLaw.{vertices_stay}
+pub use Rattle.dg_game.specs.Legal.{IsLegal, IsSeat}
+pub use Rattle.dg_game.specs.Look.{IsLookAt}
+pub use Rattle.dg_game.specs.Requests.{asked}
+pub use Rattle.dg_game.specs.State.{LeadsTo, State}
+pub use Rattle.dg_game.specs.declared.entry.Entry.{Entry}
+pub use Rattle.dg_game.specs.declared.entry.Plain.{Plain}
+pub use Rattle.dg_game.specs.declared.game.TheConstants.{MAX_ENTRIES}
+pub use Rattle.dg_game.specs.declared.look.LookData.{LookData}
+pub use Rattle.dg_game.specs.declared.step.Command.{Command}
+pub use Rattle.dg_game.specs.declared.step.Command.TheVariants.{Call, Commit, Rank}
+pub use Rattle.dg_game.specs.declared.step.Step.{Step}
+pub use Rattle.dg_rank.specs.Limits.{IsPastLimits}
+pub use Rattle.dg_rehearsal.specs.Rehearsal.{IsPlaying, KeepsLook}
+pub use Rattle.dg_rehearsal.specs.Schedule.{AreGoodBefore, HasLook, HasTrials, IsAsked, IsEntryOf, IsGood, IsKept, UsesLook, UsesUp}
+pub use Rattle.dg_rehearsal.specs.ScheduleFaults.{IsFirstFault}
+pub use Rattle.dg_rehearsal.specs.declared.schedule.Rehearsal.{Rehearsal}
+pub use Rattle.dg_rehearsal.specs.declared.schedule.RehearseFault.TheVariants.{TooMany}
+pub use Rattle.dg_theory.specs.Multigraph.{Multigraph}
+pub use Rattle.std.proofs.Common.{Err, List, None, Ok, Option, Result, Some, [], ap, arith, inl, inr, length, length-append, length-set, refl, replicate, rules, set, slice_get, subst, sym, vec_capacity, ℕ, ◌++◌, ◌+◌, ◌<◌, ◌∙◌, ◌∷◌, ◌≡◌, ◌≤◌}
+pub use Rattle.std.proofs.lemmas.Bool.{cases_eq, cases_lt}
+pub use Rattle.std.proofs.lemmas.List.{get_or-replicate, get_or-set_other, get_or-set_same, length-replicate}
+pub use Rattle.std.proofs.lemmas.Option.{slice_get_read}
+pub use Rattle.std.proofs.lemmas.Result.{MatchResult-weaker}
+pub use Rattle.std.specs.List.{slice_index_or}
+pub use Rattle.std.specs.Prelude.{min}
+pub use Rattle.std.specs.Result.{IsErrAnd, MatchResult}

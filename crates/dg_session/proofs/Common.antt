@@ -1,0 +1,68 @@
+-- The names that the proofs of this crate cite, passed on from one place. Declares nothing.
+pub use Rattle.dg_analyst.specs.Views.{IsTaken, IsTried, LookView}
+pub use Rattle.dg_chips.specs.Starts.{StartData}
+pub use Rattle.dg_game.proofs.LegalLaws.{legal_none, legal_sized}
+pub use Rattle.dg_game.proofs.ListLaws.{slice_get-seam}
+pub use Rattle.dg_game.specs.LegalLaws.{HasSize}
+pub use Rattle.dg_game.specs.Look.{asked_for, asked_on, degree_of}
+pub use Rattle.dg_game.specs.Requests.{asked}
+pub use Rattle.dg_game.specs.declared.entry.Entry.{Entry}
+pub use Rattle.dg_game.specs.declared.entry.Plain.{Plain}
+pub use Rattle.dg_game.specs.declared.entry.Request.{Request}
+pub use Rattle.dg_game.specs.declared.finding.Finding.{Finding}
+pub use Rattle.dg_game.specs.declared.finding.Finding.TheVariants.{Ranked}
+pub use Rattle.dg_game.specs.declared.finding.Question.{Question}
+pub use Rattle.dg_game.specs.declared.step.Command.{Command}
+pub use Rattle.dg_game.specs.declared.step.Command.TheVariants.{Call, Commit, Rank}
+pub use Rattle.dg_lines.proofs.Stepping.{seated_parts}
+pub use Rattle.dg_lines.proofs.Streams.{begins_more, begins_none, begins_one, begins_then, come_last, come_then, line_shorter, one_cutting, one_line, part_front, part_line, part_plain, part_whole}
+pub use Rattle.dg_lines.specs.Commands.{IsCommandLine}
+pub use Rattle.dg_lines.specs.LineFaults.{IsLineFault, fault_text}
+pub use Rattle.dg_lines.specs.Steps.{IsSeated}
+pub use Rattle.dg_lines.specs.Streams.{Begins, HasNoNewline, HaveCome, last_line, with_newline}
+pub use Rattle.dg_lines.specs.Texts.{HasNames, entry_text}
+pub use Rattle.dg_lines.specs.declared.line.LineFault.{LineFault}
+pub use Rattle.dg_log.specs.Numbered.{AreBelow, IsBeginning, StandIn}
+pub use Rattle.dg_log.specs.Tables.{TableData}
+pub use Rattle.dg_rank.proofs.Counts.{past_within}
+pub use Rattle.dg_rank.specs.Limits.{IsPastLimits}
+pub use Rattle.dg_rank.specs.Ranks.{IsRankFault, IsWithin}
+pub use Rattle.dg_session.specs.EntriesSoFar.{EntriesSoFarView}
+pub use Rattle.dg_session.specs.Ends.{AreInOrder, EndsBy, IsOver, Reading, StopsAt, Writes, reading}
+pub use Rattle.dg_session.specs.Order.{AscendFrom, ComeAfter}
+pub use Rattle.dg_session.specs.Refusing.{CallsTable, RefusesCommand, RefusesLine}
+pub use Rattle.dg_session.specs.Saying.{AnswersCommand, AnswersLine, Enters, Gains, kept_after, look_after}
+pub use Rattle.dg_session.specs.Setup.{Setup, setup}
+pub use Rattle.dg_session.specs.SoFar.{Goes, Halts, Handles, Hears, IsCleared, IsReady, IsSaid, IsWritten, Obeys, RefusesPart, SoFar, Speaker, StaysAt, StopsIn, Takes, TakesEnd, Tells, beginning, heard, round, so_far}
+pub use Rattle.dg_session.specs.Speakers.{AnswersLineOf, GoesOn, IsFor, IsForNone, RefusesLineOf, Replaces, Speakers, kept_number, newcomers, speakers}
+pub use Rattle.dg_session.specs.Streams.{AreLines, IsLine, Passage, passage}
+pub use Rattle.dg_session.specs.declared.ends.SessionEnd.{SessionEnd}
+pub use Rattle.dg_session.specs.declared.ends.SessionEnd.TheVariants.{LongLine, Memory, Read, Spawn, Table, Turns, Write}
+pub use Rattle.dg_session.specs.declared.ends.TheConstants.{MAX_LINE, MAX_LINES, READ_SIZE}
+pub use Rattle.dg_session.specs.declared.line_format.LineFormat.TheVariants.{BySeat}
+pub use Rattle.dg_system.proofs.Growing.{appends_more, appends_none}
+pub use Rattle.dg_system.proofs.InputReads.{chunk_size, consumes_kept, consumes_more, consumes_none, read_chunk, read_nothing}
+pub use Rattle.dg_system.specs.Growth.{AppendsFront, Writing}
+pub use Rattle.dg_table.proofs.Counts.{seats_counted}
+pub use Rattle.dg_table.proofs.Numbered.{begins_length, begins_on, stand_longer}
+pub use Rattle.dg_table.proofs.Placed.{get_set}
+pub use Rattle.dg_table.specs.Answered.{IsAnswered, IsEnteredAfter, entering}
+pub use Rattle.dg_table.specs.Closing.{IsClosed}
+pub use Rattle.dg_table.specs.Faults.{RefusesCall}
+pub use Rattle.dg_table.specs.Histories.{HasPrefix, IsHistoryOf}
+pub use Rattle.dg_table.specs.Opened.{AreFresh}
+pub use Rattle.dg_table.specs.Seats.{Keeps, Meets, SeatView, entries_of}
+pub use Rattle.dg_table.specs.Settled.{IsSettled, IsStale}
+pub use Rattle.dg_table.specs.declared.fault.Fault.{Fault}
+pub use Rattle.dg_table.specs.declared.fault.Fault.TheVariants.{Full}
+pub use Rattle.dg_verdict.specs.declared.rank_verdict.RankVerdict.{RankVerdict}
+pub use Rattle.dg_verdict.specs.declared.rank_verdict.RankVerdict.TheVariants.{AtLeast, Below}
+pub use Rattle.std.proofs.Common.{All, Err, IfErr, List, None, Ok, OnOk, Option, Result, Some, [], ap, append-nil, append_assoc, arith, codes, drop, flat_map, get_or, inl, inr, length, length-append, length-set, map, refl, rules, slice_get, subst, suc, sum, sym, take, take-append-drop, tests, true, zero, ℕ, ◌*◌, ◌++◌, ◌+◌, ◌-◌, ◌<◌, ◌∙◌, ◌∷◌, ◌≡◌, ◌≢◌, ◌≤◌}
+pub use Rattle.std.proofs.lemmas.Grind.{common_steps}
+pub use Rattle.std.proofs.lemmas.List.{length-map, length-take-le, map-set, nil_from_length, take_all}
+pub use Rattle.std.proofs.lemmas.List.Elements.{All-append, All-head, All-nil, All-push, All-tail, All-take}
+pub use Rattle.std.proofs.lemmas.List.Sums.{sum_by-cons}
+pub use Rattle.std.proofs.lemmas.Option.{same_Some, slice_get_within}
+pub use Rattle.std.specs.Io.KnownBytes.{Appends, Consumes, IsAtEnd, append_known}
+pub use Rattle.std.specs.List.{enumerate_from, slice_index_or, slice_set}
+pub use Rattle.std.specs.Prelude.{⊤}

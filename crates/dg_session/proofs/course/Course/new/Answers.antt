@@ -1,6 +1,0 @@
-use Rattle.dg_session.proofs.Coming.{history_none}
-use Rattle.dg_session.proofs.course.Course.new.Goals as goal
-
-pub invariant_of-result : goal.invariant_of-result
-invariant_of-result g c =
-    rw c.new.ensures (history_none g.N.Name.table)

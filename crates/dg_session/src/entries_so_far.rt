@@ -1,0 +1,62 @@
+//! What the lines of a session have come to.
+ghost use Rattle.std.specs.Prelude.{◌≡◌, ◌≤◌, ℕ, List, [], ◌++◌, length};
+ghost use Rattle.dg_game.specs.declared.entry.Entry.{Entry as EntryData};
+ghost use Rattle.dg_table.specs.Seats.{Meets};
+
+use dg_log::{Name, Prefix, ReceiptSet};
+use dg_table::Seat;
+use std::marker::Model;
+
+/// The history as the last line left it, and what all lines have entered, in their order.
+#[derive(Drop)]
+pub(crate) struct EntriesSoFar<N: Name> {
+    latest: Prefix<N>,
+    entered: ReceiptSet<N>,
+}
+
+impl<N: Name> Model for EntriesSoFar<N> {
+    ghost use Rattle.std.specs.Prelude.{length};
+    ghost use Rattle.dg_table.specs.Histories.{IsHistoryOf};
+    ghost use Rattle.dg_session.specs.EntriesSoFar.{EntriesSoFarView};
+
+    ghost Value = { EntriesSoFarView };
+
+    ghost view = { λ c. record { latest = c.latest; entered = c.entered } };
+
+    ghost invariant = { λ c. IsHistoryOf N.table c.latest };
+}
+
+impl<N: Name> EntriesSoFar<N> {
+    /// What no lines have come to.
+    pub(crate) fn new() -> EntriesSoFar<N>
+        ensures latest { result.latest ≡ [] }
+        ensures entered { result.entered ≡ [] }
+    {
+        EntriesSoFar {
+            latest: Prefix::new(),
+            entered: ReceiptSet::new(),
+        }
+    }
+
+    /// Tells the seat of the history as the last line left it.
+    pub(crate) fn tell(&self, seat: &mut Seat<N>)
+        ensures { Meets self.now.latest seat.old seat.new }
+    {
+        seat.meet(&self.latest);
+    }
+
+    /// Follows one more line, of the seat, which had made so many calls before it.
+    pub(crate) fn follow(&mut self, seat: &Seat<N>, calls: u64)
+        ensures latest { self.new.latest ≡ seat.now.met }
+        ensures entered { (before made : List (ℕ × EntryData)) → length before ≡ calls →
+            seat.now.mine ≡ before ++ made → length made ≤ 1 →
+            self.new.entered ≡ self.old.entered ++ made }
+    {
+        self.latest = seat.met().copy();
+        if seat.calls() > calls {
+            if let Some(receipt) = seat.last_call() {
+                self.entered = self.entered.and(receipt);
+            }
+        }
+    }
+}

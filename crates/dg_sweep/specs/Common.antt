@@ -1,0 +1,30 @@
+-- The names that the specs of this crate cite, passed on from one place. Declares nothing.
+pub use Rattle.dg_chips.specs.DivisorFaults.{IsFirstChipFault}
+pub use Rattle.dg_chips.specs.Starts.{StartData}
+pub use Rattle.dg_chips.specs.Vector.{HoldsNumbers, IsDivisor, Vector, at}
+pub use Rattle.dg_chips.specs.declared.divisor.ChipFault.{ChipFault}
+pub use Rattle.dg_chips.specs.declared.divisor.ChipFault.TheVariants.{Length, Range}
+pub use Rattle.dg_file.specs.Content.{Content}
+pub use Rattle.dg_file.specs.FileFaults.{RefusesFile, RefusesTable}
+pub use Rattle.dg_file.specs.FileLaws.{AreSameOpenings}
+pub use Rattle.dg_file.specs.TableFiles.{IsTable, IsTableFile}
+pub use Rattle.dg_file.specs.declared.fault.FileFault.{FileFault}
+pub use Rattle.dg_file.specs.declared.fault.FileFault.TheVariants.{Chip, Graph, Json, Name, NoQ, OutOfMemory, Shape, Twice}
+pub use Rattle.dg_file.specs.declared.fault.Shape.TheVariants.{Amounts, Edge, Edges, Q, Top, Vertices}
+pub use Rattle.dg_graph.specs.declared.fault.GraphFault.{GraphFault}
+pub use Rattle.dg_graph.specs.declared.fault.GraphFault.TheVariants.{Loop, Multiplicity, NoVertex, NotConnected, Size, Valence}
+pub use Rattle.dg_invocation.specs.declared.question.Question.{Question}
+pub use Rattle.dg_invocation.specs.declared.question.Question.TheVariants.{Judge, Rank, RiemannRoch}
+pub use Rattle.dg_lines.specs.Cuts.{lines, words}
+pub use Rattle.dg_lines.specs.Judgements.{IsJudgement}
+pub use Rattle.dg_lines.specs.Streams.{Begins, HasNoNewline, HaveCome, last_line}
+pub use Rattle.dg_lines.specs.Texts.{text_of}
+pub use Rattle.dg_rank.specs.Limits.{IsPastLimits}
+pub use Rattle.dg_rank.specs.Ranks.{IsUntold, IsWithin, NeedsPastTests}
+pub use Rattle.dg_system.specs.Growth.{AppendsFront}
+pub use Rattle.dg_theory.specs.Firing.{degree}
+pub use Rattle.dg_theory.specs.Multigraph.{genus}
+pub use Rattle.dg_theory.specs.Rank.{HasRankAtLeast, IsRank, canonical, less}
+pub use Rattle.dg_verdict.specs.RankTests.{IsRankTest}
+pub use Rattle.dg_verdict.specs.declared.rank_verdict.RankVerdict.{RankVerdict}
+pub use Rattle.dg_verdict.specs.declared.rank_verdict.RankVerdict.TheVariants.{AtLeast}

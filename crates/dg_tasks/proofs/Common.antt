@@ -1,0 +1,77 @@
+-- The names that the proofs of this crate cite, passed on from one place. Declares nothing.
+pub use Rattle.dg_chips.specs.Applied.{IsAfterMove}
+pub use Rattle.dg_chips.specs.Moves.{HasOtherSize, IsEmptySet, IsPlayable, NamesNoVertex}
+pub use Rattle.dg_chips.specs.Starts.{IsStart, StartData}
+pub use Rattle.dg_chips.specs.Vector.{IsInRange, Vector, at}
+pub use Rattle.dg_chips.specs.declared.moves.Move.{Move}
+pub use Rattle.dg_chips.specs.declared.moves.Move.TheVariants.{Borrow, Fire, Lend, Script}
+pub use Rattle.dg_game.proofs.GraphLaws.{graphs_hold}
+pub use Rattle.dg_game.proofs.LegalLaws.{legal_part}
+pub use Rattle.dg_game.proofs.ListLaws.{slice_get-seam}
+pub use Rattle.dg_game.proofs.StepLaw.{one_more_entry, vertices_stay}
+pub use Rattle.dg_game.specs.GiftReplies.{IsGivenTo, RefusesGift, RepliesToGift}
+pub use Rattle.dg_game.specs.History.{gift_counted, gifts_in, position_after}
+pub use Rattle.dg_game.specs.JoinReplies.{IsJoinedTo, RefusesToJoin, RepliesToJoin}
+pub use Rattle.dg_game.specs.Legal.{IsLegal}
+pub use Rattle.dg_game.specs.MoveReplies.{RefusesMove, RepliesToMove}
+pub use Rattle.dg_game.specs.Position.{Position, Shows}
+pub use Rattle.dg_game.specs.Replies.{Replies, RepliesAt, RepliesToClaim, RepliesToJudge, RepliesToLook, RepliesToRank}
+pub use Rattle.dg_game.specs.State.{LeadsTo, State}
+pub use Rattle.dg_game.specs.Step.{after_reply}
+pub use Rattle.dg_game.specs.declared.entry.Entry.{Entry}
+pub use Rattle.dg_game.specs.declared.entry.Refusal.{Refusal}
+pub use Rattle.dg_game.specs.declared.entry.Reply.{Reply}
+pub use Rattle.dg_game.specs.declared.entry.Reply.TheVariants.{Given, Joined, Looked, Moved, NotWon, Rank, Refused, Stale, Verdict, Won}
+pub use Rattle.dg_game.specs.declared.entry.Request.{Request}
+pub use Rattle.dg_game.specs.declared.game.TheConstants.{MAX_ENTRIES}
+pub use Rattle.dg_game.specs.declared.step.Command.{Command}
+pub use Rattle.dg_game.specs.declared.step.Command.TheVariants.{Call, Commit}
+pub use Rattle.dg_game.specs.declared.step.Step.{Step}
+pub use Rattle.dg_graph.proofs.SetLaws.{in_set-none}
+pub use Rattle.dg_graph.specs.Graph.{IsGraph}
+pub use Rattle.dg_graph.specs.Sets.{in_set}
+pub use Rattle.dg_lines.proofs.Judging.{judged-named}
+pub use Rattle.dg_lines.proofs.Printing.{history_more, legal_named}
+pub use Rattle.dg_lines.proofs.Schedule.{AreRead, all_read, none_read, one_more, steps_seated}
+pub use Rattle.dg_lines.specs.Cuts.{onto_first}
+pub use Rattle.dg_lines.specs.Steps.{IsStepLine}
+pub use Rattle.dg_lines.specs.Texts.{HasNames, entry_text, pair, rank_text, text_of, verdict_text, verdict_word}
+pub use Rattle.dg_lines.specs.declared.lines.Lines.{Lines}
+pub use Rattle.dg_rank.specs.Ranks.{RefusesBothRanks, IsRankInLimits}
+pub use Rattle.dg_rehearsal.specs.Rehearsal.{IsPlaying, PlaysOn, StopsPlay}
+pub use Rattle.dg_rehearsal.specs.Schedule.{IsAsked, IsEntryOf, IsKept}
+pub use Rattle.dg_rehearsal.specs.ScheduleFaults.{IsFirstFault}
+pub use Rattle.dg_rehearsal.specs.declared.schedule.Rehearsal.{Rehearsal}
+pub use Rattle.dg_rehearsal.specs.declared.schedule.RehearseFault.{RehearseFault}
+pub use Rattle.dg_rehearsal.specs.declared.schedule.RehearseFault.TheVariants.{Seat}
+pub use Rattle.dg_strategy.proofs.Greedily.{IsUnderWay, begun, legal_turn, settled_game, used_up, went_on}
+pub use Rattle.dg_strategy.proofs.OneGame.{greedy_game_is_one}
+pub use Rattle.dg_strategy.specs.Greedy.{IsGreedyTurn}
+pub use Rattle.dg_strategy.specs.GreedyLaws.{AreSameGame}
+pub use Rattle.dg_tasks.specs.Games.{IsGreedyAnswer, turns_text}
+pub use Rattle.dg_tasks.specs.OneText.{GreedyHasOneText, LegalHaveOneText, RehearsalsHaveOneText, asked_in}
+pub use Rattle.dg_tasks.specs.RankTests.{IsRiemannRoch, riemann_roch_text}
+pub use Rattle.dg_tasks.specs.Refusals.{IsFaultOf}
+pub use Rattle.dg_tasks.specs.Rehearsals.{IsPlayed, IsPrinted, IsStopped}
+pub use Rattle.dg_theory.proofs.ConstantLaws.{same_by_constant}
+pub use Rattle.dg_theory.proofs.Equivalence.{equivalent-sym, equivalent-trans}
+pub use Rattle.dg_theory.proofs.LossLaws.{loss_bounds_rank, loss_once}
+pub use Rattle.dg_theory.proofs.RankNumbers.{riemann_roch}
+pub use Rattle.dg_theory.proofs.ReducedLaws.{reduced_once}
+pub use Rattle.dg_theory.specs.Firing.{AgreeOn, Amounts, IsEffective}
+pub use Rattle.dg_theory.specs.Multigraph.{Multigraph}
+pub use Rattle.dg_theory.specs.Play.{IsWinnable}
+pub use Rattle.dg_theory.specs.Rank.{canonical, less}
+pub use Rattle.dg_verdict.specs.RankTests.{IsRankTest}
+pub use Rattle.dg_verdict.specs.Right.{IsRight}
+pub use Rattle.dg_verdict.specs.declared.rank_verdict.RankVerdict.{RankVerdict}
+pub use Rattle.dg_verdict.specs.declared.rank_verdict.RankVerdict.TheVariants.{AtLeast, Below}
+pub use Rattle.std.proofs.Common.{Bool, List, None, Option, Some, [], ap, append-nil, append_assoc, arith, codes, cond, false, inl, inr, length, length-append, not, of_z, refl, rules, slice_get, subst, suc, sym, take, to_z, true, w64, zero, ℕ, ⊎_elim, ◌++◌, ◌+◌, ◌<◌, ◌==◌, ◌∙◌, ◌∷◌, ◌≡◌, ◌≢◌, ◌≤◌, ◌⊎◌}
+pub use Rattle.std.proofs.Math.IntN.{ℤ}
+pub use Rattle.std.proofs.Math.Seq.{take-append_seam}
+pub use Rattle.std.proofs.lemmas.Bool.{cases_lt, false≢true}
+pub use Rattle.std.proofs.lemmas.Int.{ints, to_z-of_z}
+pub use Rattle.std.proofs.lemmas.Option.{slice_get_within}
+pub use Rattle.std.specs.Int.RustNames.{FitsSigned}
+pub use Rattle.std.specs.Option.{is_none}
+pub use Rattle.std.specs.Prelude.{decimal, ◌↔◌}

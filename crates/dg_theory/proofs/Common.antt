@@ -1,0 +1,31 @@
+-- The names that the proofs of this crate cite, passed on from one place. Declares nothing.
+pub use Rattle.dg_theory.specs.Burning.{BurnsInOrder, FiresFreely, MayBurn, among, edges_into}
+pub use Rattle.dg_theory.specs.BurningLaws.{BurnsToReduced, BurntIsReduced, GreatestIsOne, UnburntFires, unburnt_by}
+pub use Rattle.dg_theory.specs.Distances.{IsDistance}
+pub use Rattle.dg_theory.specs.DualityLaws.{Clifford, DualTests, HighRank, LossOfDual, RankExists, RankOfDual, RankOfSum, RankOnce, RiemannRoch}
+pub use Rattle.dg_theory.specs.EquivalenceLaws.{EquivalenceIsReflexive, EquivalenceIsSymmetric, EquivalenceIsTransitive, EquivalentByPlays, EquivalentDegrees}
+pub use Rattle.dg_theory.specs.ExistenceLaws.{ReducedExists, RichIsWinnable}
+pub use Rattle.dg_theory.specs.Firing.{AgreeOn, Amounts, AreEquivalent, FiresTo, HasNoDebtOff, IsEffective, degree, fired, gain, indicator, multiple, only_at}
+pub use Rattle.dg_theory.specs.FiringLaws.{ConstantScriptsDoNothing, FiringAddsUp, FiringKeepsDegree, SameByConstant}
+pub use Rattle.dg_theory.specs.JoinLaws.{EdgeIsAdded, JoinedIsMultigraph, SizeStays, ValenceGrows}
+pub use Rattle.dg_theory.specs.Joins.{at_either, entry_more, on_pair, one_more}
+pub use Rattle.dg_theory.specs.Multigraph.{IsMultigraph, JoinedIn, Multigraph, along, edge_count, edges_between, genus, here, valence}
+pub use Rattle.dg_theory.specs.Play.{IsWinnable, Play, lend, played, script_of_play}
+pub use Rattle.dg_theory.specs.Rank.{HasRankAtLeast, IsBefore, IsFirstLoss, IsRank, canonical, less}
+pub use Rattle.dg_theory.specs.RankLaws.{EquivalentLoss, EquivalentRank, LossBoundsRank, LossOnce, PoorRank, RankBelow, RankZero, RichRank}
+pub use Rattle.dg_theory.specs.Reduced.{IsReduced, edges_out}
+pub use Rattle.dg_theory.specs.ReducedLaws.{ReducedBelowGenus, ReducedDecides, ReducedOnce}
+pub use Rattle.dg_theory.specs.Sums.{sum_below, total_below}
+pub use Rattle.dg_theory.specs.WinningLaws.{EquivalentWinnable, WinnableByClass, WinnableByScript}
+pub use Rattle.std.proofs.Common.{Bool, List, [], add-mul, add-one, ap, arith, false, inl, inr, ltb, mul-one, mul-zero, mul_assoc, mul_comm, not, pow-suc, refl, subst, suc, suc-mul, sym, take, true, zero, zero-mul, ℕ, ⊎_elim, ◌&&◌, ◌*◌, ◌+◌, ◌-◌, ◌<◌, ◌==◌, ◌^◌, ◌∙◌, ◌∷◌, ◌≡◌, ◌≢◌, ◌≤◌, ◌⊎◌}
+pub use Rattle.std.proofs.Math.IntN.{*ℤ-negsuc, *ℤ-one, *ℤ-zero, *ℤ_comm, neg_ℤ, negsuc, pos, pred_ℤ-*ℤ, suc_ℤ-*ℤ, zero-*ℤ, ℤ, ◌*ℤ◌, ◌+ℤ◌, ◌-ℤ◌}
+pub use Rattle.std.proofs.Math.Nat.{one-le-pow}
+pub use Rattle.std.proofs.lemmas.Bool.{and_from, and_parts, and_right, both_ways, cases_Bool, cases_eq, cases_lt, eq-eqb, eqb-true, false_from_ne_true, le-ltb, lt-ltb, ltb-true, ne_eqb, not-false, not-true, not_from_false, not_from_true, or_cases, or_from, or_left, or_right, true_from_ne_false}
+pub use Rattle.std.proofs.lemmas.Bool.Decides.{nat_tests}
+pub use Rattle.std.proofs.lemmas.Int.{by_lt_z, ints}
+pub use Rattle.std.proofs.lemmas.Nat.{mul-le}
+pub use Rattle.std.specs.Int.RustNames.{unsigned_abs}
+pub use Rattle.std.specs.Int.Signed.{le_z}
+pub use Rattle.std.specs.List.{list_any, slice_index_or}
+pub use Rattle.std.specs.Prelude.{if◌then◌else◌, Some, nat_lt, slice_get, slice_index, ◌<ℤ◌, ◌||◌, ◌↔◌, ◌≤ℤ◌}
+pub use borrow.Author.Differences.{down, up}
