@@ -18,30 +18,38 @@ All names:
 - `Table`, `example`: a table; the table of a file in the clone's folder `examples`
 - `judge`, `rank`, `rr`, `rehearse`, `greedy`, `party`: the commands for one table
 - `judge_all`, `rank_all`, `rr_all`, `to_csv`: those for many; a CSV file of their answers
+- `Answers`: the answers of a sweep, one by one, or as `VerdictColumns`, `RankTestColumns` or `RiemannRochColumns`
+- `EffectiveDivisors`, `LinearSystem`: what `effective_divisors` and `linear_system` of a table are
 - `Verdict`, `RankTest`, `RiemannRoch`, `Entry`, `History`, `Party`: answers; most are an `Answer` or a dict
+- `Moved`, `Given`, `Joined`, `Looked`, `Judged`, `Tested`, `Stale`, `Claimed`, `Declined`, `Bad`, `Turns`: the kinds of entries
 - `RefusedVerdict`, `RefusedRankTest`, `RefusedRiemannRoch`: rows of refused tables; each is a `Refused`
-- `Session`, `Ended`, `End`: a session; that it has ended, and how
+- `Session`, `AsyncSession`, `Ended`, `End`: a session, and one for asyncio; that it has ended, and how
 - `Fault`, `ProgramNotFound`, `find_program`: a refusal; that no program is found; where one is
 - `flaw`, `fired`, `burnt`, `edges`, `joined`, `picture`: the game itself, without the program; a picture of a table
 - `run`, `answer`, `history`: the lines that any command prints; what a line and a history say
 """
 
 from dollar.answers import (
-    Answer, Entry, History, Party, RankTest, Refused, RefusedRankTest, RefusedRiemannRoch, RefusedVerdict, RiemannRoch, Verdict,
-    answer, history, to_csv)
+    Answer, Bad, Claimed, Declined, Entry, Given, History, Joined, Judged, Looked, Moved, Party, RankTest, Refused, RefusedRankTest,
+    RefusedRiemannRoch, RefusedVerdict, RiemannRoch, Stale, Tested, Turns, Verdict, answer, history)
 from dollar.checks import burnt, edges, fired, flaw, joined
+from dollar.columns import RankTestColumns, RiemannRochColumns, VerdictColumns
 from dollar.commands import greedy, judge, party, rank, rehearse, rr, run
+from dollar.csvs import to_csv
+from dollar.divisors import EffectiveDivisors, LinearSystem
 from dollar.drawing import picture
 from dollar.program import Fault, ProgramNotFound, find_program
-from dollar.session import End, Ended, Session
-from dollar.sweeps import judge_all, rank_all, rr_all
+from dollar.session import AsyncSession, End, Ended, Session
+from dollar.sweeps import Answers, judge_all, rank_all, rr_all
 from dollar.table import Table, example
 
 __version__ = "1.1.0"
 
 __all__ = [
-    "Answer", "End", "Ended", "Entry", "Fault", "History", "Party", "ProgramNotFound", "RankTest", "Refused", "RefusedRankTest",
-    "RefusedRiemannRoch", "RefusedVerdict", "RiemannRoch", "Session", "Table", "Verdict", "answer", "burnt", "edges", "example",
-    "find_program", "fired", "flaw", "greedy", "history", "joined", "judge", "judge_all", "party", "picture", "rank", "rank_all",
-    "rehearse", "rr", "rr_all", "run", "to_csv",
+    "Answer", "Answers", "AsyncSession", "Bad", "Claimed", "Declined", "EffectiveDivisors", "End", "Ended", "Entry", "Fault",
+    "Given", "History", "Joined", "Judged", "LinearSystem", "Looked", "Moved", "Party", "ProgramNotFound", "RankTest",
+    "RankTestColumns", "Refused", "RefusedRankTest", "RefusedRiemannRoch", "RefusedVerdict", "RiemannRoch",
+    "RiemannRochColumns", "Session", "Stale", "Table", "Tested", "Turns", "Verdict", "VerdictColumns", "answer", "burnt",
+    "edges", "example", "find_program", "fired", "flaw", "greedy", "history", "joined", "judge", "judge_all", "party",
+    "picture", "rank", "rank_all", "rehearse", "rr", "rr_all", "run", "to_csv",
 ]

@@ -2,34 +2,43 @@
 
 from __future__ import annotations
 
-import csv
 import re
 from collections import defaultdict
 from collections.abc import Mapping as AbstractMapping
-from dataclasses import dataclass, fields
+from dataclasses import dataclass
 from html import escape
-from typing import IO, Any, Callable, ClassVar, DefaultDict, Dict, Iterable, Iterator, List, Optional, Pattern, Tuple, TypeVar, Union
+from typing import (
+    TYPE_CHECKING, Any, Callable, DefaultDict, Dict, Iterable, Iterator, List, Mapping, Optional, Pattern, Tuple, Type, TypeVar, Union)
 
 from dollar import checks, drawing
 from dollar.grammar import GRAMMAR
-from dollar.program import Fault
+from dollar.program import Fault, Place
+from dollar.vertices import Pairs, Vertices, by_name
 
-Pairs = Dict[str, int]
+if TYPE_CHECKING:
+    from dollar.table import Table
+
 Row = TypeVar("Row", bound="Refused")
 
 
-def pairs_text(amounts: Pairs) -> str:
+def pairs_text(amounts: Mapping[Any, int]) -> str:
     """The amounts as the program prints them.
 
     >>> pairs_text({"a": 2, "b": -1})
     'a=2 b=-1'
     """
-    return " ".join("%s=%d" % pair for pair in amounts.items())
+    return " ".join("%s=%d" % pair for pair in by_name(amounts).items())
 
 
-def pairs_of(text: str) -> Pairs:
-    """The amounts that the program has printed so."""
-    return {name: int(amount) for name, amount in (pair.split("=") for pair in text.split(" "))}
+def pairs_of(text: str, vertices: Optional[Vertices] = None) -> Pairs:
+    """The amounts that the program has printed so, by the vertices of a table, or by their names if there is none."""
+    found: Pairs = {name: int(amount) for name, amount in (pair.split("=") for pair in text.split(" "))}
+    return found if vertices is None else vertices.read(found)
+
+
+def vertices_of(table: Any) -> Optional[Vertices]:
+    """The vertices of a Table; those of a dict or a file are their names."""
+    return getattr(table, "_vertices", None)
 
 
 class Answer:
@@ -59,11 +68,49 @@ class Answer:
     def __hash__(self) -> int:
         return hash(str(self))
 
+    def as_dict(self) -> Dict[str, object]:
+        """The answer as a dict for `json.dumps`, amounts by the names of the vertices.
+
+        >>> from dollar import Table, judge, rank
+        >>> judge(Table([[0, 1], [1, 0]], [2, -1])).as_dict()
+        {'winnable': True, 'script': {'0': 0, '1': -1}, 'reduced': {'0': 1, '1': 0}, 'burning': ['0', '1']}
+        >>> rank(Table([[0, 1], [1, 0]], [2, -1]), 1).as_dict()
+        {'holds': True, 'degree': 1}
+        """
+        return {name: plain(value) for name, value in vars(self).items() if not name.startswith("_") and value is not None}
+
+
+def plain(value: Any) -> object:
+    """A part of an answer for JSON."""
+    if isinstance(value, Answer):
+        return value.as_dict()
+    return by_name(value) if isinstance(value, dict) else value
+
+
+class OfTable(Answer):
+    """An answer about a table, which it knows if the table was given. What the table is made of is kept, and made when it is asked for."""
+
+    @property
+    def table(self) -> Optional[Table]:
+        """The table that was asked about; None for an answer out of a history."""
+        from dollar.table import made_of
+
+        found = made_of(vars(self).get("_table"))
+        vars(self)["_table"] = found
+        return found
+
+    def judged(self, table: Optional[Mapping[str, Any]] = None) -> Mapping[str, Any]:
+        """The table that is given, or else the one that was asked about."""
+        judged = self.table if table is None else table
+        if judged is None:
+            raise ValueError("an answer out of a history knows no table: say which one it is about")
+        return judged
+
 
 @dataclass(frozen=True, eq=False)
-class Verdict(Answer):
+class Verdict(OfTable):
     """Whether all debts can be cleared; how often each vertex lends; the reduced divisor to which that leads; and the order in which
-    all vertices burn in it, which `judge` tells, and None else.
+    all vertices burn in it, which `judge` tells, and None else. Its keys are the vertices of the table.
 
     >>> from dollar import Table, judge
     >>> table = Table({"vertices": ["a", "b"], "edges": [["a", "b", 1]], "amounts": [2, -1], "q": "a"})
@@ -88,9 +135,12 @@ class Verdict(Answer):
     winnable: bool
     script: Pairs
     reduced: Pairs
-    # What a verdict of `judge` has beside its parts.
-    burning: ClassVar[Optional[List[str]]] = None
-    table: ClassVar[Any] = None
+
+    @property
+    def burning(self) -> Optional[List[Any]]:
+        """The vertices in the order in which they burn in the reduced divisor."""
+        found: Optional[List[Any]] = vars(self).get("_burning")
+        return found
 
     def __bool__(self) -> bool:
         return self.winnable
@@ -101,21 +151,14 @@ class Verdict(Answer):
     def parts(self) -> Tuple[Any, ...]:
         return "winnable" if self.winnable else "unwinnable", self.script, self.reduced
 
-    def judged(self, table: Any = None) -> Any:
-        """The table that is given, or else the one that was judged."""
-        judged = self.table if table is None else table
-        if judged is None:
-            raise ValueError("a verdict out of a history knows no table: say which one it is about")
-        return judged
-
-    def check(self, table: Any = None) -> None:
+    def check(self, table: Optional[Mapping[str, Any]] = None) -> None:
         """Checks the verdict by its definition, which needs no trust in the program. A ValueError tells what is wrong. A verdict of
         `judge` and `judge_all` knows its table.
 
         >>> from dollar import Table, judge
         >>> table = Table([[0, 1], [1, 0]], [2, -1])
         >>> judge(table).check()
-        >>> Verdict(False, {"0": 0, "1": -1}, {"0": 1, "1": 0}).check(table)
+        >>> Verdict(False, {0: 0, 1: -1}, {0: 1, 1: 0}).check(table)
         Traceback (most recent call last):
             ...
         ValueError: q is in debt exactly where nothing can be won
@@ -124,12 +167,20 @@ class Verdict(Answer):
         if found is not None:
             raise ValueError(found)
 
+    def as_dict(self) -> Dict[str, object]:
+        found = super().as_dict()
+        if self.burning is not None:
+            names = getattr(self.script, "vertices", None)
+            found["burning"] = [str(v) if names is None else names.names[names.places[v]] for v in self.burning]
+        return found
+
     def _repr_svg_(self) -> Optional[str]:
-        return None if self.table is None else drawing.picture(self.table, script=self.script)
+        table = self.table
+        return None if table is None else drawing.picture(table, script=self.script)
 
 
 @dataclass(frozen=True, eq=False)
-class RankTest(Answer):
+class RankTest(OfTable):
     """Whether so many dollars can be lost, wherever; if not, the first way to lose them after which the table can't be won. `loss`
     is None as well where a law settles a test that is past the limits.
 
@@ -138,7 +189,7 @@ class RankTest(Answer):
     >>> print(rank(table, 1))
     rank at least 1
     >>> rank(table, 2)
-    RankTest(holds=False, degree=2, loss={'0': 0, '1': 2})
+    RankTest(holds=False, degree=2, loss={0: 0, 1: 2})
     """
 
     holds: bool
@@ -156,6 +207,24 @@ class RankTest(Answer):
     def parts(self) -> Tuple[Any, ...]:
         word = "rank at least" if self.holds else "rank below"
         return (word, self.degree) if self.loss is None else (word, self.degree, self.loss)
+
+    def check(self, table: Optional[Mapping[str, Any]] = None, program: Optional[Place] = None) -> None:
+        """Checks the test by its definition. A ValueError tells what is wrong. Each loss in the order of lists, up to the one that is
+        told, is taken from the table, and the verdict on that is checked as `Verdict.check` does; so a long test takes long.
+
+        >>> from dollar import Table, rank
+        >>> table = Table([[0, 3], [3, 0]], [1, 1])
+        >>> rank(table, 1).check()
+        >>> RankTest(True, 2).check(table)
+        Traceback (most recent call last):
+            ...
+        ValueError: what is left after a loss of {0: 0, 1: 2} can't be won
+        """
+        from dollar.divisors import flaw_of_rank_test
+
+        found = flaw_of_rank_test(self.judged(table), self, program)
+        if found is not None:
+            raise ValueError(found)
 
 
 @dataclass(frozen=True, eq=False)
@@ -195,6 +264,10 @@ class RiemannRoch(AbstractMapping[str, Optional[int]]):
     def __hash__(self) -> int:
         return hash(tuple(self.values()))
 
+    def as_dict(self) -> Dict[str, object]:
+        """The numbers as a dict for `json.dumps`."""
+        return dict(self)
+
     def __str__(self) -> str:
         return "\n".join("%s %s" % (word, "?" if number is None else number) for word, number in self.items())
 
@@ -202,30 +275,39 @@ class RiemannRoch(AbstractMapping[str, Optional[int]]):
         return table_html(self, [["?" if number is None else number for number in self.values()]])
 
 
-@dataclass(frozen=True, eq=False)
+@dataclass(frozen=True, eq=False, repr=False)
 class Entry(Answer):
-    """An answer in a history or a session: its word, and what belongs to it.
+    """An answer in a history or a session: its word, and what belongs to it. Each kind has a class of its own, which tells what is there.
 
     `word` is the first word of a reply, as `moved` or `stale`, or `not won`, `rank at least`, `rank below`, `turns`, or `refused` or
     `bad` and why. `gifts` is the count of gifts, levies and joins, `amounts` what the vertices hold,
-    `found` the verdict or the rank test that was entered. What begins with `bad` has no number, and changed nothing.
+    `found` the verdict or the rank test that was entered. What begins with `bad` has no number, and changed nothing. In a session
+    `seat` and `line` are what was asked, and `step` is how many lines were answered, with this one.
 
     >>> from dollar import Table, rehearse
     >>> looked, moved, verdict = rehearse(Table([[0, 1], [1, 0]], [2, -1]), ["1 look", "2 lend 0", "1 commit"])
     >>> print(moved)
     1 moved 0=1 1=0
     >>> moved.word, moved.amounts, verdict.found.winnable
-    ('moved', {'0': 1, '1': 0}, True)
-    >>> moved == ("moved", {"0": 1, "1": 0})
-    True
+    ('moved', {0: 1, 1: 0}, True)
+    >>> moved == ("moved", {0: 1, 1: 0}), moved
+    (True, Moved(word='moved', amounts={0: 1, 1: 0}, number=1))
     """
 
-    word: str
+    word: str = ""
     gifts: Optional[int] = None
     amounts: Optional[Pairs] = None
     found: Union[Verdict, RankTest, None] = None
     number: Optional[int] = None
     seat: Optional[int] = None
+    line: Optional[str] = None
+    step: Optional[int] = None
+
+    def __new__(cls, word: str = "", *parts: Any, **more: Any) -> Entry:
+        """An entry of the kind that its word tells."""
+        kind = ENTRIES.get(word.partition(" ")[0], Entry) if cls is Entry else cls
+        made: Entry = object.__new__(kind)
+        return made
 
     def text(self) -> str:
         """The text of the answer, without number and seat."""
@@ -234,12 +316,82 @@ class Entry(Answer):
         return " ".join(pairs_text(part) if isinstance(part, dict) else str(part) for part in self.parts())
 
     def __str__(self) -> str:
-        return "".join("%d " % number for number in (self.number, self.seat) if number is not None) + self.text()
+        numbers = (self.number, self.seat if self.step is None else None)
+        return "".join("%d " % number for number in numbers if number is not None) + self.text()
+
+    def __repr__(self) -> str:
+        return "%s(%s)" % (type(self).__name__, ", ".join("%s=%r" % pair for pair in vars(self).items() if pair[1] is not None))
 
     def parts(self) -> Tuple[Any, ...]:
         if self.found is not None:
             return self.found.parts()
         return tuple(part for part in (self.word, self.gifts, self.amounts) if part is not None)
+
+
+class Moved(Entry):
+    """A move was made, and led to these amounts."""
+
+    amounts: Pairs
+
+
+class Given(Entry):
+    """A gift or a levy was made."""
+
+    gifts: int
+    amounts: Pairs
+
+
+class Joined(Entry):
+    """An edge was added."""
+
+    gifts: int
+    amounts: Pairs
+
+
+class Looked(Entry):
+    """A seat has looked."""
+
+    gifts: int
+    amounts: Pairs
+
+
+class Judged(Entry):
+    """The verdict on a look was entered."""
+
+    found: Verdict
+
+
+class Tested(Entry):
+    """The rank test on a look was entered."""
+
+    found: RankTest
+
+
+class Stale(Entry):
+    """A gift, a levy or a join was made since the look."""
+
+    gifts: int
+
+
+class Claimed(Entry):
+    """A seat has claimed that nobody is in debt: `won`, or `not won`."""
+
+
+class Declined(Entry):
+    """A call that the game refused: `refused` and why."""
+
+
+class Bad(Entry):
+    """A line that made no entry: `bad` and why."""
+
+
+class Turns(Entry):
+    """The end of a greedy game whose turns were used up."""
+
+
+ENTRIES: Dict[str, Type[Entry]] = {
+    "moved": Moved, "given": Given, "joined": Joined, "looked": Looked, "winnable": Judged, "unwinnable": Judged, "rank": Tested,
+    "stale": Stale, "won": Claimed, "not": Claimed, "refused": Declined, "bad": Bad, "turns": Turns}
 
 
 class History(List[Entry]):
@@ -254,6 +406,10 @@ class History(List[Entry]):
     def __str__(self) -> str:
         return "\n".join(map(str, self))
 
+    def as_dicts(self) -> List[Dict[str, object]]:
+        """The entries as dicts for `json.dumps`."""
+        return [each.as_dict() for each in self]
+
     def _repr_html_(self) -> str:
         return table_html(("number", "seat", "answer"), ((each.number, each.seat, each.text()) for each in self))
 
@@ -264,7 +420,7 @@ class Party:
 
     >>> from dollar import Table, party
     >>> played = party(Table([[0, 1], [1, 0]], [2, -1]), ["lend 0"], ["jump"])
-    >>> played.history == [("moved", {"0": 1, "1": 0})], played.calls, played.faults
+    >>> played.history == [("moved", {0: 1, 1: 0})], played.calls, played.faults
     (True, [1, 0], {})
     >>> print(played)
     0 1 moved 0=1 1=0
@@ -285,6 +441,11 @@ class Party:
         seats = ("seat %d calls %d" % (seat, calls) for seat, calls in enumerate(self.calls, 1))
         return "\n".join([*map(str, self.history), "entries %d" % len(self.history), "gifts %d" % self.gifts,
                           "position " + pairs_text(self.position), *seats])
+
+    def as_dict(self) -> Dict[str, object]:
+        """The party as a dict for `json.dumps`."""
+        return {"history": self.history.as_dicts(), "gifts": self.gifts, "position": by_name(self.position), "calls": self.calls,
+                "faults": {str(seat): text for seat, text in self.faults.items()}}
 
     def _repr_html_(self) -> str:
         return self.history._repr_html_()
@@ -312,6 +473,10 @@ class Refused(Fault):
 
     def __bool__(self) -> bool:
         return False
+
+    def as_dict(self) -> Dict[str, object]:
+        """The row as a dict for `json.dumps`."""
+        return {"refused": self.refused}
 
     def __reduce__(self) -> Tuple[Callable[..., Refused], Tuple[Any, ...]]:
         return refusal, (type(self), self.text, self.table)
@@ -386,11 +551,11 @@ def parts_of(text: str) -> Tuple[str, ...]:
     raise no_answer(text)
 
 
-def entry(text: str, number: Optional[int] = None, seat: Optional[int] = None) -> Entry:
-    """The entry with this text, which has no number and no seat before it.
+def entry(text: str, vertices: Optional[Vertices] = None, **more: Any) -> Entry:
+    """The entry with this text, which has no number and no seat before it; and what else is known of it.
 
     >>> entry("given 1 a=2 b=0 c=-1")
-    Entry(word='given', gifts=1, amounts={'a': 2, 'b': 0, 'c': -1}, found=None, number=None, seat=None)
+    Given(word='given', gifts=1, amounts={'a': 2, 'b': 0, 'c': -1})
     >>> entry("lent a")
     Traceback (most recent call last):
         ...
@@ -398,12 +563,12 @@ def entry(text: str, number: Optional[int] = None, seat: Optional[int] = None) -
     """
     word, *rest = parts_of(text)
     if word in ("winnable", "unwinnable"):
-        return Entry(word, found=verdict_of(text), number=number, seat=seat)
+        return Entry(word, found=verdict_of(text, None, vertices), **more)
     if word in ("rank at least", "rank below"):
-        return Entry(word, found=rank_test_of(text), number=number, seat=seat)
+        return Entry(word, found=rank_test_of(text, None, vertices), **more)
     gifts = next((int(part) for part in rest if part.isdigit()), None)
-    amounts = next((pairs_of(part) for part in rest if "=" in part), None)
-    return Entry(word, gifts, amounts, number=number, seat=seat)
+    amounts = next((pairs_of(part, vertices) for part in rest if "=" in part), None)
+    return Entry(word, gifts, amounts, **more)
 
 
 def answer(text: str) -> Union[Verdict, RankTest, Entry]:
@@ -412,39 +577,50 @@ def answer(text: str) -> Union[Verdict, RankTest, Entry]:
     return read if read.found is None else read.found
 
 
-def numbered(line: str, with_seat: bool = False) -> Entry:
-    """The entry of a line that has its number before it, and its seat after that where it has one. An answer that begins with
+def numbered(text: str, with_seat: bool = False, vertices: Optional[Vertices] = None, **more: Any) -> Entry:
+    """The entry of a text that has its number before it, and its seat after that where it has one. An answer that begins with
     `bad` has neither."""
-    form = re.fullmatch(r"(\d+) (\d+) (.+)" if with_seat else r"(\d+)() (.+)", line, re.ASCII)
+    form = re.fullmatch(r"(\d+) (\d+) (.+)" if with_seat else r"(\d+)() (.+)", text, re.ASCII)
     if not form:
-        return entry(line)
-    return entry(form[3], int(form[1]), int(form[2]) if with_seat else None)
+        return entry(text, vertices, **more)
+    if with_seat:
+        more["seat"] = int(form[2])
+    found = entry(form[3], vertices, number=int(form[1]), **more)
+    if isinstance(found, (Bad, Turns)):
+        raise no_answer(text)
+    return found
 
 
-def history(lines: Iterable[str], with_seat: bool = False) -> History:
-    """The entries of these lines, which have their numbers before them, from 0 on."""
-    entries = History(numbered(line, with_seat) for line in lines)
+def history(lines: Iterable[str], with_seat: bool = False, table: Optional[Mapping[str, object]] = None) -> History:
+    """The entries of these lines, or of a file with them, which have their numbers before them, from 0 on. Amounts are by the vertices of
+    the table."""
+    entries = History(numbered(line.rstrip("\n"), with_seat, vertices_of(table)) for line in lines)
     if [each.number for each in entries] != list(range(len(entries))):
         raise ValueError("no history: %r" % [str(each) for each in entries])
     return entries
 
 
-def verdict_of(text: str, table: Any = None) -> Verdict:
-    """The verdict with this text."""
+def verdict_of(text: str, table: Any = None, vertices: Optional[Vertices] = None) -> Verdict:
+    """The verdict with this text, on a table, or on what one is made of."""
     word, *rest = parts_of(text)
     if word not in ("winnable", "unwinnable"):
         raise no_answer(text)
-    verdict = Verdict(word == "winnable", pairs_of(rest[0]), pairs_of(rest[1]))
-    vars(verdict).update(table=table, burning=rest[2].split(" ") if rest[2:] else None)
+    verdict = Verdict(word == "winnable", pairs_of(rest[0], vertices), pairs_of(rest[1], vertices))
+    order: Optional[List[Any]] = rest[2].split(" ") if rest[2:] else None
+    if order and vertices is not None:
+        order = [vertices.given[vertices.names.index(name)] for name in order]
+    vars(verdict).update(_table=table, _burning=order)
     return verdict
 
 
-def rank_test_of(text: str) -> RankTest:
-    """The rank test with this text."""
+def rank_test_of(text: str, table: Any = None, vertices: Optional[Vertices] = None) -> RankTest:
+    """The rank test with this text, of a table, or of what one is made of."""
     word, *rest = parts_of(text)
     if word not in ("rank at least", "rank below"):
         raise no_answer(text)
-    return RankTest(word == "rank at least", int(rest[0]), pairs_of(rest[1]) if rest[1:] else None)
+    test = RankTest(word == "rank at least", int(rest[0]), pairs_of(rest[1], vertices) if rest[1:] else None)
+    vars(test).update(_table=table)
+    return test
 
 
 def riemann_roch_of(text: str) -> RiemannRoch:
@@ -453,38 +629,6 @@ def riemann_roch_of(text: str) -> RiemannRoch:
     if not found:
         raise no_answer(text)
     return RiemannRoch(int(found[1]), int(found[2]), *(None if rank == "?" else int(rank) for rank in found.groups()[2:]))
-
-
-def cell(value: Any) -> Any:
-    """What a CSV file has for a value."""
-    if isinstance(value, dict):
-        return pairs_text(value)
-    return str(value).lower() if isinstance(value, bool) else value
-
-
-def to_csv(answers: Iterable[Union[Verdict, RankTest, RiemannRoch, Refused]], file: Union[str, IO[str]]) -> int:
-    """Writes a CSV file of the answers of a sweep, a row for each: the number of the table, from 0, what was found, and in the last
-    column why a table was refused. `file` is its place, or a file that is open for writing. Tells how many rows there are.
-
-    >>> import sys
-    >>> from dollar import Table, rr_all
-    >>> to_csv(rr_all([Table([[0, 3], [3, 0]], [1, 1]), {"vertices": []}]), sys.stdout)
-    table,degree,genus,rank,dual,refused
-    0,2,2,1,0,
-    1,,,,,shape of top
-    2
-    """
-    if isinstance(file, str):
-        with open(file, "w", newline="") as opened:
-            return to_csv(answers, opened)
-    writer = csv.writer(file, lineterminator="\n")
-    count = 0
-    for count, row in enumerate(answers, 1):
-        names = [column.name for column in fields(row) if column.name != "refused"]
-        if count == 1:
-            writer.writerow(["table", *names, "refused"])
-        writer.writerow([count - 1, *(cell(getattr(row, name)) for name in names), getattr(row, "refused", None)])
-    return count
 
 
 def table_html(names: Iterable[object], rows: Iterable[Iterable[object]]) -> str:

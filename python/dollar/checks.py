@@ -2,98 +2,143 @@
 
 from __future__ import annotations
 
-from typing import Any, Dict, Iterable, List, Optional
+from typing import Any, Dict, Hashable, Iterable, List, Mapping, NamedTuple, Optional, Sequence, Tuple
+
+from dollar.vertices import Pairs, Vertex
+
+Near = Dict[Hashable, Dict[Hashable, int]]
 
 
-def joined(table: Any, u: str, v: str) -> Dict[str, Any]:
+class Parts(NamedTuple):
+    """What a table has, by its vertices: those that it was made of, or the names of a dict."""
+
+    vertices: Sequence[Vertex]
+    edges: Sequence[Tuple[Vertex, Vertex, int]]
+    amounts: Sequence[int]
+    q: Vertex
+
+
+def parts(table: Mapping[str, Any]) -> Parts:
+    """The parts of a Table, or of the members of a table file."""
+    if hasattr(table, "place"):
+        return Parts(table.vertices, table.edges, table.amounts, table.q)  # type: ignore[attr-defined]
+    return Parts(table["vertices"], table["edges"], table["amounts"], table["q"])
+
+
+def by_vertices(table: Mapping[str, Any], amounts: Mapping[Any, int]) -> Mapping[Any, int]:
+    """Numbers of some vertices, by the vertices of the table; a Table knows them by their texts too."""
+    place = getattr(table, "place", None)
+    return amounts if place is None else {table.vertices[place(v)]: amount for v, amount in amounts.items()}  # type: ignore[attr-defined]
+
+
+def joined(table: Mapping[str, Any], u: Vertex, v: Vertex) -> Dict[str, Any]:
     """The table with one more edge between two vertices, as `join` makes it, as a dict; the amounts are as they were.
 
     >>> from dollar import Table
-    >>> edges(joined(Table([[0, 1], [1, 0]]), "0", "1"))
-    {'0': {'1': 2}, '1': {'0': 2}}
+    >>> joined(Table([[0, 1], [1, 0]]), 0, 1)["edges"]
+    [['0', '1', 1], ['0', '1', 1]]
     """
-    return dict(table, edges=[*table["edges"], [u, v, 1]])
+    place = getattr(table, "place", None)
+    ends = [u, v] if place is None else [table["vertices"][place(each)] for each in (u, v)]
+    return dict(table, edges=[*table["edges"], [*ends, 1]])
 
 
-def edges(table: Any) -> Dict[str, Dict[str, int]]:
-    """For each vertex its neighbours, with the number of edges to each."""
-    near: Dict[str, Dict[str, int]] = {name: {} for name in table["vertices"]}
-    for u, v, count in table["edges"]:
+def edges(table: Mapping[str, Any]) -> Near:
+    """For each vertex its neighbours, with the number of edges to each.
+
+    >>> from dollar import Table
+    >>> edges(Table([[0, 2], [2, 0]]))
+    {0: {1: 2}, 1: {0: 2}}
+    """
+    return near_of(parts(table))
+
+
+def near_of(its: Parts) -> Near:
+    near: Near = {v: {} for v in its.vertices}
+    for u, v, count in its.edges:
         near[u][v] = near[u].get(v, 0) + count
         near[v][u] = near[v].get(u, 0) + count
     return near
 
 
-def fired(table: Any, script: Dict[str, int]) -> Dict[str, int]:
+def fired(table: Mapping[str, Any], script: Mapping[Any, int]) -> Pairs:
     """The amounts after each vertex has lent as often as the script says.
 
     >>> from dollar import Table
-    >>> fired(Table([[0, 1], [1, 0]], [2, -1]), {"0": 1, "1": 0})
-    {'0': 1, '1': 0}
+    >>> fired(Table([[0, 1], [1, 0]], [2, -1]), {0: 1, 1: 0})
+    {0: 1, 1: 0}
     """
-    held = dict(zip(table["vertices"], table["amounts"]))
-    return {v: held[v] + sum(count * (script[w] - script[v]) for w, count in near.items()) for v, near in edges(table).items()}
+    its, lent = parts(table), by_vertices(table, script)
+    held = dict(zip(its.vertices, its.amounts))
+    return {v: held[v] + sum(count * (lent[w] - lent[v]) for w, count in near.items()) for v, near in near_of(its).items()}
 
 
-def burnt(table: Any, amounts: Dict[str, int]) -> List[str]:
+def burnt(table: Mapping[str, Any], amounts: Mapping[Any, int]) -> List[Any]:
     """The vertices in the order in which they burn from q: each the first of those that more edges join to burnt ones than they have
     dollars.
 
     >>> from dollar import Table
     >>> ring = Table([[0, 1, 0, 1], [1, 0, 1, 0], [0, 1, 0, 1], [1, 0, 1, 0]])
-    >>> burnt(ring, {"0": -2, "1": 0, "2": 3, "3": 0})
-    ['0', '1', '3']
+    >>> burnt(ring, {0: -2, 1: 0, 2: 3, 3: 0})
+    [0, 1, 3]
     """
-    order, near = [table["q"]], edges(table)
+    its, held = parts(table), by_vertices(table, amounts)
+    order, near = [its.q], near_of(its)
     while True:
-        burning = [v for v in near if v not in order and sum(near[v].get(w, 0) for w in order) > amounts[v]]
+        burning = [v for v in near if v not in order and sum(near[v].get(w, 0) for w in order) > held[v]]
         if not burning:
             return order
         order.append(burning[0])
 
 
-def misplaced(table: Any, amounts: Dict[str, int], order: List[str]) -> Optional[str]:
+def misplaced(table: Mapping[str, Any], amounts: Mapping[Any, int], order: Sequence[Vertex]) -> Optional[Vertex]:
     """The first vertex of an order that may not burn after those before it, or None: q comes first, and more edges join each other
     vertex to those before it than it has dollars.
 
     >>> from dollar import Table
     >>> ring = Table([[0, 1, 0, 1], [1, 0, 1, 0], [0, 1, 0, 1], [1, 0, 1, 0]])
-    >>> misplaced(ring, {"0": -2, "1": 0, "2": 1, "3": 0}, ["0", "1", "3", "2"])
-    >>> misplaced(ring, {"0": -2, "1": 0, "2": 1, "3": 0}, ["0", "1", "2", "3"])
-    '2'
+    >>> misplaced(ring, {0: -2, 1: 0, 2: 1, 3: 0}, [0, 1, 3, 2])
+    >>> misplaced(ring, {0: -2, 1: 0, 2: 1, 3: 0}, [0, 1, 2, 3])
+    2
     """
-    near = edges(table)
+    its, held = parts(table), by_vertices(table, amounts)
+    near = near_of(its)
     for count, v in enumerate(order):
-        if v != table["q"] if count == 0 else sum(near[v].get(w, 0) for w in order[:count]) <= amounts[v]:
+        if v != its.q if count == 0 else sum(near[v].get(w, 0) for w in order[:count]) <= held[v]:
             return v
     return None
 
 
-def flaw(table: Any, verdict: Iterable[Any]) -> Optional[str]:
+def flaw(table: Mapping[str, Any], verdict: Iterable[Any]) -> Optional[str]:
     """What is wrong in a verdict, or None where it is right, which needs no trust in the program.
 
     >>> from dollar import Table, judge
     >>> table = Table([[0, 1], [1, 0]], [2, -1])
     >>> flaw(table, judge(table))
-    >>> flaw(table, ("winnable", {"0": 0, "1": 0}, {"0": 1, "1": 0}))
+    >>> flaw(table, ("winnable", {0: 0, 1: 0}, {0: 1, 1: 0}))
     'the script leads elsewhere'
     """
     word, script, reduced = verdict
-    q, names = table["q"], list(table["vertices"])
+    its = parts(table)
+    q, names = its.q, list(its.vertices)
+    try:
+        script, reduced = by_vertices(table, script), by_vertices(table, reduced)
+    except ValueError:
+        return "the vertices are others, or the script is not 0 at q"
     if list(script) != names or list(reduced) != names or script[q] != 0:
         return "the vertices are others, or the script is not 0 at q"
     if fired(table, script) != reduced:
         return "the script leads elsewhere"
     poor = [v for v in names if v != q and reduced[v] < 0]
     if poor:
-        return "in debt off q: " + ", ".join(poor)
+        return "in debt off q: " + ", ".join(map(str, poor))
     order = getattr(verdict, "burning", None) or burnt(table, reduced)
     left = [v for v in names if v not in order]
     if left:
-        return "not all burns: %s is left" % ", ".join(left)
+        return "not all burns: %s is left" % ", ".join(map(str, left))
     early = misplaced(table, reduced, order)
     if early is not None:
-        return "%s burns too early" % early
+        return "%s burns too early" % (early,)
     if word != ("winnable" if reduced[q] >= 0 else "unwinnable"):
         return "q is in debt exactly where nothing can be won"
     return None

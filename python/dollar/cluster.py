@@ -1,21 +1,26 @@
-"""Judges the tables of a file, one on each line, on the workers of a Dask cluster, and writes a CSV file.
+"""Asks a command about each line of a file on the workers of a Dask cluster, and writes a CSV file.
 
-    dollar sweep [--scheduler ADDRESS | --processes N] [--program PROGRAM] [--chunk LINES] FILE CSV
+    dollar sweep [--scheduler ADDRESS | --processes N] [--program PROGRAM] judge|rr FILE CSV
+    dollar sweep [..] rank FILE K CSV
+    dollar sweep [..] judge|rr TABLE --divisors LINES CSV
+    dollar sweep [..] rank TABLE K --divisors LINES CSV
 
-The cluster is the one whose scheduler has the address, or one of N processes on this machine, by default as many as there are
-processors. PROGRAM is the program as the workers find it; by default the one that is found here. A worker hands each of its chunks, of
-1,000 lines by default, to a `dollar judge --lines /dev/stdin`. Dask is the Python module `distributed`, in Debian the package
-python3-distributed.
+The lines of FILE are tables, as for the program's --lines; those of LINES are divisors of the table TABLE, as for its --divisors. The
+cluster is the one whose scheduler has the address, or one of N processes on this machine, by default as many as there are processors.
+PROGRAM is the program as the workers find it; by default the one that is found here. A worker takes as many lines at once as last
+about half a second. Dask is the Python module `distributed`, in Debian the package python3-distributed.
 
-The CSV file has a row for each line, in order: its number from 1 on, the answer (`winnable`, `unwinnable`, or `refused` and why),
-how often each vertex lends, and the amounts after that. Where the file is there already, the sweep goes on after its last whole
-row: so an interrupted sweep is started again by the same words. A chunk whose worker has died is done again by another. On a
-terminal the number of rows is shown as it grows.
+The CSV file has a row for each line, in order: its number from 1 on, a checksum of it, what was found, and in the last column why it was
+refused. Where the file is there already, the sweep goes on after its last whole row: so an interrupted sweep is started again by the
+same words. A file with the rows of other lines is refused, and not changed. What a worker had when it died is done again by another. On
+a terminal the number of rows is shown as it grows.
 
-    >>> row(7, "winnable by a=0 b=-1 to a=0 b=1")
-    [7, 'winnable', 'a=0 b=-1', 'a=0 b=1']
-    >>> row(8, "refused no vertex q")
-    [8, 'refused no vertex q', '', '']
+    >>> row("judge", 7, 0xab, "winnable by a=0 b=-1 to a=0 b=1")
+    [7, '000000ab', 'true', 'a=0 b=-1', 'a=0 b=1', '']
+    >>> row("rank", 8, 0, "rank below 2 at ?")
+    [8, '00000000', 'false', '2', '', '']
+    >>> row("rr", 9, 0, "refused no vertex q")
+    [9, '00000000', '', '', '', '', 'no vertex q']
 """
 
 from __future__ import annotations
@@ -24,85 +29,160 @@ import argparse
 import collections
 import csv
 import importlib
-import itertools
 import os
 import signal
 import subprocess
 import sys
-from typing import Any, Deque, Iterable, Iterator, List
+import time
+import zlib
+from typing import Any, Deque, Iterable, Iterator, List, NamedTuple, Optional, Sequence, Tuple, Union
 
-from dollar.answers import parts_of
-from dollar.program import find_program
+from dollar.answers import no_answer, parts_of
+from dollar.program import command_line, find_program
+from dollar.readers import RIEMANN_ROCH
+from dollar.sweeps import Progress
+from dollar.table import members
 
-HEADER = ["line", "answer", "script", "amounts"]
+FOUND = {"judge": ["winnable", "script", "reduced"], "rank": ["holds", "degree", "loss"], "rr": ["degree", "genus", "rank", "dual"]}
+# How long a worker is to need for the lines that it takes at once; and how many bytes they have at most.
+SECONDS, MOST_BYTES, FIRST = 0.5, 1 << 19, 8
+# What the program takes for all lines, in seconds, below which a cluster is of no use.
+SMALL = 10.0
 
 
-def judged(program: str, lines: List[bytes]) -> List[str]:
-    """The answers to some lines, by a run of the program on a worker."""
-    done = subprocess.run([program, "judge", "--lines", "/dev/stdin"], input=b"".join(lines), stdout=subprocess.PIPE)
-    if done.returncode:
-        raise ChildProcessError("%s ended with status %d" % (program, done.returncode))
-    return done.stdout.decode().splitlines()
+def header(command: str) -> List[str]:
+    return ["line", "crc32", *FOUND[command], "refused"]
 
 
-def row(number: int, answer: str) -> List[Any]:
-    """The row of the line with that number."""
+def row(command: str, number: int, checksum: int, answer: str) -> List[Any]:
+    """The row of the line with this number and checksum."""
+    first = [number, "%08x" % checksum]
     if answer.startswith("refused "):
-        return [number, answer, "", ""]
-    return [number, *parts_of(answer)]
+        return [*first, *("" for _ in FOUND[command]), answer[len("refused "):]]
+    if command == "rr":
+        numbers = RIEMANN_ROCH.fullmatch(answer)
+        if numbers is None:
+            raise no_answer(answer)
+        return [*first, *("" if each == "?" else each for each in numbers.groups()), ""]
+    word, *rest = parts_of(answer)
+    if word not in {"judge": ("winnable", "unwinnable"), "rank": ("rank at least", "rank below")}[command]:
+        raise no_answer(answer)
+    return [*first, "true" if word in ("winnable", "rank at least") else "false", *rest, *[""] * (2 - len(rest)), ""]
 
 
-def rows_kept(place: str) -> int:
-    """How many whole rows the file has; what follows the last of them is cut off."""
-    if not os.path.exists(place):
-        return 0
+def answered(words: Sequence[Union[str, bytes]], lines: bytes, program: str) -> Tuple[bytes, float]:
+    """The answers to some lines, by a run of the program on a worker, and how many seconds it took."""
+    began = time.monotonic()
+    with command_line(words, program) as (line, descriptors):
+        done = subprocess.run(line, input=lines, stdout=subprocess.PIPE, stderr=subprocess.PIPE, pass_fds=descriptors)
+    if done.returncode:
+        raise ChildProcessError("%s ended with status %d: %s" % (program, done.returncode, done.stderr.decode(errors="replace").strip()))
+    return done.stdout, time.monotonic() - began
+
+
+class Sweep(NamedTuple):
+    """A sweep: what the program is asked, and by what; the file with the lines; and the start of their checksums, which is that of the
+    table if they are divisors."""
+
+    command: str
+    words: List[Union[str, bytes]]
+    program: str
+    file: str
+    start: int
+
+    def lines(self) -> Iterator[Tuple[bytes, int]]:
+        """Each line, which ends with a newline, and its checksum."""
+        with open(self.file, "rb") as file:
+            for line in file:
+                line = line if line.endswith(b"\n") else line + b"\n"
+                yield line, zlib.crc32(line, self.start)
+
+
+def rows_kept(place: str, sweep: Sweep, lines: Iterator[Tuple[bytes, int]]) -> int:
+    """How many whole rows a file has, for which as many lines are taken; what follows the last of them is cut off."""
+    first = (",".join(header(sweep.command)) + "\n").encode()
     with open(place, "r+b") as file:
-        if not (",".join(HEADER) + "\n").encode().startswith(file.readline()):
-            raise ValueError("%s is there, and is no CSV file of a sweep; nothing was changed" % place)
+        size = len(file.readline())
         file.seek(0)
-        size = rows = 0
+        if not first.startswith(file.read(size)):
+            raise ValueError("%s is there, and is no CSV file of this sweep; nothing was changed" % place)
+        rows, size = 0, size if size == len(first) else 0
         for line in file:
-            if line.endswith(b"\n"):
-                size, rows = size + len(line), rows + 1
+            if not line.endswith(b"\n"):
+                break
+            of = next(lines, None)
+            if of is None or not line.startswith(b"%d,%08x," % (rows + 1, of[1])):
+                raise ValueError("row %d of %s is about another line; nothing was changed" % (rows + 1, place))
+            size, rows = size + len(line), rows + 1
         file.truncate(size)
-    return max(rows - 1, 0)
+    return rows
 
 
-def chunks(lines: Iterable[bytes], size: int) -> Iterator[List[bytes]]:
-    """The lines, so many at once; each ends with a newline."""
-    while chunk := [line.rstrip(b"\n") + b"\n" for line in itertools.islice(lines, size)]:
+class Pace:
+    """How many lines are taken at once, by what those before took."""
+
+    def __init__(self) -> None:
+        self.count, self.seconds = FIRST, 0.0
+
+    def took(self, count: int, seconds: float) -> None:
+        self.seconds += seconds
+        wanted = int(count * SECONDS / max(seconds, 0.001))
+        self.count = max(min(wanted, 4 * self.count), self.count // 4, 1)
+
+
+def chunks(lines: Iterator[Tuple[bytes, int]], pace: Pace) -> Iterator[List[Tuple[bytes, int]]]:
+    """The lines, some at once."""
+    chunk: List[Tuple[bytes, int]] = []
+    size = 0
+    for line in lines:
+        chunk.append(line)
+        size += len(line[0])
+        if len(chunk) >= pace.count or size >= MOST_BYTES:
+            yield chunk
+            chunk, size = [], 0
+    if chunk:
         yield chunk
 
 
-def answered(client: Any, program: str, lines: Iterable[bytes], size: int) -> Iterator[str]:
-    """The answers to the lines, in order. A few chunks for each thread of the cluster are under way at once."""
+def rows(client: Any, sweep: Sweep, lines: Iterator[Tuple[bytes, int]], pace: Pace) -> Iterator[Tuple[int, str]]:
+    """The checksum of each line, and its answer, in order. A few chunks for each thread of the cluster are under way at once."""
     under_way: Deque[Any] = collections.deque()
     most = 4 * max(sum(client.nthreads().values()), 1)
-    for chunk in chunks(lines, size):
-        under_way.append(client.submit(judged, program, chunk, pure=False, retries=3))
-        if len(under_way) >= most:
-            yield from under_way.popleft().result()
+
+    def first() -> Iterable[Tuple[int, str]]:
+        chunk, future = under_way.popleft()
+        out, seconds = future.result()
+        pace.took(len(chunk), seconds)
+        answers = out.decode().splitlines()
+        if len(answers) != len(chunk):
+            raise ValueError("%s gave %d answers to %d lines" % (sweep.program, len(answers), len(chunk)))
+        return zip((checksum for _, checksum in chunk), answers)
+
+    for chunk in chunks(lines, pace):
+        sent = b"".join(line for line, _ in chunk)
+        under_way.append((chunk, client.submit(answered, sweep.words, sent, sweep.program, pure=False, retries=3)))
+        while under_way and (len(under_way) >= most or under_way[0][1].done()):
+            yield from first()
     while under_way:
-        yield from under_way.popleft().result()
+        yield from first()
 
 
-def sweep(client: Any, words: argparse.Namespace) -> None:
-    """Writes the rows that the CSV file does not have yet."""
-    done = rows_kept(words.csv)
-    with open(words.file, "rb") as lines, open(words.csv, "a", newline="") as file:
-        for _ in itertools.islice(lines, done):
-            pass
-        writer = csv.writer(file, lineterminator="\n")
-        if file.tell() == 0:
-            writer.writerow(HEADER)
-        for number, answer in enumerate(answered(client, words.program, lines, words.chunk), done + 1):
-            writer.writerow(row(number, answer))
-            if number % words.chunk == 0:
-                file.flush()
-                if sys.stderr.isatty():
-                    print("\r%d rows" % number, end="", file=sys.stderr, flush=True)
-    if sys.stderr.isatty():
-        print(file=sys.stderr)
+def swept(client: Any, sweep: Sweep, place: str) -> Pace:
+    """Writes the rows that the CSV file does not have yet. Tells how long the program took for them."""
+    lines, pace, progress = sweep.lines(), Pace(), Progress(sys.stderr.isatty(), "rows")
+    number = rows_kept(place, sweep, lines) if os.path.exists(place) else 0
+    progress.count = number
+    try:
+        with open(place, "a", newline="", encoding="utf-8") as file:
+            writer = csv.writer(file, lineterminator="\n")
+            if file.tell() == 0:
+                writer.writerow(header(sweep.command))
+            for number, (checksum, answer) in enumerate(rows(client, sweep, lines, pace), number + 1):
+                writer.writerow(row(sweep.command, number, checksum, answer))
+                progress.add(1)
+    finally:
+        progress.close()
+    return pace
 
 
 def no_interrupts() -> None:
@@ -111,42 +191,75 @@ def no_interrupts() -> None:
 
 
 def count(word: str) -> int:
-    """A number of processes or lines."""
+    """A number of processes."""
     if not word.isdecimal() or int(word) == 0:
         raise argparse.ArgumentTypeError("a whole number from 1 on")
     return int(word)
 
 
+def degree(word: str) -> str:
+    """The degree of a rank test."""
+    if not word.isdecimal():
+        raise argparse.ArgumentTypeError("a whole number from 0 on")
+    return word
+
+
 def words_of(arguments: List[str]) -> argparse.Namespace:
     text = (__doc__ or "").partition("\n    >>>")[0].split("\n\n", 2)
-    parser = argparse.ArgumentParser(prog="dollar sweep", description=text[0], epilog=text[2],
+    parser = argparse.ArgumentParser(prog="dollar sweep", description=text[0], epilog=text[2], usage=text[1].strip().replace("\n", "\n   "),
                                      formatter_class=argparse.RawDescriptionHelpFormatter)
     where = parser.add_mutually_exclusive_group()
     where.add_argument("--scheduler", metavar="ADDRESS", help="the cluster to use")
     where.add_argument("--processes", metavar="N", type=count, default=os.cpu_count(), help="how many workers of its own")
     parser.add_argument("--program", help="the program, as the workers find it")
-    parser.add_argument("--chunk", metavar="LINES", type=count, default=1_000, help="how many lines a worker takes at once")
-    parser.add_argument("file", metavar="FILE")
-    parser.add_argument("csv", metavar="CSV")
+    commands = parser.add_subparsers(dest="command", required=True, metavar="judge|rank|rr")
+    for command in FOUND:
+        of = commands.add_parser(command, prog="dollar sweep " + command)
+        of.add_argument("file", metavar="FILE", help="the tables, one on each line; or with --divisors one table")
+        if command == "rank":
+            of.add_argument("degree", metavar="K", type=degree, help="how many dollars are lost")
+        of.add_argument("--divisors", metavar="LINES", help="a file with amounts for the table on each line")
+        of.add_argument("csv", metavar="CSV", help="the file that is written, or gone on with")
     return parser.parse_args(arguments)
 
 
+def sweep_of(given: argparse.Namespace, program: str) -> Sweep:
+    """The sweep that some words ask for."""
+    more = [given.degree] if given.command == "rank" else []
+    if given.divisors is None:
+        return Sweep(given.command, [given.command, "--lines", "/dev/stdin", *more], program, given.file, 0)
+    table = members(given.file)
+    return Sweep(given.command, [given.command, table, *more, "--divisors", "/dev/stdin"], program, given.divisors, zlib.crc32(table))
+
+
+def small(sweep: Sweep, pace: Pace) -> Optional[str]:
+    """What is said of a sweep that was too small for a cluster."""
+    if pace.seconds >= SMALL:
+        return None
+    return ("the program took %.1f s for these lines: that is too little for a cluster, and one run of `dollar %s` with %s does it sooner"
+            % (pace.seconds, sweep.command, "--divisors" if "--divisors" in sweep.words else "--lines"))
+
+
 def main(arguments: List[str]) -> int:
-    words = words_of(arguments)
-    with open(words.file, "rb"):
+    given = words_of(arguments)
+    with open(given.divisors or given.file, "rb"):
         pass
     try:
         dask = importlib.import_module("distributed")
     except ModuleNotFoundError as error:
         raise ValueError("this Python, %s, has %s" % (sys.executable, str(error).lower())) from error
 
-    if words.scheduler:
-        words.program = words.program or find_program()
-        with dask.Client(words.scheduler) as client:
-            sweep(client, words)
-        return 0
-    words.program = find_program(words.program)
-    with dask.LocalCluster(n_workers=words.processes, threads_per_worker=1, dashboard_address=None) as cluster, dask.Client(cluster) as client:
-        client.run(no_interrupts)
-        sweep(client, words)
+    if given.scheduler:
+        sweep = sweep_of(given, given.program or find_program())
+        with dask.Client(given.scheduler) as client:
+            pace = swept(client, sweep, given.csv)
+    else:
+        sweep = sweep_of(given, find_program(given.program))
+        with dask.LocalCluster(n_workers=given.processes, threads_per_worker=1, dashboard_address=None) as cluster, \
+                dask.Client(cluster) as client:
+            client.run(no_interrupts)
+            pace = swept(client, sweep, given.csv)
+    said = small(sweep, pace)
+    if said is not None:
+        print("dollar sweep: " + said, file=sys.stderr)
     return 0

@@ -6,7 +6,7 @@ from __future__ import annotations
 import itertools
 import math
 from html import escape
-from typing import Any, Callable, Dict, Iterable, Iterator, List, Mapping, NamedTuple, Optional, Sequence, Tuple
+from typing import Any, Callable, Dict, Iterable, Iterator, List, Mapping, NamedTuple, Optional, Sequence, Tuple, TypeVar
 
 from dollar import checks
 from dollar.places import Places, centred, places, places_of_text
@@ -22,6 +22,7 @@ HATCH = ('<defs><pattern id="hatch" width="6" height="6" patternUnits="userSpace
          '<path d="M0 0V6" stroke="#b3261e" stroke-opacity="0.45" stroke-width="1.3"/></pattern></defs>')
 PLATE = 'paint-order="stroke" stroke="%s" stroke-width="3" stroke-linejoin="round"'
 Point = Tuple[float, float]
+Thing = TypeVar("Thing")
 # A sign of the legend: how wide it is, its words, and what draws it at a place.
 Sign = Tuple[int, str, Callable[[float, float], Iterable[str]]]
 
@@ -81,7 +82,8 @@ def places_for(table: Any, own: Optional[str] = None) -> Places:
 
 
 def layout(table: Any, amounts: Iterable[object], own: Optional[str] = None) -> Dict[str, Any]:
-    """Where a page has the vertices of a table, and how large they and their names are, if these amounts are to fit."""
+    """Where a page has the vertices of a table, and how large they and their names are, if these amounts are to fit. It may be turned if
+    nobody has given the places."""
     names, found = table["vertices"], places_for(table, own)
     radius = radius_for(names, amounts)
     size = span(found, radius)
@@ -90,7 +92,7 @@ def layout(table: Any, amounts: Iterable[object], own: Optional[str] = None) -> 
     edge = radius + EDGE
     wide = max(right - left + 2 * edge, 2 * (radius + 70))
     return {
-        "radius": radius, "room": room(radius, AMOUNT_AT), "strands": STRANDS,
+        "radius": radius, "room": room(radius, AMOUNT_AT), "strands": STRANDS, "turns": own is None,
         "width": round(wide), "height": round(low - top + 2 * edge),
         "sizes": {name: name_size(name, radius) for name in names},
         "places": {name: [round(x * size - (left + right) / 2 + wide / 2, 1), round(y * size - top + edge, 1)]
@@ -146,7 +148,7 @@ def vertex(place: Point, r: int, name: str, amount: int, burns: bool, is_q: bool
 def drawn(middle: Point, wide: float, size: float, r: int, frame: Frame) -> Iterator[str]:
     """One drawing of a table around a place: edges, one of them blue if it was added between two vertices, the vertices, and lines of
     text below."""
-    table, edges = frame.table, checks.edges(frame.table)
+    table, edges = frame.table, checks.edges(dict(frame.table))
     place = {v: (middle[0] + size * x, middle[1] + size * y) for v, (x, y) in frame.places.items()}
     number = {v: i + 1 for i, v in enumerate(frame.order)}
     yield '<g font-family="sans-serif" text-anchor="middle">'
@@ -228,8 +230,14 @@ def held(table: Any) -> Dict[str, int]:
     return dict(zip(table["vertices"], table["amounts"]))
 
 
-def picture(table: Any, script: Optional[Mapping[str, int]] = None, order: Sequence[str] = (),
-            places: Optional[Places] = None) -> str:
+def by_names(table: Any, of: Mapping[Any, Thing]) -> Dict[str, Thing]:
+    """What belongs to vertices, by their names."""
+    place = getattr(table, "place", None)
+    return {v if place is None else table.names[place(v)]: each for v, each in of.items()}
+
+
+def picture(table: Any, script: Optional[Mapping[Any, int]] = None, order: Sequence[Any] = (),
+            places: Optional[Mapping[Any, Point]] = None) -> str:
     """A picture of a table as SVG: each vertex with its name and its dollars, red and hatched if it is in debt, and q with a double ring.
     Below a vertex stands what the script has it lend or borrow; the numbers are the order in which vertices burn. `places` tells where
     the vertices stand, x to the right and y down.
@@ -238,15 +246,18 @@ def picture(table: Any, script: Optional[Mapping[str, int]] = None, order: Seque
     >>> picture(Table([[0, 1], [1, 0]], [2, -1])).startswith("<svg ")
     True
     """
-    found = places_for(table) if places is None else centred(places)
-    return pictured("A table", [Frame(table, found, held(table), (), order, None, script)])
+    found = places_for(table) if places is None else centred(by_names(table, places))
+    lent = None if script is None else by_names(table, script)
+    return pictured("A table", [Frame(table, found, held(table), (), list(by_names(table, dict.fromkeys(order))), None, lent)])
 
 
 def verdict_picture(name: str, table: Any, verdict: Any, own: Optional[str] = None) -> str:
     """A picture of a table that has a name with the script of its verdict, and beside it of what that leads to, which all burns."""
     word, script, reduced = verdict
+    script, reduced = by_names(table, script), by_names(table, reduced)
+    order = by_names(table, dict.fromkeys(getattr(verdict, "burning", None) or checks.burnt(table, reduced)))
     says = ["all burns, in this order;", "it can be won" if word == "winnable" else "it can't be won"]
     found = places_for(table, own)
     return pictured("%s, %s by %s" % (name, word, " ".join("%s=%d" % pair for pair in script.items())), [
         Frame(table, found, held(table), [name, "" if any(script.values()) else "no vertex need lend"], (), None, script),
-        Frame(table, found, reduced, says, getattr(verdict, "burning", None) or checks.burnt(table, reduced))])
+        Frame(table, found, reduced, says, list(order))])

@@ -11,6 +11,7 @@ from __future__ import annotations
 
 import itertools
 import math
+import random
 from typing import Any, Collection, Dict, Iterable, Iterator, List, Mapping, Optional, Sequence, Set, Tuple
 
 __all__ = ["places", "places_of_text"]
@@ -29,7 +30,12 @@ CUBE_LINES = ((0, 1), (1, 2), (2, 3), (3, 0), (4, 5), (5, 6), (6, 7), (7, 4), (0
 PETERSEN_LINES = ((0, 1), (1, 2), (2, 3), (3, 4), (4, 0), (5, 7), (7, 9), (9, 6), (6, 8), (8, 5),
                   (0, 5), (1, 6), (2, 7), (3, 8), (4, 9))
 LONGEST_ROW, LONGEST_LEG = 8, 6
-ROUNDS, CLOSE = 300, 0.13
+# How often springs are pulled, from how many starts, and how many steps then make a place better.
+ROUNDS, STARTS, STEPS = 300, 3, 400
+# No vertices may be nearer than this. A circle takes at most so much of the distance between the nearest, with its ring.
+NEAREST, CLOSE = 0.25, 0.33
+# Given places may be no nearer to each other than this part of the greatest distance.
+LEAST_APART = 0.005
 
 
 def places(vertices: Iterable[Any], edges: Iterable[Sequence[Any]]) -> Places:
@@ -65,6 +71,9 @@ def places_of_text(text: str, vertices: Collection[str]) -> Places:
     missing = [name for name in vertices if name not in found]
     if missing:
         raise ValueError("the places have none for %s" % missing[0])
+    pairs = [math.dist(one, other) for one, other in itertools.combinations(found.values(), 2)]
+    if pairs and min(pairs) < max(pairs) * LEAST_APART:
+        raise ValueError("two of the places are too near to each other, beside how far apart others are")
     return {name: found[name] for name in vertices}
 
 
@@ -236,19 +245,48 @@ def matching(lines: Sequence[Any], size: int, names: Sequence[Any], near: Near) 
 # All other graphs.
 
 def best(names: Sequence[Any], near: Near) -> Places:
-    """Of a ring and of springs the places at which fewer vertices stand on edges of others, and then fewer edges cross."""
-    choices = dict(zip(names, ring(len(names)))), springs(names, near)
-    return min(choices, key=lambda found: (crowded(names, near, found), crossings(near, found)))
+    """Of a ring and of springs from several starts the places at which fewest edges go through circles of others, and then fewest
+    cross, made better by steps if some still do."""
+    draw = random.Random(len(names))
+    choices = [dict(zip(names, ring(len(names))))]
+    for _ in range(STARTS):
+        choices.append(springs(names, near, choices[0]))
+        # Springs that start elsewhere may come to rest elsewhere.
+        choices[0] = dict(zip(draw.sample(list(names), len(names)), choices[0].values()))
+    choices[0] = dict(zip(names, ring(len(names))))
+    return better(names, near, min(choices, key=lambda found: cost(names, near, found)), draw)
 
 
-def springs(names: Sequence[Any], near: Near) -> Places:
+def cost(names: Sequence[Any], near: Near, found: Places) -> Tuple[int, int]:
+    return len(crowded(names, near, found)), crossings(near, found)
+
+
+def better(names: Sequence[Any], near: Near, found: Places, draw: random.Random) -> Places:
+    """Places of which fewer are in the way of edges, by steps of one vertex each."""
+    bad = crowded(names, near, found)
+    for step in range(STEPS):
+        if not bad:
+            break
+        name, far = draw.choice(draw.choice(bad)), 0.7 * (1 - step / STEPS) + 0.1
+        x, y = found[name]
+        moved = {**found, name: (clamped(x + draw.uniform(-far, far)), clamped(y + draw.uniform(-far, far)))}
+        then = crowded(names, near, moved)
+        if len(then) <= len(bad):
+            found, bad = moved, then
+    return centred(found)
+
+
+def clamped(part: float) -> float:
+    return min(1.0, max(-1.0, part))
+
+
+def springs(names: Sequence[Any], near: Near, begin: Places) -> Places:
     """Places at which vertices are about as far apart as edges lead from one to the other: springs between all of them, which
     start in a ring and come to rest in so many rounds."""
     far = {name: walk(name, near) for name in names}
     apart = max(max(each.values()) for each in far.values()) + 1
     # A little out of round, so that no symmetry keeps the springs from coming to rest elsewhere.
-    start = enumerate(ring(len(names), size=apart / 2))
-    found = {names[i]: (x * (1 + 0.01 * i), y * (1 + 0.007 * i)) for i, (x, y) in start}
+    found = {name: (x * apart / 2 * (1 + 0.01 * i), y * apart / 2 * (1 + 0.007 * i)) for i, (name, (x, y)) in enumerate(begin.items())}
     for _ in range(ROUNDS):
         found = {name: pulled(name, found, far[name], apart) for name in names}
     return centred(level(found))
@@ -290,11 +328,18 @@ def lines_of(near: Near) -> List[Tuple[Any, Any]]:
     return [(u, v) for u, v in itertools.combinations(near, 2) if v in near[u]]
 
 
-def crowded(names: Sequence[Any], near: Near, found: Places) -> int:
-    """How many vertices stand on an edge of others, or on each other, or nearly so."""
-    aside = [(name, u, v) for u, v in lines_of(near) for name in names if name not in (u, v)]
-    on_edges = sum(distance(found[name], found[u], found[v]) < CLOSE for name, u, v in aside)
-    return on_edges + sum(math.dist(found[u], found[v]) < 2 * CLOSE for u, v in itertools.combinations(names, 2))
+def crowded(names: Sequence[Any], near: Near, found: Places) -> List[Tuple[Any, ...]]:
+    """The vertices that are in the way: three for an edge that goes through the circle of the third, and two, several times, for
+    two that are too near to each other."""
+    apart = {pair: math.dist(found[pair[0]], found[pair[1]]) for pair in itertools.combinations(names, 2)}
+    close = CLOSE * max(NEAREST, min(apart.values(), default=1.0))
+    bad: List[Tuple[Any, ...]] = [pair for pair, far in apart.items() if far < NEAREST for _ in range(9)]
+    for u, v in lines_of(near):
+        (a, b), (c, d) = found[u], found[v]
+        low, high, top, down = min(a, c) - close, max(a, c) + close, min(b, d) - close, max(b, d) + close
+        bad += [(name, u, v) for name, (x, y) in found.items()
+                if low < x < high and top < y < down and name != u and name != v and distance((x, y), (a, b), (c, d)) < close]
+    return bad
 
 
 def distance(point: Point, one: Point, other: Point) -> float:

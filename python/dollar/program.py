@@ -6,6 +6,7 @@ import fcntl
 import functools
 import os
 import shutil
+import signal
 import subprocess
 import sys
 import sysconfig
@@ -47,10 +48,24 @@ class ProgramNotFound(FileNotFoundError):
     """There is no program `dollar` where it was looked for."""
 
 
-def fault_of(said: bytes, status: int) -> Fault:
-    """The Fault of a program that ended with this status and has said this on standard error."""
-    text = said.decode(errors="replace").strip()
+def fault_of(said: bytes, status: int, otherwise: str = "") -> Fault:
+    """The Fault of a program that ended with this status and has said this on standard error, or else nothing."""
+    text = said.decode(errors="replace").strip() or otherwise
     return Fault(text[len("dollar: "):] if text.startswith("dollar: ") else text.partition("\n")[0], status)
+
+
+def ended_by(status: int, answers: int) -> str:
+    """How a program has ended that said nothing.
+
+    >>> ended_by(-9, 3), ended_by(0, 1)
+    ('it was ended by SIGKILL after 3 answers', 'it ended after 1 answer')
+    """
+    if status >= 0:
+        end = "ended"
+    else:
+        names = {each.value: each.name for each in signal.Signals}
+        end = "was ended by %s" % names.get(-status, "signal %d" % -status)
+    return "it %s after %d answer%s" % (end, answers, "" if answers == 1 else "s")
 
 
 @functools.lru_cache(maxsize=None)
@@ -123,5 +138,5 @@ def printed(*words: Union[str, bytes], program: Optional[Place] = None, patience
     """What the program prints, or its Fault. A word as bytes stands for a file with these bytes."""
     out, said, status = call(words, program, patience)
     if status:
-        raise fault_of(said, status)
+        raise fault_of(said, status, ended_by(status, 0))
     return out.decode()

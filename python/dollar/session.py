@@ -2,40 +2,49 @@
 
 from __future__ import annotations
 
+import asyncio
+import fcntl
+import functools
+import json
+import os
 import queue
+import re
 import subprocess
 import threading
 import weakref
 from types import TracebackType
-from typing import Any, Callable, NamedTuple, Optional, Tuple, Type, TypeVar
+from typing import Any, Callable, List, NamedTuple, Optional, Tuple, Type, TypeVar
 
-from dollar.answers import Entry, numbered
+from dollar.answers import Entry, History, numbered, vertices_of
 from dollar.commands import option
 from dollar.grammar import limit
-from dollar.program import Fault, Place, command_line, fault_of
-from dollar.table import members, whole
+from dollar.program import Fault, Place, command_line, ended_by, fault_of
+from dollar.table import Asked, file_and_table
+from dollar.vertices import whole
 
 LONGEST_LINE = limit("dg_session::MAX_LINE")
+# How many kept lines are played at once: their answers fit a pipe.
+AT_ONCE = 32
 Got = TypeVar("Got")
 
 
 class End(NamedTuple):
-    """How a session has ended: its status, and what the program said on standard error."""
+    """How a session has ended: its status, which is less than 0 if a signal ended it, and what the program said on standard error."""
 
     status: int
     fault: str
 
 
 class Ended(Fault):
-    """The session has ended in place of an answer, or had ended before. `text` says why, and is empty if it was ended well; `fault` is
-    the whole line that the program said."""
+    """The session has ended in place of an answer, or had ended before. `text` says why, `fault` is the whole line that the program said,
+    and `answers` how many lines were answered."""
 
-    def __init__(self, end: End) -> None:
-        super().__init__(fault_of(end.fault.encode(), end.status).text, end.status)
-        self.args, self.fault = (end,), end.fault
+    def __init__(self, end: End, answers: int = 0) -> None:
+        super().__init__(fault_of(end.fault.encode(), end.status, ended_by(end.status, answers)).text, end.status)
+        self.args, self.fault, self.answers = (end, answers), end.fault, answers
 
     def __str__(self) -> str:
-        return "the session has ended with status %d: %s" % (self.status, self.text or "nothing was said")
+        return "the session has ended with status %d: %s" % (self.status, self.text)
 
 
 def one_line(line: str) -> bytes:
@@ -68,6 +77,48 @@ def work_on(work: queue.SimpleQueue[Optional[Work]], child: subprocess.Popen[byt
         done.put(do())
         # What was done knows its session, which may be given up meanwhile.
         del piece, do, done
+
+
+class Keeping:
+    """A file that keeps a game: the table in its first line, and then each line that made an entry, and the entry below it."""
+
+    def __init__(self, place: Place, table: bytes) -> None:
+        self.place = place
+        first = json.dumps(json.loads(table)).encode() + b"\n"
+        self.file = open(place, "a+b", buffering=0)
+        try:
+            fcntl.flock(self.file, fcntl.LOCK_EX | fcntl.LOCK_NB)
+            self.file.seek(0)
+            text = self.file.read()
+            if not (text.startswith(first) or first.startswith(text)):
+                raise ValueError("%s keeps a game on another table" % os.fspath(place))
+            *lines, _ = text[len(first):].split(b"\n")
+            # What has no answer was not told.
+            self.pairs = list(zip(lines[::2], lines[1::2]))
+            self.size = len(first) + sum(len(line) + len(answer) + 2 for line, answer in self.pairs)
+            self.file.truncate(self.size if text.startswith(first) else 0)
+            if not text.startswith(first):
+                self.file.write(first)
+        except BlockingIOError:
+            self.file.close()
+            raise ValueError("%s keeps the game of a session that goes on" % os.fspath(place)) from None
+        except BaseException:
+            self.file.close()
+            raise
+
+    def add(self, line: bytes, answer: bytes) -> None:
+        """Keeps an entry: wholly, or else not at all."""
+        pair = line + b"\n" + answer
+        try:
+            if self.file.write(pair) != len(pair):
+                raise OSError("the disk is full")
+        except OSError:
+            self.file.truncate(self.size)
+            raise
+        self.size += len(pair)
+
+    def close(self) -> None:
+        self.file.close()
 
 
 class Session:
@@ -107,20 +158,53 @@ class Session:
 
     `cap` is how many entries the history may have, and `workers` how many threads share a rank test. A program that says nothing for
     `patience` seconds is killed, and `TimeoutError` raised; with None it is waited for without an end.
+
+    With `keep` each entry is written to a file before it is told, and a session on the same table goes on from that file: `kept` are the
+    entries that it had. The file has the table in its first line, and then each line that made an entry, and the entry below it.
     """
 
-    def __init__(self, table: Any, *options: object, seats: Optional[int] = None, cap: Optional[int] = None,
-                 workers: Optional[int] = None, patience: Optional[float] = 20.0, program: Optional[Place] = None) -> None:
-        self.patience, self.turn, self.table = patience, threading.RLock(), table
+    def __init__(self, table: Asked, *options: object, seats: Optional[int] = None, cap: Optional[int] = None,
+                 workers: Optional[int] = None, patience: Optional[float] = 20.0, program: Optional[Place] = None,
+                 keep: Optional[Place] = None) -> None:
+        self.patience, self.turn, self.table, self.answers, self.process = patience, threading.RLock(), table, 0, os.getpid()
         self.ended: Optional[End] = None
         self.reads_seats = seats is not None
         words = [*option("--seats", seats), *option("--cap", cap), *option("--workers", workers), *map(str, options)]
-        with command_line(["serve", members(table), *words], program) as (line, descriptors):
+        file, kept = file_and_table(table)
+        self.vertices = vertices_of(kept)
+        with command_line(["serve", file, *words], program) as (line, descriptors):
+            # An interrupt at the terminal, or of a notebook, goes to Python, and does not end the game.
             self.child = subprocess.Popen(line, stdin=subprocess.PIPE, stdout=subprocess.PIPE, stderr=subprocess.PIPE,
-                                          pass_fds=descriptors)
+                                          pass_fds=descriptors, start_new_session=True)
         self.work: queue.SimpleQueue[Optional[Work]] = queue.SimpleQueue()
         threading.Thread(target=work_on, args=(self.work, self.child), daemon=True).start()
         weakref.finalize(self, self.work.put, None)
+        self.keeping: Optional[Keeping] = None
+        self.kept = History()
+        if keep is not None:
+            try:
+                self._go_on(Keeping(keep, file))
+            except BaseException:
+                self.child.kill()
+                raise
+
+    def _go_on(self, keeping: Keeping) -> None:
+        """Has the program give the entries that a file keeps, and adds to them from now on."""
+        for at in range(0, len(keeping.pairs), AT_ONCE):
+            pairs = keeping.pairs[at:at + AT_ONCE]
+            found = self._in_time(functools.partial(self._exchange_all, [line for line, _ in pairs]))
+            if found != [answer for _, answer in pairs]:
+                raise ValueError("%s keeps a game that this program and table do not have" % os.fspath(keeping.place))
+            for line, text in pairs:
+                self.answers += 1
+                self.kept.append(self._entry(line.decode(), text.decode()))
+        self.keeping = keeping
+
+    def _entry(self, line: str, text: str) -> Entry:
+        """The entry that answers a line of the session."""
+        found = re.fullmatch("([1-9][0-9]?) (.*)", line, re.DOTALL) if self.reads_seats else None
+        seat, own = (int(found[1]), found[2]) if found else (None, line)
+        return numbered(text, vertices=self.vertices, seat=seat, line=own, step=self.answers)
 
     def __enter__(self) -> Session:
         return self
@@ -129,12 +213,14 @@ class Session:
         was_over = self.ended is not None
         end = self.close()
         if end.status and kind is None and not was_over:
-            raise Ended(end)
+            raise Ended(end, self.answers)
 
     def ask(self, line: str) -> Entry:
         """The answer to a line, which is given without its newline. A ValueError where it is no line, or has more than 1,024 bytes;
         then nothing is sent. `Ended` where the session ends instead."""
-        return numbered(self.ask_bytes(one_line(line)))
+        sent = one_line(line)
+        with self.turn:
+            return self._entry(line, self.ask_bytes(sent))
 
     def ask_seat(self, seat: int, line: str) -> Entry:
         """The answer to a line of the seat, a number from 1 on."""
@@ -144,13 +230,16 @@ class Session:
         """The text of the answer to a line as bytes, whatever they are but a newline."""
         if b"\n" in line:
             raise ValueError("a line has a newline in it")
+        if os.getpid() != self.process:
+            raise ValueError("the session belongs to the process %d, which began it" % self.process)
         with self.turn:
             if self.ended is None:
                 answer = self._in_time(lambda: self._exchange(line))
                 if answer.endswith(b"\n"):
+                    self.answers += 1
                     return answer[:-1].decode()
             end = self.close()
-        raise Ended(end)
+        raise Ended(end, self.answers)
 
     def close(self) -> End:
         """Ends the input, which ends the session. Tells how it has ended, the same at each call."""
@@ -166,12 +255,32 @@ class Session:
             self.child.stdin.flush()
         except OSError:
             pass  # It has ended: there is no answer to be read, and standard error says why.
-        return self.child.stdout.readline()
+        answer = self.child.stdout.readline()
+        if self.keeping is not None and answer[:1].isdigit() and answer.endswith(b"\n"):
+            try:
+                self.keeping.add(line, answer)
+            except OSError:
+                # What is not kept is not told, and ends the game, so that it can be gone on with from what is kept.
+                self.child.kill()
+                return b""
+        return answer
+
+    def _exchange_all(self, lines: List[bytes]) -> List[bytes]:
+        """The answers to some lines, which fit a pipe."""
+        assert self.child.stdin is not None and self.child.stdout is not None
+        try:
+            self.child.stdin.write(b"".join(line + b"\n" for line in lines))
+            self.child.stdin.flush()
+        except OSError:
+            pass
+        return [self.child.stdout.readline().rstrip(b"\n") for _ in lines]
 
     def _end(self, told: Optional[str] = None) -> End:
         if self.ended is None:
             said = self.child.communicate()[1].decode(errors="replace").rstrip("\n")
             self.ended = End(self.child.returncode, said if told is None else told)
+            if self.keeping is not None:
+                self.keeping.close()
         return self.ended
 
     def _in_time(self, do: Callable[[], Got]) -> Got:
@@ -185,3 +294,39 @@ class Session:
             told = "nothing for %s seconds, after which it was killed" % self.patience
             self.work.put((lambda: self._end(told), done))
             raise TimeoutError("the program said nothing for %s seconds, and was killed" % self.patience) from None
+
+
+class AsyncSession:
+    """A session for programs that use asyncio: its calls are those of `Session`, and are awaited. A task that is cancelled while it waits
+    leaves the session in step.
+
+    >>> import asyncio
+    >>> from dollar import Table
+    >>> async def play():
+    ...     async with AsyncSession(Table([[0, 1], [1, 0]], [2, -1])) as session:
+    ...         return [str(await session.ask(line)) for line in ("look", "commit")]
+    >>> asyncio.run(play())
+    ['0 looked 0 0=2 1=-1', '1 winnable by 0=0 1=-1 to 0=1 1=0']
+    """
+
+    def __init__(self, table: Asked, *, seats: Optional[int] = None, cap: Optional[int] = None, workers: Optional[int] = None,
+                 patience: Optional[float] = 20.0, program: Optional[Place] = None, keep: Optional[Place] = None) -> None:
+        self.session = Session(table, seats=seats, cap=cap, workers=workers, patience=patience, program=program, keep=keep)
+
+    async def __aenter__(self) -> AsyncSession:
+        return self
+
+    async def __aexit__(self, kind: Optional[Type[BaseException]], error: Optional[BaseException], trace: Optional[TracebackType]) -> None:
+        await asyncio.to_thread(self.session.__exit__, kind, error, trace)
+
+    async def ask(self, line: str) -> Entry:
+        """The answer to a line."""
+        return await asyncio.to_thread(self.session.ask, line)
+
+    async def ask_seat(self, seat: int, line: str) -> Entry:
+        """The answer to a line of the seat, a number from 1 on."""
+        return await asyncio.to_thread(self.session.ask_seat, seat, line)
+
+    async def close(self) -> End:
+        """Ends the session, and tells how it has ended."""
+        return await asyncio.to_thread(self.session.close)

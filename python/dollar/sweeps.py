@@ -2,61 +2,80 @@
 
 from __future__ import annotations
 
-import importlib
+import itertools
 import os
 import select
 import subprocess
+import sys
 import tempfile
 import time
-import warnings
 from collections import deque
-from typing import Any, Callable, Deque, Iterable, Iterator, List, Literal, Optional, Sequence, Tuple, TypeVar, Union, overload
+from typing import (
+    Any, Callable, Deque, Generic, Iterable, Iterator, List, Literal, Mapping, NamedTuple, Optional, Sequence, Tuple, TypeVar, Union,
+    overload)
 
-from dollar.answers import (
-    RankTest, RefusedRankTest, RefusedRiemannRoch, RefusedVerdict, RiemannRoch, Row, Verdict, rank_test_of, refusal, riemann_roch_of,
-    verdict_of)
+from dollar.answers import RankTest, RefusedRankTest, RefusedRiemannRoch, RefusedVerdict, RiemannRoch, Verdict, refusal, riemann_roch_of
+from dollar.columns import Columns, RankTestColumns, RiemannRochColumns, VerdictColumns
 from dollar.commands import option
-from dollar.program import Fault, Place, command_line, fault_of
-from dollar.table import Table, iterate, iterate_divisors, one_line, whole
+from dollar.program import Fault, Place, command_line, ended_by, fault_of
+from dollar.readers import (
+    divisors_by_batches, divisors_one_by_one, ordered, read_rank_test, read_verdict, rows_of, verdict_on, verdict_reader, verdicts_reader)
+from dollar.table import Graph, Table, one_line
+from dollar.vertices import Dollars, Vertices, whole
 
-AT_ONCE, PIECE, PATIENCE = 1 << 16, 1 << 16, 0.05
-Found = TypeVar("Found")
+AT_ONCE, PIECE, PATIENCE, SLOW = 1 << 16, 1 << 16, 0.05, 0.001
+Found = TypeVar("Found", covariant=True)
+Told = TypeVar("Told", bound=Columns, covariant=True)
+# What is kept of a table until its answer comes, and its line.
+Kept = Tuple[Any, bytes]
+# Tables; or, with `divisors`, one.
+Tables = Union[Iterable[Mapping[str, object]], Graph]
 
 
 class Sweep:
     """One run of a command over lines. All is done in the thread of the caller: the tables are taken there, and sent as far as the
-    pipe takes their lines, and the answers are read as they come. A word as bytes stands for a file with these bytes."""
+    pipe takes their lines, and the answers are read as they come. A word as bytes stands for a file with these bytes. At most `ahead`
+    tables are taken before their answers are read."""
 
-    def __init__(self, words: Sequence[Union[str, bytes]], tables: Iterator[Tuple[Any, bytes]], program: Optional[Place]) -> None:
+    def __init__(self, words: Sequence[Union[str, bytes]], tables: Iterator[Kept], program: Optional[Place],
+                 ahead: Optional[int] = None) -> None:
         self.said = tempfile.TemporaryFile()
         with command_line(words, program) as (line, descriptors):
+            # An interrupt at the terminal is for Python, which ends the program when the sweep is left.
             self.child = subprocess.Popen(line, bufsize=0, stdin=subprocess.PIPE, stdout=subprocess.PIPE, stderr=self.said,
-                                          pass_fds=descriptors)
+                                          pass_fds=descriptors, start_new_session=True)
         assert self.child.stdin is not None and self.child.stdout is not None
         self.input, self.output = self.child.stdin, self.child.stdout
         os.set_blocking(self.input.fileno(), False)
-        self.tables = tables
+        self.tables, self.ahead, self.is_shared = tables, sys.maxsize if ahead is None else ahead, "--workers" in words
         self.waiting: Deque[Any] = deque()
         self.unsent, self.unread = b"", b""
-        self.are_all_taken = False
-        self.broken: Optional[Exception] = None
+        self.are_all_taken = self.is_slow = False
+        self.broken: Optional[BaseException] = None
 
     def take(self) -> None:
         """Takes tables: as many as are sent at once, or as come in a short time."""
         lines: List[bytes] = []
-        size, until = 0, time.monotonic() + PATIENCE
-        while size < AT_ONCE and not self.are_all_taken and (not lines or time.monotonic() < until):
+        size, now = 0, time.monotonic()
+        until = now + PATIENCE
+        while size < AT_ONCE and len(self.waiting) < self.ahead and now < until:
             try:
                 table, line = next(self.tables)
             except StopIteration:
                 self.are_all_taken = True
+                break
             except Exception as error:
                 # What came before it is answered first.
                 self.are_all_taken, self.broken = True, error
-            else:
-                self.waiting.append(table)
-                lines.append(line)
-                size += len(line)
+                break
+            self.waiting.append(table)
+            lines.append(line)
+            size += len(line)
+            before, now = now, time.monotonic()
+            if now - before > SLOW:
+                # A source that takes its time: what it gave is sent. One that takes long is asked for more when that is answered.
+                self.is_slow = now - before > PATIENCE and not self.is_shared
+                break
         self.unsent = b"".join(lines)
 
     def send(self) -> None:
@@ -65,9 +84,9 @@ class Sweep:
             sent = self.input.write(self.unsent)
         except BrokenPipeError:
             # The program has ended; what it said tells why.
-            self.are_all_taken, self.unsent = True, b""
-        else:
-            self.unsent = self.unsent[sent or 0:]
+            self.input.close()
+            return
+        self.unsent = self.unsent[sent or 0:]
         if self.are_all_taken and not self.unsent:
             self.input.close()
 
@@ -75,17 +94,20 @@ class Sweep:
         """Waits at most so long. Whether there are answers to be read, and whether the pipe takes more of what is unsent."""
         poll = select.poll()
         poll.register(self.output, select.POLLIN)
-        if self.unsent:
+        if self.unsent and not self.input.closed:
             poll.register(self.input, select.POLLOUT)
         found = {descriptor for descriptor, _ in poll.poll(None if seconds is None else seconds * 1000)}
-        return self.output.fileno() in found, bool(self.unsent) and self.input.fileno() in found
+        return self.output.fileno() in found, not self.input.closed and self.input.fileno() in found
 
-    def answers(self) -> Iterator[str]:
-        """The lines of answers, as they come. Tables are taken when no answer is there to be read."""
+    def pieces(self) -> Iterator[bytes]:
+        """What the program prints, in whole lines, as it comes. Tables are taken when no answer is there to be read."""
         while True:
             is_idle = not self.unsent and not self.input.closed
+            if is_idle and self.waiting and (self.is_slow or len(self.waiting) >= self.ahead):
+                is_idle = False
             readable, writable = self.ready(0 if is_idle else None)
             if is_idle and not readable:
+                self.is_slow = False
                 self.take()
             if writable or (is_idle and not readable):
                 self.send()
@@ -93,16 +115,19 @@ class Sweep:
                 piece = os.read(self.output.fileno(), PIECE)
                 if not piece:
                     return
-                *lines, self.unread = (self.unread + piece).split(b"\n")
-                for line in lines:
-                    yield line.decode()
+                whole_lines, end, rest = piece.rpartition(b"\n")
+                if end:
+                    yield self.unread + whole_lines + end
+                    self.unread = rest
+                else:
+                    self.unread += piece
 
-    def end(self) -> None:
-        """Raises what went wrong, if anything did, after the last answer."""
+    def end(self, answers: int) -> None:
+        """Raises what went wrong, if anything did, after so many answers."""
         status = self.child.wait()
         self.said.seek(0)
-        if status or self.waiting:
-            raise fault_of(self.said.read(), status)
+        if status or self.waiting or self.unsent or self.unread or not self.are_all_taken:
+            raise fault_of(self.said.read(), status, ended_by(status, answers) + ", before all tables were answered")
         if self.broken is not None:
             raise self.broken
 
@@ -114,67 +139,207 @@ class Sweep:
             stream.close()
 
 
-def shown(tables: Iterable[Any], progress: bool) -> Iterable[Any]:
-    """The tables, with a bar of tqdm that grows as they are taken, where it is asked for and tqdm is there."""
-    if not progress:
-        return tables
-    try:
-        bar: Iterable[Any] = importlib.import_module("tqdm.auto").tqdm(tables, unit=" tables")
-    except ModuleNotFoundError:
-        warnings.warn("the progress is not shown: the module tqdm is not here", stacklevel=3)
-        return tables
-    return bar
+class Progress:
+    """A line on standard error that tells how many answers there are, where it is asked for."""
+
+    def __init__(self, is_shown: bool, unit: str = "answers") -> None:
+        self.is_shown, self.unit, self.count, self.at = is_shown, unit, 0, time.monotonic()
+
+    def add(self, count: int) -> None:
+        self.count += count
+        if self.is_shown and time.monotonic() - self.at > 0.2:
+            self.tell("")
+
+    def tell(self, end: str) -> None:
+        self.at = time.monotonic()
+        print("\r%d %s" % (self.count, self.unit), end=end, file=sys.stderr, flush=True)
+
+    def close(self) -> None:
+        if self.is_shown:
+            self.tell("\n")
 
 
-def swept(words: Sequence[Union[str, bytes]], tables: Iterator[Tuple[Any, bytes]], read: Callable[[str, Any], Found],
-          kind: Callable[..., Row], errors: str, program: Optional[Place]) -> Iterator[Union[Found, Row]]:
-    """What is read of each answer, and a row of this kind for each table that is refused."""
-    sweep = Sweep(words, tables, program)
+class Lines(NamedTuple):
+    """What a sweep sends: the words of the command; each table with its line; and the tables by batches, each with its lines, and the
+    vertices, if they are divisors of one."""
+
+    words: List[Union[str, bytes]]
+    one_by_one: Iterator[Kept]
+    by_batches: Iterator[Kept]
+    vertices: Optional[Vertices]
+
+
+class Job(NamedTuple):
+    """What a sweep is asked, and how it is done."""
+
+    lines: Lines
+    program: Optional[Place]
+    ahead: Optional[int]
+    progress: bool
+    errors: str
+    refused: Callable[..., Any]
+    read: Callable[[str, Any], Any]
+    many: Optional[Callable[[bytes], Optional[Iterator[Tuple[Any, ...]]]]] = None
+
+    def row(self, text: str, number: int) -> Any:
+        """The row of a table that was refused, if it is not raised."""
+        row = refusal(self.refused, text[len("refused "):], number)
+        if self.errors == "raise":
+            raise Fault(row.text, row.status, number)
+        return row
+
+
+def answers_one_by_one(job: Job, number: int, over: List[bool]) -> Iterator[Any]:
+    """The answers, of which the first has this number. It is noted in `over` that they have come to their end."""
+    sweep = Sweep(job.lines.words, job.lines.one_by_one, job.program, job.ahead)
+    progress, read, take = Progress(job.progress), job.read, sweep.waiting.popleft
     try:
-        for number, text in enumerate(sweep.answers()):
-            table = sweep.waiting.popleft()
-            if not text.startswith("refused "):
-                yield read(text, table)
+        for piece in sweep.pieces():
+            if piece.count(b"\n") > len(sweep.waiting):
+                raise Fault("more answers came than tables were sent", 0)
+            found = None if job.many is None else job.many(piece)
+            if found is not None:
+                for parts in found:
+                    yield verdict_on(take(), *parts)
+                    number += 1
+                    progress.add(1)
                 continue
-            row = refusal(kind, text[len("refused "):], number)
-            if errors == "raise":
-                raise Fault(row.text, row.status, number)
-            yield row
-        sweep.end()
+            for text in piece.decode().split("\n")[:-1]:
+                table = take()
+                if text.startswith("refused "):
+                    yield job.row(text, number)
+                else:
+                    yield read(text, table)
+                number += 1
+                progress.add(1)
+        sweep.end(progress.count)
+        over.append(True)
     finally:
         sweep.close()
+        progress.close()
 
 
-def asked(command: str, given: Sequence[str], tables: Any, divisors: Optional[Iterable[Any]], workers: Optional[int], errors: str,
-          progress: bool) -> Tuple[List[Union[str, bytes]], Iterator[Tuple[Any, bytes]]]:
-    """The words of a command over lines; and its tables, each with its line."""
+class Answers(Generic[Found, Told], Iterator[Found]):
+    """The answers of a sweep, in order, as they come. The sweep begins when the first is asked for."""
+
+    def __init__(self, job: Job, columns: Callable[[Any], Told]) -> None:
+        if job.ahead is not None and whole(job.ahead, "ahead") < 1:
+            raise ValueError("at least one table is taken ahead of its answer, and not %d" % job.ahead)
+        self._job, self._columns, self._skipped = job, columns, 0
+        self._over: List[bool] = []
+        self._found: Optional[Iterator[Found]] = None
+
+    def __next__(self) -> Found:
+        if self._found is None:
+            self._found = answers_one_by_one(self._job, self._skipped, self._over)
+        try:
+            return next(self._found)
+        except StopIteration:
+            if self._over:
+                raise
+            raise ValueError("the sweep was interrupted, and has no more answers") from None
+
+    def close(self) -> None:
+        """Ends the sweep, whatever it is doing."""
+        self._over.append(True)
+        if self._found is None:
+            self._found = iter(())
+        getattr(self._found, "close", int)()
+
+    def skip(self, count: int) -> None:
+        """Leaves out the first tables: they are taken, and not asked about. Numbers are counted as before."""
+        if self._found is not None:
+            raise ValueError("the sweep has begun")
+        self._skipped += sum(1 for _ in itertools.islice(self._job.lines.one_by_one, count))
+
+    def columns(self) -> Told:
+        """All answers at once, as columns: arrays of numpy if it is here, and else of the module `array`. Columns have no place for what
+        is not there: a divisor that is refused, or a rank past the limits, is raised as a Fault, whose `table` is its number.
+
+        >>> found = judge_all(Table([[0, 2], [2, 0]]), divisors=[[3, -1], [0, -1]]).columns()
+        >>> list(map(bool, found.winnable)), list(map(int, found.script[1])), list(map(int, found.reduced[0]))
+        ([True, False], [-1, -1], [1, -2])
+        """
+        if self._found is not None or self._skipped:
+            raise ValueError("the sweep has begun")
+        job, columns = self._job, self._columns(self._job.lines.vertices)
+        self.close()
+        sweep = Sweep(job.lines.words, job.lines.by_batches, job.program)
+        progress, answered = Progress(job.progress), 0
+        try:
+            for piece in sweep.pieces():
+                answered += piece.count(b"\n")
+                while sweep.waiting and sweep.waiting[0] <= answered:
+                    answered -= sweep.waiting.popleft()
+                progress.add(columns.add(piece))
+            progress.add(columns.done())
+            sweep.end(columns.count)
+            if answered:
+                raise Fault("more answers came than tables were sent", 0)
+        finally:
+            sweep.close()
+            progress.close()
+        return columns
+
+
+def tables_one_by_one(tables: Iterable[Any]) -> Iterator[Kept]:
+    """What is kept of each table, and its line."""
+    for number, table in enumerate(tables):
+        try:
+            line, kept = one_line(table)
+        except (TypeError, ValueError) as error:
+            raise type(error)("table %d: %s" % (number, error)) from None
+        yield kept, line + b"\n"
+
+
+def asked(command: str, given: Sequence[str], tables: Any, divisors: Optional[Iterable[Dollars]], workers: Optional[int],
+          errors: str) -> Lines:
+    """What a command over lines is asked."""
     if errors not in ("row", "raise"):
         raise ValueError("errors are either 'row' or 'raise', and not %r" % (errors,))
     rest = [*given, *option("--workers", workers)]
     if divisors is None:
-        return [command, "--lines", "/dev/stdin", *rest], iterate(shown(tables, progress))
+        one_by_one = tables_one_by_one(tables)
+        return Lines([command, "--lines", "/dev/stdin", *rest], one_by_one, ((1, line) for _, line in one_by_one), None)
     table = tables if isinstance(tables, Table) else Table(tables)
-    return [command, one_line(table), "--divisors", "/dev/stdin", *rest], iterate_divisors(table, shown(divisors, progress))
+    file = one_line(table)[0]
+    divisors = ordered(table, divisors)
+    return Lines([command, file, "--divisors", "/dev/stdin", *rest], divisors_one_by_one(table, rows_of(divisors)),
+                 divisors_by_batches(table, divisors), table._vertices)
+
+
+def of_one_table(columns: Callable[[Vertices], Told]) -> Callable[[Optional[Vertices]], Told]:
+    """Columns by vertices, which only divisors of one table have."""
+    def made(vertices: Optional[Vertices]) -> Told:
+        if vertices is None:
+            raise ValueError("columns by vertices are for `divisors` of one table")
+        return columns(vertices)
+
+    return made
 
 
 @overload
-def judge_all(tables: Any, program: Optional[Place] = ..., *, workers: Optional[int] = ..., errors: Literal["raise"],
-              divisors: Optional[Iterable[Any]] = ..., progress: bool = ...) -> Iterator[Verdict]: ...
+def judge_all(tables: Tables, program: Optional[Place] = ..., *, workers: Optional[int] = ..., errors: Literal["raise"],
+              divisors: Optional[Iterable[Dollars]] = ..., ahead: Optional[int] = ...,
+              progress: bool = ...) -> Answers[Verdict, VerdictColumns]: ...
 
 
 @overload
-def judge_all(tables: Any, program: Optional[Place] = ..., *, workers: Optional[int] = ..., errors: Literal["row"] = ...,
-              divisors: Optional[Iterable[Any]] = ..., progress: bool = ...) -> Iterator[Union[Verdict, RefusedVerdict]]: ...
+def judge_all(tables: Tables, program: Optional[Place] = ..., *, workers: Optional[int] = ..., errors: str = ...,
+              divisors: Optional[Iterable[Dollars]] = ..., ahead: Optional[int] = ...,
+              progress: bool = ...) -> Answers[Union[Verdict, RefusedVerdict], VerdictColumns]: ...
 
 
-def judge_all(tables: Any, program: Optional[Place] = None, *, workers: Optional[int] = None, errors: str = "row",
-              divisors: Optional[Iterable[Any]] = None, progress: bool = False) -> Iterator[Union[Verdict, RefusedVerdict]]:
+def judge_all(tables: Tables, program: Optional[Place] = None, *, workers: Optional[int] = None, errors: str = "row",
+              divisors: Optional[Iterable[Dollars]] = None, ahead: Optional[int] = None,
+              progress: bool = False) -> Answers[Any, VerdictColumns]:
     """The verdicts on the tables, in order, as they come.
 
-    The tables may be any number, and come from anywhere: they are taken in the thread of the caller, some ahead of their answers.
-    A table that is refused has a `RefusedVerdict` in the place of its answer, or with `errors="raise"` is raised as a Fault, whose
-    `table` is its number, from 0. `workers` is how many threads the program shares the tables among, up to 16, which changes no
-    answer. With `progress` a bar of tqdm is shown, where that is there.
+    The tables may be any number, and come from anywhere: they are taken in the thread of the caller, some ahead of their answers, or
+    at most `ahead`: with `ahead=1` each is answered before the next is taken. A table that is refused has a `RefusedVerdict` in the
+    place of its answer, or with `errors="raise"` is raised as a Fault, whose `table` is its number, from 0. `workers` is how many
+    threads the program shares the tables among, up to 16, which changes no answer, and helps if the program takes longer than Python.
+    With `progress` a line on standard error tells how many there are.
 
     >>> from dollar import Table
     >>> pair = Table([[0, 2], [2, 0]])
@@ -182,55 +347,61 @@ def judge_all(tables: Any, program: Optional[Place] = None, *, workers: Optional
     [False, False, True, True]
 
     With `divisors` the first parameter is one table, and each of them has amounts for it, as a list in the order of the vertices or
-    as a dict. The answers are those for the table with these amounts, at a small part of the cost.
+    as a dict; or they are an array of numpy or a frame of pandas, whose rows they are. The answers are those for the table with these
+    amounts, at a small part of the cost. `columns()` of what is given back has them as arrays.
 
     >>> [verdict.winnable for verdict in judge_all(pair, divisors=([amount, -1] for amount in range(4)))]
     [False, False, True, True]
     """
-    words, lines = asked("judge", [], tables, divisors, workers, errors, progress)
-    return swept(words, lines, verdict_of, RefusedVerdict, errors, program)
+    lines = asked("judge", [], tables, divisors, workers, errors)
+    one, many = (read_verdict, None) if lines.vertices is None else (verdict_reader(lines.vertices), verdicts_reader(lines.vertices))
+    return Answers(Job(lines, program, ahead, progress, errors, RefusedVerdict, one, many), of_one_table(VerdictColumns))
 
 
 @overload
-def rank_all(tables: Any, degree: int, program: Optional[Place] = ..., *, workers: Optional[int] = ...,
-             errors: Literal["raise"], divisors: Optional[Iterable[Any]] = ...,
-             progress: bool = ...) -> Iterator[RankTest]: ...
+def rank_all(tables: Tables, degree: int, program: Optional[Place] = ..., *, workers: Optional[int] = ..., errors: Literal["raise"],
+             divisors: Optional[Iterable[Dollars]] = ..., ahead: Optional[int] = ...,
+             progress: bool = ...) -> Answers[RankTest, RankTestColumns]: ...
 
 
 @overload
-def rank_all(tables: Any, degree: int, program: Optional[Place] = ..., *, workers: Optional[int] = ...,
-             errors: Literal["row"] = ..., divisors: Optional[Iterable[Any]] = ...,
-             progress: bool = ...) -> Iterator[Union[RankTest, RefusedRankTest]]: ...
+def rank_all(tables: Tables, degree: int, program: Optional[Place] = ..., *, workers: Optional[int] = ..., errors: str = ...,
+             divisors: Optional[Iterable[Dollars]] = ..., ahead: Optional[int] = ...,
+             progress: bool = ...) -> Answers[Union[RankTest, RefusedRankTest], RankTestColumns]: ...
 
 
-def rank_all(tables: Any, degree: int, program: Optional[Place] = None, *, workers: Optional[int] = None,
-             errors: str = "row", divisors: Optional[Iterable[Any]] = None,
-             progress: bool = False) -> Iterator[Union[RankTest, RefusedRankTest]]:
+def rank_all(tables: Tables, degree: int, program: Optional[Place] = None, *, workers: Optional[int] = None, errors: str = "row",
+             divisors: Optional[Iterable[Dollars]] = None, ahead: Optional[int] = None,
+             progress: bool = False) -> Answers[Any, RankTestColumns]:
     """The rank tests of a degree, as `judge_all` has verdicts. One past the limits that a law settles has no first loss.
 
     >>> from dollar import Table
     >>> pair = Table([[0, 1], [1, 0]])
     >>> [str(test) for test in rank_all([Table(pair, [2, 0]), Table(pair, [0, 1])], 2)]
     ['rank at least 2', 'rank below 2 at 0=0 1=2']
-    >>> [str(test) for test in rank_all(pair, 2, divisors=[[2, 0], {"1": 1}])]
+    >>> [str(test) for test in rank_all(pair, 2, divisors=[[2, 0], {1: 1}])]
     ['rank at least 2', 'rank below 2 at 0=0 1=2']
     """
-    words, lines = asked("rank", [str(whole(degree, "the degree"))], tables, divisors, workers, errors, progress)
-    return swept(words, lines, lambda text, _: rank_test_of(text), RefusedRankTest, errors, program)
+    lines = asked("rank", [str(whole(degree, "the degree"))], tables, divisors, workers, errors)
+    return Answers(Job(lines, program, ahead, progress, errors, RefusedRankTest, read_rank_test),
+                   of_one_table(lambda vertices: RankTestColumns(vertices, degree)))
 
 
 @overload
-def rr_all(tables: Any, program: Optional[Place] = ..., *, workers: Optional[int] = ..., errors: Literal["raise"],
-           divisors: Optional[Iterable[Any]] = ..., progress: bool = ...) -> Iterator[RiemannRoch]: ...
+def rr_all(tables: Tables, program: Optional[Place] = ..., *, workers: Optional[int] = ..., errors: Literal["raise"],
+           divisors: Optional[Iterable[Dollars]] = ..., ahead: Optional[int] = ...,
+           progress: bool = ...) -> Answers[RiemannRoch, RiemannRochColumns]: ...
 
 
 @overload
-def rr_all(tables: Any, program: Optional[Place] = ..., *, workers: Optional[int] = ..., errors: Literal["row"] = ...,
-           divisors: Optional[Iterable[Any]] = ..., progress: bool = ...) -> Iterator[Union[RiemannRoch, RefusedRiemannRoch]]: ...
+def rr_all(tables: Tables, program: Optional[Place] = ..., *, workers: Optional[int] = ..., errors: str = ...,
+           divisors: Optional[Iterable[Dollars]] = ..., ahead: Optional[int] = ...,
+           progress: bool = ...) -> Answers[Union[RiemannRoch, RefusedRiemannRoch], RiemannRochColumns]: ...
 
 
-def rr_all(tables: Any, program: Optional[Place] = None, *, workers: Optional[int] = None, errors: str = "row",
-           divisors: Optional[Iterable[Any]] = None, progress: bool = False) -> Iterator[Union[RiemannRoch, RefusedRiemannRoch]]:
+def rr_all(tables: Tables, program: Optional[Place] = None, *, workers: Optional[int] = None, errors: str = "row",
+           divisors: Optional[Iterable[Dollars]] = None, ahead: Optional[int] = None,
+           progress: bool = False) -> Answers[Any, RiemannRochColumns]:
     """The four numbers of the tables, as `judge_all` has verdicts; None for a rank past the limits.
 
     >>> from dollar import Table
@@ -240,5 +411,5 @@ def rr_all(tables: Any, program: Optional[Place] = None, *, workers: Optional[in
     >>> [numbers.rank for numbers in rr_all(pair, divisors=([amount, 1] for amount in range(4)))]
     [0, 1, 1, 2]
     """
-    words, lines = asked("rr", [], tables, divisors, workers, errors, progress)
-    return swept(words, lines, lambda text, _: riemann_roch_of(text), RefusedRiemannRoch, errors, program)
+    lines = asked("rr", [], tables, divisors, workers, errors)
+    return Answers(Job(lines, program, ahead, progress, errors, RefusedRiemannRoch, lambda text, _: riemann_roch_of(text)), RiemannRochColumns)

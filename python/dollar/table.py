@@ -2,7 +2,6 @@
 
 from __future__ import annotations
 
-import copy
 import importlib
 import json
 import operator
@@ -10,39 +9,57 @@ import os
 import re
 from collections.abc import Mapping as AbstractMapping
 from pathlib import Path
-from typing import TYPE_CHECKING, Any, Callable, Dict, Iterable, Iterator, List, NamedTuple, Optional, Tuple, Union
+from typing import (
+    TYPE_CHECKING, Any, Callable, Dict, Hashable, Iterable, Iterator, List, Mapping, NamedTuple, Optional, Protocol, SupportsIndex, Tuple,
+    Union)
 
 from dollar import checks, drawing
 from dollar.grammar import limit
 from dollar.program import CLONE, Place
+from dollar.vertices import Dollars, Pairs, Vertex, Vertices, whole
 
 if TYPE_CHECKING:
+    from dollar.divisors import EffectiveDivisors, LinearSystem
     from dollar.session import Session
 
 MEMBERS = ("vertices", "edges", "amounts", "q")
-NAME = re.compile(r"[A-Za-z0-9_]{1,16}", re.ASCII)
 # The program reads no further: a longer file is refused.
 MOST_BYTES, MOST_TEXT = limit("dg_system::MAX_FILE"), 1 << 26
 # The examples that are installed with the package, or else those of the clone.
 EXAMPLES = next(filter(Path.is_dir, [Path(__file__).with_name("examples")]), CLONE / "examples")
-Edge = Tuple[str, str, int]
+Edge = Tuple[Hashable, Hashable, int]
 
 
-def whole(number: Any, what: str) -> int:
-    """A whole number as an int. A TypeError names what it is if it is none, be it as near to one as it may.
+class OfNetworkx(Protocol):
+    """A graph of networkx, or what has its `nodes` and `edges`."""
 
-    >>> whole(1.0, "the amount of vertex a")
-    Traceback (most recent call last):
-        ...
-    TypeError: the amount of vertex a is no whole number: 1.0
-    """
-    try:
-        # What is true or false is a number for Python, and none for the program.
-        if type(number).__name__ not in ("bool", "bool_"):
-            return int(operator.index(number))
-    except TypeError:
-        pass
-    raise TypeError("%s is no whole number: %r" % (what, number))
+    @property
+    def nodes(self) -> Iterable[Any]: ...
+
+    @property
+    def edges(self) -> Iterable[Any]: ...
+
+
+class OfSage(Protocol):
+    """A Graph of Sage, or what has its `vertices` and `edges`."""
+
+    def vertices(self) -> Iterable[Any]: ...
+
+    def edges(self, labels: bool) -> Iterable[Any]: ...
+
+
+class OfSandpile(Protocol):
+    """A Sandpile of Sage."""
+
+    def vertices(self) -> Iterable[Any]: ...
+
+    def sink(self) -> Any: ...
+
+
+# What a table can be made of: the members of a table, a graph, or an adjacency matrix.
+Graph = Union[Mapping[str, object], OfNetworkx, OfSage, OfSandpile, Iterable[Iterable[SupportsIndex]]]
+# What a command takes as a table: a Table, the members of one, or the place of a file.
+Asked = Union[Mapping[str, object], Place]
 
 
 class Multigraph(NamedTuple):
@@ -88,7 +105,18 @@ def of_networkx(graph: Any) -> Multigraph:
         if wrong:
             raise ValueError("an edge is a pair of vertices, and not %r" % (wrong[0],))
         edges = [(u, v, 1) for u, v in graph.edges]
-    return Multigraph(vertices, merged(vertices, edges))
+    return Multigraph(vertices, merged(vertices, edges), *held_by_nodes(graph))
+
+
+def held_by_nodes(graph: Any) -> Tuple[Any, Any]:
+    """The amounts that the nodes of a graph of networkx have, and q if the graph tells it beside them; None if they have none."""
+    amounts = {node: of["amount"] for node, of in getattr(graph.nodes, "items", list)() if "amount" in of}
+    if not amounts:
+        return None, None
+    poor = [node for node in graph.nodes if node not in amounts]
+    if poor:
+        raise ValueError("the node %s has no attribute `amount`, which others have" % (poor[0],))
+    return amounts, getattr(graph, "graph", {}).get("q")
 
 
 def of_sage_graph(graph: Any) -> Multigraph:
@@ -134,13 +162,31 @@ def of_sandpile_divisor(divisor: Any) -> Multigraph:
 
 def of_matrix(matrix: Any) -> Multigraph:
     """The multigraph of an adjacency matrix: how many edges join the vertex of a row to that of a column."""
-    rows = [list(row) for row in (matrix.to_numpy() if hasattr(matrix, "to_numpy") else matrix)]
+    of = matrix
+    if hasattr(matrix, "to_numpy"):
+        of = matrix.to_numpy()
+    elif hasattr(matrix, "toarray"):
+        of = matrix.toarray()
+    elif hasattr(matrix, "tolist"):
+        of = matrix.tolist()
+    rows = [list(row) for row in of]
     if any(len(row) != len(rows) for row in rows):
         raise ValueError("an adjacency matrix has as many columns as rows")
-    counts = {(u, v): whole(count, "the number of edges from %d to %d" % (u, v))
-              for u, row in enumerate(rows) for v, count in enumerate(row)}
-    vertices = list(range(len(rows)))
+    vertices = labels_of(matrix) if hasattr(matrix, "to_numpy") else list(range(len(rows)))
+    counts = {(u, v): whole(count, "the number of edges from %s to %s" % (u, v))
+              for u, row in zip(vertices, rows) for v, count in zip(vertices, row)}
+    if len(counts) != len(rows) ** 2:
+        raise ValueError("two rows of the frame have the same label")
     return Multigraph(vertices, both_ways(vertices, counts))
+
+
+def labels_of(frame: Any) -> List[Any]:
+    """The labels of the rows of a frame of pandas, which those of its columns have to be too."""
+    rows, columns = list(frame.index), list(frame.columns)
+    if rows != columns:
+        raise ValueError("the columns of an adjacency matrix have other labels than its rows, or another order: %s and %s"
+                         % (", ".join(map(str, columns)), ", ".join(map(str, rows))))
+    return rows
 
 
 def of_members(table: Any) -> Multigraph:
@@ -176,7 +222,7 @@ def multigraph(thing: Any) -> Multigraph:
     """What a table is to be made of, whatever says it."""
     if isinstance(thing, Table):
         return Multigraph(list(thing.vertices), list(thing.edges), list(thing.amounts), thing.q)
-    if isinstance(thing, (str, bytes, os.PathLike)):
+    if isinstance(thing, (str, bytes, bytearray, memoryview, os.PathLike)):
         raise TypeError("Table.read reads a file, and Table.graph6 a line of graph6: %r is neither a graph nor a matrix" % (thing,))
     if hasattr(thing, "sandpile") and isinstance(thing, AbstractMapping):
         return of_sandpile_divisor(thing)
@@ -193,65 +239,21 @@ def multigraph(thing: Any) -> Multigraph:
     raise TypeError("a table is made of a graph, a matrix or a table, and not of %r" % (thing,))
 
 
-def named(vertices: List[Any], names: Callable[[Any], str]) -> List[str]:
-    """The names of the vertices, which are all different."""
-    found: Dict[str, Any] = {}
-    for vertex in vertices:
-        name = names(vertex)
-        if not isinstance(name, str) or not NAME.fullmatch(name):
-            raise ValueError("vertex %s has no name of 1 to 16 letters from a to z or A to Z, digits or _: give them by the parameter "
-                             "`names`, a function from a vertex to its name" % (vertex,))
-        if name in found:
-            raise ValueError("the vertices %r and %r have the same name" % (found[name], vertex))
-        found[name] = vertex
-    return list(found)
-
-
-def place_of(key: Any, places: Dict[Any, int], names: Tuple[str, ...]) -> int:
-    """The place of a vertex, which is given as itself or by its name's text."""
-    try:
-        if key in places:
-            return places[key]
-    except TypeError:
-        pass
-    if str(key) in names:
-        return names.index(str(key))
-    raise ValueError("there is no vertex %r: the vertices are %s" % (key, ", ".join(names)))
-
-
-def held(amounts: Any, places: Dict[Any, int], names: Tuple[str, ...]) -> Tuple[int, ...]:
-    """The amounts in the order of the vertices."""
-    if amounts is None:
-        return (0,) * len(names)
-    if isinstance(amounts, (set, frozenset, str)):
-        raise TypeError("amounts are a list in the order of the vertices, or a dict, and not %r" % (amounts,))
-    if not hasattr(amounts, "keys"):
-        given = list(amounts)
-        if len(given) != len(names):
-            raise ValueError("there are %d amounts for %d vertices" % (len(given), len(names)))
-        return tuple(whole(amount, "the amount of vertex %s" % name) for name, amount in zip(names, given))
-    found: Dict[int, int] = {}
-    for key in amounts.keys():
-        place = place_of(key, places, names)
-        if place in found:
-            raise ValueError("there are two amounts for vertex %s" % names[place])
-        found[place] = whole(amounts[key], "the amount of vertex %s" % names[place])
-    return tuple(found.get(place, 0) for place in range(len(names)))
-
-
 class Table(AbstractMapping[str, Any]):
     """A graph, the dollars at its vertices, and the vertex q from which verdicts are reckoned. A table can't be changed.
 
     It is made of a graph of networkx, which may be a MultiGraph; a Graph, a Sandpile or a SandpileDivisor of Sage; an adjacency
     matrix; another table; or the members of a table file as a dict. `Table.read` reads a file, and `Table.graph6` a line of graph6.
 
-    The amounts are a list in the order of the vertices, or a dict, whose keys are vertices or the texts of their names; a vertex
-    that is not in it has 0 dollars. If they are not given, they are those of the table or divisor that was given, or else all 0.
-    q is the first vertex where neither says another. The name of a vertex is its text, unless `names` is a function that gives it
-    another; answers name vertices so.
+    The amounts are a list in the order of the vertices, or a dict by vertices; a vertex that is not in it has 0 dollars. If they are
+    not given, they are those of what was given, or else all 0. q is the first vertex where neither says another.
+
+    A table keeps the vertices that it was made of: they are the keys of amounts, scripts and answers. A text is a key too where it
+    means one vertex. The name of a vertex, by which the program knows it, is its text, unless `names` is a function that gives it
+    another.
 
     >>> Table([[0, 2], [2, 0]], [3, -1])
-    Table({'vertices': ['0', '1'], 'edges': [['0', '1', 2]], 'amounts': [3, -1], 'q': '0'})
+    Table({'vertices': [0, 1], 'edges': [[0, 1, 2]], 'amounts': [3, -1], 'q': 0})
     >>> table = Table({"vertices": ["a", "b"], "edges": [["a", "b", 1]], "amounts": [2, -1], "q": "a"})
     >>> table.vertices, table.edges, table.amounts, table.q
     (('a', 'b'), (('a', 'b', 1),), (2, -1), 'a')
@@ -273,18 +275,25 @@ class Table(AbstractMapping[str, Any]):
     """
 
     __slots__ = ("_amounts", "_edges", "_q", "_vertices")
+    _amounts: Tuple[int, ...]
+    _edges: Tuple[Edge, ...]
+    _q: int
+    _vertices: Vertices
 
-    def __init__(self, graph: Any, amounts: Any = None, q: Any = None, *, names: Callable[[Any], str] = str) -> None:
+    def __init__(self, graph: Union[Graph, Multigraph], amounts: Optional[Dollars] = None, q: Optional[Vertex] = None, *,
+                 names: Optional[Callable[[Any], str]] = None) -> None:
         made = graph if isinstance(graph, Multigraph) else multigraph(graph)
-        self._vertices = tuple(named(made.vertices, names))
-        places = {vertex: place for place, vertex in enumerate(made.vertices)}
-        name = dict(zip(made.vertices, self._vertices))
-        self._edges: Tuple[Edge, ...] = tuple((name[u], name[v], count) for u, v, count in made.edges)
-        self._amounts = held(made.amounts if amounts is None else amounts, places, self._vertices)
+        if isinstance(graph, Table) and names is None:
+            self._vertices = graph._vertices
+        else:
+            self._vertices = Vertices(made.vertices, names or str)
+        self._edges = tuple(made.edges)
+        given = made.amounts if amounts is None else amounts
+        self._amounts = self._vertices.amounts([0] * len(made.vertices) if given is None else given)
         q = made.q if q is None else q
-        if q is None and not self._vertices:
+        if q is None and not made.vertices:
             raise ValueError("there is no vertex")
-        self._q = self._vertices[0 if q is None else place_of(q, places, self._vertices)]
+        self._q = 0 if q is None else self._vertices.place(q)
 
     @classmethod
     def read(cls, file: Place) -> Table:
@@ -301,18 +310,23 @@ class Table(AbstractMapping[str, Any]):
         """The table of a line in the format graph6, as nauty's programs print it; its vertices are 0, 1, 2 and so on.
 
         >>> Table.graph6("Bw", [1, 0, -1]).edges
-        (('0', '1', 1), ('0', '2', 1), ('1', '2', 1))
+        ((0, 1, 1), (0, 2, 1), (1, 2, 1))
         """
         return cls(of_graph6(line), amounts, q)
 
     @property
-    def vertices(self) -> Tuple[str, ...]:
-        """The names of the vertices, in order."""
-        return self._vertices
+    def vertices(self) -> Tuple[Vertex, ...]:
+        """The vertices that the table was made of, in order."""
+        return self._vertices.given
+
+    @property
+    def names(self) -> Tuple[str, ...]:
+        """The names of the vertices, by which the program knows them."""
+        return self._vertices.names
 
     @property
     def edges(self) -> Tuple[Edge, ...]:
-        """The edges: two names, and how often the edge is there."""
+        """The edges: two vertices, and how often the edge is there."""
         return self._edges
 
     @property
@@ -321,14 +335,188 @@ class Table(AbstractMapping[str, Any]):
         return self._amounts
 
     @property
-    def q(self) -> str:
-        """The name of the vertex from which verdicts are reckoned."""
-        return self._q
+    def q(self) -> Vertex:
+        """The vertex from which verdicts are reckoned."""
+        return self._vertices.given[self._q]
 
     @property
-    def divisor(self) -> Dict[str, int]:
-        """The amounts by the names of the vertices."""
-        return dict(zip(self._vertices, self._amounts))
+    def divisor(self) -> Pairs:
+        """The amounts by vertices."""
+        return self._vertices.keyed(self._amounts)
+
+    def place(self, vertex: Vertex) -> int:
+        """The place of a vertex in the order of the vertices, from 0."""
+        return self._vertices.place(vertex)
+
+    @property
+    def degree(self) -> int:
+        """The degree of the divisor: all dollars.
+
+        >>> Table([[0, 1], [1, 0]], [2, -1]).degree
+        1
+        """
+        return sum(self._amounts)
+
+    @property
+    def genus(self) -> int:
+        """The genus of the graph: its edges less its vertices, and 1.
+
+        >>> Table([[0, 3], [3, 0]]).genus
+        2
+        """
+        return sum(count for _, _, count in self._edges) - len(self._amounts) + 1
+
+    def canonical(self) -> Table:
+        """The canonical divisor K: at each vertex its edges less 2.
+
+        >>> Table([[0, 3], [3, 0]]).canonical().amounts
+        (1, 1)
+        """
+        edges = [0] * len(self._amounts)
+        for u, v, count in self._edges:
+            for end in (u, v):
+                edges[self._vertices.places[end]] += count
+        return self._with(tuple(count - 2 for count in edges))
+
+    def residual(self) -> Table:
+        """K - D, the residual of the divisor, whose rank is the other one of Riemann-Roch.
+
+        >>> Table([[0, 3], [3, 0]], [2, 0]).residual().amounts
+        (-1, 1)
+        """
+        return self.canonical() - self
+
+    def reduced(self, q: Optional[Vertex] = None, program: Optional[Place] = None) -> Table:
+        """The divisor that is equivalent to this one and reduced at q, which is the table's where no other is given.
+
+        >>> Table([[0, 1], [1, 0]], [2, -1]).reduced(1).amounts
+        (0, 1)
+        """
+        from dollar.commands import judge
+
+        table = self._with(self._amounts, self._q if q is None else self._vertices.place(q))
+        return table._with(tuple(judge(table, program).reduced.values()))
+
+    def is_reduced(self, program: Optional[Place] = None) -> bool:
+        """Whether the divisor is reduced at q.
+
+        >>> Table([[0, 1], [1, 0]], [2, -1]).is_reduced(), Table([[0, 1], [1, 0]], [1, 0]).is_reduced()
+        (False, True)
+        """
+        return self.reduced(program=program)._amounts == self._amounts
+
+    def burning_order(self) -> List[Any]:
+        """The vertices in the order in which they burn from q: each the first of those that more edges join to burnt ones than they have
+        dollars. All burn if the divisor is reduced; those that don't can fire together.
+
+        >>> ring = Table([[0, 1, 0, 1], [1, 0, 1, 0], [0, 1, 0, 1], [1, 0, 1, 0]], [-2, 0, 3, 0])
+        >>> ring.burning_order()
+        [0, 1, 3]
+        """
+        return checks.burnt(self, self.divisor)
+
+    def is_equivalent(self, other: Union[Table, Dollars], program: Optional[Place] = None) -> bool:
+        """Whether some script leads from this divisor to the other, which is a table on the same graph, or amounts.
+
+        >>> Table([[0, 1], [1, 0]], [2, -1]).is_equivalent([0, 1]), Table([[0, 1], [1, 0]], [2, -1]).is_equivalent([0, 0])
+        (True, False)
+        """
+        return self._script_to(other, program) is not None
+
+    def script_to(self, other: Union[Table, Dollars], program: Optional[Place] = None) -> Pairs:
+        """The script that leads from this divisor to the other and is 0 at q. A ValueError if they are not equivalent.
+
+        >>> table = Table([[0, 1], [1, 0]], [2, -1])
+        >>> table.script_to([0, 1])
+        {0: 0, 1: -2}
+        >>> checks.fired(table, table.script_to([0, 1]))
+        {0: 0, 1: 1}
+        """
+        script = self._script_to(other, program)
+        if script is None:
+            raise ValueError("the divisors are not equivalent, so that no script leads from one to the other")
+        return self._vertices.keyed(script)
+
+    def _script_to(self, other: Union[Table, Dollars], program: Optional[Place]) -> Optional[Tuple[int, ...]]:
+        """The script, in the order of the vertices, by the verdicts on both; None if they lead to two reduced divisors."""
+        from dollar.sweeps import judge_all
+
+        there = self._like(other)
+        if sum(there) != self.degree:
+            return None
+        one, two = judge_all(self, program, divisors=[self._amounts, there], errors="raise")
+        if one.reduced != two.reduced:
+            return None
+        return tuple(here - back for here, back in zip(one.script.values(), two.script.values()))
+
+    def rank(self, program: Optional[Place] = None) -> int:
+        """The rank of the divisor; -1 if it can't be won. It is a Fault, `too many trials`, if both ranks of Riemann-Roch are past the
+        limits.
+
+        >>> Table([[0, 3], [3, 0]], [2, 2]).rank()
+        2
+        """
+        from dollar.commands import rr
+
+        rank = rr(self, program).rank
+        assert rank is not None
+        return rank
+
+    def effective_divisors(self, degree: int) -> EffectiveDivisors:
+        """The effective divisors of a degree on the graph, as tables, in the order of lists; `count` of it is how many there are.
+
+        >>> found = Table([[0, 1], [1, 0]]).effective_divisors(2)
+        >>> found.count, [table.amounts for table in found]
+        (3, [(0, 2), (1, 1), (2, 0)])
+        """
+        from dollar.divisors import EffectiveDivisors
+
+        return EffectiveDivisors(self, whole(degree, "the degree"))
+
+    def linear_system(self, program: Optional[Place] = None) -> LinearSystem:
+        """The effective divisors that are equivalent to this one, as tables, by one sweep; `count` of it is how many verdicts that takes.
+
+        >>> found = Table([[0, 1, 1], [1, 0, 1], [1, 1, 0]], [2, 0, 0]).linear_system()
+        >>> found.count, [table.amounts for table in found]
+        (6, [(0, 1, 1), (2, 0, 0)])
+        """
+        from dollar.divisors import LinearSystem
+
+        return LinearSystem(self, program)
+
+    def _like(self, other: Union[Table, Dollars]) -> Tuple[int, ...]:
+        """The amounts of a divisor on the same graph: a table, or amounts as a table takes them."""
+        if isinstance(other, Table):
+            if other._graph() != self._graph():
+                raise ValueError("the two divisors are on different graphs")
+            return other._amounts
+        return self._vertices.amounts(other)
+
+    def __add__(self, other: Union[Table, Dollars]) -> Table:
+        """The sum of two divisors on the graph; with q as here.
+
+        >>> table = Table([[0, 1], [1, 0]], [2, -1])
+        >>> (table + [1, 1]).amounts, (table - {0: 2}).amounts, (3 * table).amounts, (-table).amounts
+        ((3, 0), (0, -1), (6, -3), (-2, 1))
+        """
+        return self._with(tuple(map(operator.add, self._amounts, self._like(other))))
+
+    __radd__ = __add__
+
+    def __sub__(self, other: Union[Table, Dollars]) -> Table:
+        return self._with(tuple(map(operator.sub, self._amounts, self._like(other))))
+
+    def __rsub__(self, other: Dollars) -> Table:
+        return -self + other
+
+    def __mul__(self, times: int) -> Table:
+        number = whole(times, "how often a divisor is taken")
+        return self._with(tuple(number * amount for amount in self._amounts))
+
+    __rmul__ = __mul__
+
+    def __neg__(self) -> Table:
+        return self * -1
 
     def __iter__(self) -> Iterator[str]:
         return iter(MEMBERS)
@@ -337,13 +525,17 @@ class Table(AbstractMapping[str, Any]):
         return len(MEMBERS)
 
     def __getitem__(self, member: str) -> Any:
-        """A member of the table file: so `dict(table, amounts=[..])` is a dict with other amounts."""
+        """A member of the table file, with the names of vertices: so `dict(table, amounts=[..])` is a dict with other amounts."""
+        name = self._vertices.names
         if member == "q":
-            return self._q
+            return name[self._q]
         if member == "edges":
-            return [list(edge) for edge in self._edges]
-        if member in MEMBERS:
-            return list(getattr(self, member))
+            places = self._vertices.places
+            return [[name[places[u]], name[places[v]], count] for u, v, count in self._edges]
+        if member == "vertices":
+            return list(name)
+        if member == "amounts":
+            return list(self._amounts)
         raise KeyError(member)
 
     def to_dict(self) -> Dict[str, Any]:
@@ -360,23 +552,22 @@ class Table(AbstractMapping[str, Any]):
             text.write(self.to_json() + "\n")
 
     def to_networkx(self) -> Any:
-        """The graph as a MultiGraph of networkx, whose nodes are the names, each with its `amount`.
-
-        Of it and the amounts the same table can be made: `Table(table.to_networkx(), table.divisor, table.q)`.
-        """
-        graph = importlib.import_module("networkx").MultiGraph()
-        for name, amount in self.divisor.items():
-            graph.add_node(name, amount=amount)
+        """The graph as a MultiGraph of networkx, whose nodes are the vertices, each with its `amount`; the graph has `q`. So the same
+        table can be made of it: `Table(table.to_networkx())`, with the same `names`."""
+        graph = importlib.import_module("networkx").MultiGraph(q=self.q)
+        for vertex, amount in self.divisor.items():
+            graph.add_node(vertex, amount=amount)
         graph.add_edges_from((u, v) for u, v, count in self._edges for _ in range(count))
         return graph
 
     def to_sage(self) -> Any:
         """The amounts as a SandpileDivisor of Sage, on the Sandpile of the graph, whose sink is q."""
         sandpiles = importlib.import_module("sage.sandpiles.all")
-        return sandpiles.SandpileDivisor(sandpiles.Sandpile(checks.edges(self), self._q), self.divisor)
+        return sandpiles.SandpileDivisor(sandpiles.Sandpile(checks.edges(self), self.q), dict(self.divisor))
 
-    def serve(self, seats: Optional[int] = None, **options: Any) -> Session:
-        """A session on the table, or with `seats` one for many people; docs of `Session` tell the options.
+    def serve(self, seats: Optional[int] = None, *, cap: Optional[int] = None, workers: Optional[int] = None,
+              patience: Optional[float] = 20.0, program: Optional[Place] = None, keep: Optional[Place] = None) -> Session:
+        """A session on the table, or with `seats` one for many people; `help(dollar.Session)` explains the rest.
 
         >>> with Table([[0, 1], [1, 0]], [2, -1]).serve(seats=2) as session:
         ...     print(session.ask_seat(2, "lend 0"))
@@ -384,51 +575,81 @@ class Table(AbstractMapping[str, Any]):
         """
         from dollar.session import Session
 
-        return Session(self, seats=seats, **options)
+        return Session(self, seats=seats, cap=cap, workers=workers, patience=patience, program=program, keep=keep)
 
-    def _with(self, amounts: Tuple[int, ...]) -> Table:
-        """The table with other amounts."""
-        other = copy.copy(self)
-        other._amounts = amounts
+    def _with(self, amounts: Tuple[int, ...], q: Optional[int] = None) -> Table:
+        """The table with other amounts, and with the vertex at another place as q."""
+        other = object.__new__(Table)
+        other._vertices, other._edges, other._amounts = self._vertices, self._edges, amounts
+        other._q = self._q if q is None else q
         return other
 
-    def _as_multigraph(self) -> Tuple[Tuple[str, ...], List[Edge], Tuple[int, ...], str]:
-        return self._vertices, sorted(merged(self._vertices, self._edges)), self._amounts, self._q
+    def _graph(self) -> Tuple[Tuple[str, ...], List[Any]]:
+        """The multigraph: its names, and its edges as places, each pair once."""
+        places = self._vertices.places
+        return self._vertices.names, sorted(merged(range(len(places)), ((places[u], places[v], n) for u, v, n in self._edges)))
 
     def __eq__(self, other: object) -> bool:
         if not isinstance(other, Table):
             return NotImplemented
-        return self._as_multigraph() == other._as_multigraph()
+        return (self._amounts, self._q, self._graph()) == (other._amounts, other._q, other._graph())
 
     def __hash__(self) -> int:
-        return hash((self._vertices, self._amounts, self._q))
+        return hash((self._vertices.names, self._amounts, self._q))
 
     def __repr__(self) -> str:
-        return "Table(%r)" % self.to_dict()
+        if any(str(vertex) != name for vertex, name in zip(self.vertices, self.names)):
+            return "Table(%r)" % self.to_dict()
+        parts: Dict[str, object] = {"vertices": list(self.vertices), "edges": [list(edge) for edge in self._edges],
+                                    "amounts": list(self._amounts), "q": self.q}
+        return "Table(%r)" % parts
 
     def _repr_svg_(self) -> str:
         return drawing.picture(self)
 
 
-def members(thing: Any) -> bytes:
+def members(thing: Asked) -> bytes:
     """The bytes of a table file for whatever a command takes as a table: a Table, the members of one as a dict, a SandpileDivisor of
     Sage, or the place of a file."""
+    return file_and_table(thing)[0]
+
+
+def file_and_table(thing: Asked) -> Tuple[bytes, Union[Table, bytes]]:
+    """The same, and what the table is made of later, if it is needed: itself, or these bytes."""
     if isinstance(thing, (str, os.PathLike)):
         with open(thing, "rb") as file:
-            return file.read(MOST_BYTES + 1)
+            text = file.read(MOST_BYTES + 1)
+        return text, text
     return one_line(thing)
 
 
-def one_line(thing: Any) -> bytes:
+def json_number(number: object) -> int:
+    """A number that is none of Python's, as numpy has them, for a table file."""
+    return whole(number, "a number of the table")
+
+
+def one_line(thing: Any) -> Tuple[bytes, Union[Table, bytes]]:
     """The same in one line, of what is no file."""
-    if isinstance(thing, Table):
-        return thing.to_json().encode()
     if hasattr(thing, "sandpile"):
-        return Table(thing).to_json().encode()
+        thing = Table(thing)
+    if isinstance(thing, Table):
+        return thing.to_json().encode(), thing
     if isinstance(thing, AbstractMapping):
-        return json.dumps(dict(thing), default=operator.index).encode()
+        line = json.dumps(dict(thing), default=json_number).encode()
+        return line, line
     raise TypeError("a table is a Table, a dict or a SandpileDivisor, and not of the type %s: Table(graph, amounts) makes one"
                     % type(thing).__name__)
+
+
+def made_of(kept: Any) -> Optional[Table]:
+    """The table of an answer, of what was kept of it: the table, or its line, or a table and other amounts on its graph."""
+    if isinstance(kept, bytes):
+        return Table(json.loads(kept))
+    if isinstance(kept, tuple):
+        table: Table = kept[0]
+        return table._with(kept[1])
+    found: Optional[Table] = kept
+    return found
 
 
 def text_of(file: Place) -> str:
@@ -451,26 +672,3 @@ def example(name: str) -> Table:
     if not file.is_file():
         raise FileNotFoundError("there is no example %s beside this package: %s" % (name, file))
     return Table.read(file)
-
-
-def iterate(tables: Iterable[Any]) -> Iterator[Tuple[Any, bytes]]:
-    """Each table, and its line."""
-    for number, table in enumerate(tables):
-        try:
-            made = Table(table) if hasattr(table, "sandpile") else table
-            yield made, one_line(made) + b"\n"
-        except (TypeError, ValueError) as error:
-            raise type(error)("table %d: %s" % (number, error)) from None
-
-
-def iterate_divisors(table: Table, divisors: Iterable[Any]) -> Iterator[Tuple[Any, bytes]]:
-    """For each of the divisors the table with these amounts, and their line. A dict has 0 dollars where it has no vertex."""
-    places = {name: place for place, name in enumerate(table.vertices)}
-    for number, divisor in enumerate(divisors):
-        try:
-            if divisor is None:
-                raise TypeError("amounts are a list in the order of the vertices, or a dict, and not None")
-            amounts = held(divisor, places, table.vertices)
-        except (TypeError, ValueError) as error:
-            raise type(error)("divisor %d: %s" % (number, error)) from None
-        yield table._with(amounts), " ".join(map(str, amounts)).encode() + b"\n"

@@ -3,17 +3,18 @@ import asyncio
 import json
 
 from dollar.board.game import MOST_LINE, Game
-from dollar.board.pages import asset, page
+from dollar.board.pages import asset, forward, page
+from dollar.board.puzzles import GRAPHS, Puzzles
 from dollar.board.replay import page as replay_page
 from dollar.board.server import Nothing, Refused, as_json, new_secret, same, text_in
 from dollar.drawing import USUAL, layout
-from dollar.program import PATIENCE, call, fault_of
+from dollar.program import PATIENCE, Fault, call, fault_of
 from dollar.table import EXAMPLES, text_of
 
 MOST_BODY, AT_ONCE, MOST_GAMES = 1 << 24, 3, 8
 # The most letters of each text of a question.
 MOST = {"command": 16, "table": 1 << 21, "tables": 1 << 21, "places": 1 << 21, "steps": 1 << 22, "degree": 12, "name": 200,
-        "key": 64, "line": MOST_BODY}
+        "graph": 40, "level": 20, "key": 64, "line": MOST_BODY}
 # What the program is asked: the words of its command line, and the texts after them, each in a file but for a number.
 ASKED = {"judge": (["judge", "--order", "--"], ["table"]), "rr": (["rr", "--"], ["table"]),
          "rank": (["rank", "--"], ["table", "degree"]), "rehearse": (["rehearse", "--"], ["table", "steps"]),
@@ -62,22 +63,24 @@ class OwnGame(Game):
 class Alone:
     """Answers the requests of the page for one player. The program judges each table and each step."""
 
-    def __init__(self, secret, name, text, own=None):
-        self.secret, self.name, self.text, self.own = secret, name, text, own
+    def __init__(self, secret, table):
+        self.secret, self.table = secret, table
         self.turns, self.games = asyncio.Semaphore(AT_ONCE), {}
 
     async def answer(self, request):
         """What the server says to a request."""
-        if not same(request.parts[0], self.secret) or len(request.parts) != 2:
+        if not same(request.parts[0], self.secret) or len(request.parts) > 2:
             raise Nothing
+        if len(request.parts) == 1:
+            return forward(request, self.secret)
         request.known()
         asked = request.method, request.parts[1]
         if asked == ("GET", ""):
             return page("alone.html")
         if asked == ("GET", "start"):
-            examples, table = sorted(EXAMPLES.glob("*.json")), json.loads(self.text)
-            return as_json({"name": self.name, "table": self.text, "examples": {file.name: text_of(file) for file in examples},
-                            "layout": layout(table, table["amounts"] + USUAL, self.own)})
+            examples = {file.name: text_of(file) for file in sorted(EXAMPLES.glob("*.json"))}
+            return as_json({"name": self.table.name, "table": self.table.text, "examples": examples, "layout": self.table.layout,
+                            "graphs": list(GRAPHS)})
         if asked == ("POST", "ask"):
             async with self.turns:
                 return as_json(await self.asked(await request.json(MOST_BODY)))
@@ -103,6 +106,8 @@ class Alone:
             return await self.layout(table, text("places") if "places" in given else None)
         if command == "replay":
             return await self.replay(table, text("steps"), text("name"))
+        if command == "puzzle":
+            return await self.puzzle(text("graph"), text("level"), table)
         raise Refused(400, "there is no such question")
 
     async def begin(self, table, steps):
@@ -148,6 +153,16 @@ class Alone:
                 raise Refused(400, str(error)) from None
         return said
 
+    async def puzzle(self, graph, level, now):
+        """A puzzle, as its name and its table."""
+        try:
+            name, table = await asyncio.to_thread(Puzzles.made, graph, level, now)
+        except Fault as fault:
+            return {"status": fault.status, "out": "", "err": fault.text}
+        except ValueError as error:
+            raise Refused(409, str(error)) from None
+        return {"status": 0, "out": "", "err": "", "name": name, "table": table}
+
     async def replay(self, table, steps, name):
         """The page that shows the game again."""
         said = await run("rehearse", table.encode(), steps.encode())
@@ -160,6 +175,6 @@ async def run(*words):
     """What the program says: its status, its answer and its fault. A word as bytes stands for a file."""
     try:
         out, said, status = await asyncio.to_thread(call, words, None, PATIENCE)
-    except OSError as error:
+    except (OSError, ValueError) as error:
         return {"status": None, "out": "", "err": str(error)}
     return {"status": status, "out": out.decode(), "err": fault_of(said, status).text if status else ""}

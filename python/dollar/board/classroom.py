@@ -1,149 +1,304 @@
-"""A table for a class: one `dollar serve FILE --seats N` behind the pages of all. A click is a line, and what is drawn is what came
-back; each seat's lines are put to the program one after another, and all see each entry as it comes."""
+"""A class: pupils with seats, and the tables that the teacher hands out to them one after another. All share one, or each has a room of
+his own, or so many are in one. A click is a line, and what is drawn is what came back; the lines of a room are put to its program one
+after another, and its pages see each entry as it comes. The pages of the teacher and of those who only watch see all rooms."""
 import asyncio
-import contextlib
-import functools
-import importlib
-import json
 import re
 import time
 from collections import Counter
 
-from dollar.board.game import MOST_LINE, Game
-from dollar.board.pages import asset, page
+from dollar.board.game import MOST_LINE, Table
+from dollar.board.pages import asset, forward, page
+from dollar.board.puzzles import Puzzles
+from dollar.board.qr import code
 from dollar.board.replay import page as replay_page
+from dollar.board.room import Feed, Room, event
 from dollar.board.server import Nothing, Refused, as_json, new_secret, same, text_in
-from dollar.drawing import USUAL, layout
 from dollar.program import PATIENCE, Fault, printed
 
-MOST_BODY, MOST_NAME = 1 << 14, 24
+MOST_BODY, MOST_TABLE, MOST_NAME = 1 << 14, 1 << 22, 24
 # A seat may play so many lines at once, and then so many in a second; so many of its lines wait, and so many pages are open on it.
 AT_ONCE, IN_A_SECOND, MOST_WAITING, MOST_PAGES = 60, 10.0, 4, 4
-BATCH, HEARTBEAT, UNUSED = 400, 15.0, 60.0
+HEARTBEAT, UNUSED = 15.0, 60.0
+# Pages are told together what comes within so many seconds.
+TOGETHER = 0.03
+# The letters of the short code, and how many wrong ones are tried at once, and then in a second.
+SHORT, TRIES, TRIES_IN_A_SECOND = 6, 10, 3.0
 FILES = {"table.json": "application/json", "steps.txt": "text/plain", "history.txt": "text/plain"}
-KEEP_OPEN = b": the game goes on\n\n"
+KEEP_OPEN, JOINER = b": the game goes on\n\n", "\u200d"
+# What the teacher permits, the first words of the lines that fall under it, and what it is called.
+SWITCHES = {"gifts": (["gift"], "gifts and levies"), "edges": (["join"], "new edges"),
+            "questions": (["look", "commit", "rank"], "looks and what is entered on them"), "undo": ([], "taking back")}
 
 
-class Seat:
-    """A seat that somebody has: the key that only his page knows, his name, and the pages that are open on it."""
+class Bucket:
+    """Permits so many acts at once, and then so many in a second."""
 
-    def __init__(self, number, name):
-        self.number, self.name, self.key = number, name, new_secret()
-        self.pages, self.played, self.waiting, self.seen = [], 0, 0, time.monotonic()
-        self.room, self.filled = float(AT_ONCE), time.monotonic()
+    def __init__(self, most, each):
+        self.most, self.each, self.left, self.filled = most, each, float(most), time.monotonic()
+
+    def has(self):
+        """Whether there is one more."""
+        now = time.monotonic()
+        self.left, self.filled = min(self.most, self.left + (now - self.filled) * self.each), now
+        return self.left >= 1
 
     def takes(self):
-        """Whether the seat may play a line now."""
-        now = time.monotonic()
-        self.room, self.filled = min(AT_ONCE, self.room + (now - self.filled) * IN_A_SECOND), now
-        if self.room < 1 or self.waiting >= MOST_WAITING:
+        """Takes one, if there is one."""
+        if not self.has():
             return False
-        self.room -= 1
+        self.left -= 1
         return True
 
 
+class NewTable(Refused):
+    """What a line gets that was meant for the table before."""
+
+    def __init__(self):
+        super().__init__(409, "There is a new table. This line was not played.")
+
+
+class Seat:
+    """A seat that somebody has: the key that only his page knows, his name, his browser, and the pages that are open on it."""
+
+    def __init__(self, number, name, browser=None, key=None):
+        self.number, self.name, self.browser, self.key = number, name, browser, key or new_secret()
+        self.pages, self.played, self.waiting, self.seen = [], 0, 0, time.monotonic()
+        self.bucket = Bucket(AT_ONCE, IN_A_SECOND)
+
+    def takes(self):
+        """Whether the seat may play a line now."""
+        return self.waiting < MOST_WAITING and self.bucket.takes()
+
+
+class Follower:
+    """A page that follows what goes on. It sleeps until there is something to tell it, or it has gone, or it is ended by a word."""
+
+    def __init__(self, gone):
+        self.gone, self.word, self.is_due, self.woken = gone, None, False, None
+        gone.add_done_callback(lambda _: self.wake())
+
+    def goes_on(self):
+        return self.word is None and not self.gone.done()
+
+    async def sleep(self):
+        self.woken = asyncio.get_running_loop().create_future()
+        await self.woken
+
+    def wake(self):
+        if self.woken and not self.woken.done():
+            self.woken.set_result(None)
+
+    def end(self, word):
+        self.word = self.word or word
+        self.wake()
+
+
 def clean(name):
-    """A name as it is shown: what can be printed of it, on one line."""
-    shown = "".join(letter if letter.isprintable() else " " if letter.isspace() else "" for letter in name)
+    """A name as it is shown: what can be printed of it, on one line. The letter that joins others to one sign stays."""
+    shown = "".join(letter if letter.isprintable() or letter == JOINER else " " if letter.isspace() else "" for letter in name)
     return " ".join(shown.split())[:MOST_NAME].strip()
 
 
-class SharedGame(Game):
-    """The game of a class with its entries, each a seat, a line, an answer and who sat there."""
-
-    def __init__(self, text, seats, kept=None):
-        super().__init__(text, seats)
-        self.kept, self.entries, self.turn = kept, list(kept.entries) if kept else [], asyncio.Lock()
-
-    async def begin(self, ended):
-        """Starts the program with all entries that there were. Raises ValueError if it answers them otherwise."""
-        async with self.turn:
-            answers = await self.start(["%d %s" % (seat, line) for seat, line, _, _ in self.entries], ended)
-            if answers != [answer for _, _, answer, _ in self.entries]:
-                await self.close()
-                raise ValueError("the program does not answer the lines of the game as it did")
-
-    async def ask(self, seat, line, name):
-        """The answer to a line of a seat, which is kept if it is an entry; None if the game ended instead."""
-        async with self.turn:
-            if self.end:
-                return None
-            answer = await self.answer("%d %s" % (seat, line))
-            if answer is not None and answer[:1].isdigit():
-                self.entries.append((seat, line, answer, name))
-                if self.kept:
-                    self.kept.add(seat, line, answer)
-            return answer
-
-    async def finish(self):
-        """Ends the game after the line that is being answered."""
-        async with self.turn:
-            await self.close()
-
-
 class Classroom:
-    """Answers the requests of pupils, who know one secret, and of the teacher, who knows another."""
+    """Answers the requests of pupils, who know one secret, and of the teacher, who knows another. `tables` are those that were named,
+    and the first of them is handed out. A room is for so many seats; if that is 0, one is for all. The teacher may be heard from this
+    machine alone."""
 
-    def __init__(self, name, text, seats, own=None, kept=None):
-        self.name, self.text, self.own, self.seats = name, text, own, seats
-        self.secret, self.teacher = new_secret(), new_secret()
-        self.game, self.taken, self.paused, self.saved = SharedGame(text, seats, kept), {}, False, 0
-        self.news, self.changes, self.address = None, 0, ""
-        # How many entries each seat has, also of those who sat there before.
-        self.used = Counter(number for number, _, _, _ in self.game.entries)
-        table = json.loads(text)
-        self.layout = layout(table, table["amounts"] + USUAL, own)
+    def __init__(self, tables, seats, size=0, keeper=None, teacher_here=False):
+        kept = keeper.found if keeper else {}
+        self.tables, self.seats, self.keeper, self.teacher_here, self.puzzles = tables, seats, keeper, teacher_here, Puzzles()
+        self.secret, self.teacher = kept.get("secret") or new_secret(), kept.get("teacher") or new_secret()
+        self.short, self.tries = kept.get("short") or new_secret().replace("-", "")[:SHORT], Bucket(TRIES, TRIES_IN_A_SECOND)
+        self.taken, self.barred = {}, set(kept.get("barred", ()))
+        for number, name, browser, key in kept.get("seats", ()):
+            if number <= seats:
+                self.taken[number] = Seat(number, name, browser, key)
+        self.paused, self.is_open, self.over, self.shown = False, kept.get("open", True), False, kept.get("shown", "all")
+        self.followers, self.soon, self.last, self.changes, self.told_state = set(), None, 0.0, 0, (None, b"")
+        self.address, self.port = "", 0
+        self.set_table(tables[0], kept.get("size", size), 1)
+        self.may = kept.get("may") or self.usual()
+        if keeper:
+            self.find(kept)
+
+    def usual(self):
+        return {"gifts": False, "edges": False, "questions": True, "undo": self.size > 0}
+
+    def set_table(self, table, size, turn):
+        self.table, self.size, self.turn, self.rooms, self.feed = table, size, turn, {}, Feed()
+
+    def find(self, kept):
+        """Goes on with what was kept. Raises ValueError if that was another table, or has been changed."""
+        first, turn = self.keeper.table(1), kept.get("turn", 1)
+        if first is not None and first != self.table.text:
+            raise ValueError("%s keeps a class on another table" % self.keeper.folder)
+        if turn > 1:
+            text = self.keeper.table(turn)
+            if text is None:
+                raise ValueError("%s has lost its table %d" % (self.keeper.folder, turn))
+            self.set_table(Table(kept["table"], text), self.size, turn)
+        for number in self.keeper.rooms(turn):
+            self.room(number)
 
     async def start(self):
-        self.news = asyncio.get_running_loop().create_future()
-        await self.game.begin(self.changed)
+        """Begins, with all that was kept."""
+        self.beat()
+        for room in list(self.rooms.values()):
+            if room.entries:
+                await room.begin()
+        if self.keeper and self.keeper.table(self.turn) is None:
+            self.keeper.hand_out(self.turn, self.table.text)
 
     async def stop(self):
-        await self.game.finish()
+        for room in list(self.rooms.values()):
+            await room.finish()
 
     def last_words(self):
-        """What is to be said before the game is lost."""
-        lost = len(self.game.entries) - self.saved
-        if not lost or (self.game.kept and self.game.kept.is_kept()):
-            return ""
-        return "Entries that were not taken along from the teacher's page: %d. Once more ends the game, and drops them." % lost
+        """What is to be said before the games are lost."""
+        lost = sum(len(room.entries) - room.saved for room in self.rooms.values() if not (room.kept and room.kept.is_kept()))
+        return lost and "Entries that were not saved from the teacher's page: %d. Once more ends the game, and drops them." % lost
+
+    # Rooms.
+
+    def room(self, number):
+        """The room of a number. It is made when it is asked for first."""
+        if number not in self.rooms:
+            names = {seat: self.taken[seat].name if seat in self.taken else "Seat %d" % seat for seat in range(1, self.seats + 1)}
+            kept = self.keeper and self.keeper.room(self.turn, number, names)
+            self.rooms[number] = Room(number, self.table.text, self.seats, self.feed, self.told, self.changed, kept)
+        return self.rooms[number]
+
+    def number_of(self, seat):
+        """The number of the room of a seat."""
+        return (seat.number - 1) // self.size + 1 if self.size else 1
+
+    def room_of(self, seat):
+        return self.room(self.number_of(seat))
+
+    def handed(self, feed):
+        """What a page needs to draw the games of a feed from their beginning."""
+        return {"feed": feed.key, "room": feed.room, "turn": self.turn, "name": self.table.name, "table": self.table.text,
+                "layout": self.table.layout}
+
+    # What all are told.
 
     def changed(self):
-        """Tells all pages that there is something new."""
+        """There is something new beside entries."""
         self.changes += 1
         self.told()
+        if self.keeper:
+            seats = [[seat.number, seat.name, seat.browser, seat.key] for seat in self.taken.values()]
+            self.keeper.save({"secret": self.secret, "teacher": self.teacher, "short": self.short, "port": self.port,
+                              "turn": self.turn, "size": self.size, "table": self.table.name, "may": self.may, "shown": self.shown,
+                              "open": self.is_open, "barred": sorted(self.barred), "seats": seats})
 
     def told(self):
-        """Wakes the pages that wait for news."""
-        news, self.news = self.news, asyncio.get_running_loop().create_future()
-        news.set_result(None)
+        """Wakes the pages: at once, or a little later if they were just told something, so that many entries are told together."""
+        if self.soon is None:
+            self.soon = asyncio.get_running_loop().call_later(max(0, self.last + TOGETHER - time.monotonic()), self.tell)
+
+    def tell(self):
+        self.soon, self.last = None, time.monotonic()
+        for follower in self.followers:
+            follower.wake()
+
+    def beat(self):
+        """Has something be sent to all pages now and then, so that a connection that is gone is noticed."""
+        for follower in self.followers:
+            follower.is_due = True
+            follower.wake()
+        asyncio.get_running_loop().call_later(HEARTBEAT, self.beat)
+
+    def state(self):
+        """Who is there, and what goes on, as an event. All pages share its bytes."""
+        if self.told_state[0] != self.changes:
+            names = {seat.number: {"name": seat.name, "here": len(seat.pages), "room": self.number_of(seat)}
+                     for seat in self.taken.values()}
+            self.told_state = self.changes, event("state", {
+                "names": names, "paused": self.paused, "open": self.is_open, "may": self.may, "size": self.size, "shown": self.shown,
+                "over": self.over, "ends": {room.number: room.end for room in self.rooms.values() if room.end}})
+        return self.told_state[1]
+
+    async def events(self, gone, mark, seat):
+        """The table, the state and the entries, from a mark on, as they come, until the page has gone, or its seat was freed or is open
+        in too many other pages. A mark is the key of a feed and a number; of another feed all is told."""
+        follower, (key, number), seen = Follower(gone), mark, -1
+        self.followers.add(follower)
+        if seat:
+            seat.pages.append(follower)
+            for old in seat.pages[:-MOST_PAGES]:
+                old.end("asleep")
+            self.changed()
+        try:
+            while follower.goes_on():
+                feed = self.room_of(seat).feed if seat else self.feed
+                if key != feed.key:
+                    key, number = feed.key, 0
+                    yield event("table", self.handed(feed), "%s.0" % key)
+                elif seen != self.changes:
+                    seen = self.changes
+                    yield self.state()
+                elif number < len(feed.items):
+                    number, said = feed.event(number)
+                    yield said
+                elif follower.is_due:
+                    follower.is_due = False
+                    yield KEEP_OPEN
+                else:
+                    await follower.sleep()
+            if not gone.done():
+                yield event(follower.word, {})
+        finally:
+            self.followers.discard(follower)
+            if seat:
+                seat.pages.remove(follower)
+                seat.seen = time.monotonic()
+                self.changed()
+
+    # Requests.
 
     async def answer(self, request):
         """What the server says to a request."""
-        teaches = same(request.parts[0], self.teacher)
-        if not (teaches or same(request.parts[0], self.secret)) or len(request.parts) != 2:
+        teaches = same(request.parts[0], self.teacher) and (request.is_local or not self.teacher_here)
+        knows = teaches or same(request.parts[0], self.secret)
+        if len(request.parts) == 1 and knows:
+            return forward(request, request.parts[0])
+        if len(request.parts) == 1 and self.is_short(request.parts[0]):
+            return forward(request, self.secret)
+        if not knows or len(request.parts) != 2:
             raise Nothing
         asked = request.parts[1]
-        if teaches:
-            request.known()
+        request.known() if teaches else request.is_guest()
+        if teaches and (request.method, asked) == ("GET", "tables"):
+            graphs = await asyncio.to_thread(self.puzzles.listed)
+            return as_json({"named": [table.name for table in self.tables], "graphs": graphs})
         if request.method == "GET":
-            return self.shown(asked, request, teaches)
-        given = await request.json(MOST_BODY)
+            return self.given(asked, request, teaches)
+        given = await request.json(MOST_TABLE if teaches else MOST_BODY)
         return await (self.teachers(asked, given) if teaches else self.pupils(asked, given, request))
 
-    def shown(self, asked, request, teaches):
+    def is_short(self, word):
+        """Whether a word is the short code, which leads to the pupils' address while the door is open. Few wrong ones are looked at."""
+        if not self.is_open or not word or not self.tries.has():
+            return False
+        right = same(word, self.short)
+        if not right:
+            self.tries.takes()
+        return right
+
+    def given(self, asked, request, teaches):
         """What a page gets that plays nothing."""
         if asked == "start":
-            return as_json({"role": "teacher" if teaches else "pupil", "name": self.name, "table": self.text,
-                            "layout": self.layout, "seats": self.seats, "address": self.address, "code": code_of(self.address)})
+            return as_json({"role": "teacher" if teaches else "pupil", "seats": self.seats, "address": self.address,
+                            "short": self.short, "code": code(self.address), **self.handed(self.feed)})
         if asked == "events":
-            number, seat = begin_at(request), None
+            mark, seat = begin_at(request), None
             if "key" in request.query and not teaches:
                 seat = self.seat_of(request.query["key"])
                 request.known()
-            return 200, "text/event-stream", lambda gone: self.events(gone, number, seat)
-        if asked in FILES and teaches:
-            return 200, FILES[asked], self.file(asked).encode()
+            return 200, "text/event-stream", lambda gone: self.events(gone, mark, seat)
+        if teaches and asked in FILES:
+            return 200, FILES[asked], self.file(asked, room_in(request.query.get("room", "1"))).encode()
         return asset(asked) if asked else page("class.html")
 
     # Pupils.
@@ -158,13 +313,33 @@ class Classroom:
 
     async def pupils(self, asked, given, request):
         if asked == "join":
-            return self.join(clean(text_in(given, "name", 200)))
-        if asked == "line":
-            return await self.line(self.seat_of(text_in(given, "key", 64)), text_in(given, "line", MOST_BODY), request)
-        raise Nothing
+            browser = text_in(given, "browser", 64) if "browser" in given else None
+            return self.join(clean(text_in(given, "name", 200)), browser)
+        if asked not in ("line", "undo"):
+            raise Nothing
+        seat = self.seat_of(text_in(given, "key", 64))
+        room = self.room_of(seat)
+        if given.get("feed", room.feed.key) != room.feed.key:
+            raise NewTable
+        if asked == "undo":
+            return await self.undo(seat, room, request)
+        return await self.line(seat, room, text_in(given, "line", MOST_BODY), request)
 
-    def join(self, name):
-        """Gives a free seat: of those the one that was used least, so that nobody finds the look of another on it."""
+    def join(self, name, browser):
+        """Gives a free seat: of those the one that was used least, so that nobody finds the look of another on it. A browser that has a
+        seat keeps it."""
+        if browser in self.barred:
+            raise Refused(409, "The teacher lets this browser take no seat.")
+        own = next((seat for seat in self.taken.values() if browser and seat.browser == browser), None)
+        if own is None:
+            number = self.free_number()
+            own = self.taken[number] = Seat(number, name or "Seat %d" % number, browser)
+            self.changed()
+        return as_json({"seat": own.number, "key": own.key, "name": own.name})
+
+    def free_number(self):
+        if not self.is_open:
+            raise Refused(409, "The door is shut. The teacher can open it.")
         free = [number for number in range(1, self.seats + 1) if number not in self.taken]
         if not free:
             late = time.monotonic() - UNUSED
@@ -172,162 +347,165 @@ class Classroom:
             if not idle:
                 raise Refused(409, "All %d seats are taken. The teacher can free one." % self.seats)
             free = [idle[0].number]
-        number = min(free, key=lambda number: (self.used[number], number))
-        self.taken[number] = Seat(number, name or "Seat %d" % number)
-        self.changed()
-        return as_json({"seat": number, "key": self.taken[number].key, "name": self.taken[number].name})
+        # How many entries each seat has, also of those who sat there before.
+        used = Counter(entry[0] for room in self.rooms.values() for entry in room.entries)
+        return min(free, key=lambda number: (used[number], number))
 
-    async def line(self, seat, line, request):
+    async def line(self, seat, room, line, request):
         """Plays a line of a seat, and gives the answer."""
         if "\n" in line:
             raise Refused(400, "A line has no newline in it. This one was not played.")
         if len(("%d %s" % (seat.number, line)).encode()) > MOST_LINE:
             raise Refused(400, "A line has at most %d bytes. This one was not played." % MOST_LINE)
+        for switch, (words, called) in SWITCHES.items():
+            if line.split(" ")[0] in words and not self.may[switch]:
+                raise Refused(409, "The teacher does not permit %s now. This line was not played." % called)
+        return as_json({"answer": await self.done(seat, room, request, lambda: self.play(seat, room, line))})
+
+    async def undo(self, seat, room, request):
+        """Takes back the last entry of a room that changed its board."""
+        if not self.may["undo"]:
+            raise Refused(409, "The teacher does not permit taking back now.")
+        return as_json({"undone": await self.done(seat, room, request, lambda: room.undo(seat.name))})
+
+    async def done(self, seat, room, request, act):
+        """What comes of an act of a seat in its room, if it may act now. It goes on also if who asked has gone meanwhile."""
         if self.paused:
-            raise Refused(409, "The teacher has stopped the game for a while. This line was not played.")
+            raise Refused(409, "The teacher has paused the game. This line was not played.")
         if not seat.takes():
             raise Refused(429, "That is too fast. This line was not played; wait a moment.")
         request.known()
         seat.waiting += 1
         try:
-            answer = await asyncio.shield(self.play(seat, line))
+            came = None if self.over else await asyncio.shield(asyncio.ensure_future(act()))
+        except (OSError, ValueError, Fault) as error:
+            raise Refused(503, "The program can't be started: %s." % error) from None
         finally:
             seat.waiting -= 1
-        if answer is None:
+        if came is None and self.rooms.get(room.number) is not room:
+            raise NewTable
+        if came is None:
             raise Refused(503, "The game has ended. This line was not played, unless the list has it.")
-        return as_json({"answer": answer})
+        return came
 
-    async def play(self, seat, line):
-        """Has the program answer a line; the pages are told of an entry, also if who asked has gone meanwhile."""
-        answer = await self.game.ask(seat.number, line, seat.name)
+    async def play(self, seat, room, line):
+        answer = await room.ask(seat.number, line, seat.name)
         if answer is not None and answer[:1].isdigit():
             seat.played += 1
-            self.used[seat.number] += 1
-            self.told()
         return answer
 
     # The teacher.
 
     async def teachers(self, asked, given):
         if asked == "free":
-            self.free(given.get("seat"))
+            self.free(given.get("seat"), given.get("bar") is True)
         elif asked == "pause":
             self.paused = given.get("paused") is True
+        elif asked == "door":
+            self.is_open = given.get("open") is True
+        elif asked == "may":
+            self.may = {switch: given.get(switch, now) is True for switch, now in self.may.items()}
+        elif asked == "show":
+            self.shown = text_in(given, "what", 8)
         elif asked == "end":
-            await self.game.finish()
+            self.over = True
+            await self.stop()
         elif asked == "again":
             await self.again()
+        elif asked == "table":
+            await self.hand_out(given)
         elif asked == "replay":
-            return await self.replay()
+            return await self.replay(room_in(given.get("room", 1)))
         else:
             raise Nothing
         self.changed()
         return as_json({})
 
-    def free(self, number):
+    def free(self, number, bar):
         seat = self.taken.pop(number, None) if isinstance(number, int) else None
         if seat is None:
             raise Refused(409, "Nobody has this seat.")
-        for ended in seat.pages:
-            end_with(ended, "freed")
+        if bar and seat.browser:
+            self.barred.add(seat.browser)
+        for follower in seat.pages:
+            follower.end("freed")
 
     async def again(self):
-        """Starts the program again, with all entries that there were."""
-        if not self.game.end:
+        """Starts the programs that have ended again, with all entries that there were."""
+        if not self.over and not any(room.end for room in self.rooms.values()):
             raise Refused(409, "The game goes on.")
         try:
-            await self.game.begin(self.changed)
+            for room in list(self.rooms.values()):
+                await room.again()
         except (OSError, ValueError, Fault) as error:
             raise Refused(503, "The game can't be begun again: %s." % error) from None
+        self.over = False
 
-    async def replay(self):
-        """The page that shows the game."""
-        steps, history = self.file("steps.txt"), self.file("history.txt")
+    async def hand_out(self, given):
+        """Hands out another table: one that was named, a puzzle, one whose text is given, or the same again. The games on the one before
+        end."""
+        size, old = given.get("size", self.size), list(self.rooms.values())
+        if not isinstance(size, int) or not 0 <= size <= self.seats:
+            raise Refused(400, "there is no such room")
         try:
-            lines = await asyncio.to_thread(printed, "rehearse", self.text.encode(), steps.encode(), patience=PATIENCE)
-            made = await asyncio.to_thread(replay_page, self.name, self.text, steps, lines, history, self.own)
+            table = await asyncio.to_thread(self.wanted, given)
+        except (Fault, ValueError) as fault:
+            raise Refused(409, fault.text if isinstance(fault, Fault) else str(fault)) from None
+        is_kept_undo = (size > 0) == (self.size > 0)
+        self.set_table(table, size, self.turn + 1)
+        self.may["undo"] = self.may["undo"] if is_kept_undo else size > 0
+        self.over, self.shown = False, "all" if self.shown.isdigit() else self.shown
+        if self.keeper:
+            self.keeper.hand_out(self.turn, table.text)
+        self.changed()
+        for room in old:
+            await room.finish()
+
+    def wanted(self, given):
+        """The table that is wanted. Raises a Fault where it is none."""
+        if "graph" in given:
+            return Table(*self.puzzles.made(text_in(given, "graph", 40), text_in(given, "level", 20), self.table.text))
+        if "table" in given:
+            text = text_in(given, "table", MOST_TABLE)
+            printed("judge", text.encode(), patience=PATIENCE)
+            return Table(clean(text_in(given, "name", 200)) or "A table", text)
+        if "named" in given:
+            return next((table for table in self.tables if table.name == given["named"]), self.table)
+        return self.table
+
+    async def replay(self, number):
+        """The page that shows the game of a room."""
+        steps, history = self.file("steps.txt", number), self.file("history.txt", number)
+        try:
+            lines = await asyncio.to_thread(printed, "rehearse", self.table.text.encode(), steps.encode(), patience=PATIENCE)
+            names = [name for _, _, _, name in self.rooms[number].entries] if number in self.rooms else []
+            made = await asyncio.to_thread(replay_page, self.table.name, self.table.text, steps, lines, history, self.table.own, names)
         except (Fault, TimeoutError) as fault:
             raise Refused(409, "The program does not play the game again: %s" % fault) from None
         return as_json({"page": made})
 
-    def file(self, name):
-        """The text of a file that is taken along."""
+    def file(self, name, number):
+        """The text of a file that is taken along, of a room."""
         if name == "table.json":
-            return self.text
-        self.saved = len(self.game.entries)
-        if name == "steps.txt":
-            return "".join("%d %s\n" % (seat, line) for seat, line, _, _ in self.game.entries)
-        return "".join("%s\n" % answer for _, _, answer, _ in self.game.entries)
-
-    # What all see.
-
-    def state(self, seat):
-        """Who is there, and whether the game goes on, for a page of a seat or of the teacher."""
-        names = {each.number: {"name": each.name, "here": len(each.pages)} for each in self.taken.values()}
-        return {"names": names, "paused": self.paused, "end": self.game.end, "you": seat and seat.number}
-
-    async def events(self, gone, number, seat):
-        """The entries from a number on, and the state, as they come, until the page has gone, or its seat was freed or is open in
-        too many other pages."""
-        ended = asyncio.get_running_loop().create_future()
-        if seat:
-            seat.pages.append(ended)
-            for old in seat.pages[:-MOST_PAGES]:
-                end_with(old, "asleep")
-            self.changed()
-        seen = -1
-        try:
-            while not gone.done() and not ended.done():
-                news = self.news
-                if seen != self.changes:
-                    seen = self.changes
-                    yield event("state", self.state(seat))
-                entries = self.game.entries[number:number + BATCH]
-                if entries:
-                    number += len(entries)
-                    yield event("entries", [number - len(entries), entries], number)
-                elif seen == self.changes and number >= len(self.game.entries):
-                    done, _ = await asyncio.wait({news, gone, ended}, timeout=HEARTBEAT, return_when=asyncio.FIRST_COMPLETED)
-                    if not done:
-                        yield KEEP_OPEN
-            if ended.done() and not gone.done():
-                yield event(ended.result(), {})
-        finally:
-            if seat:
-                seat.pages.remove(ended)
-                seat.seen = time.monotonic()
-                self.changed()
-
-
-def end_with(page, word):
-    """Ends the events of a page with a word, once."""
-    if not page.done():
-        page.set_result(word)
+            return self.table.text
+        if number not in self.rooms:
+            return ""
+        room = self.rooms[number]
+        room.saved = len(room.entries)
+        return room.steps() if name == "steps.txt" else room.history()
 
 
 def begin_at(request):
-    """The number of the first entry that a page wants: after a break the one after the last that it had."""
-    number = request.headers.get("last-event-id") or request.query.get("from", "0")
-    if not re.match(r"[0-9]{1,6}\Z", number):
+    """The mark from which on a page wants to be told: after a break the one after the last that it had."""
+    mark = request.headers.get("last-event-id") or request.query.get("from", "0")
+    found = re.match(r"(?:([a-z0-9-]{1,12})\.)?([0-9]{1,6})\Z", mark)
+    if not found:
         raise Nothing
-    return int(number)
+    return found[1], int(found[2])
 
 
-def event(kind, thing, number=None):
-    """An event for a page, with the number at which it goes on after a break."""
-    name = "" if number is None else "id: %d\n" % number
-    return ("%sevent: %s\ndata: %s\n\n" % (name, kind, json.dumps(thing))).encode()
-
-
-@functools.lru_cache(maxsize=1)
-def code_of(address):
-    """The QR code of an address, as rows of 0 and 1, or None where there is no library that makes one."""
-    with contextlib.suppress(ImportError):
-        segno = importlib.import_module("segno")
-        return ["".join("1" if dot else "0" for dot in row) for row in segno.make(address, micro=False).matrix]
-    with contextlib.suppress(ImportError):
-        qrcode = importlib.import_module("qrcode")
-        code = qrcode.QRCode(border=0)
-        code.add_data(address)
-        return ["".join("1" if dot else "0" for dot in row) for row in code.get_matrix()]
-    return None
+def room_in(word):
+    """The number of a room."""
+    if not re.match(r"[0-9]{1,2}\Z", str(word)):
+        raise Nothing
+    return int(word)

@@ -1,12 +1,22 @@
 """A game on a live program, which the pages of one player and of a class share."""
 import asyncio
 import contextlib
+import json
 
+from dollar.drawing import USUAL, layout
 from dollar.grammar import limit
 from dollar.program import PATIENCE, command_line, fault_of
 
 MOST_SEATS, MOST_LINE = limit("dg_game::MAX_SEATS"), limit("dg_session::MAX_LINE")
 PIECE = 1 << 16
+
+
+class Table:
+    """A table to play on: its name, its text, and where its vertices stand."""
+
+    def __init__(self, name, text, own=None):
+        made = json.loads(text)
+        self.name, self.text, self.own, self.layout = name, text, own, layout(made, made["amounts"] + USUAL, own)
 
 
 class Game:

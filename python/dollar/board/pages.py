@@ -1,4 +1,5 @@
 """The pages and their parts, as they stand in the folder `web`."""
+import functools
 import html
 import json
 import os
@@ -10,6 +11,8 @@ from dollar.table import text_of
 
 WEB = os.path.join(os.path.dirname(os.path.abspath(__file__)), "web")
 KINDS = {"css": "text/css", "js": "text/javascript"}
+# The modules that pages have as their scripts.
+ROOTS = {"alone.js", "class.js"}
 ASSETS = {"grammar.js", *(name for name in os.listdir(WEB) if name.rpartition(".")[2] in KINDS)}
 
 
@@ -20,10 +23,28 @@ def part(name):
     return text_of(os.path.join(WEB, name))
 
 
-def one_script(names):
-    """Modules as one: what they import of each other stands before them."""
-    texts = (re.sub(r"^import .*;\n", "", part(name), flags=re.M) for name in names)
-    return "\n" + "\n".join(re.sub(r"^export ", "", text, flags=re.M) for text in texts)
+IMPORT = re.compile(r'^import [^;]*? from "\./([\w.]+)";\n', re.M)
+
+
+@functools.lru_cache(maxsize=None)
+def one_script(name, exports=False):
+    """A module and all that it needs as one: what they import of each other stands before them, so their names are all different. With
+    `exports` the module itself still exports what it does."""
+    needed = []
+
+    def visit(module):
+        text = part(module)
+        for other in IMPORT.findall(text):
+            if other not in needed:
+                visit(other)
+        if module not in needed:
+            needed.append(module)
+        texts[module] = IMPORT.sub("", text)
+
+    texts = {}
+    visit(name)
+    return "\n" + "\n".join(texts[module] if exports and module == name else re.sub(r"^export ", "", texts[module], flags=re.M)
+                            for module in needed)
 
 
 def filled(name, words):
@@ -35,12 +56,20 @@ def filled(name, words):
 
 
 def asset(name):
-    """A script or a style as an answer."""
+    """A script or a style as an answer. The script of a page has all its modules in it, so that a page needs few requests."""
     if name not in ASSETS:
         raise Nothing
-    return 200, KINDS[name.rpartition(".")[2]], part(name).encode()
+    text = one_script(name, exports=True) if name in ROOTS else part(name)
+    return 200, KINDS[name.rpartition(".")[2]], text.encode()
 
 
 def page(name):
     """A page as an answer."""
     return 200, "text/html", filled(name, {"title": html.escape("The dollar game")}).encode()
+
+
+def forward(request, secret):
+    """A page that leads on, for an address without its last slash, or a short one."""
+    if request.method != "GET":
+        raise Nothing
+    return 200, "text/html", b'<!doctype html><meta http-equiv="refresh" content="0; url=%s/">\n' % secret.encode()

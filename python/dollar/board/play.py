@@ -1,24 +1,27 @@
 """A board to play on, in a browser.
 
     dollar board [FILE]
-    dollar board FILE --seats N [--host ADDRESS] [--keep FOLDER]
+    dollar board FILE .. --class N [--rooms K] [--host ADDRESS] [--keep FOLDER]
 
 opens the table of FILE, or the first example: a click lends, shift-click borrows, and the program says whether it can be won.
 Ctrl-D or Ctrl-C ends it. The server answers this machine alone, and only who knows the address that is printed.
 
-With --seats N, from 1 to 64, it is one table for a class: who opens the pupils' address gets a seat, and all see each move as it
-comes. With --host ADDRESS, one of this machine's addresses or 0.0.0.0 for all of them, other machines of the network can open it.
+With --class N it is for a class of up to 64 pupils: who opens the pupils' address gets a seat. All share one table, or with --rooms K
+there is one for each K pupils. The teacher's page hands out the next table: one of the files, a graph, a puzzle. With --host ADDRESS, one
+of this machine's addresses or 0.0.0.0 for all of them, other machines of the network can open it. With --name NAME, which may end with
+a port, it also answers to that name: of this machine, or of a tunnel that leads here. With --teacher-here the teacher's page can be
+opened on this machine alone.
 
-With --keep FOLDER the steps and the history of a class are kept in that folder while the game goes on, and the same command goes on
-with them, whatever ended the first.
+With --keep FOLDER the class is kept in that folder while it goes on, with its addresses, its names and its games. The same command
+goes on with it, whatever ended the first.
 
 With --places PLACES the vertices stand where the lines 'name x y' of a file say; x goes to the right, and y down. With --no-browser
 no browser is opened, and with --port PORT the address has that port. In a clone `board/play` is short for all this."""
 import argparse
 import asyncio
 import contextlib
-import json
 import os
+import re
 import signal
 import sys
 import tempfile
@@ -27,10 +30,9 @@ import webbrowser
 
 from dollar.board.alone import Alone
 from dollar.board.classroom import Classroom
-from dollar.board.game import MOST_SEATS
-from dollar.board.keeping import Kept
+from dollar.board.game import MOST_SEATS, Table
+from dollar.board.keeping import Keeper
 from dollar.board.server import ANY, Server, address_of, new_secret
-from dollar.drawing import places_for
 from dollar.program import printed
 from dollar.table import EXAMPLES, shown_name, text_of
 
@@ -42,17 +44,24 @@ def arguments(words):
     usage, _, more = __doc__.partition("\n\n")
     parser = argparse.ArgumentParser(prog="dollar board", description=usage, epilog=more,
                                      formatter_class=argparse.RawDescriptionHelpFormatter)
-    parser.add_argument("file", nargs="?", metavar="FILE", default=EXAMPLES / "triangle.json")
-    parser.add_argument("--seats", type=number_to(MOST_SEATS), metavar="N")
+    parser.add_argument("files", nargs="*", metavar="FILE", default=[EXAMPLES / "triangle.json"])
+    parser.add_argument("--class", type=number_to(MOST_SEATS), dest="seats", metavar="N")
+    parser.add_argument("--rooms", type=number_to(MOST_SEATS), default=0, metavar="K")
     parser.add_argument("--host", metavar="ADDRESS")
+    parser.add_argument("--name", action="append", default=[], type=name_of_host, metavar="NAME")
+    parser.add_argument("--teacher-here", action="store_true")
     parser.add_argument("--keep", metavar="FOLDER")
     parser.add_argument("--places", metavar="PLACES")
     parser.add_argument("--port", type=number_to(65535), default=0, metavar="PORT")
     parser.add_argument("--no-browser", action="store_true")
     given = parser.parse_args(words)
-    for option in "host", "keep":
+    if given.teacher_here and given.host not in ANY:
+        parser.error("--teacher-here needs --host %s or %s" % ANY)
+    for option in "host", "name", "keep", "rooms":
         if getattr(given, option) and not given.seats:
-            parser.error("--%s is for a class, and needs --seats" % option)
+            parser.error("--%s is for a class, and needs --class" % option)
+    if given.files[1:] and not given.seats:
+        parser.error("several files are for a class, and need --class")
     return given
 
 
@@ -65,6 +74,13 @@ def number_to(most):
     return number
 
 
+def name_of_host(word):
+    """A name of a host, maybe with a port, for the command line."""
+    if not re.match(r"[A-Za-z0-9.-]{1,253}(:[0-9]{1,5})?\Z", word):
+        raise argparse.ArgumentTypeError("%r is no name of a host" % word)
+    return word.lower()
+
+
 def opened(address):
     """Opens the browser at an address. The command line of a browser can be read by all on this machine, and the address has the
     secret: so the browser is given a file, which only its owner may read and which leads there."""
@@ -74,12 +90,25 @@ def opened(address):
     return file.name
 
 
+def told_once():
+    """What is called with what goes wrong in the loop, as when a flood leaves no room for more connections: it tells each once."""
+    said = set()
+
+    def tell(_, context):
+        words = context.get("message", "something went wrong")
+        if words not in said:
+            said.add(words)
+            print("dollar board: %s: %s" % (words, context.get("exception", "")), file=sys.stderr, flush=True)
+    return tell
+
+
 class Ending:
     """Ctrl-C, SIGTERM and the end of what is typed. If there are last words, who ends it is told them first, and has to end it once
     more."""
 
     def __init__(self, last_words=lambda: ""):
         loop, self.ended, self.last_words, self.warned = asyncio.get_running_loop(), asyncio.Event(), last_words, False
+        loop.set_exception_handler(told_once())
         loop.add_signal_handler(signal.SIGTERM, self.ended.set)
         loop.add_signal_handler(signal.SIGINT, self.end)
         if sys.stdin is not None and sys.stdin.isatty():
@@ -94,10 +123,10 @@ class Ending:
             self.ended.set()
 
 
-async def serve_alone(given, text, own):
+async def serve_alone(given, tables):
     """Serves one player until it is ended."""
-    ending, secret = Ending(), new_secret()
-    alone = Alone(secret, shown_name(given.file), text, own)
+    ending, secret, (table,) = Ending(), new_secret(), tables
+    alone = Alone(secret, table)
     server = Server(alone.answer, LOOPBACK, given.port)
     await server.start()
     address = "http://%s:%d/%s/" % (LOOPBACK, server.port, secret)
@@ -108,26 +137,38 @@ async def serve_alone(given, text, own):
         await alone.stop()
 
 
-async def serve_class(given, text, own):
+async def serve_class(given, tables):
     """Serves a class until it is ended."""
-    kept = Kept(given.keep, text, given.seats) if given.keep else None
-    room = Classroom(shown_name(given.file), text, given.seats, own, kept)
+    keeper = Keeper(given.keep) if given.keep else None
+    room = Classroom(tables, given.seats, given.rooms, keeper, given.teacher_here)
     host, ending = given.host or LOOPBACK, Ending(room.last_words)
-    server = Server(room.answer, host, given.port, [] if host in ANY else [host])
+    server = Server(room.answer, host, given.port, [] if host in ANY else [host], given.name)
     await room.start()
-    if kept:
-        kept.begin()
     try:
-        await server.start()
+        await begun(server, keeper.found.get("port", 0) if keeper else 0)
         name = address_of(host)
-        base = "http://%s:%d/" % ("[%s]" % name if ":" in name else name, server.port)
-        room.address = base + room.secret + "/"
+        places = given.name or ["[%s]" % name if ":" in name else name]
+        base = "http://%s/" % (places[0] if re.search(":[0-9]+$", places[0]) else "%s:%d" % (places[0], server.port))
+        room.address, room.port = base + room.secret + "/", server.port
+        room.changed()
+        desk = "http://%s:%d/" % ("[::1]" if host == "::" else LOOPBACK, server.port) if given.teacher_here else base
         told = "can be opened from other machines of this network" if given.host else "can be opened on this machine alone"
         print("The table %s.\n\nFor the pupils:    %s\nFor the teacher:   %s%s/\n\nCtrl-D or Ctrl-C ends it."
-              % (told, room.address, base, room.teacher), flush=True)
-        await until_ended(given, server, base + room.teacher + "/", ending)
+              % (told, room.address, desk, room.teacher), flush=True)
+        await until_ended(given, server, desk + room.teacher + "/", ending)
     finally:
         await room.stop()
+
+
+async def begun(server, port):
+    """Starts a server, at the port that it had before if that is free, so that open pages find it again."""
+    if port and not server.port:
+        server.port = port
+        try:
+            return await server.start()
+        except OSError:
+            server.port = 0
+    return await server.start()
 
 
 async def until_ended(given, server, address, ending):
@@ -144,9 +185,10 @@ async def until_ended(given, server, address, ending):
 
 def main(words):
     given = arguments(words)
-    text = text_of(given.file)
     own = None if given.places is None else text_of(given.places)
-    printed("judge", text.encode())
-    places_for(json.loads(text), own)
-    asyncio.run((serve_class if given.seats else serve_alone)(given, text, own))
+    texts = {shown_name(file): text_of(file) for file in given.files}
+    for text in texts.values():
+        printed("judge", text.encode())
+    tables = [Table(name, text, None if number else own) for number, (name, text) in enumerate(texts.items())]
+    asyncio.run((serve_class if given.seats else serve_alone)(given, tables))
     return 0

@@ -16,7 +16,6 @@ from dollar.drawing import held, layout
 from dollar.program import printed
 from dollar.table import shown_name, text_of
 
-SCRIPTS = "grammar.js", "words.js", "places.js", "board.js", "viewer.js", "replay.js"
 USAGE = """%(prog)s FILE STEPS > GAME.html            the history is what `dollar rehearse FILE STEPS` prints
        %(prog)s FILE STEPS HISTORY > GAME.html    the history is that of a file; the page says where the program prints another
        %(prog)s FILE --greedy TURNS > GAME.html   a game of `dollar greedy FILE TURNS`; its steps are those of the rule"""
@@ -52,20 +51,22 @@ def differences(lines, given):
     return {number: line for number, (line, other) in enumerate(zip(lines, given), 1) if line != other}
 
 
-def page(title, text, steps, lines, history=None, own=None):
-    """The text of the page for a table, steps, and what the program prints of them, or another history that was given."""
+def page(title, text, steps, lines, history=None, own=None, names=()):
+    """The text of the page for a table, steps, and what the program prints of them, or another history that was given. `names` are
+    those of who played each step."""
     shown = lines if history is None else history
     flaws = differences(lines, shown)
     if any("<" in word for word in (steps, shown)):
         raise ValueError("no steps and no history have '<' in them")
     table = json.loads(text)
     amounts = [*table["amounts"], *(set(re.findall(r"=(-?\d+)", shown)))]
-    code, style = one_script(SCRIPTS), "\n" + part("page.css")
+    code, style = one_script("replay.js"), "\n" + part("page.css")
     policy = "default-src 'none'; script-src %s; style-src %s; img-src data:; base-uri 'none'; form-action 'none'" % (
         digest(code), digest(style))
     return filled("replay.html", {
         "title": html.escape(title), "policy": policy, "style": style, "table": in_page(text), "steps": steps,
         "printed": shown, "layout": in_page(json.dumps(layout(table, amounts, own))), "flaws": in_page(json.dumps(flaws)),
+        "names": in_page(json.dumps(names)),
         "script": code})
 
 

@@ -1,17 +1,18 @@
 """A small web server for the pages: it answers those who know a secret, and holds against those who don't.
 
-Each connection brings one request and gets one answer. Whoever is slow, sends too much or sends nonsense is dropped. When there
-are too many connections of which it is not known whose they are, the oldest of them makes room. Whatever is asked without the
-secret, from another origin or for another host is answered alike: there is nothing here."""
+Each connection brings one request and gets one answer. Whoever is slow, sends too much or sends nonsense is dropped. Strangers and
+guests, who know the secret, are counted apart: when there are too many of either, the oldest of them makes room. Whatever is asked
+without the secret, from another origin or for another host is answered alike: there is nothing here."""
 import asyncio
 import hmac
 import ipaddress
 import json
 import re
+import resource
 import secrets
 import socket
 
-MOST_HEAD, MOST_HEADERS, MOST_STRANGERS = 8192, 64, 300
+MOST_HEAD, MOST_HEADERS, MOST_STRANGERS, MOST_GUESTS, MOST_FILES = 8192, 64, 300, 600, 4096
 TO_ASK, TO_SEND, TO_TAKE = 5.0, 8.0, 20.0
 TOKEN = re.compile(r"[A-Za-z0-9!#$%&'*+.^_`|~-]{1,64}\Z")
 VALUE = re.compile(r"[\t -~]*\Z")
@@ -72,11 +73,13 @@ class Nothing(Refused):
 class Request:
     """What was asked: the method, the parts of the path, what stands after `?`, and a way to read the body."""
 
-    def __init__(self, method, target, headers, reader, known):
+    def __init__(self, method, target, headers, reader, is_guest, known):
         path, _, query = target.partition("?")
         self.method, self.parts, self.headers, self.reader = method, path.split("/")[1:], headers, reader
-        # To be called once it is known whose the request is.
-        self.known = known
+        # To be called once it has the secret, and once it is known whose the request is.
+        self.is_guest, self.known = is_guest, known
+        # Whether it comes from this machine, and through no tunnel.
+        self.is_local = False
         self.query = dict(pair.partition("=")[::2] for pair in query.split("&") if pair)
 
     async def json(self, most):
@@ -110,17 +113,38 @@ def text_in(given, name, most):
     return text
 
 
+class Crowd:
+    """Connections by their tasks, no more than so many."""
+
+    def __init__(self, most):
+        self.most, self.writers = most, {}
+
+    def take(self, task, writer):
+        """Takes one more, and drops the oldest if there are too many."""
+        self.writers[task] = writer
+        if len(self.writers) > self.most:
+            oldest = next(iter(self.writers))
+            self.writers.pop(oldest).transport.abort()
+            oldest.cancel()
+
+    def leave(self, task):
+        self.writers.pop(task, None)
+
+
 class Server:
     """Serves on an address and a port, 0 for any that is free. `answer` is asked for each request of this host and origin, and
     gives a status, a kind of content, and bytes, or a function: that gets a future, which is done when the other side has gone, and
-    gives an iterator over bytes that come by and by."""
+    gives an iterator over bytes that come by and by. `names` are other names of this host, and `fronts` names, maybe with their ports,
+    of what leads here, as a tunnel does."""
 
-    def __init__(self, answer, address, port=0, names=()):
-        self.answer, self.address, self.port, self.names = answer, address, port, {name.lower() for name in names}
-        self.strangers, self.tasks, self.listener = {}, set(), None
+    def __init__(self, answer, address, port=0, names=(), fronts=()):
+        self.answer, self.address, self.port, self.names = answer, address, port, {name.lower() for name in [*names, *fronts]}
+        self.fronts = set(fronts)
+        self.strangers, self.guests, self.tasks, self.listener = Crowd(MOST_STRANGERS), Crowd(MOST_GUESTS), set(), None
 
     async def start(self):
-        self.listener = await asyncio.start_server(self.serve, self.address, self.port, limit=MOST_HEAD, backlog=256)
+        more_files()
+        self.listener = await asyncio.start_server(self.serve, self.address, self.port, limit=MOST_HEAD, backlog=1024)
         self.port = self.listener.sockets[0].getsockname()[1]
 
     async def stop(self):
@@ -134,29 +158,31 @@ class Server:
         task = asyncio.current_task()
         self.tasks.add(task)
         writer.transport.set_write_buffer_limits(high=0)
-        self.make_room(task, writer)
+        self.strangers.take(task, writer)
         try:
             await self.exchange(task, reader, writer)
         except (asyncio.TimeoutError, asyncio.IncompleteReadError, asyncio.CancelledError, OSError):
             pass
         finally:
-            self.strangers.pop(task, None)
+            self.leave(task)
             self.tasks.discard(task)
             if writer.transport.get_write_buffer_size():
                 writer.transport.abort()
             writer.close()
 
-    def make_room(self, task, writer):
-        """Takes a connection of a stranger, and drops the oldest of them if there are too many."""
-        self.strangers[task] = writer
-        if len(self.strangers) > MOST_STRANGERS:
-            oldest = next(iter(self.strangers))
-            self.strangers.pop(oldest).transport.abort()
-            oldest.cancel()
+    def leave(self, task):
+        """A connection is in no crowd any more."""
+        self.strangers.leave(task)
+        self.guests.leave(task)
+
+    def welcome(self, task, writer):
+        """A connection that had the secret is one of the guests."""
+        self.leave(task)
+        self.guests.take(task, writer)
 
     async def exchange(self, task, reader, writer):
         try:
-            request = await asyncio.wait_for(self.request(reader, writer, lambda: self.strangers.pop(task, None)), TO_ASK)
+            request = await asyncio.wait_for(self.request(task, reader, writer), TO_ASK)
             status, kind, content = await self.answer(request)
         except (asyncio.LimitOverrunError, Refused) as error:
             refused = error if isinstance(error, Refused) else Nothing()
@@ -177,7 +203,8 @@ class Server:
                 gone.cancel()
                 await pieces.aclose()
                 await asyncio.gather(gone, return_exceptions=True)
-        self.make_room(task, writer)
+        if task not in self.strangers.writers:
+            self.welcome(task, writer)
         if writer.can_write_eof():
             writer.write_eof()
         await asyncio.wait_for(self.swallow(reader), 1.0)
@@ -188,7 +215,7 @@ class Server:
         while left > 0 and (got := await reader.read(MOST_HEAD)):
             left -= len(got)
 
-    async def request(self, reader, writer, known):
+    async def request(self, task, reader, writer):
         """The request of a connection. Raises Refused where it is none for this host from this origin."""
         data = await reader.readuntil(b"\r\n\r\n")
         try:
@@ -198,15 +225,24 @@ class Server:
         target, headers = TARGET.match(first), headers_of(lines)
         if not target or "transfer-encoding" in headers or not self.is_here(headers.get("host"), writer):
             raise Nothing
-        own = "http://" + headers["host"]
-        if headers.get("origin", own if target[1] == "GET" else None) != own:
+        own = "http://" + headers["host"], "https://" + headers["host"]
+        if headers.get("origin", own[0] if target[1] == "GET" else None) not in own[:2 if self.is_front(headers["host"]) else 1]:
             raise Nothing
         if headers.get("sec-fetch-site", "none") not in ("none", "same-origin") and headers.get("sec-fetch-dest") != "document":
             raise Nothing
-        return Request(*target.groups(), headers, reader, known)
+        request = Request(*target.groups(), headers, reader, lambda: self.welcome(task, writer), lambda: self.leave(task))
+        request.is_local = not self.is_front(headers["host"]) and all(
+            is_loopback(writer.get_extra_info(end)) for end in ("peername", "sockname"))
+        return request
+
+    def is_front(self, host):
+        """Whether a Host is a name, maybe with a port, that was given for what leads here."""
+        return host.lower() in self.fronts
 
     def is_here(self, host, writer):
         """Whether a Host names this server: by the address that was called, or by a name that was given to it."""
+        if self.is_front(host or ""):
+            return True
         found = HOST.match((host or "").lower())
         if not found or int(found[2] or 80) != self.port:
             return False
@@ -218,6 +254,11 @@ class Server:
             return ipaddress.ip_address(name.strip("[]")) == called
         except ValueError:
             return False
+
+
+def is_loopback(place):
+    """Whether an address, as a socket has it, is one that only this machine has."""
+    return ipaddress.ip_address(place[0].partition("%")[0]).is_loopback
 
 
 def headers_of(lines):
@@ -240,8 +281,17 @@ def head(status, kind, length):
     return ("\r\n".join(lines) + "\r\n\r\n").encode()
 
 
+def more_files():
+    """Lets this process have as many connections as there may be, if the system permits it."""
+    now, most = resource.getrlimit(resource.RLIMIT_NOFILE)
+    if now != resource.RLIM_INFINITY and now < MOST_FILES:
+        resource.setrlimit(resource.RLIMIT_NOFILE, (MOST_FILES if most == resource.RLIM_INFINITY else min(MOST_FILES, most), most))
+
+
 async def drained(writer):
     """Waits until the other side has taken what was written, and drops it if that takes too long."""
+    if not writer.transport.get_write_buffer_size() and not writer.transport.is_closing():
+        return
     try:
         await asyncio.wait_for(writer.drain(), TO_TAKE)
     except asyncio.TimeoutError:

@@ -4,14 +4,14 @@ import { Questions } from "./ask.js";
 import { SVG, draw } from "./board.js";
 import { Editor } from "./edit.js";
 import { Hands } from "./hand.js";
-import { post, save, store, stored, sure } from "./page.js";
+import { fewest, post, save, startPage, store, stored, sure } from "./page.js";
 import { layoutOf, placesText } from "./places.js";
 import { Viewer, bind, choose, element } from "./viewer.js";
 import { Game, linesOf } from "./words.js";
 
-const LOTS = 64, SOON = 400;
+const SOON = 400;
 export let table, fileName, examples, viewer, hands, questions, editor;
-let turn = Promise.resolve(), key = null, keeping = null;
+let turn = Promise.resolve(), key = null, keeping = null, undone = false;
 
 /* What the program says to a question: its status, its answer and its fault. */
 
@@ -34,7 +34,7 @@ async function playNow(line) {
   const { game, now } = viewer;
   if (line.includes("\n")) return hands.tell("A line has no newline in it.");
   const dropped = game.length - now;
-  if (dropped && !(await sure(`Going on from here drops the ${dropped} steps that follow. Shall they go?`))) return null;
+  if (dropped && !undone && !(await sure(`If you play on from here, the later steps are lost (${dropped}). Play on?`))) return null;
   const step = `${element("seat").value} ${line}`;
   const said = await hands.patient(answered(now, step));
   if (said.status !== 0) return hands.refuse(said.err);
@@ -71,12 +71,17 @@ function keep() {
   keeping = setTimeout(keepNow, SOON);
 }
 
+/* The places that somebody has given, if anybody has. */
+function ownPlaces(layout) {
+  return layout.turns ? undefined : placesText(layout);
+}
+
 function keepNow() {
   if (keeping === null) return;
   clearTimeout(keeping);
   keeping = null;
   const { game, board } = viewer;
-  store("sessionStorage", KEPT, { table, fileName, steps: stepsText(game.length), places: placesText(board.layout) });
+  store("sessionStorage", KEPT, { table, fileName, steps: stepsText(game.length), places: ownPlaces(board.layout) });
 }
 
 /* What was kept, with what the program prints of it, or null. */
@@ -90,13 +95,42 @@ async function kept() {
   return { ...before, layout: placed.layout, printed: said.out };
 }
 
+/* A step back and on again. What was taken back is dropped by the next move, without a question. */
+
+function goBack() {
+  if (viewer.now === 0) return;
+  viewer.go(viewer.now - 1);
+  undone = true;
+  showWays();
+}
+
+function goOn() {
+  viewer.go(viewer.now + 1);
+  undone = viewer.now < viewer.game.length;
+  showWays();
+}
+
+function showWays() {
+  const { game, now } = viewer;
+  element("undo").disabled = now === 0;
+  element("redo").disabled = now === game.length;
+  element("next").hidden = !game.isWon(now);
+}
+
+function shown() {
+  undone = false;
+  questions.clear();
+  showWays();
+}
+
 /* Another table. What the program refuses is told, and nothing changes. */
 
 export async function openTable(text, file, places) {
   const said = await ask({ command: "layout", table: text, places });
   if (said.status !== 0) return said.err;
   const { length } = viewer.game;
-  if (length && !(await sure(`The ${length} steps of this game go with its table. Shall they go?`))) return null;
+  const lost = `The steps of this game are lost with its table (${length}). Change the table?`;
+  if (length && !viewer.game.isWon(viewer.now) && !(await sure(lost))) return null;
   [table, fileName, key] = [text, file, null];
   begin(layoutOf(said.layout));
   keep();
@@ -112,12 +146,13 @@ function begin(layout) {
     questions.clear();
     viewer.reset(game, 0, layout);
   } else {
-    viewer = new Viewer(game, layout, { hands: true });
+    viewer = new Viewer(game, layout, { hands: true, fewest: (moves) => fewest(table, moves) });
     hands = new Hands(viewer, play);
     questions = new Questions(viewer, ask, play);
     editor = new Editor(viewer, hands, (text, places) => openTable(text, fileName, places), find);
     viewer.filled(0);
-    viewer.afterShow = () => questions.clear();
+    viewer.afterShow = shown;
+    showWays();
   }
 }
 
@@ -133,26 +168,14 @@ async function openFile(file) {
   hands.refuse(file.size > 1 << 20 ? "file too long" : await openTable(await file.text(), file.name));
 }
 
-/* Other dollars, drawn by lots, of which the program says which can be won. */
+/* A puzzle: other dollars on a graph, of which the program has said whether it can be won. */
 
-async function drawLots(degree, kind) {
-  const now = viewer.game.tableAt(viewer.now);
-  const tables = Array.from({ length: LOTS }, () => ({ ...now, amounts: lots(now.vertices.length, degree) }));
-  const said = await ask({ command: "judge --lines", table, tables: textOf(tables.map((each) => JSON.stringify(each))) });
+async function puzzle() {
+  const said = await ask({ command: "puzzle", table, graph: element("puzzle-graph").value, level: element("puzzle-level").value });
   if (said.status !== 0) return hands.refuse(said.err);
-  const at = linesOf(said.out).findIndex((line) => (kind ? line.startsWith(`${kind} `) : /^(un)?winnable /.test(line)));
-  if (at < 0) return hands.tell(`Of ${LOTS} that were drawn none ${kind === "unwinnable" ? "can't" : "can"} be won.`);
-  hands.refuse(await openTable(`${JSON.stringify(tables[at], null, 1)}\n`, fileName, placesText(viewer.board.layout)));
+  const places = element("puzzle-graph").value ? undefined : ownPlaces(viewer.board.layout);
+  hands.refuse(await openTable(said.table, said.name, places));
   return null;
-}
-
-function lots(count, degree) {
-  const amounts = Array.from({ length: count }, () => Math.floor(Math.random() * 7) - 3);
-  const each = Math.trunc((degree - amounts.reduce((sum, amount) => sum + amount, 0)) / count);
-  const spread = amounts.map((amount) => amount + each);
-  let left = degree - spread.reduce((sum, amount) => sum + amount, 0);
-  for (; left !== 0; left -= Math.sign(left)) spread[Math.floor(Math.random() * count)] += Math.sign(left);
-  return spread;
 }
 
 /* Take along. */
@@ -204,13 +227,14 @@ function bindTables() {
   });
   bind({
     edit: () => editor.open(),
-    "draw-form": () => drawLots(Number(element("draw-degree").value), element("draw-kind").value),
+    "puzzle-form": puzzle, next: puzzle, undo: goBack, redo: goOn, hint: () => questions.hint(),
   });
 }
 
 async function start() {
   const given = await (await fetch("start")).json();
   ({ table, examples, name: fileName } = given);
+  element("puzzle-graph").append(...given.graphs.map((name) => new Option(name, name)));
   choose("seat", Array.from({ length: 64 }, (_, i) => i + 1));
   const before = await kept();
   if (before) ({ table, fileName } = before);
@@ -225,4 +249,4 @@ async function start() {
   window.addEventListener("pagehide", keepNow);
 }
 
-start();
+startPage(start);

@@ -3,7 +3,7 @@
 
 import { still } from "./board.js";
 import { below, bind, element, lost, made } from "./viewer.js";
-import { answerOf, dollars, faultWords, linesOf, listed, lossWords, planned, replyWords } from "./words.js";
+import { answerOf, debtWords, dollars, faultWords, linesOf, listed, lossWords, planned, replyWords } from "./words.js";
 
 export class Questions {
   /* `ask` puts a question to the program, and `play` plays a line. */
@@ -25,6 +25,7 @@ export class Questions {
   tell(words, printed) {
     element("told-words").textContent = words;
     element("told-printed").textContent = printed;
+    element("told-line").hidden = !printed;
     element("told-fire").replaceChildren();
     element("show-script").hidden = element("show-fire").hidden = true;
     this.viewer.showScript(element("told-script"), {}, new Map());
@@ -43,6 +44,7 @@ export class Questions {
   mark(counts, words) {
     const { board, game, now } = this.viewer;
     board.burnt = [];
+    this.viewer.showText();
     board.show(game.states[now], game.table.q, below(counts, words));
   }
 
@@ -56,6 +58,18 @@ export class Questions {
     element("show-fire").hidden = reply.kind === "winnable";
     this.viewer.showScript(element("told-script"), reply, amounts);
     this.mark(reply.script, planned);
+  }
+
+  /* One move of the program's script: of the vertex that lends or borrows most often by it. */
+  async hint() {
+    const printed = await this.answer({ command: "judge" });
+    if (printed === null) return;
+    const { kind, script } = answerOf(linesOf(printed)[0]), { game, now } = this.viewer;
+    if (kind === "unwinnable") return this.tell("It can't be won as it stands.", "");
+    if (game.isWon(now)) return this.tell("Nobody owes a dollar.", "");
+    const [name, count] = [...script].reduce((best, each) => (Math.abs(each[1]) > Math.abs(best[1]) ? each : best));
+    this.tell(count === 0 ? "Nobody owes a dollar." : `Let ${name} ${count > 0 ? "lend" : "borrow"} once.`, "");
+    this.mark(new Map([[name, Math.sign(count)]]), planned);
   }
 
   showScript() {
@@ -91,6 +105,8 @@ export class Questions {
     const { game } = this.viewer, { burning, reduced } = this.reply, { edges } = game.states[this.viewer.now], asked = this.reply;
     const state = { edges, added: new Map(), amounts: reduced };
     element("show-fire").hidden = true;
+    element("step").textContent = "After the script, before the fire";
+    element("answer").textContent = debtWords(reduced);
     for (const [count, next] of burning.entries()) {
       if (count > 0 && !still.matches) await new Promise((done) => setTimeout(done, 700));
       if (this.reply !== asked) return;

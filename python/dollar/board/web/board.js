@@ -1,10 +1,12 @@
 /* Draws a board: circles for vertices with their dollars, lines for edges, and the dollars that move along them. */
 
+import { shortened, wordsPlace } from "./places.js";
 import { dollars, flows } from "./words.js";
 
 export const SVG = "http://www.w3.org/2000/svg";
 export const still = window.matchMedia("(prefers-reduced-motion: reduce)");
-const TRAVEL = 1100;
+const TRAVEL = 1100, LETTER = 6.4;
+let boards = 0;
 
 export function draw(tag, given, parent, text) {
   const made = document.createElementNS(SVG, tag);
@@ -21,7 +23,7 @@ function amountWords(name, amount) {
 export class Board {
   /* A board in an element <svg>. The layout says where the vertices stand; `hands` is true if they can be clicked. */
   constructor(svg, hands = false) {
-    Object.assign(this, { svg, hands, layout: null, turn: 0, chosen: new Set(), burnt: [] });
+    Object.assign(this, { svg, hands, layout: null, turn: 0, until: 0, chosen: new Set(), burnt: [], hatch: `hatch${boards++ || ""}` });
   }
 
   place(name) {
@@ -37,7 +39,8 @@ export class Board {
     this.label(state.amounts);
     this.signs();
     this.edges(state);
-    for (const [name, amount] of state.amounts) this.vertex(name, amount, name === q, says.get(name));
+    const pairs = [...state.edges.keys()].map((key) => key.split(" "));
+    for (const [name, amount] of state.amounts) this.vertex(name, amount, name === q, says.get(name), pairs);
     this.burnt.forEach((name, i) => this.badge(name, i + 1));
     if (held) this.focus(held);
   }
@@ -52,7 +55,7 @@ export class Board {
   }
 
   signs() {
-    const given = { id: "hatch", width: 6, height: 6, patternUnits: "userSpaceOnUse", patternTransform: "rotate(45)" };
+    const given = { id: this.hatch, class: "hatching", width: 6, height: 6, patternUnits: "userSpaceOnUse", patternTransform: "rotate(45)" };
     const hatch = draw("pattern", given, draw("defs", {}, this.svg));
     draw("path", { d: "M0 0 V6" }, hatch);
   }
@@ -74,37 +77,41 @@ export class Board {
       strands.forEach(({ path, middle }, i) => {
         const kind = `edge${count > strands.length ? " many" : ""}${i >= strands.length - added ? " added" : ""}`;
         draw("path", { class: kind, d: path, "data-pair": key }, this.svg);
-        if (count > strands.length) this.words(middle[0], middle[1] - 8, `${count} edges`);
+        if (count > strands.length) this.words(middle[0], middle[1] - 12, `${count} edges`);
       });
     }
   }
 
-  vertex(name, amount, isQ, says) {
+  vertex(name, amount, isQ, says, pairs) {
     const [x, y] = this.place(name), r = this.layout.radius;
     const kinds = ["vertex", amount < 0 && "debt", this.chosen.has(name) && "chosen", this.burnt.includes(name) && "burnt"];
-    const label = `${amountWords(name, amount)}${isQ ? ", q" : ""}${says ? `, ${says}` : ""}`;
-    const hands = { tabindex: 0, role: "button", "aria-label": label, "aria-pressed": this.chosen.has(name) };
+    const label = `${amountWords(name, amount)}${isQ ? ", q" : ""}${says ? `, ${says}` : ""}${this.chosen.has(name) ? ", chosen" : ""}`;
+    const hands = { tabindex: 0, role: "button", "aria-label": label };
     const given = { class: kinds.filter(Boolean).join(" "), "data-name": name, ...(this.hands && hands) };
     const group = draw("g", given, this.svg);
     if (this.hands) draw("circle", { class: "reach", cx: x, cy: y, r: r + 9 }, group);
     if (isQ) draw("circle", { class: "ring", cx: x, cy: y, r: r + 4 }, group);
     draw("circle", { class: "round", cx: x, cy: y, r }, group);
-    draw("circle", { class: "hatch", cx: x, cy: y, r }, group);
-    draw("text", { class: "name inside", x, y: y - 6, "font-size": this.layout.sizes.get(name) }, group, name);
-    const size = Math.min(16, this.layout.room / (0.7 * String(amount).length));
-    draw("text", { class: "amount inside", x, y: y + 10, "font-size": size, "font-weight": "bold" }, group, amount);
-    if (says) this.words(x, y + r + 17, says, group);
+    draw("circle", { class: "hatch", fill: `url(#${this.hatch})`, cx: x, cy: y, r }, group);
+    const { zoom = 1, least = 0, room } = this.layout, size = this.layout.sizes.get(name), called = Math.max(size, least);
+    draw("text", { class: "name inside", x, y: y - Math.max(6 * zoom, 0.1 * called), "font-size": called }, group,
+      called > size ? shortened(name, called, 2 * r) : name);
+    const high = Math.max(least, Math.min(16 * zoom, room / (0.7 * String(amount).length)));
+    draw("text", { class: "amount inside", x, y: y + Math.max(10 * zoom, 0.85 * high), "font-size": high, "font-weight": "bold" }, group, amount);
+    if (says) this.words(...wordsPlace(this.layout, pairs, name, LETTER * says.length * Math.max(1, (this.layout.least || 0) / 11)), says, group);
   }
 
+  /* Words around a place. */
   words(x, y, text, parent = this.svg) {
-    draw("text", { class: "says plated", x, y }, parent, text);
+    const { least = 0 } = this.layout;
+    draw("text", { class: "says plated", x, y: y + 4, "font-size": Math.max(11, least) }, parent, text);
   }
 
   badge(name, number) {
     const [x, y] = this.place(name), r = this.layout.radius;
     const group = draw("g", { class: "badge" }, this.svg);
-    draw("circle", { cx: x + 0.86 * r, cy: y - 0.86 * r, r: 10 }, group);
-    draw("text", { x: x + 0.86 * r, y: y - 0.86 * r + 4, "font-size": 12 }, group, number);
+    draw("circle", { cx: x + r, cy: y - r, r: 10 }, group);
+    draw("text", { x: x + r, y: y - r + 4, "font-size": 12 }, group, number);
   }
 
   /* The ways that dollars take in a move, which run from who lends. */
@@ -126,7 +133,7 @@ export class Board {
       const turn = (Math.atan2(ahead.y - place.y, ahead.x - place.x) * 180) / Math.PI;
       const transform = `translate(${place.x} ${place.y}) rotate(${turn})`;
       draw("path", { class: "arrow", d: "M8 0 L-5 6 L-5 -6 Z", transform }, this.svg);
-      if (way.label > 1) this.words(place.x, place.y - 9, way.label);
+      if (way.label > 1) this.words(place.x, place.y - 13, way.label);
     }
   }
 
@@ -139,20 +146,23 @@ export class Board {
     });
   }
 
-  /* Lets the dollars of a move go along the edges of the state before it, and then calls `rest`. */
-  travel(before, after, q, says, script, rest) {
-    this.show(before, q, says);
-    this.label(after.amounts);
-    const turn = this.turn, coins = this.coins(before, script), start = performance.now();
+  /* Lets the dollars of a move go along the edges, above the board as it is after the move. While moves come faster than their
+     dollars go, none go. */
+  travel(state, script) {
+    const start = performance.now(), busy = start < this.until, { turn } = this;
+    this.until = start + TRAVEL;
+    if (busy) return;
+    const coins = this.coins(state, script);
     const move = (time) => {
       if (turn !== this.turn) return;
       const part = Math.min(1, Math.max(0, (time - start) / TRAVEL));
-      if (part === 1) return rest();
       for (const { way, coin } of coins) {
-        const { x, y } = this.pointOn(way, part);
+        // From rim to rim, so that no amount is covered.
+        const rim = this.layout.radius / way.length, { x, y } = this.pointOn(way, rim + part * (1 - 2 * rim));
         coin.setAttribute("transform", `translate(${x} ${y})`);
+        if (part === 1) coin.remove();
       }
-      requestAnimationFrame(move);
+      if (part < 1) requestAnimationFrame(move);
     };
     move(start);
   }

@@ -1,26 +1,41 @@
-/* The table of a class: a click is a line, and the board shows what came back. All pages see each entry as it comes. */
+/* A class: a click is a line, and the board shows what came back. A pupil's page shows the board of his room; those of the teacher and
+   of who only watches show all boards small, and one of them large. */
 
-import { draw } from "./board.js";
+import { Board, draw } from "./board.js";
 import { Hands } from "./hand.js";
-import { post, save, store, stored, sure } from "./page.js";
+import { fewest, post, save, startPage, store, stored, sure } from "./page.js";
 import { layoutOf } from "./places.js";
 import { Viewer, bind, button, element, made, say } from "./viewer.js";
-import { Game, faultWords } from "./words.js";
+import { Game, faultWords, movesWords } from "./words.js";
 
-const SOON = 16;
+const SOON = 16, LETTERS = 24, WORDS_HIGH = 85, TITLE_HIGH = 60, GROUPS = [0, 1, 2, 3, 4, 5, 6];
 const KEPT = `dollar ${location.pathname.replaceAll("-", "").toLowerCase()}`;
-export let given, viewer, hands, source, me = null, state = null, waiting = [], frame = null, took = 0, stopped = false;
-export const entries = new Map(), players = [];
+export let given, viewer, hands, source, me = null, state = null, waiting = [], had = 0, large = 1;
+let frame = null, took = 0, last = 0, stopped = false, broken = false;
+export const entries = new Map(), rooms = new Map();
 
-/* A seat of one's own, which is kept over a reload. */
+const teaches = () => given.role === "teacher";
+const watches = () => teaches() || me === null;
+
+/* A seat of one's own, which is kept over a reload. A browser has one seat, however often it asks. */
 
 function keep(seat) {
   me = seat;
   store("localStorage", KEPT, seat);
 }
 
+function browser() {
+  const own = stored("localStorage", "dollar browser")
+    || [...crypto.getRandomValues(new Uint8Array(LETTERS))].map((byte) => (byte % 36).toString(36)).join("");
+  store("localStorage", "dollar browser", own);
+  return own;
+}
+
 async function join() {
-  const got = await post("join", { name: element("your-name").value });
+  const submit = document.querySelector("#join [type=submit]");
+  submit.disabled = true;
+  const got = await post("join", { name: element("your-name").value, browser: browser() });
+  submit.disabled = false;
   say("join-refused", got.refused);
   if (got.refused) return;
   keep(got);
@@ -30,13 +45,17 @@ async function join() {
 function stand(words) {
   keep(null);
   if (source) source.close();
-  notice(words);
+  // What is still to be drawn says nothing over these words.
+  state = null;
   enter(false);
+  notice(words);
 }
 
 function enter(inside) {
   element("entrance").hidden = inside;
   document.body.classList.toggle("outside", !inside);
+  viewer.refit();
+  notice("");
 }
 
 /* A page without a seat, which shows the way in as well. */
@@ -44,6 +63,7 @@ function enter(inside) {
 function watch() {
   enter(true);
   element("hands").hidden = true;
+  document.body.classList.add("watching");
   showWay();
   listen("events?");
 }
@@ -57,89 +77,171 @@ function sit() {
 
 function listen(path) {
   if (source) source.close();
-  source = new EventSource(`${path}from=${viewer.game.length}`);
+  source = new EventSource(`${path}from=${given.feed}.${had}`);
+  source.addEventListener("table", (event) => handed(JSON.parse(event.data)));
   source.addEventListener("entries", (event) => taken(...JSON.parse(event.data)));
   source.addEventListener("state", (event) => {
     state = JSON.parse(event.data);
     later();
   });
-  source.addEventListener("freed", () => stand("Your seat was freed. You may take another."));
+  source.addEventListener("freed", () => stand("Your seat was freed. You can take another."));
   source.addEventListener("asleep", () => {
     source.close();
     notice("This seat is open in more pages than may be. This page sees nothing new until it is loaded again.");
   });
-  source.addEventListener("open", later);
+  source.addEventListener("open", () => {
+    if (broken && hands) hands.tell("");
+    broken = false;
+    later();
+  });
   source.addEventListener("error", () => {
+    broken = true;
     if (source.readyState !== EventSource.CLOSED) notice("There is no connection to the game. The page tries again.");
-    else if (me) seek();
-    else notice("The game is not there any more.");
+    else seek(path);
   });
 }
 
-/* A page that is not let in: its seat was freed, or the game is gone. */
+/* A page that was not let in: its seat was freed, or the game is gone. Only the server itself can say so; what a network puts between is
+   tried again. */
 
-async function seek() {
+const AGAIN = 2000;
+
+async function seek(path) {
   try {
     const got = await fetch("start");
-    if (got.ok) return stand("This seat is yours no more. You may take another.");
+    if (got.ok && me) return stand("This is no longer your seat. You can take another.");
+    if (got.status === 404 && (await got.text()) === "there is nothing here") return notice("The game is not there any more.");
   } catch {
-    /* Told below. */
+    /* It is tried again. */
   }
-  notice("The game is not there any more.");
+  notice("There is no connection to the game. The page tries again.");
+  setTimeout(() => listen(path), AGAIN);
   return null;
 }
 
+/* A table that was handed out: all games on it begin. */
+
+function handed(thing) {
+  Object.assign(given, thing);
+  [had, waiting] = [0, []];
+  entries.clear();
+  clearRooms();
+  large = thing.room || 1;
+  element("title").textContent = document.title = `${teaches() ? "For the teacher" : "The dollar game"}: ${given.name}`;
+  const { game } = roomOf(large);
+  viewer.board.chosen.clear();
+  viewer.reset(game, 0, layoutOf(given.layout));
+  if (hands) {
+    hands.forget();
+    hands.names(game.names);
+  }
+}
+
+function clearRooms() {
+  rooms.clear();
+  element("rooms").replaceChildren();
+}
+
+/* The room of a number: its game, and who played each step. */
+function roomOf(number) {
+  if (!rooms.has(number)) rooms.set(number, { number, game: new Game(JSON.parse(given.table)), players: [], backs: 0, is_new: true });
+  return rooms.get(number);
+}
+
 function taken(from, come) {
-  come.forEach((entry, i) => {
-    if (from + i === viewer.game.length + waiting.length) waiting.push(entry);
+  come.forEach((item, i) => {
+    if (from + i !== had) return;
+    waiting.push(item);
+    had += 1;
   });
   later();
 }
 
-/* Entries are drawn together, however many came; a browser that is slow to draw draws seldom. */
+/* What comes is drawn at once, and what comes soon after it together, however much; a browser that is slow to draw draws seldom. */
 
 function later() {
-  if (frame === null) frame = setTimeout(drawn, Math.max(SOON, 4 * took));
+  if (frame === null) frame = setTimeout(drawn, Math.max(0, last + Math.max(SOON, 4 * took) - performance.now()));
 }
 
 function drawn() {
   frame = null;
-  const { game } = viewer, start = performance.now(), follows = viewer.now === game.length;
-  for (const [seat, line, answer, name] of waiting) {
-    game.add(`${seat} ${line}`, answer);
-    players.push(name);
-    entries.set(String(seat), (entries.get(String(seat)) || 0) + 1);
+  const start = performance.now(), follows = viewer.now === viewer.game.length;
+  let grown = false, back = null;
+  for (const [number, ...item] of waiting) {
+    const room = roomOf(number);
+    room.is_new = true;
+    if (item.length === 2) takeBack(room, item[0]);
+    else take(room, ...item);
+    if (number === large) [grown, back] = [true, item.length === 2 ? item[1] : back];
   }
-  const grown = waiting.length > 0;
   waiting = [];
-  if (grown) viewer.grown(follows);
+  if (back !== null) viewer.reset(viewer.game, viewer.game.length);
+  else if (grown) viewer.grown(follows);
+  if (back !== null && hands) hands.tell(`${back} has taken the last move back.`);
   if (state) told();
-  took = performance.now() - start;
+  last = performance.now();
+  took = last - start;
+}
+
+function take({ game, players }, seat, line, answer, name) {
+  game.add(`${seat} ${line}`, answer);
+  players.push(name);
+  entries.set(String(seat), (entries.get(String(seat)) || 0) + 1);
+}
+
+function takeBack(room, count) {
+  room.game.cut(count);
+  room.players.length = count;
+  room.backs += 1;
 }
 
 function told() {
-  const { end, paused, names } = state, pages = me && names[me.seat] ? names[me.seat].here : 1;
-  if (stopped && !paused && hands) hands.tell("");
-  stopped = paused;
+  const { over, ends, paused, names } = state, end = over ? { status: 0 } : ends[large];
+  const pages = me && names[me.seat] ? names[me.seat].here : 1;
+  if (stopped && !paused && !end && hands) hands.tell("");
+  stopped = paused || Boolean(end);
   if (end) notice(endWords(end));
-  else if (paused) notice("The teacher has stopped the game for a while.");
+  else if (paused) notice("The teacher has paused the game.");
   else if (pages > 1) notice(`This seat is open in ${pages} pages. All of them play for it.`);
   else notice("");
-  const list = element("names"), old = list.textContent;
-  const rows = Object.entries(names).map(([seat, { name, here }]) => {
-    const item = made("li", "", { value: seat, class: here ? "" : "away" });
-    item.append(made("b", name), ` ${entries.get(seat) || 0} played${here ? "" : ", away"} `);
-    if (me && Number(seat) === me.seat) item.append("(you) ");
-    if (given.role === "teacher") item.append(freeing(seat, name));
-    return item;
-  });
-  if (rows.map((row) => row.textContent).join("") !== old) list.replaceChildren(...rows);
-  if (given.role === "teacher") {
-    element("pause").textContent = paused ? "Let the game go on" : "Stop the game for a while";
-    element("pause").disabled = element("end").disabled = Boolean(end);
-    element("again").hidden = !end || end.text === "the history is full";
-  }
+  showNames(names);
+  if (hands) permit();
+  if (teaches()) showCommands(Boolean(end), end);
+  if (watches()) showRooms();
+  // The way in is shown until all are in.
+  element("way").classList.toggle("full", !state.open || Object.keys(names).length >= given.seats);
   viewer.showText();
+}
+
+/* Who plays. A row stays as long as its seat has the same pupil, so that its buttons can be clicked while others play. */
+function showNames(names) {
+  const list = element("names"), old = new Map([...list.children].map((row) => [row.dataset.who, row]));
+  const rows = Object.entries(names).map(([seat, { name, here, room }]) => {
+    const who = `${seat} ${name}`, row = old.get(who) || rowOf(seat, name, who), shared = state.size ? ` in room ${room}` : "";
+    const words = ` ${entries.get(seat) || 0} played${shared}${here ? "" : ", away"} `, part = row.querySelector("span");
+    row.className = here ? "" : "away";
+    if (part.textContent !== words) part.textContent = words;
+    return row;
+  });
+  if (rows.length !== list.children.length || rows.some((row, i) => row !== list.children[i])) list.replaceChildren(...rows);
+}
+
+function rowOf(seat, name, who) {
+  const row = made("li", "", { value: seat, "data-who": who });
+  row.append(made("b", name), made("span", ""));
+  if (me && Number(seat) === me.seat) row.append("(you) ");
+  if (teaches()) row.append(freeing(seat, name), " ", freeing(seat, name, true));
+  return row;
+}
+
+/* What the teacher does not permit is not offered. */
+function permit() {
+  const { gifts, edges, questions, undo } = state.may;
+  const parts = { "gift-form": gifts, "join-form": edges, "draw-hint": edges, look: questions, commit: questions, ask: questions,
+    "rank-form": questions, undo };
+  for (const [id, permitted] of Object.entries(parts)) element(id).hidden = !permitted;
+  hands.joins = edges;
+  element("undo").disabled = viewer.game.states[viewer.game.length].moves === 0;
 }
 
 function endWords({ status, text }) {
@@ -155,15 +257,81 @@ function notice(words) {
   box.hidden = !words;
 }
 
+/* All boards, small: each with who plays there, in how many moves, and whether it is done. */
+
+const playersOf = (number) => Object.values(state.names).filter(({ room }) => room === number).map(({ name }) => name);
+
+function showRooms() {
+  const shown = teaches() ? "all" : state.shown, { size } = state, box = element("rooms");
+  const numbers = [...new Set([...rooms.keys(), ...Object.values(state.names).map(({ room }) => room)])].sort((one, other) => one - other);
+  box.hidden = size === 0;
+  if (size === 0) return;
+  const one = Number(shown);
+  if (one && one !== large) enlarge(one);
+  document.body.classList.toggle("one-room", Boolean(one));
+  document.body.classList.toggle("all-rooms", !one && !teaches());
+  box.classList.toggle("list", shown === "done");
+  const parts = numbers.map((number) => showRoom(roomOf(number), shown === "done"));
+  if (!teaches()) spread(box, numbers.length);
+  if (parts.length !== box.children.length || parts.some((part, i) => part !== box.children[i])) box.replaceChildren(...parts);
+}
+
+/* On a projector all boards are to be seen at once, below the title, or below the way in. */
+function spread(box, count) {
+  const high = window.innerHeight - Math.min(box.offsetTop, TITLE_HIGH);
+  const across = Math.max(1, Math.round(Math.sqrt((count * box.clientWidth) / high)));
+  box.style.setProperty("--across", across);
+  box.style.setProperty("--high", `${Math.max(60, high / Math.ceil(count / across) - WORDS_HIGH)}px`);
+}
+
+function showRoom(room, listed) {
+  const { game, number, backs } = room, state_ = game.states[game.length], won = game.isWon(game.length);
+  if (!room.part) {
+    room.part = button("", () => enlarge(number), { class: "room", "data-room": number });
+    room.part.append(draw("svg", { "aria-hidden": "true" }, room.part), made("span", "", { class: "who" }), made("span", "", { class: "how" }));
+    room.board = new Board(room.part.querySelector("svg"));
+    room.board.layout = layoutOf(given.layout);
+  }
+  const [who, how] = room.part.querySelectorAll("span"), names = playersOf(number).join(", ") || `Room ${number}`;
+  who.textContent = names;
+  how.textContent = `${won ? "done in " : ""}${movesWords(state_.moves)}${backs ? `, ${backs} taken back` : ""}`;
+  room.part.classList.toggle("done", won);
+  room.part.setAttribute("aria-current", number === large);
+  if (room.is_new && !listed) {
+    room.board.show(state_, game.table.q);
+    room.is_new = false;
+  }
+  return room.part;
+}
+
+/* Shows the board of a room large. */
+function enlarge(number) {
+  large = number;
+  const { game } = roomOf(number);
+  viewer.reset(game, game.length);
+  for (const [id, file] of [["take-steps", "steps.txt"], ["take-history", "history.txt"]]) element(id).href = `${file}?room=${number}`;
+  later();
+}
+
 /* What a seat plays. */
 
 export async function play(line) {
+  return sent("line", { line });
+}
+
+/* Whether the board can be won: a look, and the verdict on it. */
+async function ask() {
+  await play("look");
+  if (element("refused").hidden) await play("commit");
+}
+
+async function sent(path, thing) {
   if (!me) return hands.tell("Take a seat first.");
-  const got = await hands.patient(post("line", { key: me.key, line }));
-  if (got.status === 404) return seek();
+  const got = await hands.patient(post(path, { key: me.key, feed: given.feed, ...thing }));
+  if (got.status === 404) return seek(`events?key=${encodeURIComponent(me.key)}&`);
   if (got.status === null) return hands.tell(`${got.refused} The list shows whether the line was played.`);
   if (got.refused) return hands.tell(got.refused);
-  const bad = got.answer.startsWith("bad ");
+  const bad = got.answer && got.answer.startsWith("bad ");
   hands.tell(bad ? faultWords(got.answer) : "", bad ? got.answer : "");
   if (!bad) hands.unchoose();
   return null;
@@ -171,58 +339,145 @@ export async function play(line) {
 
 /* What only the teacher's page has. */
 
-function freeing(seat, name) {
-  return button("free", async () => {
-    if (await sure(`Shall the seat of ${name} be free for another?`)) command("free", { seat: Number(seat) });
-  }, { "aria-label": `Free the seat of ${name}` });
+function freeing(seat, name, bars = false) {
+  const asked = bars ? `Remove ${name}, and let this browser take no other seat?` : `Free the seat of ${name} for somebody else?`;
+  return button(bars ? "bar" : "free", async () => {
+    if (await sure(asked)) command("free", { seat: Number(seat), bar: bars });
+  }, { "aria-label": bars ? `Bar ${name}` : `Free the seat of ${name}` });
 }
 
 async function command(path, thing) {
   const got = await post(path, thing);
-  if (got.refused) notice(got.refused);
+  say("teacher-refused", got.refused && faultWords(got.refused, got.refused));
   return got;
 }
 
+function showCommands(ended, end) {
+  const { paused, open, may, shown, size, names } = state;
+  element("pause").textContent = paused ? "Resume the game" : "Pause the game";
+  element("door").textContent = open ? "Shut the door" : "Open the door";
+  element("pause").disabled = element("end").disabled = ended;
+  element("again").hidden = !end || end.text === "the history is full";
+  for (const [name, is] of Object.entries(may)) element(`may-${name}`).checked = is;
+  const known = [...new Set(Object.values(names).map(({ room }) => room))].sort((one, other) => one - other);
+  const wanted = [["all", size ? "all boards" : "the board"], ...(size ? [["done", "who is done"]] : []),
+    ...(size ? known.map((room) => [String(room), `the board of ${playersOf(room).join(", ")}`]) : [])];
+  const box = element("show");
+  if ([...box.options].map(({ text }) => text).join() !== wanted.map(([, text]) => text).join()) {
+    box.replaceChildren(...wanted.map(([value, text]) => new Option(text, value)));
+  }
+  box.value = shown;
+}
+
 function showWay() {
-  const box = element("code"), rows = given.code;
+  const box = element("code"), lines = given.code;
   element("way").hidden = false;
   element("address").textContent = given.address;
-  if (!rows) return;
-  box.setAttribute("viewBox", `-4 -4 ${rows.length + 8} ${rows.length + 8}`);
-  draw("rect", { x: -4, y: -4, width: rows.length + 8, height: rows.length + 8, class: "paper" }, box);
-  rows.forEach((row, y) => [...row].forEach((dot, x) => {
-    if (dot === "1") draw("rect", { x, y, width: 1.02, height: 1.02, class: "dot" }, box);
-  }));
+  element("short").textContent = `${new URL(given.address).origin}/${given.short}`;
+  if (!lines) return;
+  box.setAttribute("viewBox", `-4 -4 ${lines.length + 8} ${lines.length + 8}`);
+  draw("rect", { x: -4, y: -4, width: lines.length + 8, height: lines.length + 8, class: "paper" }, box);
+  const dots = lines.flatMap((line, y) => [...line].flatMap((dot, x) => (dot === "1" ? [`M${x} ${y}h1v1h-1z`] : [])));
+  draw("path", { d: dots.join(""), class: "dot" }, box);
   box.removeAttribute("hidden");
+}
+
+/* The next table: one of those that were named, a puzzle on a graph, or a file. */
+
+function sizeWords(size) {
+  if (size === 0) return "all on one board";
+  return size === 1 ? "each on a board of his or her own" : `groups of ${size}`;
+}
+
+async function offer() {
+  const { named, graphs } = await (await fetch("tables")).json(), box = element("next-table");
+  const group = (label, options) => {
+    const part = made("optgroup", undefined, { label });
+    part.append(...options.map(([text, value]) => new Option(text, value)));
+    return part;
+  };
+  box.replaceChildren(group("Tables", [["the same again", "again"], ...named.map((name) => [name, `named ${name}`])]),
+    group("Puzzles", [["on the same graph", "graph "], ["on a random graph", "graph random"],
+      ...graphs.map(({ name }) => [name, `graph ${name}`])]));
+  element("next-size").replaceChildren(...GROUPS.map((size) => new Option(sizeWords(size), size)));
+  if (state) element("next-size").value = state.size;
+  document.querySelector("#graphs .gallery").replaceChildren(...graphs.map(pictured));
+  choosesTable();
+}
+
+function pictured({ name, table, layout }) {
+  const part = button("", () => {
+    element("next-table").value = `graph ${name}`;
+    element("graphs").open = false;
+    choosesTable();
+    element("next-table").focus();
+  });
+  part.append(draw("svg", { "aria-hidden": "true" }, part), made("span", name));
+  const board = new Board(part.querySelector("svg"));
+  board.layout = layoutOf(layout);
+  board.show(new Game(table).states[0], null);
+  return part;
+}
+
+function choosesTable() {
+  element("level").hidden = !element("next-table").value.startsWith("graph ");
+}
+
+async function handOut(thing) {
+  const played = [...rooms.values()].some(({ game }) => game.length > 0);
+  if (played && !(await sure("Hand out the next table? The games on this one end."))) return;
+  await command("table", { size: Number(element("next-size").value), ...thing });
+}
+
+function handOutChosen() {
+  const [, kind, name] = /^(\w+) ?(.*)$/.exec(element("next-table").value);
+  if (kind === "graph") return handOut({ graph: name, level: element("next-level").value });
+  return handOut(kind === "named" ? { named: name } : {});
 }
 
 function teach() {
   element("teacher").hidden = false;
   element("hands").hidden = true;
+  document.body.classList.add("teaching");
+  enter(true);
   showWay();
   bind({
-    pause: () => command("pause", { paused: !state.paused }), again: () => command("again", {}),
+    pause: () => command("pause", { paused: !state.paused }), door: () => command("door", { open: !state.open }),
+    again: () => command("again", {}), "hand-form": handOutChosen,
     async end() {
-      if (await sure("Shall the game end? Take its files along before you close this page.")) command("end", {});
+      if (await sure("End the game? Save its files before you close this page.")) command("end", {});
     },
     async "take-page"() {
-      const got = await command("replay", {});
+      const got = await command("replay", { room: large });
       if (got.page) save("game.html", got.page, "text/html");
     },
   });
+  element("next-table").addEventListener("change", choosesTable);
+  element("next-file").addEventListener("change", async ({ target }) => {
+    if (target.files[0]) await handOut({ name: target.files[0].name, table: await target.files[0].text() });
+    target.value = "";
+  });
+  element("show").addEventListener("change", () => command("show", { what: element("show").value }));
+  for (const name of ["gifts", "edges", "questions", "undo"]) {
+    element(`may-${name}`).addEventListener("change", ({ target }) => command("may", { [name]: target.checked }));
+  }
+  offer();
   listen("events?");
 }
 
 async function start() {
   given = await (await fetch("start")).json();
-  const teaches = given.role === "teacher", game = new Game(JSON.parse(given.table));
-  element("title").textContent = document.title = `The dollar game: ${given.name}`;
-  element("seats").hidden = true;
-  viewer = new Viewer(game, layoutOf(given.layout), { hands: !teaches, who: (seat, index) => players[index - 1] });
+  const { game } = roomOf(1);
+  viewer = new Viewer(game, layoutOf(given.layout), {
+    hands: !teaches(), who: (seat, index) => roomOf(large).players[index - 1], speaks: (step) => me && Number(step.seat) === me.seat,
+    fewest: (moves) => (me ? fewest(given.table, moves) : null),
+  });
   viewer.filled(0);
-  hands = teaches ? null : new Hands(viewer, play);
-  if (teaches) return teach();
-  bind({ join, watch });
+  element("title").textContent = document.title = `${teaches() ? "For the teacher" : "The dollar game"}: ${given.name}`;
+  for (const id of ["seats", "redo", "hint"]) element(id).hidden = true;
+  hands = teaches() ? null : new Hands(viewer, play);
+  if (teaches()) return teach();
+  bind({ join, watch, undo: () => sent("undo", {}), ask });
   me = stored("localStorage", KEPT);
   if (me) return sit();
   enter(false);
@@ -230,4 +485,4 @@ async function start() {
   return null;
 }
 
-start();
+startPage(start);

@@ -5,7 +5,7 @@ import { freePlace, placesText } from "./places.js";
 import { bind, button, choose, element, made, refuse } from "./viewer.js";
 import { Game } from "./words.js";
 
-const MOST_VERTICES = GRAMMAR.limits["dg_graph::MAX_VERTICES"], ROOM = [620, 440];
+const MOST_VERTICES = GRAMMAR.limits["dg_graph::MAX_VERTICES"], ROOM = [620, 440], STEP = 10;
 
 export class Editor {
   /* `done` is called with the text of the table and the places, and gives what the program refuses, or null. */
@@ -21,7 +21,7 @@ export class Editor {
     const { game, now, board } = this.viewer;
     this.viewer.stop();
     this.kept = board.layout;
-    board.layout = this.wider(board.layout);
+    board.layout = this.wider(board.layout.original || board.layout);
     board.burnt = [];
     this.draft = structuredClone(game.tableAt(now));
     this.hands.other = this;
@@ -29,6 +29,7 @@ export class Editor {
     this.fill();
     // What stood above the button is hidden now, and the board may be out of sight.
     element("board").scrollIntoView({ block: "nearest" });
+    document.querySelector("input[name=tool]:checked").focus({ preventScroll: true });
   }
 
   /* A layout with room around it, for what is to come. */
@@ -49,6 +50,7 @@ export class Editor {
     this.viewer.board.layout = this.kept;
     this.leave();
     this.viewer.show(this.viewer.now);
+    element("edit").focus();
   }
 
   leave() {
@@ -63,8 +65,10 @@ export class Editor {
 
   async finish() {
     const refused = await this.done(this.text(), placesText(this.viewer.board.layout));
-    if (refused === null) this.leave();
-    else refuse("edit-refused", refused);
+    if (refused !== null) return refuse("edit-refused", refused);
+    this.leave();
+    this.viewer.board.focus(this.viewer.game.names[0]);
+    return null;
   }
 
   async places() {
@@ -100,33 +104,46 @@ export class Editor {
     this.draw();
   }
 
+  /* Moves a vertex by a key. */
+  nudge(name, [right, down]) {
+    const [x, y] = this.viewer.board.place(name);
+    this.move(name, [x + STEP * right, y + STEP * down]);
+  }
+
   draw() {
     this.viewer.board.show(new Game(this.draft).states[0], this.draft.q);
   }
 
-  /* In the lists. */
+  /* In the lists. A row stays where it is, so that the focus does; what it shows is that of its number. */
 
   fill() {
-    const { vertices, edges } = this.draft, body = (id) => document.querySelector(`#${id} tbody`);
-    body("edit-vertices").replaceChildren(...vertices.map((name) => this.vertexRow(name)));
-    body("edit-edges").replaceChildren(...edges.map((edge) => this.edgeRow(edge)));
+    const { vertices, edges } = this.draft;
+    this.rows("edit-vertices", vertices.length, (i) => this.vertexRow(i), (row, i) => this.showVertex(row, i));
+    this.rows("edit-edges", edges.length, (i) => this.edgeRow(i), (row, i) => this.showEdge(row, i));
     ["edge-from", "edge-to"].forEach((id, i) => choose(id, vertices, i));
     element("add-vertex").disabled = vertices.length >= MOST_VERTICES;
     this.draw();
   }
 
-  input(type, value, label, change) {
-    const field = made("input", undefined, { type, value, "aria-label": label });
+  rows(id, count, row, show) {
+    const body = document.querySelector(`#${id} tbody`), held = body.contains(document.activeElement);
+    while (body.rows.length > count) body.deleteRow(-1);
+    while (body.rows.length < count) body.append(row(body.rows.length));
+    [...body.rows].forEach(show);
+    if (held && !body.contains(document.activeElement)) (body.querySelector("tr:last-child button") || element("add-edge")).focus();
+  }
+
+  input(type, change) {
+    const field = made("input", undefined, { type });
     field.addEventListener("change", () => change(field));
     return field;
   }
 
-  number(value, label, change) {
-    return this.input("number", value, label, (input) => {
-      const number = Number(input.value);
-      if (Number.isInteger(number)) change(number);
-      input.value = Number.isInteger(number) ? number : value;
-      this.draw();
+  /* A field for a number: what is none is not taken. */
+  number(change) {
+    return this.input("number", (field) => {
+      if (field.value !== "" && Number.isInteger(Number(field.value))) change(Number(field.value));
+      this.fill();
     });
   }
 
@@ -136,29 +153,44 @@ export class Editor {
     return row;
   }
 
-  remover(label, act) {
-    return button("remove", act, { "aria-label": label });
+  label(field, words, value) {
+    field.setAttribute("aria-label", words);
+    if (value !== undefined && field.value !== String(value)) field.value = value;
   }
 
-  vertexRow(name) {
-    const { vertices, amounts } = this.draft, at = vertices.indexOf(name), q = this.input("radio", name, `q is ${name}`, () => {
-      this.draft.q = name;
+  vertexRow(i) {
+    const named = this.input("text", ({ value }) => this.rename(this.draft.vertices[i], value));
+    const q = this.input("radio", () => {
+      this.draft.q = this.draft.vertices[i];
       this.draw();
     });
-    Object.assign(q, { name: "q", checked: name === this.draft.q });
-    const named = this.input("text", name, `The name of ${name}`, (input) => this.rename(name, input.value));
     Object.assign(named, { size: 10, maxLength: 16 });
-    return this.row(named, this.number(amounts[at], `Dollars of ${name}`, (amount) => { amounts[at] = amount; }), q,
-      this.remover(`Remove ${name}`, () => this.removeVertex(name)));
+    q.name = "q";
+    return this.row(named, this.number((amount) => { this.draft.amounts[i] = amount; }), q,
+      button("remove", () => this.removeVertex(this.draft.vertices[i])));
   }
 
-  edgeRow(edge) {
-    const label = `${edge[0]} - ${edge[1]}`;
-    return this.row(label, this.number(edge[2], `Edges ${label}`, (count) => { edge[2] = count; }),
-      this.remover(`Remove ${label}`, () => {
-        this.draft.edges = this.draft.edges.filter((other) => other !== edge);
-        this.fill();
-      }));
+  showVertex(row, i) {
+    const [named, dollars, q, remove] = row.querySelectorAll("input, button"), name = this.draft.vertices[i];
+    this.label(named, `The name of ${name}`, name);
+    this.label(dollars, `Dollars of ${name}`, this.draft.amounts[i]);
+    this.label(q, `q is ${name}`);
+    this.label(remove, `Remove ${name}`);
+    q.checked = name === this.draft.q;
+  }
+
+  edgeRow(i) {
+    return this.row("", this.number((count) => { this.draft.edges[i][2] = count; }), button("remove", () => {
+      this.draft.edges.splice(i, 1);
+      this.fill();
+    }));
+  }
+
+  showEdge(row, i) {
+    const [count, remove] = row.querySelectorAll("input, button"), [u, v, times] = this.draft.edges[i], words = `${u} - ${v}`;
+    row.cells[0].textContent = words;
+    this.label(count, `Edges ${words}`, times);
+    this.label(remove, `Remove ${words}`);
   }
 
   rename(name, other) {

@@ -9,7 +9,7 @@ const LONG_PRESS = 550, FAR_ENOUGH = 9, PATIENT = 1000;
 export class Hands {
   /* `play` is called with a line. */
   constructor(viewer, play) {
-    Object.assign(this, { viewer, play, board: viewer.board, press: null, joining: null, other: null });
+    Object.assign(this, { viewer, play, board: viewer.board, press: null, joining: null, other: null, joins: true });
     this.onBoard();
     this.onKeys();
     this.onForms();
@@ -33,10 +33,15 @@ export class Hands {
     svg.addEventListener("pointermove", (event) => this.move(event));
     svg.addEventListener("pointerup", (event) => this.up(event));
     svg.addEventListener("pointercancel", () => this.drop());
+    // What a screen reader or a voice sends is a click without a pointer.
+    svg.addEventListener("click", (event) => {
+      const at = event.detail === 0 && event.target.closest(".vertex");
+      if (at && !this.other) this.act(at.dataset.name, event);
+    });
     svg.addEventListener("contextmenu", (event) => event.preventDefault());
-    // A finger on a vertex does not scroll the page; beside the vertices it does, but for an editor's.
+    // A finger scrolls the page, but in the editor.
     svg.addEventListener("touchstart", (event) => {
-      if (this.other || this.vertexAt(this.point(event.touches[0])) !== null) event.preventDefault();
+      if (this.other) event.preventDefault();
     }, { passive: false });
   }
 
@@ -62,7 +67,7 @@ export class Hands {
     if (!press.moved) return;
     clearTimeout(press.timer);
     if (this.other) return this.other.drag(press, this.point(event));
-    if (press.name !== null) this.line(this.board.place(press.name), this.point(event));
+    if (press.name !== null && this.draws(event)) this.line(this.board.place(press.name), this.point(event));
   }
 
   line([x, y], [z, w]) {
@@ -79,13 +84,19 @@ export class Hands {
     this.drop();
     if (!press || press.done) return;
     if (this.other) return this.other.up(press, this.point(event), to);
-    if (press.moved) {
-      if (to !== null && to !== press.name) this.play(`join ${press.name} ${to}`);
-    } else if (event.ctrlKey || event.metaKey || element("choosing").checked) {
-      this.choose(press.name);
-    } else {
-      this.play(`${event.shiftKey ? "borrow" : "lend"} ${press.name}`);
-    }
+    if (!press.moved || to === press.name) this.act(press.name, event);
+    else if (to !== null && this.draws(event)) this.play(`join ${press.name} ${to}`);
+  }
+
+  /* Whether a line from one vertex to another is meant as an edge: a finger may have wanted to scroll. */
+  draws(event) {
+    return this.joins && event.pointerType !== "touch";
+  }
+
+  /* A click on a vertex. */
+  act(name, { ctrlKey, metaKey, shiftKey }) {
+    if (ctrlKey || metaKey || element("choosing").checked) this.choose(name);
+    else this.play(`${shiftKey ? "borrow" : "lend"} ${name}`);
   }
 
   drop() {
@@ -107,11 +118,16 @@ export class Hands {
   }
 
   onKeys() {
+    // Whoever uses keys sees where the focus is.
+    for (const [kind, on] of [["pointerdown", true], ["keydown", false]]) {
+      document.addEventListener(kind, () => document.body.classList.toggle("by-pointer", on), { capture: true });
+    }
     this.board.svg.addEventListener("keydown", (event) => {
       const name = event.target.dataset && event.target.dataset.name;
       if (name === undefined || event.altKey || event.ctrlKey || event.metaKey) return;
       const aside = { ArrowLeft: [-1, 0], ArrowRight: [1, 0], ArrowUp: [0, -1], ArrowDown: [0, 1] }[event.key];
-      if (aside) this.board.focus(vertexAhead(this.board.layout.places, name, aside));
+      if (aside && event.shiftKey && this.other) this.other.nudge(name, aside);
+      else if (aside) this.board.focus(vertexAhead(this.board.layout.places, name, aside));
       else if (this.other) return;
       else if (event.key === "Enter") this.play(`${event.shiftKey ? "borrow" : "lend"} ${name}`);
       else if (event.key === " ") this.choose(name);

@@ -31,6 +31,28 @@ export function save(file, text, kind = "text/plain") {
   setTimeout(() => URL.revokeObjectURL(link.href), 10000);
 }
 
+/* Starts a page, and says so if it can't. */
+
+export async function startPage(start) {
+  try {
+    await start();
+  } catch (fault) {
+    document.body.prepend(made("p", "This page could not start. Load it again.", { role: "alert" }));
+    throw fault;
+  }
+}
+
+/* In how few moves a table was won in this browser, after it was won in so many. */
+
+const FEWEST = "dollar fewest", TABLES = 100;
+
+export function fewest(table, moves) {
+  const before = stored("localStorage", FEWEST) || [], found = before.find(([text]) => text === table);
+  const least = Math.min(moves, found ? found[1] : moves);
+  store("localStorage", FEWEST, [...before.filter((each) => each !== found), [table, least]].slice(-TABLES));
+  return least;
+}
+
 /* What the browser keeps for a page. If it keeps nothing, or not so much, it lasts as long as the page. */
 
 export function stored(storage, key) {

@@ -5,8 +5,9 @@ export function layoutOf(given) {
   return { ...given, places: new Map(Object.entries(given.places)), sizes: new Map(Object.entries(given.sizes)) };
 }
 
-/* The lines `name x y` of the places of a layout. */
-export function placesText({ places }) {
+/* The lines `name x y` of the places of a layout, as they were before it was fitted. */
+export function placesText({ places, original }) {
+  if (original) return placesText(original);
   return [...places].map(([name, [x, y]]) => `${name} ${x} ${y}\n`).join("");
 }
 
@@ -35,4 +36,46 @@ export function freePlace({ places, width, height }) {
   const spots = parts.flatMap((down) => parts.map((right) => [width * right, height * down]));
   const room = ([x, y]) => Math.min(...[...places.values()].map(([u, v]) => Math.hypot(u - x, v - y)));
   return least(spots.map((spot) => [-room(spot), spot]))[1];
+}
+
+/* Where words of a width beside a vertex lie on as little as may be: below it, above it, or to a side. `pairs` are the ends of edges. */
+const HIGH = 8, STEPS = 24, BELOW = 13, ABOVE = 13, ASIDE = 6, OFF = 1000, ON_CIRCLE = 100;
+
+export function wordsPlace({ places, radius, width, height }, pairs, name, wide) {
+  const [x, y] = places.get(name), half = wide / 2, side = radius + half + ASIDE, slant = 0.75 * radius + half;
+  const spots = [[0, radius + BELOW], [0, -radius - ABOVE], [side, 0], [-side, 0], [slant, radius], [-slant, radius], [slant, -radius],
+    [-slant, -radius]];
+  const cost = ([u, v]) => {
+    const beside = ([z, w], more) => Math.abs(z - u) < half + more && Math.abs(w - v) < HIGH + more;
+    const off = u - half < 0 || u + half > width || v - HIGH < 0 || v + HIGH > height;
+    const circles = [...places].filter(([other, place]) => other !== name && beside(place, radius)).length;
+    const lines = pairs.map((ends) => ends.map((end) => places.get(end))).flatMap(([[a, b], [c, d]]) =>
+      Array.from({ length: STEPS }, (_, i) => [a + ((c - a) * i) / STEPS, b + ((d - b) * i) / STEPS])).filter((point) => beside(point, 2));
+    return (off ? OFF : 0) + ON_CIRCLE * circles + lines.length;
+  };
+  return least(spots.map(([right, down]) => [x + right, y + down]).map((spot) => [cost(spot), spot]))[1];
+}
+
+/* A layout for a page of this width and height. If it would be drawn small, it is turned where that helps, and circles and letters grow
+   as far as there is room between the vertices. On a small screen no letters are smaller than so many pixels. */
+const LEAST = 11, SMALL = 600, GAIN = 1.2, GAP = 6;
+
+export function fitted(layout, wide, high) {
+  const own = layout.original || layout, scaleOf = ({ width, height }) => Math.min(wide / width, high / height);
+  const turned = { ...own, width: own.height, height: own.width,
+    places: new Map([...own.places].map(([name, [x, y]]) => [name, [y, x]])) };
+  const laid = own.turns && scaleOf(own) < 1 && scaleOf(turned) > GAIN * scaleOf(own) ? turned : own, scale = Math.min(1, scaleOf(laid));
+  const points = [...own.places.values()];
+  const apart = Math.min(...points.flatMap(([x, y], i) => points.slice(0, i).map(([z, w]) => Math.hypot(z - x, w - y))), 4 * own.radius);
+  const zoom = Math.max(1, Math.min(1 / scale, (apart / 2 - GAP) / own.radius));
+  return { ...laid, original: own, zoom, radius: own.radius * zoom, room: own.room * zoom, least: wide < SMALL ? LEAST / scale : 0,
+    sizes: new Map([...own.sizes].map(([name, size]) => [name, size * zoom])) };
+}
+
+/* A name, or its beginning if it is too long for letters of a size. */
+const WIDE = 0.62;
+
+export function shortened(name, size, room) {
+  const most = Math.max(3, Math.floor(room / (WIDE * size)));
+  return name.length > most ? `${name.slice(0, most - 1)}\u2026` : name;
 }

@@ -6,9 +6,11 @@ import { Game, linesOf } from "./words.js";
 
 const read = (id) => element(id).textContent;
 const game = new Game(JSON.parse(read("table")));
-const printed = linesOf(read("printed"));
+const printed = linesOf(read("printed")), names = JSON.parse(read("names"));
 linesOf(read("steps")).forEach((line, i) => game.add(line, printed[i]));
-const viewer = new Viewer(game, layoutOf(JSON.parse(read("layout"))), { flaws: JSON.parse(read("flaws")) });
+const viewer = new Viewer(game, layoutOf(JSON.parse(read("layout"))), {
+  flaws: JSON.parse(read("flaws")), who: (seat, index) => names[index - 1] || `Seat ${seat}`,
+});
 viewer.filled(0);
 // For who looks at the page from its console.
 element("board").viewer = viewer;

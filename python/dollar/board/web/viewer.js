@@ -1,10 +1,13 @@
 /* Walks through a game: the board, the step and its answer in words, a slider with marks, and the list of all lines. */
 
 import { Board, still } from "./board.js";
-import { commandWords, debtWords, faultWords, flowWords, legendWords, markOf, mostTelling, often, planned, replyWords } from "./words.js";
+import { fitted } from "./places.js";
+import { commandWords, debtWords, faultWords, flowWords, legendWords, markOf, mostTelling, movesWords, often, planned, replyWords } from "./words.js";
 
 export const element = (id) => document.getElementById(id);
 // The marks of a long game, which all are looked at for, are drawn when no more steps come for a while.
+// How much of the page's height the board has.
+const BOARD_HIGH = 0.7;
 const BETWEEN = 2200, LISTED = 400, FEW = 1000, LATER = 300;
 
 export function made(tag, text, given = {}) {
@@ -44,10 +47,11 @@ export function say(id, words, own = "") {
   box.querySelector("code").textContent = own;
 }
 
-/* Says in the box what the program has refused, or nothing if that is null. */
+/* Says in the box what the program has refused, or else the server, or nothing if that is null. */
 export function refuse(id, fault) {
-  if (fault === null) say(id, "");
-  else say(id, faultWords(fault), `dollar: ${fault}`);
+  const words = fault === null ? "" : faultWords(fault, "");
+  if (fault === null || words) say(id, words, words && `dollar: ${fault}`);
+  else say(id, `${fault[0].toUpperCase()}${fault.slice(1)}${fault.endsWith(".") ? "" : "."}`);
 }
 
 /* A row, whose first cell says what it is about. */
@@ -65,11 +69,12 @@ export function below(counts, words) {
 export const lost = (count) => `lost ${count}`;
 
 export class Viewer {
-  /* `flaws` has what the program prints, for each step that has another line; `who` says of a step who played it. */
-  constructor(game, layout, { hands = false, flaws = {}, who = (seat) => `Seat ${seat}` } = {}) {
-    Object.assign(this, { game, flaws, who, now: 0, timer: null, listed: [0, 0], afterShow: () => {} });
+  /* `flaws` has what the program prints, for each step that has another line; `who` says of a step who played it, `speaks` whether a
+     screen reader is to speak of it, and `fewest` in how many moves the table was won before. */
+  constructor(game, layout, { hands = false, flaws = {}, who = (seat) => `Seat ${seat}`, speaks = () => true, fewest = () => null } = {}) {
+    Object.assign(this, { game, flaws, who, speaks, fewest, now: 0, timer: null, listed: [0, 0], afterShow: () => {} });
     this.board = new Board(document.querySelector("#board svg"), hands);
-    this.board.layout = layout;
+    this.fit(layout);
     element("marks-legend").textContent = legendWords();
     this.bind();
   }
@@ -89,14 +94,28 @@ export class Viewer {
     });
     element("slider").addEventListener("input", () => this.go(Number(element("slider").value)));
     bind({ ...ways, earlier: () => this.list(this.listed[0] - LISTED), later: () => this.list(this.listed[1]) });
-    window.addEventListener("resize", () => this.fillMarks());
+    window.addEventListener("resize", () => this.refit());
+  }
+
+  /* Has the board fill its place on the page. */
+  fit(layout) {
+    const { svg } = this.board, wide = svg.parentNode.clientWidth || window.innerWidth;
+    this.board.layout = fitted(layout, wide, BOARD_HIGH * window.innerHeight);
+  }
+
+  /* The place has another size now. An editor's layout stays as it is. */
+  refit() {
+    this.fillMarks();
+    if (!this.board.layout.original) return;
+    this.fit(this.board.layout);
+    this.rest();
   }
 
   /* Shows another game, or the same after it has grown or was cut, at a step. */
   reset(game, index, layout) {
     this.stop();
     this.game = game;
-    if (layout) this.board.layout = layout;
+    if (layout) this.fit(layout);
     this.filled(index);
   }
 
@@ -145,9 +164,8 @@ export class Viewer {
     this.showText();
     this.showScript(element("verdict"), next ? replies[next - 1] : {}, states[next].amounts);
     this.showPlace();
-    const q = this.game.table.q, says = this.says(next);
-    if (moving) this.board.travel(states[next - 1], states[next], q, says, steps[next - 1].script, () => this.rest());
-    else this.rest();
+    this.rest();
+    if (moving) this.board.travel(states[next], steps[next - 1].script);
     this.afterShow();
   }
 
@@ -160,6 +178,8 @@ export class Viewer {
   showText() {
     const index = this.now, { game } = this, state = game.states[index], flaw = this.flaws[index];
     const step = game.steps[index - 1], reply = game.replies[index - 1];
+    document.querySelector("#now [aria-live]").setAttribute("aria-live", !index || this.speaks(step) ? "polite" : "off");
+    this.showEnd();
     element("place").textContent = index ? `Step ${index} of ${game.length}` : `The start, before ${game.length} steps`;
     element("step").textContent = index ? `${this.who(step.seat, index)}: ${commandWords(step)}` : "The table at the start";
     element("moves").textContent = index && reply.kind === "moved" ? flowWords(state.edges, step.script) : "";
@@ -168,6 +188,16 @@ export class Viewer {
     element("said").textContent = index ? reply.line : "";
     element("differs").hidden = flaw === undefined;
     element("differs").textContent = flaw === undefined ? "" : `This is not what the program prints, which is: ${flaw}`;
+  }
+
+  /* Says that nobody owes, if that is so. */
+  showEnd() {
+    const { game, now } = this, won = game.isWon(now), { moves, helped } = game.states[now];
+    element("won").hidden = !won;
+    if (element("count")) element("count").textContent = movesWords(moves);
+    if (!won) return;
+    const fewest = helped ? null : this.fewest(moves), words = `Solved in ${movesWords(moves)}: nobody owes a dollar.`;
+    element("won").textContent = fewest === null || fewest === moves ? words : `${words} Your best: ${fewest}.`;
   }
 
   showScript(box, { script, reduced }, amounts) {

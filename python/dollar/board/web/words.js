@@ -10,7 +10,7 @@ export const KINDS = {
   winnable: { mark: "\u2713", legend: "can be won, or is won", words: ({ reduced }, _, q) =>
     `It can be won: the script clears all debts, and then ${q} has ${reduced.get(q)}.` },
   unwinnable: { mark: "\u2717", legend: "can't be won, or is not", words: ({ reduced }, _, q) =>
-    `It can't be won: the script clears all debts but that of ${q}, which owes ${-reduced.get(q)}.` },
+    `It can't be won: the script clears every debt but one, and ${q} still owes ${-reduced.get(q)}.` },
   won: { mark: "\u2713", words: () => "Won: nobody is in debt." },
   refused: { mark: "!", legend: "refused", words: ({ cause }) => `Refused: ${CAUSES[cause] || cause}. Nothing changes.` },
   stale: { mark: "~", legend: "stale", words: ({ gifts }) =>
@@ -23,7 +23,8 @@ export const KINDS = {
     `It counts as change number ${gifts}. ${debtWords(amounts)}` },
   "not-won": { mark: "\u2717", words: (_, amounts) => `Not won. ${debtWords(amounts)}` },
   looked: { mark: "o", legend: "look", words: ({ gifts }, amounts) =>
-    `It sees the board after ${gifts} gifts, levies and new edges. ${debtWords(amounts)}` },
+    `It sees the board after ${gifts === 1 ? "1 gift, levy or new edge" : `${gifts} gifts, levies and new edges`}. `
+      + debtWords(amounts) },
   moved: { mark: "\u00b7", words: (_, amounts) => debtWords(amounts) },
 };
 
@@ -91,7 +92,7 @@ export class Game {
     const amounts = new Map(this.names.map((name, i) => [name, table.amounts[i]]));
     this.steps = [];
     this.replies = [];
-    this.states = [{ edges, added: new Map(), amounts }];
+    this.states = [{ edges, added: new Map(), amounts, moves: 0, helped: false }];
   }
 
   get length() {
@@ -109,11 +110,19 @@ export class Game {
     this.replies.push(reply);
   }
 
-  stateAfter(before, step, reply) {
-    if (!reply.amounts) return before;
-    if (reply.kind !== "joined") return { ...before, amounts: reply.amounts };
+  stateAfter(before, step, { kind, amounts }) {
+    if (!amounts) return before;
+    if (kind === "moved") return { ...before, amounts, moves: before.moves + 1 };
+    const helped = before.helped || kind === "given" || kind === "joined";
+    // A history may have been changed, so that its reply is to another step.
+    if (kind !== "joined" || step.word !== "join" || step.given.length !== 2) return { ...before, amounts, helped };
     const key = this.pairKey(...step.given), one = (counts) => new Map([...counts, [key, (counts.get(key) || 0) + 1]]);
-    return { edges: one(before.edges), added: one(before.added), amounts: reply.amounts };
+    return { edges: one(before.edges), added: one(before.added), amounts, moves: before.moves, helped };
+  }
+
+  /* Whether nobody owes after so many steps, and somebody did at the start. */
+  isWon(index) {
+    return owing(this.states[index].amounts).length === 0 && owing(this.states[0].amounts).length > 0;
   }
 
   cut(length) {
@@ -180,8 +189,12 @@ export function flowWords(edges, script) {
   return told.length ? `Dollars along the edges: ${listed(told)}.` : "No dollar goes along an edge.";
 }
 
+export const owing = (amounts) => [...amounts].filter(([, amount]) => amount < 0);
+
+export const movesWords = (count) => (count === 1 ? "1 move" : `${count} moves`);
+
 export function debtWords(amounts) {
-  const told = [...amounts].filter(([, amount]) => amount < 0).map(([name, amount]) => `${name} owes ${-amount}`);
+  const told = owing(amounts).map(([name, amount]) => `${name} owes ${-amount}`);
   return told.length ? `In debt: ${listed(told)}.` : "Nobody is in debt.";
 }
 
@@ -193,7 +206,7 @@ const { limits } = GRAMMAR;
 const MOST_EDGES = limits["dg_graph::MAX_VALENCE"];
 
 export const CAUSES = {
-  range: "an amount would go past a million dollars", gift: "a gift of nothing is none", loop: "an edge needs two ends",
+  range: "an amount would go past a million dollars", gift: "a gift can't be 0", loop: "an edge needs two ends",
   valence: `no vertex may have more than ${MOST_EDGES} edges`, vertex: "no such vertex", empty: "no vertex is named",
   script: "no such script",
 };
@@ -263,7 +276,7 @@ export const FAULTS = {
   "too many trials": "That rank test is too large.",
 };
 
-export function faultWords(text) {
+export function faultWords(text, otherwise = "The program has refused this.") {
   const words = FAULTS[text.replace(/\d+/, "#")];
-  return (typeof words === "function" ? words(Number(/\d+/.exec(text)[0])) : words) || "The program has refused this.";
+  return (typeof words === "function" ? words(Number(/\d+/.exec(text)[0])) : words) || otherwise;
 }

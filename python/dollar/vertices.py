@@ -1,0 +1,193 @@
+"""The vertices of a graph: what a table was made of, and the names by which the program knows them."""
+
+from __future__ import annotations
+
+import operator
+import re
+from numbers import Number
+from typing import Any, Callable, Dict, Hashable, Iterable, List, Mapping, Optional, Sequence, SupportsIndex, Tuple, Union
+
+Vertex = Hashable
+Pairs = Dict[Hashable, int]
+# Amounts as they are given: in the order of the vertices, or by vertices.
+Dollars = Union[Iterable[SupportsIndex], Mapping[Any, SupportsIndex]]
+
+NAME = re.compile(r"[A-Za-z0-9_]{1,16}", re.ASCII)
+
+
+def whole(number: object, what: str) -> int:
+    """A whole number as an int. A TypeError names what it is if it is none, be it as near to one as it may.
+
+    >>> whole(1.0, "the amount of vertex a")
+    Traceback (most recent call last):
+        ...
+    TypeError: the amount of vertex a is no whole number: 1.0
+    """
+    try:
+        # What is true or false is a number for Python, and none for the program.
+        if type(number).__name__ not in ("bool", "bool_"):
+            return int(operator.index(number))  # type: ignore[arg-type]
+    except TypeError:
+        pass
+    raise TypeError("%s is no whole number: %r" % (what, number))
+
+
+def is_whole(thing: object) -> bool:
+    """Whether a thing is a whole number."""
+    try:
+        return whole(thing, "") is not None
+    except TypeError:
+        return False
+
+
+def is_same(key: object, vertex: object) -> bool:
+    """Whether a key that is equal to a vertex is meant for it: for Python True, 1 and 1.0 are equal.
+
+    >>> is_same(1, 1), is_same(True, 1), is_same((0, 1.0), (0, 1))
+    (True, False, False)
+    """
+    if isinstance(key, tuple) and isinstance(vertex, tuple):
+        return all(map(is_same, key, vertex))
+    if type(key) is type(vertex) or (is_whole(key) and is_whole(vertex)):
+        return True
+    return not isinstance(key, Number) and str(key) == str(vertex)
+
+
+class Vertices:
+    """Vertices, their names, and the place of each in the order of the table."""
+
+    __slots__ = ("are_names", "given", "names", "places", "_texts")
+
+    def __init__(self, given: Iterable[Vertex], names: Callable[[Any], str] = str) -> None:
+        self.given = tuple(given)
+        self.names = tuple(named(self.given, names))
+        self.places = {vertex: place for place, vertex in enumerate(self.given)}
+        self.are_names = self.given == self.names
+        self._texts: Optional[Dict[str, List[int]]] = None
+
+    def of_text(self, text: str) -> List[int]:
+        """The places of the vertices that have this name, or whose text it is."""
+        if self._texts is None:
+            self._texts = {}
+            for place, (vertex, name) in enumerate(zip(self.given, self.names)):
+                for each in {name, str(vertex)}:
+                    self._texts.setdefault(each, []).append(place)
+        return self._texts.get(text, [])
+
+    def place(self, key: object) -> int:
+        """The place of a vertex, which is given as itself, or by a text that means no other.
+
+        >>> renamed = Vertices([0, 1, 2], lambda vertex: str(vertex + 1))
+        >>> renamed.place(1), renamed.place("3")
+        (1, 2)
+        >>> renamed.place("1")
+        Traceback (most recent call last):
+            ...
+        ValueError: '1' means the vertex 0 or the vertex 1: use the vertex itself
+        """
+        try:
+            place = self.places.get(key)
+        except TypeError:
+            place = None
+        if place is not None:
+            if is_same(key, self.given[place]):
+                return place
+        else:
+            found = self.of_text(key if isinstance(key, str) else self.number(key))
+            if len(found) > 1:
+                raise ValueError("%r means %s: use the vertex itself" % (
+                    key, " or ".join("the vertex %r" % (self.given[each],) for each in found)))
+            if found:
+                return found[0]
+        raise ValueError("there is no vertex %r: the vertices are %s" % (key, ", ".join(self.names)))
+
+    def number(self, key: object) -> str:
+        """The text of a key that is a whole number, if all vertices are texts, as those of a file are; or else none."""
+        try:
+            return str(whole(key, "a vertex")) if self.are_names else ""
+        except TypeError:
+            return ""
+
+    def amounts(self, given: Any) -> Tuple[int, ...]:
+        """Amounts in the order of the vertices. A vertex that a dict does not have has 0."""
+        if isinstance(given, (set, frozenset, str, bytes, bytearray, memoryview)) or given is None:
+            raise TypeError("amounts are a list in the order of the vertices, or a dict, and not %r" % (given,))
+        if not hasattr(given, "keys"):
+            if not hasattr(given, "__iter__"):
+                raise TypeError("amounts are a list in the order of the vertices, or a dict, and not %r" % (given,))
+            row = list(given)
+            if len(row) != len(self.names):
+                raise ValueError("there are %d amounts for %d vertices" % (len(row), len(self.names)))
+            return tuple(whole(amount, "the amount of vertex %s" % name) for name, amount in zip(self.names, row))
+        found: Dict[int, int] = {}
+        # A series of pandas may take a key for a place; what stands beside its label is what was meant.
+        for key, amount in given.items() if hasattr(given, "items") else ((key, given[key]) for key in given.keys()):
+            place = self.place(key)
+            if place in found:
+                raise ValueError("there are two amounts for vertex %s" % self.names[place])
+            found[place] = whole(amount, "the amount of vertex %s" % self.names[place])
+        return tuple(found.get(place, 0) for place in range(len(self.names)))
+
+    def keyed(self, amounts: Iterable[int]) -> Pairs:
+        """Amounts, in the order of the vertices, by the vertices."""
+        if self.are_names:
+            return dict(zip(self.given, amounts))
+        found = Amounts(zip(self.given, amounts))
+        found.vertices = self
+        return found
+
+    def read(self, texts: Pairs) -> Pairs:
+        """Amounts by names, as the program prints them, by the vertices."""
+        if tuple(texts) != self.names:
+            raise ValueError("the answer is about other vertices: %s" % ", ".join(map(str, texts)))
+        return self.keyed(texts.values())
+
+
+class Amounts(Dict[Hashable, int]):
+    """Numbers by vertices. A text is a key too where it means one vertex.
+
+    >>> found = Vertices([0, 1]).keyed([2, -1])
+    >>> found, found[1], found["1"], "1" in found, found.get("2")
+    ({0: 2, 1: -1}, -1, -1, True, None)
+    """
+
+    vertices: Optional[Vertices] = None
+
+    def __missing__(self, key: object) -> int:
+        try:
+            if isinstance(key, str) and self.vertices is not None:
+                return dict.__getitem__(self, self.vertices.given[self.vertices.place(key)])
+        except ValueError:
+            pass
+        raise KeyError(key)
+
+    def get(self, key: Any, default: Any = None) -> Any:
+        try:
+            return self[key]
+        except KeyError:
+            return default
+
+    def __contains__(self, key: object) -> bool:
+        return self.get(key) is not None
+
+
+def by_name(amounts: Mapping[Any, int]) -> Dict[str, int]:
+    """Numbers by the names of the vertices."""
+    vertices = getattr(amounts, "vertices", None)
+    if vertices is None:
+        return {str(vertex): amount for vertex, amount in amounts.items()}
+    return {vertices.names[vertices.places[vertex]]: amount for vertex, amount in amounts.items()}
+
+
+def named(vertices: Sequence[Vertex], names: Callable[[Any], str]) -> List[str]:
+    """The names of the vertices, which are all different."""
+    found: Dict[str, Vertex] = {}
+    for vertex in vertices:
+        name = names(vertex)
+        if not isinstance(name, str) or not NAME.fullmatch(name):
+            raise ValueError("vertex %s has no name of 1 to 16 letters from a to z or A to Z, digits or _: give them by the parameter "
+                             "`names`, a function from a vertex to its name" % (vertex,))
+        if name in found:
+            raise ValueError("the vertices %r and %r have the same name" % (found[name], vertex))
+        found[name] = vertex
+    return list(found)
