@@ -1,9 +1,10 @@
 /* Tests of what the pages' modules do without a page: words, marks and places. `failures` gives what does not hold. */
 
 import { GRAMMAR } from "./grammar.js";
-import { freePlace, layoutOf, placesText, vertexAhead, vertexAt } from "./places.js";
+import { fitted, freePlace, layoutOf, placesText, shortened, vertexAhead, vertexAt, wordsPlace } from "./places.js";
 import {
-  CAUSES, FAULTS, Game, KINDS, answerOf, commandWords, faultWords, flows, legendWords, linesOf, markOf, mostTelling, replyOf, replyWords, stepOf,
+  CAUSES, FAULTS, Game, KINDS, answerOf, commandWords, faultWords, flows, legendWords, linesOf, markOf, mostTelling, movesWords, replyOf,
+  replyWords, stepOf,
 } from "./words.js";
 
 const failures_ = [];
@@ -40,6 +41,8 @@ function replies() {
   for (const text of ["", "moved", "moved a", "won ", "refused", "stale x", "lent a"]) {
     equal(answerOf(text).kind, "unread", `what is no reply: ${text}`);
   }
+  equal(replyWords(replyOf("7 looked 1 a=2 b=-1"), AMOUNTS, "a").startsWith("It sees the board after 1 gift, levy or new edge."), true,
+    "the words of one change");
   equal(replyOf("moved a=1").kind, "unread", "a reply without its number");
   equal(Object.keys(CAUSES).sort(), GRAMMAR.refusals.map((text) => text.split(" ")[1]).sort(), "the causes of refusals");
 }
@@ -85,8 +88,20 @@ function games() {
   equal(flows(game.states[0].edges, stepOf("1 lend a").script).map(({ from, to, each, count }) => [from, to, each, count]),
     [["a", "b", 1, 2], ["a", "2", 1, 1]], "where dollars go");
   equal(flows(game.states[0].edges, stepOf("1 fire a,b").script).length, 1, "no dollar goes between two that lend");
+  equal(game.states.map(({ moves, helped }) => [moves, helped]), [[0, false], [1, false], [1, true]], "moves, and an edge that helped");
+  game.add("1 claim", "2 not won");
+  game.add("1 borrow b", "3 moved b=1 a=0 2=0");
+  equal([0, 1, 2, 3, 4].map((index) => game.isWon(index)), [false, false, false, false, true], "where nobody owes any more");
   game.cut(1);
   equal([game.length, game.states.length, game.replies.length], [1, 2, 1], "a game that was cut");
+  const odd = new Game(TABLE);
+  odd.add("1 lend a", "0 joined 1 b=1 a=-1 2=0");
+  equal(odd.tableAt(1).edges, TABLE.edges, "the edges after a reply to another step");
+  const rich = new Game({ ...TABLE, amounts: [1, 1, 0] });
+  rich.add("1 lend a", "0 moved b=3 a=-2 2=1");
+  rich.add("1 borrow a", "1 moved b=1 a=1 2=0");
+  equal([0, 1, 2].map((index) => rich.isWon(index)), [false, false, false], "a table on which nobody owed");
+  equal([movesWords(1), movesWords(0), faultWords("?", "x")], ["1 move", "0 moves", "x"], "words of numbers and faults");
   equal([linesOf("a\nb\n"), linesOf("a\nb"), linesOf("")], [["a", "b"], ["a", "b"], []], "lines of texts");
 }
 
@@ -97,9 +112,32 @@ function places() {
   const ahead = ([name, way]) => vertexAhead(layout.places, name, way);
   equal([["a", [1, 0]], ["b", [0, 1]], ["1", [-1, 0]], ["a", [-1, 0]]].map(ahead), ["b", "1", "a", null], "the vertex ahead");
   equal(freePlace(layout), [10, 90], "a free place");
+  const wide = layoutOf({ places: { a: [100, 100], b: [100, 200], c: [200, 100] }, sizes: {}, width: 300, height: 300, radius: 20 });
+  const spot = (name, pairs) => wordsPlace(wide, pairs, name, 40);
+  equal(spot("a", []), [100, 133], "words where there is room: below");
+  equal(spot("a", [["a", "b"]]), [100, 67], "words of a vertex with an edge below it");
+  equal(spot("a", [["a", "b"], ["a", "c"]]), [100, 67], "words of a vertex with an edge below it and one to the right");
+  equal(spot("b", [["a", "b"]]), [100, 233], "words of a vertex with an edge above it");
+}
+
+/* A wide layout on a narrow page is turned, and its circles and letters grow; on a wide page it stays as it is. */
+function fits() {
+  const given = layoutOf({ places: { a: [50, 50], b: [450, 50], c: [850, 150] }, sizes: { a: 11, b: 11, c: 5 }, width: 900, height: 200,
+    radius: 21, room: 36, turns: true });
+  const wide = fitted(given, 1000, 700), narrow = fitted(given, 330, 500), again = fitted(narrow, 1000, 700);
+  const plain = ({ places: at, width, radius, zoom, least }) => [[...at.values()], width, radius, zoom, least];
+  equal(plain(wide), [[...given.places.values()], 900, 21, 1, 0], "a layout that has room");
+  equal([...narrow.places.values()], [[50, 50], [50, 450], [150, 850]], "a layout that is turned");
+  equal([narrow.width, narrow.zoom, narrow.radius, narrow.least], [200, 36 / 21, 36, 11 * 1.8], "its circles and its least letters");
+  equal(narrow.sizes, new Map([["a", (11 * 36) / 21], ["b", (11 * 36) / 21], ["c", (5 * 36) / 21]]), "its names");
+  equal(plain(again), plain(wide), "a layout on a page that was made wider");
+  equal(placesText(narrow), placesText(given), "the places of a layout that was turned");
+  const kept = fitted({ ...given, turns: false }, 330, 500);
+  equal([...kept.places.values()], [...given.places.values()], "places that somebody has given");
+  equal([shortened("constructor", 20, 60), shortened("ann", 20, 60)], ["con\u2026", "ann"], "names that are too long, and that fit");
 }
 
 export function failures() {
-  for (const part of [replies, commands, faults, marks, games, places]) part();
+  for (const part of [replies, commands, faults, marks, games, places, fits]) part();
   return failures_;
 }

@@ -140,16 +140,29 @@ def by_mouse(player):
     equal(player.value(chosen), [], "chosen twice")
     player.click("#choosing")
     length, (x, y) = player.length(), player.middle(at("ann"))
-    player.drag(at("ann"), [x + 60, y - 40])
+    player.drag(at("ann"), [x + 130, y - 90])
     time.sleep(0.2)
     equal(player.length(), length, "the steps after a line from ann to nowhere")
 
 
 def by_touch(player):
-    """A touch lends, a long one borrows, and a line by a finger joins."""
+    """A touch lends, also one that slips a little, and a long one borrows. A swipe builds nothing."""
     player.does("1 lend dan", player.touch, at("dan"))
     player.does("1 borrow dan", player.touch, at("dan"), 1.0)
-    player.does("1 join ann bob", player.touch_drag, at("ann"), at("bob"))
+    (x, y), length = player.middle(at("dan")), player.length()
+    player.does("1 lend dan", player.touch_drag, [x, y], [x + 11, y + 4])
+    player.touch_drag(at("ann"), at("bob"))
+    time.sleep(0.3)
+    equal(player.length(), length + 1, "the steps after a swipe")
+
+
+def by_a_voice(player):
+    """What a screen reader sends, a click without a pointer, lends."""
+    length = player.length()
+    player.value(f"$({json.dumps(at('bob'))}).dispatchEvent(new MouseEvent('click', {{ bubbles: true, detail: 0 }}))")
+    player.has(length + 1)
+    equal(player.text("#asked"), "1 lend bob", "the step by a click without a pointer")
+    equal(player.value("$$('#board [aria-pressed]').length"), 0, "what is said to be pressed")
 
 
 def by_keys(player):
@@ -293,7 +306,8 @@ def with_script(player):
 
 def with_fire(player):
     """The fire goes as docs/play.md tells it: from ann to bob, dan and cyd."""
-    player.open_example("kind_houses")
+    # The game before was won, and nobody is asked whether to leave it.
+    player.open_example("kind_houses", asks=False)
     _, printed = player.told("#ask-won")
     kind = "unwinnable by ann=0 bob=0 cyd=0 dan=-1 to ann=-1 bob=0 cyd=1 dan=1 burning ann bob dan cyd\n"
     equal(printed, kind, "the verdict on the kind houses")
@@ -304,6 +318,7 @@ def with_fire(player):
     equal(lines[1], "bob burns: if bob, cyd and dan lent at once, bob would owe. So it is no giver.", "why bob burns")
     equal(player.value("viewer.board.burnt"), ["ann", "bob", "dan", "cyd"], "who burns on the board")
     equal(player.value("texts('#board .amount')"), ["-1", "0", "1", "1"], "the amounts under the fire")
+    equal(player.text("#answer"), "In debt: ann owes 1.", "what is told beside the fire")
     equal(player.length(), 0, "the entries after a fire")
     player.value("viewer.go(0)")
     equal(player.value("$$('#board .badge').length"), 0, "who burns after that")
@@ -336,19 +351,55 @@ def with_tables(player):
     player.value(DROP % json.dumps(text_of(EXAMPLES / "cube.json")))
     player.until("fileName === 'dropped.json' && viewer.game.names.length === 8")
 
-    def draw(degree, kind):
-        player.value(f"($('#draw-degree').value = {degree}, $('#draw-kind').value = '{kind}')")
-        player.click("#draw-form button")
-
-    for kind in "winnable", "unwinnable":
+    for graph, level in ("", "easy"), ("Cube", "unwinnable"), ("random", "hard"):
         before = player.value("table")
-        draw(2, kind)
+        player.value(f"($('#puzzle-graph').value = '{graph}', $('#puzzle-level').value = '{level}')")
+        player.click("#puzzle-form button")
         player.until(f"table !== {json.dumps(before)}")
         table = player.saved("#take-table", "table.json")
-        equal(sum(json.loads(table)["amounts"]), 2, "the degree of a table drawn by lots")
-        equal(asked("judge", written(player.folder, "lots.json", table))[0].split(" ")[0], kind, "a table drawn by lots")
-    said, _ = player.refused(draw, 5, "unwinnable")
-    expect(said.startswith("Of 64 that were drawn none"), f"lots without a table: {said}")
+        word = asked("judge", written(player.folder, "puzzle.json", table))[0].split(" ")[0]
+        equal(word, "unwinnable" if level == "unwinnable" else "winnable", f"a puzzle that is {level}")
+
+
+def with_an_end(player):
+    """Undo and redo by a click each, a hint of one move, and the end with its number of moves; who does better later is told so."""
+    player.open_example("houses", asks=False)
+    player.value("localStorage.clear()")
+    player.does("1 lend bob", player.click, at("bob"))
+    equal([player.text("#count"), player.value("$('#won').hidden")], ["1 move", True], "the moves after one")
+    player.click("#undo")
+    equal(player.value("[viewer.now, viewer.game.length, $('#count').textContent]"), [0, 1, "0 moves"], "a move that is undone")
+    player.click("#redo")
+    equal(player.value("viewer.now"), 1, "a move that is done again")
+    player.click("#undo")
+    player.click(at("cyd"))
+    player.until("viewer.now === 1 && $('#asked').textContent === '1 lend cyd'")
+    equal(player.value("[viewer.game.length, $('#sure').open]"), [1, False], "a move after one that was undone")
+    for line in "1 lend cyd", "1 lend bob", "1 borrow dan", "1 lend dan":
+        _, word, name = line.split(" ")
+        player.does(line, player.click, at(name), SHIFT if word == "borrow" else 0)
+    equal(player.text("#won"), "Solved in 5 moves: nobody owes a dollar. Your best: 3.", "the end")
+    equal(player.value("$('#next').hidden"), False, "the next puzzle is offered at the end")
+    player.value("viewer.go(0)")
+    player.value("hands.tell('')")
+    player.click("#hint")
+    player.until("$('#told-words').textContent !== ''")
+    equal([player.text("#told-words"), player.value(SAID)], ["Let cyd lend once.", [["cyd", "to lend 1"]]], "a hint")
+    equal(player.length(), 5, "the steps after a hint")
+    player.click("#ask-won")
+    player.until("!$('#show-script').hidden")
+    player.click("#show-script")
+    player.answered(True)
+    player.has(1)
+    equal(player.text("#won"), "Solved in 1 move: nobody owes a dollar.", "an end with fewer moves")
+    player.open_example("triangle", asks=False)
+    player.open_example("houses", asks=False)
+    for name in "cyd", "cyd", "bob":
+        player.does(None, player.click, at(name))
+    equal(player.text("#won"), "Solved in 3 moves: nobody owes a dollar. Your best: 1.", "an end with more moves")
+    before = player.value("table")
+    player.click("#next")
+    player.until(f"table !== {json.dumps(before)} && viewer.game.length === 0 && $('#won').hidden")
 
 
 def with_editor(player):
@@ -392,6 +443,53 @@ def with_editor(player):
     for selector in "#edit", "#add-vertex", "#edit-cancel":
         player.click(selector)
     equal(player.value("[viewer.game.names.length, viewer.now]"), [3, 1], "an edit that is left")
+    with_editor_by_keys(player)
+
+
+def with_editor_by_keys(player):
+    """The focus stays where the hand was after each act of the editor, and vertices move by keys."""
+    def focused(wanted, what):
+        equal(player.value("document.activeElement.getAttribute('aria-label') || document.activeElement.id"
+                           " || document.activeElement.value"), wanted, f"the focus after {what}")
+
+    player.focus("#edit")
+    player.press("Enter")
+    focused("remove", "the editor has opened")
+    player.value("$('#edit-vertices input').select()")
+    player.write("sue")
+    player.press("Tab")
+    focused("Dollars of sue", "a vertex was renamed")
+    player.focus("#edit-edges button")
+    player.press("Enter")
+    focused("Remove sue - zoe", "an edge was removed")
+    player.focus("#edit-vertices tr:last-child button")
+    player.press("Enter")
+    focused("Remove b", "the last vertex was removed")
+    (x, y) = player.value("viewer.board.place('sue')")
+    player.focus(at("sue"))
+    player.press("ArrowRight", SHIFT)
+    player.press("ArrowDown", SHIFT)
+    equal(player.value("viewer.board.place('sue')"), [round(x) + 10, round(y) + 10], "a vertex that was moved by keys")
+    equal(player.value("document.activeElement.dataset.name"), "sue", "the focus after a vertex was moved by keys")
+    player.focus("#edit-cancel")
+    player.press("Enter")
+    focused("edit", "the editor was left")
+
+
+SIZES = """(() => {
+  const pixels = (at) => parseFloat(at.getAttribute("font-size")) * $("#board svg").getScreenCTM().a;
+  return Math.min(...$$("#board .name, #board .amount").map(pixels));
+})()"""
+
+
+def on_a_phone(player):
+    """On a page that is 360 pixels wide names and amounts have at least 11, on any graph."""
+    player.size(360, 740)
+    for name in "petersen", "path_sixteen", "rich_sixteen", "houses", "triangle":
+        player.open_example(name, asks=False)
+        player.until("viewer.board.layout.original !== undefined")
+        expect(player.value(SIZES) > 10.9, f"letters of {player.value(SIZES):.1f} pixels on {name}")
+    player.size()
 
 
 def with_takings(player):
@@ -440,8 +538,8 @@ def of_one_player(folder):
     before = len(browser.asked)
     with played(EXAMPLES / "houses.json") as (_, (address,)):
         player = Player(browser, address, folder)
-        for part in (with_focus, in_sizes, by_mouse, by_touch, by_keys, by_seats, with_refusals, with_questions,
-                     with_many_lines, with_script, with_fire, with_tables, with_editor, with_takings, with_a_long_game):
+        for part in (with_focus, in_sizes, by_mouse, by_touch, by_a_voice, by_keys, by_seats, with_refusals, with_questions,
+                     with_many_lines, with_script, with_fire, with_tables, on_a_phone, with_an_end, with_editor, with_takings, with_a_long_game):
             part(player)
         browser.harmless(address, since=before)
     said = "There is no answer from board/play"

@@ -1,8 +1,10 @@
 """The table of a class, without a browser: one legal history, whatever pupils, strangers and accidents do."""
+import asyncio
 import contextlib
 import json
 import os
 import random
+import re
 import signal
 import statistics
 import subprocess
@@ -11,10 +13,11 @@ import time
 from pathlib import Path
 
 from browser import browsers
-from common import EXAMPLES, addresses, asked, is_modest, played, refused, started, swings, tell, text_of, together, written
+from common import EXAMPLES, PATIENCE, addresses, asked, is_modest, played, refused, started, swings, tell, text_of, together, written
+from dollar.board.server import address_of
 from helpers import equal, expect, tests_of
 from model import some_command
-from visitors import TABLE, PagePupil, Place, Pupil, a_class, program_of, taken
+from visitors import TABLE, PagePupil, Place, Pupil, Watcher, a_class, program_of, taken
 
 LONG, COMES_BACK = 60_000, 5.0
 PUPILS, LINES = 30, 100
@@ -79,6 +82,8 @@ def strangers(folder):
         equal(place.get("start", headers={"Host": f"localhost:{port}"})[0], 200, "localhost on loopback")
         typed = f"/{secret.replace('-', '').upper()}/start"
         equal(place.get(typed)[0], 200, "an address that is typed in capitals and without dashes")
+        leads = f'<!doctype html><meta http-equiv="refresh" content="0; url={secret}/">\n'
+        equal(place.get(f"/{secret}"), (200, leads), "an address without its last slash")
         of_another_form(place, ann, line)
         equal(ann.play("2 look"), (200, "bad word"), "a line with another seat in it")
         equal(desk.post("free", {"seat": ann.seat})[0], 200, "a seat is freed")
@@ -103,12 +108,11 @@ def without_secret(place, ann, line, wrong):
     secret = place.secret
     refused_alike(place, "without the secret", *(("GET", path) for path in (
         "/", "/start", "/events", f"/{wrong}/", f"/{wrong}/start", f"/{wrong}/events?from=0", f"/{wrong}/steps.txt",
-        f"/{secret}",
-        f"//{secret}/", f"/{secret}/../", f"/{secret}/%2e", f"/{secret}/x/start", f"/{secret}/class.py", f"/{secret}/steps.txt",
+        f"/{wrong}", f"//{secret}/", f"/{secret}/../", f"/{secret}/%2e", f"/{secret}/x/start", f"/{secret}/class.py", f"/{secret}/steps.txt",
         f"/{secret}/events?key=&from=0", f"/{secret}/events?key={wrong}&from=0", f"/{secret}/events?key={ann.key}&from=x",
         "/favicon.ico", "/robots.txt")))
     teachers = [("POST", path, {"seat": 1, "paused": True})
-                for path in ("pause", "free", "end", "again", "replay", "start", "")]
+                for path in ("pause", "free", "end", "again", "replay", "may", "door", "show", "table", "tables", "start", "")]
     refused_alike(place, "a pupil", ("POST", f"/{wrong}/line", line), ("POST", "/line", line), *teachers)
     keys = "", "1", wrong, "x" * 64, ann.key[:-1]
     refused_alike(place, "another seat", *(("POST", "line", {"key": key, "line": "claim", "seat": 1}) for key in keys))
@@ -150,14 +154,14 @@ def commands(folder):
     with a_class(folder, 3, "ann") as (_, _, desk, ann):
         equal(ann.play("look")[0], 200, "a line")
         desk.post("pause", {"paused": True})
-        stopped = 409, "The teacher has stopped the game for a while. This line was not played."
+        stopped = 409, "The teacher has paused the game. This line was not played."
         equal(ann.play("commit"), stopped, "a line meanwhile")
         ann.until(lambda pupil: pupil.states[-1]["paused"], "nobody is told of it")
         desk.post("pause", {"paused": False})
         expect(ann.play("commit")[1].split(" by ")[0] in ("1 winnable", "1 unwinnable"), f"a line after it: {ann.lines[-1]}")
         desk.post("end", {})
         equal(ann.play("claim"), (503, OVER), "a line after the end")
-        ann.until(lambda pupil: pupil.states[-1]["end"] == {"status": 0, "text": ""}, "nobody is told of the end")
+        ann.until(lambda pupil: pupil.states[-1]["ends"] == {"1": {"status": 0, "text": ""}}, "nobody is told of the end")
         equal(len(taken(desk, folder)[0]), 2, "the steps after the end")
         desk.post("again", {})
         equal(ann.play("claim")[0], 200, "a line after the game was begun again")
@@ -179,7 +183,8 @@ def deaths(folder):
         together(kill, *(lambda pupil=pupil: pupil.attend(lines_of(pupil.seat, 10000)) for pupil in others))
         for pupil in others:
             equal(pupil.lines[-1][1:], (503, OVER), "who plays is told")
-        first.until(lambda pupil: pupil.states[-1]["end"] == {"status": -9, "text": ""}, "nobody is told that it was killed")
+        first.until(lambda pupil: pupil.states[-1]["ends"] == {"1": {"status": -9, "text": ""}},
+                    "nobody is told that it was killed")
         before = len(taken(desk, folder)[0])
         equal(desk.post("again", {})[0], 200, "it is begun again")
         status, answer = first.play("commit")
@@ -191,49 +196,55 @@ def deaths(folder):
 
 
 def keeping(folder):
-    """A game that is kept outlasts board/play itself, with the looks that the seats had, also if it was killed while it
-    wrote."""
+    """A class that is kept outlasts board/play itself, with its addresses, its seats and the looks that they had, also if it was
+    killed while it wrote."""
     kept, table = Path(folder, "kept"), written(folder, "table.json", json.dumps(TABLE))
-    options = "--keep", kept
-    child = started(table, "--seats", "3", *options)
-    ann = Pupil(addresses(child)[0], "ann")
+    room, command = kept / "table1" / "room1", ["board", "--no-browser", table, "--class", "3", "--keep", kept]
+    child = started(*command[2:])
+    pupils, teacher = addresses(child)
+    Place(teacher).post("may", {"gifts": True})
+    ann = Pupil(pupils, "ann")
     statuses = [ann.play(line)[0] for line in ("look", "gift ann 1", "look", "lend zoe", "lend ann")]
     equal(statuses, [200] * 5, "lines that are kept")
+    refused(command, "is kept by a command that goes on", stdin=subprocess.DEVNULL)
+    equal((kept / "class.json").stat().st_mode & 0o777, 0o600, "who can read the keys")
     ann.leave()
     child.kill()
     child.communicate()
-    with open(kept / "steps.txt", "a") as file:
+    with open(room / "steps.txt", "a") as file:
         file.write("1 claim\n1 cl")
-    with a_class(folder, 3, "ann", options=options) as (_, place, desk, again):
-        again.until(lambda pupil: len(pupil.entries) == 4, "entries that came back")
-        equal(again.seat, 2, "the seat, since the first has a look of somebody else")
-        again.leave()
-        late = [Pupil(place.address, "late") for _ in range(2)]
-        expect("winnable" in late[1].play("commit")[1], f"the look was not kept: {late[1].lines}")
+    with played(*command[2:]) as (_, found):
+        equal(found, [pupils, teacher], "the addresses of a class that was kept")
+        desk, bob = Place(teacher), Pupil(pupils, "bob")
+        bob.until(lambda pupil: len(pupil.entries) == 4, "entries that came back")
+        bob.until(lambda pupil: pupil.states[-1]["names"]["1"]["name"] == "ann", "the names")
+        equal(bob.seat, 2, "the seat of who came after the accident")
+        expect("winnable" in ann.play("commit")[1], f"the look was not kept: {ann.lines}")
         steps = ["1 look", "1 gift ann 1", "1 look", "1 lend ann", "1 commit"]
         equal(taken(desk, folder)[0], steps, "the steps that were kept")
-        files = {name: text_of(kept / name) for name in ("steps.txt", "history.txt", "table.json")}
-        for name in "steps.txt", "history.txt":
-            equal(files[name], desk.get(name)[1], f"the {name} of a kept game")
-        for pupil in late:
-            pupil.leave()
+        files = {name: text_of(room / name) for name in ("steps.txt", "history.txt")}
+        for name, text in files.items():
+            equal(text, desk.get(name)[1], f"the {name} of a kept game")
+        bob.leave()
+    files["../table.json"] = text_of(room / ".." / "table.json")
     for name, text, word in (
             ("steps.txt", "9 look\n" + files["steps.txt"], "no seat"),
             ("history.txt", "0 won\n" + files["history.txt"], "as it did"),
-            ("table.json", text_of(EXAMPLES / "cube.json"), "another table")):
-        written(kept, name, text)
-        refused(["board", "--no-browser", table, "--seats", "3", *options], word, stdin=subprocess.DEVNULL)
-        equal(text_of(kept / name), text, "a file of a game that is not gone on with")
-        written(kept, name, files[name])
+            ("../table.json", text_of(EXAMPLES / "cube.json"), "another table")):
+        written(room, name, text)
+        refused(command, word, stdin=subprocess.DEVNULL)
+        equal(text_of(room / name), text, "a file of a game that is not gone on with")
+        written(room, name, files[name])
 
 
 def a_long_game(folder):
     """A kept game of 60,000 entries comes back soon: in half a second, if the machine has nothing else to do."""
-    table = written(folder, "table.json", json.dumps(TABLE))
-    steps = written(folder, "steps.txt", swings("ann", LONG))
-    written(folder, "history.txt", asked("rehearse", table, steps)[0])
+    table, room = written(folder, "table.json", json.dumps(TABLE)), Path(folder, "kept", "table1", "room1")
+    room.mkdir(parents=True)
+    steps = written(room, "steps.txt", swings("ann", LONG))
+    written(room, "history.txt", asked("rehearse", table, steps)[0])
     start = time.monotonic()
-    with played(table, "--seats", "3", "--keep", folder) as (_, (_, teacher)):
+    with played(table, "--class", "3", "--keep", Path(folder, "kept")) as (_, (_, teacher)):
         took = time.monotonic() - start
         equal(Place(teacher).get("history.txt")[1].count("\n"), LONG, "the entries that came back")
     expect(took < COMES_BACK, f"{LONG} entries come back in {took:.2f} s")
@@ -259,7 +270,7 @@ def full_history(folder):
     with short_histories(folder), a_class(folder, 2, "ann") as (_, _, desk, ann):
         equal([ann.play("claim")[0] for _ in range(6)], [200] * 5 + [503], "lines past the capacity")
         end = {"status": 3, "text": "the history is full"}
-        ann.until(lambda pupil: pupil.states[-1]["end"] == end, "nobody is told of it")
+        ann.until(lambda pupil: pupil.states[-1]["ends"] == {"1": end}, "nobody is told of it")
         equal(len(taken(desk, folder)[0]), 5, "the steps of a full history")
 
 
@@ -310,6 +321,70 @@ def clicks(folder):
         tell(f"a click: median {middle:.1f} ms, worst {1000 * max(waits):.1f} ms; memory {had} KiB")
 
 
+def teacher_here(folder):
+    """With --teacher-here the teacher's address is answered on this machine alone, and through no tunnel."""
+    table = written(folder, "table.json", json.dumps(TABLE))
+    words = "--class", "2", "--host", "0.0.0.0", "--teacher-here", "--name", "class.example"
+    with played(table, *words) as (_, (pupils, teacher)):
+        desk = Place(teacher)
+        equal((desk.host, desk.get("start")[0], desk.post("pause", {"paused": True})[0]), ("127.0.0.1", 200, 200), "the teacher here")
+        far = Place(f"http://{address_of('0.0.0.0')}:{desk.port}{desk.path}")
+        if far.host != desk.host:
+            for path in "", "start", "steps.txt":
+                equal(far.get(path)[0], 404, f"the teacher from elsewhere at {path}")
+            equal(far.post("pause", {"paused": False})[0], 404, "the teacher from elsewhere")
+        equal(desk.get("start", headers={"Host": "class.example"})[0], 404, "the teacher through a tunnel")
+        pupil = re.sub("^http://[^/]*", "", pupils)
+        equal(desk.get(f"{pupil}start", headers={"Host": "class.example"})[0], 200, "a pupil through a tunnel")
+        equal(far.get(f"{pupil}start")[0], 200, "a pupil from elsewhere")
+
+
+async def opened(place, path, wait=0.05):
+    """A file as a browser far away gets it: its request comes with the connection, some time after it was sent, and so does the
+    answer. Gives its path, whether it is whole, and the files that it names."""
+    await asyncio.sleep(wait)
+    reader, writer = await asyncio.open_connection(place.host, place.port)
+    writer.write(f"GET {place.path}{path} HTTP/1.1\r\nHost: {place.host}:{place.port}\r\n\r\n".encode())
+    await asyncio.sleep(wait)
+    try:
+        data = await asyncio.wait_for(reader.read(-1), PATIENCE)
+    except OSError:
+        data = b""
+    writer.close()
+    head, _, body = data.partition(b"\r\n\r\n")
+    length = re.search(rb"Content-Length: (\d+)", head)
+    return path, bool(length) and len(body) == int(length[1]), re.findall(rb'(?:module" src|stylesheet" href)="([\w.]+)"', body)
+
+
+async def all_opened(place):
+    """What so many browsers get that open a page at once: its files, beside connections that each opens and does not use."""
+    async def browser():
+        unused = [await asyncio.open_connection(place.host, place.port) for _ in range(5)]
+        found = [await opened(place, "")]
+        found += await asyncio.gather(*(opened(place, name.decode()) for name in found[0][2]))
+        found.append(await opened(place, "start"))
+        for _, writer in unused:
+            writer.close()
+        return found
+
+    return [file for files in await asyncio.gather(*(browser() for _ in range(SEATS))) for file in files]
+
+
+def opening(folder):
+    """As many browsers as there are seats open the address at once: all files come whole, and who watched before goes on."""
+    with a_class(folder, SEATS, "ann") as (_, place, _, ann):
+        watcher = Watcher(place)
+        watcher.until(lambda page: page.states, "a page that watches is told nothing")
+        found = asyncio.run(all_opened(place))
+        equal({path for path, _, _ in found}, {"", "page.css", "class.js", "start"}, "the files of a page")
+        cut = [path for path, whole, _ in found if not whole]
+        equal((len(found), cut), (4 * SEATS, []), "files that are cut")
+        ann.play("lend ann")
+        watcher.until(lambda page: len(page.entries) == 1, "who watched before is dropped")
+        expect(not watcher.ended.is_set(), "who watched before is dropped")
+        watcher.leave()
+
+
 def network(folder):
     """With --host the table is open to other machines, by the address of this one and by no other name."""
     with a_class(folder, 2, options=("--host", "0.0.0.0")) as (_, place, _):
@@ -321,5 +396,20 @@ def network(folder):
         equal(Pupil(place.address, "ann", events=False).play("claim")[1], "0 not won", "a line from the network")
 
 
+def other_names(folder):
+    """With --name the class answers to other names, of this machine or of a tunnel, and to no more."""
+    table = written(folder, "table.json", json.dumps(TABLE))
+    with played(table, "--class", "2", "--name", "vm", "--name", "class.example:8080") as (_, (pupils, _)):
+        port, path = re.match(r"http://vm:(\d+)(/.*/)", pupils).groups()
+        place = Place(f"http://127.0.0.1:{port}{path}")
+        for host, status in ((f"vm:{port}", 200), ("vm", 200), ("VM", 200), ("class.example:8080", 200), (f"127.0.0.1:{port}", 200),
+                             ("class.example", 404), (f"class.example:{port}", 404), ("vm.example", 404), ("vm:1", 404)):
+            equal(place.get("start", headers={"Host": host})[0], status, f"the name {host}")
+        for host, origin, status in (("vm", "https://vm", 200), ("vm", "http://vm", 200), ("vm", "http://class.example:8080", 404),
+                                     (f"127.0.0.1:{port}", f"https://127.0.0.1:{port}", 404), ("vm", None, 404)):
+            given = {"Host": host, "Origin": origin}
+            equal(place.post("join", {"name": "ann", "browser": "b" * 24}, headers=given)[0], status, f"{origin} at {host}")
+
+
 load_tests = tests_of(many_pupils, network, strangers, commands, deaths, keeping, a_long_game, full_history, floods, clicks,
-                      given=tempfile.TemporaryDirectory)
+                      opening, other_names, teacher_here, given=tempfile.TemporaryDirectory)

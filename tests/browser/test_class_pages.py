@@ -2,16 +2,20 @@
 import collections
 import json
 import os
+import re
 import signal
 import tempfile
+import time
 
 from browser import LISTED, READY, Page, at, needed
-from common import EXAMPLES, played
+from common import EXAMPLES, played, tell
 from helpers import equal, expect, tests_of
-from visitors import PagePupil, Place, program_of, taken
+from visitors import PagePupil, Place, Pupil, program_of, taken
 
 # Two pupils' pages and the teacher's; the process of the server, and the teacher's address.
 Lesson = collections.namedtuple("Lesson", "ann bob desk child place")
+SEEN = """[texts("#board .amount"), viewer.game.names.map((name) => String(viewer.game.states.at(-1).amounts.get(name))),
+  $$("#board .coin").length]"""
 NO_LOOK = "This seat has not looked since its last verdict. It looks first."
 
 
@@ -77,10 +81,10 @@ def with_commands(lesson):
     """The teacher stops the game for a while; the program is killed and begun again; the files are taken along."""
     ann, bob, desk, child, place = lesson
     desk.click("#pause")
-    ann.told("The teacher has stopped the game for a while.")
+    ann.told("The teacher has paused the game.")
     ann.click(at("cyd"))
     ann.until("$('#refused').textContent.includes('was not played')")
-    desk.until("$('#pause').textContent === 'Let the game go on'")
+    desk.until("$('#pause').textContent === 'Resume the game'")
     desk.click("#pause")
     ann.until("$('#notice').hidden && $('#refused').hidden")
     os.kill(program_of(child), signal.SIGKILL)
@@ -88,13 +92,14 @@ def with_commands(lesson):
         page.told("The program has ended: it was killed.")
     desk.until("!$('#again').hidden")
     desk.click("#again")
-    ann.until("$('#notice').hidden")
+    for page in ann, bob:
+        page.until("$('#notice').hidden")
     bob.click("#commit")
     ann.has(6)
     expect("winnable" in ann.text("#said"), f"the look of before is not kept: {ann.text('#said')}")
     for name in "table.json", "steps.txt", "history.txt":
         equal(desk.saved(f"#take-{name.partition('.')[0]}", name), place.get(name)[1], f"the saved {name}")
-    desk.saved("#take-page", "game.html")
+    expect('id="names">["Zo\\u00eb", "<img' in desk.saved("#take-page", "game.html").replace("\\u003c", "<"), "the names in a saved page")
     entries = [list(pair) for pair in zip(*taken(place, desk.folder))]
     equal(ann.value(LISTED), entries, "the history on a pupil's page")
     ann.value("viewer.go(1)")
@@ -102,9 +107,32 @@ def with_commands(lesson):
     ann.press("End")
 
 
+def on_a_busy_table(lesson):
+    """While others play, the board shows the amounts of now, and coins run above it only if there is time for them."""
+    ann, *_ = lesson
+    other, looks = Pupil(ann.value("location.href"), "busy", events=False), []
+    ann.value("viewer.go(viewer.game.length)")
+    ann.media(motion="no-preference")
+    time.sleep(1.2)
+    for pause in [0.9] * 4 + [0.4] * 8 + [0.1] * 20:
+        _, answer = other.play(f"lend {('ann', 'cyd')[len(looks) % 2]}")
+        time.sleep(0.1)
+        shown, known, coins = ann.value(SEEN)
+        equal(shown, known, "the amounts on the board, beside those that the page was told")
+        looks.append((shown == re.findall(r"=(-?\d+)", answer), coins > 0))
+        time.sleep(pause)
+    right = sum(fine for fine, _ in looks)
+    # A busy machine may take longer. With the amounts from before each move it was 14 to 61 of 100.
+    expect(right >= 0.7 * len(looks), f"of {len(looks)} looks {right} saw the amounts of now")
+    expect(looks[0][1] and not any(coins for _, coins in looks[-15:]), f"coins: {[coins for _, coins in looks]}")
+    ann.until("$$('#board .coin').length === 0")
+    ann.media()
+    tell(f"of {len(looks)} looks 0.1 s after an entry {right} saw the amounts of now")
+
+
 def of_the_pages_of_a_class(folder):
     browsers = one, two, desk = needed()
-    with played(EXAMPLES / "houses.json", "--seats", "3") as (child, (pupils, teacher)):
+    with played(EXAMPLES / "houses.json", "--class", "3") as (child, (pupils, teacher)):
         for browser in browsers:
             browser.media()
             browser.size()
@@ -121,7 +149,11 @@ def of_the_pages_of_a_class(folder):
                     for given in ((one, pupils, "Zo\u00eb"), (two, pupils, "<img src=x onerror=p()>")))
         page = Page(desk, teacher, os.path.join(folder, "desk"))
         page.until("state !== null")
-        for part in with_entries, with_seats, with_commands:
+        for switch in "gifts", "edges":
+            page.value("$$('#teacher details').forEach((at) => { at.open = true; })")
+            page.click(f"#may-{switch}")
+            ann.until(f"state.may.{switch} && !$('#gift-form').hidden")
+        for part in with_entries, with_seats, with_commands, on_a_busy_table:
             part(Lesson(ann, bob, page, child, Place(teacher)))
         one.in_sizes("pupil")
         desk.in_sizes("teacher")

@@ -11,7 +11,7 @@ from pathlib import Path
 
 from browser import browsers
 from common import written
-from dollar.board.pages import WEB, part
+from dollar.board.pages import ROOTS, WEB, one_script, part
 from helpers import equal, tests_of
 
 
@@ -35,6 +35,16 @@ def in_browser(place, browser):
     return found
 
 
+def whole_scripts(folder):
+    """The modules of a page as one script are a module, in which no name is given twice."""
+    if not shutil.which("node"):
+        raise unittest.SkipTest("the tests of the pages' modules as one, for want of node")
+    for name in (*ROOTS, "replay.js"):
+        place = written(folder, name.replace(".js", ".mjs"), one_script(name, exports=name in ROOTS))
+        done = subprocess.run(["node", "--check", place], stderr=subprocess.PIPE, text=True, timeout=60)
+        equal((done.returncode, done.stderr), (0, ""), f"the script of {name}")
+
+
 def modules(folder):
     place = shutil.copytree(WEB, Path(folder, "modules"))
     shutil.copy(Path(__file__).with_name("pure.js"), place)
@@ -48,4 +58,4 @@ def modules(folder):
         equal(in_browser(place, browser), [], "the modules in a browser")
 
 
-load_tests = tests_of(modules, given=tempfile.TemporaryDirectory)
+load_tests = tests_of(modules, whole_scripts, given=tempfile.TemporaryDirectory)

@@ -7,6 +7,7 @@ import time
 
 from common import EXAMPLES, text_of
 from dollar import places as module
+from dollar.drawing import USUAL, layout
 from dollar.places import places, places_of_text
 from helpers import equal, expect, tests_of
 
@@ -106,8 +107,23 @@ def other_graphs():
         equal(places(order, [[v, u, 2] for u, v in edges]), found, "places at another run")
         expect(apart(found) > 0.1, f"the vertices of a graph of {size} are {apart(found):.3f} apart")
         expect(took < MOST_SECONDS, f"places of a graph of {size} take {took:.2f} s")
+        equal(through(order, edges), [], f"edges of a graph of {size} through the circles of others")
         parts = [part for place in found.values() for part in place]
         expect(all(math.isfinite(part) and abs(part) <= 1.5 for part in parts), "places out of bounds")
+
+
+def through(names, edges):
+    """The vertices through whose circles, as a page draws them, edges of others go."""
+    drawn = layout({"vertices": names, "edges": edges}, USUAL)
+    at, radius = drawn["places"], drawn["radius"]
+    return [(name, u, v) for u, v in edges if u != v for name in names if name not in (u, v) and aside(at[name], at[u], at[v]) <= radius]
+
+
+def aside(point, one, other):
+    """How far a point is from the line between two others."""
+    (x, y), (a, b), (c, d) = point, one, other
+    part = min(1, max(0, ((x - a) * (c - a) + (y - b) * (d - b)) / math.dist(one, other) ** 2))
+    return math.hypot(x - a - part * (c - a), y - b - part * (d - b))
 
 
 def examples():

@@ -281,7 +281,7 @@ def with_places(browser, folder):
     (_, ax, ay), (_, bx, by), (_, cx, cy) = browser.value(SHOWN)["at"]
     expect(ay == by and bx == cx and abs((cy - by) * 2 - (bx - ax)) <= 1, "the vertices stand elsewhere")
     for text in ("a 0 0\nb 1 0\n", "a 0 0\nb 1 0\nc x 1\n", "a 0 0\nb 1 0\nc 1\n", "a 0 0\nb 0 0\nc 1 1\n", "d 0 0\n",
-                 "a nan 0\n"):
+                 "a nan 0\n", "a 0 0\nb 1e-300 0\nc 1 1\n", "a 0 0\nb 0.0000001 0\nc 1000000 0\n"):
         for name, given in ("replay", words), ("draw", words[:1]):
             refused([name, "--places", written(folder, "places", text), *given])
 

@@ -20,7 +20,7 @@ from common import (EXAMPLES, PACKAGE, PLAY, TRIANGLE, addresses, asked, is_mode
 from helpers import equal, expect, tests_of
 from visitors import TABLE, Place, Pupil, a_class, taken
 
-REQUESTS, TOGETHER, SEED = 2000, 250, 20260
+REQUESTS, TOGETHER, SEED = 3000, 250, 20260
 SILENT, MOST_KEPT = 700, 350
 # A head has 5 seconds, a body 8, and a second goes by at the end.
 LATEST = 12.0
@@ -31,7 +31,7 @@ NOT_CONNECTED = '{"vertices":["a","b"],"edges":[],"amounts":[0,0],"q":"a"}'
 def honest(place, key, draw):
     """A request of a page, with the secret or without it, as its head and its body."""
     path = draw.choice([place.path, f"/{'x' * 32}/", "/"]) + draw.choice(
-        ["", "start", "line", "join", "events", "page.css", f"events?from=0&key={key}"])
+        ["", "start", "line", "join", "undo", "table", "tables", "events", "page.css", f"events?from=0&key={key}"])
     thing = draw.choice([{"key": key, "line": "look"}, {"key": "x", "line": "claim"}, {"name": "n"}])
     method = draw.choice(["GET", "POST"])
     body = json.dumps(thing).encode() if method == "POST" else b""
@@ -102,9 +102,10 @@ async def send(place, data, slowly):
                 await asyncio.sleep(0.3)
         while True:
             piece = await asyncio.wait_for(reader.read(1 << 16), LATEST)
+            got = (got + piece)[:4096]
+            # A stream goes on, and is left here.
             if not piece or b"event-stream" in got:
                 break
-            got = (got + piece)[:4096]
     except asyncio.TimeoutError:
         return 2 * LATEST, got
     except OSError:
@@ -129,8 +130,8 @@ async def send_all(place, key):
 
 
 def damaged_requests(folder):
-    """2,000 damaged requests to the table of a class."""
-    with a_class(folder, 40, "ann", "bob") as (child, place, desk, ann, bob):
+    """3,000 damaged requests to a class in rooms."""
+    with a_class(folder, 40, "ann", "bob", options=("--rooms", "1")) as (child, place, desk, ann, bob):
         waits, over = [], threading.Event()
 
         def play_on():
@@ -193,7 +194,7 @@ def without_secret(place, question):
     """The same answer to all that has no secret, or comes from elsewhere."""
     evil = "evil.example"
     for request in (
-            ("GET", "/"), ("GET", "/start"), ("GET", f"/{place.secret}"), ("GET", f"/{place.secret}/alone.py"),
+            ("GET", "/"), ("GET", "/start"), ("POST", f"/{place.secret}", question), ("GET", f"/{place.secret}/alone.py"),
             ("GET", f"/{place.secret}/../play"), ("POST", "/ask", question),
             ("POST", "ask", question, {"Origin": f"http://{evil}"}),
             ("POST", "ask", question, {"Origin": None}), ("GET", "start", None, {"Host": f"{evil}:{place.port}"}),
@@ -248,6 +249,7 @@ def no_questions(place, ask, table, key):
             {"command": "judge", "table": "x" * ((1 << 21) + 1)}, {"command": "judge", "table": "\ud800"},
             {"command": "layout", "table": table, "places": "a x y"}):
         equal(place.post("ask", given)[0], 400, f"the question {given!r:.60}")
+    equal(ask(command="rank", table=table, degree="1\0")[1]["status"], None, "a degree that is no word")
     for command, text, fault in (
             ("judge", "\u00e4", "not JSON"), ("judge", " " * ((1 << 20) + 1), "file too long"),
             ("layout", "[" * 5000, "not JSON")):
@@ -273,7 +275,7 @@ def server_of_one_player(folder):
         equal(ask(command="judge", table=table)[1]["status"], 0, "the server after many questions")
         is_modest(child, MOST_MEMORY)
     places = written(folder, "places", "a 0 0\nb 10 0\nc 10 5\n")
-    for words in [], ["--seats", "2"]:
+    for words in [], ["--class", "2"]:
         with played(TRIANGLE, "--places", places, *words) as (_, found):
             (ax, ay), (bx, by), (cx,
                                  cy) = (json.loads(Place(found[0]).get("start")[1])["layout"]["places"][name] for name in "abc")
@@ -283,13 +285,14 @@ def server_of_one_player(folder):
 def command_line(folder):
     """What board/play is given is refused in one line, and a reader that goes away is no fault."""
     bad, cube = written(folder, "bad.json", NOT_CONNECTED), EXAMPLES / "cube.json"
-    for words in ([bad], ["/nowhere"], [folder], [bad, "--seats", "3"], [cube, "--places", bad],
-                  [cube, "--seats", "3", "--host", "198.51.100.7"], [written(folder, "bytes", "\0")]):
+    for words in ([bad], ["/nowhere"], [folder], [bad, "--class", "3"], [cube, "--places", bad],
+                  [cube, "--class", "3", "--host", "198.51.100.7"], [written(folder, "bytes", "\0")]):
         done = subprocess.run([*PLAY, *words], capture_output=True, text=True, stdin=subprocess.DEVNULL, timeout=60)
         fine = (done.returncode, done.stdout, done.stderr.count("\n")) == (1, "", 1) and done.stderr.startswith("dollar board ")
         expect(fine, f"board/play {words}: {done}")
-    for words in (["--seats", "0"], ["--seats", "65"], ["--seats", "x"], ["--port", "70000"], ["--host", "127.0.0.1"],
-                  ["a", "b"]):
+    for words in (["--class", "0"], ["--class", "65"], ["--class", "x"], ["--port", "70000"], ["--host", "127.0.0.1"],
+                  ["a", "b"], ["--class", "2", "--name", "a/b"], ["--rooms", "1"],
+                  ["--class", "2", "--teacher-here"]):
         done = subprocess.run([*PLAY, *words], capture_output=True, text=True, stdin=subprocess.DEVNULL, timeout=60)
         equal((done.returncode, done.stdout), (2, ""), f"board/play {words}")
     for words in ["draw", cube], ["replay", EXAMPLES / "village.json", EXAMPLES / "village_story.txt"]:
@@ -313,12 +316,12 @@ def ends_of_play(folder):
         os.write(one, end)
         expect(child.wait(20) == 0 and child.stderr.read() == b"", f"Ctrl-{chr(end[0] + 64)} does not end it well")
         os.close(one)
-    child = started(written(folder, "table.json", json.dumps(TABLE)), "--seats", "2")
+    child = started(written(folder, "table.json", json.dumps(TABLE)), "--class", "2")
     pupils, _ = addresses(child)
     ann = Pupil(pupils, "ann", events=False)
     ann.play("look")
     child.send_signal(signal.SIGINT)
-    said = "Entries that were not taken along from the teacher's page: 1. Once more ends the game, and drops them.\n"
+    said = "Entries that were not saved from the teacher's page: 1. Once more ends the game, and drops them.\n"
     equal(child.stdout.readline(), said, "Ctrl-C in a game")
     equal(ann.play("commit")[0], 200, "the game after the first Ctrl-C")
     child.send_signal(signal.SIGINT)

@@ -78,19 +78,17 @@ class Place:
         return self.sent(f"GET {self.path}events?key={key}&from={number}")
 
 
-class Pupil:
-    """Somebody with a seat, and the events that come to his page."""
+class Listener:
+    """What comes to a page: the table, the entries, and what else goes on."""
 
-    def __init__(self, address, name, events=True):
-        self.place, self.name, self.entries, self.states, self.lines = Place(address), name, [], [], []
-        status, got = self.place.post("join", {"name": name})
-        if status != 200:
-            raise ValueError(got)
-        self.seat, self.key = got["seat"], got["key"]
+    def __init__(self, place):
+        self.place, self.entries, self.states, self.tables, self.items = place, [], [], [], 0
         self.link, self.ended = None, threading.Event()
-        if events:
-            self.link = self.place.events(self.key)
-            threading.Thread(target=self.read, args=[self.link.makefile("rb")], daemon=True).start()
+
+    def listen(self, path):
+        self.link = self.place.sent(f"GET {self.place.path}{path}")
+        threading.Thread(target=self.read, args=[self.link.makefile("rb")], daemon=True).start()
+        return self
 
     def read(self, stream):
         """Takes the events as they come."""
@@ -106,11 +104,65 @@ class Pupil:
 
     def take(self, kind, thing):
         if kind == "entries":
-            start, entries = thing
-            equal(start, len(self.entries), f"where the entries for seat {self.seat} go on")
-            self.entries += [entry[:3] for entry in entries]
+            start, items = thing
+            equal(start, self.items, "where the entries go on")
+            self.items += len(items)
+            for item in items:
+                self.take_item(*item)
+        elif kind == "table":
+            self.tables.append(thing)
+            self.entries, self.items = [], 0
         else:
             self.states.append(thing if kind == "state" else kind)
+
+    def take_item(self, room, seat, line, *more):
+        """An entry, or that a game was taken back to so many entries."""
+        if len(more) == 2:
+            self.entries.append([seat, line, more[0]])
+        else:
+            del self.entries[seat:]
+
+    def until(self, wanted, what):
+        """Waits until something is so of what has come."""
+        expect(waited(lambda: wanted(self)), f"{what}: {self.states[-1:]}")
+
+    def leave(self):
+        if self.link:
+            with contextlib.suppress(OSError):
+                self.link.shutdown(socket.SHUT_RDWR)
+            self.link.close()
+
+
+class Watcher(Listener):
+    """A page without a seat, to which the entries of all rooms come."""
+
+    def __init__(self, place):
+        super().__init__(place)
+        self.rooms = {}
+        self.listen("events?from=0")
+
+    def take(self, kind, thing):
+        if kind == "table":
+            self.rooms = {}
+        super().take(kind, thing)
+
+    def take_item(self, room, *item):
+        self.entries = self.rooms.setdefault(room, [])
+        super().take_item(room, *item)
+
+
+class Pupil(Listener):
+    """Somebody with a seat, and the events that come to his page."""
+
+    def __init__(self, address, name, events=True, **given):
+        super().__init__(Place(address))
+        self.name, self.lines = name, []
+        status, got = self.place.post("join", {"name": name, **given})
+        if status != 200:
+            raise ValueError(got)
+        self.seat, self.key = got["seat"], got["key"]
+        if events:
+            self.listen(f"events?key={self.key}&from=0")
 
     def play(self, line):
         """The status and the answer to a line; it is asked again while it is told to be too fast."""
@@ -128,21 +180,11 @@ class Pupil:
             if self.play(line)[0] == 503:
                 return
 
-    def until(self, wanted, what):
-        """Waits until something is so of this pupil."""
-        expect(waited(lambda: wanted(self)), f"{what}: {self.states[-1:]}")
-
     def timed(self, line, what):
         """The seconds until a line is answered, which has to be taken."""
         start = time.monotonic()
         equal(self.play(line)[0], 200, what)
         return time.monotonic() - start
-
-    def leave(self):
-        if self.link:
-            with contextlib.suppress(OSError):
-                self.link.shutdown(socket.SHUT_RDWR)
-            self.link.close()
 
 
 class PagePupil(Page):
@@ -155,6 +197,7 @@ class PagePupil(Page):
         self.lines = []
         self.join(name, "Enter")
         self.key = self.value("me.key")
+        self.value("$$('details').forEach((at) => { at.open = true; })")
 
     def join(self, name, key):
         """Takes a seat."""
@@ -190,11 +233,12 @@ class PagePupil(Page):
 
 
 @contextlib.contextmanager
-def a_class(folder, seats, *names, options=()):
+def a_class(folder, seats, *names, options=(), may=("gifts", "edges")):
     """A class at a table: the process of the server, its places for pupils and for the teacher, and a pupil of each name, who
-    leave at the end."""
+    leave at the end. What the teacher has to permit is permitted."""
     table = written(folder, "table.json", json.dumps(TABLE))
-    with played(table, "--seats", str(seats), *options) as (child, (pupils, teacher)):
+    with played(table, "--class", str(seats), *options) as (child, (pupils, teacher)):
+        Place(teacher).post("may", dict.fromkeys(may, True))
         room = [Pupil(pupils, name) for name in names]
         try:
             yield (child, Place(pupils), Place(teacher), *room)
@@ -203,9 +247,10 @@ def a_class(folder, seats, *names, options=()):
                 pupil.leave()
 
 
-def taken(teacher, folder):
-    """The steps and the history that the teacher takes along, after it was seen that the program plays the one to the other."""
-    table, steps, history = (teacher.get(name)[1] for name in ("table.json", "steps.txt", "history.txt"))
+def taken(teacher, folder, room=1):
+    """The steps and the history of a room that the teacher takes along, after it was seen that the program plays the one to the
+    other."""
+    table, steps, history = (teacher.get(f"{name}?room={room}")[1] for name in ("table.json", "steps.txt", "history.txt"))
     printed, said, status = asked("rehearse", written(folder, "t", table), written(folder, "s", steps))
     equal((said, status), ("", 0), "rehearse of the steps of a class")
     equal(printed.splitlines(), history.splitlines(), "the history of a class, played again")

@@ -1,6 +1,5 @@
 """`dollar sweep` on a cluster of two worker processes of its own, one of which is killed in the middle: the rows are those of one run of
-the program. And it goes on with a sweep that was interrupted within a row."""
-import argparse
+the program. And it goes on with a sweep that was interrupted within a row, and refuses the rows of another file."""
 import csv
 import io
 import json
@@ -8,12 +7,16 @@ import os
 import random
 import signal
 import subprocess
+import sys
+import zlib
 from unittest import mock
 
-from dollar import cluster
+import dollar
+from dollar import Table, cluster
 from helpers import PACKAGE, Test, needed, program
 
-SIZE, CHUNK, AT = 20_000, 200, 8_000
+SIZE, AT = 20_000, 8_000
+RING = {"vertices": ["a", "b", "c"], "edges": [["a", "b", 1], ["b", "c", 1], ["a", "c", 1]], "amounts": [0, 0, 0], "q": "a"}
 
 
 def line(rng, number):
@@ -27,47 +30,108 @@ def line(rng, number):
     return json.dumps({"vertices": names, "edges": edges, "amounts": [rng.randint(-3, 4) for _ in names], "q": names[0]}) + "\n"
 
 
-def alone(place):
-    """The file of a sweep, as one run of the program on one core makes it."""
-    answers = subprocess.run([program(), "judge", "--lines", place], stdout=subprocess.PIPE, text=True, check=True).stdout
+def alone(kind, words, lines, start=0):
+    """The file of a sweep, as the answers of one run of the program on one core make it, with what is found as `to_csv` has it."""
+    answers = subprocess.run([program(), *words], input="".join(lines), stdout=subprocess.PIPE, text=True, check=True).stdout
+    found = io.StringIO()
+    rows = list(csv.reader(io.StringIO(csv_of(kind, answers))))
+    writer = csv.writer(found, lineterminator="\n")
+    writer.writerow(["line", "crc32", *rows[0][1:]])
+    for number, (row, text) in enumerate(zip(rows[1:], lines), 1):
+        writer.writerow([number, "%08x" % zlib.crc32(text.encode(), start), *row[1:]])
+    return found.getvalue().encode()
+
+
+def csv_of(kind, answers):
+    """A CSV file of the package for these answers of the program."""
     file = io.StringIO()
-    writer = csv.writer(file, lineterminator="\n")
-    writer.writerow(cluster.HEADER)
-    writer.writerows(cluster.row(number, answer) for number, answer in enumerate(answers.splitlines(), 1))
-    return file.getvalue().encode()
-
-
-def swept(words, kill=False):
-    """The file after a sweep with two workers; before the row AT, one of them is killed where that is wanted."""
-    distributed = needed("distributed")
-    options = dict(n_workers=2, threads_per_worker=1, dashboard_address=None, silence_logs=50)
-    with distributed.LocalCluster(**options) as workers, distributed.Client(workers) as client:
-        row = cluster.row
-
-        def row_after_killing(number, answer):
-            if kill and number == AT:
-                os.kill(workers.workers[0].pid, signal.SIGKILL)
-            return row(number, answer)
-
-        with mock.patch.object(cluster, "row", row_after_killing):
-            cluster.sweep(client, words)
-    with open(words.csv, "rb") as file:
-        return file.read()
+    read = {"judge": dollar.answers.verdict_of, "rank": dollar.answers.rank_test_of, "rr": dollar.answers.riemann_roch_of}[kind]
+    refused = {"judge": dollar.RefusedVerdict, "rank": dollar.RefusedRankTest, "rr": dollar.RefusedRiemannRoch}[kind]
+    dollar.to_csv((refused(refused=text[8:]) if text.startswith("refused ") else read(text) for text in answers.splitlines()), file)
+    return file.getvalue()
 
 
 class OfAClusterOfTwo(Test):
-    def test_a_sweep_outlives_a_worker_and_an_interrupt(self):
+    def swept(self, *words, kill=False):
+        """The file after a sweep with two workers; before the row AT, one of them is killed where that is wanted."""
+        distributed = needed("distributed")
+        given = cluster.words_of(list(map(str, words)))
+        options = dict(n_workers=2, threads_per_worker=1, dashboard_address=None, silence_logs=50)
+        with distributed.LocalCluster(**options) as workers, distributed.Client(workers) as client:
+            row = cluster.row
+
+            def row_after_killing(command, number, checksum, answer):
+                if kill and number == AT:
+                    os.kill(workers.workers[0].pid, signal.SIGKILL)
+                return row(command, number, checksum, answer)
+
+            with mock.patch.object(cluster, "row", row_after_killing):
+                cluster.swept(client, cluster.sweep_of(given, program()), given.csv)
+        with open(given.csv, "rb") as file:
+            return file.read()
+
+    def setUp(self):
         needed("distributed")
         # The workers have the package too.
         os.environ["PYTHONPATH"] = str(PACKAGE)
-        folder, rng = self.folder(), random.Random(1)
-        place, kept = folder / "tables.txt", folder / "answers.csv"
-        place.write_text("".join(line(rng, number) for number in range(1, SIZE + 1)))
-        words = argparse.Namespace(program=program(), chunk=CHUNK, file=place, csv=kept)
-        wanted = alone(place)
+        self.place, rng = self.folder(), random.Random(1)
+        self.tables = [line(rng, number) for number in range(1, SIZE + 1)]
+        self.file = self.place / "tables.txt"
+        self.file.write_text("".join(self.tables))
+
+    def test_a_sweep_outlives_a_worker_and_an_interrupt(self):
+        kept = self.place / "answers.csv"
+        wanted = alone("judge", ["judge", "--lines", "/dev/stdin"], self.tables)
         self.assertEqual(wanted.count(b"\n"), SIZE + 1)
-        self.assertEqual(swept(words, kill=True), wanted)
-        with open(kept, "r+b") as file:
-            file.truncate(len(wanted) // 3)
-        self.assertEqual(swept(words), wanted)
-        self.assertEqual(swept(words), wanted)
+        self.assertEqual(self.swept("judge", self.file, kept, kill=True), wanted)
+        for size in (len(wanted) // 3, 10, 0):
+            os.truncate(kept, size)
+            self.assertEqual(self.swept("judge", self.file, kept), wanted)
+        self.assertEqual(self.swept("judge", self.file, kept), wanted)
+
+    def test_the_other_commands(self):
+        few = self.place / "few.txt"
+        few.write_text("".join(self.tables[990:1_400]).rstrip("\n"))
+        self.assertEqual(self.swept("rank", few, 2, self.place / "rank.csv"),
+                         alone("rank", ["rank", "--lines", "/dev/stdin", "2"], self.tables[990:1_400]))
+        self.assertEqual(self.swept("rr", few, self.place / "rr.csv"), alone("rr", ["rr", "--lines", "/dev/stdin"], self.tables[990:1_400]))
+        ring, lines = self.place / "ring.json", self.place / "lines.txt"
+        ring.write_text(json.dumps(RING))
+        amounts = ["%d %d %d\n" % (a, b, c) for a in range(-3, 4) for b in range(-3, 4) for c in range(-3, 4)] + ["1 2\n"]
+        lines.write_text("".join(amounts))
+        for command, more in (("judge", []), ("rank", [1]), ("rr", [])):
+            self.assertEqual(
+                self.swept(command, ring, *more, "--divisors", lines, self.place / ("divisors_%s.csv" % command)),
+                alone(command, [command, ring, *map(str, more), "--divisors", "/dev/stdin"], amounts, zlib.crc32(ring.read_bytes())))
+
+    def test_rows_of_another_sweep_are_refused(self):
+        few, other, ring, lines = (self.place / name for name in ("few.txt", "other.txt", "ring.json", "lines.txt"))
+        few.write_text("".join(self.tables[:100]))
+        other.write_text("".join(self.tables[:50] + self.tables[60:]))
+        ring.write_text(json.dumps(RING))
+        lines.write_text("1 2 3\n" * 100)
+        kept = self.place / "kept.csv"
+        before = self.swept("judge", few, kept)
+        divided = self.place / "divided.csv"
+        self.swept("judge", ring, "--divisors", lines, divided)
+        ring_2 = self.place / "ring_2.json"
+        ring_2.write_text(json.dumps(Table(RING, q="b").to_dict()))
+        for words, row in ((["judge", other, kept], "row 51 of "), (["rr", few, kept], "no CSV file of this sweep"),
+                           (["judge", ring, "--divisors", lines, kept], "row 1 of "), (["judge", ring_2, "--divisors", lines, divided], "row 1 of ")):
+            size = os.path.getsize(words[-1])
+            with self.assertRaisesRegex(ValueError, row + ".*; nothing was changed"):
+                self.swept(*words)
+            self.assertEqual(os.path.getsize(words[-1]), size)
+        # A file to which lines were added is gone on with.
+        few.write_text("".join(self.tables[:200]))
+        after = self.swept("judge", few, kept)
+        self.assertTrue(after.startswith(before))
+        self.assertEqual(after.count(b"\n"), 201)
+
+    def test_it_says_that_a_sweep_is_small(self):
+        few = self.place / "few.txt"
+        few.write_text("".join(self.tables[:10]))
+        done = subprocess.run([sys.executable, "-m", "dollar", "sweep", "--processes", "1", "judge", few, self.place / "few.csv"],
+                              stderr=subprocess.PIPE, text=True, env=dict(os.environ, DOLLAR=program()))
+        self.assertEqual(done.returncode, 0)
+        self.assertIn("too little for a cluster, and one run of `dollar judge` with --lines does it sooner", done.stderr)

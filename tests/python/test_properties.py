@@ -109,7 +109,7 @@ class OfProperties(Test):
                 Table.graph6(line)
             return
         pairs = [(u, v) for v in range(size) for u in range(v)]
-        edges = tuple((str(u), str(v), 1) for (u, v), bit in zip(pairs, bits) if bit)
+        edges = tuple((u, v, 1) for (u, v), bit in zip(pairs, bits) if bit)
         self.assertTrue(Table.graph6(line).edges == Table.graph6((">>graph6<<%s\n" % line).encode()).edges == edges)
 
     @QUICK

@@ -1,13 +1,11 @@
 """Sweeps: in order, lazy, in the thread of the caller, and whatever goes wrong is told after the answers before it."""
+import contextlib
+import io
 import itertools
 import os
 import sqlite3
-import sys
 import threading
 import time
-import types
-from unittest import mock
-
 
 import dollar
 from dollar import Fault, Refused, Table
@@ -25,7 +23,7 @@ def pairs(count):
 def verdict_by_hand(table):
     first, second = table.amounts
     lent = second // 2
-    return ("winnable" if first + 2 * lent >= 0 else "unwinnable", {"0": 0, "1": lent}, {"0": first + 2 * lent, "1": second - 2 * lent})
+    return ("winnable" if first + 2 * lent >= 0 else "unwinnable", {0: 0, 1: lent}, {0: first + 2 * lent, 1: second - 2 * lent})
 
 
 def descriptors():
@@ -119,14 +117,11 @@ class OfSweeps(Test):
         self.assertEqual(caught.exception.status, 4)
 
     def test_progress(self):
-        with mock.patch.dict(sys.modules, {"tqdm.auto": None}), self.assertWarnsRegex(UserWarning, "tqdm is not here"):
-            self.assertEqual(len(list(dollar.judge_all(pairs(3), progress=True))), 3)
-        seen = []
-
-        def bar(tables, unit):
-            for table in tables:
-                seen.append(table)
-                yield table
-
-        with mock.patch.dict(sys.modules, {"tqdm.auto": types.SimpleNamespace(tqdm=bar)}):
-            self.assertTrue(len(list(dollar.judge_all(pairs(3), progress=True))) == len(seen) == 3)
+        for shown in (lambda: list(dollar.judge_all(pairs(3), progress=True)),
+                      lambda: dollar.judge_all(PAIR, divisors=[[0, 0]] * 3, progress=True).columns()):
+            with contextlib.redirect_stderr(io.StringIO()) as said:
+                self.assertEqual(len(shown()), 3)
+            self.assertEqual(said.getvalue().split("\r")[-1], "3 answers\n")
+        with contextlib.redirect_stderr(io.StringIO()) as said:
+            list(dollar.judge_all(pairs(3)))
+        self.assertEqual(said.getvalue(), "")

@@ -105,8 +105,9 @@ class OfTables(Test):
             back = table.to_networkx()
             self.assertEqual({frozenset(map(int, edge)) for edge in back.edges()}, {frozenset(edge) for edge in graph.edges})
             self.assertEqual(back.number_of_edges(), graph.number_of_edges())
-            self.assertEqual([back.nodes[str(node)]["amount"] for node in graph], [node - 2 for node in graph])
-            self.assertEqual(Table(back, table.divisor, table.q), table)
+            self.assertEqual([back.nodes[node]["amount"] for node in graph], [node - 2 for node in graph])
+            self.assertTrue(Table(back) == Table(back, table.divisor, table.q) == table)
+            self.assertEqual(table.vertices, tuple(graph))
             self.assertEqual(Table.graph6(networkx.to_graph6_bytes(graph), table.divisor, table.q), table)
             matrix = [[int(graph.has_edge(u, v)) for v in graph] for u in graph]
             self.assertEqual(Table(matrix, list(table.amounts), table.q), table)
@@ -160,7 +161,7 @@ class OfTables(Test):
             "vertices": ["0", "1", "2"], "edges": [["0", "1", 1], ["1", "2", 2]], "amounts": [1, 0, 5], "q": "2"})
         grid = types.SimpleNamespace(nodes=[(0, 0), (0, 1)], edges=[((0, 0), (0, 1))])
         named = Table(grid, {(0, 1): 4, "r0c0": -1}, (0, 1), names=lambda vertex: "r%dc%d" % vertex)
-        self.assertEqual((named.divisor, named.q), ({"r0c0": -1, "r0c1": 4}, "r0c1"))
+        self.assertEqual((named.divisor, named.q, named.names), ({(0, 0): -1, (0, 1): 4}, (0, 1), ("r0c0", "r0c1")))
 
     def test_an_answer_can_be_handed_back(self):
         networkx = needed("networkx")
@@ -185,8 +186,9 @@ class OfTables(Test):
         for wrong in (numpy.float32(1.7), numpy.float64(2.0), numpy.bool_(True)):
             with self.assertRaises(TypeError):
                 Table(PAIR, {0: wrong})
-        with self.assertRaisesRegex(TypeError, "table 0: "):
-            list(dollar.judge_all([dict(given, amounts=[numpy.float32(1.7), 0])]))
+        for wrong in (numpy.float32(1.7), numpy.True_):
+            with self.assertRaisesRegex(TypeError, "table 0: "):
+                list(dollar.judge_all([dict(given, amounts=[wrong, 0])]))
         # A float of numpy's that is one of Python's goes as it is, and is refused by the program.
         row, = dollar.judge_all([dict(given, amounts=[numpy.float64(2.0), 0])])
         self.assertEqual(row.refused, "shape of amounts")

@@ -1,0 +1,248 @@
+"""A class in rooms, without a browser: each room has its game, and the teacher hands out tables and says what is permitted."""
+import json
+import random
+import subprocess
+import tempfile
+import time
+from pathlib import Path
+
+from common import EXAMPLES, addresses, asked, played, refused, started, text_of, together, waited, written
+from dollar.board.puzzles import GRAPHS, LEVELS, Puzzles, table_of
+from helpers import equal, expect, tests_of
+from visitors import TABLE, Place, Pupil, Watcher, a_class, taken
+
+EACH = "--rooms", "1"
+GROUPS, PUPILS, LINES = 3, 12, 40
+TRIANGLE = text_of(EXAMPLES / "triangle.json")
+
+
+def told_all(listener, room, steps, history):
+    """Sees that a listener is told just the entries of a room."""
+    def told():
+        entries = listener.rooms.get(room, []) if isinstance(listener, Watcher) else listener.entries
+        return [(f"{seat} {line}", answer) for seat, line, answer in entries]
+
+    wanted = list(zip(steps, history))
+    waited(lambda: told() == wanted, 10)
+    equal(told(), wanted, f"what is told of room {room}")
+
+
+def apart(folder):
+    """Pupils in rooms of three play at once: each room has one legal history, its pupils are told no other, and the teacher all."""
+    names = [f"pupil {number}" for number in range(PUPILS)]
+    with a_class(folder, PUPILS, *names, options=("--rooms", str(GROUPS))) as (_, _, desk, *pupils):
+        watcher = Watcher(desk)
+        draw = random.Random(3)
+
+        def lines():
+            return [draw.choice(["lend ann", "borrow bob", "look", "claim", "commit", "gift eve 1"]) for _ in range(LINES)]
+
+        together(*(lambda pupil=pupil, own=lines(): pupil.attend(own) for pupil in pupils))
+        for room in range(1, PUPILS // GROUPS + 1):
+            steps, history = taken(desk, folder, room)
+            members = [pupil for pupil in pupils if (pupil.seat - 1) // GROUPS + 1 == room]
+            equal({step.split(" ")[0] for step in steps}, {str(pupil.seat) for pupil in members}, f"who played in room {room}")
+            for listener in [watcher, *members]:
+                told_all(listener, room, steps, history)
+        equal(watcher.states[-1]["names"]["4"]["room"], 2, "the room of the fourth seat")
+        watcher.leave()
+
+
+def next_tables(folder):
+    """Tables are handed out one after another, under the same address; the pages go on with each, and a line for the one before is not
+    played."""
+    with a_class(folder, 3, "ann", "bob") as (_, _, desk, ann, bob):
+        equal(ann.play("lend ann")[0], 200, "a line on the first table")
+        bob.until(lambda pupil: pupil.tables, "the first table does not come")
+        first = bob.tables[-1]["feed"]
+        equal(desk.post("table", {"table": TRIANGLE, "name": "three", "size": 1})[0], 200, "a table that is given")
+        bob.until(lambda pupil: len(pupil.tables) == 2, "the second table does not come")
+        equal((bob.tables[-1]["table"], bob.tables[-1]["name"], bob.tables[-1]["room"]), (TRIANGLE, "three", 2), "the second table")
+        late = bob.place.post("line", {"key": bob.key, "line": "lend a", "feed": first})
+        equal(late, (409, "There is a new table. This line was not played."), "a line for the table before")
+        equal((ann.play("borrow b")[1], bob.play("claim")[1]), ("0 moved a=1 b=1 c=-2", "0 not won"), "lines on the second table")
+        equal(taken(desk, folder, 1)[0], ["1 borrow b"], "the steps of the first room")
+        for given, name in ({}, "three"), ({"named": "table.json", "size": 0}, "table.json"):
+            equal(desk.post("table", given)[0], 200, f"the table {given}")
+            ann.until(lambda pupil: pupil.tables[-1]["name"] == name and not pupil.entries, f"the table {given} does not come")
+        equal((ann.play("claim")[1], bob.play("claim")[1]), ("0 not won", "1 not won"), "lines on a table that all share again")
+        for level in LEVELS:
+            equal(desk.post("table", {"graph": "Cube", "level": level, "size": 1})[0], 200, f"the puzzle {level}")
+            ann.until(lambda pupil: pupil.tables[-1]["name"] == f"Cube, {level}", f"the puzzle {level} does not come")
+            confirmed(folder, ann.tables[-1]["table"], level)
+        before = len(ann.tables)
+        for given, said in (
+                ({"table": "{}"}, "shape of top"), ({"size": 4}, "there is no such room"), ({"size": "1"}, "there is no such room"),
+                ({"graph": "Cube", "level": "odd"}, "there is no such puzzle"),
+                ({"graph": "Round", "level": "easy"}, "there is no such puzzle")):
+            status, text = desk.post("table", given)
+            equal((status in (400, 409), text), (True, said), f"the table {given}")
+        equal(len(ann.tables), before, "the tables after what is none")
+
+
+def in_the_middle(folder):
+    """Tables are handed out while all play and take back: each line is answered, and no game is spoiled."""
+    with a_class(folder, 8, *(f"pupil {number}" for number in range(8)), options=("--rooms", "2")) as (_, place, desk, *pupils):
+        watcher, over = Watcher(place), []
+
+        def hand_out():
+            for number in range(12):
+                size = (1, 2, 0)[number % 3]
+                equal(desk.post("table", {"named": "table.json", "size": size})[0], 200, "a table in the middle")
+                desk.post("may", {"undo": True})
+                time.sleep(0.15)
+            over.append(True)
+
+        def play(pupil):
+            statuses = set()
+            while not over:
+                feed = pupil.tables[-1]["feed"] if pupil.tables else None
+                thing = {"key": pupil.key, **({"feed": feed} if feed else {})}
+                statuses.add(place.post("line", {**thing, "line": random.choice(["lend ann", "look", "commit"])})[0])
+                statuses.add(place.post("undo", thing)[0])
+            return statuses
+
+        _, *statuses = together(hand_out, *(lambda pupil=pupil: play(pupil) for pupil in pupils))
+        expect(set().union(*statuses) <= {200, 409, 429}, f"the statuses {statuses}")
+        watcher.until(lambda page: page.tables[-1]["turn"] == 13, "the last table does not come")
+        equal({pupil.play("claim")[0] for pupil in pupils}, {200}, "lines after the last table")
+        told_all(watcher, 1, *taken(desk, folder, 1))
+        watcher.leave()
+
+
+def confirmed(folder, table, level):
+    """Sees that somebody owes, and that the program says of a puzzle what its level does."""
+    word = asked("judge", written(folder, "puzzle", table))[0].split(" ")[0]
+    equal(word, "unwinnable" if level == "unwinnable" else "winnable", f"the verdict on a puzzle that is {level}")
+    expect(min(json.loads(table)["amounts"]) < 0, f"nobody owes: {table}")
+
+
+def puzzles(folder):
+    """Each known graph has puzzles of each level, if there can be any; and so have random ones."""
+    for graph in [*GRAPHS, *["random"] * 10]:
+        for level in LEVELS:
+            name, table = Puzzles.made(graph, level, TRIANGLE)
+            equal(name, f"{'a random graph' if graph == 'random' else graph}, {level}", "the name of a puzzle")
+            confirmed(folder, table, level)
+            if graph != "random":
+                equal([json.loads(table)[part] for part in ("vertices", "edges")],
+                      [table_of(GRAPHS[graph])[part] for part in ("vertices", "edges")], f"the graph {graph}")
+    single = '{"vertices":["a"],"edges":[],"amounts":[0],"q":"a"}\n'
+    for level in "easy", "medium", "hard":
+        try:
+            equal(Puzzles.made("", level, single), None, "a puzzle on one vertex")
+        except ValueError as error:
+            equal(str(error), "there is no such puzzle on this graph", "a puzzle on one vertex")
+
+
+def taking_back(folder):
+    """A room takes moves back, if the teacher permits it; what is told and kept is the game that is left."""
+    kept = Path(folder, "kept")
+    with a_class(folder, 2, "ann", "bob", options=(*EACH, "--keep", kept)) as (_, place, desk, ann, bob):
+        watcher = Watcher(place)
+
+        def undo():
+            return place.post("undo", {"key": ann.key})
+
+        for line in "lend ann", "look", "lend bob", "claim":
+            equal(ann.play(line)[0], 200, f"the line {line}")
+        bob.play("lend bob")
+        equal(undo(), (200, {"undone": True}), "a move that is taken back")
+        equal(taken(desk, folder)[0], ["1 lend ann", "1 look"], "the steps that are left")
+        equal(ann.play("commit")[0], 200, "a commit on a look that is left")
+        equal([undo()[1] for _ in range(2)], [{"undone": True}, {"undone": False}], "taken back to the start")
+        ann.play("borrow cem")
+        steps, history = taken(desk, folder)
+        equal((steps, history[0].split(" ")[0]), (["1 borrow cem"], "0"), "the steps after all was taken back")
+        for listener in ann, watcher:
+            told_all(listener, 1, steps, history)
+        told_all(watcher, 2, *taken(desk, folder, 2))
+        equal(text_of(kept / "table1" / "room1" / "steps.txt"), "1 borrow cem\n", "the steps that are kept")
+        desk.post("may", {"undo": False})
+        equal(undo(), (409, "The teacher does not permit taking back now."), "taking back that is not permitted")
+        equal(taken(desk, folder)[0], steps, "the steps after it")
+        watcher.leave()
+    with a_class(folder, 2, "ann") as (_, place, _, ann):
+        ann.play("lend ann")
+        equal(place.post("undo", {"key": ann.key})[0], 409, "taking back on a table that all share")
+
+
+def permitted(folder):
+    """At first nobody gives, takes or builds. The teacher says what is permitted, shuts the door, and bars a browser."""
+    with a_class(folder, 3, may=()) as (_, place, desk):
+        ann = Pupil(place.address, "ann", browser="b" * 24)
+        refused = {"gift": "gifts and levies", "join": "new edges", "look": "looks and what is entered on them"}
+        for line, called in ("gift ann 1000000", refused["gift"]), ("gift ann -1", refused["gift"]), ("join ann bob", refused["join"]):
+            equal(ann.play(line), (409, f"The teacher does not permit {called} now. This line was not played."), f"the line {line}")
+        equal(ann.play("look")[0], 200, "a look")
+        desk.post("may", {"gifts": True, "edges": True, "questions": False})
+        equal([ann.play(line)[0] for line in ("gift ann 1", "join ann bob", "look", "commit", "rank 1", "lend ann")],
+              [200, 200, 409, 409, 409, 200], "what is permitted otherwise")
+        equal(taken(desk, folder)[0], ["1 look", "1 gift ann 1", "1 join ann bob", "1 lend ann"], "the steps")
+        again = place.post("join", {"name": "ann again", "browser": "b" * 24})
+        equal(again, (200, {"seat": 1, "key": ann.key, "name": "ann"}), "a browser that asks for a second seat")
+        desk.post("door", {"open": False})
+        equal(place.post("join", {"name": "late"}), (409, "The door is shut. The teacher can open it."), "a seat past a shut door")
+        equal(place.post("join", {"name": "ann", "browser": "b" * 24})[1]["seat"], 1, "who has a seat comes in")
+        desk.post("door", {"open": True})
+        desk.post("free", {"seat": 1, "bar": True})
+        ann.until(lambda pupil: "freed" in pupil.states, "who was barred is not told")
+        equal(place.post("join", {"name": "ann", "browser": "b" * 24}),
+              (409, "The teacher lets this browser take no seat."), "a browser that was barred")
+        equal(place.post("join", {"name": "bob", "browser": "c" * 24})[0], 200, "another browser")
+
+
+def by_a_short_code(folder):
+    """A short code leads to the class while the door is open; somebody who tries many wrong ones is heard no more for a while."""
+    with a_class(folder, 2) as (_, place, desk):
+        short = json.loads(place.get("start")[1])["short"]
+        leads, nothing = (200, f'<!doctype html><meta http-equiv="refresh" content="0; url={place.secret}/">\n'), (404, "there is nothing here")
+        equal([len(short), place.get(f"/{short}"), place.get(f"/{short.upper()}")], [6, leads, leads], "the short code")
+        equal([place.get(f"/{short}/"), place.get(f"/{short}/start"), place.post(f"/{short}", {})], [nothing] * 3, "the code is no secret")
+        desk.post("door", {"open": False})
+        equal(place.get(f"/{short}"), nothing, "the short code, and the door is shut")
+        desk.post("door", {"open": True})
+        equal(together(*[lambda: place.get(f"/{short}")] * 30), [leads] * 30, "all type the code")
+        equal([place.get(f"/{short[:-1]}{letter}")[0] for letter in "abcdefghijkmnpqrstuvwxyz" if letter != short[-1]][:20], [404] * 20,
+              "wrong codes")
+        equal(place.get(f"/{short}"), nothing, "the right code after many wrong ones")
+        expect(waited(lambda: place.get(f"/{short}") == leads, 3), "the right code a while later")
+
+
+def an_accident(folder):
+    """A class in rooms on its second table is killed, and comes back: addresses, names, keys, tables, rooms and switches."""
+    kept, table = Path(folder, "kept"), written(folder, "table.json", json.dumps(TABLE))
+    words = [table, "--class", "4", "--keep", kept]
+    child = started(*words)
+    pupils, teacher = addresses(child)
+    room = [Pupil(pupils, name, events=False) for name in ("ann", "bob", "cem")]
+    room[0].play("lend ann")
+    Place(teacher).post("table", {"table": TRIANGLE, "name": "three", "size": 1})
+    Place(teacher).post("may", {"gifts": True})
+    Place(teacher).post("door", {"open": False})
+    for pupil in room:
+        for line in ("borrow b", "look", "gift a 1")[:pupil.seat]:
+            equal(pupil.play(line)[0], 200, f"the line {line}")
+    child.kill()
+    child.communicate()
+    with played(*words) as (_, found):
+        equal(found, [pupils, teacher], "the addresses")
+        watcher = Watcher(Place(pupils))
+        for pupil in room:
+            equal(pupil.play("commit" if pupil.seat == 2 else "claim")[0], 200, "a line after the accident")
+            steps, history = taken(Place(teacher), folder, pupil.seat)
+            equal(len(steps), pupil.seat + 1, f"the steps of room {pupil.seat}")
+            told_all(watcher, pupil.seat, steps, history)
+        watcher.until(lambda page: page.states, "the state does not come")
+        state, shown = watcher.states[-1], watcher.tables[-1]
+        equal(([state["names"][key]["name"] for key in "123"], state["may"]["gifts"], state["size"]), (["ann", "bob", "cem"], True, 1),
+              "the names, a switch and the size of rooms")
+        equal((shown["name"], shown["table"], state["open"]), ("three", TRIANGLE, False), "the table, and the door")
+        watcher.leave()
+    lost = kept / "table2" / "table.json"
+    lost.unlink()
+    refused(["board", "--no-browser", *words], "has lost its table 2", stdin=subprocess.DEVNULL)
+
+
+load_tests = tests_of(apart, next_tables, in_the_middle, puzzles, taking_back, permitted, by_a_short_code, an_accident,
+                      given=tempfile.TemporaryDirectory)

@@ -1,0 +1,220 @@
+"""Columns: the same numbers as the answers one by one, with numpy and without; what has no place in them is raised. And CSV files that
+are gone on with."""
+import contextlib
+import itertools
+import os
+import random
+import signal
+import subprocess
+import sys
+import time
+from unittest import mock
+
+import dollar
+from dollar import Fault, Table, columns, readers
+from helpers import PACKAGE, Test, each, needed
+
+PETERSEN = dollar.example("petersen")
+RING = Table([[0, 1, 0, 3], [1, 0, 1, 0], [0, 1, 0, 1], [3, 0, 1, 0]], names=lambda vertex: "v%d%s" % (vertex, "x" * vertex))
+ALONE = Table([[0]])
+
+
+def divisors(table, count, most=4, seed=1):
+    rng = random.Random(seed)
+    return [[rng.choice([rng.randint(-most, most), rng.randint(-most, most), rng.randint(-most ** 5, most ** 5)]) for _ in table.vertices]
+            for _ in range(count)]
+
+
+@contextlib.contextmanager
+def without_numpy():
+    """What holds where numpy is not here."""
+    with mock.patch.object(columns, "numpy_or_none", lambda: None), mock.patch.object(readers, "numpy_or_none", lambda: None):
+        yield
+
+
+def with_numpy():
+    needed("numpy")
+    return contextlib.nullcontext()
+
+
+def ints(column):
+    return list(map(int, column))
+
+
+class OfColumns(Test):
+    @each(list(itertools.product([with_numpy, without_numpy], [PETERSEN, RING, ALONE])))
+    def test_the_numbers_are_those_of_the_answers(self, given, table):
+        rows = divisors(table, 5_000)
+        with given():
+            found = dollar.judge_all(table, divisors=rows).columns()
+            verdicts = list(dollar.judge_all(table, divisors=rows))
+            self.assertEqual(len(found), len(rows))
+            self.assertEqual(list(map(bool, found.winnable)), [verdict.winnable for verdict in verdicts])
+            self.assertEqual((list(found.script), list(found.reduced)), ([*table.vertices], [*table.vertices]))
+            for vertex in table.vertices:
+                self.assertEqual(ints(found.script[vertex]), [verdict.script[vertex] for verdict in verdicts])
+                self.assertEqual(ints(found.reduced[vertex]), [verdict.reduced[vertex] for verdict in verdicts])
+            for degree in (0, 2):
+                found = dollar.rank_all(table, degree, divisors=rows[:500]).columns()
+                tests = list(dollar.rank_all(table, degree, divisors=rows[:500]))
+                self.assertEqual(list(map(bool, found.holds)), [test.holds for test in tests])
+                for vertex in table.vertices:
+                    self.assertEqual(ints(found.loss[vertex]), [0 if test.holds else test.loss[vertex] for test in tests])
+            small = divisors(table, 500, 1)
+            found, numbers = dollar.rr_all(table, divisors=small).columns(), list(dollar.rr_all(table, divisors=small))
+            for name in ("degree", "genus", "rank", "dual"):
+                self.assertEqual(ints(getattr(found, name)), [getattr(each, name) for each in numbers])
+
+    @each([with_numpy, without_numpy])
+    def test_whatever_divisors_are(self, given):
+        numpy, pandas = needed("numpy"), needed("pandas")
+        rows = divisors(RING, 300)
+        array = numpy.array(rows)
+        frame = pandas.DataFrame(array[:, ::-1], columns=[3, 2, 1, 0])
+        sources = [rows, tuple(map(tuple, rows)), iter(rows), (dict(enumerate(row)) for row in rows), array, array.astype(numpy.int32), frame,
+                   [numpy.array(row) for row in rows], (iter(row) for row in rows)]
+        with given():
+            for source in sources[:-2] + [sources[-2]]:
+                found = dollar.judge_all(RING, divisors=source).columns()
+                self.assertEqual(ints(found.reduced[0] + found.reduced[1] + found.reduced[2] + found.reduced[3])[:300]
+                                 if given is with_numpy else [sum(column) for column in zip(*found.reduced.values())], list(map(sum, rows)))
+            self.assertEqual([v.judged().amounts for v in dollar.judge_all(RING, divisors=frame)], list(map(tuple, rows)))
+            for wrong in (array.astype(float), frame.astype(float), array > 0, array.astype(object) * 1.0):
+                with self.assertRaisesRegex(TypeError, "divisor 0: the amount of vertex v0 is no whole number"):
+                    dollar.judge_all(RING, divisors=wrong).columns()
+            for labels in ([0, 1, 2, 2], [0, 1, 2, 4], [0, 1, 2]):
+                with self.assertRaises(ValueError):
+                    dollar.judge_all(RING, divisors=pandas.DataFrame(array[:, :len(labels)], columns=labels))
+            with self.assertRaisesRegex(ValueError, "divisor 0: there are 3 amounts for 4 vertices"):
+                dollar.judge_all(RING, divisors=array[:, :3]).columns()
+
+    @each([with_numpy, without_numpy])
+    def test_what_has_no_place_is_raised(self, given):
+        with given():
+            rows = divisors(PETERSEN, 3_000)
+            rows[2_500] = [1_000_001] + [0] * 9
+            for call in (dollar.judge_all, dollar.rr_all, lambda table, **options: dollar.rank_all(table, 1, **options)):
+                with self.assertRaisesRegex(Fault, "amount of vertex 0") as caught:
+                    call(PETERSEN, divisors=rows).columns()
+                self.assertEqual(caught.exception.table, 2_500)
+            for amount in (2 ** 31, -2 ** 40, 2 ** 63, -2 ** 63, 10 ** 30):
+                rows[2_500][0] = amount
+                with self.assertRaisesRegex(Fault, "amount of vertex 0|shape of amounts"):
+                    dollar.judge_all(PETERSEN, divisors=rows).columns()
+            complete = Table([[int(u != v) for v in range(16)] for u in range(16)])
+            with self.assertRaisesRegex(Fault, "too many trials") as caught:
+                dollar.rr_all(complete, divisors=[[0] * 16, [7] * 15 + [6]]).columns()
+            self.assertEqual(caught.exception.table, 1)
+            with self.assertRaisesRegex(Fault, "too many trials") as caught:
+                dollar.rank_all(ALONE, 2_000, divisors=[[3_000], [1_000]]).columns()
+            self.assertEqual(caught.exception.table, 1)
+            with self.assertRaisesRegex(ValueError, "for `divisors` of one table"):
+                dollar.judge_all([PETERSEN]).columns()
+            begun = dollar.judge_all(PETERSEN, divisors=[[0] * 10] * 3)
+            next(begun)
+            with self.assertRaisesRegex(ValueError, "the sweep has begun"):
+                begun.columns()
+            self.assertEqual((len(dollar.judge_all(PETERSEN, divisors=[]).columns()), len(dollar.rr_all([]).columns())), (0, 0))
+
+    def test_a_source_that_takes_its_time(self):
+        def slowly():
+            for place in range(9_000):
+                if place % 2_500 == 2_000:
+                    time.sleep(0.1)
+                yield [place % 5, 0, 0, 0]
+
+        self.assertEqual(ints(dollar.rr_all(RING, divisors=slowly()).columns().degree), [place % 5 for place in range(9_000)])
+        self.assertEqual(len(dollar.rr_all(Table(RING, row) for row in itertools.islice(slowly(), 2_100)).columns()), 2_100)
+
+    def test_four_numbers_of_many_tables(self):
+        tables = [Table(RING, row) for row in divisors(RING, 200, 2)]
+        self.assertEqual(ints(dollar.rr_all(tables).columns().degree), [table.degree for table in tables])
+
+    @each([with_numpy, without_numpy])
+    def test_lines_that_are_no_answers(self, given):
+        good = [str(verdict) for verdict in dollar.judge_all(RING, divisors=divisors(RING, 40))]
+        with given():
+            for _ in range(2):
+                found = columns.VerdictColumns(RING._vertices)
+                found.add("".join(line + "\n" for line in good).encode())
+                self.assertEqual(found.done(), 40)
+            rng, refused = random.Random(2), 0
+            for _ in range(3_000):
+                lines = list(good)
+                at = rng.randrange(40)
+                line = lines[at]
+                place = rng.randrange(len(line))
+                lines[at] = line[:place] + rng.choice("0123456789-= vx\nw") + line[place + rng.randint(0, 1):]
+                found = columns.VerdictColumns(RING._vertices)
+                try:
+                    found.add("".join(line + "\n" for line in lines).encode())
+                    found.done()
+                except (ValueError, Fault):
+                    refused += 1
+                    continue
+                # What is taken is what the lines say.
+                self.assertEqual([bool(each) for each in found.winnable], [dollar.answer(line).winnable for line in lines])
+                for vertex, name in zip(RING.vertices, RING.names):
+                    self.assertEqual(ints(found.reduced[vertex]), [dollar.answer(line).reduced[name] for line in lines])
+            self.assertGreater(refused, 1_000)
+
+
+SWEEP = """
+import os
+import sys
+import dollar
+table = dollar.Table([[0, 2], [2, 0]])
+def rows():
+    for place in range(int(sys.argv[2])):
+        yield [place % 7 - 3, place % 11 - 5] if place % 1000 else [1000001, 0]
+        if place == int(sys.argv[3]):
+            os.kill(os.getpid(), int(sys.argv[4]))
+print(dollar.to_csv(dollar.judge_all(table, divisors=rows(), ahead=1000), sys.argv[1], go_on=True))
+"""
+
+
+class OfCsvFiles(Test):
+    def swept(self, place, count, at=-1, sign=0):
+        return subprocess.run([sys.executable, "-c", SWEEP, str(place), str(count), str(at), str(sign)], stdout=subprocess.PIPE,
+                              stderr=subprocess.DEVNULL, text=True, env=dict(os.environ, PYTHONPATH=str(PACKAGE)))
+
+    def test_an_interrupted_sweep_is_gone_on_with(self):
+        folder = self.folder()
+        whole, kept = folder / "whole.csv", folder / "kept.csv"
+        self.assertEqual(self.swept(whole, 60_000).stdout, "60000\n")
+        wanted = whole.read_bytes()
+        self.assertEqual(wanted.count(b"\n"), 60_001)
+        for at, sign in ((25_000, signal.SIGINT), (55_000, signal.SIGKILL)):
+            self.assertNotEqual(self.swept(kept, 60_000, at, sign).returncode, 0)
+            found = kept.read_bytes()
+            self.assertTrue(wanted.startswith(found))
+            # At most a thousand divisors had no answer yet, and a kill loses what was not yet handed to the system.
+            self.assertTrue(at - 2_000 < found.count(b"\n") <= at + 2, found.count(b"\n"))
+        self.assertEqual(self.swept(kept, 60_000).stdout, "60000\n")
+        self.assertEqual(kept.read_bytes(), wanted)
+        for size in [*range(0, 200, 7), len(wanted) - 1, len(wanted)]:
+            kept.write_bytes(wanted[:size])
+            self.assertEqual(dollar.to_csv(self.rows(60_000 if size > 1000 else 100), kept, go_on=True), 60_000 if size > 1000 else 100)
+            self.assertTrue(wanted.startswith(kept.read_bytes()))
+
+    def rows(self, count, more=0):
+        table = Table([[0, 2], [2, 0]])
+        return dollar.judge_all(table, divisors=(
+            [place % 7 - 3 + more, place % 11 - 5] if place % 1000 else [1000001, 0] for place in range(count)))
+
+    def test_a_file_of_another_sweep_is_refused(self):
+        place = self.folder() / "rows.csv"
+        self.assertEqual(dollar.to_csv(self.rows(50), place), 50)
+        before = place.read_bytes()
+        for other in (self.rows(60, 1), self.rows(30), dollar.rr_all(Table([[0, 2], [2, 0]]), divisors=[[0, 0]] * 60)):
+            with self.assertRaisesRegex(ValueError, "has the rows of another sweep; nothing was changed"):
+                dollar.to_csv(other, place, go_on=True)
+            self.assertEqual(place.read_bytes(), before)
+        # Without it a file is written anew.
+        self.assertEqual(dollar.to_csv(self.rows(3), str(place)), 3)
+        self.assertEqual(place.read_text(), "table,winnable,script,reduced,refused\n0,,,,amount of vertex 0\n"
+                         "1,false,0=0 1=-2,0=-6 1=0,\n2,false,0=0 1=-2,0=-5 1=1,\n")
+        place.write_text("somebody's\nown\n")
+        with self.assertRaises(ValueError):
+            dollar.to_csv(self.rows(60), place, go_on=True)
+        self.assertEqual(place.read_text(), "somebody's\nown\n")

@@ -1,0 +1,212 @@
+"""Sessions that outlast their program: what is told is kept, and the game goes on from the file. What entries tell, asyncio, and JSON."""
+import asyncio
+import json
+import os
+import random
+import signal
+import subprocess
+import sys
+import threading
+
+import dollar
+from dollar import Ended, Entry, Session, Table
+from dollar.as_json import read
+from dollar.grammar import GRAMMAR
+from helpers import EXAMPLES, PACKAGE, Test, each, program, sample
+from model import Session as Model, some_command
+
+TABLE = {
+    "vertices": ["a", "b", "c", "d"],
+    "edges": [["a", "b", 1], ["b", "c", 2], ["c", "d", 1], ["a", "d", 1]],
+    "amounts": [-3, 5, 0, -1],
+    "q": "a",
+}
+PLAYER = """
+import sys
+import dollar
+with dollar.Session(%r, seats=3, keep=sys.argv[1]) as session:
+    print(len(session.kept), flush=True)
+    for line in sys.stdin:
+        print(session.ask(line.rstrip(chr(10))), flush=True)
+""" % TABLE
+
+
+class OfKeptGames(Test):
+    def test_a_game_that_is_killed_goes_on(self):
+        """The program or its caller is killed now and then; in the end the answers are those of one game."""
+        rng, model, place = random.Random(1), Model(TABLE, 3), self.folder() / "game"
+        lines, told = ["%d %s" % (rng.randint(1, 3), some_command(rng, "abcd")) for _ in range(900)], []
+        at = 0
+        while at < len(lines):
+            child = subprocess.Popen([sys.executable, "-c", PLAYER, str(place)], stdin=subprocess.PIPE, stdout=subprocess.PIPE, text=True,
+                                     env=dict(os.environ, PYTHONPATH=str(PACKAGE)))
+            self.assertEqual(int(child.stdout.readline()), sum(text[0].isdigit() for text in told))
+            for line in lines[at:at + rng.randint(50, 300)]:
+                child.stdin.write(line + "\n")
+                child.stdin.flush()
+                told.append(child.stdout.readline().rstrip("\n"))
+                at += 1
+            child.kill()
+            child.communicate()
+        self.assertTrue(all(model.is_answer(line, text) for line, text in zip(lines, told)))
+        kept = Session(TABLE, seats=3, keep=place)
+        self.assertEqual([str(entry) for entry in kept.kept], [text for text in told if text[0].isdigit()])
+        self.assertEqual(kept.close(), (0, ""))
+        # What is kept can be rehearsed.
+        steps = place.read_text().splitlines()[1::2]
+        self.assertEqual(str(dollar.rehearse(TABLE, steps)).splitlines(), [text for text in told if text[0].isdigit()])
+
+    def test_looks_are_kept_and_what_was_cut_is_dropped(self):
+        place = self.folder() / "game"
+        with Session(TABLE, keep=place) as session:
+            session.ask("look")
+            session.ask("jump")
+            session.ask("lend b")
+        whole = place.read_bytes()
+        self.assertEqual(whole.decode().splitlines()[1:], ["look", "0 looked 0 a=-3 b=5 c=0 d=-1", "lend b", "1 moved a=-2 b=2 c=2 d=-1"])
+        for size in range(len(whole) + 1):
+            place.write_bytes(whole[:size])
+            with Session(TABLE, keep=place) as session:
+                count = len(session.kept)
+                self.assertEqual(session.ask("commit").word, "winnable" if count else "bad look")
+            self.assertEqual(count, 2 if size == len(whole) else int(whole[:size].count(b"\n") >= 3))
+            with Session(TABLE, keep=place) as session:
+                self.assertEqual(len(session.kept), count + (count > 0))
+
+    def test_another_game_is_refused(self):
+        place = self.folder() / "game"
+        with Session(TABLE, keep=place) as session:
+            session.ask("look")
+            with self.assertRaisesRegex(ValueError, "keeps the game of a session that goes on"):
+                Session(TABLE, keep=place)
+        for table, text in ((dict(TABLE, q="b"), "keeps a game on another table"), (TABLE, "keeps a game that this program and table do not")):
+            before = place.read_bytes()
+            if table is TABLE:
+                place.write_bytes(before.replace(b"b=5", b"b=6"))
+                before = place.read_bytes()
+            with self.assertRaisesRegex(ValueError, text):
+                Session(table, keep=place)
+            self.assertEqual(place.read_bytes(), before)
+        place.write_text("somebody's own file\n")
+        with self.assertRaisesRegex(ValueError, "keeps a game on another table"):
+            Session(TABLE, keep=place)
+        self.assertEqual(place.read_text(), "somebody's own file\n")
+
+    def test_what_is_not_kept_is_not_told(self):
+        place = self.folder() / "game"
+        session = Session(TABLE, keep=place)
+        self.assertEqual(session.ask("look").number, 0)
+        before = place.read_bytes()
+
+        def full(line, answer):
+            raise OSError("the disk is full")
+
+        session.keeping.add = full
+        with self.assertRaises(Ended):
+            session.ask("lend b")
+        self.assertEqual(place.read_bytes(), before)
+        session.close()
+        with Session(TABLE, keep=place) as session:
+            self.assertEqual((len(session.kept), session.ask("lend b").number), (1, 1))
+
+    def test_an_end_tells_the_signal_and_how_much_was_answered(self):
+        session = Session(TABLE)
+        for line in ("look", "jump", "claim"):
+            session.ask(line)
+        session.child.send_signal(signal.SIGTERM)
+        with self.assertRaisesRegex(Ended, "ended by SIGTERM after 3 answers") as caught:
+            for _ in range(100):
+                session.ask("claim")
+        self.assertEqual((caught.exception.status, caught.exception.answers), (-signal.SIGTERM, session.answers))
+
+
+class OfEntries(Test):
+    def test_each_kind_has_a_class(self):
+        kinds = {form: type(dollar.answers.entry(sample(form))).__name__ for form in [*GRAMMAR["replies"], *GRAMMAR["bad"], "turns"]}
+        self.assertEqual(set(kinds.values()), {
+            "Moved", "Given", "Joined", "Looked", "Judged", "Tested", "Stale", "Claimed", "Declined", "Bad", "Turns"})
+        for form, kind in kinds.items():
+            entry = dollar.answers.entry(sample(form))
+            for name, value in vars(entry).items():
+                if name in getattr(dollar, kind).__annotations__:
+                    self.assertIsNotNone(value, form)
+        self.assertIs(type(Entry("stale", 3)), dollar.Stale)
+
+    def test_a_session_tells_seat_line_and_step(self):
+        with Table(TABLE).serve(seats=2) as session:
+            found = [session.ask_seat(2, "look"), session.ask("x"), session.ask_seat(3, "look"), session.ask("1 claim"), session.ask("01 look")]
+        self.assertEqual([(each.seat, each.line, each.step, each.number) for each in found],
+                         [(2, "look", 1, 0), (None, "x", 2, None), (3, "look", 3, None), (1, "claim", 4, 1), (None, "01 look", 5, None)])
+        with Table(TABLE).serve() as session:
+            found = session.ask("gift a 0")
+        self.assertEqual((found.seat, found.line, found.step, str(found)), (None, "gift a 0", 1, "0 refused gift"))
+
+
+class OfAsyncSessions(Test):
+    def test_many_tasks_have_their_own_answers(self):
+        async def attend(session, seat):
+            return [(await session.ask_seat(seat, "claim")).number for _ in range(50)]
+
+        async def play():
+            async with dollar.AsyncSession(TABLE, seats=8) as session:
+                return await asyncio.gather(*(attend(session, seat) for seat in range(1, 9)))
+
+        told = asyncio.run(play())
+        self.assertEqual(sorted(number for numbers in told for number in numbers), list(range(400)))
+        self.assertTrue(all(numbers == sorted(numbers) for numbers in told))
+
+    def test_a_task_that_is_cancelled_leaves_it_in_step(self):
+        async def play():
+            session, rng = dollar.AsyncSession(TABLE), random.Random(2)
+            for number in range(200):
+                task = asyncio.ensure_future(session.ask("jump"))
+                await asyncio.sleep(rng.uniform(0, 2e-4))
+                task.cancel()
+                self.assertEqual((await session.ask("claim")).number, number)
+            return await session.close()
+
+        self.assertEqual(asyncio.run(play()), (0, ""))
+        self.assertLess(threading.active_count(), 5)
+
+
+class OfJson(Test):
+    @each([*GRAMMAR["replies"], *GRAMMAR["ordered"], "turns", *GRAMMAR["bad"]])
+    def test_each_reply(self, form):
+        text = sample(form).replace(" N", " a b")
+        entry = text if text.startswith(("bad ", "turns")) else "7 " + text
+        if form in GRAMMAR["ordered"]:
+            entry = text
+        found = json.loads(json.dumps(read(entry)))
+        self.assertEqual(found, dollar.answers.numbered(entry).as_dict() if entry != text or "burning" not in text else {
+            "winnable": text.startswith("w"), "script": {"a": 2, "b": -1}, "reduced": {"a": 2, "b": -1}, "burning": ["a", "b"]})
+
+    @each(["", "foo", "0", "0 foo", "0 bad word", "moved a=1", "won", "2 turns", "degree x", "position", "seat 0 calls 1", "refused range",
+           "rank below 2 at"])
+    def test_what_is_no_line(self, line):
+        with self.assertRaisesRegex(ValueError, "no answer of the program"):
+            read(line)
+
+    def test_the_command_answers_at_once(self):
+        child = subprocess.Popen([sys.executable, "-m", "dollar", "json"], stdin=subprocess.PIPE, stdout=subprocess.PIPE, stderr=subprocess.PIPE,
+                                 text=True, env=dict(os.environ, PYTHONPATH=str(PACKAGE)))
+        for line, wanted in (("0 won", {"word": "won", "number": 0}), ("refused not JSON", {"refused": "not JSON"})):
+            child.stdin.write(line + "\n")
+            child.stdin.flush()
+            self.assertEqual(json.loads(child.stdout.readline()), wanted)
+        said = child.communicate("nothing\n")[1]
+        self.assertEqual((child.returncode, said), (1, "dollar json: line 3: no answer of the program: 'nothing'\n"))
+
+    def test_all_that_commands_print(self):
+        cube, lines = EXAMPLES / "cube.json", EXAMPLES / "both_sides_cube.out"
+        for words in (["judge", cube], ["judge", "--order", cube], ["rank", cube, "2"], ["rr", cube], ["greedy", cube, "50"],
+                      ["judge", "--lines", lines], ["rr", "--lines", EXAMPLES / "million_path.json"],
+                      ["party", EXAMPLES / "shared_table.json", EXAMPLES / "shared_player_1.txt", EXAMPLES / "shared_player_2.txt"]):
+            out = subprocess.run([program(), *map(str, words)], stdout=subprocess.PIPE, text=True).stdout
+            found = [json.loads(json.dumps(read(line))) for line in out.splitlines()]
+            self.assertEqual(len(found), out.count("\n"))
+            self.assertTrue(all(found))
+        # A value of the package and the line of the program are the same JSON.
+        self.assertEqual(read(str(dollar.judge(cube))), {k: v for k, v in dollar.judge(cube).as_dict().items() if k != "burning"})
+        self.assertEqual(json.loads(json.dumps(dollar.greedy(cube, 3).as_dicts())), [read(str(each)) for each in dollar.greedy(cube, 3)])
+        played = dollar.party(dollar.example("triangle"), ["claim"] * 3, cap=2).as_dict()
+        self.assertEqual(json.loads(json.dumps(played))["faults"], {"1": "the history is full"})

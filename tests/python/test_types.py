@@ -1,0 +1,73 @@
+"""Types: what mypy says of code that uses the package. A line whose comment begins with `error` has to be one, and `is T` is the type
+of what the line reveals."""
+import importlib.util
+import re
+import subprocess
+import sys
+
+from helpers import PACKAGE, Test
+
+SAMPLE = '''
+import dollar
+from dollar import Table
+
+table = Table([[0, 1], [1, 0]], [2, -1])
+members = {"vertices": ["a"], "edges": [], "amounts": [0], "q": "a"}
+named = Table(members, {"a": 1}, "a")
+dollar.judge(table), dollar.judge(members), dollar.judge("table.json")
+dollar.judge(5)  # error
+dollar.judge(None)  # error
+dollar.rank(table, "1")  # error
+dollar.rank(table, 1, workers="2")  # error
+dollar.rr([1, 2])  # error
+Table(3.5)  # error
+Table("table.json")  # error
+Table(table, 5)  # error
+Table(table, ["a"])  # error
+Table(table, {"a": "b"})  # error
+dollar.rehearse(table, [1])  # error
+dollar.judge_all(5)  # error
+dollar.judge_all(table, divisors=[1, 2])  # error
+dollar.Session(5)  # error
+reveal_type(dollar.judge(table).winnable)  # is builtins.bool
+reveal_type(dollar.judge(table).script)  # is builtins.dict[typing.Hashable, builtins.int]
+reveal_type(table.rank())  # is builtins.int
+reveal_type(table + [1, 2])  # is dollar.table.Table
+reveal_type(3 * table)  # is dollar.table.Table
+reveal_type(table.degree)  # is builtins.int
+reveal_type(table.linear_system())  # is dollar.divisors.LinearSystem
+reveal_type(next(dollar.judge_all([table], errors="raise")))  # is dollar.answers.Verdict
+reveal_type(next(dollar.judge_all([table])))  # is Union[dollar.answers.Verdict, dollar.answers.RefusedVerdict]
+reveal_type(next(dollar.rank_all([table], 1, errors="raise")))  # is dollar.answers.RankTest
+word: str = "raise"
+reveal_type(next(dollar.rr_all([table], errors=word)))  # is Union[dollar.answers.RiemannRoch, dollar.answers.RefusedRiemannRoch]
+reveal_type(dollar.judge_all(table, divisors=[[1, 2]]).columns())  # is dollar.columns.VerdictColumns
+with table.serve() as session:
+    entry = session.ask("look")
+    reveal_type(entry)  # is dollar.answers.Entry
+    reveal_type(entry.amounts)  # is Union[builtins.dict[typing.Hashable, builtins.int], None]
+    if isinstance(entry, dollar.Looked):
+        reveal_type(entry.amounts)  # is builtins.dict[typing.Hashable, builtins.int]
+    if isinstance(entry, dollar.Judged):
+        reveal_type(entry.found)  # is dollar.answers.Verdict
+    if isinstance(entry, dollar.Tested):
+        reveal_type(entry.found)  # is dollar.answers.RankTest
+'''
+
+
+class OfTypes(Test):
+    def test_what_mypy_says(self):
+        if importlib.util.find_spec("mypy") is None:
+            self.skipTest("the types, for want of mypy")
+        folder = self.folder()
+        (folder / "sample.py").write_text(SAMPLE)
+        words = ["--strict", "--hide-error-context", "--cache-dir", folder / "cache", folder / "sample.py"]
+        said = subprocess.run([sys.executable, "-m", "mypy", *words], stdout=subprocess.PIPE, stderr=subprocess.STDOUT, text=True,
+                              cwd=PACKAGE).stdout
+        found = {}
+        for number, kind, text in re.findall(r'sample\.py:(\d+): (error|note): (.*)', said):
+            revealed = re.search(r'Revealed type is "(.*)"', text)
+            if kind == "error" or revealed:
+                found.setdefault(int(number), "is " + revealed[1] if revealed else "error")
+        wanted = {number: line.partition("  # ")[2] for number, line in enumerate(SAMPLE.splitlines(), 1) if "  # " in line}
+        self.assertEqual(found, wanted, said)
