@@ -7,7 +7,7 @@
 --   told_rich, told_poor, told_high   what the degree or the genus settles is told
 --   told_within      so is what a test of the lower degree within the limits tells
 use Rattle.dg_rank.proofs.Common.{◌≡◌, ℕ, ◌<◌, inl, inr, Bool, true, false, arith, subst, ◌↔◌, ◌≤ℤ◌, ◌<ℤ◌, ◌+ℤ◌, MatchBool, min, cases_lt, ints, pos, Multigraph, IsMultigraph, genus, Amounts, degree, AgreeOn, less, canonical, HasRankAtLeast, sum_below-cong, equivalent-refl, equivalent-rank, IsDual, dual-degree, dual_tests, IsPastLimits, IsWithin, IsUnsettled, BothArePast, IsUntold}
-use Rattle.dg_rank.proofs.Counts.{past_above, past_within}
+use Rattle.dg_rank.proofs.Numbering.{past_above, past_within}
 
 pub decided : {P Q : Type 0} (b : Bool) → P ↔ Q → MatchBool b P (¬ P) → MatchBool b Q (¬ Q)
 decided true same holds = same.0 holds

@@ -18,8 +18,7 @@
 use Rattle.dg_rank.proofs.Common.{◌≡◌, ℕ, ◌<◌, List, length, arith, refl, sym, subst, ◌∙◌, ◌≤ℤ◌, ◌<ℤ◌, not, Option, Some, None, is_some, MatchBool, MatchOption, ⊤, both_ways, ints, pos, Multigraph, IsMultigraph, Amounts, degree, IsEffective, IsWinnable, less, HasRankAtLeast, IsBefore, IsFirstLoss, sum_below-cong, win_more, degree-less, degree-winnable, Vector, at, IsTrial, ComesBefore, IsNumbering, AnyTrial, IsWithinLimits, amounts_of, HoldsTrial, WinsWithout, AllWin, IsFirstLossIn}
 use Rattle.std.specs.Prelude.{Bool, true, false}
 use Rattle.dg_rank.specs.Numbering.{trial_count, nth_trial}
-use Rattle.dg_rank.proofs.Numbering.{numbered}
-use Rattle.dg_rank.proofs.Counts.{limits_count, some_trial}
+use Rattle.dg_rank.proofs.Numbering.{numbered, limits_count, some_trial}
 use Rattle.dg_rank.proofs.CountedOnce.{lower_number}
 use Rattle.dg_rank.proofs.TrialLists.{listed, listed-amounts, listed-trial, degree-trial}
 

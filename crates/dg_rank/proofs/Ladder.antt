@@ -12,7 +12,7 @@
 --   ranks_by_ladders   both ranks by their tests
 use Rattle.dg_rank.proofs.Common.{◌≡◌, ℕ, zero, suc, ◌+◌, ◌<◌, ◌⊎◌, inl, inr, arith, refl, sym, ap, subst, ◌∙◌, ⊎_elim, Result, Ok, Err, cases_eq, ints, ℤ, pos, negsuc, ◌-ℤ◌, Multigraph, Amounts, AgreeOn, less, canonical, HasRankAtLeast, IsRank, agree-sym, equivalent-refl, loss_bounds_rank, equivalent-rank, rank_passes, Vector, at, RankVerdict, AtLeast, Below, AnswersRankTest, AreAnswers, PassesBelow, FailsAfter, MeetsTooMany, RankByLadder, RanksByLadders, IsPastLimits, IsWithin, IsRankInLimits, NeedsTooMany, RankFault, TooMany}
 use Rattle.std.proofs.Math.IntN.{◌+ℤ◌}
-use Rattle.dg_rank.proofs.Counts.{past_above, past_within}
+use Rattle.dg_rank.proofs.Numbering.{past_above, past_within}
 use Rattle.dg_rank.proofs.RankByTests.{rank_before}
 
 module _ (g : Multigraph) (D : Amounts) (k : ℕ) where

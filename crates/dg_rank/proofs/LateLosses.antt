@@ -19,11 +19,10 @@ use Rattle.dg_rank.proofs.Common.{◌≡◌, ◌≢◌, ℕ, suc, ◌+◌, ◌-�
 use Rattle.std.proofs.Common.{not, min}
 use Rattle.std.proofs.Math.IntN.{◌+ℤ◌}
 use Rattle.dg_rank.specs.Numbering.{trial_count, nth_trial}
-use Rattle.dg_rank.proofs.Counts.{limits_count}
 use Rattle.dg_rank.proofs.Elsewhere.{only_at-more, more_equivalent, form_degree, degree-given, degree-taken}
 use Rattle.dg_rank.proofs.FirstLosses.{nth-trial, some_number}
 use Rattle.dg_rank.proofs.Leaps.{first_empty}
-use Rattle.dg_rank.proofs.Numbering.{numbered}
+use Rattle.dg_rank.proofs.Numbering.{numbered, limits_count}
 use Rattle.dg_rank.proofs.ReducedTrials.{as_much_or_more}
 use Rattle.dg_rank.proofs.TrialLists.{degree-trial}
 

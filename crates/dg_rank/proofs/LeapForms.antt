@@ -8,8 +8,7 @@ use Rattle.dg_rank.proofs.Common.{◌≡◌, ◌≢◌, ℕ, suc, ◌+◌, ◌-�
 use Rattle.std.proofs.Common.{min}
 use Rattle.std.proofs.Math.IntN.{◌+ℤ◌}
 use Rattle.dg_rank.specs.Numbering.{trial_count, nth_trial}
-use Rattle.dg_rank.proofs.Numbering.{numbered}
-use Rattle.dg_rank.proofs.Counts.{some_trial, limits_trial}
+use Rattle.dg_rank.proofs.Numbering.{numbered, some_trial, limits_trial}
 use Rattle.dg_rank.proofs.Search.{win_next}
 use Rattle.dg_rank.proofs.Elsewhere.{more_equivalent, only_at-more, form_wins}
 use Rattle.dg_rank.proofs.Leaps.{IsSplit, IsAmong, among, all_first}

@@ -13,10 +13,9 @@
 use Rattle.dg_rank.proofs.Common.{◌≡◌, ℕ, zero, suc, ◌+◌, ◌-◌, ◌<◌, ◌≤◌, List, [], ◌∷◌, ◌++◌, length, take, drop, arith, refl, sym, ap, ◌∙◌, slice_index, sum, take-append-drop, length-take-le, length-drop, get_or-drop, sum_by-take-drop, IsTrial, IsNumbering, AnyTrial, IsWithinLimits}
 use Rattle.dg_rank.specs.Numbering.{trial_count, raised, nth_trial}
 use Rattle.dg_rank.proofs.Lists.{sum_cons}
-use Rattle.dg_rank.proofs.Numbering.{numbered}
+use Rattle.dg_rank.proofs.Numbering.{numbered, some_trial, limits_count, limits_trial}
 use Rattle.dg_rank.proofs.CountedOnce.{no_lower}
 use Rattle.dg_rank.proofs.Pascal.{count_more, count_one_more, no_dollar}
-use Rattle.dg_rank.proofs.Counts.{some_trial, limits_count, limits_trial}
 use Rattle.dg_rank.proofs.Unranking.{nth_low, nth_high, nth_broke, count_broke, one_amount}
 
 -- those with an amount at the first place

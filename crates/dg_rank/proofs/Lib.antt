@@ -3,7 +3,6 @@ pub mod Lists
 pub mod Numbering
 pub mod CountedOnce
 pub mod Pascal
-pub mod Counts
 pub mod NextTrial
 pub mod Unranking
 pub mod Walk

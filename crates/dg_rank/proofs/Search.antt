@@ -4,7 +4,7 @@
 --   reached    a leap from the next trial reaches one further on
 use Rattle.dg_rank.proofs.Common.{◌≡◌, ℕ, ◌+◌, ◌<◌, ◌≤◌, List, arith, sym, subst, ⊎_elim, cases_eq, cases_lt, Multigraph, Amounts, Vector, IsWithinLimits, WinsWithout, AllWin, IsLeft}
 use Rattle.dg_rank.specs.Numbering.{trial_count, nth_trial}
-use Rattle.dg_rank.proofs.Counts.{limits_count}
+use Rattle.dg_rank.proofs.Numbering.{limits_count}
 
 pub win_next : (g : Multigraph) (D : Amounts) (k i j : ℕ) (E : List ℕ) → E ≡ nth_trial g.size k j → AllWin g D k i j →
     WinsWithout g D E → AllWin g D k i (j + 1)

@@ -9,7 +9,7 @@
 --   moved_as_told      the walk moves what it tells
 use Rattle.dg_rank.proofs.Common.{◌≡◌, ◌≢◌, ℕ, ◌+◌, ◌-◌, ◌<◌, ◌≤◌, List, length, set, arith, sym, ap, ◌∙◌, ⊎_elim, length-set, get_or-set_same, get_or-set_other, slice_index, sum, pos, ◌-ℤ◌, cases_eq, cases_lt, ints, sum_by-set, get_or-le-sum_by, only_at, only_at-here, only_at-other, IsTrial, IsWithinLimits, amounts_of, change, IsMoved}
 use Rattle.dg_rank.specs.Numbering.{trial_count, nth_trial}
-use Rattle.dg_rank.proofs.Counts.{limits_count, limits_trial}
+use Rattle.dg_rank.proofs.Numbering.{limits_count, limits_trial}
 use Rattle.dg_rank.proofs.NextTrial.{IsNext, next_number, has_place}
 
 abbrev pub HasNext : List ℕ → Type 0

@@ -109,8 +109,8 @@ pub(crate) fn search_cheaply(
     }
 }
 
-/// What is known of all trials if those before a number win: by some more, by those that are reduced for the last vertex, and by
-/// a walk from place to place.
+/// What is known of all trials if those before a number win: by some more, by those that are reduced for the last vertex, and,
+/// if one of these loses, by a walk from place to place.
 fn search_more(
     graph: &Graph,
     inverse: &InverseLaplacian,
@@ -135,7 +135,8 @@ fn search_more(
     }
     match search_reduced(graph, inverse, chips, k, few_visits(count)) {
         Some(true) => SearchState::Won,
-        _ => or_open(search_by_places(graph, inverse, chips, k, count), to),
+        Some(false) => or_open(search_by_places(graph, inverse, chips, k, count), to),
+        None => SearchState::Open(to),
     }
 }
 

@@ -19,9 +19,13 @@ use dg_reduce::{EffectiveDivisor, InverseLaplacian};
 /// From so many trials on it is worth asking what tells them together.
 pub(crate) const MANY: u32 = 8192;
 
-/// What a walk tells of all trials of degree k, of which there are so many: nothing if they are not many, and if it ends early,
-/// because it does not meet the same amounts often enough. It stands apart, so that no other test has room for its memory on the
-/// stack.
+/// Up to which degree there is a walk: it calls itself for each dollar, and each call has room on the stack. On four vertices or
+/// more no degree within the limits is higher.
+const DEEPEST: u32 = 104;
+
+/// What a walk tells of all trials of degree k, of which there are so many: nothing if they are not many, if the walk would be
+/// too deep, and if it ends early, because it does not meet the same amounts often enough. It stands apart, so that no other
+/// test has room for its memory on the stack.
 #[inline(never)]
 pub(crate) fn search_by_places(
     graph: &Graph,
@@ -35,7 +39,7 @@ pub(crate) fn search_by_places(
     requires limits { IsWithinLimits graph.now.size k count }
     ensures { IsPartial graph.now (at chips.now) k 0 count result }
 {
-    if count < MANY {
+    if count < MANY || k > DEEPEST {
         return SearchState::Open(0);
     }
     let first = Trial::with_number(graph.size(), k, 0);

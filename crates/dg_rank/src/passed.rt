@@ -6,7 +6,7 @@ ghost use Rattle.dg_rank.specs.LateLosses.{restored, WinFrom, IsPassed};
 use dg_reduce::EffectiveDivisor;
 
 /// How many are remembered.
-const SLOTS: usize = 512;
+const SLOTS: usize = 128;
 
 /// How many visits a walk may make if it never meets the same amounts again.
 const FIRST_VISITS: u32 = 1024;

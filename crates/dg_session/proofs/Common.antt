@@ -24,7 +24,7 @@ pub use Rattle.dg_lines.specs.Texts.{HasNames, entry_text}
 pub use Rattle.dg_lines.specs.declared.line.LineFault.{LineFault}
 pub use Rattle.dg_log.specs.Numbered.{AreBelow, IsBeginning, StandIn}
 pub use Rattle.dg_log.specs.Tables.{TableData}
-pub use Rattle.dg_rank.proofs.Counts.{past_within}
+pub use Rattle.dg_rank.proofs.Numbering.{past_within}
 pub use Rattle.dg_rank.specs.Limits.{IsPastLimits}
 pub use Rattle.dg_rank.specs.Ranks.{IsRankFault, IsWithin}
 pub use Rattle.dg_session.specs.EntriesSoFar.{EntriesSoFarView}

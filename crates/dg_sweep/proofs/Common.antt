@@ -22,7 +22,7 @@ pub use Rattle.dg_lines.specs.Cuts.{lines, pieces_after, words}
 pub use Rattle.dg_lines.specs.Judgements.{IsJudgement, burning_text, judgement_text}
 pub use Rattle.dg_lines.specs.Streams.{Begins, HasNoNewline, HaveCome, last_line, with_newline}
 pub use Rattle.dg_lines.specs.Texts.{pair, rank_text, verdict_text, verdict_word}
-pub use Rattle.dg_rank.proofs.Counts.{past_within}
+pub use Rattle.dg_rank.proofs.Numbering.{past_within}
 pub use Rattle.dg_rank.specs.Limits.{IsPastLimits}
 pub use Rattle.dg_rank.specs.Ranks.{IsUntold, IsWithin, NeedsPastTests}
 pub use Rattle.dg_sweep.specs.AnswerLaws.{AmountsHaveOneAnswer, AmountsHaveOneMeaning, HasOneAnswer}

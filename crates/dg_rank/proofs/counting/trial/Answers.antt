@@ -1,7 +1,6 @@
 use Rattle.dg_rank.proofs.Common.{◌≡◌, ℕ, List, length, arith, subst, IsTrial, HoldsTrial}
 use Rattle.dg_rank.specs.Numbering.{trial_count, nth_trial}
-use Rattle.dg_rank.proofs.Counts.{limits_count, limits_trial}
-use Rattle.dg_rank.proofs.Numbering.{counted_before}
+use Rattle.dg_rank.proofs.Numbering.{counted_before, limits_count, limits_trial}
 use Rattle.dg_rank.proofs.counting.trial.Goals as goal
 
 pub to_divisor-requires : goal.to_divisor-requires

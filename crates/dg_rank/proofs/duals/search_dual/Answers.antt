@@ -1,5 +1,5 @@
 use Rattle.dg_rank.proofs.Common.{ℕ, ◌≤◌, arith, ints, equivalent-rank, at, IsWithinLimits, AllWin}
-use Rattle.dg_rank.proofs.Counts.{limits_count}
+use Rattle.dg_rank.proofs.Numbering.{limits_count}
 use Rattle.dg_rank.proofs.FirstLosses.{all_trials_win}
 use Rattle.dg_rank.proofs.PieceLosses.{loss_before, loss_after, wins_both}
 use Rattle.dg_rank.proofs.DualTests.{unsettled_dual, dual_passes}

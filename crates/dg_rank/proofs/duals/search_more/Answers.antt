@@ -23,7 +23,10 @@ won c =
     wins_both c.args.graph.now (at c.args.chips.now) c.args.k 0 c.args.from c.min-to.result c.requires.before
     c.in_default.ensures
 
-pub returns-in_default-search_reduced : goal.returns-in_default-search_reduced
-returns-in_default-search_reduced c =
+pub returns-in-Some-false : goal.returns-in-Some-false
+returns-in-Some-false c =
     c.or_open.ensures c.args.graph.now (at c.args.chips.now) c.args.k c.args.count c.search_by_places.ensures
-    (omega arith) (won (goal.at.returns-in_default-search_reduced c).After-search_reduced)
+    (omega arith) (won (goal.at.returns-in-Some-false c).After-search_reduced)
+
+pub returns-in-None : goal.returns-in-None
+returns-in-None c = (omega arith, won (goal.at.returns-in-None c).After-search_reduced)

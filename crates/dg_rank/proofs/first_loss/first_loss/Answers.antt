@@ -1,6 +1,6 @@
 use Rattle.dg_rank.proofs.Common.{◌≡◌, ℕ, ◌+◌, List, length, true, false, arith, refl, sym, subst, ◌∙◌, less, at, IsEffectiveDivisor, amounts_of, IsTrial}
 use Rattle.dg_rank.specs.Numbering.{nth_trial}
-use Rattle.dg_rank.proofs.Counts.{limits_count}
+use Rattle.dg_rank.proofs.Numbering.{limits_count}
 use Rattle.dg_rank.proofs.FirstLosses.{nth-trial}
 use Rattle.dg_rank.proofs.Search.{IsReached, reached}
 use Rattle.dg_rank.proofs.Elsewhere.{next_told, left_degree, trial_places}

@@ -1,6 +1,6 @@
 use Rattle.dg_rank.proofs.Common.{◌≡◌, ℕ, ◌+◌, ◌<◌, ◌≤◌, ◌-◌, length, arith, sym, ap, ◌∙◌, slice_index, ints, get_or-le-sum_by, sum, unsigned_abs, pos, only_at, only_at-other, at, IsTrial}
 use Rattle.dg_rank.specs.Numbering.{trial_count}
-use Rattle.dg_rank.proofs.Counts.{limits_trial, some_trial}
+use Rattle.dg_rank.proofs.Numbering.{limits_trial, some_trial}
 use Rattle.dg_rank.proofs.Elsewhere.{rich_small}
 use Rattle.dg_rank.proofs.LeapForms.{IsOver, leaps, stays}
 use Rattle.dg_rank.proofs.first_loss.leap.Goals as goal

@@ -1,6 +1,6 @@
 use Rattle.dg_rank.proofs.Common.{◌≡◌, ◌-◌, ◌<◌, ℕ, arith, subst, sym, ◌∙◌, refl, set, take, ◌++◌, length-take-le}
 use Rattle.dg_rank.specs.Numbering.{trial_count, nth_trial}
-use Rattle.dg_rank.proofs.Counts.{limits_count}
+use Rattle.dg_rank.proofs.Numbering.{limits_count}
 use Rattle.dg_rank.proofs.Unranking.{last_amount}
 use Rattle.dg_rank.proofs.enumeration.Trial.with_number.Goals as goal
 
