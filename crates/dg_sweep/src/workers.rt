@@ -16,8 +16,9 @@ use std::thread::Threads;
 /// The fewest bytes for which one more worker is used.
 const SHARE_SIZE: usize = 1_024;
 
-/// The bytes of a piece, after which it goes on to the end of a line.
-const PIECE_SIZE: usize = 512;
+/// The bytes of a piece, after which it goes on to the end of a line. A table of some vertices has as many, so that two slow
+/// lines are seldom in one piece.
+const PIECE_SIZE: usize = 128;
 
 /// What all workers of a sweep share.
 pub(crate) struct SweepContext<'a, R, K> {
@@ -163,18 +164,31 @@ fn put_answers<R, K: LineKind>(
         Leads (K.answers context.now.kind.now) (flat_map (λ piece. piece.now) pieces.now) said
         × (text.new.items ≡ text.old.items ++ said)) }
 {
+    let found = places_in(context.alloc, done, pieces.len())?;
     for place in 0..pieces.len() {
-        put_answer(context, pieces, place, done, text)?;
+        put_answer(context, pieces, place, done, &found, text)?;
     }
     Ok(())
 }
 
-/// Puts the answers to the piece at the place after the text. A piece that no worker took is answered here.
+/// For each place of so many, where its answer is among these, or their number if it is not there.
+fn places_in(alloc: Global, done: &[Answered], count: usize) -> Result<Vec<usize>, AllocError> {
+    let mut found = vec![in alloc; done.len(); count]?;
+    for (index, answered) in done.iter().enumerate() {
+        if let Some(at) = found.get_mut(answered.place) {
+            *at = index;
+        }
+    }
+    Ok(found)
+}
+
+/// Puts the answers to the piece at the place after the text. A piece that is not found among those done is answered here.
 fn put_answer<R, K: LineKind>(
     context: &SweepContext<'_, R, K>,
     pieces: &[&[u8]],
     place: usize,
     done: &[Answered],
+    found: &[usize],
     text: &mut Vec<u8>,
 ) -> Result<(), AllocError>
     requires place { place < length pieces.now }
@@ -183,8 +197,8 @@ fn put_answer<R, K: LineKind>(
         × AnswersPiece (K.answers context.now.kind.now) (get_or (map (λ piece. piece.now) pieces.now) place []) said
         × (text.new.items ≡ text.old.items ++ said)) }
 {
-    if let Some(found) = text_at(done, place) {
-        text.extend_from_slice(found)?;
+    if let Some(answers) = text_at(done, found, place) {
+        text.extend_from_slice(answers)?;
         return Ok(());
     }
     let mut answer = Vec::new(context.alloc);
@@ -198,17 +212,16 @@ fn put_answer<R, K: LineKind>(
     Ok(())
 }
 
-/// The text of an answer to the piece at the place.
-fn text_at(done: &[Answered], place: usize) -> Option<&[u8]>
+/// The text of the answer to the piece at the place, if it is found where it should be.
+fn text_at<'a>(done: &'a [Answered], found: &[usize], place: usize) -> Option<&'a [u8]>
     ensures { IfSome result (λ text. (answered : Answered) × Contains done.now answered
         × (answered.place ≡ place) × (text.now ≡ answered.text.items)) }
 {
-    for answered in done {
-        if answered.place == place {
-            return Some(&answered.text);
-        }
+    let answered = done.get(*found.get(place)?)?;
+    if answered.place != place {
+        return None;
     }
-    None
+    Some(&answered.text)
 }
 
 /// Cuts bytes into pieces, each up to a newline, and what follows them.
