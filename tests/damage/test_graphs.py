@@ -178,6 +178,13 @@ def small_stacks(checks):
             checks.same("%s of %s with a stack of 256 KiB" % (words[0], what), checks.run(*words), checks.run(*words, before=limited))
         checks.same("serve of %s with a stack of 256 KiB" % what, checks.run("serve", board, typed=b"look\ncommit\nlook\nrank 1\n"),
                     checks.run("serve", board, typed=b"look\ncommit\nlook\nrank 1\n", before=limited))
+    # These tests of many dollars walk deep, or would if they might.
+    for edges, amounts, degree in (([(0, 1, 1), (1, 2, 40), (2, 3, 1)], [9, 118, 3, 0], "96"),
+                                   ([(0, 1, 11), (0, 2, 1), (2, 3, 1), (2, 4, 1)], [9, 0, 32, 2, 0], "42"),
+                                   ([(0, 1, 1), (1, 2, 40)], [3, 560, 0], "491"), ([(0, 1, 1), (0, 2, 30)], [2, 700, 0], "630")):
+        board = checks.put("board", json.dumps(table(len(amounts), edges, amounts)).encode())
+        checks.same("rank %s of %s with a stack of 256 KiB" % (degree, edges), checks.run("rank", board, degree),
+                    checks.run("rank", board, degree, before=limited))
     for words in (("--help",), ("--version",), ("help", "serve"), ("judge",), ("nothing",)):
         checks.same("%s with a stack of 256 KiB" % " ".join(words), checks.run(*words), checks.run(*words, before=limited))
 
