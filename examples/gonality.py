@@ -1,13 +1,13 @@
 #!/usr/bin/env python3
-"""The gonality of a graph: the least degree of an effective divisor whose rank is at least 1. Whoever plays with so many dollars can
-place them so that any one dollar may be lost.
+"""The gonality of a graph: the least degree of an effective divisor whose rank is at least 1. So many dollars can be placed so that
+any one of them may be lost.
 
     examples/gonality.py FILE
 
 prints the gonality of the graph of each line of FILE, a table each; what it holds does not matter.
 
-A divisor of rank at least 1 can be fired to one that is effective and has a dollar at q, so those alone are tried: for each degree one
-run of the program, over all of them as divisors of one table.
+A divisor of rank at least 1 can be fired to one that is effective and has a dollar at q, so only such divisors are tried. Each
+degree takes one run of the program, over all of them as divisors of one table.
 
     >>> gonality(graph(5, [(0, 1), (1, 2), (1, 3), (3, 4)])), gonality(graph(7, [(i, (i + 1) % 7) for i in range(7)]))
     (1, 2)

@@ -1,6 +1,6 @@
 #!/usr/bin/env python3
-"""Plays a game with the program through a pipe, and chooses each line by the answer to the one before: whoever owes most borrows, until
-nobody owes anything.
+"""Plays a game with the program through a pipe, and chooses each line by the answer to the one before: the vertex that
+owes most borrows, until nobody owes anything.
 
     examples/talk.py [FILE]"""
 import os

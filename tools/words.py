@@ -1,7 +1,7 @@
 #!/usr/bin/env python3
-"""The grammar of the program, read off the code that is proved: the commands of the step language, the replies, what a session says of a
-line that is no entry, the faults with their exit statuses, and the limits. It stands in python/dollar/grammar.json, which everything
-else reads; tools/lint compares it with the code.
+"""The grammar of the program, read off the code that is proved: the commands of the step language, the replies, what a
+session says of a line that makes no entry, the faults with their exit statuses, and the limits. Its home is
+python/dollar/grammar.json, which everything else reads; tools/lint compares it with the code.
 
     tools/words.py            prints it
     tools/words.py --write    writes it"""

@@ -6,7 +6,9 @@ compared with what Python prints, and what stands below 'From `FILE`:' with that
 is run in a folder which has the files that this help shows: the table that every help has to show, and what stands below a line `$ cat
 FILE`."""
 import doctest
+import json
 import re
+import shutil
 import subprocess
 import sys
 import textwrap
@@ -15,6 +17,7 @@ import xml.dom.minidom
 from helpers import EXAMPLES, PACKAGE, ROOT, Test, each, program
 
 PAGES = [ROOT / "README.md", *sorted((ROOT / "docs").glob("*.md")), EXAMPLES / "README.md"]
+HANDOUT = ROOT / "docs" / "handout.html"
 DRAW = [sys.executable, "-B", PACKAGE / "dollar", "draw"]
 
 
@@ -72,3 +75,20 @@ class OfPages(Test):
         for words in [], [EXAMPLES / "houses.json", EXAMPLES / "cube.json"], ["--nothing"]:
             done = subprocess.run([*DRAW, *words], stdout=subprocess.PIPE, stderr=subprocess.DEVNULL)
             self.assertEqual((done.returncode, done.stdout), (2, b""))
+
+    def test_the_handout(self):
+        """Its table begins with the houses, and with what the program prints when cyd lends."""
+        houses = json.loads((EXAMPLES / "houses.json").read_text())
+        rows = dict(re.findall(r"<tr><td>(start|cyd lends)</td>(.*?)</tr>", HANDOUT.read_text()))
+        start, after = (list(map(int, re.findall(r"-?\d+", row))) for row in (rows["start"], rows["cyd lends"]))
+        self.assertEqual(start, [*houses["amounts"], sum(houses["amounts"])])
+        said = subprocess.run([program(), "serve", EXAMPLES / "houses.json"], input="lend cyd", stdout=subprocess.PIPE, text=True).stdout
+        self.assertEqual(list(map(int, re.findall(r"=(-?\d+)", said))), after)
+
+    def test_the_handout_fits_a_sheet(self):
+        if not shutil.which("chromium"):
+            self.skipTest("how the handout is printed, for want of chromium")
+        sheet = self.folder() / "handout.pdf"
+        subprocess.run(["chromium", "--headless", "--no-sandbox", "--disable-gpu", f"--print-to-pdf={sheet}", HANDOUT], stderr=subprocess.DEVNULL,
+                       stdout=subprocess.DEVNULL, check=True)
+        self.assertEqual(len(re.findall(rb"/Type */Page\b(?!s)", sheet.read_bytes())), 1)
