@@ -14,7 +14,7 @@ from typing import Any, Callable, Iterable, Iterator, List, Optional, Pattern, S
 from dollar.answers import RankTest, Verdict, no_answer, rank_test_of, verdict_of
 from dollar.looking import verdict_look
 from dollar.table import Table
-from dollar.vertices import Dollars, Pairs, Vertices
+from dollar.vertices import Dollars, Fixed, Pairs, Vertices
 
 NUMBER = r"(0|-?[1-9]\d*)"
 # How many divisors are written at once; the least number that is not written by numpy; and how many bytes it does not pay to read by it.
@@ -65,7 +65,7 @@ def verdict_reader(vertices: Vertices) -> Callable[[str, Any], Verdict]:
         word, *texts = found.groups()
         numbers = list(map(int, texts))
         if are_names:
-            return verdict_on(kept, word is None, dict(zip(given, numbers[:size])), dict(zip(given, numbers[size:])))
+            return verdict_on(kept, word is None, Fixed(zip(given, numbers[:size])), Fixed(zip(given, numbers[size:])))
         return verdict_on(kept, word is None, keyed(numbers[:size]), keyed(numbers[size:]))
 
     return read
@@ -84,7 +84,7 @@ def verdicts_reader(vertices: Vertices) -> Callable[[bytes], Optional[Iterator[T
             return None
         winnable, values = found[0].tolist(), found[1].tolist()
         if are_names:
-            return ((is_won, dict(zip(given, row[:size])), dict(zip(given, row[size:]))) for is_won, row in zip(winnable, values))
+            return ((is_won, Fixed(zip(given, row[:size])), Fixed(zip(given, row[size:]))) for is_won, row in zip(winnable, values))
         return ((is_won, keyed(row[:size]), keyed(row[size:])) for is_won, row in zip(winnable, values))
 
     return read

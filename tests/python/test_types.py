@@ -30,7 +30,8 @@ dollar.judge_all(5)  # error
 dollar.judge_all(table, divisors=[1, 2])  # error
 dollar.Session(5)  # error
 reveal_type(dollar.judge(table).winnable)  # is builtins.bool
-reveal_type(dollar.judge(table).script)  # is builtins.dict[typing.Hashable, builtins.int]
+dollar.judge(table).script[0] = 1  # error
+reveal_type(dollar.judge(table).script)  # is typing.Mapping[typing.Hashable, builtins.int]
 reveal_type(table.rank())  # is builtins.int
 reveal_type(table + [1, 2])  # is dollar.table.Table
 reveal_type(3 * table)  # is dollar.table.Table
@@ -45,9 +46,9 @@ reveal_type(dollar.judge_all(table, divisors=[[1, 2]]).columns())  # is dollar.c
 with table.serve() as session:
     entry = session.ask("look")
     reveal_type(entry)  # is dollar.answers.Entry
-    reveal_type(entry.amounts)  # is Union[builtins.dict[typing.Hashable, builtins.int], None]
+    reveal_type(entry.amounts)  # is Union[typing.Mapping[typing.Hashable, builtins.int], None]
     if isinstance(entry, dollar.Looked):
-        reveal_type(entry.amounts)  # is builtins.dict[typing.Hashable, builtins.int]
+        reveal_type(entry.amounts)  # is typing.Mapping[typing.Hashable, builtins.int]
     if isinstance(entry, dollar.Judged):
         reveal_type(entry.found)  # is dollar.answers.Verdict
     if isinstance(entry, dollar.Tested):
