@@ -14,7 +14,7 @@ from dollar.readers import RIEMANN_ROCH, numpy_or_none, rank_test_form, verdict_
 from dollar.vertices import Vertices
 
 # How many bytes are looked at together.
-AT_ONCE = 1 << 19
+AT_ONCE = 1 << 17
 # Columns are arrays: for numbers of a library that may not be here no type can be named.
 Column = Any
 ByVertex = Dict[Hashable, Column]
