@@ -13,7 +13,7 @@ from typing import (
 from dollar import checks, drawing
 from dollar.grammar import GRAMMAR
 from dollar.program import Fault, Place
-from dollar.vertices import Pairs, Vertices, by_name
+from dollar.vertices import Fixed, Pairs, Vertices, by_name
 
 if TYPE_CHECKING:
     from dollar.table import Table
@@ -32,7 +32,7 @@ def pairs_text(amounts: Mapping[Any, int]) -> str:
 
 def pairs_of(text: str, vertices: Optional[Vertices] = None) -> Pairs:
     """The amounts that the program has printed so, by the vertices of a table, or by their names if there is none."""
-    found: Pairs = {name: int(amount) for name, amount in (pair.split("=") for pair in text.split(" "))}
+    found = Fixed((name, int(amount)) for name, amount in (pair.split("=") for pair in text.split(" ")))
     return found if vertices is None else vertices.read(found)
 
 
@@ -139,8 +139,8 @@ class Verdict(OfTable):
     @property
     def burning(self) -> Optional[List[Any]]:
         """The vertices in the order in which they burn in the reduced divisor."""
-        found: Optional[List[Any]] = vars(self).get("_burning")
-        return found
+        found = vars(self).get("_burning")
+        return None if found is None else list(found)
 
     def __bool__(self) -> bool:
         return self.winnable

@@ -245,6 +245,8 @@ def main(arguments: List[str]) -> int:
     with open(given.divisors or given.file, "rb"):
         pass
     try:
+        # Workers are forked from a process that has loaded all modules: so each is there sooner.
+        importlib.import_module("dask.config").set({"distributed.worker.multiprocessing-method": "forkserver"})
         dask = importlib.import_module("distributed")
     except ModuleNotFoundError as error:
         raise ValueError("this Python, %s, has %s" % (sys.executable, str(error).lower())) from error

@@ -5,25 +5,40 @@ from __future__ import annotations
 import re
 from array import array
 from itertools import chain
-from typing import Any, Dict, Hashable, List, Optional, Sequence, Tuple
+from typing import TYPE_CHECKING, Any, Generic, Hashable, List, Mapping, Optional, Sequence, Tuple, TypeVar, Union
 
 from dollar.answers import no_answer
 from dollar.looking import Look, verdict_look
 from dollar.program import Fault
-from dollar.readers import RIEMANN_ROCH, numpy_or_none, rank_test_form, verdict_form
+from dollar.readers import RIEMANN_ROCH, rank_test_form, verdict_form
 from dollar.vertices import Vertices
 
+if TYPE_CHECKING:
+    from numpy import bool_, int64
+    from numpy.typing import NDArray
+    from typing_extensions import TypeAlias
+
+    NumpyInts: TypeAlias = NDArray[int64]
+    NumpyTruths: TypeAlias = NDArray[bool_]
+    ArrayInts: TypeAlias = array[int]
+else:
+    NumpyInts = NumpyTruths = ArrayInts = Any
+
+# What a column is that has whole numbers, and one of what is true or false; of either kind of array.
+Ints = TypeVar("Ints")
+Truths = TypeVar("Truths")
+AnyInts = Union[NumpyInts, ArrayInts]
+AnyTruths = Union[NumpyTruths, ArrayInts]
 # How many bytes are looked at together.
-AT_ONCE = 1 << 19
-# Columns are arrays: for numbers of a library that may not be here no type can be named.
-Column = Any
-ByVertex = Dict[Hashable, Column]
+AT_ONCE = 1 << 17
 
 
 class Columns:
     """What columns of all kinds do: they take whole lines, and tell of each kind of answer how many there are."""
 
-    def __init__(self) -> None:
+    def __init__(self, numpy: Any, size: int) -> None:
+        """So many columns of numbers, as arrays of numpy if that is given."""
+        self.numbers = Numbers(numpy, size)
         self.count = self.unread_size = 0
         self.unread: List[bytes] = []
 
@@ -71,8 +86,8 @@ class Columns:
 class Numbers:
     """Columns of whole numbers that grow by rows."""
 
-    def __init__(self, size: int) -> None:
-        self.numpy, self.size = numpy_or_none(), size
+    def __init__(self, numpy: Any, size: int) -> None:
+        self.numpy, self.size = numpy, size
         self.parts: List[Any] = []
         self.flat = array("q")
 
@@ -84,7 +99,7 @@ class Numbers:
         else:
             self.flat += numbers
 
-    def columns(self) -> List[Column]:
+    def columns(self) -> List[Any]:
         if not self.numpy:
             return [self.flat[place::self.size] for place in range(self.size)]
         if not self.parts:
@@ -92,23 +107,21 @@ class Numbers:
         return list(self.numpy.concatenate(self.parts).T)
 
 
-def truths(values: Sequence[bool]) -> Column:
+def truths(numpy: Any, values: Sequence[bool]) -> Any:
     """A column of what is true or false."""
-    numpy = numpy_or_none()
     return numpy.array(values, dtype=bool) if numpy else array("b", values)
 
 
-class VerdictColumns(Columns):
+class VerdictColumns(Columns, Generic[Ints, Truths]):
     """The verdicts on many divisors of one graph: `winnable` is a column, and `script` and `reduced` have one for each vertex."""
 
-    winnable: Column
-    script: ByVertex
-    reduced: ByVertex
+    winnable: Truths
+    script: Mapping[Hashable, Ints]
+    reduced: Mapping[Hashable, Ints]
 
-    def __init__(self, vertices: Vertices) -> None:
-        super().__init__()
+    def __init__(self, vertices: Vertices, numpy: Any = None) -> None:
         self.vertices, self.size = vertices, len(vertices.names)
-        self.numbers = Numbers(2 * self.size)
+        super().__init__(numpy, 2 * self.size)
         self.form = verdict_form(vertices.names)
         self.lines = re.compile(r"^%s$" % self.form.pattern, re.ASCII | re.MULTILINE)
         self.words: List[Any] = []
@@ -136,27 +149,26 @@ class VerdictColumns(Columns):
 
     def join(self) -> None:
         columns, numpy = self.numbers.columns(), self.numbers.numpy
-        self.winnable = (numpy.concatenate(self.words) if self.words else truths([])) if numpy else truths(self.words)
+        self.winnable = numpy.concatenate(self.words) if numpy and self.words else truths(numpy, self.words)
         self.script = by_vertex(self.vertices, columns[:self.size])
         self.reduced = by_vertex(self.vertices, columns[self.size:])
         self.words, self.numbers.parts = [], []
 
 
-def by_vertex(vertices: Vertices, columns: Sequence[Column]) -> ByVertex:
-    found: Any = vertices.keyed(columns)
-    return found  # type: ignore[no-any-return]
+def by_vertex(vertices: Vertices, columns: Any) -> Any:
+    """Columns by vertices, which are kept as numbers are."""
+    return vertices.keyed(columns)
 
 
-class RankTestColumns(Columns):
+class RankTestColumns(Columns, Generic[Ints, Truths]):
     """The rank tests of many divisors of one graph: `holds` is a column, and `loss` has one for each vertex, with 0 where it holds."""
 
-    holds: Column
-    loss: ByVertex
+    holds: Truths
+    loss: Mapping[Hashable, Ints]
 
-    def __init__(self, vertices: Vertices, degree: int) -> None:
-        super().__init__()
+    def __init__(self, vertices: Vertices, numpy: Any, degree: int) -> None:
+        super().__init__(numpy, len(vertices.names))
         self.vertices = vertices
-        self.numbers = Numbers(len(vertices.names))
         self.form = rank_test_form(vertices.names)
         self.good, form = b"rank at least %d" % degree, self.form.pattern.replace("(0|[1-9][0-9]*)", "(%d)" % degree, 1)
         self.lines = re.compile("^%s$" % form, re.ASCII | re.MULTILINE)
@@ -195,22 +207,21 @@ class RankTestColumns(Columns):
         return rows if len(rows) == len(lines) else None
 
     def join(self) -> None:
-        self.holds, self.loss = truths(self.words), by_vertex(self.vertices, self.numbers.columns())
+        self.holds, self.loss = truths(self.numbers.numpy, self.words), by_vertex(self.vertices, self.numbers.columns())
 
 
-class RiemannRochColumns(Columns):
+class RiemannRochColumns(Columns, Generic[Ints]):
     """The four numbers of many tables, each a column."""
 
-    degree: Column
-    genus: Column
-    rank: Column
-    dual: Column
+    degree: Ints
+    genus: Ints
+    rank: Ints
+    dual: Ints
 
     LINES = re.compile(r"^degree (-?\d+) genus (-?\d+) rank (-?\d+) dual (-?\d+)$", re.ASCII | re.MULTILINE)
 
-    def __init__(self, vertices: Optional[Vertices] = None) -> None:
-        super().__init__()
-        self.numbers = Numbers(4)
+    def __init__(self, vertices: Optional[Vertices] = None, numpy: Any = None) -> None:
+        super().__init__(numpy, 4)
 
     def read(self, piece: bytes) -> int:
         rows = self.LINES.findall(piece.decode())

@@ -17,14 +17,15 @@ class Look:
         self.numpy, words = numpy, [one + "\n", other + "\n"]
         self.letter, self.size = ord(one[0]), one.count("=")
         self.first, self.sums = [word.index("=") for word in words], [sum(word.encode()) for word in words]
-        self.between = numpy.array([len(part) for part in words[0].split("=")[1:-1]])
+        # What is before the first number is looked at by `first`, with the end of the line before it.
+        self.between = numpy.array([1, *(len(part) for part in words[0].split("=")[1:-1])])
 
     def read(self, piece: bytes) -> Optional[Tuple[Any, Any]]:
         """For each line whether it has the first form, and its numbers; or None if one has none of both."""
         numpy, zero = self.numpy, self.numpy.uint8(ord("0"))
         text = numpy.frombuffer(piece + b"\n", dtype=numpy.uint8)
         equals = numpy.flatnonzero(text == ord("="))
-        if len(equals) % self.size:
+        if len(equals) % self.size or not len(equals):
             return None
         at = equals + 1
         is_less = text[at] == ord("-")
@@ -51,24 +52,27 @@ class Look:
             bytes_of_numbers += int(digits.sum(dtype=numpy.int64)) + ord("0") * len(more)
         else:
             return None
-        numpy.negative(values, out=values, where=is_less)
-        is_first = self.words(text, equals.reshape(-1, self.size), ends.reshape(-1, self.size), bytes_of_numbers)
+        values *= 1 - 2 * is_less.view(numpy.int8)
+        is_first = self.words(text, equals, ends, bytes_of_numbers)
         return None if is_first is None else (is_first, values.reshape(-1, self.size))
 
     def words(self, text: Any, equals: Any, ends: Any, bytes_of_numbers: int) -> Any:
         """For each line whether it has the first form, if all that is no number is as it should be: `equals` is where a number has its
         sign, and `ends` where it ends."""
-        numpy = self.numpy
-        starts = numpy.zeros(len(equals) + 1, dtype=numpy.int64)
-        starts[1:] = ends[:, -1] + 1
-        if starts[-1] != len(text) - 1 or (text[ends[:, -1]] != ord("\n")).any():
+        numpy, size = self.numpy, self.size
+        newlines = ends[size - 1::size]
+        if newlines[-1] != len(text) - 2 or (text[newlines] != ord("\n")).any():
             return None
-        is_first = text[starts[:-1]] == self.letter
-        if (equals[:, 0] - starts[:-1] != numpy.where(is_first, *self.first)).any() or (equals[:, 1:] - ends[:, :-1] != self.between).any():
+        is_first = text[numpy.concatenate(([0], newlines[:-1] + 1))] == self.letter
+        between = equals.copy()
+        between[1:] -= ends[:-1]
+        between[0] += 1
+        between[::size] -= numpy.where(is_first, *self.first)
+        if (between != numpy.tile(self.between, len(is_first))).any():
             return None
         count = int(numpy.count_nonzero(is_first))
         wanted = count * self.sums[0] + (len(is_first) - count) * self.sums[1]
-        return is_first if int(text[:-1].sum(dtype=numpy.int64)) - bytes_of_numbers == wanted else None
+        return is_first if int(text[:-1].sum(dtype=numpy.uint32)) - bytes_of_numbers == wanted else None
 
 
 def verdict_look(numpy: Any, names: Sequence[str]) -> Look:

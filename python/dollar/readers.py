@@ -14,11 +14,11 @@ from typing import Any, Callable, Iterable, Iterator, List, Optional, Pattern, S
 from dollar.answers import RankTest, Verdict, no_answer, rank_test_of, verdict_of
 from dollar.looking import verdict_look
 from dollar.table import Table
-from dollar.vertices import Dollars, Pairs, Vertices
+from dollar.vertices import Dollars, Fixed, Pairs, Vertices
 
 NUMBER = r"(0|-?[1-9]\d*)"
-# How many divisors are written at once; the least number that is not written by numpy; and how many bytes it does not pay to read by it.
-BATCH, MOST_QUICK, LEAST_QUICK = 2_000, 10 ** 9, 4096
+# How many divisors are written at once; the numbers that are written by numpy; and how many bytes it does not pay to read by it.
+BATCH, LEAST_WRITTEN, MOST_WRITTEN, LEAST_QUICK = 2_000, -99, 999, 4096
 
 
 def amounts_form(names: Sequence[str]) -> str:
@@ -65,7 +65,7 @@ def verdict_reader(vertices: Vertices) -> Callable[[str, Any], Verdict]:
         word, *texts = found.groups()
         numbers = list(map(int, texts))
         if are_names:
-            return verdict_on(kept, word is None, dict(zip(given, numbers[:size])), dict(zip(given, numbers[size:])))
+            return verdict_on(kept, word is None, Fixed(zip(given, numbers[:size])), Fixed(zip(given, numbers[size:])))
         return verdict_on(kept, word is None, keyed(numbers[:size]), keyed(numbers[size:]))
 
     return read
@@ -84,7 +84,7 @@ def verdicts_reader(vertices: Vertices) -> Callable[[bytes], Optional[Iterator[T
             return None
         winnable, values = found[0].tolist(), found[1].tolist()
         if are_names:
-            return ((is_won, dict(zip(given, row[:size])), dict(zip(given, row[size:]))) for is_won, row in zip(winnable, values))
+            return ((is_won, Fixed(zip(given, row[:size])), Fixed(zip(given, row[size:]))) for is_won, row in zip(winnable, values))
         return ((is_won, keyed(row[:size]), keyed(row[size:])) for is_won, row in zip(winnable, values))
 
     return read
@@ -172,7 +172,7 @@ def batches_of(table: Table, divisors: Any) -> Iterator[Sequence[Any]]:
     """The divisors, many at once. One that may be used again for the next is copied."""
     if type(divisors) in (list, tuple):
         for start in range(0, len(divisors), BATCH):
-            yield list(divisors[start:start + BATCH])
+            yield divisors[start:start + BATCH]
         return
     taken, number = iter(rows_of(divisors)), 0
     while True:
@@ -207,7 +207,7 @@ def small_ints(numpy: Any, rows: Sequence[Any], size: int) -> Any:
     The module marshal writes an int as the letter i and four bytes, and a list as a bracket and its length in as many, and begins nothing
     else with these: so this looks at types, lengths and values at once."""
     try:
-        text = marshal.dumps(list(rows), 2)
+        text = marshal.dumps(rows if type(rows) is list else list(rows), 2)
     except ValueError:
         return None
     if len(text) != 5 + 5 * len(rows) * (size + 1):
@@ -217,32 +217,23 @@ def small_ints(numpy: Any, rows: Sequence[Any], size: int) -> Any:
     wanted = numpy.array([ord("(" if type(rows[0]) is tuple else "["), *[ord("i")] * size], dtype=numpy.uint8)
     if (kinds != wanted).any():
         return None
-    numbers = found["number"].astype(numpy.int32).reshape(len(rows), size + 1)
-    return numbers[:, 1:].ravel() if (numbers[:, 0] == size).all() else None
+    numbers = found["number"].reshape(len(rows), size + 1)
+    return numbers[:, 1:].astype(numpy.intp).ravel() if (numbers[:, 0] == size).all() else None
+
+
+@functools.lru_cache(maxsize=None)
+def texts_of(numpy: Any, end: bytes) -> Any:
+    """The texts of the numbers that are written by numpy, each with what ends it, and filled up with zeros to four bytes."""
+    texts = (b"%d%b" % (number, end) for number in range(LEAST_WRITTEN, MOST_WRITTEN + 1))
+    return numpy.frombuffer(b"".join(text.ljust(4, b"\0") for text in texts), dtype=numpy.uint32)
 
 
 def lines_of(numpy: Any, values: Any, size: int) -> Optional[bytes]:
-    """The lines of the numbers of an array, all at once; None if there is none, or one is too large for that."""
-    if values is None:
+    """The lines of the numbers of an array, all at once; None if there is none, or one is too long for that."""
+    if values is None or values.min() < LEAST_WRITTEN or values.max() > MOST_WRITTEN:
         return None
-    is_less = values < 0
-    if (values >= MOST_QUICK).any() or (values <= -MOST_QUICK).any():
-        return None
-    rest = numpy.abs(values.astype(numpy.int32, copy=False))
-    long = 2 + is_less
-    power = 10
-    while power <= MOST_QUICK and (more := rest >= power).any():
-        long += more
-        power *= 10
-    ends = numpy.cumsum(long)
-    text = numpy.full(ends[-1], ord(" "), dtype=numpy.uint8)
-    text[(ends - long)[is_less]] = ord("-")
-    text[ends[size - 1::size] - 1] = ord("\n")
-    at = ends - 2
-    while True:
-        above = rest // 10
-        text[at] = rest - 10 * above + ord("0")
-        goes_on = above > 0
-        if not goes_on.any():
-            return bytes(text.tobytes())
-        rest, at = above[goes_on], at[goes_on] - 1
+    places = values.astype(numpy.intp, copy=False) - LEAST_WRITTEN
+    found = texts_of(numpy, b" ").take(places)
+    found[size - 1::size] = texts_of(numpy, b"\n").take(places[size - 1::size])
+    text: bytes = found.tobytes()
+    return text.translate(None, b"\0")

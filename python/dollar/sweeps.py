@@ -15,17 +15,22 @@ from typing import (
     overload)
 
 from dollar.answers import RankTest, RefusedRankTest, RefusedRiemannRoch, RefusedVerdict, RiemannRoch, Verdict, refusal, riemann_roch_of
-from dollar.columns import Columns, RankTestColumns, RiemannRochColumns, VerdictColumns
+from dollar.columns import (
+    AnyInts, AnyTruths, ArrayInts, Columns, NumpyInts, NumpyTruths, RankTestColumns, RiemannRochColumns, VerdictColumns)
 from dollar.commands import option
 from dollar.program import Fault, Place, command_line, ended_by, fault_of
 from dollar.readers import (
-    divisors_by_batches, divisors_one_by_one, ordered, read_rank_test, read_verdict, rows_of, verdict_on, verdict_reader, verdicts_reader)
+    divisors_by_batches, divisors_one_by_one, numpy_or_none, ordered, read_rank_test, read_verdict, rows_of, verdict_on, verdict_reader,
+    verdicts_reader)
 from dollar.table import Graph, Table, one_line
 from dollar.vertices import Dollars, Vertices, whole
 
 AT_ONCE, PIECE, PATIENCE, SLOW = 1 << 16, 1 << 16, 0.05, 0.001
 Found = TypeVar("Found", covariant=True)
+# Columns that may be of two kinds; those that are arrays of numpy; and those of the module `array`.
 Told = TypeVar("Told", bound=Columns, covariant=True)
+OfNumpy = TypeVar("OfNumpy", bound=Columns, covariant=True)
+OfArray = TypeVar("OfArray", bound=Columns, covariant=True)
 # What is kept of a table until its answer comes, and its line.
 Kept = Tuple[Any, bytes]
 # Tables; or, with `divisors`, one.
@@ -219,10 +224,10 @@ def answers_one_by_one(job: Job, number: int, over: List[bool]) -> Iterator[Any]
         progress.close()
 
 
-class Answers(Generic[Found, Told], Iterator[Found]):
+class Answers(Generic[Found, Told, OfNumpy, OfArray], Iterator[Found]):
     """The answers of a sweep, in order, as they come. The sweep begins when the first is asked for."""
 
-    def __init__(self, job: Job, columns: Callable[[Any], Told]) -> None:
+    def __init__(self, job: Job, columns: Callable[[Any, Any], Columns]) -> None:
         if job.ahead is not None and whole(job.ahead, "ahead") < 1:
             raise ValueError("at least one table is taken ahead of its answer, and not %d" % job.ahead)
         self._job, self._columns, self._skipped = job, columns, 0
@@ -252,9 +257,19 @@ class Answers(Generic[Found, Told], Iterator[Found]):
             raise ValueError("the sweep has begun")
         self._skipped += sum(1 for _ in itertools.islice(self._job.lines.one_by_one, count))
 
-    def columns(self) -> Told:
-        """All answers at once, as columns: arrays of numpy if it is here, and else of the module `array`. Columns have no place for what
-        is not there: a divisor that is refused, or a rank past the limits, is raised as a Fault, whose `table` is its number.
+    @overload
+    def columns(self) -> Told: ...
+
+    @overload
+    def columns(self, kind: Literal["numpy"]) -> OfNumpy: ...
+
+    @overload
+    def columns(self, kind: Literal["array"]) -> OfArray: ...
+
+    def columns(self, kind: Optional[str] = None) -> Any:
+        """All answers at once, as columns: arrays of numpy if it is here, and else of the module `array`; or those of the kind that is
+        asked for. Columns have no place for what is not there: a divisor that is refused, or a rank past the limits, is raised as a
+        Fault, whose `table` is its number.
 
         >>> found = judge_all(Table([[0, 2], [2, 0]]), divisors=[[3, -1], [0, -1]]).columns()
         >>> list(map(bool, found.winnable)), list(map(int, found.script[1])), list(map(int, found.reduced[0]))
@@ -262,7 +277,12 @@ class Answers(Generic[Found, Told], Iterator[Found]):
         """
         if self._found is not None or self._skipped:
             raise ValueError("the sweep has begun")
-        job, columns = self._job, self._columns(self._job.lines.vertices)
+        if kind not in (None, "numpy", "array"):
+            raise ValueError("columns are of the kind 'numpy' or 'array', and not %r" % (kind,))
+        numpy = None if kind == "array" else numpy_or_none()
+        if kind == "numpy" and numpy is None:
+            raise ImportError("columns of numpy are asked for, and numpy is not here")
+        job, columns = self._job, self._columns(self._job.lines.vertices, numpy)
         self.close()
         sweep = Sweep(job.lines.words, job.lines.by_batches, job.program)
         progress, answered = Progress(job.progress), 0
@@ -280,6 +300,11 @@ class Answers(Generic[Found, Told], Iterator[Found]):
             sweep.close()
             progress.close()
         return columns
+
+
+Verdicts = Answers[Found, VerdictColumns[AnyInts, AnyTruths], VerdictColumns[NumpyInts, NumpyTruths], VerdictColumns[ArrayInts, ArrayInts]]
+RankTests = Answers[Found, RankTestColumns[AnyInts, AnyTruths], RankTestColumns[NumpyInts, NumpyTruths], RankTestColumns[ArrayInts, ArrayInts]]
+RiemannRochs = Answers[Found, RiemannRochColumns[AnyInts], RiemannRochColumns[NumpyInts], RiemannRochColumns[ArrayInts]]
 
 
 def tables_one_by_one(tables: Iterable[Any]) -> Iterator[Kept]:
@@ -308,12 +333,12 @@ def asked(command: str, given: Sequence[str], tables: Any, divisors: Optional[It
                  divisors_by_batches(table, divisors), table._vertices)
 
 
-def of_one_table(columns: Callable[[Vertices], Told]) -> Callable[[Optional[Vertices]], Told]:
+def of_one_table(columns: Callable[[Vertices, Any], Columns]) -> Callable[[Optional[Vertices], Any], Columns]:
     """Columns by vertices, which only divisors of one table have."""
-    def made(vertices: Optional[Vertices]) -> Told:
+    def made(vertices: Optional[Vertices], numpy: Any) -> Columns:
         if vertices is None:
             raise ValueError("columns by vertices are for `divisors` of one table")
-        return columns(vertices)
+        return columns(vertices, numpy)
 
     return made
 
@@ -321,18 +346,18 @@ def of_one_table(columns: Callable[[Vertices], Told]) -> Callable[[Optional[Vert
 @overload
 def judge_all(tables: Tables, program: Optional[Place] = ..., *, workers: Optional[int] = ..., errors: Literal["raise"],
               divisors: Optional[Iterable[Dollars]] = ..., ahead: Optional[int] = ...,
-              progress: bool = ...) -> Answers[Verdict, VerdictColumns]: ...
+              progress: bool = ...) -> Verdicts[Verdict]: ...
 
 
 @overload
 def judge_all(tables: Tables, program: Optional[Place] = ..., *, workers: Optional[int] = ..., errors: str = ...,
               divisors: Optional[Iterable[Dollars]] = ..., ahead: Optional[int] = ...,
-              progress: bool = ...) -> Answers[Union[Verdict, RefusedVerdict], VerdictColumns]: ...
+              progress: bool = ...) -> Verdicts[Union[Verdict, RefusedVerdict]]: ...
 
 
 def judge_all(tables: Tables, program: Optional[Place] = None, *, workers: Optional[int] = None, errors: str = "row",
               divisors: Optional[Iterable[Dollars]] = None, ahead: Optional[int] = None,
-              progress: bool = False) -> Answers[Any, VerdictColumns]:
+              progress: bool = False) -> Verdicts[Any]:
     """The verdicts on the tables, in order, as they come.
 
     The tables may be any number, and come from anywhere: they are taken in the thread of the caller, some ahead of their answers, or
@@ -361,18 +386,18 @@ def judge_all(tables: Tables, program: Optional[Place] = None, *, workers: Optio
 @overload
 def rank_all(tables: Tables, degree: int, program: Optional[Place] = ..., *, workers: Optional[int] = ..., errors: Literal["raise"],
              divisors: Optional[Iterable[Dollars]] = ..., ahead: Optional[int] = ...,
-             progress: bool = ...) -> Answers[RankTest, RankTestColumns]: ...
+             progress: bool = ...) -> RankTests[RankTest]: ...
 
 
 @overload
 def rank_all(tables: Tables, degree: int, program: Optional[Place] = ..., *, workers: Optional[int] = ..., errors: str = ...,
              divisors: Optional[Iterable[Dollars]] = ..., ahead: Optional[int] = ...,
-             progress: bool = ...) -> Answers[Union[RankTest, RefusedRankTest], RankTestColumns]: ...
+             progress: bool = ...) -> RankTests[Union[RankTest, RefusedRankTest]]: ...
 
 
 def rank_all(tables: Tables, degree: int, program: Optional[Place] = None, *, workers: Optional[int] = None, errors: str = "row",
              divisors: Optional[Iterable[Dollars]] = None, ahead: Optional[int] = None,
-             progress: bool = False) -> Answers[Any, RankTestColumns]:
+             progress: bool = False) -> RankTests[Any]:
     """The rank tests of a degree, as `judge_all` has verdicts. One past the limits that a law settles has no first loss.
 
     >>> from dollar import Table
@@ -384,24 +409,24 @@ def rank_all(tables: Tables, degree: int, program: Optional[Place] = None, *, wo
     """
     lines = asked("rank", [str(whole(degree, "the degree"))], tables, divisors, workers, errors)
     return Answers(Job(lines, program, ahead, progress, errors, RefusedRankTest, read_rank_test),
-                   of_one_table(lambda vertices: RankTestColumns(vertices, degree)))
+                   of_one_table(lambda vertices, numpy: RankTestColumns(vertices, numpy, degree)))
 
 
 @overload
 def rr_all(tables: Tables, program: Optional[Place] = ..., *, workers: Optional[int] = ..., errors: Literal["raise"],
            divisors: Optional[Iterable[Dollars]] = ..., ahead: Optional[int] = ...,
-           progress: bool = ...) -> Answers[RiemannRoch, RiemannRochColumns]: ...
+           progress: bool = ...) -> RiemannRochs[RiemannRoch]: ...
 
 
 @overload
 def rr_all(tables: Tables, program: Optional[Place] = ..., *, workers: Optional[int] = ..., errors: str = ...,
            divisors: Optional[Iterable[Dollars]] = ..., ahead: Optional[int] = ...,
-           progress: bool = ...) -> Answers[Union[RiemannRoch, RefusedRiemannRoch], RiemannRochColumns]: ...
+           progress: bool = ...) -> RiemannRochs[Union[RiemannRoch, RefusedRiemannRoch]]: ...
 
 
 def rr_all(tables: Tables, program: Optional[Place] = None, *, workers: Optional[int] = None, errors: str = "row",
            divisors: Optional[Iterable[Dollars]] = None, ahead: Optional[int] = None,
-           progress: bool = False) -> Answers[Any, RiemannRochColumns]:
+           progress: bool = False) -> RiemannRochs[Any]:
     """The four numbers of the tables, as `judge_all` has verdicts; None for a rank past the limits.
 
     >>> from dollar import Table

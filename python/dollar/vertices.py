@@ -5,10 +5,11 @@ from __future__ import annotations
 import operator
 import re
 from numbers import Number
-from typing import Any, Callable, Dict, Hashable, Iterable, List, Mapping, Optional, Sequence, SupportsIndex, Tuple, Union
+from typing import Any, Callable, Dict, Hashable, Iterable, List, Mapping, NoReturn, Optional, Sequence, SupportsIndex, Tuple, Union
 
 Vertex = Hashable
-Pairs = Dict[Hashable, int]
+# Numbers by vertices, of an answer.
+Pairs = Mapping[Hashable, int]
 # Amounts as they are given: in the order of the vertices, or by vertices.
 Dollars = Union[Iterable[SupportsIndex], Mapping[Any, SupportsIndex]]
 
@@ -131,7 +132,7 @@ class Vertices:
     def keyed(self, amounts: Iterable[int]) -> Pairs:
         """Amounts, in the order of the vertices, by the vertices."""
         if self.are_names:
-            return dict(zip(self.given, amounts))
+            return Fixed(zip(self.given, amounts))
         found = Amounts(zip(self.given, amounts))
         found.vertices = self
         return found
@@ -143,7 +144,28 @@ class Vertices:
         return self.keyed(texts.values())
 
 
-class Amounts(Dict[Hashable, int]):
+class Fixed(Dict[Hashable, int]):
+    """Numbers by vertices that can't be changed: who gets an answer may share it.
+
+    >>> found = Fixed(a=2, b=-1)
+    >>> found["a"] = 3
+    Traceback (most recent call last):
+        ...
+    TypeError: the numbers of an answer can't be changed: take dict(..) of them
+    """
+
+    __slots__ = ()
+
+    def refuse(self, *given: Any, **named: Any) -> NoReturn:
+        raise TypeError("the numbers of an answer can't be changed: take dict(..) of them")
+
+    __setitem__ = __delitem__ = __ior__ = clear = pop = popitem = setdefault = update = refuse  # type: ignore[assignment]
+
+    def __reduce__(self) -> Tuple[Any, ...]:
+        return type(self), (dict(self),), getattr(self, "__dict__", None)
+
+
+class Amounts(Fixed):
     """Numbers by vertices. A text is a key too where it means one vertex.
 
     >>> found = Vertices([0, 1]).keyed([2, -1])

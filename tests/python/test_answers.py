@@ -1,8 +1,9 @@
 """Answers: they print as the program prints them, and compare with the tuples of their parts."""
+import copy
 import csv
 import io
+import json
 import pickle
-
 
 import dollar
 from dollar import Fault, Refused, RiemannRoch, Verdict, answer
@@ -63,6 +64,29 @@ class OfAnswers(Test):
             Verdict(True, verdict.script, {"a": 1, "b": 0, "c": 0}).check(TRIANGLE)
         with self.assertRaisesRegex(ValueError, "knows no table"):
             answer(str(verdict)).check()
+
+    @each([dollar.Table(TRIANGLE), dollar.Table([[0, 1, 1], [1, 0, 1], [1, 1, 0]], [2, -1, -1])])
+    def test_numbers_of_an_answer_can_not_be_changed(self, table):
+        one, *_ = dollar.judge_all(table, divisors=[table.amounts] * 3_000)
+        for verdict in (dollar.judge(table), one, answer("winnable by a=0 b=-1 c=-1 to a=0 b=0 c=0")):
+            before, first = repr(verdict), next(iter(verdict.script))
+            for change in (lambda: verdict.script.__setitem__(first, 7), lambda: verdict.script.__delitem__(first), verdict.script.clear,
+                           lambda: verdict.script.update({first: 7}), lambda: verdict.reduced.pop(first), verdict.reduced.popitem,
+                           lambda: verdict.reduced.setdefault("z", 1), lambda: verdict.reduced.__ior__({first: 7})):
+                with self.assertRaisesRegex(TypeError, "the numbers of an answer can't be changed"):
+                    change()
+            (verdict.burning or []).clear()
+            self.assertEqual(repr(verdict), before)
+            for again in (pickle.loads(pickle.dumps(verdict)), copy.deepcopy(verdict), copy.copy(verdict)):
+                self.assertEqual((again, again.as_dict()), (verdict, verdict.as_dict()))
+                self.assertEqual(again.script[first], 0)
+            self.assertEqual(json.loads(json.dumps(verdict.as_dict()))["winnable"], True)
+            mine = dict(verdict.script)
+            mine[first] = 7
+            self.assertEqual(verdict.script[first], 0)
+        with self.assertRaises(TypeError):
+            dollar.rank(table, 1).loss[first] = 1
+        self.assertEqual(len(dollar.judge(table).burning), 3)
 
     def test_numbers_are_a_dict_too(self):
         numbers = dollar.rr(TRIANGLE)

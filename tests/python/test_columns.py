@@ -8,10 +8,11 @@ import signal
 import subprocess
 import sys
 import time
+from array import array
 from unittest import mock
 
 import dollar
-from dollar import Fault, Table, columns, readers
+from dollar import Fault, Table, columns, readers, sweeps
 from helpers import PACKAGE, Test, each, needed
 
 PETERSEN = dollar.example("petersen")
@@ -28,7 +29,7 @@ def divisors(table, count, most=4, seed=1):
 @contextlib.contextmanager
 def without_numpy():
     """What holds where numpy is not here."""
-    with mock.patch.object(columns, "numpy_or_none", lambda: None), mock.patch.object(readers, "numpy_or_none", lambda: None):
+    with mock.patch.object(sweeps, "numpy_or_none", lambda: None), mock.patch.object(readers, "numpy_or_none", lambda: None):
         yield
 
 
@@ -64,6 +65,25 @@ class OfColumns(Test):
             found, numbers = dollar.rr_all(table, divisors=small).columns(), list(dollar.rr_all(table, divisors=small))
             for name in ("degree", "genus", "rank", "dual"):
                 self.assertEqual(ints(getattr(found, name)), [getattr(each, name) for each in numbers])
+
+    @each([with_numpy, without_numpy])
+    def test_the_kind_that_is_asked_for(self, given):
+        numpy, rows = needed("numpy"), divisors(RING, 50, 1)
+        asks = [(lambda: dollar.judge_all(RING, divisors=rows), ["winnable"]), (lambda: dollar.rank_all(RING, 1, divisors=rows), ["holds"]),
+                (lambda: dollar.rr_all(RING, divisors=rows), ["degree", "genus", "rank", "dual"])]
+        with given():
+            for ask, names in asks:
+                found = ask().columns("array")
+                for name in names:
+                    self.assertIsInstance(getattr(found, name), array)
+                    self.assertEqual(list(getattr(found, name)), list(map(int, getattr(ask().columns(), name))))
+                if given is with_numpy:
+                    self.assertIsInstance(getattr(ask().columns("numpy"), names[0]), numpy.ndarray)
+                else:
+                    with self.assertRaises(ImportError):
+                        ask().columns("numpy")
+                with self.assertRaisesRegex(ValueError, "and not 'pandas'"):
+                    ask().columns("pandas")
 
     @each([with_numpy, without_numpy])
     def test_whatever_divisors_are(self, given):
@@ -135,7 +155,7 @@ class OfColumns(Test):
         good = [str(verdict) for verdict in dollar.judge_all(RING, divisors=divisors(RING, 40))]
         with given():
             for _ in range(2):
-                found = columns.VerdictColumns(RING._vertices)
+                found = columns.VerdictColumns(RING._vertices, sweeps.numpy_or_none())
                 found.add("".join(line + "\n" for line in good).encode())
                 self.assertEqual(found.done(), 40)
             rng, refused = random.Random(2), 0
@@ -145,7 +165,7 @@ class OfColumns(Test):
                 line = lines[at]
                 place = rng.randrange(len(line))
                 lines[at] = line[:place] + rng.choice("0123456789-= vx\nw") + line[place + rng.randint(0, 1):]
-                found = columns.VerdictColumns(RING._vertices)
+                found = columns.VerdictColumns(RING._vertices, sweeps.numpy_or_none())
                 try:
                     found.add("".join(line + "\n" for line in lines).encode())
                     found.done()

@@ -10,8 +10,8 @@ from dollar import Fault, Table
 from helpers import Test, needed
 
 CALLS, GRAPHS, EACH = 20_000, 200, 100
-# How many times as many divisors are compared.
-MORE = int(os.environ.get("MORE", "1"))
+# How many times as many divisors are compared; and what all is drawn by.
+MORE, SEED = (int(os.environ.get(name, "1")) for name in ("MORE", "SEED"))
 
 
 def near_numbers(rng, numpy):
@@ -150,7 +150,7 @@ def random_graph(rng):
 
 class OfFuzz(Test):
     def test_what_is_taken_was_meant(self):
-        numpy, pandas, rng = needed("numpy"), needed("pandas"), random.Random(1)
+        numpy, pandas, rng = needed("numpy"), needed("pandas"), random.Random(SEED)
         taken, refused = 0, 0
         kinds = graphs()
         for call in range(CALLS):
@@ -180,7 +180,7 @@ class OfFuzz(Test):
         self.assertGreater(min(taken, refused), CALLS // 5)
 
     def test_keys_of_q_and_of_answers(self):
-        numpy, rng = needed("numpy"), random.Random(2)
+        numpy, rng = needed("numpy"), random.Random(SEED + 1)
         for _ in range(3_000):
             graph = rng.choice(graphs())
             key, script = near_keys(rng, graph, numpy), graph.table.divisor
@@ -194,7 +194,7 @@ class OfFuzz(Test):
                 self.assertEqual(script.get(key), None if meant is None else 0)
 
     def test_lines_with_newlines_and_other_things(self):
-        rng, table = random.Random(3), dollar.example("triangle")
+        rng, table = random.Random(SEED + 2), dollar.example("triangle")
         pieces = ["look", "lend a", "commit", "claim", "1", "2", " ", "\n", "\r", "\0", "\u2028", "x", "é", ""]
         for _ in range(1_000):
             lines = [rng.choice(["1 look", "2 lend a", "1 claim", "".join(rng.choices(pieces, k=3)), None, b"1 look", 7]) for _ in range(3)]
@@ -210,7 +210,7 @@ class OfFuzz(Test):
 
 class OfManyDivisors(Test):
     def test_beside_a_program_written_apart(self):
-        rng, differ = random.Random(4), []
+        rng, differ = random.Random(SEED + 3), []
         for _ in range(GRAPHS * MORE):
             near = random_graph(rng)
             q = rng.randrange(len(near))

@@ -5,7 +5,7 @@ import re
 import subprocess
 import sys
 
-from helpers import PACKAGE, Test
+from helpers import PACKAGE, Test, each, needed
 
 SAMPLE = '''
 import dollar
@@ -30,7 +30,8 @@ dollar.judge_all(5)  # error
 dollar.judge_all(table, divisors=[1, 2])  # error
 dollar.Session(5)  # error
 reveal_type(dollar.judge(table).winnable)  # is builtins.bool
-reveal_type(dollar.judge(table).script)  # is builtins.dict[typing.Hashable, builtins.int]
+dollar.judge(table).script[0] = 1  # error
+reveal_type(dollar.judge(table).script)  # is typing.Mapping[typing.Hashable, builtins.int]
 reveal_type(table.rank())  # is builtins.int
 reveal_type(table + [1, 2])  # is dollar.table.Table
 reveal_type(3 * table)  # is dollar.table.Table
@@ -41,13 +42,24 @@ reveal_type(next(dollar.judge_all([table])))  # is Union[dollar.answers.Verdict,
 reveal_type(next(dollar.rank_all([table], 1, errors="raise")))  # is dollar.answers.RankTest
 word: str = "raise"
 reveal_type(next(dollar.rr_all([table], errors=word)))  # is Union[dollar.answers.RiemannRoch, dollar.answers.RefusedRiemannRoch]
-reveal_type(dollar.judge_all(table, divisors=[[1, 2]]).columns())  # is dollar.columns.VerdictColumns
+found = dollar.judge_all(table, divisors=[[1, 2]]).columns()
+reveal_type(found.winnable)  # is Union[numpy.ndarray[Any, numpy.dtype[numpy.bool_]], array.array[builtins.int]]
+reveal_type(found.script[0].tolist())  # is Union[Any, builtins.list[builtins.int]]
+found.script[0].no_such_thing  # error
+found.script[0] = found.script[1]  # error
+dollar.judge_all(table, divisors=[[1, 2]]).columns("pandas")  # error
+of_numpy = dollar.rank_all(table, 1, divisors=[[1, 2]]).columns("numpy")
+reveal_type(of_numpy.holds)  # is numpy.ndarray[Any, numpy.dtype[numpy.bool_]]
+(of_numpy.loss[0] == of_numpy.loss[1] - 1).all()
+of_array = dollar.rr_all(table, divisors=[[1, 2]]).columns("array")
+reveal_type(of_array.rank)  # is array.array[builtins.int]
+reveal_type(of_array.rank[0])  # is builtins.int
 with table.serve() as session:
     entry = session.ask("look")
     reveal_type(entry)  # is dollar.answers.Entry
-    reveal_type(entry.amounts)  # is Union[builtins.dict[typing.Hashable, builtins.int], None]
+    reveal_type(entry.amounts)  # is Union[typing.Mapping[typing.Hashable, builtins.int], None]
     if isinstance(entry, dollar.Looked):
-        reveal_type(entry.amounts)  # is builtins.dict[typing.Hashable, builtins.int]
+        reveal_type(entry.amounts)  # is typing.Mapping[typing.Hashable, builtins.int]
     if isinstance(entry, dollar.Judged):
         reveal_type(entry.found)  # is dollar.answers.Verdict
     if isinstance(entry, dollar.Tested):
@@ -56,12 +68,17 @@ with table.serve() as session:
 
 
 class OfTypes(Test):
-    def test_what_mypy_says(self):
+    @each(["with", "without"])
+    def test_what_mypy_says(self, numpy):
         if importlib.util.find_spec("mypy") is None:
             self.skipTest("the types, for want of mypy")
         folder = self.folder()
         (folder / "sample.py").write_text(SAMPLE)
         words = ["--strict", "--hide-error-context", "--cache-dir", folder / "cache", folder / "sample.py"]
+        if numpy == "without":
+            words.append("--no-site-packages")
+        else:
+            needed("numpy")
         said = subprocess.run([sys.executable, "-m", "mypy", *words], stdout=subprocess.PIPE, stderr=subprocess.STDOUT, text=True,
                               cwd=PACKAGE).stdout
         found = {}
@@ -69,5 +86,7 @@ class OfTypes(Test):
             revealed = re.search(r'Revealed type is "(.*)"', text)
             if kind == "error" or revealed:
                 found.setdefault(int(number), "is " + revealed[1] if revealed else "error")
-        wanted = {number: line.partition("  # ")[2] for number, line in enumerate(SAMPLE.splitlines(), 1) if "  # " in line}
+        sample = SAMPLE if numpy == "with" else SAMPLE.replace("numpy.ndarray[Any, numpy.dtype[numpy.bool_]]", "Any")
+        wanted = {number: line.partition("  # ")[2] for number, line in enumerate(sample.splitlines(), 1) if "  # " in line}
         self.assertEqual(found, wanted, said)
+        self.assertNotRegex(said, "dollar/.*error")
