@@ -120,7 +120,14 @@ function showWays() {
 function shown() {
   undone = false;
   questions.clear();
+  hands.note("");
   showWays();
+}
+
+/* One move that helps. */
+async function hint() {
+  const said = await questions.answer({ command: "hint" });
+  if (said !== null) hands.hint(JSON.parse(said));
 }
 
 /* Another table. What the program refuses is told, and nothing changes. */
@@ -227,7 +234,7 @@ function bindTables() {
   });
   bind({
     edit: () => editor.open(),
-    "puzzle-form": puzzle, next: puzzle, undo: goBack, redo: goOn, hint: () => questions.hint(),
+    "puzzle-form": puzzle, next: puzzle, undo: goBack, redo: goOn, hint,
   });
 }
 
