@@ -3,8 +3,8 @@
 import { GRAMMAR } from "./grammar.js";
 import { fitted, freePlace, layoutOf, placesText, shortened, vertexAhead, vertexAt, wordsPlace } from "./places.js";
 import {
-  CAUSES, FAULTS, Game, KINDS, answerOf, commandWords, faultWords, flows, legendWords, linesOf, markOf, mostTelling, movesWords, replyOf,
-  replyWords, stepOf,
+  CAUSES, FAULTS, Game, KINDS, answerOf, commandWords, faultWords, flows, legendWords, linesOf, markOf, mostTelling, movesWords, nameWords,
+  replyOf, replyWords, stepOf,
 } from "./words.js";
 
 const failures_ = [];
@@ -63,6 +63,8 @@ function faults() {
     equal(faultWords(text.replace("#", "4")) === faultWords("?"), false, `the words of ${text}`);
   }
   for (const text of Object.keys(FAULTS)) equal(met.includes(text), true, `the text ${text} is one of the program`);
+  const names = ["a", "a b", "b", "_9", "x".repeat(16), "x".repeat(17), ""].map((name) => nameWords(name, ["a"]) !== "");
+  equal(names, [true, true, false, false, false, true, true], "names that a vertex beside a can't have");
   equal(faultWords("edge 0 is a loop"), "Edge 1 of the list leads from a vertex to itself.", "a fault with its number");
 }
 

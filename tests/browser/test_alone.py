@@ -334,7 +334,7 @@ def with_fire(player):
 NO_TABLES = [
     ("{", "This is no table file", "not JSON"), ("{}", "A table needs just these four", "shape of top"),
     ('{"vertices":["a","b"],"edges":[],"amounts":[0,0],"q":"a"}', "Some vertices can't be reached", "not connected"),
-    ('{"vertices":["<img src=x onerror=window.pwned=1>"],"edges":[],"amounts":[0],"q":"a"}', "The name of vertex 1 is none",
+    ('{"vertices":["<img src=x onerror=window.pwned=1>"],"edges":[],"amounts":[0],"q":"a"}', "Vertex 1 needs another name.",
      "name of vertex 0"),
     (" " * (1 << 20) + "{}", "The file has more than a megabyte", "file too long")]
 
@@ -411,6 +411,7 @@ def with_editor(player):
     player.mouse("Pressed", empty)
     player.mouse("Released", empty, 0, 0)
     equal(player.value("editor.draft.vertices"), ["a", "b", "c", "d"], "a vertex where there was none")
+    with_bad_names(player)
     player.click("#edit-done")
     player.until("!$('#edit-refused').hidden")
     equal([player.text("#edit-refused span"), player.text("#edit-refused code")],
@@ -444,6 +445,23 @@ def with_editor(player):
         player.click(selector)
     equal(player.value("[viewer.game.names.length, viewer.now]"), [3, 1], "an edit that is left")
     with_editor_by_keys(player)
+
+
+def with_bad_names(player):
+    """A name that no vertex can have is told while it is typed; the vertex keeps its own, and nobody plays meanwhile."""
+    field = "#edit-vertices tr:nth-child(4) input[type=text]"
+    for text, words in (("d e", "A name has 1 to 16 letters from a to z or A to Z, digits or _."), ("b", "Another vertex is called b."),
+                        ("\u00e4", "A name has 1 to 16 letters from a to z or A to Z, digits or _."), ("e", "")):
+        player.value(f"$({json.dumps(field)}).select()")
+        player.write(text)
+        equal(player.value(f"$({json.dumps(field)}).validationMessage"), words, f"what is told of the name {text}")
+        if words:
+            player.click("#edit-done")
+            equal(player.value("[$('#editor').hidden, editor.draft.vertices[3]]"), [False, "d"], f"the vertices after the name {text}")
+    player.value(f"$({json.dumps(field)}).select()")
+    player.write("d")
+    player.press("Tab")
+    equal(player.value("editor.draft.vertices[3]"), "d", "the name that is left")
 
 
 def with_editor_by_keys(player):
