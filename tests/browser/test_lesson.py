@@ -5,6 +5,7 @@ import os
 import re
 import tempfile
 
+import firefox
 from browser import READY, Page, at, needed
 from common import EXAMPLES, PATIENCE, addresses, asked, started, written
 from helpers import equal, expect, tests_of
@@ -100,8 +101,7 @@ def a_win(folder, ann, others, desk, wall):
     desk.value("($('#show').value = 'all', $('#show').dispatchEvent(new Event('change')))")
 
 
-def a_lesson(folder):
-    one, two, three = needed()
+def lesson(one, two, three, folder):
     for browser in one, two, three:
         browser.media()
         browser.asked.clear()
@@ -112,7 +112,7 @@ def a_lesson(folder):
         two.size(1280, 800)
         three.size(1920, 1080)
         desk, wall = Page(two, teacher, os.path.join(folder, "desk")), Page(three, pupils, os.path.join(folder, "wall"))
-        three.call("Page.navigate", url=desk.text("#short"))
+        three.go(desk.text("#short"))
         three.until(f"location.href === {json.dumps(pupils)} && {READY}")
         wall.click("#watch")
         picture(wall, "projector-empty")
@@ -153,8 +153,16 @@ def a_lesson(folder):
         _, said = child.communicate(timeout=PATIENCE)
         equal((child.returncode, said), (0, ""), "the end of board/play")
         for browser in one, two, three:
-            browser.call("Page.navigate", url="about:blank")
+            browser.go("about:blank")
             browser.asked.clear()
 
 
-load_tests = tests_of(a_lesson, given=tempfile.TemporaryDirectory)
+def in_chromium(folder):
+    lesson(*needed(), folder)
+
+
+def in_firefox(folder):
+    lesson(*firefox.needed(), folder)
+
+
+load_tests = tests_of(in_chromium, in_firefox, given=tempfile.TemporaryDirectory)

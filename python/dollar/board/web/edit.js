@@ -27,9 +27,9 @@ export class Editor {
     this.hands.other = this;
     this.shown(true);
     this.fill();
-    // What stood above the button is hidden now, and the board may be out of sight.
-    element("board").scrollIntoView({ block: "nearest" });
     document.querySelector("input[name=tool]:checked").focus({ preventScroll: true });
+    // What stood above the button is hidden now, and the board may be out of sight. Firefox scrolls once the shorter page was drawn.
+    requestAnimationFrame(() => requestAnimationFrame(() => element("board").scrollIntoView({ block: "nearest" })));
   }
 
   /* A layout with room around it, for what is to come. */
