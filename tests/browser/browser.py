@@ -2,9 +2,9 @@
 answers."""
 import atexit
 import base64
-import contextlib
 import fcntl
 import functools
+import itertools
 import json
 import os
 import pathlib
@@ -54,12 +54,17 @@ def found():
     return next(filter(None, map(shutil.which, NAMES)), None)
 
 
+def opened(browser):
+    """A browser that was opened, and is closed at the end."""
+    browser.__enter__()
+    atexit.register(browser.__exit__)
+    return browser
+
+
 @functools.lru_cache(maxsize=None)
 def browsers():
     """Three browsers, or none."""
-    opened = contextlib.ExitStack()
-    atexit.register(opened.close)
-    return [opened.enter_context(Browser(found())) for _ in range(3)] if found() else []
+    return [opened(Browser(found())) for _ in range(3)] if found() else []
 
 
 def needed():
@@ -79,7 +84,7 @@ class Browser:
     pages have thrown in `thrown`."""
 
     def __init__(self, program):
-        self.program, self.number, self.rest = program, 0, b""
+        self.program, self.numbers, self.rest = program, itertools.count(1), b""
         self.asked, self.thrown, self.session = [], [], None
 
     def __enter__(self):
@@ -104,15 +109,24 @@ class Browser:
         return self
 
     def __exit__(self, *_):
+        os.close(self.to)
+        self.ended()
+        os.close(self.back)
+
+    def ended(self):
+        """Ends the process, and drops its folder."""
         try:
-            os.close(self.to)
             self.child.terminate()
             self.child.wait(PATIENCE)
         except subprocess.TimeoutExpired:
             self.child.kill()
             self.child.wait()
-        os.close(self.back)
         shutil.rmtree(self.folder, ignore_errors=True)
+
+    def send(self, message):
+        if self.session:
+            message["sessionId"] = self.session
+        os.write(self.to, json.dumps(message).encode() + b"\0")
 
     def message(self):
         """The next message of the browser."""
@@ -137,21 +151,22 @@ class Browser:
 
     def call(self, method, **given):
         """What a command answers."""
-        self.number += 1
-        sent = {"id": self.number, "method": method, "params": given, **({"sessionId": self.session} if self.session else {})}
-        os.write(self.to, json.dumps(sent).encode() + b"\0")
+        number = next(self.numbers)
+        self.send({"id": number, "method": method, "params": given})
         while True:
             message = self.message()
             self.note(message)
-            if message.get("id") == self.number:
+            if message.get("id") == number:
                 if "error" in message:
                     raise ValueError(f"{method}: {message['error']}")
                 return message["result"]
 
     def value(self, expression):
         """The value of an expression in the page, where it can name what the page's module exports."""
-        whole = f"with (globalThis.inside || {{}}) {{ {expression} }}"
-        got = self.call("Runtime.evaluate", expression=whole, returnByValue=True, awaitPromise=True)
+        return self.evaluated(f"with (globalThis.inside || {{}}) {{ {expression} }}")
+
+    def evaluated(self, expression):
+        got = self.call("Runtime.evaluate", expression=expression, returnByValue=True, awaitPromise=True)
         if "exceptionDetails" in got:
             raise ValueError(f"{expression}: {got['exceptionDetails']}")
         return got["result"].get("value")
@@ -162,8 +177,12 @@ class Browser:
     def open(self, place):
         """Opens a file as a page, or an address, and waits until it is there."""
         wanted = place if str(place).startswith("http:") else pathlib.Path(place).resolve().as_uri()
-        self.call("Page.navigate", url=wanted)
+        self.go(wanted)
         self.until(f"document.readyState === 'complete' && location.href === {json.dumps(wanted)}")
+
+    def go(self, url):
+        """Begins to open an address."""
+        self.call("Page.navigate", url=url)
 
     def until(self, expression):
         """Waits until an expression is true in the page."""
@@ -182,6 +201,9 @@ class Browser:
         """Types a text into what has the focus, or into an element."""
         if into:
             self.click(into)
+        self.insert(text)
+
+    def insert(self, text):
         self.call("Input.insertText", text=text)
 
     def middle(self, selector):
@@ -245,10 +267,11 @@ class Browser:
         self.call("Emulation.setDeviceMetricsOverride", width=wide, height=high, deviceScaleFactor=1, mobile=False)
 
     def media(self, kind="", motion="reduce", **features):
-        """Has the page be printed or shown, and sets what its reader prefers, as prefers_color_scheme='dark'."""
+        """Has the page be printed or shown, and sets what its reader prefers, as prefers_color_scheme='dark'. Says whether it is so."""
         features = {"prefers_reduced_motion": motion, **features}
         listed = [{"name": name.replace("_", "-"), "value": value} for name, value in features.items()]
         self.call("Emulation.setEmulatedMedia", media=kind, features=listed)
+        return True
 
     def picture(self, place, whole=False):
         """Writes a picture of the page to a PNG file: of what the window shows, or of the whole page."""
@@ -269,9 +292,8 @@ class Browser:
                     self.value("scrollTo(0, 0)")
                     self.picture(f"{pictures}/{name}-{wide}{'-dark' * bool(features)}.png", whole=wide == 360)
         equal(self.value(UNNAMED), [], f"controls of {name} without a name")
-        self.media("print")
-        expect(self.value("!$('#controls') || getComputedStyle($('#controls')).display === 'none'"),
-               f"{name}: buttons on paper")
+        if self.media("print"):
+            expect(self.value("!$('#controls') || getComputedStyle($('#controls')).display === 'none'"), f"{name}: buttons on paper")
         self.media()
         self.size()
 
@@ -305,6 +327,12 @@ class Page:
 
     def focus(self, selector):
         self.value(f"$({json.dumps(selector)}).focus()")
+
+    def types(self, selector, text):
+        """Types a text into a field in place of what it has."""
+        self.focus(selector)
+        self.value(f"$({json.dumps(selector)}).select()")
+        self.write(text)
 
     def saved(self, button, name):
         """The text of a file that a button saves."""

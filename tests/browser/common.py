@@ -77,16 +77,17 @@ def asked(command, *words):
     return done.stdout.decode(), done.stderr.decode(), done.returncode
 
 
-def started(*words):
-    """Starts board/play."""
+def started(*words, browser=None):
+    """Starts board/play, which opens a browser if one is given."""
     pipes = dict(stdin=subprocess.DEVNULL, stdout=subprocess.PIPE, stderr=subprocess.PIPE, text=True)
-    return subprocess.Popen([*PLAY, *words], **pipes)
+    play, more = (PLAY[:-1], {"BROWSER": str(browser)}) if browser else (PLAY, {})
+    return subprocess.Popen([*play, *words], env={**os.environ, **more}, **pipes)
 
 
 @contextlib.contextmanager
-def played(*words):
+def played(*words, **given):
     """Starts board/play, and gives the process and the addresses that it prints. Ends it, and sees that it ends well."""
-    child = started(*words)
+    child = started(*words, **given)
     try:
         yield child, addresses(child)
     finally:

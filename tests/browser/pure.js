@@ -3,8 +3,8 @@
 import { GRAMMAR } from "./grammar.js";
 import { fitted, freePlace, layoutOf, placesText, shortened, vertexAhead, vertexAt, wordsPlace } from "./places.js";
 import {
-  CAUSES, FAULTS, Game, KINDS, answerOf, commandWords, faultWords, flows, legendWords, linesOf, markOf, mostTelling, movesWords, replyOf,
-  replyWords, stepOf,
+  CAUSES, FAULTS, Game, KINDS, answerOf, commandWords, faultWords, flows, legendWords, linesOf, markOf, mostTelling, movesWords, nameWords,
+  replyOf, replyWords, stepOf,
 } from "./words.js";
 
 const failures_ = [];
@@ -63,6 +63,8 @@ function faults() {
     equal(faultWords(text.replace("#", "4")) === faultWords("?"), false, `the words of ${text}`);
   }
   for (const text of Object.keys(FAULTS)) equal(met.includes(text), true, `the text ${text} is one of the program`);
+  const names = ["a", "a b", "b", "_9", "x".repeat(16), "x".repeat(17), ""].map((name) => nameWords(name, ["a"]) !== "");
+  equal(names, [true, true, false, false, false, true, true], "names that a vertex beside a can't have");
   equal(faultWords("edge 0 is a loop"), "Edge 1 of the list leads from a vertex to itself.", "a fault with its number");
 }
 
@@ -118,6 +120,8 @@ function places() {
   equal(spot("a", [["a", "b"]]), [100, 67], "words of a vertex with an edge below it");
   equal(spot("a", [["a", "b"], ["a", "c"]]), [100, 67], "words of a vertex with an edge below it and one to the right");
   equal(spot("b", [["a", "b"]]), [100, 233], "words of a vertex with an edge above it");
+  const left = layoutOf({ places: { a: [30, 150], b: [180, 80], c: [180, 220], d: [130, 150] }, sizes: {}, width: 200, height: 300, radius: 20 });
+  equal(wordsPlace(left, [["a", "b"], ["a", "c"]], "a", 80), [40, 183], "words that are moved into the picture");
 }
 
 /* A wide layout on a narrow page is turned, and its circles and letters grow; on a wide page it stays as it is. */

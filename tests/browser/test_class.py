@@ -112,7 +112,7 @@ def without_secret(place, ann, line, wrong):
         f"/{secret}/events?key=&from=0", f"/{secret}/events?key={wrong}&from=0", f"/{secret}/events?key={ann.key}&from=x",
         "/favicon.ico", "/robots.txt")))
     teachers = [("POST", path, {"seat": 1, "paused": True})
-                for path in ("pause", "free", "end", "again", "replay", "may", "door", "show", "table", "tables", "start", "")]
+                for path in ("pause", "free", "end", "again", "replay", "move", "may", "door", "show", "table", "tables", "start", "")]
     refused_alike(place, "a pupil", ("POST", f"/{wrong}/line", line), ("POST", "/line", line), *teachers)
     keys = "", "1", wrong, "x" * 64, ann.key[:-1]
     refused_alike(place, "another seat", *(("POST", "line", {"key": key, "line": "claim", "seat": 1}) for key in keys))
@@ -199,7 +199,7 @@ def keeping(folder):
     """A class that is kept outlasts board/play itself, with its addresses, its seats and the looks that they had, also if it was
     killed while it wrote."""
     kept, table = Path(folder, "kept"), written(folder, "table.json", json.dumps(TABLE))
-    room, command = kept / "table1" / "room1", ["board", "--no-browser", table, "--class", "3", "--keep", kept]
+    record, command = kept / "table1" / "room1.jsonl", ["board", "--no-browser", table, "--class", "3", "--keep", kept]
     child = started(*command[2:])
     pupils, teacher = addresses(child)
     Place(teacher).post("may", {"gifts": True})
@@ -211,8 +211,8 @@ def keeping(folder):
     ann.leave()
     child.kill()
     child.communicate()
-    with open(room / "steps.txt", "a") as file:
-        file.write("1 claim\n1 cl")
+    with open(record, "a") as file:
+        file.write('[1, "claim", "4 no')
     with played(*command[2:]) as (_, found):
         equal(found, [pupils, teacher], "the addresses of a class that was kept")
         desk, bob = Place(teacher), Pupil(pupils, "bob")
@@ -222,27 +222,27 @@ def keeping(folder):
         expect("winnable" in ann.play("commit")[1], f"the look was not kept: {ann.lines}")
         steps = ["1 look", "1 gift ann 1", "1 look", "1 lend ann", "1 commit"]
         equal(taken(desk, folder)[0], steps, "the steps that were kept")
-        files = {name: text_of(room / name) for name in ("steps.txt", "history.txt")}
-        for name, text in files.items():
-            equal(text, desk.get(name)[1], f"the {name} of a kept game")
+        before, entries = text_of(record), [[int(step[0]), step[2:], answer, "ann"] for step, answer in zip(*taken(desk, folder))]
+        equal([json.loads(line) for line in before.splitlines()], entries, "the record of a kept game")
         bob.leave()
-    files["../table.json"] = text_of(room / ".." / "table.json")
-    for name, text, word in (
-            ("steps.txt", "9 look\n" + files["steps.txt"], "no seat"),
-            ("history.txt", "0 won\n" + files["history.txt"], "as it did"),
-            ("../table.json", text_of(EXAMPLES / "cube.json"), "another table")):
-        written(room, name, text)
+    for text, word in (
+            ('[9, "look", "0 looked", "ann"]\n' + before, "no seat"), ('[1, "claim", "0 won", "ann"]\n' + before, "as it did"),
+            ('[7, "ann"]\n' + before, "no record"), ("7\n" + before, "no record"), ("{\n" + before, "no record")):
+        written(folder, record, text)
         refused(command, word, stdin=subprocess.DEVNULL)
-        equal(text_of(room / name), text, "a file of a game that is not gone on with")
-        written(room, name, files[name])
+        equal(text_of(record), text, "a record of a game that is not gone on with")
+    written(folder, record, before)
+    written(record.parent, "tables.json", json.dumps([text_of(EXAMPLES / "cube.json")]))
+    refused(command, "another table", stdin=subprocess.DEVNULL)
 
 
 def a_long_game(folder):
     """A kept game of 60,000 entries comes back soon: in half a second, if the machine has nothing else to do."""
-    table, room = written(folder, "table.json", json.dumps(TABLE)), Path(folder, "kept", "table1", "room1")
-    room.mkdir(parents=True)
-    steps = written(room, "steps.txt", swings("ann", LONG))
-    written(room, "history.txt", asked("rehearse", table, steps)[0])
+    table, kept = written(folder, "table.json", json.dumps(TABLE)), Path(folder, "kept", "table1")
+    kept.mkdir(parents=True)
+    steps = written(folder, "steps.txt", swings("ann", LONG))
+    entries = zip(text_of(steps).splitlines(), asked("rehearse", table, steps)[0].splitlines())
+    written(kept, "room1.jsonl", "".join(json.dumps([1, step[2:], answer, "ann"]) + "\n" for step, answer in entries))
     start = time.monotonic()
     with played(table, "--class", "3", "--keep", Path(folder, "kept")) as (_, (_, teacher)):
         took = time.monotonic() - start

@@ -2,8 +2,10 @@
 under one address, one shared and two in rooms of one; a win; and an accident of the server in between."""
 import json
 import os
+import re
 import tempfile
 
+import firefox
 from browser import READY, Page, at, needed
 from common import EXAMPLES, PATIENCE, addresses, asked, started, written
 from helpers import equal, expect, tests_of
@@ -44,19 +46,34 @@ def on_one_board(folder, ann, others, desk, wall):
     picture(wall, "projector-shared")
 
 
+def winning(folder, table):
+    """The line that wins a table."""
+    script = asked("judge", written(folder, "won.json", table))[0].split(" by ")[1].split(" to ")[0]
+    return "script " + ",".join(pair for pair in script.strip().split(" ") if not pair.endswith("=0"))
+
+
+def unsolved(table):
+    """A vertex that owes, and so does after it has lent."""
+    made = json.loads(table)
+    return next(name for name, amount in zip(made["vertices"], made["amounts"]) if amount < 0)
+
+
 def a_win(folder, ann, others, desk, wall):
     """Each has a puzzle of his own; some win it, and their page, the teacher's and the projector say so."""
-    equal(ann.value("[$('#undo').hidden, $('#gift-form').hidden, $('#look').hidden]"), [False, True, False], "what is offered")
-    table = ann.value("given.table")
-    script = asked("judge", written(folder, "won.json", table))[0].split(" by ")[1].split(" to ")[0]
-    line = "script " + ",".join(pair for pair in script.strip().split(" ") if not pair.endswith("=0"))
-    ann.value(f"play({json.dumps(line)})")
+    equal(ann.value("['undo', 'redo', 'hint', 'look', 'gift-form'].map((id) => $(`#${id}`).hidden)"), [False] * 4 + [True], "what is offered")
+    tables = desk.value("given.tables")
+    equal([len(tables), ann.value("given.tables")], [OTHERS + 1, [tables[ann.seat - 1]]], "the puzzles")
+    ann.click("#hint")
+    ann.until("$('#note').textContent !== ''")
+    expect(re.fullmatch("Let [a-e] (lend|borrow) once.", ann.text("#note")), f"a hint: {ann.text('#note')}")
+    picture(ann, "phone-hint")
+    ann.value(f"play({json.dumps(winning(folder, tables[ann.seat - 1]))})")
     ann.until("!$('#won').hidden")
-    equal(ann.text("#won"), "Solved in 1 move: nobody owes a dollar.", "a pupil's end")
+    equal([ann.text("#won"), ann.text("#note")], ["Solved in 1 move: nobody owes a dollar.", ""], "a pupil's end")
     for pupil in others[:10]:
-        equal(pupil.play(line)[0], 200, "a line of another")
+        equal(pupil.play(winning(folder, tables[pupil.seat - 1]))[0], 200, "a line of another")
     for pupil in others[10:]:
-        equal(pupil.play(f"lend {json.loads(table)['vertices'][0]}")[0], 200, "a line of another")
+        equal(pupil.play(f"lend {unsolved(tables[pupil.seat - 1])}")[0], 200, "a line of another")
     for page in desk, wall:
         page.until(f"$$('.room.done').length === 11 && $$('.room').length === {OTHERS + 1}")
         equal(page.value(SMALL)[ann.seat - 1], [ann.seat, "done in 1 move"], "the room of who is done")
@@ -72,15 +89,19 @@ def a_win(folder, ann, others, desk, wall):
     wall.until(f"large === {ann.seat} && !$('#won').hidden && getComputedStyle($('#rooms')).display === 'none'")
     picture(wall, "projector-one")
     ann.click("#undo")
-    ann.until("viewer.game.length === 0 && $('#won').hidden")
+    ann.until("viewer.game.length === 0 && $('#won').hidden && !$('#redo').disabled")
+    ann.click("#redo")
+    for page in ann, wall:
+        page.until("viewer.game.length === 1 && !$('#won').hidden")
+    ann.until("$('#redo').disabled && $('#note').textContent === 'You have played the move again.'")
+    ann.click("#undo")
     wall.until("viewer.game.length === 0")
     desk.until("$$('.room.done').length === 10")
-    equal(desk.value(SMALL)[ann.seat - 1], [ann.seat, "0 moves, 1 taken back"], "the room of who took a move back")
+    equal(desk.value(SMALL)[ann.seat - 1], [ann.seat, "0 moves, 2 taken back"], "the room of who took a move back")
     desk.value("($('#show').value = 'all', $('#show').dispatchEvent(new Event('change')))")
 
 
-def a_lesson(folder):
-    one, two, three = needed()
+def lesson(one, two, three, folder):
     for browser in one, two, three:
         browser.media()
         browser.asked.clear()
@@ -91,7 +112,7 @@ def a_lesson(folder):
         two.size(1280, 800)
         three.size(1920, 1080)
         desk, wall = Page(two, teacher, os.path.join(folder, "desk")), Page(three, pupils, os.path.join(folder, "wall"))
-        three.call("Page.navigate", url=desk.text("#short"))
+        three.go(desk.text("#short"))
         three.until(f"location.href === {json.dumps(pupils)} && {READY}")
         wall.click("#watch")
         picture(wall, "projector-empty")
@@ -110,8 +131,10 @@ def a_lesson(folder):
         for page in ann, desk, wall:
             page.until("$('#notice').hidden && given.name === 'Wheel of 5, medium'")
         desk.until("$$('.room.done').length === 10")
-        ann.click(at("a"))
-        ann.has(1)
+        equal(desk.value(SMALL)[ann.seat - 1], [ann.seat, "0 moves, 2 taken back"], "what was taken back before the accident")
+        ann.until("!$('#redo').disabled")
+        ann.click("#redo")
+        ann.until("viewer.game.length === 1 && !$('#won').hidden")
         handed(desk, "graph random", "easy", 1)
         for page in ann, desk, wall:
             page.until("given.name === 'a random graph, easy' && state.size === 1")
@@ -130,8 +153,16 @@ def a_lesson(folder):
         _, said = child.communicate(timeout=PATIENCE)
         equal((child.returncode, said), (0, ""), "the end of board/play")
         for browser in one, two, three:
-            browser.call("Page.navigate", url="about:blank")
+            browser.go("about:blank")
             browser.asked.clear()
 
 
-load_tests = tests_of(a_lesson, given=tempfile.TemporaryDirectory)
+def in_chromium(folder):
+    lesson(*needed(), folder)
+
+
+def in_firefox(folder):
+    lesson(*firefox.needed(), folder)
+
+
+load_tests = tests_of(in_chromium, in_firefox, given=tempfile.TemporaryDirectory)

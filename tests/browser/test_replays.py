@@ -50,7 +50,7 @@ def files_of(table, steps):
 
 def often(count):
     """A number of a script in words."""
-    return "neither" if count == 0 else f"{'lends' if count > 0 else 'borrows'} {abs(count)}"
+    return "does nothing" if count == 0 else f"{'lends' if count > 0 else 'borrows'} {abs(count)}"
 
 
 def sent(step):

@@ -7,7 +7,7 @@ import time
 from pathlib import Path
 
 from common import EXAMPLES, addresses, asked, played, refused, started, text_of, together, waited, written
-from dollar.board.puzzles import GRAPHS, LEVELS, Puzzles, table_of
+from dollar.board.puzzles import GRAPHS, LEVELS, puzzles, table_of
 from helpers import equal, expect, tests_of
 from visitors import TABLE, Place, Pupil, Watcher, a_class, taken
 
@@ -19,7 +19,7 @@ TRIANGLE = text_of(EXAMPLES / "triangle.json")
 def told_all(listener, room, steps, history):
     """Sees that a listener is told just the entries of a room."""
     def told():
-        entries = listener.rooms.get(room, []) if isinstance(listener, Watcher) else listener.entries
+        entries = listener.rooms.get(room, [[]])[0] if isinstance(listener, Watcher) else listener.entries
         return [(f"{seat} {line}", answer) for seat, line, answer in entries]
 
     wanted = list(zip(steps, history))
@@ -57,7 +57,7 @@ def next_tables(folder):
         first = bob.tables[-1]["feed"]
         equal(desk.post("table", {"table": TRIANGLE, "name": "three", "size": 1})[0], 200, "a table that is given")
         bob.until(lambda pupil: len(pupil.tables) == 2, "the second table does not come")
-        equal((bob.tables[-1]["table"], bob.tables[-1]["name"], bob.tables[-1]["room"]), (TRIANGLE, "three", 2), "the second table")
+        equal((bob.tables[-1]["tables"], bob.tables[-1]["name"], bob.tables[-1]["room"]), ([TRIANGLE], "three", 2), "the second table")
         late = bob.place.post("line", {"key": bob.key, "line": "lend a", "feed": first})
         equal(late, (409, "There is a new table. This line was not played."), "a line for the table before")
         equal((ann.play("borrow b")[1], bob.play("claim")[1]), ("0 moved a=1 b=1 c=-2", "0 not won"), "lines on the second table")
@@ -69,7 +69,7 @@ def next_tables(folder):
         for level in LEVELS:
             equal(desk.post("table", {"graph": "Cube", "level": level, "size": 1})[0], 200, f"the puzzle {level}")
             ann.until(lambda pupil: pupil.tables[-1]["name"] == f"Cube, {level}", f"the puzzle {level} does not come")
-            confirmed(folder, ann.tables[-1]["table"], level)
+            confirmed(folder, ann.tables[-1]["tables"][0], level)
         before = len(ann.tables)
         for given, said in (
                 ({"table": "{}"}, "shape of top"), ({"size": 4}, "there is no such room"), ({"size": "1"}, "there is no such room"),
@@ -117,11 +117,11 @@ def confirmed(folder, table, level):
     expect(min(json.loads(table)["amounts"]) < 0, f"nobody owes: {table}")
 
 
-def puzzles(folder):
+def on_graphs(folder):
     """Each known graph has puzzles of each level, if there can be any; and so have random ones."""
     for graph in [*GRAPHS, *["random"] * 10]:
         for level in LEVELS:
-            name, table = Puzzles.made(graph, level, TRIANGLE)
+            name, (table,) = puzzles(graph, level, TRIANGLE)
             equal(name, f"{'a random graph' if graph == 'random' else graph}, {level}", "the name of a puzzle")
             confirmed(folder, table, level)
             if graph != "random":
@@ -130,7 +130,7 @@ def puzzles(folder):
     single = '{"vertices":["a"],"edges":[],"amounts":[0],"q":"a"}\n'
     for level in "easy", "medium", "hard":
         try:
-            equal(Puzzles.made("", level, single), None, "a puzzle on one vertex")
+            equal(puzzles("", level, single), None, "a puzzle on one vertex")
         except ValueError as error:
             equal(str(error), "there is no such puzzle on this graph", "a puzzle on one vertex")
 
@@ -141,39 +141,105 @@ def taking_back(folder):
     with a_class(folder, 2, "ann", "bob", options=(*EACH, "--keep", kept)) as (_, place, desk, ann, bob):
         watcher = Watcher(place)
 
-        def undo():
-            return place.post("undo", {"key": ann.key})
+        def undo(act="undo"):
+            return place.post(act, {"key": ann.key})
 
         for line in "lend ann", "look", "lend bob", "claim":
             equal(ann.play(line)[0], 200, f"the line {line}")
         bob.play("lend bob")
-        equal(undo(), (200, {"undone": True}), "a move that is taken back")
+        equal(undo(), (200, {"undo": True}), "a move that is taken back")
         equal(taken(desk, folder)[0], ["1 lend ann", "1 look"], "the steps that are left")
         equal(ann.play("commit")[0], 200, "a commit on a look that is left")
-        equal([undo()[1] for _ in range(2)], [{"undone": True}, {"undone": False}], "taken back to the start")
+        equal([undo()[1] for _ in range(2)], [{"undo": True}, {"undo": False}], "taken back to the start")
+        equal([undo("redo")[1], taken(desk, folder)[0]], [{"redo": True}, ["1 lend ann", "1 look", "1 commit"]], "a move that is played again")
+        ann.play("lend dot")
+        equal([undo(act)[1][act] for act in ("redo", "undo", "undo", "redo", "redo", "redo")], [False, True, True, True, True, False],
+              "two moves that are taken back and played again")
+        equal(taken(desk, folder)[0], ["1 lend ann", "1 look", "1 commit", "1 lend dot"], "the steps after it")
+        equal([undo()[1], undo()[1]], [{"undo": True}] * 2, "two moves that are taken back again")
         ann.play("borrow cem")
+        equal(undo("redo")[1], {"redo": False}, "what was taken back before another move")
         steps, history = taken(desk, folder)
         equal((steps, history[0].split(" ")[0]), (["1 borrow cem"], "0"), "the steps after all was taken back")
         for listener in ann, watcher:
             told_all(listener, 1, steps, history)
         told_all(watcher, 2, *taken(desk, folder, 2))
-        equal(text_of(kept / "table1" / "room1" / "steps.txt"), "1 borrow cem\n", "the steps that are kept")
         desk.post("may", {"undo": False})
-        equal(undo(), (409, "The teacher does not permit taking back now."), "taking back that is not permitted")
+        for act in "undo", "redo":
+            equal(undo(act), (409, "The teacher has switched off undo and redo. Nothing was played."), f"an {act} that is not permitted")
         equal(taken(desk, folder)[0], steps, "the steps after it")
         watcher.leave()
     with a_class(folder, 2, "ann") as (_, place, _, ann):
         ann.play("lend ann")
-        equal(place.post("undo", {"key": ann.key})[0], 409, "taking back on a table that all share")
+        equal([place.post(act, {"key": ann.key})[0] for act in ("undo", "redo", "hint")], [409] * 3, "undo on a table that all share")
+
+
+def hints(folder):
+    """A hint is one move, and moves that only follow hints win; if none helps, this is told. They are the teacher's to permit."""
+    with a_class(folder, 2, "ann", "bob", options=EACH) as (_, place, desk, ann, bob):
+        def hint(pupil):
+            return place.post("hint", {"key": pupil.key})[1]
+
+        ann.play("join ann eve")
+        ann.play("gift cem 5")
+        for _ in range(30):
+            found = hint(ann)["hint"]
+            if found["count"] == 0:
+                break
+            ann.play(f"{'lend' if found['count'] > 0 else 'borrow'} {found['name']}")
+        equal(ann.play("claim")[1].split(" ", 1)[1], "won", "a game of hints")
+        expect(len(ann.entries) < 30, "so many hints")
+        bob.play("gift ann -20")
+        equal(hint(bob)["hint"]["count"], None, "a hint where nothing can be won")
+        equal(taken(desk, folder, 2)[0], ["2 gift ann -20"], "the steps after a hint")
+        desk.post("may", {"hints": False})
+        equal(hint(ann), "The teacher has switched off hints. Nothing was played.", "a hint that is not permitted")
+
+
+def a_puzzle_each(folder):
+    """Each room gets a puzzle of its own, on one graph and with as many dollars, and the files of a room have its own; the same again is
+    the same for each, also after an accident."""
+    table, kept = written(folder, "table.json", json.dumps(TABLE)), Path(folder, "kept")
+    words = [table, "--class", "6", "--rooms", "1", "--keep", kept]
+    child = started(*words)
+    pupils, teacher = addresses(child)
+    desk, room = Place(teacher), [Pupil(pupils, f"pupil {number}") for number in range(6)]
+    for graph, level, size in ("random", "easy", 1), ("Cube", "hard", 2), ("Wheel of 5", "unwinnable", 1):
+        equal(desk.post("table", {"graph": graph, "level": level, "size": size, "each": True})[0], 200, f"puzzles on {graph}")
+        for pupil in room:
+            pupil.until(lambda pupil: pupil.tables[-1]["name"].endswith(level), "a puzzle of one's own does not come")
+        watcher = Watcher(desk)
+        watcher.until(lambda page: page.tables, "the puzzles do not come to the teacher")
+        tables = watcher.tables[-1]["tables"]
+        equal(len(set(tables)), 6 // size, f"different puzzles on {graph}")
+        made = [json.loads(text) for text in tables]
+        equal({(str(each["edges"]), sum(each["amounts"])) for each in made}, {(str(made[0]["edges"]), sum(made[0]["amounts"]))},
+              "the graph and the dollars of each")
+        for pupil in room:
+            number = (pupil.seat - 1) // size
+            equal(pupil.tables[-1]["tables"], [tables[number]], f"the puzzle of seat {pupil.seat}")
+            equal(pupil.play("lend " + made[0]["vertices"][1])[0], 200, "a line on it")
+            confirmed(folder, tables[number], level)
+        for number, text in enumerate(tables, 1):
+            equal(desk.get(f"table.json?room={number}")[1], text, f"the file of room {number}")
+            taken(desk, folder, number)
+        watcher.leave()
+    child.kill()
+    child.communicate()
+    with played(*words) as (_, (_, teacher)):
+        desk = Place(teacher)
+        for act in "an accident", "the same again":
+            equal([desk.get(f"table.json?room={number}")[1] for number in range(1, 7)], tables, f"the puzzles after {act}")
+            desk.post("table", {"size": 1})
 
 
 def permitted(folder):
     """At first nobody gives, takes or builds. The teacher says what is permitted, shuts the door, and bars a browser."""
     with a_class(folder, 3, may=()) as (_, place, desk):
         ann = Pupil(place.address, "ann", browser="b" * 24)
-        refused = {"gift": "gifts and levies", "join": "new edges", "look": "looks and what is entered on them"}
+        refused = {"gift": "gifts and levies", "join": "new edges"}
         for line, called in ("gift ann 1000000", refused["gift"]), ("gift ann -1", refused["gift"]), ("join ann bob", refused["join"]):
-            equal(ann.play(line), (409, f"The teacher does not permit {called} now. This line was not played."), f"the line {line}")
+            equal(ann.play(line), (409, f"The teacher has switched off {called}. Nothing was played."), f"the line {line}")
         equal(ann.play("look")[0], 200, "a look")
         desk.post("may", {"gifts": True, "edges": True, "questions": False})
         equal([ann.play(line)[0] for line in ("gift ann 1", "join ann bob", "look", "commit", "rank 1", "lend ann")],
@@ -223,11 +289,14 @@ def an_accident(folder):
     for pupil in room:
         for line in ("borrow b", "look", "gift a 1")[:pupil.seat]:
             equal(pupil.play(line)[0], 200, f"the line {line}")
+    equal(Place(pupils).post("undo", {"key": room[2].key})[1], {"undo": True}, "a move that is taken back before the accident")
     child.kill()
     child.communicate()
     with played(*words) as (_, found):
         equal(found, [pupils, teacher], "the addresses")
         watcher = Watcher(Place(pupils))
+        equal(taken(Place(teacher), folder, 3)[0], ["3 borrow b", "3 look"], "the steps of a room that took a move back")
+        equal(Place(pupils).post("redo", {"key": room[2].key})[1], {"redo": True}, "the move is played again")
         for pupil in room:
             equal(pupil.play("commit" if pupil.seat == 2 else "claim")[0], 200, "a line after the accident")
             steps, history = taken(Place(teacher), folder, pupil.seat)
@@ -237,12 +306,12 @@ def an_accident(folder):
         state, shown = watcher.states[-1], watcher.tables[-1]
         equal(([state["names"][key]["name"] for key in "123"], state["may"]["gifts"], state["size"]), (["ann", "bob", "cem"], True, 1),
               "the names, a switch and the size of rooms")
-        equal((shown["name"], shown["table"], state["open"]), ("three", TRIANGLE, False), "the table, and the door")
+        equal((shown["name"], shown["tables"], state["open"]), ("three", [TRIANGLE], False), "the table, and the door")
         watcher.leave()
-    lost = kept / "table2" / "table.json"
+    lost = kept / "table2" / "tables.json"
     lost.unlink()
     refused(["board", "--no-browser", *words], "has lost its table 2", stdin=subprocess.DEVNULL)
 
 
-load_tests = tests_of(apart, next_tables, in_the_middle, puzzles, taking_back, permitted, by_a_short_code, an_accident,
+load_tests = tests_of(apart, next_tables, in_the_middle, on_graphs, a_puzzle_each, taking_back, hints, permitted, by_a_short_code, an_accident,
                       given=tempfile.TemporaryDirectory)

@@ -14,9 +14,10 @@ import tempfile
 import termios
 import threading
 import time
+from pathlib import Path
 
 from common import (EXAMPLES, PACKAGE, PLAY, TRIANGLE, addresses, asked, is_modest, played, started, tell, text_of, together,
-                    written)
+                    waited, written)
 from helpers import equal, expect, tests_of
 from visitors import TABLE, Place, Pupil, a_class, taken
 
@@ -304,6 +305,37 @@ def command_line(folder):
         equal((done.returncode, done.stderr), (1, b""), f"{words[0]} whose reader has gone")
 
 
+def as_nobody(act):
+    """Whether something holds for another user; also if this one can't be another."""
+    if os.getuid():
+        return True
+    child = os.fork()
+    if child == 0:
+        try:
+            os.setuid(65534)
+            os._exit(0 if act() else 1)
+        finally:
+            os._exit(2)
+    return os.waitpid(child, 0)[1] == 0
+
+
+def a_browser(folder):
+    """The address that a browser is called with leads to the page once, and programs of other users to nothing."""
+    told = Path(folder, "told")
+    browser = written(folder, "browser", f'#!/bin/sh\necho "$1" > {told}.new\nmv {told}.new {told}\n')
+    browser.chmod(0o755)
+    for words in [], ["--class", "2"], ["--class", "2", "--host", "0.0.0.0", "--name", "vm"]:
+        with played(TRIANGLE, *words, browser=browser) as (_, found):
+            expect(waited(told.exists), f"no browser is opened with {words}")
+            once, secret = Place(told.read_text().strip()), Place(found[-1]).secret
+            told.unlink()
+            equal((once.host, once.secret == secret, once.path.count("/")), ("127.0.0.1", False, 1), "the address for a browser")
+            equal(once.get("/")[0], 404, "an address without a secret")
+            expect(as_nobody(lambda: once.get(once.path)[0] == 404), "another user comes to the page")
+            equal([(status, secret in said) for status, said in (once.get(once.path), once.get(once.path), once.get(f"/{secret}/"))],
+                  [(200, True), (404, False), (200, False)], f"the address for a browser, twice, and the page itself, with {words}")
+
+
 def ends_of_play(folder):
     """A terminal's Ctrl-D and Ctrl-C end board/play; in a game that was not taken along, the second Ctrl-C."""
     for end in b"\x04", b"\x03":
@@ -328,5 +360,5 @@ def ends_of_play(folder):
     expect(child.wait(20) == 0 and child.stderr.read() == "", "the second Ctrl-C does not end it")
 
 
-load_tests = tests_of(command_line, ends_of_play, server_of_one_player, silence, damaged_requests,
+load_tests = tests_of(command_line, a_browser, ends_of_play, server_of_one_player, silence, damaged_requests,
                       given=tempfile.TemporaryDirectory)

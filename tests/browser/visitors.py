@@ -82,7 +82,7 @@ class Listener:
     """What comes to a page: the table, the entries, and what else goes on."""
 
     def __init__(self, place):
-        self.place, self.entries, self.states, self.tables, self.items = place, [], [], [], 0
+        self.place, self.entries, self.undone, self.states, self.tables, self.items = place, [], [], [], [], 0
         self.link, self.ended = None, threading.Event()
 
     def listen(self, path):
@@ -111,16 +111,19 @@ class Listener:
                 self.take_item(*item)
         elif kind == "table":
             self.tables.append(thing)
-            self.entries, self.items = [], 0
+            self.entries, self.undone, self.items = [], [], 0
         else:
             self.states.append(thing if kind == "state" else kind)
 
     def take_item(self, room, seat, line, *more):
-        """An entry, or that a game was taken back to so many entries."""
+        """An entry, or how many entries a game has since some were taken back, or played again."""
         if len(more) == 2:
             self.entries.append([seat, line, more[0]])
-        else:
+        elif seat < len(self.entries):
+            self.undone.append(self.entries[seat:])
             del self.entries[seat:]
+        else:
+            self.entries += self.undone.pop()
 
     def until(self, wanted, what):
         """Waits until something is so of what has come."""
@@ -147,7 +150,7 @@ class Watcher(Listener):
         super().take(kind, thing)
 
     def take_item(self, room, *item):
-        self.entries = self.rooms.setdefault(room, [])
+        self.entries, self.undone = self.rooms.setdefault(room, ([], []))
         super().take_item(room, *item)
 
 

@@ -4,7 +4,7 @@ import json
 
 from dollar.board.game import MOST_LINE, Game
 from dollar.board.pages import asset, forward, page
-from dollar.board.puzzles import GRAPHS, Puzzles
+from dollar.board.puzzles import GRAPHS, hint, puzzles
 from dollar.board.replay import page as replay_page
 from dollar.board.server import Nothing, Refused, as_json, new_secret, same, text_in
 from dollar.drawing import USUAL, layout
@@ -108,6 +108,8 @@ class Alone:
             return await self.replay(table, text("steps"), text("name"))
         if command == "puzzle":
             return await self.puzzle(text("graph"), text("level"), table)
+        if command == "hint":
+            return await made(lambda: {"out": json.dumps(hint(table))})
         raise Refused(400, "there is no such question")
 
     async def begin(self, table, steps):
@@ -155,13 +157,11 @@ class Alone:
 
     async def puzzle(self, graph, level, now):
         """A puzzle, as its name and its table."""
-        try:
-            name, table = await asyncio.to_thread(Puzzles.made, graph, level, now)
-        except Fault as fault:
-            return {"status": fault.status, "out": "", "err": fault.text}
-        except ValueError as error:
-            raise Refused(409, str(error)) from None
-        return {"status": 0, "out": "", "err": "", "name": name, "table": table}
+        def make():
+            name, (table,) = puzzles(graph, level, now)
+            return {"name": name, "table": table}
+
+        return await made(make)
 
     async def replay(self, table, steps, name):
         """The page that shows the game again."""
@@ -169,6 +169,16 @@ class Alone:
         if said["status"] == 0:
             said["page"] = await asyncio.to_thread(replay_page, name, table, steps, said["out"])
         return said
+
+
+async def made(make):
+    """What is made by runs of the program, or its fault."""
+    try:
+        return {"status": 0, "out": "", "err": "", **await asyncio.to_thread(make)}
+    except Fault as fault:
+        return {"status": fault.status, "out": "", "err": fault.text}
+    except ValueError as error:
+        raise Refused(409, str(error)) from None
 
 
 async def run(*words):

@@ -6,9 +6,9 @@ import re
 import time
 from collections import Counter
 
-from dollar.board.game import MOST_LINE, Table
+from dollar.board.game import MOST_LINE, tables_of
 from dollar.board.pages import asset, forward, page
-from dollar.board.puzzles import Puzzles
+from dollar.board.puzzles import graphs, hint, puzzles
 from dollar.board.qr import code
 from dollar.board.replay import page as replay_page
 from dollar.board.room import Feed, Room, event
@@ -27,7 +27,10 @@ FILES = {"table.json": "application/json", "steps.txt": "text/plain", "history.t
 KEEP_OPEN, JOINER = b": the game goes on\n\n", "\u200d"
 # What the teacher permits, the first words of the lines that fall under it, and what it is called.
 SWITCHES = {"gifts": (["gift"], "gifts and levies"), "edges": (["join"], "new edges"),
-            "questions": (["look", "commit", "rank"], "looks and what is entered on them"), "undo": ([], "taking back")}
+            "questions": (["look", "commit", "rank"], "looks, commits and rank tests"), "undo": ([], "undo and redo"),
+            "hints": ([], "hints")}
+# What is permitted at first on boards that not all share.
+IN_ROOMS = "undo", "hints"
 
 
 class Bucket:
@@ -101,12 +104,12 @@ def clean(name):
 
 class Classroom:
     """Answers the requests of pupils, who know one secret, and of the teacher, who knows another. `tables` are those that were named,
-    and the first of them is handed out. A room is for so many seats; if that is 0, one is for all. The teacher may be heard from this
-    machine alone."""
+    and the first of them is handed out. A room is for so many seats; if that is 0, one is for all. `handed` has the tables of the rooms,
+    one for all or one for each. The teacher may be heard from this machine alone."""
 
     def __init__(self, tables, seats, size=0, keeper=None, teacher_here=False):
         kept = keeper.found if keeper else {}
-        self.tables, self.seats, self.keeper, self.teacher_here, self.puzzles = tables, seats, keeper, teacher_here, Puzzles()
+        self.tables, self.seats, self.keeper, self.teacher_here = tables, seats, keeper, teacher_here
         self.secret, self.teacher = kept.get("secret") or new_secret(), kept.get("teacher") or new_secret()
         self.short, self.tries = kept.get("short") or new_secret().replace("-", "")[:SHORT], Bucket(TRIES, TRIES_IN_A_SECOND)
         self.taken, self.barred = {}, set(kept.get("barred", ()))
@@ -116,27 +119,28 @@ class Classroom:
         self.paused, self.is_open, self.over, self.shown = False, kept.get("open", True), False, kept.get("shown", "all")
         self.followers, self.soon, self.last, self.changes, self.told_state = set(), None, 0.0, 0, (None, b"")
         self.address, self.port = "", 0
-        self.set_table(tables[0], kept.get("size", size), 1)
-        self.may = kept.get("may") or self.usual()
+        self.set_tables(tables[:1], kept.get("size", size), 1)
+        self.may = {**dict.fromkeys(SWITCHES, False), "questions": True, **dict.fromkeys(IN_ROOMS, self.size > 0), **kept.get("may", {})}
         if keeper:
             self.find(kept)
 
-    def usual(self):
-        return {"gifts": False, "edges": False, "questions": True, "undo": self.size > 0}
+    def set_tables(self, handed, size, turn):
+        self.handed, self.size, self.turn, self.rooms, self.feed = handed, size, turn, {}, Feed()
 
-    def set_table(self, table, size, turn):
-        self.table, self.size, self.turn, self.rooms, self.feed = table, size, turn, {}, Feed()
+    def table(self, number):
+        """The table of a room."""
+        return self.handed[(number - 1) % len(self.handed)]
 
     def find(self, kept):
         """Goes on with what was kept. Raises ValueError if that was another table, or has been changed."""
-        first, turn = self.keeper.table(1), kept.get("turn", 1)
-        if first is not None and first != self.table.text:
+        first, turn = self.keeper.tables(1), kept.get("turn", 1)
+        if first and first != [self.tables[0].text]:
             raise ValueError("%s keeps a class on another table" % self.keeper.folder)
         if turn > 1:
-            text = self.keeper.table(turn)
-            if text is None:
+            texts = self.keeper.tables(turn)
+            if not texts:
                 raise ValueError("%s has lost its table %d" % (self.keeper.folder, turn))
-            self.set_table(Table(kept["table"], text), self.size, turn)
+            self.set_tables(tables_of(kept["table"], texts), self.size, turn)
         for number in self.keeper.rooms(turn):
             self.room(number)
 
@@ -146,8 +150,11 @@ class Classroom:
         for room in list(self.rooms.values()):
             if room.entries:
                 await room.begin()
-        if self.keeper and self.keeper.table(self.turn) is None:
-            self.keeper.hand_out(self.turn, self.table.text)
+        if self.keeper and not self.keeper.tables(self.turn):
+            self.keep_tables()
+
+    def keep_tables(self):
+        self.keeper.hand_out(self.turn, [table.text for table in self.handed])
 
     async def stop(self):
         for room in list(self.rooms.values()):
@@ -155,7 +162,7 @@ class Classroom:
 
     def last_words(self):
         """What is to be said before the games are lost."""
-        lost = sum(len(room.entries) - room.saved for room in self.rooms.values() if not (room.kept and room.kept.is_kept()))
+        lost = sum(len(room.entries) - room.saved for room in self.rooms.values() if not (room.kept and room.kept.is_kept))
         return lost and "Entries that were not saved from the teacher's page: %d. Once more ends the game, and drops them." % lost
 
     # Rooms.
@@ -163,9 +170,8 @@ class Classroom:
     def room(self, number):
         """The room of a number. It is made when it is asked for first."""
         if number not in self.rooms:
-            names = {seat: self.taken[seat].name if seat in self.taken else "Seat %d" % seat for seat in range(1, self.seats + 1)}
-            kept = self.keeper and self.keeper.room(self.turn, number, names)
-            self.rooms[number] = Room(number, self.table.text, self.seats, self.feed, self.told, self.changed, kept)
+            kept = self.keeper and self.keeper.room(self.turn, number, self.seats)
+            self.rooms[number] = Room(number, self.table(number).text, self.seats, self.feed, self.told, self.changed, kept)
         return self.rooms[number]
 
     def number_of(self, seat):
@@ -175,10 +181,11 @@ class Classroom:
     def room_of(self, seat):
         return self.room(self.number_of(seat))
 
-    def handed(self, feed):
-        """What a page needs to draw the games of a feed from their beginning."""
-        return {"feed": feed.key, "room": feed.room, "turn": self.turn, "name": self.table.name, "table": self.table.text,
-                "layout": self.table.layout}
+    def told_first(self, feed):
+        """What a page needs to draw the games of a feed from their beginning: the tables of the rooms, or that of its own."""
+        tables = [self.table(feed.room)] if feed.room else self.handed
+        return {"feed": feed.key, "room": feed.room, "turn": self.turn, "name": tables[0].name, "tables": [table.text for table in tables],
+                "layout": tables[0].layout}
 
     # What all are told.
 
@@ -189,7 +196,7 @@ class Classroom:
         if self.keeper:
             seats = [[seat.number, seat.name, seat.browser, seat.key] for seat in self.taken.values()]
             self.keeper.save({"secret": self.secret, "teacher": self.teacher, "short": self.short, "port": self.port,
-                              "turn": self.turn, "size": self.size, "table": self.table.name, "may": self.may, "shown": self.shown,
+                              "turn": self.turn, "size": self.size, "table": self.handed[0].name, "may": self.may, "shown": self.shown,
                               "open": self.is_open, "barred": sorted(self.barred), "seats": seats})
 
     def told(self):
@@ -234,7 +241,7 @@ class Classroom:
                 feed = self.room_of(seat).feed if seat else self.feed
                 if key != feed.key:
                     key, number = feed.key, 0
-                    yield event("table", self.handed(feed), "%s.0" % key)
+                    yield event("table", self.told_first(feed), "%s.0" % key)
                 elif seen != self.changes:
                     seen = self.changes
                     yield self.state()
@@ -270,8 +277,7 @@ class Classroom:
         asked = request.parts[1]
         request.known() if teaches else request.is_guest()
         if teaches and (request.method, asked) == ("GET", "tables"):
-            graphs = await asyncio.to_thread(self.puzzles.listed)
-            return as_json({"named": [table.name for table in self.tables], "graphs": graphs})
+            return as_json({"named": [table.name for table in self.tables], "graphs": await asyncio.to_thread(graphs)})
         if request.method == "GET":
             return self.given(asked, request, teaches)
         given = await request.json(MOST_TABLE if teaches else MOST_BODY)
@@ -290,7 +296,7 @@ class Classroom:
         """What a page gets that plays nothing."""
         if asked == "start":
             return as_json({"role": "teacher" if teaches else "pupil", "seats": self.seats, "address": self.address,
-                            "short": self.short, "code": code(self.address), **self.handed(self.feed)})
+                            "short": self.short, "code": code(self.address), **self.told_first(self.feed)})
         if asked == "events":
             mark, seat = begin_at(request), None
             if "key" in request.query and not teaches:
@@ -315,15 +321,23 @@ class Classroom:
         if asked == "join":
             browser = text_in(given, "browser", 64) if "browser" in given else None
             return self.join(clean(text_in(given, "name", 200)), browser)
-        if asked not in ("line", "undo"):
+        if asked not in ("line", "undo", "redo", "hint"):
             raise Nothing
         seat = self.seat_of(text_in(given, "key", 64))
         room = self.room_of(seat)
         if given.get("feed", room.feed.key) != room.feed.key:
             raise NewTable
-        if asked == "undo":
-            return await self.undo(seat, room, request)
-        return await self.line(seat, room, text_in(given, "line", MOST_BODY), request)
+        if asked == "line":
+            return await self.line(seat, room, text_in(given, "line", MOST_BODY), request)
+        self.permits("hints" if asked == "hint" else "undo")
+        acts = {"undo": lambda: room.undo(seat.name), "redo": lambda: room.redo(seat.name),
+                "hint": lambda: asyncio.to_thread(hint, room.now())}
+        return as_json({asked: await self.done(seat, room, request, acts[asked])})
+
+    def permits(self, switch):
+        """Refuses what the teacher does not permit."""
+        if not self.may[switch]:
+            raise Refused(409, "The teacher has switched off %s. Nothing was played." % SWITCHES[switch][1])
 
     def join(self, name, browser):
         """Gives a free seat: of those the one that was used least, so that nobody finds the look of another on it. A browser that has a
@@ -357,16 +371,10 @@ class Classroom:
             raise Refused(400, "A line has no newline in it. This one was not played.")
         if len(("%d %s" % (seat.number, line)).encode()) > MOST_LINE:
             raise Refused(400, "A line has at most %d bytes. This one was not played." % MOST_LINE)
-        for switch, (words, called) in SWITCHES.items():
-            if line.split(" ")[0] in words and not self.may[switch]:
-                raise Refused(409, "The teacher does not permit %s now. This line was not played." % called)
+        for switch, (words, _) in SWITCHES.items():
+            if line.split(" ")[0] in words:
+                self.permits(switch)
         return as_json({"answer": await self.done(seat, room, request, lambda: self.play(seat, room, line))})
-
-    async def undo(self, seat, room, request):
-        """Takes back the last entry of a room that changed its board."""
-        if not self.may["undo"]:
-            raise Refused(409, "The teacher does not permit taking back now.")
-        return as_json({"undone": await self.done(seat, room, request, lambda: room.undo(seat.name))})
 
     async def done(self, seat, room, request, act):
         """What comes of an act of a seat in its room, if it may act now. It goes on also if who asked has gone meanwhile."""
@@ -414,6 +422,10 @@ class Classroom:
             await self.again()
         elif asked == "table":
             await self.hand_out(given)
+        elif asked == "move":
+            self.teacher = new_secret()
+            self.changed()
+            return as_json({"secret": self.teacher})
         elif asked == "replay":
             return await self.replay(room_in(given.get("room", 1)))
         else:
@@ -448,38 +460,38 @@ class Classroom:
         if not isinstance(size, int) or not 0 <= size <= self.seats:
             raise Refused(400, "there is no such room")
         try:
-            table = await asyncio.to_thread(self.wanted, given)
+            handed = await asyncio.to_thread(self.wanted, given, size)
         except (Fault, ValueError) as fault:
             raise Refused(409, fault.text if isinstance(fault, Fault) else str(fault)) from None
-        is_kept_undo = (size > 0) == (self.size > 0)
-        self.set_table(table, size, self.turn + 1)
-        self.may["undo"] = self.may["undo"] if is_kept_undo else size > 0
+        if (size > 0) != (self.size > 0):
+            self.may.update(dict.fromkeys(IN_ROOMS, size > 0))
+        self.set_tables(handed, size, self.turn + 1)
         self.over, self.shown = False, "all" if self.shown.isdigit() else self.shown
         if self.keeper:
-            self.keeper.hand_out(self.turn, table.text)
+            self.keep_tables()
         self.changed()
         for room in old:
             await room.finish()
 
-    def wanted(self, given):
-        """The table that is wanted. Raises a Fault where it is none."""
+    def wanted(self, given, size):
+        """The tables that are wanted, for rooms of a size. Raises a Fault where one is none."""
         if "graph" in given:
-            return Table(*self.puzzles.made(text_in(given, "graph", 40), text_in(given, "level", 20), self.table.text))
+            count = -(-self.seats // size) if given.get("each") is True and size else 1
+            return tables_of(*puzzles(text_in(given, "graph", 40), text_in(given, "level", 20), self.handed[0].text, count))
         if "table" in given:
             text = text_in(given, "table", MOST_TABLE)
             printed("judge", text.encode(), patience=PATIENCE)
-            return Table(clean(text_in(given, "name", 200)) or "A table", text)
-        if "named" in given:
-            return next((table for table in self.tables if table.name == given["named"]), self.table)
-        return self.table
+            return tables_of(clean(text_in(given, "name", 200)) or "A table", [text])
+        return [table for table in self.tables if table.name == given.get("named")][:1] or self.handed
 
     async def replay(self, number):
         """The page that shows the game of a room."""
         steps, history = self.file("steps.txt", number), self.file("history.txt", number)
         try:
-            lines = await asyncio.to_thread(printed, "rehearse", self.table.text.encode(), steps.encode(), patience=PATIENCE)
+            table = self.table(number)
+            lines = await asyncio.to_thread(printed, "rehearse", table.text.encode(), steps.encode(), patience=PATIENCE)
             names = [name for _, _, _, name in self.rooms[number].entries] if number in self.rooms else []
-            made = await asyncio.to_thread(replay_page, self.table.name, self.table.text, steps, lines, history, self.table.own, names)
+            made = await asyncio.to_thread(replay_page, table.name, table.text, steps, lines, history, table.own, names)
         except (Fault, TimeoutError) as fault:
             raise Refused(409, "The program does not play the game again: %s" % fault) from None
         return as_json({"page": made})
@@ -487,7 +499,7 @@ class Classroom:
     def file(self, name, number):
         """The text of a file that is taken along, of a room."""
         if name == "table.json":
-            return self.table.text
+            return self.table(number).text
         if number not in self.rooms:
             return ""
         room = self.rooms[number]

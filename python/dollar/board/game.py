@@ -14,9 +14,15 @@ PIECE = 1 << 16
 class Table:
     """A table to play on: its name, its text, and where its vertices stand."""
 
-    def __init__(self, name, text, own=None):
+    def __init__(self, name, text, own=None, laid=None):
         made = json.loads(text)
-        self.name, self.text, self.own, self.layout = name, text, own, layout(made, made["amounts"] + USUAL, own)
+        self.name, self.text, self.own, self.layout = name, text, own, laid or layout(made, made["amounts"] + USUAL, own)
+
+
+def tables_of(name, texts):
+    """Tables of these texts, which are on the same graph."""
+    first = Table(name, texts[0])
+    return [first, *(Table(name, text, laid=first.layout) for text in texts[1:])]
 
 
 class Game:

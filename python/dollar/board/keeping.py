@@ -1,86 +1,61 @@
 """Keeps a class in a folder while it goes on, so that it outlasts the end of the board's server: who sits where, and the games.
 
-A folder has `class.json`, which its owner alone can read, and for each table that was handed out a folder with `table.json` and a folder
-for each room, with its steps and its history."""
+A folder has `class.json`, which its owner alone can read, and for each turn, in which something was handed out, a folder with the tables
+of its rooms, and a record of each room."""
 import fcntl
 import json
 import os
+import re
 import sys
 
 from dollar.table import text_of
 
-CLASS, TABLE, STEPS, HISTORY = "class.json", "table.json", "steps.txt", "history.txt"
+CLASS, TABLES, RECORD = "class.json", "tables.json", re.compile(r"room([0-9]{1,2})\.jsonl\Z")
 
 
-def write(place, text, mode=0o644):
-    """Writes a file anew; whoever is interrupted leaves the old one."""
-    with open(os.open(place + ".new", os.O_WRONLY | os.O_CREAT | os.O_TRUNC, mode), "w", encoding="utf-8", newline="") as file:
-        file.write(text)
-    os.replace(place + ".new", place)
+def read(place):
+    """The text of a file; nothing if there is none."""
+    return text_of(place) if os.path.exists(place) else ""
 
 
 class Kept:
-    """The steps and the history of a room, whose seats have names."""
+    """The record of a room: a line of JSON for each item of its feed, also for what was taken back and played again."""
 
-    def __init__(self, folder, names):
-        self.folder, self.files = folder, None
-        os.makedirs(folder, exist_ok=True)
-        # A step that has no answer was not answered before an accident.
-        self.entries = list(self.pairs(zip(self.lines(STEPS), self.lines(HISTORY)), names))
+    def __init__(self, place, seats):
+        self.place, self.file, self.is_kept = place, None, True
+        # Nobody was told what was not written to its end.
+        whole, end, _ = read(place).rpartition("\n")
+        self.items, self.size = items_in(place, whole, seats), len((whole + end).encode())
 
-    def begin(self, entries):
-        """Has just these entries, and gets ready for further ones."""
-        write(self.place(STEPS), "".join("%d %s\n" % (seat, line) for seat, line, _, _ in entries))
-        write(self.place(HISTORY), "".join("%s\n" % answer for _, _, answer, _ in entries))
-        self.close()
-        self.files = [open(self.place(name), "a", encoding="utf-8", newline="") for name in (STEPS, HISTORY)]
-
-    def close(self):
-        for file in self.files or []:
-            file.close()
-
-    def place(self, name):
-        return os.path.join(self.folder, name)
-
-    def lines(self, name):
-        """The whole lines of a file."""
-        return text_of(self.place(name)).split("\n")[:-1] if os.path.exists(self.place(name)) else []
-
-    def pairs(self, pairs, names):
-        """The entries of steps and answers."""
-        known = {str(number): (number, name) for number, name in names.items()}
-        for step, answer in pairs:
-            seat, space, line = step.partition(" ")
-            if not space or seat not in known:
-                raise ValueError("%s has a step of no seat from 1 to %d" % (self.place(STEPS), len(names)))
-            number, name = known[seat]
-            yield number, line, answer, name
-
-    def add(self, seat, line, answer):
-        """Keeps an entry. Before the first one the files are written anew, for after an accident the last step may lack its answer."""
-        def put():
-            if self.files is None:
-                self.begin(self.entries)
-            for file, text in zip(self.files, ("%d %s\n" % (seat, line), "%s\n" % answer)):
-                file.write(text)
-                file.flush()
-        self.tried(put)
-
-    def cut(self, entries):
-        """Keeps these entries alone."""
-        self.tried(lambda: self.begin(entries))
-
-    def tried(self, act):
-        """Does what the disk may not take. If so the game goes on, and this is told."""
+    def add(self, item):
+        """Keeps an item. If the disk does not take it, the game goes on and this is told."""
+        if not self.is_kept:
+            return
         try:
-            act()
+            if self.file is None:
+                os.makedirs(os.path.dirname(self.place), exist_ok=True)
+                self.file = open(self.place, "a", encoding="utf-8", newline="")
+                self.file.truncate(self.size)
+            self.file.write(json.dumps(item) + "\n")
+            self.file.flush()
         except OSError as error:
-            print("dollar board: %s: %s: the game is kept no more" % (self.folder, error.strerror), file=sys.stderr)
-            self.files = []
+            print("dollar board: %s: %s: the game is kept no more" % (self.place, error.strerror), file=sys.stderr)
+            self.is_kept = False
 
-    def is_kept(self):
-        """Whether all entries are in the folder."""
-        return self.files != []
+
+def items_in(place, lines, seats):
+    """The items of the lines of a record. Raises ValueError if it is none, or has a seat that there is not."""
+    try:
+        items = json.loads("[%s]" % lines.replace("\n", ","))
+        used = {item[0] for item in items if len(item) == 4}
+        fine = all(len(item) in (2, 4) and isinstance(item[0], int) for item in items)
+    except (TypeError, ValueError):
+        fine = False
+    if not fine:
+        raise ValueError("%s is no record of a game" % place)
+    if not used <= set(range(1, seats + 1)):
+        raise ValueError("%s has a step of no seat from 1 to %d" % (place, seats))
+    return items
 
 
 class Keeper:
@@ -94,37 +69,40 @@ class Keeper:
             fcntl.flock(self.lock, fcntl.LOCK_EX | fcntl.LOCK_NB)
         except OSError:
             raise ValueError("%s is kept by a command that goes on" % folder) from None
-        self.found = json.loads(text_of(self.place(CLASS))) if os.path.exists(self.place(CLASS)) else {}
+        self.found = json.loads(read(self.place(CLASS)) or "{}")
 
     def place(self, *names):
         return os.path.join(self.folder, *names)
 
     def save(self, thing):
         """Keeps what is not a game."""
-        self.put(json.dumps(thing), 0o600, CLASS)
+        self.put(thing, 0o600, CLASS)
 
-    def put(self, text, mode, *names):
-        """Writes a file. If the disk does not take it, the class goes on and this is told."""
+    def put(self, thing, mode, *names):
+        """Writes a file anew, so that whoever is interrupted leaves the old one. If the disk does not take it, the class goes on and this is
+        told."""
+        place = self.place(*names)
         try:
-            os.makedirs(os.path.dirname(self.place(*names)), exist_ok=True)
-            write(self.place(*names), text, mode)
+            os.makedirs(os.path.dirname(place), exist_ok=True)
+            with open(os.open(place + ".new", os.O_WRONLY | os.O_CREAT | os.O_TRUNC, mode), "w", encoding="utf-8") as file:
+                json.dump(thing, file)
+            os.replace(place + ".new", place)
         except OSError as error:
-            print("dollar board: %s: %s" % (self.place(*names), error.strerror), file=sys.stderr)
+            print("dollar board: %s: %s" % (place, error.strerror), file=sys.stderr)
 
-    def table(self, turn):
-        """The text of the table that was handed out at a turn, or None."""
-        place = self.place("table%d" % turn, TABLE)
-        return text_of(place) if os.path.exists(place) else None
+    def tables(self, turn):
+        """The texts of the tables that were handed out at a turn: none if none were."""
+        return json.loads(read(self.place("table%d" % turn, TABLES)) or "[]")
 
-    def hand_out(self, turn, text):
-        """Keeps the table of a turn."""
-        self.put(text, 0o644, "table%d" % turn, TABLE)
+    def hand_out(self, turn, texts):
+        """Keeps the tables of a turn."""
+        self.put(texts, 0o644, "table%d" % turn, TABLES)
 
-    def room(self, turn, number, names):
-        return Kept(self.place("table%d" % turn, "room%d" % number), names)
+    def room(self, turn, number, seats):
+        return Kept(self.place("table%d" % turn, "room%d.jsonl" % number), seats)
 
     def rooms(self, turn):
         """The numbers of the rooms that have a game at a turn."""
         folder = self.place("table%d" % turn)
-        names = os.listdir(folder) if os.path.isdir(folder) else []
-        return sorted(int(name[4:]) for name in names if name.startswith("room") and name[4:].isdigit())
+        found = map(RECORD.match, os.listdir(folder) if os.path.isdir(folder) else [])
+        return sorted(int(record[1]) for record in found if record)

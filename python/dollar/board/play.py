@@ -19,12 +19,10 @@ With --places PLACES the vertices stand where the lines 'name x y' of a file say
 no browser is opened, and with --port PORT the address has that port. In a clone `board/play` is short for all this."""
 import argparse
 import asyncio
-import contextlib
 import os
 import re
 import signal
 import sys
-import tempfile
 import threading
 import webbrowser
 
@@ -32,6 +30,7 @@ from dollar.board.alone import Alone
 from dollar.board.classroom import Classroom
 from dollar.board.game import MOST_SEATS, Table
 from dollar.board.keeping import Keeper
+from dollar.board.pages import forward
 from dollar.board.server import ANY, Server, address_of, new_secret
 from dollar.program import printed
 from dollar.table import EXAMPLES, shown_name, text_of
@@ -81,13 +80,25 @@ def name_of_host(word):
     return word.lower()
 
 
-def opened(address):
-    """Opens the browser at an address. The command line of a browser can be read by all on this machine, and the address has the
-    secret: so the browser is given a file, which only its owner may read and which leads there."""
-    with tempfile.NamedTemporaryFile("w", suffix=".html", delete=False) as file:
-        file.write('<!doctype html><meta http-equiv="refresh" content="0; url=%s">\n' % address)
-    threading.Thread(target=webbrowser.open, args=("file://" + file.name,), daemon=True).start()
-    return file.name
+def open_browser(server, host, secret):
+    """Opens the browser at a page. The command line of a browser can be read by all on this machine, so the address in it has no secret:
+    it leads to the page once, and only a program of the same user."""
+    once, answer = new_secret(), server.answer
+
+    async def leading(request):
+        if request.parts != [once] or not request.is_own():
+            return await answer(request)
+        server.answer = answer
+        return forward(request, secret)
+
+    server.answer = leading
+    threading.Thread(target=webbrowser.open, args=("%s%s" % (base_of(host, server), once),), daemon=True).start()
+
+
+def base_of(host, server):
+    """Where this machine finds a server that listens on a host."""
+    host = {"0.0.0.0": LOOPBACK, "::": "::1"}.get(host, host)
+    return "http://%s:%d/" % ("[%s]" % host if ":" in host else host, server.port)
 
 
 def told_once():
@@ -129,10 +140,9 @@ async def serve_alone(given, tables):
     alone = Alone(secret, table)
     server = Server(alone.answer, LOOPBACK, given.port)
     await server.start()
-    address = "http://%s:%d/%s/" % (LOOPBACK, server.port, secret)
-    print("The board is at %s\nCtrl-D or Ctrl-C ends it." % address, flush=True)
+    print("The board is at %s%s/\nCtrl-D or Ctrl-C ends it." % (base_of(LOOPBACK, server), secret), flush=True)
     try:
-        await until_ended(given, server, address, ending)
+        await until_ended(given, server, LOOPBACK, secret, ending)
     finally:
         await alone.stop()
 
@@ -151,11 +161,11 @@ async def serve_class(given, tables):
         base = "http://%s/" % (places[0] if re.search(":[0-9]+$", places[0]) else "%s:%d" % (places[0], server.port))
         room.address, room.port = base + room.secret + "/", server.port
         room.changed()
-        desk = "http://%s:%d/" % ("[::1]" if host == "::" else LOOPBACK, server.port) if given.teacher_here else base
+        desk = base_of(host, server) if given.teacher_here else base
         told = "can be opened from other machines of this network" if given.host else "can be opened on this machine alone"
         print("The table %s.\n\nFor the pupils:    %s\nFor the teacher:   %s%s/\n\nCtrl-D or Ctrl-C ends it."
               % (told, room.address, desk, room.teacher), flush=True)
-        await until_ended(given, server, desk + room.teacher + "/", ending)
+        await until_ended(given, server, host, room.teacher, ending)
     finally:
         await room.stop()
 
@@ -171,16 +181,14 @@ async def begun(server, port):
     return await server.start()
 
 
-async def until_ended(given, server, address, ending):
+async def until_ended(given, server, host, secret, ending):
     """Opens the browser, and waits until the server is ended."""
-    shown = None if given.no_browser else opened(address)
+    if not given.no_browser:
+        open_browser(server, host, secret)
     try:
         await ending.ended.wait()
     finally:
         await server.stop()
-        if shown:
-            with contextlib.suppress(OSError):
-                os.unlink(shown)
 
 
 def main(words):

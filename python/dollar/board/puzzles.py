@@ -8,7 +8,7 @@ import itertools
 import json
 import random
 
-from dollar.answers import numbered
+from dollar.answers import numbered, verdict_of
 from dollar.drawing import USUAL, layout
 from dollar.program import PATIENCE, printed
 
@@ -112,9 +112,10 @@ def in_order(table, draw):
     return [earlier[name] for name in table["vertices"]]
 
 
-def puzzle(table, level, draw):
-    """A table with other dollars on the same graph, of a level. Raises ValueError if there is none."""
-    names, (beside, most) = table["vertices"], LEVELS[level]
+def puzzle(table, level, draw, others=()):
+    """A table with other dollars on the same graph, of a level; one that is not among the others, if there is one. Raises ValueError if
+    there is none at all."""
+    names, (beside, most), found = table["vertices"], LEVELS[level], None
     genus = sum(count for _, _, count in table["edges"]) - len(names) + 1
     for _ in range(TRIES):
         amounts = in_order(table, draw) if level == "unwinnable" else effective(len(names), max(0, genus + beside), draw)
@@ -124,26 +125,39 @@ def puzzle(table, level, draw):
             made["amounts"] = fired(made, script)
         word = printed("judge", text_of(made).encode(), patience=PATIENCE).partition(" ")[0]
         if min(made["amounts"]) < 0 and word == ("unwinnable" if level == "unwinnable" else "winnable"):
-            return made
-    raise ValueError("there is no such puzzle on this graph")
+            found = text_of(made)
+            if found not in others:
+                return found
+    if found is None:
+        raise ValueError("there is no such puzzle on this graph")
+    return found
 
 
-class Puzzles:
-    """The graphs that a page offers, and puzzles on them."""
+def hint(text):
+    """One move of the program's script for a table: the vertex that lends or borrows most often by it, and which of both, as 1 or -1. It is
+    0 if nobody has to move, and None if that does not help."""
+    said = printed("judge", text.encode(), patience=PATIENCE)
+    verdict = verdict_of(said.rstrip("\n"))
+    name, count = max(verdict.script.items(), key=lambda pair: abs(pair[1]))
+    if min(json.loads(text)["amounts"]) >= 0:
+        count = 0
+    return {"name": name, "count": (count > 0) - (count < 0) if verdict else None}
 
-    @staticmethod
-    @functools.lru_cache(maxsize=None)
-    def listed():
-        """The known graphs, each as its name, a table without dollars, and where its vertices stand."""
-        tables = {name: table_of(edges) for name, edges in GRAPHS.items()}
-        return [{"name": name, "table": table, "layout": layout(table, USUAL)} for name, table in tables.items()]
 
-    @staticmethod
-    def made(graph, level, now):
-        """The name and the text of a puzzle: on a known graph, on a random one, or on that of the table now."""
-        if level not in LEVELS or graph not in ("", "random", *GRAPHS):
-            raise ValueError("there is no such puzzle")
-        draw = random.SystemRandom()
-        table = json.loads(now) if graph == "" else table_of(random_graph(draw) if graph == "random" else GRAPHS[graph])
-        called = {"": "the same graph", "random": "a random graph"}.get(graph, graph)
-        return "%s, %s" % (called, level), text_of(puzzle(table, level, draw))
+@functools.lru_cache(maxsize=None)
+def graphs():
+    """The known graphs, each as its name, a table without dollars, and where its vertices stand."""
+    tables = {name: table_of(edges) for name, edges in GRAPHS.items()}
+    return [{"name": name, "table": table, "layout": layout(table, USUAL)} for name, table in tables.items()]
+
+
+def puzzles(graph, level, now, count=1):
+    """The name and the texts of puzzles: on a known graph, on a random one, or on that of the table now."""
+    if level not in LEVELS or graph not in ("", "random", *GRAPHS):
+        raise ValueError("there is no such puzzle")
+    draw = random.SystemRandom()
+    table = json.loads(now) if graph == "" else table_of(random_graph(draw) if graph == "random" else GRAPHS[graph])
+    called, made = {"": "the same graph", "random": "a random graph"}.get(graph, graph), []
+    while len(made) < count:
+        made.append(puzzle(table, level, draw, made))
+    return "%s, %s" % (called, level), made

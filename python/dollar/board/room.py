@@ -3,6 +3,7 @@ import asyncio
 import contextlib
 import json
 
+from dollar.answers import numbered
 from dollar.board.game import Game
 from dollar.board.server import new_secret
 
@@ -19,7 +20,7 @@ def event(kind, thing, number=None):
 
 class Feed:
     """What has come, in its order, for the pages that follow it. An item is an entry, as its room, seat, line, answer and who sat there;
-    or it is a room, to how many entries its game was taken back, and by whom."""
+    or it is a room, how many entries its game has now that some were taken back or played again, and by whom."""
 
     def __init__(self, room=None):
         self.room, self.items, self.key, self.said = room, [], new_secret()[:LETTERS], (None, b"")
@@ -33,35 +34,58 @@ class Feed:
 
 
 class Room(Game):
-    """A game of some pupils with its entries, each a seat, a line, an answer and who sat there. `told` is called when there is something
-    new, and `changed` when the game has ended."""
+    """A game of some pupils with its entries, each a seat, a line, an answer and who sat there. What was taken back can be played again
+    until there is another entry. `told` is called when there is something new, and `changed` when the game has ended."""
 
     def __init__(self, number, text, seats, whole, told, changed, kept=None):
         super().__init__(text, seats)
         self.number, self.feeds, self.told, self.changed, self.kept = number, [Feed(number), whole], told, changed, kept
-        self.entries, self.turn, self.saved, self.restarts = [], asyncio.Lock(), 0, False
-        for entry in kept.entries if kept else []:
-            self.put(*entry)
+        self.entries, self.undone, self.turn, self.saved, self.restarts = [], [], asyncio.Lock(), 0, False
+        try:
+            for item in kept.items if kept else []:
+                self.take(*item)
+        except IndexError:
+            raise ValueError("%s is no record of a game" % kept.place) from None
 
     @property
     def feed(self):
         return self.feeds[0]
 
-    def put(self, *entry):
-        self.entries.append(entry)
+    def take(self, *item):
+        """Takes an item of a feed: an entry, or how many entries there are now, and by whom: fewer if some were taken back, and more if
+        those that were taken back last are there again."""
+        if len(item) == 4:
+            self.entries.append(item)
+            self.undone.clear()
+        elif item[0] < len(self.entries):
+            self.undone.append(self.entries[item[0]:])
+            del self.entries[item[0]:]
+        else:
+            self.entries += self.undone.pop()
         for feed in self.feeds:
-            feed.items.append([self.number, *entry])
+            feed.items.append([self.number, *item])
+
+    def comes(self, *item):
+        """Takes an item, keeps it, and tells it."""
+        self.take(*item)
+        if self.kept:
+            self.kept.add(item)
+        self.told()
 
     async def begin(self, entries=None):
         """Starts the program with all entries that there were, or with some. Raises ValueError if it answers them otherwise."""
         entries = self.entries if entries is None else entries
         self.restarts = True
         try:
-            answers = await self.start(["%d %s" % (seat, line) for seat, line, _, _ in entries], self.has_ended)
+            answers = await self.start(lines_of(entries), self.has_ended)
         finally:
             self.restarts = False
             if self.end:
                 self.changed()
+        await self.agrees(answers, entries)
+
+    async def agrees(self, answers, entries):
+        """Ends the program and raises ValueError if its answers are not those of the entries."""
         if answers != [answer for _, _, answer, _ in entries]:
             await self.close()
             raise ValueError("the program does not answer the lines of the game as it did")
@@ -70,39 +94,44 @@ class Room(Game):
         if not self.restarts:
             self.changed()
 
+    async def goes_on(self):
+        """Starts the program if it has not been needed before, and says whether it has not ended."""
+        if self.child is None:
+            await self.begin()
+        return not self.end
+
     async def ask(self, seat, line, name):
         """The answer to a line of a seat, which is kept if it is an entry; None if the game ended instead."""
         async with self.turn:
-            if self.child is None:
-                await self.begin()
-            if self.end:
+            if not await self.goes_on():
                 return None
             answer = await self.answer("%d %s" % (seat, line))
             if answer is not None and answer[:1].isdigit():
-                self.put(seat, line, answer, name)
-                if self.kept:
-                    self.kept.add(seat, line, answer)
-                self.told()
+                self.comes(seat, line, answer, name)
             return answer
 
     async def undo(self, name):
         """Takes back the last entry that changed the board, with those that came after it: the game begins again without them. Says whether
         there was one."""
         async with self.turn:
-            changes = [index for index, (_, _, answer, _) in enumerate(self.entries) if answer.split(" ")[1] in CHANGES]
+            changes = [index for index, entry in enumerate(self.entries) if has_changed(entry)]
             if self.end:
                 return None
-            if not changes:
-                return False
-            left = self.entries[:changes[-1]]
-            await self.begin(left)
-            self.entries = left
-            if self.kept:
-                self.kept.cut(left)
-            for feed in self.feeds:
-                feed.items.append([self.number, len(left), name])
-            self.told()
-            return True
+            if changes:
+                await self.begin(self.entries[:changes[-1]])
+                self.comes(changes[-1], name)
+            return bool(changes)
+
+    async def redo(self, name):
+        """Plays again what was taken back last. Says whether there was something."""
+        async with self.turn:
+            if not await self.goes_on():
+                return None
+            again = self.undone[-1] if self.undone else []
+            if again:
+                await self.agrees(await self.answers(lines_of(again)), again)
+                self.comes(len(self.entries) + len(again), name)
+            return bool(again)
 
     async def again(self):
         """Starts the program again, if it has ended, with all entries that there were."""
@@ -116,8 +145,27 @@ class Room(Game):
             with contextlib.suppress(OSError):
                 await self.close()
 
+    def now(self):
+        """The text of the table as it stands."""
+        made, changes = json.loads(self.text), [entry for entry in self.entries if has_changed(entry)]
+        made["edges"] += [[*line.split(" ")[1:], 1] for _, line, _, _ in changes if line.startswith("join ")]
+        if changes:
+            amounts = numbered(changes[-1][2]).amounts
+            made["amounts"] = [amounts[name] for name in made["vertices"]]
+        return json.dumps(made)
+
     def steps(self):
-        return "".join("%d %s\n" % (seat, line) for seat, line, _, _ in self.entries)
+        return "".join("%s\n" % line for line in lines_of(self.entries))
 
     def history(self):
         return "".join("%s\n" % answer for _, _, answer, _ in self.entries)
+
+
+def lines_of(entries):
+    """The lines that the program is given for entries."""
+    return ["%d %s" % (seat, line) for seat, line, _, _ in entries]
+
+
+def has_changed(entry):
+    """Whether an entry has changed the board."""
+    return entry[2].split(" ")[1] in CHANGES

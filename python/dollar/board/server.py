@@ -4,9 +4,11 @@ Each connection brings one request and gets one answer. Whoever is slow, sends t
 guests, who know the secret, are counted apart: when there are too many of either, the oldest of them makes room. Whatever is asked
 without the secret, from another origin or for another host is answered alike: there is nothing here."""
 import asyncio
+import contextlib
 import hmac
 import ipaddress
 import json
+import os
 import re
 import resource
 import secrets
@@ -78,8 +80,8 @@ class Request:
         self.method, self.parts, self.headers, self.reader = method, path.split("/")[1:], headers, reader
         # To be called once it has the secret, and once it is known whose the request is.
         self.is_guest, self.known = is_guest, known
-        # Whether it comes from this machine, and through no tunnel.
-        self.is_local = False
+        # Whether it comes from this machine, and through no tunnel; and whether from a program of this user.
+        self.is_local, self.is_own = False, lambda: False
         self.query = dict(pair.partition("=")[::2] for pair in query.split("&") if pair)
 
     async def json(self, most):
@@ -231,6 +233,7 @@ class Server:
         if headers.get("sec-fetch-site", "none") not in ("none", "same-origin") and headers.get("sec-fetch-dest") != "document":
             raise Nothing
         request = Request(*target.groups(), headers, reader, lambda: self.welcome(task, writer), lambda: self.leave(task))
+        request.is_own = lambda: is_own(*map(writer.get_extra_info, ("peername", "sockname")))
         request.is_local = not self.is_front(headers["host"]) and all(
             is_loopback(writer.get_extra_info(end)) for end in ("peername", "sockname"))
         return request
@@ -259,6 +262,17 @@ class Server:
 def is_loopback(place):
     """Whether an address, as a socket has it, is one that only this machine has."""
     return ipaddress.ip_address(place[0].partition("%")[0]).is_loopback
+
+
+def is_own(peer, here):
+    """Whether the other end of a connection is on this machine, and of this user."""
+    ends = ["%04X" % place[1] for place in (peer, here)]
+    for table in "/proc/net/tcp", "/proc/net/tcp6":
+        with contextlib.suppress(OSError), open(table) as lines:
+            for words in map(str.split, lines):
+                if [word[-4:] for word in words[1:3]] == ends:
+                    return peer[0] == here[0] and words[7] == str(os.getuid())
+    return False
 
 
 def headers_of(lines):

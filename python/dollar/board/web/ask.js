@@ -60,18 +60,6 @@ export class Questions {
     this.mark(reply.script, planned);
   }
 
-  /* One move of the program's script: of the vertex that lends or borrows most often by it. */
-  async hint() {
-    const printed = await this.answer({ command: "judge" });
-    if (printed === null) return;
-    const { kind, script } = answerOf(linesOf(printed)[0]), { game, now } = this.viewer;
-    if (kind === "unwinnable") return this.tell("It can't be won as it stands.", "");
-    if (game.isWon(now)) return this.tell("Nobody owes a dollar.", "");
-    const [name, count] = [...script].reduce((best, each) => (Math.abs(each[1]) > Math.abs(best[1]) ? each : best));
-    this.tell(count === 0 ? "Nobody owes a dollar." : `Let ${name} ${count > 0 ? "lend" : "borrow"} once.`, "");
-    this.mark(new Map([[name, Math.sign(count)]]), planned);
-  }
-
   showScript() {
     this.play(`script ${[...below(this.reply.script, (count) => count)].map((pair) => pair.join("=")).join(",")}`);
   }

@@ -4,14 +4,17 @@
 import { Board, draw } from "./board.js";
 import { Hands } from "./hand.js";
 import { fewest, post, save, startPage, store, stored, sure } from "./page.js";
-import { layoutOf } from "./places.js";
+import { fitted, layoutOf } from "./places.js";
 import { Viewer, bind, button, element, made, say } from "./viewer.js";
 import { Game, faultWords, movesWords } from "./words.js";
 
 const SOON = 16, LETTERS = 24, WORDS_HIGH = 85, TITLE_HIGH = 60, GROUPS = [0, 1, 2, 3, 4, 5, 6];
+const CHANGES = ["moved", "given", "joined"];
+const FILES = { "take-table": "table.json", "take-steps": "steps.txt", "take-history": "history.txt" };
+const SWITCHES = ["gifts", "edges", "questions", "undo", "hints"];
 const KEPT = `dollar ${location.pathname.replaceAll("-", "").toLowerCase()}`;
 export let given, viewer, hands, source, me = null, state = null, waiting = [], had = 0, large = 1;
-let frame = null, took = 0, last = 0, stopped = false, broken = false;
+let preview = [140, 110], frame = null, took = 0, last = 0, stopped = false, broken = false;
 export const entries = new Map(), rooms = new Map();
 
 const teaches = () => given.role === "teacher";
@@ -142,9 +145,13 @@ function clearRooms() {
   element("rooms").replaceChildren();
 }
 
-/* The room of a number: its game, and who played each step. */
+const tableOf = (number) => given.tables[(number - 1) % given.tables.length];
+
+/* The room of a number: its game, with the items that made it, and what was taken back, and how often. */
 function roomOf(number) {
-  if (!rooms.has(number)) rooms.set(number, { number, game: new Game(JSON.parse(given.table)), players: [], backs: 0, is_new: true });
+  if (!rooms.has(number)) {
+    rooms.set(number, { number, game: new Game(JSON.parse(tableOf(number))), items: [], undone: [], backs: 0, is_new: true });
+  }
   return rooms.get(number);
 }
 
@@ -166,33 +173,45 @@ function later() {
 function drawn() {
   frame = null;
   const start = performance.now(), follows = viewer.now === viewer.game.length;
-  let grown = false, back = null;
+  let grown = false, leapt = null;
   for (const [number, ...item] of waiting) {
-    const room = roomOf(number);
+    const room = roomOf(number), words = item.length === 2 ? leap(room, ...item) : take(room, item);
     room.is_new = true;
-    if (item.length === 2) takeBack(room, item[0]);
-    else take(room, ...item);
-    if (number === large) [grown, back] = [true, item.length === 2 ? item[1] : back];
+    if (number === large) [grown, leapt] = [true, words || leapt];
   }
   waiting = [];
-  if (back !== null) viewer.reset(viewer.game, viewer.game.length);
+  if (leapt) viewer.reset(viewer.game, viewer.game.length);
   else if (grown) viewer.grown(follows);
-  if (back !== null && hands) hands.tell(`${back} has taken the last move back.`);
+  if (leapt && hands) hands.note(leapt);
   if (state) told();
   last = performance.now();
   took = last - start;
 }
 
-function take({ game, players }, seat, line, answer, name) {
-  game.add(`${seat} ${line}`, answer);
-  players.push(name);
-  entries.set(String(seat), (entries.get(String(seat)) || 0) + 1);
+function take(room, item) {
+  const seat = String(item[0]);
+  add(room, item);
+  room.undone = [];
+  entries.set(seat, (entries.get(seat) || 0) + 1);
 }
 
-function takeBack(room, count) {
-  room.game.cut(count);
-  room.players.length = count;
+function add({ game, items }, item) {
+  const [seat, line, answer] = item;
+  game.add(`${seat} ${line}`, answer);
+  items.push(item);
+}
+
+/* Goes back or on to so many entries, and says who has done it. */
+function leap(room, count, name) {
+  const { game, items, undone } = room, who = me && name === me.name ? "You have" : `${name} has`;
+  if (count > game.length) {
+    undone.pop().forEach((item) => add(room, item));
+    return `${who} played the move again.`;
+  }
+  undone.push(items.splice(count));
+  game.cut(count);
   room.backs += 1;
+  return `${who} taken the last move back.`;
 }
 
 function told() {
@@ -208,7 +227,8 @@ function told() {
   if (hands) permit();
   if (teaches()) showCommands(Boolean(end), end);
   if (watches()) showRooms();
-  // The way in is shown until all are in.
+  // The way in is shown until all are in, and small once somebody plays.
+  document.body.classList.toggle("begun", given.turn > 1 || [...rooms.values()].some(({ game }) => game.length > 0));
   element("way").classList.toggle("full", !state.open || Object.keys(names).length >= given.seats);
   viewer.showText();
 }
@@ -217,7 +237,7 @@ function told() {
 function showNames(names) {
   const list = element("names"), old = new Map([...list.children].map((row) => [row.dataset.who, row]));
   const rows = Object.entries(names).map(([seat, { name, here, room }]) => {
-    const who = `${seat} ${name}`, row = old.get(who) || rowOf(seat, name, who), shared = state.size ? ` in room ${room}` : "";
+    const who = `${seat} ${name}`, row = old.get(who) || rowOf(seat, name, who), shared = state.size > 1 ? ` in room ${room}` : "";
     const words = ` ${entries.get(seat) || 0} played${shared}${here ? "" : ", away"} `, part = row.querySelector("span");
     row.className = here ? "" : "away";
     if (part.textContent !== words) part.textContent = words;
@@ -236,12 +256,13 @@ function rowOf(seat, name, who) {
 
 /* What the teacher does not permit is not offered. */
 function permit() {
-  const { gifts, edges, questions, undo } = state.may;
+  const { gifts, edges, questions, undo, hints } = state.may, { game, undone } = roomOf(large);
   const parts = { "gift-form": gifts, "join-form": edges, "draw-hint": edges, look: questions, commit: questions, ask: questions,
-    "rank-form": questions, undo };
+    "rank-form": questions, undo, redo: undo, hint: hints };
   for (const [id, permitted] of Object.entries(parts)) element(id).hidden = !permitted;
   hands.joins = edges;
-  element("undo").disabled = viewer.game.states[viewer.game.length].moves === 0;
+  element("undo").disabled = !game.replies.some(({ kind }) => CHANGES.includes(kind));
+  element("redo").disabled = undone.length === 0;
 }
 
 function endWords({ status, text }) {
@@ -271,17 +292,20 @@ function showRooms() {
   document.body.classList.toggle("one-room", Boolean(one));
   document.body.classList.toggle("all-rooms", !one && !teaches());
   box.classList.toggle("list", shown === "done");
-  const parts = numbers.map((number) => showRoom(roomOf(number), shown === "done"));
   if (!teaches()) spread(box, numbers.length);
+  const parts = numbers.map((number) => showRoom(roomOf(number), shown === "done"));
   if (parts.length !== box.children.length || parts.some((part, i) => part !== box.children[i])) box.replaceChildren(...parts);
 }
 
-/* On a projector all boards are to be seen at once, below the title, or below the way in. */
+/* On a projector all boards are to be seen at once, below what stands above them unless that is the way in as large as the page. */
 function spread(box, count) {
-  const high = window.innerHeight - Math.min(box.offsetTop, TITLE_HIGH);
+  const high = window.innerHeight - (2 * box.offsetTop < window.innerHeight ? box.offsetTop : TITLE_HIGH);
   const across = Math.max(1, Math.round(Math.sqrt((count * box.clientWidth) / high)));
+  const size = [box.clientWidth / across, Math.max(60, high / Math.ceil(count / across) - WORDS_HIGH)];
   box.style.setProperty("--across", across);
-  box.style.setProperty("--high", `${Math.max(60, high / Math.ceil(count / across) - WORDS_HIGH)}px`);
+  box.style.setProperty("--high", `${size[1]}px`);
+  if (String(size) !== String(preview)) rooms.forEach((room) => Object.assign(room, { is_new: true }));
+  preview = size;
 }
 
 function showRoom(room, listed) {
@@ -290,7 +314,6 @@ function showRoom(room, listed) {
     room.part = button("", () => enlarge(number), { class: "room", "data-room": number });
     room.part.append(draw("svg", { "aria-hidden": "true" }, room.part), made("span", "", { class: "who" }), made("span", "", { class: "how" }));
     room.board = new Board(room.part.querySelector("svg"));
-    room.board.layout = layoutOf(given.layout);
   }
   const [who, how] = room.part.querySelectorAll("span"), names = playersOf(number).join(", ") || `Room ${number}`;
   who.textContent = names;
@@ -298,6 +321,7 @@ function showRoom(room, listed) {
   room.part.classList.toggle("done", won);
   room.part.setAttribute("aria-current", number === large);
   if (room.is_new && !listed) {
+    room.board.layout = fitted(layoutOf(given.layout), ...preview);
     room.board.show(state_, game.table.q);
     room.is_new = false;
   }
@@ -309,7 +333,7 @@ function enlarge(number) {
   large = number;
   const { game } = roomOf(number);
   viewer.reset(game, game.length);
-  for (const [id, file] of [["take-steps", "steps.txt"], ["take-history", "history.txt"]]) element(id).href = `${file}?room=${number}`;
+  for (const [id, file] of Object.entries(FILES)) element(id).href = `${file}?room=${number}`;
   later();
 }
 
@@ -325,6 +349,14 @@ async function ask() {
   if (element("refused").hidden) await play("commit");
 }
 
+/* One move that helps. */
+async function hint() {
+  const got = await sent("hint", {});
+  if (!got) return;
+  viewer.go(viewer.game.length);
+  hands.hint(got.hint);
+}
+
 async function sent(path, thing) {
   if (!me) return hands.tell("Take a seat first.");
   const got = await hands.patient(post(path, { key: me.key, feed: given.feed, ...thing }));
@@ -334,7 +366,7 @@ async function sent(path, thing) {
   const bad = got.answer && got.answer.startsWith("bad ");
   hands.tell(bad ? faultWords(got.answer) : "", bad ? got.answer : "");
   if (!bad) hands.unchoose();
-  return null;
+  return got;
 }
 
 /* What only the teacher's page has. */
@@ -420,7 +452,9 @@ function pictured({ name, table, layout }) {
 }
 
 function choosesTable() {
-  element("level").hidden = !element("next-table").value.startsWith("graph ");
+  const isPuzzle = element("next-table").value.startsWith("graph ");
+  element("level").hidden = !isPuzzle;
+  element("each").hidden = !isPuzzle || element("next-size").value === "0";
 }
 
 async function handOut(thing) {
@@ -431,7 +465,7 @@ async function handOut(thing) {
 
 function handOutChosen() {
   const [, kind, name] = /^(\w+) ?(.*)$/.exec(element("next-table").value);
-  if (kind === "graph") return handOut({ graph: name, level: element("next-level").value });
+  if (kind === "graph") return handOut({ graph: name, level: element("next-level").value, each: element("next-each").checked });
   return handOut(kind === "named" ? { named: name } : {});
 }
 
@@ -447,18 +481,22 @@ function teach() {
     async end() {
       if (await sure("End the game? Save its files before you close this page.")) command("end", {});
     },
+    async move() {
+      const { secret } = await command("move", {});
+      if (secret) location.replace(`/${secret}/`);
+    },
     async "take-page"() {
       const got = await command("replay", { room: large });
       if (got.page) save("game.html", got.page, "text/html");
     },
   });
-  element("next-table").addEventListener("change", choosesTable);
+  for (const id of ["next-table", "next-size"]) element(id).addEventListener("change", choosesTable);
   element("next-file").addEventListener("change", async ({ target }) => {
     if (target.files[0]) await handOut({ name: target.files[0].name, table: await target.files[0].text() });
     target.value = "";
   });
   element("show").addEventListener("change", () => command("show", { what: element("show").value }));
-  for (const name of ["gifts", "edges", "questions", "undo"]) {
+  for (const name of SWITCHES) {
     element(`may-${name}`).addEventListener("change", ({ target }) => command("may", { [name]: target.checked }));
   }
   offer();
@@ -469,15 +507,18 @@ async function start() {
   given = await (await fetch("start")).json();
   const { game } = roomOf(1);
   viewer = new Viewer(game, layoutOf(given.layout), {
-    hands: !teaches(), who: (seat, index) => roomOf(large).players[index - 1], speaks: (step) => me && Number(step.seat) === me.seat,
-    fewest: (moves) => (me ? fewest(given.table, moves) : null),
+    hands: !teaches(), who: (seat, index) => roomOf(large).items[index - 1][3], speaks: (step) => me && Number(step.seat) === me.seat,
+    fewest: (moves) => (me ? fewest(tableOf(large), moves) : null),
   });
   viewer.filled(0);
+  viewer.afterShow = () => {
+    if (hands) hands.note("");
+  };
   element("title").textContent = document.title = `${teaches() ? "For the teacher" : "The dollar game"}: ${given.name}`;
-  for (const id of ["seats", "redo", "hint"]) element(id).hidden = true;
+  element("seats").hidden = true;
   hands = teaches() ? null : new Hands(viewer, play);
   if (teaches()) return teach();
-  bind({ join, watch, undo: () => sent("undo", {}), ask });
+  bind({ join, watch, undo: () => sent("undo", {}), redo: () => sent("redo", {}), hint, ask });
   me = stored("localStorage", KEPT);
   if (me) return sit();
   enter(false);

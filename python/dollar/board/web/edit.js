@@ -3,7 +3,7 @@
 import { GRAMMAR } from "./grammar.js";
 import { freePlace, placesText } from "./places.js";
 import { bind, button, choose, element, made, refuse } from "./viewer.js";
-import { Game } from "./words.js";
+import { Game, nameWords } from "./words.js";
 
 const MOST_VERTICES = GRAMMAR.limits["dg_graph::MAX_VERTICES"], ROOM = [620, 440], STEP = 10;
 
@@ -14,6 +14,7 @@ export class Editor {
     bind({
       "add-vertex": () => this.addVertex(), "add-edge": () => this.addEdge(element("edge-from").value, element("edge-to").value),
       "edit-done": () => this.finish(), "edit-cancel": () => this.close(), "edit-places": () => this.places(),
+      "edit-clear": () => this.clear(),
     });
   }
 
@@ -27,9 +28,9 @@ export class Editor {
     this.hands.other = this;
     this.shown(true);
     this.fill();
-    // What stood above the button is hidden now, and the board may be out of sight.
-    element("board").scrollIntoView({ block: "nearest" });
     document.querySelector("input[name=tool]:checked").focus({ preventScroll: true });
+    // What stood above the button is hidden now, and the board may be out of sight. Firefox scrolls once the shorter page was drawn.
+    requestAnimationFrame(() => requestAnimationFrame(() => element("board").scrollIntoView({ block: "nearest" })));
   }
 
   /* A layout with room around it, for what is to come. */
@@ -64,6 +65,8 @@ export class Editor {
   }
 
   async finish() {
+    const bad = document.querySelector("#edit-vertices :invalid");
+    if (bad) return bad.reportValidity();
     const refused = await this.done(this.text(), placesText(this.viewer.board.layout));
     if (refused !== null) return refuse("edit-refused", refused);
     this.leave();
@@ -76,6 +79,13 @@ export class Editor {
     if (!found.layout) return refuse("edit-refused", found.err);
     this.viewer.board.layout = this.wider(found.layout);
     return this.draw();
+  }
+
+  /* Begins with an empty board. */
+  clear() {
+    this.draft = { vertices: [], edges: [], amounts: [], q: "" };
+    this.viewer.board.layout.places.clear();
+    this.fill();
   }
 
   /* On the board. */
@@ -159,10 +169,16 @@ export class Editor {
   }
 
   vertexRow(i) {
-    const named = this.input("text", ({ value }) => this.rename(this.draft.vertices[i], value));
+    const named = this.input("text", (field) => {
+      if (field.reportValidity()) this.rename(this.draft.vertices[i], field.value);
+    });
     const q = this.input("radio", () => {
       this.draft.q = this.draft.vertices[i];
       this.draw();
+    });
+    named.addEventListener("input", () => {
+      named.setCustomValidity(nameWords(named.value, this.draft.vertices.filter((_, j) => j !== i)));
+      if (named.value) named.reportValidity();
     });
     Object.assign(named, { size: 10, maxLength: 16 });
     q.name = "q";
@@ -173,6 +189,7 @@ export class Editor {
   showVertex(row, i) {
     const [named, dollars, q, remove] = row.querySelectorAll("input, button"), name = this.draft.vertices[i];
     this.label(named, `The name of ${name}`, name);
+    named.setCustomValidity("");
     this.label(dollars, `Dollars of ${name}`, this.draft.amounts[i]);
     this.label(q, `q is ${name}`);
     this.label(remove, `Remove ${name}`);
@@ -195,7 +212,7 @@ export class Editor {
 
   rename(name, other) {
     const { draft } = this, { layout } = this.viewer.board, renamed = (each) => (each === name ? other : each);
-    if (!draft.vertices.includes(other)) {
+    if (name !== other) {
       draft.vertices = draft.vertices.map(renamed);
       draft.edges = draft.edges.map((edge) => edge.map(renamed));
       draft.q = renamed(draft.q);
@@ -217,6 +234,7 @@ export class Editor {
     const name = this.freeName();
     draft.vertices.push(name);
     draft.amounts.push(0);
+    if (draft.vertices.length === 1) draft.q = name;
     layout.sizes.set(name, 11);
     this.move(name, at || freePlace(layout));
     this.fill();

@@ -2,7 +2,8 @@
 
 import { draw } from "./board.js";
 import { vertexAhead, vertexAt } from "./places.js";
-import { bind, choose, element, refuse, say } from "./viewer.js";
+import { below, bind, choose, element, refuse, say } from "./viewer.js";
+import { planned } from "./words.js";
 
 const LONG_PRESS = 550, FAR_ENOUGH = 9, PATIENT = 1000;
 
@@ -184,6 +185,18 @@ export class Hands {
     } finally {
       clearTimeout(timer);
     }
+  }
+
+  /* Says something beside the buttons, until the board shows something else. */
+  note(words) {
+    element("note").textContent = words;
+  }
+
+  /* Shows one move: its vertex, and 1 if that lends or -1 if it borrows; 0 if nobody has to move, and null if no move helps. */
+  hint({ name, count }) {
+    const { board, viewer: { game, now } } = this, words = count === null ? "It can't be won as it stands." : "Nobody owes a dollar.";
+    this.note(count ? `Let ${name} ${count > 0 ? "lend" : "borrow"} once.` : words);
+    if (count) board.show(game.states[now], game.table.q, below(new Map([[name, count]]), planned));
   }
 
   /* Says why a line was not taken, with the program's own words. */

@@ -1,5 +1,5 @@
-/* Reads lines of steps and of histories, and says them in words. What a line says is what is shown: there is no rule of the game
-   here that would tell what follows from it. Names are keys of maps, for a vertex may be called `constructor`, or 2 before 1. */
+/* Reads lines of steps and of histories, and says them in words. The amounts that a line has are those that are shown. Of the rules only
+   `flows` is here, and that a join adds an edge. Names are keys of maps, for a vertex may be called `constructor`, or 2 before 1. */
 
 import { GRAMMAR } from "./grammar.js";
 
@@ -158,7 +158,7 @@ export function listed(words) {
 }
 
 export function often(count) {
-  if (count === 0) return "neither";
+  if (count === 0) return "does nothing";
   return count > 0 ? `lends ${count}` : `borrows ${-count}`;
 }
 
@@ -176,8 +176,8 @@ const COMMANDS = {
   join: ([u, v]) => `one edge more between ${u} and ${v}`,
   claim: () => "claims that nobody is in debt",
   look: () => "looks",
-  commit: () => "enters the verdict on its look",
-  rank: ([degree]) => `enters the rank test of degree ${degree} on its look`,
+  commit: () => "enters the verdict on an earlier look",
+  rank: ([degree]) => `enters the rank test of degree ${degree} on an earlier look`,
 };
 
 export function commandWords({ word, given, script }) {
@@ -240,6 +240,14 @@ export function legendWords() {
   return `Marks: ${told.join(", ")}; a dot is a move.`;
 }
 
+const LONGEST = limits["dg_tokens::MAX_NAME"], NAMES = `A name has 1 to ${LONGEST} letters from a to z or A to Z, digits or _.`;
+
+/* Why a vertex can't have a name beside others, or nothing if it can. */
+export function nameWords(name, others) {
+  if (!/^\w+$/.test(name) || name.length > LONGEST) return NAMES;
+  return others.includes(name) ? `Another vertex is called ${name}.` : "";
+}
+
 /* What the program refuses, in words for who has not read its pages. A # in a text is a number, counted from 0. */
 
 export const FAULTS = {
@@ -251,8 +259,7 @@ export const FAULTS = {
   "shape of amounts": "The amounts have to be a list of whole numbers.",
   "shape of q": "q has to be the name of a vertex.",
   "number of vertices": `A table has 1 to ${limits["dg_graph::MAX_VERTICES"]} vertices.`,
-  "name of vertex #": (i) => `The name of vertex ${i + 1} is none: `
-    + `a name has 1 to ${limits["dg_tokens::MAX_NAME"]} letters from a to z or A to Z, digits or _.`,
+  "name of vertex #": (i) => `Vertex ${i + 1} needs another name. ${NAMES}`,
   "vertex # named twice": (i) => `Vertex ${i + 1} has the name of an earlier one.`,
   "edge # has no vertex": (i) => `Edge ${i + 1} of the list leads to a vertex that is not there.`,
   "edge # is a loop": (i) => `Edge ${i + 1} of the list leads from a vertex to itself.`,
