@@ -52,7 +52,7 @@ def items_in(place, lines, seats):
     except (TypeError, ValueError):
         fine = False
     if not fine:
-        raise ValueError("%s is no record of a game" % place)
+        raise ValueError("%s is not a record of a game" % place)
     if not used <= set(range(1, seats + 1)):
         raise ValueError("%s has a step of no seat from 1 to %d" % (place, seats))
     return items

@@ -45,7 +45,7 @@ class Room(Game):
             for item in kept.items if kept else []:
                 self.take(*item)
         except IndexError:
-            raise ValueError("%s is no record of a game" % kept.place) from None
+            raise ValueError("%s is not a record of a game" % kept.place) from None
 
     @property
     def feed(self):
