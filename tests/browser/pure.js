@@ -120,6 +120,8 @@ function places() {
   equal(spot("a", [["a", "b"]]), [100, 67], "words of a vertex with an edge below it");
   equal(spot("a", [["a", "b"], ["a", "c"]]), [100, 67], "words of a vertex with an edge below it and one to the right");
   equal(spot("b", [["a", "b"]]), [100, 233], "words of a vertex with an edge above it");
+  const left = layoutOf({ places: { a: [30, 150], b: [180, 80], c: [180, 220], d: [130, 150] }, sizes: {}, width: 200, height: 300, radius: 20 });
+  equal(wordsPlace(left, [["a", "b"], ["a", "c"]], "a", 80), [40, 183], "words that are moved into the picture");
 }
 
 /* A wide layout on a narrow page is turned, and its circles and letters grow; on a wide page it stays as it is. */

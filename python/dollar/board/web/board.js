@@ -5,7 +5,7 @@ import { dollars, flows } from "./words.js";
 
 export const SVG = "http://www.w3.org/2000/svg";
 export const still = window.matchMedia("(prefers-reduced-motion: reduce)");
-const TRAVEL = 1100, LETTER = 6.4;
+const TRAVEL = 1100, LETTER = 6.4, BESIDE = 13;
 let boards = 0;
 
 export function draw(tag, given, parent, text) {
@@ -133,8 +133,14 @@ export class Board {
       const turn = (Math.atan2(ahead.y - place.y, ahead.x - place.x) * 180) / Math.PI;
       const transform = `translate(${place.x} ${place.y}) rotate(${turn})`;
       draw("path", { class: "arrow", d: "M8 0 L-5 6 L-5 -6 Z", transform }, this.svg);
-      if (way.label > 1) this.words(place.x, place.y - 13, way.label);
+      if (way.label > 1) this.words(...this.beside(place, ahead), way.label);
     }
+  }
+
+  /* Where words are beside an arrow, and above it if it lies flat. */
+  beside({ x, y }, { x: z, y: w }) {
+    const far = (BESIDE * Math.max(1, (this.layout.least || 0) / 11)) / Math.hypot(z - x, w - y), side = z < x ? -far : far;
+    return [x + side * (w - y), y - side * (z - x)];
   }
 
   coins(state, script) {

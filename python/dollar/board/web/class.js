@@ -4,11 +4,12 @@
 import { Board, draw } from "./board.js";
 import { Hands } from "./hand.js";
 import { fewest, post, save, startPage, store, stored, sure } from "./page.js";
-import { layoutOf } from "./places.js";
+import { fitted, layoutOf } from "./places.js";
 import { Viewer, bind, button, element, made, say } from "./viewer.js";
 import { Game, faultWords, movesWords } from "./words.js";
 
 const SOON = 16, LETTERS = 24, WORDS_HIGH = 85, TITLE_HIGH = 60, GROUPS = [0, 1, 2, 3, 4, 5, 6];
+const PREVIEW = [140, 110];
 const CHANGES = ["moved", "given", "joined"];
 const FILES = { "take-table": "table.json", "take-steps": "steps.txt", "take-history": "history.txt" };
 const SWITCHES = ["gifts", "edges", "questions", "undo", "hints"];
@@ -236,7 +237,7 @@ function told() {
 function showNames(names) {
   const list = element("names"), old = new Map([...list.children].map((row) => [row.dataset.who, row]));
   const rows = Object.entries(names).map(([seat, { name, here, room }]) => {
-    const who = `${seat} ${name}`, row = old.get(who) || rowOf(seat, name, who), shared = state.size ? ` in room ${room}` : "";
+    const who = `${seat} ${name}`, row = old.get(who) || rowOf(seat, name, who), shared = state.size > 1 ? ` in room ${room}` : "";
     const words = ` ${entries.get(seat) || 0} played${shared}${here ? "" : ", away"} `, part = row.querySelector("span");
     row.className = here ? "" : "away";
     if (part.textContent !== words) part.textContent = words;
@@ -310,7 +311,7 @@ function showRoom(room, listed) {
     room.part = button("", () => enlarge(number), { class: "room", "data-room": number });
     room.part.append(draw("svg", { "aria-hidden": "true" }, room.part), made("span", "", { class: "who" }), made("span", "", { class: "how" }));
     room.board = new Board(room.part.querySelector("svg"));
-    room.board.layout = layoutOf(given.layout);
+    room.board.layout = fitted(layoutOf(given.layout), ...PREVIEW);
   }
   const [who, how] = room.part.querySelectorAll("span"), names = playersOf(number).join(", ") || `Room ${number}`;
   who.textContent = names;

@@ -39,21 +39,23 @@ export function freePlace({ places, width, height }) {
 }
 
 /* Where words of a width beside a vertex lie on as little as may be: below it, above it, or to a side. `pairs` are the ends of edges. */
-const HIGH = 8, STEPS = 24, BELOW = 13, ABOVE = 13, ASIDE = 6, OFF = 1000, ON_CIRCLE = 100;
+const HIGH = 8, STEPS = 24, BELOW = 13, ABOVE = 13, ASIDE = 6, ON_CIRCLE = 100;
 
 export function wordsPlace({ places, radius, width, height }, pairs, name, wide) {
   const [x, y] = places.get(name), half = wide / 2, side = radius + half + ASIDE, slant = 0.75 * radius + half;
   const spots = [[0, radius + BELOW], [0, -radius - ABOVE], [side, 0], [-side, 0], [slant, radius], [-slant, radius], [slant, -radius],
     [-slant, -radius]];
+  const inside = (at, reach, most) => Math.min(Math.max(at, reach), most - reach);
   const cost = ([u, v]) => {
     const beside = ([z, w], more) => Math.abs(z - u) < half + more && Math.abs(w - v) < HIGH + more;
-    const off = u - half < 0 || u + half > width || v - HIGH < 0 || v + HIGH > height;
-    const circles = [...places].filter(([other, place]) => other !== name && beside(place, radius)).length;
+    const apart = ([z, w]) => Math.hypot(Math.max(Math.abs(z - u) - half, 0), Math.max(Math.abs(w - v) - HIGH, 0));
+    const circles = [...places.values()].filter((place) => apart(place) < radius - 1).length;
     const lines = pairs.map((ends) => ends.map((end) => places.get(end))).flatMap(([[a, b], [c, d]]) =>
       Array.from({ length: STEPS }, (_, i) => [a + ((c - a) * i) / STEPS, b + ((d - b) * i) / STEPS])).filter((point) => beside(point, 2));
-    return (off ? OFF : 0) + ON_CIRCLE * circles + lines.length;
+    return ON_CIRCLE * circles + lines.length;
   };
-  return least(spots.map(([right, down]) => [x + right, y + down]).map((spot) => [cost(spot), spot]))[1];
+  return least(spots.map(([right, down]) => [inside(x + right, half, width), inside(y + down, HIGH, height)]).map((spot) =>
+    [cost(spot), spot]))[1];
 }
 
 /* A layout for a page of this width and height. If it would be drawn small, it is turned where that helps, and circles and letters grow

@@ -176,8 +176,8 @@ const COMMANDS = {
   join: ([u, v]) => `one edge more between ${u} and ${v}`,
   claim: () => "claims that nobody is in debt",
   look: () => "looks",
-  commit: () => "enters the verdict on its look",
-  rank: ([degree]) => `enters the rank test of degree ${degree} on its look`,
+  commit: () => "enters the verdict on an earlier look",
+  rank: ([degree]) => `enters the rank test of degree ${degree} on an earlier look`,
 };
 
 export function commandWords({ word, given, script }) {
