@@ -5,7 +5,7 @@ import { dollars, flows } from "./words.js";
 
 export const SVG = "http://www.w3.org/2000/svg";
 export const still = window.matchMedia("(prefers-reduced-motion: reduce)");
-const TRAVEL = 1100, LETTER = 6.4, BESIDE = 13;
+const TRAVEL = 1100, LETTER = 7, BESIDE = 13;
 let boards = 0;
 
 export function draw(tag, given, parent, text) {

@@ -9,13 +9,12 @@ import { Viewer, bind, button, element, made, say } from "./viewer.js";
 import { Game, faultWords, movesWords } from "./words.js";
 
 const SOON = 16, LETTERS = 24, WORDS_HIGH = 85, TITLE_HIGH = 60, GROUPS = [0, 1, 2, 3, 4, 5, 6];
-const PREVIEW = [140, 110];
 const CHANGES = ["moved", "given", "joined"];
 const FILES = { "take-table": "table.json", "take-steps": "steps.txt", "take-history": "history.txt" };
 const SWITCHES = ["gifts", "edges", "questions", "undo", "hints"];
 const KEPT = `dollar ${location.pathname.replaceAll("-", "").toLowerCase()}`;
 export let given, viewer, hands, source, me = null, state = null, waiting = [], had = 0, large = 1;
-let frame = null, took = 0, last = 0, stopped = false, broken = false;
+let preview = [140, 110], frame = null, took = 0, last = 0, stopped = false, broken = false;
 export const entries = new Map(), rooms = new Map();
 
 const teaches = () => given.role === "teacher";
@@ -228,7 +227,8 @@ function told() {
   if (hands) permit();
   if (teaches()) showCommands(Boolean(end), end);
   if (watches()) showRooms();
-  // The way in is shown until all are in.
+  // The way in is shown until all are in, and small once somebody plays.
+  document.body.classList.toggle("begun", given.turn > 1 || [...rooms.values()].some(({ game }) => game.length > 0));
   element("way").classList.toggle("full", !state.open || Object.keys(names).length >= given.seats);
   viewer.showText();
 }
@@ -292,17 +292,20 @@ function showRooms() {
   document.body.classList.toggle("one-room", Boolean(one));
   document.body.classList.toggle("all-rooms", !one && !teaches());
   box.classList.toggle("list", shown === "done");
-  const parts = numbers.map((number) => showRoom(roomOf(number), shown === "done"));
   if (!teaches()) spread(box, numbers.length);
+  const parts = numbers.map((number) => showRoom(roomOf(number), shown === "done"));
   if (parts.length !== box.children.length || parts.some((part, i) => part !== box.children[i])) box.replaceChildren(...parts);
 }
 
-/* On a projector all boards are to be seen at once, below the title, or below the way in. */
+/* On a projector all boards are to be seen at once, below what stands above them unless that is the way in as large as the page. */
 function spread(box, count) {
-  const high = window.innerHeight - Math.min(box.offsetTop, TITLE_HIGH);
+  const high = window.innerHeight - (2 * box.offsetTop < window.innerHeight ? box.offsetTop : TITLE_HIGH);
   const across = Math.max(1, Math.round(Math.sqrt((count * box.clientWidth) / high)));
+  const size = [box.clientWidth / across, Math.max(60, high / Math.ceil(count / across) - WORDS_HIGH)];
   box.style.setProperty("--across", across);
-  box.style.setProperty("--high", `${Math.max(60, high / Math.ceil(count / across) - WORDS_HIGH)}px`);
+  box.style.setProperty("--high", `${size[1]}px`);
+  if (String(size) !== String(preview)) rooms.forEach((room) => Object.assign(room, { is_new: true }));
+  preview = size;
 }
 
 function showRoom(room, listed) {
@@ -311,7 +314,6 @@ function showRoom(room, listed) {
     room.part = button("", () => enlarge(number), { class: "room", "data-room": number });
     room.part.append(draw("svg", { "aria-hidden": "true" }, room.part), made("span", "", { class: "who" }), made("span", "", { class: "how" }));
     room.board = new Board(room.part.querySelector("svg"));
-    room.board.layout = fitted(layoutOf(given.layout), ...PREVIEW);
   }
   const [who, how] = room.part.querySelectorAll("span"), names = playersOf(number).join(", ") || `Room ${number}`;
   who.textContent = names;
@@ -319,6 +321,7 @@ function showRoom(room, listed) {
   room.part.classList.toggle("done", won);
   room.part.setAttribute("aria-current", number === large);
   if (room.is_new && !listed) {
+    room.board.layout = fitted(layoutOf(given.layout), ...preview);
     room.board.show(state_, game.table.q);
     room.is_new = false;
   }

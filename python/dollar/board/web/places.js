@@ -39,19 +39,19 @@ export function freePlace({ places, width, height }) {
 }
 
 /* Where words of a width beside a vertex lie on as little as may be: below it, above it, or to a side. `pairs` are the ends of edges. */
-const HIGH = 8, STEPS = 24, BELOW = 13, ABOVE = 13, ASIDE = 6, ON_CIRCLE = 100;
+const HIGH = 8, STEPS = 24, AWAY = 13, ASIDE = 6, NEAR = 6, ON_CIRCLE = 100;
 
 export function wordsPlace({ places, radius, width, height }, pairs, name, wide) {
-  const [x, y] = places.get(name), half = wide / 2, side = radius + half + ASIDE, slant = 0.75 * radius + half;
-  const spots = [[0, radius + BELOW], [0, -radius - ABOVE], [side, 0], [-side, 0], [slant, radius], [-slant, radius], [slant, -radius],
-    [-slant, -radius]];
+  const [x, y] = places.get(name), half = wide / 2, side = radius + half + ASIDE, slant = 0.75 * radius + half, high = radius + AWAY;
+  const spots = [[0, high], [0, -high], [side, 0], [-side, 0],
+    ...[[half / 2, high], [slant, radius]].flatMap(([right, down]) => [[right, down], [-right, down], [right, -down], [-right, -down]])];
   const inside = (at, reach, most) => Math.min(Math.max(at, reach), most - reach);
   const cost = ([u, v]) => {
     const beside = ([z, w], more) => Math.abs(z - u) < half + more && Math.abs(w - v) < HIGH + more;
     const apart = ([z, w]) => Math.hypot(Math.max(Math.abs(z - u) - half, 0), Math.max(Math.abs(w - v) - HIGH, 0));
     const circles = [...places.values()].filter((place) => apart(place) < radius - 1).length;
     const lines = pairs.map((ends) => ends.map((end) => places.get(end))).flatMap(([[a, b], [c, d]]) =>
-      Array.from({ length: STEPS }, (_, i) => [a + ((c - a) * i) / STEPS, b + ((d - b) * i) / STEPS])).filter((point) => beside(point, 2));
+      Array.from({ length: STEPS }, (_, i) => [a + ((c - a) * i) / STEPS, b + ((d - b) * i) / STEPS])).filter((point) => beside(point, NEAR));
     return ON_CIRCLE * circles + lines.length;
   };
   return least(spots.map(([right, down]) => [inside(x + right, half, width), inside(y + down, HIGH, height)]).map((spot) =>
