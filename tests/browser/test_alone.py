@@ -442,8 +442,12 @@ def with_editor(player):
     equal([line.split(" ")[0] for line in places.splitlines()], ["a", "b", "zoe"], "the places that are saved")
     player.does("1 lend zoe", player.click, at("zoe"))
     equal(player.text("#said"), "0 moved a=3 b=-1 zoe=-6", "a move on the edited table")
-    for selector in "#edit", "#add-vertex", "#edit-cancel":
+    equal(player.text("#title"), "The dollar game: an edited table", "the title of an edited table")
+    for selector in "#edit", "#edit-clear", "#add-vertex", "#add-vertex", "#add-edge":
         player.click(selector)
+    equal(player.value("editor.draft"), {"vertices": ["a", "b"], "edges": [["a", "b", 1]], "amounts": [0, 0], "q": "a"},
+          "a table from an empty board")
+    player.click("#edit-cancel")
     equal(player.value("[viewer.game.names.length, viewer.now]"), [3, 1], "an edit that is left")
 
 

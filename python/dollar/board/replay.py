@@ -1,7 +1,7 @@
 """Makes a page that shows a game: the board, and a slider over the history of its steps.
 
 The page is one file for a browser, and asks no network for anything. The table, the steps and the history are in it unchanged. The
-page draws them and knows no rule of the game."""
+page draws them. Of the rules it knows how many dollars a move sends along which edges, and no amount that follows."""
 import argparse
 import base64
 import hashlib

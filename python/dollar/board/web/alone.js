@@ -9,7 +9,7 @@ import { layoutOf, placesText } from "./places.js";
 import { Viewer, bind, choose, element } from "./viewer.js";
 import { Game, linesOf } from "./words.js";
 
-const SOON = 400;
+const SOON = 400, EDITED = "an edited table";
 export let table, fileName, examples, viewer, hands, questions, editor;
 let turn = Promise.resolve(), key = null, keeping = null, undone = false;
 
@@ -156,7 +156,7 @@ function begin(layout) {
     viewer = new Viewer(game, layout, { hands: true, fewest: (moves) => fewest(table, moves) });
     hands = new Hands(viewer, play);
     questions = new Questions(viewer, ask, play);
-    editor = new Editor(viewer, hands, (text, places) => openTable(text, fileName, places), find);
+    editor = new Editor(viewer, hands, (text, places) => openTable(text, EDITED, places), find);
     viewer.filled(0);
     viewer.afterShow = shown;
     showWays();

@@ -14,6 +14,7 @@ export class Editor {
     bind({
       "add-vertex": () => this.addVertex(), "add-edge": () => this.addEdge(element("edge-from").value, element("edge-to").value),
       "edit-done": () => this.finish(), "edit-cancel": () => this.close(), "edit-places": () => this.places(),
+      "edit-clear": () => this.clear(),
     });
   }
 
@@ -78,6 +79,13 @@ export class Editor {
     if (!found.layout) return refuse("edit-refused", found.err);
     this.viewer.board.layout = this.wider(found.layout);
     return this.draw();
+  }
+
+  /* Begins with an empty board. */
+  clear() {
+    this.draft = { vertices: [], edges: [], amounts: [], q: "" };
+    this.viewer.board.layout.places.clear();
+    this.fill();
   }
 
   /* On the board. */
@@ -226,6 +234,7 @@ export class Editor {
     const name = this.freeName();
     draft.vertices.push(name);
     draft.amounts.push(0);
+    if (draft.vertices.length === 1) draft.q = name;
     layout.sizes.set(name, 11);
     this.move(name, at || freePlace(layout));
     this.fill();

@@ -1,5 +1,5 @@
-/* Reads lines of steps and of histories, and says them in words. What a line says is what is shown: there is no rule of the game
-   here that would tell what follows from it. Names are keys of maps, for a vertex may be called `constructor`, or 2 before 1. */
+/* Reads lines of steps and of histories, and says them in words. The amounts that a line has are those that are shown. Of the rules only
+   `flows` is here, and that a join adds an edge. Names are keys of maps, for a vertex may be called `constructor`, or 2 before 1. */
 
 import { GRAMMAR } from "./grammar.js";
 
