@@ -112,7 +112,7 @@ def without_secret(place, ann, line, wrong):
         f"/{secret}/events?key=&from=0", f"/{secret}/events?key={wrong}&from=0", f"/{secret}/events?key={ann.key}&from=x",
         "/favicon.ico", "/robots.txt")))
     teachers = [("POST", path, {"seat": 1, "paused": True})
-                for path in ("pause", "free", "end", "again", "replay", "may", "door", "show", "table", "tables", "start", "")]
+                for path in ("pause", "free", "end", "again", "replay", "move", "may", "door", "show", "table", "tables", "start", "")]
     refused_alike(place, "a pupil", ("POST", f"/{wrong}/line", line), ("POST", "/line", line), *teachers)
     keys = "", "1", wrong, "x" * 64, ann.key[:-1]
     refused_alike(place, "another seat", *(("POST", "line", {"key": key, "line": "claim", "seat": 1}) for key in keys))

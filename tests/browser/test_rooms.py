@@ -7,7 +7,7 @@ import time
 from pathlib import Path
 
 from common import EXAMPLES, addresses, asked, played, refused, started, text_of, together, waited, written
-from dollar.board.puzzles import GRAPHS, LEVELS, Puzzles, table_of
+from dollar.board.puzzles import GRAPHS, LEVELS, puzzles, table_of
 from helpers import equal, expect, tests_of
 from visitors import TABLE, Place, Pupil, Watcher, a_class, taken
 
@@ -117,11 +117,11 @@ def confirmed(folder, table, level):
     expect(min(json.loads(table)["amounts"]) < 0, f"nobody owes: {table}")
 
 
-def puzzles(folder):
+def on_graphs(folder):
     """Each known graph has puzzles of each level, if there can be any; and so have random ones."""
     for graph in [*GRAPHS, *["random"] * 10]:
         for level in LEVELS:
-            name, (table,) = Puzzles.made(graph, level, TRIANGLE)
+            name, (table,) = puzzles(graph, level, TRIANGLE)
             equal(name, f"{'a random graph' if graph == 'random' else graph}, {level}", "the name of a puzzle")
             confirmed(folder, table, level)
             if graph != "random":
@@ -130,7 +130,7 @@ def puzzles(folder):
     single = '{"vertices":["a"],"edges":[],"amounts":[0],"q":"a"}\n'
     for level in "easy", "medium", "hard":
         try:
-            equal(Puzzles.made("", level, single), None, "a puzzle on one vertex")
+            equal(puzzles("", level, single), None, "a puzzle on one vertex")
         except ValueError as error:
             equal(str(error), "there is no such puzzle on this graph", "a puzzle on one vertex")
 
@@ -313,5 +313,5 @@ def an_accident(folder):
     refused(["board", "--no-browser", *words], "has lost its table 2", stdin=subprocess.DEVNULL)
 
 
-load_tests = tests_of(apart, next_tables, in_the_middle, puzzles, a_puzzle_each, taking_back, hints, permitted, by_a_short_code, an_accident,
+load_tests = tests_of(apart, next_tables, in_the_middle, on_graphs, a_puzzle_each, taking_back, hints, permitted, by_a_short_code, an_accident,
                       given=tempfile.TemporaryDirectory)

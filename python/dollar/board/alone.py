@@ -4,7 +4,7 @@ import json
 
 from dollar.board.game import MOST_LINE, Game
 from dollar.board.pages import asset, forward, page
-from dollar.board.puzzles import GRAPHS, Puzzles, hint
+from dollar.board.puzzles import GRAPHS, hint, puzzles
 from dollar.board.replay import page as replay_page
 from dollar.board.server import Nothing, Refused, as_json, new_secret, same, text_in
 from dollar.drawing import USUAL, layout
@@ -158,7 +158,7 @@ class Alone:
     async def puzzle(self, graph, level, now):
         """A puzzle, as its name and its table."""
         def make():
-            name, (table,) = Puzzles.made(graph, level, now)
+            name, (table,) = puzzles(graph, level, now)
             return {"name": name, "table": table}
 
         return await made(make)

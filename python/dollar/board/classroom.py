@@ -8,7 +8,7 @@ from collections import Counter
 
 from dollar.board.game import MOST_LINE, tables_of
 from dollar.board.pages import asset, forward, page
-from dollar.board.puzzles import Puzzles, hint
+from dollar.board.puzzles import graphs, hint, puzzles
 from dollar.board.qr import code
 from dollar.board.replay import page as replay_page
 from dollar.board.room import Feed, Room, event
@@ -109,7 +109,7 @@ class Classroom:
 
     def __init__(self, tables, seats, size=0, keeper=None, teacher_here=False):
         kept = keeper.found if keeper else {}
-        self.tables, self.seats, self.keeper, self.teacher_here, self.puzzles = tables, seats, keeper, teacher_here, Puzzles()
+        self.tables, self.seats, self.keeper, self.teacher_here = tables, seats, keeper, teacher_here
         self.secret, self.teacher = kept.get("secret") or new_secret(), kept.get("teacher") or new_secret()
         self.short, self.tries = kept.get("short") or new_secret().replace("-", "")[:SHORT], Bucket(TRIES, TRIES_IN_A_SECOND)
         self.taken, self.barred = {}, set(kept.get("barred", ()))
@@ -277,8 +277,7 @@ class Classroom:
         asked = request.parts[1]
         request.known() if teaches else request.is_guest()
         if teaches and (request.method, asked) == ("GET", "tables"):
-            graphs = await asyncio.to_thread(self.puzzles.listed)
-            return as_json({"named": [table.name for table in self.tables], "graphs": graphs})
+            return as_json({"named": [table.name for table in self.tables], "graphs": await asyncio.to_thread(graphs)})
         if request.method == "GET":
             return self.given(asked, request, teaches)
         given = await request.json(MOST_TABLE if teaches else MOST_BODY)
@@ -423,6 +422,10 @@ class Classroom:
             await self.again()
         elif asked == "table":
             await self.hand_out(given)
+        elif asked == "move":
+            self.teacher = new_secret()
+            self.changed()
+            return as_json({"secret": self.teacher})
         elif asked == "replay":
             return await self.replay(room_in(given.get("room", 1)))
         else:
@@ -474,7 +477,7 @@ class Classroom:
         """The tables that are wanted, for rooms of a size. Raises a Fault where one is none."""
         if "graph" in given:
             count = -(-self.seats // size) if given.get("each") is True and size else 1
-            return tables_of(*self.puzzles.made(text_in(given, "graph", 40), text_in(given, "level", 20), self.handed[0].text, count))
+            return tables_of(*puzzles(text_in(given, "graph", 40), text_in(given, "level", 20), self.handed[0].text, count))
         if "table" in given:
             text = text_in(given, "table", MOST_TABLE)
             printed("judge", text.encode(), patience=PATIENCE)

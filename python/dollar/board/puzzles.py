@@ -144,25 +144,20 @@ def hint(text):
     return {"name": name, "count": (count > 0) - (count < 0) if verdict else None}
 
 
-class Puzzles:
-    """The graphs that a page offers, and puzzles on them."""
+@functools.lru_cache(maxsize=None)
+def graphs():
+    """The known graphs, each as its name, a table without dollars, and where its vertices stand."""
+    tables = {name: table_of(edges) for name, edges in GRAPHS.items()}
+    return [{"name": name, "table": table, "layout": layout(table, USUAL)} for name, table in tables.items()]
 
-    @staticmethod
-    @functools.lru_cache(maxsize=None)
-    def listed():
-        """The known graphs, each as its name, a table without dollars, and where its vertices stand."""
-        tables = {name: table_of(edges) for name, edges in GRAPHS.items()}
-        return [{"name": name, "table": table, "layout": layout(table, USUAL)} for name, table in tables.items()]
 
-    @staticmethod
-    def made(graph, level, now, count=1):
-        """The name and the texts of puzzles: on a known graph, on a random one, or on that of the table now."""
-        if level not in LEVELS or graph not in ("", "random", *GRAPHS):
-            raise ValueError("there is no such puzzle")
-        draw = random.SystemRandom()
-        table = json.loads(now) if graph == "" else table_of(random_graph(draw) if graph == "random" else GRAPHS[graph])
-        called = {"": "the same graph", "random": "a random graph"}.get(graph, graph)
-        made = []
-        while len(made) < count:
-            made.append(puzzle(table, level, draw, made))
-        return "%s, %s" % (called, level), made
+def puzzles(graph, level, now, count=1):
+    """The name and the texts of puzzles: on a known graph, on a random one, or on that of the table now."""
+    if level not in LEVELS or graph not in ("", "random", *GRAPHS):
+        raise ValueError("there is no such puzzle")
+    draw = random.SystemRandom()
+    table = json.loads(now) if graph == "" else table_of(random_graph(draw) if graph == "random" else GRAPHS[graph])
+    called, made = {"": "the same graph", "random": "a random graph"}.get(graph, graph), []
+    while len(made) < count:
+        made.append(puzzle(table, level, draw, made))
+    return "%s, %s" % (called, level), made

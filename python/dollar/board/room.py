@@ -94,12 +94,16 @@ class Room(Game):
         if not self.restarts:
             self.changed()
 
+    async def goes_on(self):
+        """Starts the program if it has not been needed before, and says whether it has not ended."""
+        if self.child is None:
+            await self.begin()
+        return not self.end
+
     async def ask(self, seat, line, name):
         """The answer to a line of a seat, which is kept if it is an entry; None if the game ended instead."""
         async with self.turn:
-            if self.child is None:
-                await self.begin()
-            if self.end:
+            if not await self.goes_on():
                 return None
             answer = await self.answer("%d %s" % (seat, line))
             if answer is not None and answer[:1].isdigit():
@@ -121,16 +125,13 @@ class Room(Game):
     async def redo(self, name):
         """Plays again what was taken back last. Says whether there was something."""
         async with self.turn:
-            if self.child is None:
-                await self.begin()
-            if self.end:
+            if not await self.goes_on():
                 return None
-            if self.undone:
-                again = self.undone[-1]
+            again = self.undone[-1] if self.undone else []
+            if again:
                 await self.agrees(await self.answers(lines_of(again)), again)
                 self.comes(len(self.entries) + len(again), name)
-                return True
-            return False
+            return bool(again)
 
     async def again(self):
         """Starts the program again, if it has ended, with all entries that there were."""
