@@ -295,9 +295,11 @@ const playersOf = (number) => Object.values(state.names).filter(({ room }) => ro
 function showRooms() {
   const shown = teaches() ? "all" : state.shown, { size } = state, box = element("rooms");
   const numbers = [...new Set([...rooms.keys(), ...Object.values(state.names).map(({ room }) => room)])].sort((one, other) => one - other);
+  const done = numbers.map(roomOf).filter(({ game }) => game.isWon(game.length)).length, one = Number(shown);
+  element("done").textContent = `Done: ${done} of ${numbers.length}`;
   box.hidden = size === 0;
+  element("done").hidden = size === 0 || Boolean(one);
   if (size === 0) return;
-  const one = Number(shown);
   if (one && one !== large) enlarge(one);
   document.body.classList.toggle("one-room", Boolean(one));
   document.body.classList.toggle("all-rooms", !one && !teaches());
