@@ -185,8 +185,16 @@ class Browser:
         self.call("Page.navigate", url=url)
 
     def until(self, expression):
-        """Waits until an expression is true in the page."""
-        if not waited(lambda: self.value(expression)):
+        """Waits until an expression is true in the page, or in the one that follows it."""
+        def held():
+            try:
+                return self.value(expression)
+            except ValueError as error:
+                if "navigated" in str(error):
+                    return False
+                raise
+
+        if not waited(held):
             raise TimeoutError(expression)
 
     def press(self, key, modifiers=0):
@@ -333,6 +341,12 @@ class Page:
         self.focus(selector)
         self.value(f"$({json.dumps(selector)}).select()")
         self.write(text)
+
+    def edit(self):
+        """Opens the editor, which brings the board into view once the page was drawn."""
+        self.click("#edit")
+        self.value("new Promise((done) => setTimeout(done, 100))")
+        self.until("!$('#editor').hidden && $('#board').getBoundingClientRect().y > -1")
 
     def saved(self, button, name):
         """The text of a file that a button saves."""

@@ -407,8 +407,7 @@ def with_an_end(player):
 def with_editor(player):
     """A table is edited on the board and in lists, and saved as a file which the program takes."""
     player.open_example("triangle", asks=False)
-    player.click("#edit")
-    player.until("!$('#editor').hidden && $('#board').getBoundingClientRect().y > -1")
+    player.edit()
     empty = player.value("(({ x, y }) => [x + 40, y + 40])($('#board svg').getBoundingClientRect())")
     player.mouse("Pressed", empty)
     player.mouse("Released", empty, 0, 0)
@@ -443,7 +442,8 @@ def with_editor(player):
     player.does("1 lend zoe", player.click, at("zoe"))
     equal(player.text("#said"), "0 moved a=3 b=-1 zoe=-6", "a move on the edited table")
     equal(player.text("#title"), "The dollar game: an edited table", "the title of an edited table")
-    for selector in "#edit", "#edit-clear", "#add-vertex", "#add-vertex", "#add-edge":
+    player.edit()
+    for selector in "#edit-clear", "#add-vertex", "#add-vertex", "#add-edge":
         player.click(selector)
     equal(player.value("editor.draft"), {"vertices": ["a", "b"], "edges": [["a", "b", 1]], "amounts": [0, 0], "q": "a"},
           "a table from an empty board")

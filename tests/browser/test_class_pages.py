@@ -130,6 +130,37 @@ def on_a_busy_table(lesson):
     tell(f"of {len(looks)} looks 0.1 s after an entry {right} saw the amounts of now")
 
 
+def with_a_drawn_table(lesson):
+    """The teacher draws a table while others play, and hands it out; what the program does not take is told in the editor."""
+    ann, bob, desk, *_ = lesson
+    desk.edit()
+    desk.click("#edit-clear")
+    for _ in "ab":
+        desk.click("#add-vertex")
+    before = ann.value("viewer.game.length")
+    bob.click(at("dan"))
+    ann.has(before + 1)
+    equal(desk.value("names('#board .vertex')"), ["a", "b"], "what the teacher draws while others play")
+    desk.click("#edit-done")
+    desk.answered(False)
+    equal(desk.value("[$('#editor').hidden, $('#edit-refused').hidden]"), [False, True], "the editor after 'no'")
+    desk.click("#edit-done")
+    desk.answered(True)
+    desk.until("!$('#edit-refused').hidden")
+    equal(desk.text("#edit-refused code"), "dollar: not connected", "a table that is none")
+    desk.click("#add-edge")
+    desk.types("#edit-vertices tr:nth-child(2) input[type=number]", "-1")
+    desk.click("#edit-places")
+    desk.click("#edit-done")
+    desk.answered(True)
+    for page in ann, bob, desk:
+        page.until("given.name === 'a table of the class' && viewer.game.length === 0")
+        equal(page.value("viewer.game.table"), {"vertices": ["a", "b"], "edges": [["a", "b", 1]], "amounts": [0, -1], "q": "a"}, "the table")
+    equal(desk.value("[$('#editor').hidden, $$('#board [tabindex]').length]"), [True, 0], "the teacher's page after it")
+    ann.click(at("a"))
+    bob.has(1)
+
+
 def of_the_pages_of_a_class(folder):
     browsers = one, two, desk = needed()
     with played(EXAMPLES / "houses.json", "--class", "3") as (child, (pupils, teacher)):
@@ -153,7 +184,7 @@ def of_the_pages_of_a_class(folder):
             page.value("$$('#teacher details').forEach((at) => { at.open = true; })")
             page.click(f"#may-{switch}")
             ann.until(f"state.may.{switch} && !$('#gift-form').hidden")
-        for part in with_entries, with_seats, with_commands, on_a_busy_table:
+        for part in with_entries, with_seats, with_commands, on_a_busy_table, with_a_drawn_table:
             part(Lesson(ann, bob, page, child, Place(teacher)))
         one.in_sizes("pupil")
         desk.in_sizes("teacher")

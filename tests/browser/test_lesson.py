@@ -77,6 +77,7 @@ def a_win(folder, ann, others, desk, wall):
     for page in desk, wall:
         page.until(f"$$('.room.done').length === 11 && $$('.room').length === {OTHERS + 1}")
         equal(page.value(SMALL)[ann.seat - 1], [ann.seat, "done in 1 move"], "the room of who is done")
+        equal(page.text("#done"), f"Done: 11 of {OTHERS + 1}", "how many are done")
     picture(ann, "phone-won")
     picture(desk, "teacher-rooms", whole=True)
     picture(wall, "projector-rooms")

@@ -6,7 +6,7 @@ import re
 import time
 from collections import Counter
 
-from dollar.board.game import MOST_LINE, tables_of
+from dollar.board.game import MOST_LINE, Table, tables_of
 from dollar.board.pages import asset, forward, page
 from dollar.board.puzzles import graphs, hint, puzzles
 from dollar.board.qr import code
@@ -422,6 +422,9 @@ class Classroom:
             await self.again()
         elif asked == "table":
             await self.hand_out(given)
+        elif asked == "layout":
+            (table,) = await self.checked(given, self.size)
+            return as_json({"layout": table.layout})
         elif asked == "move":
             self.teacher = new_secret()
             self.changed()
@@ -459,10 +462,7 @@ class Classroom:
         size, old = given.get("size", self.size), list(self.rooms.values())
         if not isinstance(size, int) or not 0 <= size <= self.seats:
             raise Refused(400, "there is no such room")
-        try:
-            handed = await asyncio.to_thread(self.wanted, given, size)
-        except (Fault, ValueError) as fault:
-            raise Refused(409, fault.text if isinstance(fault, Fault) else str(fault)) from None
+        handed = await self.checked(given, size)
         if (size > 0) != (self.size > 0):
             self.may.update(dict.fromkeys(IN_ROOMS, size > 0))
         self.set_tables(handed, size, self.turn + 1)
@@ -473,6 +473,13 @@ class Classroom:
         for room in old:
             await room.finish()
 
+    async def checked(self, given, size):
+        """The tables that are wanted, if the program takes them."""
+        try:
+            return await asyncio.to_thread(self.wanted, given, size)
+        except (Fault, ValueError) as fault:
+            raise Refused(409, fault.text if isinstance(fault, Fault) else str(fault)) from None
+
     def wanted(self, given, size):
         """The tables that are wanted, for rooms of a size. Raises a Fault where one is none."""
         if "graph" in given:
@@ -481,7 +488,8 @@ class Classroom:
         if "table" in given:
             text = text_in(given, "table", MOST_TABLE)
             printed("judge", text.encode(), patience=PATIENCE)
-            return tables_of(clean(text_in(given, "name", 200)) or "A table", [text])
+            places = text_in(given, "places", MOST_TABLE) if "places" in given else None
+            return [Table(clean(text_in(given, "name", 200)) or "A table", text, places)]
         return [table for table in self.tables if table.name == given.get("named")][:1] or self.handed
 
     async def replay(self, number):

@@ -2,6 +2,7 @@
    of who only watches show all boards small, and one of them large. */
 
 import { Board, draw } from "./board.js";
+import { Editor } from "./edit.js";
 import { Hands } from "./hand.js";
 import { fewest, post, save, startPage, store, stored, sure } from "./page.js";
 import { fitted, layoutOf } from "./places.js";
@@ -13,8 +14,9 @@ const CHANGES = ["moved", "given", "joined"];
 const FILES = { "take-table": "table.json", "take-steps": "steps.txt", "take-history": "history.txt" };
 const SWITCHES = ["gifts", "edges", "questions", "undo", "hints"];
 const KEPT = `dollar ${location.pathname.replaceAll("-", "").toLowerCase()}`;
-export let given, viewer, hands, source, me = null, state = null, waiting = [], had = 0, large = 1;
-let preview = [140, 110], frame = null, took = 0, last = 0, stopped = false, broken = false;
+export let given, viewer, hands, editor, source, me = null, state = null, waiting = [], had = 0, large = 1;
+const MEANWHILE = 200;
+let preview = [140, 110], frame = null, took = 0, last = 0, stopped = false, broken = false, missed = false;
 export const entries = new Map(), rooms = new Map();
 
 const teaches = () => given.role === "teacher";
@@ -129,6 +131,7 @@ function handed(thing) {
   [had, waiting] = [0, []];
   entries.clear();
   clearRooms();
+  if (editor && editor.draft) editor.leave();
   large = thing.room || 1;
   element("title").textContent = document.title = `${teaches() ? "For the teacher" : "The dollar game"}: ${given.name}`;
   const { game } = roomOf(large);
@@ -180,8 +183,15 @@ function drawn() {
     if (number === large) [grown, leapt] = [true, words || leapt];
   }
   waiting = [];
-  if (leapt) viewer.reset(viewer.game, viewer.game.length);
+  // What comes while the teacher draws a table is shown after it.
+  missed = missed || Boolean(editor && editor.draft);
+  if (editor && editor.draft) {
+    frame = setTimeout(drawn, MEANWHILE);
+    return;
+  }
+  if (leapt || missed) viewer.reset(viewer.game, viewer.game.length);
   else if (grown) viewer.grown(follows);
+  missed = false;
   if (leapt && hands) hands.note(leapt);
   if (state) told();
   last = performance.now();
@@ -285,9 +295,11 @@ const playersOf = (number) => Object.values(state.names).filter(({ room }) => ro
 function showRooms() {
   const shown = teaches() ? "all" : state.shown, { size } = state, box = element("rooms");
   const numbers = [...new Set([...rooms.keys(), ...Object.values(state.names).map(({ room }) => room)])].sort((one, other) => one - other);
+  const done = numbers.map(roomOf).filter(({ game }) => game.isWon(game.length)).length, one = Number(shown);
+  element("done").textContent = `Done: ${done} of ${numbers.length}`;
   box.hidden = size === 0;
+  element("done").hidden = size === 0 || Boolean(one);
   if (size === 0) return;
-  const one = Number(shown);
   if (one && one !== large) enlarge(one);
   document.body.classList.toggle("one-room", Boolean(one));
   document.body.classList.toggle("all-rooms", !one && !teaches());
@@ -457,10 +469,23 @@ function choosesTable() {
   element("each").hidden = !isPuzzle || element("next-size").value === "0";
 }
 
+/* Gives what is refused, nothing if it was handed out, and false if the teacher would rather not. */
 async function handOut(thing) {
   const played = [...rooms.values()].some(({ game }) => game.length > 0);
-  if (played && !(await sure("Hand out the next table? The games on this one end."))) return;
-  await command("table", { size: Number(element("next-size").value), ...thing });
+  if (played && !(await sure("Hand out the next table? The games on this one end."))) return false;
+  const got = await command("table", { size: Number(element("next-size").value), ...thing });
+  return got.refused || null;
+}
+
+/* The editor, with a hand that does nothing else. */
+function drawTables() {
+  const drawing = new Hands(viewer, () => {}), find = async (table) => {
+    const got = await post("layout", { table, name: "" });
+    return got.refused ? { err: got.refused } : { layout: layoutOf(got.layout) };
+  };
+  editor = new Editor(viewer, drawing, (table, places) => handOut({ table, places, name: "a table of the class" }), find);
+  element("edit-done").textContent = "Hand it out";
+  bind({ edit: () => editor.open() });
 }
 
 function handOutChosen() {
@@ -499,6 +524,7 @@ function teach() {
   for (const name of SWITCHES) {
     element(`may-${name}`).addEventListener("change", ({ target }) => command("may", { [name]: target.checked }));
   }
+  drawTables();
   offer();
   listen("events?");
 }

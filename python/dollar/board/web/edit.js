@@ -8,7 +8,8 @@ import { Game, nameWords } from "./words.js";
 const MOST_VERTICES = GRAMMAR.limits["dg_graph::MAX_VERTICES"], ROOM = [620, 440], STEP = 10;
 
 export class Editor {
-  /* `done` is called with the text of the table and the places, and gives what the program refuses, or null. */
+  /* `done` is called with the text of the table and the places, and gives what the program refuses, null if it is done, or false if it
+     is not. */
   constructor(viewer, hands, done, find) {
     Object.assign(this, { viewer, hands, done, find, draft: null });
     bind({
@@ -21,7 +22,8 @@ export class Editor {
   open() {
     const { game, now, board } = this.viewer;
     this.viewer.stop();
-    this.kept = board.layout;
+    [this.kept, this.handled] = [board.layout, board.hands];
+    board.hands = true;
     board.layout = this.wider(board.layout.original || board.layout);
     board.burnt = [];
     this.draft = structuredClone(game.tableAt(now));
@@ -55,6 +57,7 @@ export class Editor {
   }
 
   leave() {
+    this.viewer.board.hands = this.handled;
     this.hands.other = null;
     this.draft = null;
     this.shown(false);
@@ -68,6 +71,7 @@ export class Editor {
     const bad = document.querySelector("#edit-vertices :invalid");
     if (bad) return bad.reportValidity();
     const refused = await this.done(this.text(), placesText(this.viewer.board.layout));
+    if (refused === false) return null;
     if (refused !== null) return refuse("edit-refused", refused);
     this.leave();
     this.viewer.board.focus(this.viewer.game.names[0]);
