@@ -1,5 +1,5 @@
 #!/usr/bin/env python3
-"""The grammar of the program, read off the code that is proved: the commands of the step language, the replies, what a
+"""The grammar of the program, read from the proved code: the commands of the step language, the replies, what a
 session says of a line that makes no entry, the faults with their exit statuses, and the limits. Its home is
 python/dollar/grammar.json, which everything else reads; tools/lint compares it with the code.
 

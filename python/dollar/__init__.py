@@ -10,21 +10,21 @@ rank below 1 at a=0 b=0 c=1
 >>> dollar.rr(triangle)
 RiemannRoch(degree=0, genus=1, rank=0, dual=0)
 
-A table is made of whatever has a graph, and what is no table is an error; see `Table`. `judge_all`, `rank_all` and `rr_all` answer
-many tables, `Session` plays line by line, `flaw` checks a verdict without the program. docs/tools.md shows it all.
+A table is made of anything that has a graph; anything else is an error; see `Table`. `judge_all`, `rank_all` and `rr_all` answer many
+tables, `Session` plays line by line, `flaw` checks a verdict without the program. docs/tools.md shows it all.
 
 All names:
 
 - `Table`, `example`: a table; the table of a file in the clone's folder `examples`
 - `judge`, `rank`, `rr`, `rehearse`, `greedy`, `party`: the commands for one table
-- `judge_all`, `rank_all`, `rr_all`, `to_csv`: those for many; a CSV file of their answers
+- `judge_all`, `rank_all`, `rr_all`, `to_csv`: the commands for many tables; a CSV file of their answers
 - `Answers`: the answers of a sweep, one by one, or as `VerdictColumns`, `RankTestColumns` or `RiemannRochColumns`
-- `EffectiveDivisors`, `LinearSystem`: what `effective_divisors` and `linear_system` of a table are
+- `EffectiveDivisors`, `LinearSystem`: what `effective_divisors` and `linear_system` of a table return
 - `Verdict`, `RankTest`, `RiemannRoch`, `Entry`, `History`, `Party`: answers; most are an `Answer` or a dict
 - `Moved`, `Given`, `Joined`, `Looked`, `Judged`, `Tested`, `Stale`, `Claimed`, `Declined`, `Bad`, `Turns`: the kinds of entries
 - `RefusedVerdict`, `RefusedRankTest`, `RefusedRiemannRoch`: rows of refused tables; each is a `Refused`
-- `Session`, `AsyncSession`, `Ended`, `End`: a session, and one for asyncio; that it has ended, and how
-- `Fault`, `ProgramNotFound`, `find_program`: a refusal; that no program is found; where one is
+- `Session`, `AsyncSession`, `Ended`, `End`: a session, and one for asyncio; the error once it has ended, and how it ended
+- `Fault`, `ProgramNotFound`, `find_program`: a refusal; the error if there is no program; the path of the program
 - `flaw`, `fired`, `burnt`, `edges`, `joined`, `picture`: the game itself, without the program; a picture of a table
 - `run`, `answer`, `history`: the lines that any command prints; what a line and a history say
 """

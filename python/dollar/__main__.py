@@ -1,12 +1,12 @@
-"""What the package does from a command line.
+"""The commands of the package.
 
     python3 -m dollar board [FILE]           a board to play on, in a browser, for one player or for a class
     python3 -m dollar draw FILE              a picture of a table and of its verdict
     python3 -m dollar replay FILE STEPS      a page that shows a game
     python3 -m dollar sweep judge FILE CSV   the verdicts on the tables of a file, or other answers, on a Dask cluster
-    python3 -m dollar json                   what the program prints, from a pipe, as lines of JSON
+    python3 -m dollar json                   the program's lines from a pipe, as lines of JSON
 
-Each tells more with --help. In a clone where the package is not installed, `python3 python/dollar` does the same."""
+Each has --help. In a clone where the package is not installed, `python3 python/dollar` does the same."""
 
 import argparse
 import importlib
@@ -32,9 +32,9 @@ def draw(words: "list[str]") -> int:
     reader = argparse.ArgumentParser(
         prog="dollar draw", usage="%(prog)s [--places PLACES] FILE > PICTURE.svg",
         description="Draws a table and its verdict. A vertex has its name and its dollars; one in debt is red and hatched, and q has a "
-        "double ring. Below a vertex stands what the script has it lend or borrow. What burns is orange, with its number in the order.")
+        "double ring. Below a vertex is how often the script lets it lend or borrow. Vertices that burn are orange, with their number in the order.")
     reader.add_argument("--places", metavar="PLACES",
-                        help="the vertices stand where the lines 'name x y' of this file say; x goes to the right, and y down")
+                        help="a file with a line 'name x y' for the place of each vertex; x goes to the right, and y down")
     reader.add_argument("file", metavar="FILE")
     given = reader.parse_args(words)
     own = None if given.places is None else text_of(given.places)

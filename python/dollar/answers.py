@@ -1,4 +1,4 @@
-"""What the program answers, as small typed values."""
+"""The program's answers, as small typed values."""
 
 from __future__ import annotations
 
@@ -42,8 +42,7 @@ def vertices_of(table: Any) -> Optional[Vertices]:
 
 
 class Answer:
-    """What all answers have: they print as the program prints them, and are equal to the tuple of their parts, and can be taken
-    apart like it."""
+    """All answers print as the program prints them, are equal to the tuple of their parts, and can be taken apart like it."""
 
     def parts(self) -> Tuple[Any, ...]:
         """The answer as a tuple: its word, its numbers, and its amounts as dicts."""
@@ -92,7 +91,7 @@ class OfTable(Answer):
 
     @property
     def table(self) -> Optional[Table]:
-        """The table that was asked about; None for an answer out of a history."""
+        """The table that was asked about; None for an answer from a history."""
         from dollar.table import made_of
 
         found = made_of(vars(self).get("_table"))
@@ -103,14 +102,14 @@ class OfTable(Answer):
         """The table that is given, or else the one that was asked about."""
         judged = self.table if table is None else table
         if judged is None:
-            raise ValueError("an answer out of a history knows no table: say which one it is about")
+            raise ValueError("an answer from a history knows no table: say which one it is about")
         return judged
 
 
 @dataclass(frozen=True, eq=False)
 class Verdict(OfTable):
     """Whether all debts can be cleared; how often each vertex lends; the reduced divisor to which that leads; and the order in which
-    all vertices burn in it, which `judge` tells, and None else. Its keys are the vertices of the table.
+    all vertices burn in it, if `judge` gave the verdict, or else None. Its keys are the vertices of the table.
 
     >>> from dollar import Table, judge
     >>> table = Table({"vertices": ["a", "b"], "edges": [["a", "b", 1]], "amounts": [2, -1], "q": "a"})
@@ -126,7 +125,7 @@ class Verdict(OfTable):
     >>> "can be won" if verdict else "can't be won"
     'can be won'
 
-    What it leads to can be handed back as the amounts of a table, unless q then owes more than a table may have:
+    The divisor to which the script leads can be the amounts of a table, unless q then owes more than a table allows:
 
     >>> print(judge(Table(table, verdict.reduced)))
     winnable by a=0 b=0 to a=1 b=0
@@ -152,7 +151,7 @@ class Verdict(OfTable):
         return "winnable" if self.winnable else "unwinnable", self.script, self.reduced
 
     def check(self, table: Optional[Mapping[str, Any]] = None) -> None:
-        """Checks the verdict by its definition, which needs no trust in the program. A ValueError tells what is wrong. A verdict of
+        """Checks the verdict by its definition, without any trust in the program. A ValueError says why it is wrong. A verdict of
         `judge` and `judge_all` knows its table.
 
         >>> from dollar import Table, judge
@@ -161,7 +160,7 @@ class Verdict(OfTable):
         >>> Verdict(False, {0: 0, 1: -1}, {0: 1, 1: 0}).check(table)
         Traceback (most recent call last):
             ...
-        ValueError: q is in debt exactly where nothing can be won
+        ValueError: the word does not fit the debt of q
         """
         found = checks.flaw(self.judged(table), self)
         if found is not None:
@@ -181,8 +180,8 @@ class Verdict(OfTable):
 
 @dataclass(frozen=True, eq=False)
 class RankTest(OfTable):
-    """Whether so many dollars can be lost, wherever; if not, the first way to lose them after which the table can't be won. `loss`
-    is None as well where a law settles a test that is past the limits.
+    """Whether so many dollars can be lost, no matter where; if not, the first way to lose them after which the table can't be won.
+    `loss` is also None if a law settles a test that is past the limits.
 
     >>> from dollar import Table, rank
     >>> table = Table([[0, 3], [3, 0]], [1, 1])
@@ -209,8 +208,8 @@ class RankTest(OfTable):
         return (word, self.degree) if self.loss is None else (word, self.degree, self.loss)
 
     def check(self, table: Optional[Mapping[str, Any]] = None, program: Optional[Place] = None) -> None:
-        """Checks the test by its definition. A ValueError tells what is wrong. Each loss in the order of lists, up to the one that is
-        told, is taken from the table, and the verdict on that is checked as `Verdict.check` does; so a long test takes long.
+        """Checks the test by its definition. A ValueError says why it is wrong. Each loss in the order of lists, up to `loss`, is taken
+        from the table, and the verdict on the rest is checked as `Verdict.check` does; so a long test takes long.
 
         >>> from dollar import Table, rank
         >>> table = Table([[0, 3], [3, 0]], [1, 1])
@@ -218,7 +217,7 @@ class RankTest(OfTable):
         >>> RankTest(True, 2).check(table)
         Traceback (most recent call last):
             ...
-        ValueError: what is left after a loss of {0: 0, 1: 2} can't be won
+        ValueError: the rest after a loss of {0: 0, 1: 2} can't be won
         """
         from dollar.divisors import flaw_of_rank_test
 
@@ -229,7 +228,7 @@ class RankTest(OfTable):
 
 @dataclass(frozen=True, eq=False)
 class RiemannRoch(AbstractMapping[str, Optional[int]]):
-    """The degree, the genus, the rank, and the rank of the dual. A rank is None where `rr_all` finds it past the limits.
+    """The degree, the genus, the rank, and the rank of the dual. A rank is None if `rr_all` finds it past the limits.
 
     It prints as the program does, and is equal to the dict of its numbers:
 
@@ -277,12 +276,12 @@ class RiemannRoch(AbstractMapping[str, Optional[int]]):
 
 @dataclass(frozen=True, eq=False, repr=False)
 class Entry(Answer):
-    """An answer in a history or a session: its word, and what belongs to it. Each kind has a class of its own, which tells what is there.
+    """An answer in a history or a session: its word, and what belongs to it. Each kind has a class of its own, with its fields.
 
     `word` is the first word of a reply, as `moved` or `stale`, or `not won`, `rank at least`, `rank below`, `turns`, or `refused` or
     `bad` and why. `gifts` is the count of gifts, levies and joins, `amounts` what the vertices hold,
-    `found` the verdict or the rank test that was entered. What begins with `bad` has no number, and changed nothing. In a session
-    `seat` and `line` are what was asked, and `step` is how many lines were answered, with this one.
+    `found` the verdict or the rank test that was entered. An entry that begins with `bad` has no number, and changed
+    nothing. In a session `seat` and `line` are the question, and `step` is the number of lines answered so far, with this one.
 
     >>> from dollar import Table, rehearse
     >>> looked, moved, verdict = rehearse(Table([[0, 1], [1, 0]], [2, -1]), ["1 look", "2 lend 0", "1 commit"])
@@ -416,7 +415,7 @@ class History(List[Entry]):
 
 @dataclass(frozen=True)
 class Party:
-    """What a party made: the history, its totals, and for each seat whose session ended early the text of its fault.
+    """A party's history, its totals, and for each seat whose session ended early the text of its fault.
 
     >>> from dollar import Table, party
     >>> played = party(Table([[0, 1], [1, 0]], [2, -1]), ["lend 0"], ["jump"])

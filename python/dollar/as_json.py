@@ -1,10 +1,10 @@
-"""Turns what the program prints into lines of JSON.
+"""Turns the lines that the program prints into lines of JSON.
 
     dollar serve FILE | python3 -m dollar json
 
-Each line of standard input is one that a command of the program has printed: a verdict, a rank test, the four numbers, an entry of a
-history or a session, the totals of a party, or why a table was refused. Each is answered by one line, an object, as soon as it is read:
-amounts are objects by the names of the vertices, and numbers are numbers. What is no such line is a fault, with the status 1.
+Each line of standard input is one that a command of the program has printed. It may be a verdict, a rank test, the four numbers, an
+entry of a history or a session, the totals of a party, or the fault of a refused table. Each is answered by one line, an object, as soon
+as it is read: amounts are objects by the names of the vertices, and numbers are numbers. Any other line is a fault, with the status 1.
 
     >>> print(json.dumps(read("2 winnable by a=0 b=-1 to a=1 b=0")))
     {"word": "winnable", "found": {"winnable": true, "script": {"a": 0, "b": -1}, "reduced": {"a": 1, "b": 0}}, "number": 2}

@@ -32,7 +32,7 @@ def by_vertices(table: Mapping[str, Any], amounts: Mapping[Any, int]) -> Mapping
 
 
 def joined(table: Mapping[str, Any], u: Vertex, v: Vertex) -> Dict[str, Any]:
-    """The table with one more edge between two vertices, as `join` makes it, as a dict; the amounts are as they were.
+    """The table with one more edge between two vertices, as `join` makes it, as a dict; the amounts are unchanged.
 
     >>> from dollar import Table
     >>> joined(Table([[0, 1], [1, 0]]), 0, 1)["edges"]
@@ -110,7 +110,7 @@ def misplaced(table: Mapping[str, Any], amounts: Mapping[Any, int], order: Seque
 
 
 def flaw(table: Mapping[str, Any], verdict: Iterable[Any]) -> Optional[str]:
-    """What is wrong in a verdict, or None where it is right, which needs no trust in the program.
+    """The flaw of a verdict, or None if it is right. The program need not be trusted.
 
     >>> from dollar import Table, judge
     >>> table = Table([[0, 1], [1, 0]], [2, -1])
@@ -140,5 +140,5 @@ def flaw(table: Mapping[str, Any], verdict: Iterable[Any]) -> Optional[str]:
     if early is not None:
         return "%s burns too early" % (early,)
     if word != ("winnable" if reduced[q] >= 0 else "unwinnable"):
-        return "q is in debt exactly where nothing can be won"
+        return "the word does not fit the debt of q"
     return None

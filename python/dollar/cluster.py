@@ -5,15 +5,15 @@
     dollar sweep [..] judge|rr TABLE --divisors LINES CSV
     dollar sweep [..] rank TABLE K --divisors LINES CSV
 
-The lines of FILE are tables, as for the program's --lines; those of LINES are divisors of the table TABLE, as for its --divisors. The
-cluster is the one whose scheduler has the address, or one of N processes on this machine, by default as many as there are processors.
-PROGRAM is the program as the workers find it; by default the one that is found here. A worker takes as many lines at once as last
-about half a second. Dask is the Python module `distributed`, in Debian the package python3-distributed.
+The lines of FILE are tables, as for the program's --lines; the lines of LINES are divisors of the table TABLE, as for its --divisors. The
+cluster is the one whose scheduler has the address, or one of N processes on this machine, by default one for each processor. PROGRAM is
+the program as the workers find it; by default the one that is found here. A worker takes so many lines at once that they last about half
+a second. Dask is the Python module `distributed`, in Debian the package python3-distributed.
 
-The CSV file has a row for each line, in order: its number from 1 on, a checksum of it, what was found, and in the last column why it was
-refused. Where the file is there already, the sweep goes on after its last whole row: so an interrupted sweep is started again by the
-same words. A file with the rows of other lines is refused, and not changed. What a worker had when it died is done again by another. On
-a terminal the number of rows is shown as it grows.
+The CSV file has a row for each line, in order: its number from 1 on, a checksum of it, the answer, and in the last column why it was refused.
+If the file exists, the sweep goes on after its last whole row, so you start an interrupted sweep again by the same words. A file with
+the rows of other lines is refused, and not changed. If a worker dies, another does its lines again. On a terminal the number of rows is
+shown as it grows.
 
     >>> row("judge", 7, 0xab, "winnable by a=0 b=-1 to a=0 b=1")
     [7, '000000ab', 'true', 'a=0 b=-1', 'a=0 b=1', '']
@@ -105,7 +105,7 @@ def rows_kept(place: str, sweep: Sweep, lines: Iterator[Tuple[bytes, int]]) -> i
         size = len(file.readline())
         file.seek(0)
         if not first.startswith(file.read(size)):
-            raise ValueError("%s is there, and is no CSV file of this sweep; nothing was changed" % place)
+            raise ValueError("%s exists, and is not a CSV file of this sweep; nothing was changed" % place)
         rows, size = 0, size if size == len(first) else 0
         for line in file:
             if not line.endswith(b"\n"):

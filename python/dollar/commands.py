@@ -36,8 +36,8 @@ def word_of(thing: object) -> Union[str, bytes]:
 
 
 def run(command: str, *given: object, program: Optional[Place] = None) -> List[str]:
-    """The lines that a command prints; what is given are tables, lists of lines, numbers, options and places of files. A Fault where
-    the program refuses it.
+    """The lines that a command prints, given tables, lists of lines, numbers, options and places of files. It is a Fault if the program
+    refuses them.
 
     >>> from dollar import Table
     >>> run("rank", Table([[0, 1], [1, 0]], [2, -1]), 1, "--workers", 2)
@@ -70,8 +70,8 @@ def judge(table: Asked, program: Optional[Place] = None) -> Verdict:
 
 
 def rank(table: Asked, degree: int, program: Optional[Place] = None, *, workers: Optional[int] = None) -> RankTest:
-    """Whether so many dollars can be lost, wherever, and the table still be won. A test past the limits has an answer too if a law or
-    the dual settles it; or else it is a Fault, `too many trials`. `workers` is how many threads share the test.
+    """Whether so many dollars can be lost, no matter where, and the table still be won. A test past the limits has an answer too if a
+    law or the dual settles it; otherwise it is a Fault, `too many trials`. `workers` is the number of threads that share the test.
 
     >>> from dollar import Table
     >>> rank(Table([[0, 1], [1, 0]], [2, -1]), 2)
@@ -114,7 +114,7 @@ def rehearse(table: Asked, steps: Lines, program: Optional[Place] = None) -> His
 
 
 def greedy(table: Asked, turns: int, program: Optional[Place] = None) -> History:
-    """The history of a game in which the first vertex in debt borrows; the last is `won`, or `turns` where its turns were used up."""
+    """The history of a game in which the first vertex in debt borrows; the last is `won`, or `turns` if its turns were used up."""
     file, kept = file_and_table(table)
     lines = printed("greedy", file, str(whole(turns, "the number of turns")), program=program).splitlines()
     used_up = lines[-1:] == ["turns"]
@@ -125,8 +125,8 @@ def greedy(table: Asked, turns: int, program: Optional[Place] = None) -> History
 
 
 def party(table: Asked, *scripts: Lines, cap: Optional[int] = None, program: Optional[Place] = None) -> Party:
-    """What comes of scripts that are played at once, each a list of lines without seats. A session that ends early is told in
-    `faults`; a Fault is raised where nothing was played."""
+    """Plays scripts at the same time: lists of lines, each for a seat and without seats in the lines. `faults` has the sessions that
+    ended early; a Fault is raised if nothing was played."""
     if not scripts:
         raise ValueError("a party has a script at least")
     file, kept = file_and_table(table)

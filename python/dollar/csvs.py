@@ -1,4 +1,4 @@
-"""A CSV file of the answers of a sweep, which can be gone on with after an interrupt."""
+"""A CSV file of the answers of a sweep, which can be continued after an interrupt."""
 
 from __future__ import annotations
 
@@ -63,12 +63,12 @@ def text_of_row(row: List[Any]) -> List[str]:
 
 
 def to_csv(answers: Rows, file: Union[Place, IO[str]], *, go_on: bool = False, progress: bool = False) -> int:
-    """Writes a CSV file of the answers of a sweep, a row for each: the number of the table, from 0, what was found, and in the last
-    column why a table was refused. `file` is its place, or a file that is open for writing. Tells how many rows there are.
+    """Writes a CSV file of the answers of a sweep, a row for each: the number of the table, from 0, the answer, and in the last
+    column why a table was refused. `file` is its place, or a file that is open for writing. Returns the number of rows.
 
-    With `go_on` a file that is there is gone on with after its last whole row, as after an interrupt, by the same sweep from its start.
-    The answers that it has are not asked again, but for the last: if that is another, or the columns are, it is a ValueError. With
-    `progress` a line on standard error tells how many rows there are.
+    With `go_on` an existing file is continued after its last whole row, as after an interrupt, by the same sweep from its start. The
+    answers in it are not asked again, except the last: if that one differs, or the columns do, it is a ValueError. With `progress` a
+    line on standard error counts the rows.
 
     >>> import sys
     >>> from dollar import Table, rr_all

@@ -1,4 +1,4 @@
-"""What is asked about divisors of one graph: effective ones, those that are equivalent, and the check of a rank test."""
+"""Questions about divisors of one graph: effective ones, equivalent ones, and the check of a rank test."""
 
 from __future__ import annotations
 
@@ -24,7 +24,7 @@ def losses(size: int, degree: int) -> Iterator[Tuple[int, ...]]:
 
 
 class EffectiveDivisors:
-    """The effective divisors of a degree, in the order of lists, as tables on one graph. `count` is how many there are.
+    """The effective divisors of a degree, in the order of lists, as tables on one graph. `count` is their number.
 
     >>> found = Table([[0, 1], [1, 0]]).effective_divisors(2)
     >>> found.count, [table.amounts for table in found]
@@ -45,8 +45,8 @@ class EffectiveDivisors:
 
 
 class LinearSystem(EffectiveDivisors):
-    """The complete linear system of a divisor: the effective divisors that are equivalent to it, as tables on its graph. `count` is how
-    many effective divisors of its degree there are: so many verdicts are taken.
+    """The complete linear system of a divisor: the effective divisors that are equivalent to it, as tables on its graph. `count` is
+    the number of effective divisors of its degree: so many verdicts are taken.
 
     >>> found = Table([[0, 1, 1], [1, 0, 1], [1, 1, 0]], [2, 0, 0]).linear_system()
     >>> found.count, [table.amounts for table in found]
@@ -68,11 +68,11 @@ class LinearSystem(EffectiveDivisors):
 
 
 def flaw_of_rank_test(asked: Mapping[str, Any], test: RankTest, program: Optional[Place]) -> Optional[str]:
-    """What is wrong in a rank test, or None where it is right."""
+    """The flaw of a rank test, or None if it is right."""
     table = asked if isinstance(asked, Table) else Table(asked)
     size = len(table.vertices)
     if test.loss is None and not test.holds:
-        return "no loss is told, so that nothing can be checked"
+        return "no loss is given, so nothing can be checked"
     told = None if test.loss is None else table._vertices.amounts(test.loss)
     if told is not None and (min(told) < 0 or sum(told) != test.degree):
         return "the loss is not one of %d dollars" % test.degree
@@ -81,7 +81,7 @@ def flaw_of_rank_test(asked: Mapping[str, Any], test: RankTest, program: Optiona
     for loss, verdict in zip(losses(size, test.degree), verdicts):
         verdict.check()
         if not verdict.winnable:
-            return None if loss == told else "what is left after a loss of %r can't be won" % (dict(table._vertices.keyed(loss)),)
+            return None if loss == told else "the rest after a loss of %r can't be won" % (dict(table._vertices.keyed(loss)),)
         if loss == told:
-            return "what is left after the loss can be won"
+            return "the rest after the loss can be won"
     return None

@@ -239,8 +239,8 @@ def by_names(table: Any, of: Mapping[Any, Thing]) -> Dict[str, Thing]:
 def picture(table: Any, script: Optional[Mapping[Any, int]] = None, order: Sequence[Any] = (),
             places: Optional[Mapping[Any, Point]] = None) -> str:
     """A picture of a table as SVG: each vertex with its name and its dollars, red and hatched if it is in debt, and q with a double ring.
-    Below a vertex stands what the script has it lend or borrow; the numbers are the order in which vertices burn. `places` tells where
-    the vertices stand, x to the right and y down.
+    Below a vertex is how often the script lets it lend or borrow; the other numbers are the order in which vertices burn. `places` has
+    the places of the vertices, x to the right and y down.
 
     >>> from dollar import Table
     >>> picture(Table([[0, 1], [1, 0]], [2, -1])).startswith("<svg ")

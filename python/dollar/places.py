@@ -57,7 +57,7 @@ def places_of_text(text: str, vertices: Collection[str]) -> Places:
         if not words:
             continue
         if len(words) != 3:
-            raise ValueError("line %d of the places: 'name x y' is wanted" % number)
+            raise ValueError("line %d of the places: it has to be 'name x y'" % number)
         name, x, y = words[0], coordinate(words[1]), coordinate(words[2])
         if name not in vertices:
             raise ValueError("line %d of the places: no vertex has the name %.16s" % (number, name))
@@ -66,7 +66,7 @@ def places_of_text(text: str, vertices: Collection[str]) -> Places:
         if name in found:
             raise ValueError("line %d of the places: %s has a place already" % (number, name))
         if (x, y) in found.values():
-            raise ValueError("line %d of the places: another vertex stands there" % number)
+            raise ValueError("line %d of the places: another vertex is there" % number)
         found[name] = x, y
     missing = [name for name in vertices if name not in found]
     if missing:

@@ -1,4 +1,4 @@
-"""Where the program lies, and runs of it."""
+"""Where the program is, and runs of it."""
 
 from __future__ import annotations
 
@@ -17,7 +17,7 @@ from typing import Iterable, Iterator, List, Optional, Sequence, Tuple, Union
 
 Place = Union[str, "os.PathLike[str]"]
 
-# The folder of the clone that holds this package, if it lies in one; with the examples and the board it is installed likewise.
+# The folder of the clone that holds this package, if it is in one.
 CLONE = Path(__file__).resolve().parents[2]
 # How many seconds a page waits for an answer.
 PATIENCE = 120.0
@@ -45,7 +45,7 @@ class Fault(Exception):
 
 
 class ProgramNotFound(FileNotFoundError):
-    """There is no program `dollar` where it was looked for."""
+    """There is no program `dollar` in any of the places that `find_program` tries."""
 
 
 def fault_of(said: bytes, status: int, otherwise: str = "") -> Fault:
@@ -78,8 +78,8 @@ def built() -> str:
 
 
 def find_program(program: Optional[Place] = None) -> str:
-    """The path of the program: the one that is given, or the one that the variable DOLLAR names, or the one that is built in
-    the clone in which this package lies, or the one that was installed with it, or the `dollar` on the PATH.
+    """The path of the program. It is the one that is given, or that the variable DOLLAR names; or the one that is built in this clone
+    or was installed with the package; or the `dollar` on the PATH.
 
     >>> find_program("/nowhere/dollar")
     Traceback (most recent call last):

@@ -36,8 +36,8 @@ class End(NamedTuple):
 
 
 class Ended(Fault):
-    """The session has ended in place of an answer, or had ended before. `text` says why, `fault` is the whole line that the program said,
-    and `answers` how many lines were answered."""
+    """The session has ended instead of giving an answer, or had ended before. `text` says why, `fault` is the whole line that the program
+    said, and `answers` the number of lines that were answered."""
 
     def __init__(self, end: End, answers: int = 0) -> None:
         super().__init__(fault_of(end.fault.encode(), end.status, ended_by(end.status, answers)).text, end.status)
@@ -48,7 +48,7 @@ class Ended(Fault):
 
 
 def one_line(line: str) -> bytes:
-    """The bytes of a line, which is given without its newline. A ValueError where that is no line of a session."""
+    """The bytes of a line, which is given without its newline. A ValueError if that is not a line of a session."""
     if not isinstance(line, str):
         raise TypeError("a line is a text, and not %r" % (line,))
     if "\n" in line:
@@ -56,7 +56,7 @@ def one_line(line: str) -> bytes:
     try:
         sent = line.encode()
     except UnicodeEncodeError:
-        raise ValueError("a line has half of a character in it") from None
+        raise ValueError("a line has half a character in it") from None
     if len(sent) > LONGEST_LINE:
         raise ValueError("a line has more than %d bytes" % LONGEST_LINE)
     return sent
@@ -101,7 +101,7 @@ class Keeping:
                 self.file.write(first)
         except BlockingIOError:
             self.file.close()
-            raise ValueError("%s keeps the game of a session that goes on" % os.fspath(place)) from None
+            raise ValueError("%s keeps the game of a session that still runs" % os.fspath(place)) from None
         except BaseException:
             self.file.close()
             raise
@@ -125,8 +125,8 @@ class Session:
     """A session on a table: a line is asked, and answered before the next. With `seats` it is one for many people, where each line
     has the number of a seat before it, and each seat keeps a look of its own.
 
-    It may be used with `with` and without; any thread may ask. A line and its answer belong together, whatever comes in between:
-    each exchange is made as a whole, so that an interrupt while an answer is waited for leaves nothing unread.
+    It may be used with `with` and without; any thread may ask. A line and its answer belong together, even if an interrupt comes in
+    between: each exchange is made as a whole, so that nothing is left unread.
 
     >>> from dollar import Table
     >>> with Session(Table([[0, 1], [1, 0]], [2, -1])) as session:
@@ -137,7 +137,7 @@ class Session:
     bad word
     2 won
 
-    A line of a stranger that is no line is a ValueError, and is not sent:
+    A line of a stranger that is not a line is a ValueError, and is not sent:
 
     >>> session = Session(Table([[0, 1], [1, 0]], [2, -1]), cap=1)
     >>> session.ask("look\\nclaim")
@@ -145,7 +145,7 @@ class Session:
         ...
     ValueError: a line has a newline in it
 
-    A session that ends in place of an answer is told by `Ended`, and so is each line that is asked after that:
+    If the session ends instead of giving an answer, that is an `Ended`, and so is each later line:
 
     >>> session.ask("claim").word
     'not won'
@@ -156,11 +156,11 @@ class Session:
     >>> session.close()
     End(status=3, fault='dollar: the history is full')
 
-    `cap` is how many entries the history may have, and `workers` how many threads share a rank test. A program that says nothing for
-    `patience` seconds is killed, and `TimeoutError` raised; with None it is waited for without an end.
+    `cap` is the most entries that the history may have, and `workers` the number of threads that share a rank test. A program that says
+    nothing for `patience` seconds is killed, and `TimeoutError` raised; with None there is no such limit.
 
-    With `keep` each entry is written to a file before it is told, and a session on the same table goes on from that file: `kept` are the
-    entries that it had. The file has the table in its first line, and then each line that made an entry, and the entry below it.
+    With `keep` each entry is written to a file before you get it, and a session on the same table goes on from that file: `kept` are the
+    entries in it. The file has the table in its first line, and then each line that made an entry, and the entry below it.
     """
 
     def __init__(self, table: Asked, *options: object, seats: Optional[int] = None, cap: Optional[int] = None,
@@ -216,8 +216,8 @@ class Session:
             raise Ended(end, self.answers)
 
     def ask(self, line: str) -> Entry:
-        """The answer to a line, which is given without its newline. A ValueError where it is no line, or has more than 1,024 bytes;
-        then nothing is sent. `Ended` where the session ends instead."""
+        """The answer to a line, which is given without its newline. A ValueError if it is not a line, or has more than 1,024 bytes; then
+        nothing is sent. `Ended` if the session ends instead."""
         sent = one_line(line)
         with self.turn:
             return self._entry(line, self.ask_bytes(sent))
@@ -227,7 +227,7 @@ class Session:
         return self.ask("%d %s" % (whole(seat, "a seat"), line))
 
     def ask_bytes(self, line: bytes) -> str:
-        """The text of the answer to a line as bytes, whatever they are but a newline."""
+        """The text of the answer to a line as bytes, any but a newline."""
         if b"\n" in line:
             raise ValueError("a line has a newline in it")
         if os.getpid() != self.process:
@@ -242,7 +242,7 @@ class Session:
         raise Ended(end, self.answers)
 
     def close(self) -> End:
-        """Ends the input, which ends the session. Tells how it has ended, the same at each call."""
+        """Ends the input, which ends the session. Returns how it has ended, the same at each call."""
         with self.turn:
             return self.ended or self._in_time(self._end)
 
@@ -297,7 +297,7 @@ class Session:
 
 
 class AsyncSession:
-    """A session for programs that use asyncio: its calls are those of `Session`, and are awaited. A task that is cancelled while it waits
+    """A session for programs that use asyncio: it has the calls of `Session`, which are awaited. A task that is cancelled while it waits
     leaves the session in step.
 
     >>> import asyncio
@@ -328,5 +328,5 @@ class AsyncSession:
         return await asyncio.to_thread(self.session.ask_seat, seat, line)
 
     async def close(self) -> End:
-        """Ends the session, and tells how it has ended."""
+        """Ends the session, and returns how it has ended."""
         return await asyncio.to_thread(self.session.close)

@@ -245,14 +245,14 @@ class Answers(Generic[Found, Told, OfNumpy, OfArray], Iterator[Found]):
             raise ValueError("the sweep was interrupted, and has no more answers") from None
 
     def close(self) -> None:
-        """Ends the sweep, whatever it is doing."""
+        """Ends the sweep, no matter what it is doing."""
         self._over.append(True)
         if self._found is None:
             self._found = iter(())
         getattr(self._found, "close", int)()
 
     def skip(self, count: int) -> None:
-        """Leaves out the first tables: they are taken, and not asked about. Numbers are counted as before."""
+        """Leaves out the first tables: they are taken, but not asked about. The numbers of the others stay the same."""
         if self._found is not None:
             raise ValueError("the sweep has begun")
         self._skipped += sum(1 for _ in itertools.islice(self._job.lines.one_by_one, count))
@@ -267,9 +267,9 @@ class Answers(Generic[Found, Told, OfNumpy, OfArray], Iterator[Found]):
     def columns(self, kind: Literal["array"]) -> OfArray: ...
 
     def columns(self, kind: Optional[str] = None) -> Any:
-        """All answers at once, as columns: arrays of numpy if it is here, and else of the module `array`; or those of the kind that is
-        asked for. Columns have no place for what is not there: a divisor that is refused, or a rank past the limits, is raised as a
-        Fault, whose `table` is its number.
+        """All answers at once, as columns: arrays of numpy if it is installed, and else of the module `array`; or of the kind that is asked
+        for. Columns have no place for a missing answer: a divisor that is refused, or a rank past the limits, is raised as a Fault, whose
+        `table` is its number.
 
         >>> found = judge_all(Table([[0, 2], [2, 0]]), divisors=[[3, -1], [0, -1]]).columns()
         >>> list(map(bool, found.winnable)), list(map(int, found.script[1])), list(map(int, found.reduced[0]))
@@ -281,7 +281,7 @@ class Answers(Generic[Found, Told, OfNumpy, OfArray], Iterator[Found]):
             raise ValueError("columns are of the kind 'numpy' or 'array', and not %r" % (kind,))
         numpy = None if kind == "array" else numpy_or_none()
         if kind == "numpy" and numpy is None:
-            raise ImportError("columns of numpy are asked for, and numpy is not here")
+            raise ImportError("columns of numpy are asked for, and numpy is not installed")
         job, columns = self._job, self._columns(self._job.lines.vertices, numpy)
         self.close()
         sweep = Sweep(job.lines.words, job.lines.by_batches, job.program)
@@ -360,11 +360,11 @@ def judge_all(tables: Tables, program: Optional[Place] = None, *, workers: Optio
               progress: bool = False) -> Verdicts[Any]:
     """The verdicts on the tables, in order, as they come.
 
-    The tables may be any number, and come from anywhere: they are taken in the thread of the caller, some ahead of their answers, or
-    at most `ahead`: with `ahead=1` each is answered before the next is taken. A table that is refused has a `RefusedVerdict` in the
-    place of its answer, or with `errors="raise"` is raised as a Fault, whose `table` is its number, from 0. `workers` is how many
-    threads the program shares the tables among, up to 16, which changes no answer, and helps if the program takes longer than Python.
-    With `progress` a line on standard error tells how many there are.
+    There may be any number of tables, from any source. They are taken in the thread of the caller, some ahead of their answers, or at
+    most `ahead`: with `ahead=1` each is answered before the next is taken. A table that is refused has a `RefusedVerdict` in the place
+    of its answer, or with `errors="raise"` is raised as a Fault, whose `table` is its number, from 0. `workers` is the number of threads
+    that share the tables, up to 16, which changes no answer, and helps if the program takes longer than Python. With `progress` a line
+    on standard error counts the answers.
 
     >>> from dollar import Table
     >>> pair = Table([[0, 2], [2, 0]])
@@ -372,8 +372,8 @@ def judge_all(tables: Tables, program: Optional[Place] = None, *, workers: Optio
     [False, False, True, True]
 
     With `divisors` the first parameter is one table, and each of them has amounts for it, as a list in the order of the vertices or
-    as a dict; or they are an array of numpy or a frame of pandas, whose rows they are. The answers are those for the table with these
-    amounts, at a small part of the cost. `columns()` of what is given back has them as arrays.
+    as a dict. They may also be an array of numpy or a frame of pandas, a row each. The answers are the same as for the table with these
+    amounts, at a small part of the cost. `columns()` of the result has them as arrays.
 
     >>> [verdict.winnable for verdict in judge_all(pair, divisors=([amount, -1] for amount in range(4)))]
     [False, False, True, True]
@@ -398,7 +398,7 @@ def rank_all(tables: Tables, degree: int, program: Optional[Place] = ..., *, wor
 def rank_all(tables: Tables, degree: int, program: Optional[Place] = None, *, workers: Optional[int] = None, errors: str = "row",
              divisors: Optional[Iterable[Dollars]] = None, ahead: Optional[int] = None,
              progress: bool = False) -> RankTests[Any]:
-    """The rank tests of a degree, as `judge_all` has verdicts. One past the limits that a law settles has no first loss.
+    """The rank tests of a degree, as `judge_all` has verdicts. If a law settles a test past the limits, it has no first loss.
 
     >>> from dollar import Table
     >>> pair = Table([[0, 1], [1, 0]])

@@ -77,7 +77,7 @@ def edge_weight(u: Any, v: Any, weight: Any) -> int:
     what = "the weight of the edge from %s to %s" % (u, v)
     count = whole(weight, what)
     if count < 1:
-        raise ValueError("%s is no number of edges: %d" % (what, count))
+        raise ValueError("%s is not a number of edges: %d" % (what, count))
     return count
 
 
@@ -96,7 +96,7 @@ def merged(vertices: Iterable[Any], edges: Iterable[Tuple[Any, Any, int]]) -> Li
 
 
 def of_networkx(graph: Any) -> Multigraph:
-    """The multigraph of a graph of networkx, or of whatever has its `nodes` and `edges`."""
+    """The multigraph of a graph of networkx, or of anything that has its `nodes` and `edges`."""
     vertices = list(graph.nodes)
     if callable(graph.edges):
         edges = [(u, v, edge_weight(u, v, data.get("weight", 1))) for u, v, data in graph.edges(data=True)]
@@ -196,7 +196,7 @@ def of_members(table: Any) -> Multigraph:
     vertices, edges = list(table["vertices"]), []
     for at, edge in enumerate(table["edges"]):
         if isinstance(edge, str) or len(edge) != 3:
-            raise ValueError("edge %d is no list of two names and a number: %r" % (at, edge))
+            raise ValueError("edge %d is not a list of two names and a number: %r" % (at, edge))
         edges.append((edge[0], edge[1], edge_weight(*edge)))
     merged(vertices, edges)
     return Multigraph(vertices, edges, list(table["amounts"]), table["q"])
@@ -208,13 +208,13 @@ def of_graph6(line: Union[str, bytes]) -> Multigraph:
     text = re.sub("^>>graph6<<", "", text.rstrip("\r\n"))
     codes = [ord(letter) - 63 for letter in text]
     if not codes or not all(0 <= code < 64 for code in codes):
-        raise ValueError("no line of graph6: %r" % text)
+        raise ValueError("not a line of graph6: %r" % text)
     size, pairs = codes[0], [(u, v) for v in range(codes[0]) for u in range(v)]
     if size == 63:
         raise ValueError("the graph has more than 62 vertices, and a table has at most 16")
     bits = [code >> at & 1 for code in codes[1:] for at in range(5, -1, -1)]
     if len(codes) - 1 != (len(pairs) + 5) // 6 or any(bits[len(pairs):]):
-        raise ValueError("no line of graph6: %r" % text)
+        raise ValueError("not a line of graph6: %r" % text)
     return Multigraph(list(range(size)), [(u, v, 1) for (u, v), bit in zip(pairs, bits) if bit])
 
 
@@ -240,15 +240,15 @@ def multigraph(thing: Any) -> Multigraph:
 
 
 class Table(AbstractMapping[str, Any]):
-    """A graph, the dollars at its vertices, and the vertex q from which verdicts are reckoned. A table can't be changed.
+    """A graph, the dollars at its vertices, and the vertex q from which verdicts are computed. A table can't be changed.
 
     It is made of a graph of networkx, which may be a MultiGraph; a Graph, a Sandpile or a SandpileDivisor of Sage; an adjacency
     matrix; another table; or the members of a table file as a dict. `Table.read` reads a file, and `Table.graph6` a line of graph6.
 
     The amounts are a list in the order of the vertices, or a dict by vertices; a vertex that is not in it has 0 dollars. If they are
-    not given, they are those of what was given, or else all 0. q is the first vertex where neither says another.
+    not given, they are taken from the first parameter, or else all 0. q is the first vertex if neither says another.
 
-    A table keeps the vertices that it was made of: they are the keys of amounts, scripts and answers. A text is a key too where it
+    A table keeps the vertices that it was made of: they are the keys of amounts, scripts and answers. A text is a key too if it
     means one vertex. The name of a vertex, by which the program knows it, is its text, unless `names` is a function that gives it
     another.
 
@@ -262,7 +262,7 @@ class Table(AbstractMapping[str, Any]):
     >>> Table(table, {"b": 5}, "b").amounts
     (0, 5)
 
-    What would have to be dropped or rounded is an error: a TypeError where a number is no whole number, and else a ValueError.
+    Nothing is dropped or rounded: a number that isn't whole is a TypeError, anything else that doesn't fit a ValueError.
 
     >>> Table(table, {"c": 5})
     Traceback (most recent call last):
@@ -271,7 +271,7 @@ class Table(AbstractMapping[str, Any]):
     >>> Table(table, {"a": 1.7})
     Traceback (most recent call last):
         ...
-    TypeError: the amount of vertex a is no whole number: 1.7
+    TypeError: the amount of vertex a is not a whole number: 1.7
     """
 
     __slots__ = ("_amounts", "_edges", "_q", "_vertices")
@@ -336,7 +336,7 @@ class Table(AbstractMapping[str, Any]):
 
     @property
     def q(self) -> Vertex:
-        """The vertex from which verdicts are reckoned."""
+        """The vertex from which verdicts are computed."""
         return self._vertices.given[self._q]
 
     @property
@@ -359,7 +359,7 @@ class Table(AbstractMapping[str, Any]):
 
     @property
     def genus(self) -> int:
-        """The genus of the graph: its edges less its vertices, and 1.
+        """The genus of the graph: its edges minus its vertices, plus 1.
 
         >>> Table([[0, 3], [3, 0]]).genus
         2
@@ -367,7 +367,7 @@ class Table(AbstractMapping[str, Any]):
         return sum(count for _, _, count in self._edges) - len(self._amounts) + 1
 
     def canonical(self) -> Table:
-        """The canonical divisor K: at each vertex its edges less 2.
+        """The canonical divisor K: at each vertex its edges minus 2.
 
         >>> Table([[0, 3], [3, 0]]).canonical().amounts
         (1, 1)
@@ -387,7 +387,7 @@ class Table(AbstractMapping[str, Any]):
         return self.canonical() - self
 
     def reduced(self, q: Optional[Vertex] = None, program: Optional[Place] = None) -> Table:
-        """The divisor that is equivalent to this one and reduced at q, which is the table's where no other is given.
+        """The divisor that is equivalent to this one and reduced at q, which is the table's if no other is given.
 
         >>> Table([[0, 1], [1, 0]], [2, -1]).reduced(1).amounts
         (0, 1)
@@ -434,7 +434,7 @@ class Table(AbstractMapping[str, Any]):
         """
         script = self._script_to(other, program)
         if script is None:
-            raise ValueError("the divisors are not equivalent, so that no script leads from one to the other")
+            raise ValueError("the divisors are not equivalent, so no script leads from one to the other")
         return self._vertices.keyed(script)
 
     def _script_to(self, other: Union[Table, Dollars], program: Optional[Place]) -> Optional[Tuple[int, ...]]:
@@ -463,7 +463,7 @@ class Table(AbstractMapping[str, Any]):
         return rank
 
     def effective_divisors(self, degree: int) -> EffectiveDivisors:
-        """The effective divisors of a degree on the graph, as tables, in the order of lists; `count` of it is how many there are.
+        """The effective divisors of a degree on the graph, as tables, in the order of lists; its `count` is their number.
 
         >>> found = Table([[0, 1], [1, 0]]).effective_divisors(2)
         >>> found.count, [table.amounts for table in found]
@@ -474,7 +474,7 @@ class Table(AbstractMapping[str, Any]):
         return EffectiveDivisors(self, whole(degree, "the degree"))
 
     def linear_system(self, program: Optional[Place] = None) -> LinearSystem:
-        """The effective divisors that are equivalent to this one, as tables, by one sweep; `count` of it is how many verdicts that takes.
+        """The effective divisors that are equivalent to this one, as tables, by one sweep; its `count` is the number of verdicts that takes.
 
         >>> found = Table([[0, 1, 1], [1, 0, 1], [1, 1, 0]], [2, 0, 0]).linear_system()
         >>> found.count, [table.amounts for table in found]

@@ -17,12 +17,12 @@ NAME = re.compile(r"[A-Za-z0-9_]{1,16}", re.ASCII)
 
 
 def whole(number: object, what: str) -> int:
-    """A whole number as an int. A TypeError names what it is if it is none, be it as near to one as it may.
+    """A whole number as an int. Anything else is a TypeError, no matter how near to a whole number it is.
 
     >>> whole(1.0, "the amount of vertex a")
     Traceback (most recent call last):
         ...
-    TypeError: the amount of vertex a is no whole number: 1.0
+    TypeError: the amount of vertex a is not a whole number: 1.0
     """
     try:
         # What is true or false is a number for Python, and none for the program.
@@ -30,7 +30,7 @@ def whole(number: object, what: str) -> int:
             return int(operator.index(number))  # type: ignore[arg-type]
     except TypeError:
         pass
-    raise TypeError("%s is no whole number: %r" % (what, number))
+    raise TypeError("%s is not a whole number: %r" % (what, number))
 
 
 def is_whole(thing: object) -> bool:

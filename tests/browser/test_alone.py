@@ -13,8 +13,8 @@ from helpers import equal, expect, tests_of
 
 RANDOM_LINES, LONG = 80, 60_000
 NO_LOOK = "This seat has not looked since its last verdict. It looks first."
-TOO_MANY = "The command has too many words or too few, or a space too many."
-NO_NAME, NO_WORD = "It names a vertex that is not there, or one twice.", "That is no command."
+TOO_MANY = "The command has too many words or too few, or an extra space."
+NO_NAME, NO_WORD = "It names a vertex that is not there, or one twice.", "There is no such command."
 # Seconds that a line takes on the page, from its click until it is drawn, at the median.
 MEDIAN = """(async () => {
   const took = [];
@@ -228,7 +228,7 @@ def with_refusals(player):
     """What the program refuses is told in words and in its own, and changes nothing."""
     for line, words, own in (
             ("lend zoe", NO_NAME, "bad name"), ("jump", NO_WORD, "bad word"), ("lend", TOO_MANY, "bad form"),
-            ("gift ann 1.5", "A number in it is none, or out of range.", "bad number"), ("<b>x</b>", NO_WORD, "bad word"),
+            ("gift ann 1.5", "A number in it is missing, badly written or out of range.", "bad number"), ("<b>x</b>", NO_WORD, "bad word"),
             ("rank 99999", NO_LOOK, "bad look"), ("", NO_WORD, "bad word"), ("look now " + "x" * 200, TOO_MANY, "bad form"),
             ("look now " + "x" * 2000, "The line is too long.", "long line"), ("lend \u00e4nn", NO_NAME, "bad name")):
         said = player.refused(player.value, f"void play({json.dumps(line)})")
@@ -317,7 +317,7 @@ def with_fire(player):
     player.until("$$('#told-fire li').length === 5")
     lines = player.value("texts('#told-fire li')")
     equal([line.split(" ")[0] for line in lines], ["ann", "bob", "dan", "cyd", "All"], "the order of the fire")
-    equal(lines[1], "bob burns: if bob, cyd and dan lent at once, bob would owe. So it is no giver.", "why bob burns")
+    equal(lines[1], "bob burns: if bob, cyd and dan lent at once, bob would owe. So it isn't a giver.", "why bob burns")
     equal(player.value("viewer.board.burnt"), ["ann", "bob", "dan", "cyd"], "who burns on the board")
     equal(player.value("texts('#board .amount')"), ["-1", "0", "1", "1"], "the amounts under the fire")
     equal(player.text("#answer"), "In debt: ann owes 1.", "what is told beside the fire")
@@ -334,7 +334,7 @@ def with_fire(player):
 
 
 NO_TABLES = [
-    ("{", "This is no table file", "not JSON"), ("{}", "A table needs just these four", "shape of top"),
+    ("{", "This isn't a table file", "not JSON"), ("{}", "A table needs just these four", "shape of top"),
     ('{"vertices":["a","b"],"edges":[],"amounts":[0,0],"q":"a"}', "Some vertices can't be reached", "not connected"),
     ('{"vertices":["<img src=x onerror=window.pwned=1>"],"edges":[],"amounts":[0],"q":"a"}', "Vertex 1 needs another name.",
      "name of vertex 0"),

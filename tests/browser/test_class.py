@@ -136,7 +136,7 @@ def from_elsewhere(place, line, host):
 def of_another_form(place, ann, line):
     """What is no line, or no JSON."""
     text = place.ask("POST", "line", line, {"Content-Type": "text/plain"})
-    equal(text, (400, "the request is no JSON"), "a form of another page")
+    equal(text, (400, "the request is not JSON"), "a form of another page")
     for text, words in (
             ("claim\nlook", "A line has no newline in it."), ("x" * 1023, "A line has at most 1024 bytes."),
             ("\u00e4" * 512, "A line has at most 1024 bytes."), ("x" * 20000, "the request is too long")):
@@ -206,7 +206,7 @@ def keeping(folder):
     ann = Pupil(pupils, "ann")
     statuses = [ann.play(line)[0] for line in ("look", "gift ann 1", "look", "lend zoe", "lend ann")]
     equal(statuses, [200] * 5, "lines that are kept")
-    refused(command, "is kept by a command that goes on", stdin=subprocess.DEVNULL)
+    refused(command, "is in use by a command that still runs", stdin=subprocess.DEVNULL)
     equal((kept / "class.json").stat().st_mode & 0o777, 0o600, "who can read the keys")
     ann.leave()
     child.kill()
@@ -226,8 +226,8 @@ def keeping(folder):
         equal([json.loads(line) for line in before.splitlines()], entries, "the record of a kept game")
         bob.leave()
     for text, word in (
-            ('[9, "look", "0 looked", "ann"]\n' + before, "no seat"), ('[1, "claim", "0 won", "ann"]\n' + before, "as it did"),
-            ('[7, "ann"]\n' + before, "no record"), ("7\n" + before, "no record"), ("{\n" + before, "no record")):
+            ('[9, "look", "0 looked", "ann"]\n' + before, "seat is not from 1 to 3"), ('[1, "claim", "0 won", "ann"]\n' + before, "as it did"),
+            ('[7, "ann"]\n' + before, "not a record"), ("7\n" + before, "not a record"), ("{\n" + before, "not a record")):
         written(folder, record, text)
         refused(command, word, stdin=subprocess.DEVNULL)
         equal(text_of(record), text, "a record of a game that is not gone on with")

@@ -48,7 +48,7 @@ def with_entries(lesson):
     ann.has(5)
     equal(ann.value("viewer.now"), 1, "who walks in the history is left there")
     ann.press("End")
-    for text, words in (("x" * 1100, "at most 1024 bytes"), ("a\\nb", "no newline"), ("2 look", "That is no command.")):
+    for text, words in (("x" * 1100, "at most 1024 bytes"), ("a\\nb", "no newline"), ("2 look", "There is no such command.")):
         ann.value(f"void play('{text}')")
         ann.until(f"$('#refused').textContent.includes({json.dumps(words)})")
     equal(desk.value("viewer.game.length"), 5, "the steps on the teacher's page")

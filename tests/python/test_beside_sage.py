@@ -33,11 +33,11 @@ REFUSED = [
     (lambda: Table(sage_all.DiGraph([(0, 1)])), ValueError, "a directed graph"),
     (lambda: Table(sandpiles.Sandpile({0: {1: 1}, 1: {0: 2}}, 0)), ValueError, "from 0 to 1 there are 1 edges, and 2 back"),
     (lambda: Table(sage_all.Graph([(0, 1, 3)])), ValueError, "the edge from 0 to 1 has the label 3"),
-    (lambda: Table(sage_all.Graph([(0, 1, 1.5)], weighted=True)), TypeError, "the weight of the edge from 0 to 1 is no whole number"),
+    (lambda: Table(sage_all.Graph([(0, 1, 1.5)], weighted=True)), TypeError, "the weight of the edge from 0 to 1 is not a whole number"),
     (lambda: Table(sage_all.Graph([(0, 0)], loops=True)), ValueError, "the edge from 0 to 0 is a loop"),
     (lambda: Table(sandpiles.sandpiles.Cycle(4).max_stable()), ValueError, "a configuration has none at the sink"),
-    (lambda: Table(sage_all.graphs.PathGraph(2), [sage_all.QQ(1) / 2, 0]), TypeError, "the amount of vertex 0 is no whole number: 1/2"),
-    (lambda: Table(sage_all.graphs.PathGraph(2), [sage_all.RDF(1), 0]), TypeError, "the amount of vertex 0 is no whole number: 1.0"),
+    (lambda: Table(sage_all.graphs.PathGraph(2), [sage_all.QQ(1) / 2, 0]), TypeError, "the amount of vertex 0 is not a whole number: 1/2"),
+    (lambda: Table(sage_all.graphs.PathGraph(2), [sage_all.RDF(1), 0]), TypeError, "the amount of vertex 0 is not a whole number: 1.0"),
 ]
 
 

@@ -116,7 +116,7 @@ class OfAClusterOfTwo(Test):
         self.swept("judge", ring, "--divisors", lines, divided)
         ring_2 = self.place / "ring_2.json"
         ring_2.write_text(json.dumps(Table(RING, q="b").to_dict()))
-        for words, row in ((["judge", other, kept], "row 51 of "), (["rr", few, kept], "no CSV file of this sweep"),
+        for words, row in ((["judge", other, kept], "row 51 of "), (["rr", few, kept], "not a CSV file of this sweep"),
                            (["judge", ring, "--divisors", lines, kept], "row 1 of "), (["judge", ring_2, "--divisors", lines, divided], "row 1 of ")):
             size = os.path.getsize(words[-1])
             with self.assertRaisesRegex(ValueError, row + ".*; nothing was changed"):

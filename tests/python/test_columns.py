@@ -100,7 +100,7 @@ class OfColumns(Test):
                                  if given is with_numpy else [sum(column) for column in zip(*found.reduced.values())], list(map(sum, rows)))
             self.assertEqual([v.judged().amounts for v in dollar.judge_all(RING, divisors=frame)], list(map(tuple, rows)))
             for wrong in (array.astype(float), frame.astype(float), array > 0, array.astype(object) * 1.0):
-                with self.assertRaisesRegex(TypeError, "divisor 0: the amount of vertex v0 is no whole number"):
+                with self.assertRaisesRegex(TypeError, "divisor 0: the amount of vertex v0 is not a whole number"):
                     dollar.judge_all(RING, divisors=wrong).columns()
             for labels in ([0, 1, 2, 2], [0, 1, 2, 4], [0, 1, 2]):
                 with self.assertRaises(ValueError):

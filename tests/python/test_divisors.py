@@ -133,7 +133,7 @@ class OfDivisors(Test):
             dollar.rr(Table(complete(16), [7] * 15 + [6]))
         path = Table([[0, 1], [1, 0]], [1500, 0])
         self.assertEqual((str(dollar.rank(path, 1200)), str(dollar.rank(path, 1501))), ("rank at least 1200", "rank below 1501 at ?"))
-        with self.assertRaisesRegex(ValueError, "no loss is told"):
+        with self.assertRaisesRegex(ValueError, "no loss is given"):
             dollar.rank(path, 1501).check()
 
     def test_rr_takes_what_a_file_may_be(self):

@@ -77,7 +77,7 @@ class OfKeptGames(Test):
         place = self.folder() / "game"
         with Session(TABLE, keep=place) as session:
             session.ask("look")
-            with self.assertRaisesRegex(ValueError, "keeps the game of a session that goes on"):
+            with self.assertRaisesRegex(ValueError, "keeps the game of a session that still runs"):
                 Session(TABLE, keep=place)
         for table, text in ((dict(TABLE, q="b"), "keeps a game on another table"), (TABLE, "keeps a game that this program and table do not")):
             before = place.read_bytes()

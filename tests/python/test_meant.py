@@ -40,9 +40,9 @@ REFUSED = [
     (lambda: Table(PATH, 3), TypeError, "amounts are a list .* and not 3"),
     (lambda: list(dollar.judge_all(PATH, divisors=[b"\x02\x01\x00"])), TypeError, "divisor 0: amounts are a list"),
     (lambda: list(dollar.judge_all(PATH, divisors=[2, -1, -1])), TypeError, "divisor 0: amounts are a list .* and not 2"),
-    (lambda: list(dollar.judge_all(PATH, divisors=[[1, 2, 3], [1, True, 3]])), TypeError, "divisor 1: the amount of vertex 1 is no whole"),
-    (lambda: dollar.judge_all(PATH, divisors=[[1, 2, 3], [1, True, 3]]).columns(), TypeError, "divisor 1: the amount of vertex 1 is no whole"),
-    (lambda: dollar.judge_all(PATH, divisors=[[1, 2, 3], [1, 2.0, 3]]).columns(), TypeError, "divisor 1: the amount of vertex 1 is no whole"),
+    (lambda: list(dollar.judge_all(PATH, divisors=[[1, 2, 3], [1, True, 3]])), TypeError, "divisor 1: the amount of vertex 1 is not a whole"),
+    (lambda: dollar.judge_all(PATH, divisors=[[1, 2, 3], [1, True, 3]]).columns(), TypeError, "divisor 1: the amount of vertex 1 is not a whole"),
+    (lambda: dollar.judge_all(PATH, divisors=[[1, 2, 3], [1, 2.0, 3]]).columns(), TypeError, "divisor 1: the amount of vertex 1 is not a whole"),
     (lambda: dollar.judge_all(PATH, divisors=[[1, 2, 3], [1, 2]]).columns(), ValueError, "divisor 1: there are 2 amounts for 3 vertices"),
     (lambda: Table(PATH, {True: 5}), ValueError, "there is no vertex True"),
     (lambda: Table(PATH, {1.0: 5}), ValueError, "there is no vertex 1.0"),
@@ -61,7 +61,7 @@ REFUSED = [
     (lambda: dollar.rank(TRIANGLE, -1), Fault, "the degree of a rank test is at least 0, and not -1"),
     (lambda: Table(TRIANGLE) + [1, 2], ValueError, "there are 2 amounts for 3 vertices"),
     (lambda: Table(TRIANGLE) + Table([[0, 1, 1], [1, 0, 1], [1, 1, 0]]), ValueError, "the two divisors are on different graphs"),
-    (lambda: 1.5 * Table(TRIANGLE), TypeError, "how often a divisor is taken is no whole number: 1.5"),
+    (lambda: 1.5 * Table(TRIANGLE), TypeError, "how often a divisor is taken is not a whole number: 1.5"),
     (lambda: dollar.judge_all([], ahead=0), ValueError, "at least one table is taken ahead"),
 ]
 
@@ -112,7 +112,7 @@ class OfMeanings(Test):
             sparse = networkx.adjacency_matrix(graph)
         self.assertTrue(Table(sparse) == Table(networkx.to_numpy_array(graph, dtype=int)) == made)
         self.assertEqual(Table(numpy.matrix(networkx.to_numpy_array(graph, dtype=int))), made)
-        with self.assertRaisesRegex(TypeError, "is no whole number: 0.0"):
+        with self.assertRaisesRegex(TypeError, "is not a whole number: 0.0"):
             Table(networkx.to_numpy_array(graph))
 
     def test_a_table_comes_back_from_networkx_as_it_was(self):

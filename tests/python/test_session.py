@@ -161,7 +161,7 @@ class OfSessions(Test):
                 with self.assertRaisesRegex(TypeError, "a line is a text"):
                     session.ask(line)
             for seat in ("1 look\n2", 1.5, None):
-                with self.assertRaisesRegex(TypeError, "a seat is no whole number"):
+                with self.assertRaisesRegex(TypeError, "a seat is not a whole number"):
                     session.ask_seat(seat, "look")
             with self.assertRaisesRegex(ValueError, "newline"):
                 session.ask_bytes(b"1 look\n1 look")

@@ -182,7 +182,7 @@ async def made(make):
 
 
 async def run(*words):
-    """What the program says: its status, its answer and its fault. A word as bytes stands for a file."""
+    """The program's status, its answer and its fault. A word as bytes stands for a file."""
     try:
         out, said, status = await asyncio.to_thread(call, words, None, PATIENCE)
     except (OSError, ValueError) as error:

@@ -453,7 +453,7 @@ class Classroom:
             for room in list(self.rooms.values()):
                 await room.again()
         except (OSError, ValueError, Fault) as error:
-            raise Refused(503, "The game can't be begun again: %s." % error) from None
+            raise Refused(503, "The game can't be restarted: %s." % error) from None
         self.over = False
 
     async def hand_out(self, given):

@@ -54,7 +54,7 @@ def items_in(place, lines, seats):
     if not fine:
         raise ValueError("%s is not a record of a game" % place)
     if not used <= set(range(1, seats + 1)):
-        raise ValueError("%s has a step of no seat from 1 to %d" % (place, seats))
+        raise ValueError("%s has a step whose seat is not from 1 to %d" % (place, seats))
     return items
 
 
@@ -68,7 +68,7 @@ class Keeper:
         try:
             fcntl.flock(self.lock, fcntl.LOCK_EX | fcntl.LOCK_NB)
         except OSError:
-            raise ValueError("%s is kept by a command that goes on" % folder) from None
+            raise ValueError("%s is in use by a command that still runs" % folder) from None
         self.found = json.loads(read(self.place(CLASS)) or "{}")
 
     def place(self, *names):

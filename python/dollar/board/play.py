@@ -4,19 +4,19 @@
     dollar board FILE .. --class N [--rooms K] [--host ADDRESS] [--keep FOLDER]
 
 opens the table of FILE, or the first example: a click lends, shift-click borrows, and the program says whether it can be won.
-Ctrl-D or Ctrl-C ends it. The server answers this machine alone, and only who knows the address that is printed.
+Ctrl-D or Ctrl-C ends it. Only this machine can reach the server, and only with the address that is printed.
 
-With --class N it is for a class of up to 64 pupils: who opens the pupils' address gets a seat. All share one table, or with --rooms K
-there is one for each K pupils. The teacher's page hands out the next table: one of the files, a graph, a puzzle. With --host ADDRESS, one
-of this machine's addresses or 0.0.0.0 for all of them, other machines of the network can open it. With --name NAME, which may end with
-a port, it also answers to that name: of this machine, or of a tunnel that leads here. With --teacher-here the teacher's page can be
-opened on this machine alone.
+With --class N it is for a class of N pupils, at most 64: everybody who opens the pupils' address gets a seat. All share one table, or
+with --rooms K there is one for each K pupils. The teacher's page hands out the next table: one of the files, a graph, a puzzle. With
+--host ADDRESS, one of this machine's addresses or 0.0.0.0 for all of them, other machines of the network can open it. With --name NAME,
+which may end with a port, it also answers to that name: the name of this machine, or of a tunnel that leads here. With --teacher-here
+the teacher's page can be opened on this machine alone.
 
 With --keep FOLDER the class is kept in that folder while it goes on, with its addresses, its names and its games. The same command
-goes on with it, whatever ended the first.
+goes on with it, no matter what ended the first.
 
-With --places PLACES the vertices stand where the lines 'name x y' of a file say; x goes to the right, and y down. With --no-browser
-no browser is opened, and with --port PORT the address has that port. In a clone `board/play` is short for all this."""
+With --places PLACES each line 'name x y' of a file is the place of a vertex; x goes to the right, and y down. With --no-browser no
+browser is opened, and with --port PORT the address has that port. In a clone `board/play` is short for `python3 -m dollar board`."""
 import argparse
 import asyncio
 import os
@@ -43,16 +43,16 @@ def arguments(words):
     usage, _, more = __doc__.partition("\n\n")
     parser = argparse.ArgumentParser(prog="dollar board", description=usage, epilog=more,
                                      formatter_class=argparse.RawDescriptionHelpFormatter)
-    parser.add_argument("files", nargs="*", metavar="FILE", default=[EXAMPLES / "triangle.json"])
-    parser.add_argument("--class", type=number_to(MOST_SEATS), dest="seats", metavar="N")
-    parser.add_argument("--rooms", type=number_to(MOST_SEATS), default=0, metavar="K")
-    parser.add_argument("--host", metavar="ADDRESS")
-    parser.add_argument("--name", action="append", default=[], type=name_of_host, metavar="NAME")
-    parser.add_argument("--teacher-here", action="store_true")
-    parser.add_argument("--keep", metavar="FOLDER")
-    parser.add_argument("--places", metavar="PLACES")
-    parser.add_argument("--port", type=number_to(65535), default=0, metavar="PORT")
-    parser.add_argument("--no-browser", action="store_true")
+    parser.add_argument("files", nargs="*", metavar="FILE", default=[EXAMPLES / "triangle.json"], help="table files; a class may have several")
+    parser.add_argument("--class", type=number_to(MOST_SEATS), dest="seats", metavar="N", help="serve a class of N pupils")
+    parser.add_argument("--rooms", type=number_to(MOST_SEATS), default=0, metavar="K", help="give each K pupils a table of their own")
+    parser.add_argument("--host", metavar="ADDRESS", help="the address to listen on, for other machines")
+    parser.add_argument("--name", action="append", default=[], type=name_of_host, metavar="NAME", help="another name to answer to; may be repeated")
+    parser.add_argument("--teacher-here", action="store_true", help="open the teacher's page on this machine alone")
+    parser.add_argument("--keep", metavar="FOLDER", help="keep the class in FOLDER, and go on with it")
+    parser.add_argument("--places", metavar="PLACES", help="a file with the places of the vertices")
+    parser.add_argument("--port", type=number_to(65535), default=0, metavar="PORT", help="the port of the address; any free one if not given")
+    parser.add_argument("--no-browser", action="store_true", help="open no browser")
     given = parser.parse_args(words)
     if given.teacher_here and given.host not in ANY:
         parser.error("--teacher-here needs --host %s or %s" % ANY)
@@ -68,7 +68,7 @@ def number_to(most):
     """A number from 1 to the most, for the command line."""
     def number(word):
         if not (word.isascii() and word.isdigit() and 1 <= int(word) <= most):
-            raise argparse.ArgumentTypeError("%r is no number from 1 to %d" % (word, most))
+            raise argparse.ArgumentTypeError("%r is not a number from 1 to %d" % (word, most))
         return int(word)
     return number
 
@@ -76,7 +76,7 @@ def number_to(most):
 def name_of_host(word):
     """A name of a host, maybe with a port, for the command line."""
     if not re.match(r"[A-Za-z0-9.-]{1,253}(:[0-9]{1,5})?\Z", word):
-        raise argparse.ArgumentTypeError("%r is no name of a host" % word)
+        raise argparse.ArgumentTypeError("%r is not the name of a host" % word)
     return word.lower()
 
 

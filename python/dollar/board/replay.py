@@ -1,7 +1,7 @@
 """Makes a page that shows a game: the board, and a slider over the history of its steps.
 
-The page is one file for a browser, and asks no network for anything. The table, the steps and the history are in it unchanged. The
-page draws them. Of the rules it knows how many dollars a move sends along which edges, and no amount that follows."""
+The page is one file for a browser, and asks no network for anything. The table, the steps and the history are in it unchanged, and the
+page draws them. It computes only how many dollars a move sends along which edges; all amounts are the program's."""
 import argparse
 import base64
 import hashlib
@@ -75,11 +75,11 @@ def main(words):
     reader = argparse.ArgumentParser(prog="dollar replay", usage=USAGE, description=__doc__.partition("\n\n")[0], epilog=__doc__.partition("\n\n")[2])
     reader.add_argument("--greedy", metavar="TURNS", help=argparse.SUPPRESS)
     reader.add_argument("--places", metavar="PLACES",
-                        help="the vertices stand where the lines 'name x y' of this file say; x goes to the right, and y down")
+                        help="a file with a line 'name x y' for the place of each vertex; x goes to the right, and y down")
     reader.add_argument("files", nargs="+", metavar="FILE", help=argparse.SUPPRESS)
     given = reader.parse_args(words)
     if len(given.files) not in ((1,) if given.greedy else (2, 3)):
-        reader.error("a table, and either steps or --greedy is wanted")
+        reader.error("a table is needed, and either steps or --greedy")
     file, *others = given.files
     own = None if given.places is None else text_of(given.places)
     text = text_of(file)

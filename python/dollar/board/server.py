@@ -92,14 +92,14 @@ class Request:
         if int(length) > most:
             raise Refused(413, "the request is too long")
         if self.headers.get("content-type", "").partition(";")[0].strip().lower() != "application/json":
-            raise Refused(400, "the request is no JSON")
+            raise Refused(400, "the request is not JSON")
         data = await asyncio.wait_for(self.reader.readexactly(int(length)), TO_SEND)
         try:
             given = json.loads(data.decode())
         except (ValueError, RecursionError):
-            raise Refused(400, "the request is no JSON") from None
+            raise Refused(400, "the request is not JSON") from None
         if not isinstance(given, dict):
-            raise Refused(400, "the request is no object")
+            raise Refused(400, "the request is not an object")
         return given
 
 
@@ -107,11 +107,11 @@ def text_in(given, name, most):
     """A text of a request, of at most so many letters. Raises Refused where there is none."""
     text = given.get(name)
     if not isinstance(text, str) or len(text) > most:
-        raise Refused(400, "'%s' is no text of at most %d letters" % (name, most))
+        raise Refused(400, "'%s' is not a text of at most %d letters" % (name, most))
     try:
         text.encode()
     except UnicodeEncodeError:
-        raise Refused(400, "'%s' has letters that are none" % name) from None
+        raise Refused(400, "'%s' has letters that UTF-8 cannot encode" % name) from None
     return text
 
 

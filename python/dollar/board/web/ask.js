@@ -83,9 +83,9 @@ export class Questions {
     const printed = await this.answer({ command: "rr" });
     if (printed === null) return;
     const number = Object.fromEntries(linesOf(printed).map((line) => line.split(" ")));
-    this.tell(`In all there are ${dollars(Number(number.degree))}. Edges less vertices, plus 1, are ${number.genus}. `
-      + `The rank is ${number.rank}, and that of the dual is ${number.dual}. `
-      + "By Riemann-Roch rank less dual is degree + 1 less genus.", printed);
+    this.tell(`The degree, the total of the dollars, is ${number.degree}. The genus, edges minus vertices plus 1, is ${number.genus}. `
+      + `The rank is ${number.rank}, and the rank of K - D is ${number.dual}. `
+      + "By Riemann-Roch, the first rank minus the second is degree + 1 - genus.", printed);
   }
 
   /* The fire, in the order that the program tells. */
@@ -103,7 +103,7 @@ export class Questions {
       const why = count === 0 ? "it owes, and a giver gets nothing" : `${who}, ${next} would owe`;
       this.viewer.board.burnt = burning.slice(0, count + 1);
       this.viewer.board.show(state, game.table.q);
-      this.line(`${next} burns: ${why}. So it is no giver.`);
+      this.line(`${next} burns: ${why}. So it isn't a giver.`);
     }
     this.line("All burn: there are no givers, and nobody can help.");
   }

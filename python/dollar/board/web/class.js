@@ -92,7 +92,7 @@ function listen(path) {
   source.addEventListener("freed", () => stand("Your seat was freed. You can take another."));
   source.addEventListener("asleep", () => {
     source.close();
-    notice("This seat is open in more pages than may be. This page sees nothing new until it is loaded again.");
+    notice("This seat is open in too many pages. This page shows nothing new until you load it again.");
   });
   source.addEventListener("open", () => {
     if (broken && hands) hands.tell("");
@@ -279,7 +279,7 @@ function endWords({ status, text }) {
   if (status === 0) return "The teacher has ended the game.";
   if (text === "the history is full") return "The game has ended: the history is full.";
   const how = status < 0 ? "it was killed" : `with status ${status}`;
-  return `The program has ended: ${text || how}. All that the list has was played.`;
+  return `The program has ended: ${text || how}. Every line in the list was played.`;
 }
 
 function notice(words) {

@@ -14,7 +14,7 @@ export const KINDS = {
   won: { mark: "\u2713", words: () => "Won: nobody is in debt." },
   refused: { mark: "!", legend: "refused", words: ({ cause }) => `Refused: ${CAUSES[cause] || cause}. Nothing changes.` },
   stale: { mark: "~", legend: "stale", words: ({ gifts }) =>
-    `Stale: a gift, a levy or a new edge came after its look (${gifts} in all by now).` },
+    `Stale: a gift, a levy or a new edge came after its look (${gifts} so far).` },
   rank: { mark: "r", legend: "rank test", words: ({ degree, loss }) =>
     (loss ? `The rank is below ${degree}: without ${lossWords(loss)} it can't be won.`
       : `The rank is at least ${degree}: wherever ${dollars(degree)} are lost, it can still be won.`) },
@@ -173,7 +173,7 @@ const COMMANDS = {
   script: (_, script) => `${listed([...script].map(([name, count]) => `${name} ${often(count)}`))}, all at once`,
   gift: ([name, amount]) => (amount.startsWith("-") ? `a levy of ${dollars(-amount)} at ${name}`
     : `a gift of ${dollars(Number(amount))} to ${name}`),
-  join: ([u, v]) => `one edge more between ${u} and ${v}`,
+  join: ([u, v]) => `one more edge between ${u} and ${v}`,
   claim: () => "claims that nobody is in debt",
   look: () => "looks",
   commit: () => "enters the verdict on an earlier look",
@@ -248,10 +248,10 @@ export function nameWords(name, others) {
   return others.includes(name) ? `Another vertex is called ${name}.` : "";
 }
 
-/* What the program refuses, in words for who has not read its pages. A # in a text is a number, counted from 0. */
+/* The program's faults, in words for players. A # in a text is a number, counted from 0. */
 
 export const FAULTS = {
-  "not JSON": "This is no table file: its text is not JSON. Look for a comma or a bracket that is missing or too many.",
+  "not JSON": "This isn't a table file: its text is not JSON. Look for a missing or an extra comma or bracket.",
   "shape of top": "A table needs just these four: vertices, edges, amounts and q.",
   "shape of vertices": "The vertices have to be a list of names.",
   "shape of edges": "The edges have to be a list.",
@@ -263,18 +263,18 @@ export const FAULTS = {
   "vertex # named twice": (i) => `Vertex ${i + 1} has the name of an earlier one.`,
   "edge # has no vertex": (i) => `Edge ${i + 1} of the list leads to a vertex that is not there.`,
   "edge # is a loop": (i) => `Edge ${i + 1} of the list leads from a vertex to itself.`,
-  "edge # is empty": (i) => `Edge ${i + 1} of the list is there 0 times.`,
+  "edge # is empty": (i) => `Edge ${i + 1} of the list has the number 0.`,
   "valence of vertex #": (i) => `Vertex ${i + 1} has more than ${MOST_EDGES} edges.`,
   "not connected": "Some vertices can't be reached from the others: an edge is missing.",
   "number of amounts": "There have to be as many amounts as vertices.",
   "amount of vertex #": (i) => `The amount of vertex ${i + 1} is out of range: a million dollars, or a million owed, is the most.`,
-  "no vertex q": "q is the name of no vertex.",
+  "no vertex q": "No vertex has the name given as q.",
   "out of memory": "There is not enough memory.",
-  "bad seat": "That is no seat.",
-  "bad word": "That is no command.",
-  "bad form": "The command has too many words or too few, or a space too many.",
+  "bad seat": "There is no such seat.",
+  "bad word": "There is no such command.",
+  "bad form": "The command has too many words or too few, or an extra space.",
   "bad name": "It names a vertex that is not there, or one twice.",
-  "bad number": "A number in it is none, or out of range.",
+  "bad number": "A number in it is missing, badly written or out of range.",
   "bad look": "This seat has not looked since its last verdict. It looks first.",
   "bad trials": "That rank test is too large.",
   "the history is full": `The history is full: it has ${limits["dg_game::MAX_ENTRIES"]} entries.`,
