@@ -3,7 +3,7 @@
     python3 -m dollar board [FILE]           a board to play on, in a browser, for one player or for a class
     python3 -m dollar draw FILE              a picture of a table and of its verdict
     python3 -m dollar replay FILE STEPS      a page that shows a game
-    python3 -m dollar sweep judge FILE CSV   the verdicts on the tables of a file, or other answers, on a Dask cluster
+    python3 -m dollar sweep judge FILE CSV   the verdicts on the tables of a file, or other answers, by all processors
     python3 -m dollar json                   the program's lines from a pipe, as lines of JSON
 
 Each has --help. In a clone where the package is not installed, `python3 python/dollar` does the same."""

@@ -1,19 +1,19 @@
-"""Asks a command about each line of a file on the workers of a Dask cluster, and writes a CSV file.
+"""Asks a command about each line of a file, on the processors of this machine or on a Dask cluster, and writes a CSV file.
 
     dollar sweep [--scheduler ADDRESS | --processes N] [--program PROGRAM] judge|rr FILE CSV
     dollar sweep [..] rank FILE K CSV
     dollar sweep [..] judge|rr TABLE --divisors LINES CSV
     dollar sweep [..] rank TABLE K --divisors LINES CSV
 
-The lines of FILE are tables, as for the program's --lines; the lines of LINES are divisors of the table TABLE, as for its --divisors. The
-cluster is the one whose scheduler has the address, or one of N processes on this machine, by default one for each processor. PROGRAM is
-the program as the workers find it; by default the one that is found here. A worker takes so many lines at once that they last about half
-a second. Dask is the Python module `distributed`, in Debian the package python3-distributed.
+The lines of FILE are tables, as for the program's --lines; the lines of LINES are divisors of the table TABLE, as for its --divisors. N
+runs of the program go on at once, by default one for each processor of this machine. With --scheduler the workers of the Dask cluster
+at ADDRESS run it instead, and PROGRAM is its path there, by default the one that is found here. Dask is the Python module
+`distributed`, in Debian the package python3-distributed. Each run takes as many lines as last about half a second.
 
 The CSV file has a row for each line, in order: its number from 1 on, a checksum of it, the answer, and in the last column why it was refused.
 If the file exists, the sweep goes on after its last whole row, so you start an interrupted sweep again by the same words. A file with
-the rows of other lines is refused, and not changed. If a worker dies, another does its lines again. On a terminal the number of rows is
-shown as it grows.
+the rows of other lines is refused, and not changed. If a run or a worker dies, its lines are done again. On a terminal the number of
+rows is shown as it grows.
 
     >>> row("judge", 7, 0xab, "winnable by a=0 b=-1 to a=0 b=1")
     [7, '000000ab', 'true', 'a=0 b=-1', 'a=0 b=1', '']
@@ -30,12 +30,12 @@ import collections
 import csv
 import importlib
 import os
-import signal
 import subprocess
 import sys
 import time
 import zlib
-from typing import Any, Deque, Iterable, Iterator, List, NamedTuple, Optional, Sequence, Tuple, Union
+from concurrent.futures import Future, ThreadPoolExecutor
+from typing import Any, Callable, Deque, Dict, Iterable, Iterator, List, NamedTuple, Optional, Sequence, Tuple, Union
 
 from dollar.answers import no_answer, parts_of
 from dollar.program import command_line, find_program
@@ -44,8 +44,9 @@ from dollar.sweeps import Progress
 from dollar.table import members
 
 FOUND = {"judge": ["winnable", "script", "reduced"], "rank": ["holds", "degree", "loss"], "rr": ["degree", "genus", "rank", "dual"]}
-# How long a worker is to need for the lines that it takes at once; and how many bytes they have at most.
-SECONDS, MOST_BYTES, FIRST = 0.5, 1 << 19, 8
+# How long a run is to need for its lines; how many bytes they have at most; how many lines the first runs have; and how often a run that
+# is killed is tried.
+SECONDS, MOST_BYTES, FIRST, TRIES = 0.5, 1 << 19, 8, 4
 # What the program takes for all lines, in seconds, below which a cluster is of no use.
 SMALL = 10.0
 
@@ -71,10 +72,14 @@ def row(command: str, number: int, checksum: int, answer: str) -> List[Any]:
 
 
 def answered(words: Sequence[Union[str, bytes]], lines: bytes, program: str) -> Tuple[bytes, float]:
-    """The answers to some lines, by a run of the program on a worker, and how many seconds it took."""
+    """The answers to some lines, by a run of the program, and how many seconds it took. If a run is killed, there is another."""
     began = time.monotonic()
     with command_line(words, program) as (line, descriptors):
-        done = subprocess.run(line, input=lines, stdout=subprocess.PIPE, stderr=subprocess.PIPE, pass_fds=descriptors)
+        for _ in range(TRIES):
+            # An interrupt at the terminal is for Python.
+            done = subprocess.run(line, input=lines, stdout=subprocess.PIPE, stderr=subprocess.PIPE, pass_fds=descriptors, start_new_session=True)
+            if done.returncode >= 0:
+                break
     if done.returncode:
         raise ChildProcessError("%s ended with status %d: %s" % (program, done.returncode, done.stderr.decode(errors="replace").strip()))
     return done.stdout, time.monotonic() - began
@@ -116,6 +121,25 @@ def rows_kept(place: str, sweep: Sweep, lines: Iterator[Tuple[bytes, int]]) -> i
             size, rows = size + len(line), rows + 1
         file.truncate(size)
     return rows
+
+
+class Runs:
+    """So many runs of the program at once on this machine, for which one asks as one asks a client of Dask. A thread waits for each."""
+
+    def __init__(self, count: int) -> None:
+        self.count, self.pool = count, ThreadPoolExecutor(count)
+
+    def __enter__(self) -> Runs:
+        return self
+
+    def __exit__(self, *_: object) -> None:
+        self.pool.shutdown(cancel_futures=True)
+
+    def nthreads(self) -> Dict[str, int]:
+        return {"here": self.count}
+
+    def submit(self, do: Callable[..., Any], *given: Any, **_: Any) -> Future[Any]:
+        return self.pool.submit(do, *given)
 
 
 class Pace:
@@ -185,11 +209,6 @@ def swept(client: Any, sweep: Sweep, place: str) -> Pace:
     return pace
 
 
-def no_interrupts() -> None:
-    """Has a worker pay no heed to Ctrl-C, which at a terminal goes to all processes: it is this script that ends its workers."""
-    signal.signal(signal.SIGINT, signal.SIG_IGN)
-
-
 def count(word: str) -> int:
     """A number of processes."""
     if not word.isdecimal() or int(word) == 0:
@@ -210,8 +229,8 @@ def words_of(arguments: List[str]) -> argparse.Namespace:
                                      formatter_class=argparse.RawDescriptionHelpFormatter)
     where = parser.add_mutually_exclusive_group()
     where.add_argument("--scheduler", metavar="ADDRESS", help="the cluster to use")
-    where.add_argument("--processes", metavar="N", type=count, default=os.cpu_count(), help="how many workers of its own")
-    parser.add_argument("--program", help="the program, as the workers find it")
+    where.add_argument("--processes", metavar="N", type=count, default=os.cpu_count(), help="how many runs at once on this machine")
+    parser.add_argument("--program", help="the path of the program")
     commands = parser.add_subparsers(dest="command", required=True, metavar="judge|rank|rr")
     for command in FOUND:
         of = commands.add_parser(command, prog="dollar sweep " + command)
@@ -244,23 +263,18 @@ def main(arguments: List[str]) -> int:
     given = words_of(arguments)
     with open(given.divisors or given.file, "rb"):
         pass
-    try:
-        # Workers are forked from a process that has loaded all modules: so each is there sooner.
-        importlib.import_module("dask.config").set({"distributed.worker.multiprocessing-method": "forkserver"})
-        dask = importlib.import_module("distributed")
-    except ModuleNotFoundError as error:
-        raise ValueError("this Python, %s, has %s" % (sys.executable, str(error).lower())) from error
-
     if given.scheduler:
+        try:
+            dask = importlib.import_module("distributed")
+        except ModuleNotFoundError as error:
+            raise ValueError("this Python, %s, has %s" % (sys.executable, str(error).lower())) from error
         sweep = sweep_of(given, given.program or find_program())
         with dask.Client(given.scheduler) as client:
             pace = swept(client, sweep, given.csv)
     else:
         sweep = sweep_of(given, find_program(given.program))
-        with dask.LocalCluster(n_workers=given.processes, threads_per_worker=1, dashboard_address=None) as cluster, \
-                dask.Client(cluster) as client:
-            client.run(no_interrupts)
-            pace = swept(client, sweep, given.csv)
+        with Runs(given.processes) as runs:
+            pace = swept(runs, sweep, given.csv)
     said = small(sweep, pace)
     if said is not None:
         print("dollar sweep: " + said, file=sys.stderr)

@@ -17,8 +17,9 @@ from dollar.table import Table
 from dollar.vertices import Dollars, Fixed, Pairs, Vertices
 
 NUMBER = r"(0|-?[1-9]\d*)"
-# How many divisors are written at once; the numbers that are written by numpy; and how many bytes it does not pay to read by it.
-BATCH, LEAST_WRITTEN, MOST_WRITTEN, LEAST_QUICK = 2_000, -99, 999, 4096
+# How many divisors are written at once; the numbers that are written by numpy, by the bytes that each takes with what ends it; and how
+# many bytes it does not pay to read by it.
+BATCH, WRITTEN, LEAST_QUICK = 2_000, {4: (-99, 999), 8: (-9_999, 9_999)}, 4096
 
 
 def amounts_form(names: Sequence[str]) -> str:
@@ -160,11 +161,15 @@ def divisors_by_batches(table: Table, divisors: Any) -> Iterator[Tuple[int, byte
     if numpy and is_array(divisors) and divisors.shape[1] == size:
         for start in range(0, len(divisors), BATCH):
             batch = divisors[start:start + BATCH].ravel()
-            yield len(batch) // size, lines_of(numpy, batch, size) or lines_of_ints(batch.tolist(), size)
+            yield len(batch) // size, lines_of(numpy, batch, size)
         return
     for rows in batches_of(table, divisors):
-        lines = lines_of(numpy, small_ints(numpy, rows, size), size) if numpy else None
-        yield len(rows), lines or lines_of_ints([each for at, row in enumerate(rows) for each in row_of(table, row, number + at)], size)
+        numbers = small_ints(numpy, rows, size) if numpy else None
+        if numbers is None:
+            numbers = [each for at, row in enumerate(rows) for each in row_of(table, row, number + at)]
+            yield len(rows), lines_of_ints(numbers, size)
+        else:
+            yield len(rows), lines_of(numpy, numbers, size)
         number += len(rows)
 
 
@@ -222,18 +227,21 @@ def small_ints(numpy: Any, rows: Sequence[Any], size: int) -> Any:
 
 
 @functools.lru_cache(maxsize=None)
-def texts_of(numpy: Any, end: bytes) -> Any:
-    """The texts of the numbers that are written by numpy, each with what ends it, and filled up with zeros to four bytes."""
-    texts = (b"%d%b" % (number, end) for number in range(LEAST_WRITTEN, MOST_WRITTEN + 1))
-    return numpy.frombuffer(b"".join(text.ljust(4, b"\0") for text in texts), dtype=numpy.uint32)
+def texts_of(numpy: Any, width: int, end: bytes) -> Any:
+    """The texts of the numbers that are written in so many bytes, each with what ends it, and filled up with zeros."""
+    first, last = WRITTEN[width]
+    texts = (b"%d%b" % (number, end) for number in range(first, last + 1))
+    return numpy.frombuffer(b"".join(text.ljust(width, b"\0") for text in texts), dtype="u%d" % width)
 
 
-def lines_of(numpy: Any, values: Any, size: int) -> Optional[bytes]:
-    """The lines of the numbers of an array, all at once; None if there is none, or one is too long for that."""
-    if values is None or values.min() < LEAST_WRITTEN or values.max() > MOST_WRITTEN:
-        return None
-    places = values.astype(numpy.intp, copy=False) - LEAST_WRITTEN
-    found = texts_of(numpy, b" ").take(places)
-    found[size - 1::size] = texts_of(numpy, b"\n").take(places[size - 1::size])
-    text: bytes = found.tobytes()
-    return text.translate(None, b"\0")
+def lines_of(numpy: Any, values: Any, size: int) -> bytes:
+    """The lines of the numbers of an array, all at once if none is long."""
+    least, most = values.min(), values.max()
+    for width, (first, last) in WRITTEN.items():
+        if first <= least and most <= last:
+            places = values.astype(numpy.intp, copy=False) - first
+            found = texts_of(numpy, width, b" ").take(places)
+            found[size - 1::size] = texts_of(numpy, width, b"\n").take(places[size - 1::size])
+            text: bytes = found.tobytes()
+            return text.translate(None, b"\0")
+    return lines_of_ints(values.tolist(), size)

@@ -1,5 +1,5 @@
-"""`dollar sweep` on a cluster of two worker processes of its own, one of which is killed in the middle: the rows are those of one run of
-the program. And it goes on with a sweep that was interrupted within a row, and refuses the rows of another file."""
+"""`dollar sweep` by two runs at once, and on a Dask cluster of two workers, one of which is killed in the middle: the rows are those of one
+run of the program. And it goes on with a sweep that was interrupted within a row, and refuses the rows of another file."""
 import csv
 import io
 import json
@@ -8,6 +8,7 @@ import random
 import signal
 import subprocess
 import sys
+import time
 import zlib
 from unittest import mock
 
@@ -49,6 +50,35 @@ def csv_of(kind, answers):
     refused = {"judge": dollar.RefusedVerdict, "rank": dollar.RefusedRankTest, "rr": dollar.RefusedRiemannRoch}[kind]
     dollar.to_csv((refused(refused=text[8:]) if text.startswith("refused ") else read(text) for text in answers.splitlines()), file)
     return file.getvalue()
+
+
+# A program that is killed the first time, and takes its time.
+SLOW = """#!/bin/sh
+[ -e %s ] || { : > %s; kill -9 $$; }
+sleep 0.2
+exec %s "$@"
+"""
+
+
+class OfTwoRuns(Test):
+    def test_a_run_is_killed_and_the_sweep_interrupted(self):
+        place, rng = self.folder(), random.Random(1)
+        tables = [line(rng, number) for number in range(1, SIZE + 1)]
+        (place / "tables.txt").write_text("".join(tables))
+        kept, killed = place / "kept.csv", place / "killed"
+        words = [sys.executable, "-m", "dollar", "sweep", "--processes", "2", "rank", place / "tables.txt", "1", kept]
+        environment = dict(os.environ, DOLLAR=self.script(SLOW % (killed, killed, program())), PYTHONPATH=str(PACKAGE))
+        child = subprocess.Popen(words, stderr=subprocess.PIPE, env=environment, start_new_session=True)
+        while not (kept.exists() and kept.stat().st_size > 100):
+            time.sleep(0.01)
+            self.assertIsNone(child.poll())
+        os.killpg(child.pid, signal.SIGINT)
+        self.assertEqual((child.communicate(timeout=20)[1], child.returncode), (b"", 130))
+        self.assertTrue(killed.exists())
+        wanted, begun = alone("rank", ["rank", "--lines", "/dev/stdin", "1"], tables), kept.read_bytes()
+        self.assertTrue(wanted.startswith(begun) and 100 < len(begun) < len(wanted))
+        self.holds(words, env=dict(environment, DOLLAR=program()))
+        self.assertEqual(kept.read_bytes(), wanted)
 
 
 class OfAClusterOfTwo(Test):

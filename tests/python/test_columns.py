@@ -66,6 +66,18 @@ class OfColumns(Test):
             for name in ("degree", "genus", "rank", "dual"):
                 self.assertEqual(ints(getattr(found, name)), [getattr(each, name) for each in numbers])
 
+    @each([0, 99, 100, 999, 1000, 9_999, 10_000, 1_000_000])
+    def test_numbers_of_each_length(self, number):
+        numpy = needed("numpy")
+        for most in (number, -number):
+            rows = [[most, 0], [most // 2, -most], [0, 7]]
+            path = Table([[0, 1], [1, 0]])
+            wanted = [sum(row) for row in rows]
+            for source in (rows, list(map(tuple, rows)), numpy.array(rows), numpy.array(rows, dtype=numpy.int32)):
+                self.assertEqual(ints(dollar.rr_all(path, divisors=source).columns().degree), wanted)
+                reduced = dollar.judge_all(path, divisors=source).columns().reduced
+                self.assertEqual((ints(reduced[0]), ints(reduced[1])), (wanted, [0, 0, 0]))
+
     @each([with_numpy, without_numpy])
     def test_the_kind_that_is_asked_for(self, given):
         numpy, rows = needed("numpy"), divisors(RING, 50, 1)
