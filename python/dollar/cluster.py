@@ -11,7 +11,7 @@ at ADDRESS run it instead, and PROGRAM is its path there, by default the one tha
 `distributed`, in Debian the package python3-distributed. Each run takes as many lines as last about half a second.
 
 The CSV file has a row for each line, in order: its number from 1 on, a checksum of it, the answer, and in the last column why it was refused.
-If the file exists, the sweep goes on after its last whole row, so you start an interrupted sweep again by the same words. A file with
+If the file exists, the sweep goes on after its last whole row, so the same command resumes an interrupted sweep. A file with
 the rows of other lines is refused, and not changed. If a run or a worker dies, its lines are done again. On a terminal the number of
 rows is shown as it grows.
 
@@ -229,7 +229,7 @@ def words_of(arguments: List[str]) -> argparse.Namespace:
                                      formatter_class=argparse.RawDescriptionHelpFormatter)
     where = parser.add_mutually_exclusive_group()
     where.add_argument("--scheduler", metavar="ADDRESS", help="the cluster to use")
-    where.add_argument("--processes", metavar="N", type=count, default=os.cpu_count(), help="how many runs at once on this machine")
+    where.add_argument("--processes", metavar="N", type=count, default=os.cpu_count(), help="the number of runs at once on this machine")
     parser.add_argument("--program", help="the path of the program")
     commands = parser.add_subparsers(dest="command", required=True, metavar="judge|rank|rr")
     for command in FOUND:
