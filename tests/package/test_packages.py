@@ -140,7 +140,7 @@ class OfPackages(Test):
         self.assertEqual(self.out(*before, inside + "/bin/dollar", "judge", table), VERDICT)
         self.assertEqual(self.out(*before, inside + "/bin/python", "-B", "-c", LINES, cwd="/"), VERDICT)
         self.try_board([*before, inside + "/bin/dollar-board"])
-        self.assertTrue((own / "share/doc/dollar/tools.md").is_file())
+        self.assertTrue((own / "share/doc/dollar/docs/tools.md").is_file())
         self.out(*pip, "uninstall", "--quiet", "--yes", "dollar")
         self.assertEqual(files() - kept, set())
 
