@@ -12,7 +12,7 @@ pub(crate) const FILE_HELP: &str = r#"The table: a JSON file, such as triangle.j
   "amounts": [2, -1, -1],
   "q": "a"
 }
-1 to 16 vertices, with names of 1 to 16 letters, digits or `_`;
+It has 1 to 16 vertices, with names of 1 to 16 letters, digits or `_`;
 a connected graph, with at most 63 edges at each vertex;
 whole amounts from -1000000 to 1000000, one for each vertex"#;
 
@@ -20,7 +20,7 @@ pub(crate) const STEPS_HELP: &str =
     "A text file with a step on each line: a seat, 1 to 64, and a command";
 
 pub(crate) const DEGREE_HELP: &str =
-    "How many dollars are lost: a whole number from 0 to 4294967295";
+    "How many dollars are lost: a whole number, at most 1000";
 
 pub(crate) const TURNS_HELP: &str = "How many turns there may be: a whole number from 0 to 65536";
 
@@ -57,7 +57,7 @@ can clear all debts. This is the table triangle.json:
 
 An edge is two names and the number of edges between them. The amounts are in
 the order of the vertices, and a negative one is a debt. Verdicts are computed
-from the vertex q; any vertex will do.
+from the vertex q, which may be any.
 
     $ dollar judge triangle.json
     winnable by a=0 b=-1 c=-1 to a=0 b=0 c=0
@@ -99,8 +99,8 @@ burnt vertices than dollars: all burn, here in this order.
     $ dollar judge --order triangle.json
     winnable by a=0 b=-1 c=-1 to a=0 b=0 c=0 burning a b c
 
-With --lines, FILE has a table on each line, and is read as it comes. A line
-that is no table is answered by the fault that such a file would have:
+With --lines, FILE has a table on each line, and is read as it comes. Any other
+line is answered by the fault of such a file:
 
     $ cat tables.txt
     {\"vertices\":[\"a\",\"b\"],\"edges\":[[\"a\",\"b\",2]],\"amounts\":[2,-2],\"q\":\"a\"}
@@ -124,8 +124,9 @@ with these amounts, or with the fault that they would have in a table file:
     winnable by a=0 b=-1 c=-1 to a=2 b=0 c=0
     refused number of amounts
 
-The faults in their order are `shape of amounts` if a word is no whole number,
-`number of amounts`, and `amount of vertex v`, the first out of range, from 0.
+The faults in their order are `shape of amounts` if a word is not a whole
+number, `number of amounts`, and `amount of vertex v`, the first out of range,
+from 0.
 ";
 
 pub(crate) const RANK_MORE: &str = "\
@@ -146,8 +147,8 @@ first trial that does not is shown. The status is 0 for both answers.
 K may be at most 1000, and there may be at most 200000 trials; a test past that
 is refused with `too many trials`. The workers change no answer.
 
-With --lines, FILE has a table on each line, and is read as it comes. A line
-that is no table is answered by the fault that such a file would have:
+With --lines, FILE has a table on each line, and is read as it comes. Any other
+line is answered by the fault of such a file:
 
     $ cat tables.txt
     {\"vertices\":[\"a\",\"b\"],\"edges\":[[\"a\",\"b\",2]],\"amounts\":[2,-2],\"q\":\"a\"}
@@ -158,8 +159,8 @@ that is no table is answered by the fault that such a file would have:
     rank below 0 at a=0 b=0
     refused shape of top
 
-There a test past the limits is answered if a law or the trials of the dual
-decide it, without the first loss: `rank below 12 at ?`.
+There a test past the limits is answered if the degree or the dual decides it
+(`dollar rr --help`), without the first loss: `rank below 12 at ?`.
 
 With --divisors, LINES has amounts for the table of FILE on each line, in the
 order of its vertices, with one space between two. Each is answered as the table
@@ -174,12 +175,13 @@ with these amounts, or with the fault that they would have in a table file:
     rank at least 1
     refused number of amounts
 
-The faults in their order are `shape of amounts` if a word is no whole number,
-`number of amounts`, and `amount of vertex v`, the first out of range, from 0.
+The faults in their order are `shape of amounts` if a word is not a whole
+number, `number of amounts`, and `amount of vertex v`, the first out of range,
+from 0.
 ";
 
 pub(crate) const RIEMANN_ROCH_MORE: &str = "\
-For the triangle they are:
+For the triangle:
 
     $ dollar rr triangle.json
     degree 0
@@ -188,20 +190,19 @@ For the triangle they are:
     dual 0
 
     degree  the sum of the dollars
-    genus   edges less vertices, plus 1
+    genus   edges minus vertices, plus 1
     rank    the most dollars that can be taken, no matter where, so that the
             rest can still be won; -1 if the table can't be won
     dual    the rank of another table: each vertex holds two dollars less than
-            it has edges, less its dollars here
+            it has edges, minus its dollars here
 
 By Riemann-Roch, rank - dual = degree + 1 - genus.
 
-Tests within the limits of `dollar rank` have to find both ranks; `too many
-trials` does not say which of the two they can't find. With 16 vertices each may
-be at most 6.
+Both ranks must be within the limits of `dollar rank`, at most 6 with 16
+vertices. Otherwise the fault is `too many trials`.
 
-With --lines, FILE has a table on each line, and is read as it comes. A line
-that is no table is answered by the fault that such a file would have:
+With --lines, FILE has a table on each line, and is read as it comes. Any other
+line is answered by the fault of such a file:
 
     $ cat tables.txt
     {\"vertices\":[\"a\",\"b\"],\"edges\":[[\"a\",\"b\",2]],\"amounts\":[2,-2],\"q\":\"a\"}
@@ -228,8 +229,9 @@ with these amounts, or with the fault that they would have in a table file:
     degree 2 genus 1 rank 1 dual -1
     refused number of amounts
 
-The faults in their order are `shape of amounts` if a word is no whole number,
-`number of amounts`, and `amount of vertex v`, the first out of range, from 0.
+The faults in their order are `shape of amounts` if a word is not a whole
+number, `number of amounts`, and `amount of vertex v`, the first out of range,
+from 0.
 ";
 
 pub(crate) const GREEDY_MORE: &str = "\
