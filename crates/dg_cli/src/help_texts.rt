@@ -198,8 +198,8 @@ For the triangle:
 
 By Riemann-Roch, rank - dual = degree + 1 - genus.
 
-Both ranks must be within the limits of `dollar rank`, at most 6 with 16
-vertices. Otherwise the fault is `too many trials`.
+Both ranks must be within the limits of `dollar rank`. With 16 vertices each may
+be at most 6. Otherwise the fault is `too many trials`.
 
 With --lines, FILE has a table on each line, and is read as it comes. Any other
 line is answered by the fault of such a file:
