@@ -92,8 +92,8 @@ class OfPackages(Test):
         self.assertEqual(self.out(tree / "bin" / "dollar", "--version"), self.out(program(), "--version"))
         page = gzip.decompress((tree / "share/man/man1/dollar.1.gz").read_bytes()).decode()
         self.assertEqual(page, self.out(sys.executable, ROOT / "tools" / "manual", program()))
-        named = re.findall(r"(?m)^\.I (\w+\.md)$", page)
-        self.assertEqual([name for name in named if not (tree / "share/doc/dollar/docs" / name).is_file()], [])
+        named = re.findall(r"(?m)^\.I ([\w/]+\.md)$", page)
+        self.assertEqual([name for name in named if not (tree / "share/doc/dollar" / name).is_file()], [])
         self.assertIn("complete -F _dollar dollar", self.out(
             "bash", "--norc", "-c", 'source "$1"; complete -p dollar', "bash",
             tree / "share/bash-completion/completions/dollar"))
