@@ -553,8 +553,8 @@ def with_a_long_game(player):
 PARTS = (in_sizes, by_mouse, by_touch, by_a_voice, by_keys, by_seats, with_refusals, with_questions, with_many_lines, with_script,
          with_fire, with_tables, on_a_phone, with_an_end, with_editor, with_editor_by_keys, with_takings, with_a_long_game, with_focus)
 # The three windows of Firefox have one focus, and it comes and goes; and it may scroll once a shorter page was drawn, when the
-# board is in view already. So the focus and the editor, and the game on its table, are looked at in Chromium.
-OF_CHROMIUM = with_editor, with_editor_by_keys, with_takings, with_focus
+# board is in view already. So the focus and the editor, and what follows on its table, are looked at in Chromium.
+OF_CHROMIUM = with_editor, with_editor_by_keys, with_takings, with_a_long_game, with_focus
 
 
 def one_player(browser, folder, *left_out):
