@@ -12,8 +12,8 @@ pub(crate) const FILE_HELP: &str = r#"The table: a JSON file, such as triangle.j
   "amounts": [2, -1, -1],
   "q": "a"
 }
-It has 1 to 16 vertices, with names of 1 to 16 letters, digits or `_`;
-a connected graph, with at most 63 edges at each vertex;
+It has 1 to 16 vertices, with names of 1 to 16 letters, digits
+or `_`; a connected graph, with at most 63 edges at each vertex;
 whole amounts from -1000000 to 1000000, one for each vertex"#;
 
 pub(crate) const STEPS_HELP: &str =
