@@ -20,6 +20,7 @@ pub fn same(x: usize) -> usize
 }
 """
 WRONG, RIGHT = ("file: src/lib.rt\nold:     x\nnew:     %s\n" % new for new in ("0", "{ x }"))
+BAD = WRONG.replace("0", "y")
 
 # It takes so many seconds of processor time for each edit.
 STAND_IN = """#!/usr/bin/env python3
@@ -32,9 +33,11 @@ for edit in sorted(Path("crates").glob("*/must-fail/*.edit")):
     end = time.process_time() + float(os.environ.get("EACH", 0))
     while time.process_time() < end:
         pass
-    is_right = "{ x }" in edit.read_text()
+    text = edit.read_text()
+    is_right = "{ x }" in text
     missed += is_right
-    print("rt: must-fail %s/%s: %s" % (edit.parts[1], edit.name, "NOT REFUSED: .." if is_right else "refused, as it must be: .."))
+    print("rt: must-fail %s/%s: %s" % (edit.parts[1], edit.name, "NOT REFUSED: .." if is_right else
+                                       "BAD EDIT: .." if text.rstrip().endswith("y") else "refused, as it must be: .."))
 sys.exit(missed > 0)
 """
 
@@ -96,6 +99,12 @@ class OfEdits(Test):
         (self.top / "crates/low/more-must-fail/right.edit").unlink()
         self.assertEqual(self.tried(), (0, "2 of 2 refused"))
         self.assertEqual(self.recorded(), [("high", "1"), ("low", "1")])
+
+    def test_an_edit_that_does_not_compile(self):
+        self.put("crates/low/more-must-fail/bad.edit", BAD)
+        self.assertEqual(self.tried("--untried"), (0, "2 of 2 refused, 0 not tried"))
+        self.assertEqual(self.recorded(), [("high", "1")])
+        self.assertEqual(self.tried("low"), (1, "1 of 2 refused"))
 
     def test_the_time(self):
         for number in range(9):
