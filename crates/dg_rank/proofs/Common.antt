@@ -1,7 +1,7 @@
 -- The names that the proofs of this crate cite, passed on from one place. Declares nothing.
 pub use Rattle.dg_chips.proofs.VectorLaws.{filled-set}
 pub use Rattle.dg_chips.specs.Vector.{Vector, at}
-pub use Rattle.dg_fallback.proofs.Outcome.{reduced_few}
+pub use Rattle.dg_reduce.proofs.Outcome.{reduced_few}
 pub use Rattle.dg_graph.specs.Graph.{IsGraph}
 pub use Rattle.dg_rank.specs.Divisors.{HoldsTrial, amounts_of}
 pub use Rattle.dg_rank.specs.Ladders.{AnswersRankTest, AreAnswers, FailsAfter, MeetsTooMany, PassesBelow, RankByLadder, RanksByLadders}

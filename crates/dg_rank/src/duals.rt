@@ -5,7 +5,7 @@ ghost use Rattle.std.specs.Int.RustNames.{unsigned_abs};
 ghost use Rattle.dg_theory.specs.Multigraph.{Multigraph, genus};
 ghost use Rattle.dg_theory.specs.Firing.{Amounts, degree, AreEquivalent};
 ghost use Rattle.dg_theory.specs.Rank.{less, canonical, HasRankAtLeast};
-ghost use Rattle.dg_fallback.specs.declared.limits.TheConstants.{MAX_START};
+ghost use Rattle.dg_reduce.specs.declared.limits.TheConstants.{MAX_START};
 ghost use Rattle.dg_graph.specs.Graph.{IsGraph};
 ghost use Rattle.dg_chips.specs.Vector.{at};
 ghost use Rattle.dg_rank.specs.Limits.{IsWithinLimits};

@@ -6,7 +6,7 @@
 use Rattle.std.specs.Prelude.{◌≡◌, ℕ, ◌<◌, ◌≤◌, List, take}
 use Rattle.std.specs.List.{slice_index_or}
 use Rattle.dg_chips.specs.Vector.{at}
-use Rattle.dg_fallback.specs.Reductions.{IsReduction}
+use Rattle.dg_reduce.specs.Reductions.{IsReduction}
 use Rattle.dg_theory.specs.Burning.{BurnsInOrder}
 use Rattle.dg_theory.specs.Firing.{Amounts}
 use Rattle.dg_theory.specs.Multigraph.{Multigraph}

@@ -8,7 +8,7 @@ ghost use Rattle.std.specs.List.{slice_index_or};
 ghost use Rattle.std.specs.Int.RustNames.{unsigned_abs};
 ghost use Rattle.dg_chips.specs.Vector.{at};
 ghost use Rattle.dg_chips.specs.declared.limits.TheConstants.{MAX_ENTRY};
-ghost use Rattle.dg_fallback.specs.declared.limits.TheConstants.{MAX_START};
+ghost use Rattle.dg_reduce.specs.declared.limits.TheConstants.{MAX_START};
 ghost use Rattle.dg_reduce.specs.Burnings.{IsWhole};
 
 use crate::certificate::Burning;

@@ -1,16 +1,28 @@
 //! The divisor that is reduced for a vertex q and can be reached by firing, and the script that leads to it; and amounts
-//! without debts, kept so while dollars are taken. No call takes memory.
+//! without debts, kept so while dollars are taken. A guess comes first, which burning certifies. The fallback, which few
+//! guesses need, works without one, by the distances from q. No call takes memory.
 #![tactic(auto)]
 
+mod burning_down;
+mod by_levels;
 mod certificate;
+mod clearing;
 mod effective_divisor;
 mod guessing;
 mod inverse_laplacian;
+mod levels;
+mod limits;
+mod most_firings;
+mod next_firing;
+mod reduced;
 mod reducing;
+mod walk;
 
+pub use by_levels::{is_within_start, reduce_after, reduce_by_levels};
 pub use certificate::{Burning, is_solvent_off, order_by, order_if_reduced};
-pub use dg_fallback::{MAX_START, Reduced};
 pub use effective_divisor::EffectiveDivisor;
 pub use guessing::{Guessed, guess, guess_once};
 pub use inverse_laplacian::InverseLaplacian;
+pub use limits::MAX_START;
+pub use reduced::Reduced;
 pub use reducing::{Certified, certified_by, reduce, reduce_certified, reduce_wide};

@@ -3,16 +3,18 @@
 ghost use Rattle.std.specs.Prelude.{◌≡◌, ℕ, ◌<◌, ◌≤◌, pos, IfSome};
 ghost use Rattle.std.specs.Int.RustNames.{unsigned_abs};
 ghost use Rattle.dg_chips.specs.Vector.{at};
-ghost use Rattle.dg_fallback.specs.Reductions.{IsReduction};
+ghost use Rattle.dg_reduce.specs.Reductions.{IsReduction};
 ghost use Rattle.dg_reduce.specs.Certificates.{IsCertified};
 ghost use Rattle.dg_reduce.specs.Burnings.{IsWhole};
 
+use crate::by_levels::reduce_after;
 use crate::certificate::{Burning, order_by};
 use crate::guessing::guess;
 use crate::inverse_laplacian::InverseLaplacian;
+use crate::limits::MAX_START;
+use crate::reduced::Reduced;
 use dg_burn::burn;
 use dg_chips::{Divisor, Script, Wide};
-use dg_fallback::{MAX_START, Reduced, reduce_after};
 use dg_graph::Graph;
 
 /// A reduced divisor, the script that leads to it, and what shows that it is reduced.

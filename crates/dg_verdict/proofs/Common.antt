@@ -4,7 +4,7 @@ pub use Rattle.dg_burn.proofs.Steps.{burning-lit, same-more, unreached-fewer}
 pub use Rattle.dg_burn.proofs.Told.{none_unreached}
 pub use Rattle.dg_burn.specs.SoFar.{IsBurning, unreached}
 pub use Rattle.dg_chips.specs.Vector.{Vector, at}
-pub use Rattle.dg_fallback.proofs.Outcome.{script_near}
+pub use Rattle.dg_reduce.proofs.Outcome.{script_near}
 pub use Rattle.dg_graph.proofs.SetLaws.{in_set-none}
 pub use Rattle.dg_graph.specs.Sets.{IsWith, in_set}
 pub use Rattle.dg_theory.proofs.Agreement.{agree-sym, fired-here, winnable-cong}

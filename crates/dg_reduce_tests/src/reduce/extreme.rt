@@ -4,9 +4,8 @@
 ghost use Rattle.std.specs.Prelude.{◌≡◌, ◌<◌, ◌≤◌};
 
 use dg_chips::{Script, Wide};
-use dg_fallback::{is_within_start, reduce_by_levels};
 use dg_graph::Graph;
-use dg_reduce::{InverseLaplacian, certified_by, reduce_certified};
+use dg_reduce::{InverseLaplacian, certified_by, is_within_start, reduce_by_levels, reduce_certified};
 use std::test::Fail;
 
 /// How the edges of a graph lie.

@@ -4,12 +4,8 @@ ghost use Rattle.std.specs.Prelude.{◌≡◌};
 
 use crate::edges::{PATH, SQUARE, TRIANGLE};
 use dg_chips::{Script, Wide};
-use dg_fallback::is_within_start;
 use dg_graph::{Graph, GraphFault};
-use dg_reduce::{
-    Certified, InverseLaplacian, Reduced, certified_by, guess, is_solvent_off, order_if_reduced,
-    reduce_certified, reduce_wide,
-};
+use dg_reduce::{Certified, InverseLaplacian, Reduced, certified_by, guess, is_solvent_off, is_within_start, order_if_reduced, reduce_certified, reduce_wide};
 use std::process::Abort;
 use std::test::Fail;
 

@@ -7,9 +7,8 @@ ghost use Rattle.dg_chips.specs.Vector.{at};
 use crate::reduce::guesses::is_wanted;
 use dg_burn::capped_at;
 use dg_chips::{Script, Wide};
-use dg_fallback::{is_within_start, reduce_after, reduce_by_levels};
 use dg_graph::Graph;
-use dg_reduce::{Burning, InverseLaplacian, Reduced, guess, order_if_reduced, reduce_certified};
+use dg_reduce::{Burning, InverseLaplacian, Reduced, guess, is_within_start, order_if_reduced, reduce_after, reduce_by_levels, reduce_certified};
 use std::process::Abort;
 use std::test::Fail;
 

@@ -5,9 +5,8 @@ ghost use Rattle.std.specs.Prelude.{◌≡◌, ◌≤◌};
 use crate::edges::{SQUARE, TRIANGLE};
 use crate::reduce::reference::{Single, reduce_singly};
 use dg_chips::{Divisor, Script, Wide};
-use dg_fallback::is_within_start;
 use dg_graph::Graph;
-use dg_reduce::{Reduced, reduce, reduce_wide};
+use dg_reduce::{Reduced, is_within_start, reduce, reduce_wide};
 use std::process::Abort;
 use std::test::Fail;
 

@@ -1,4 +1,5 @@
-use Rattle.dg_reduce.proofs.Common.{arith, at, reduction_within}
+use Rattle.dg_reduce.proofs.Common.{arith, at}
+use Rattle.dg_reduce.proofs.Outcome.{reduction_within}
 use Rattle.dg_reduce.proofs.reducing.certified_by.Goals as goal
 
 pub returns : goal.returns

@@ -1,4 +1,5 @@
-use Rattle.dg_reduce.proofs.Common.{arith, ap, ◌∙◌, ℤ, ◌+ℤ◌, gain, at, reduction_within}
+use Rattle.dg_reduce.proofs.Common.{arith, ap, ◌∙◌, ℤ, ◌+ℤ◌, gain, at}
+use Rattle.dg_reduce.proofs.Outcome.{reduction_within}
 use Rattle.dg_reduce.proofs.reducing.reduce.Goals as goal
 
 pub returns : goal.returns

@@ -1,0 +1,55 @@
+//! A walk: amounts at the start, amounts now, and the script between them.
+
+ghost use Rattle.std.specs.Prelude.{◌≡◌, ℕ, ◌<◌, ◌≤◌, ◌^◌, pos};
+ghost use Rattle.std.specs.Int.RustNames.{unsigned_abs};
+ghost use Rattle.dg_graph.specs.Sets.{in_set};
+ghost use Rattle.dg_chips.specs.Vector.{at};
+ghost use Rattle.dg_reduce.specs.States.{IsTied, IsFired};
+
+use dg_chips::Wide;
+use dg_graph::Graph;
+
+/// Amounts at the start, amounts now, and how often each vertex has lent to come from the first to the second.
+#[derive(Clone, Copy)]
+pub struct Walk {
+    /// The amounts at the start.
+    pub start: Wide,
+    /// The amounts now.
+    pub chips: Wide,
+    /// How often each vertex has lent.
+    pub script: Wide,
+}
+
+impl Walk {
+    /// The walk at its start: nobody has lent.
+    pub fn new(graph: &Graph, chips: &Wide) -> Walk
+        requires { chips.now.size ≡ graph.now.size }
+        ensures tied { IsTied graph.now result }
+        ensures start { result.start ≡ chips.now }
+        ensures chips { result.chips ≡ chips.now }
+        ensures script { (v : ℕ) → at result.script v ≡ pos 0 }
+    {
+        Walk {
+            start: *chips,
+            chips: *chips,
+            script: Wide::zero(graph),
+        }
+    }
+
+    /// The walk after each vertex of a set has lent `times` times more.
+    pub fn fired(&self, graph: &Graph, set: u16, times: i128) -> Walk
+        requires tied { IsTied graph.now self.now }
+        requires chips { (v : ℕ) → v < graph.now.size →
+            unsigned_abs (at self.now.chips v) ≤ 2 ^ 120 }
+        requires script { (v : ℕ) → v < graph.now.size →
+            unsigned_abs (at self.now.script v) ≤ 2 ^ 126 }
+        requires times { unsigned_abs times ≤ 2 ^ 120 }
+        ensures { IsFired graph.now (in_set set) times self.now result }
+    {
+        Walk {
+            start: self.start,
+            chips: self.chips.fired(graph, set, times),
+            script: self.script.more(set, times),
+        }
+    }
+}
