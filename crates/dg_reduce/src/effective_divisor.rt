@@ -138,6 +138,7 @@ impl EffectiveDivisor {
     }
 
     /// Makes amounts without debts reduced for a vertex: the vertices that burning from it leaves lend, until it leaves none.
+    #[inline(never)]
     pub fn reduce(&mut self, graph: &Graph, v: usize)
         requires size { self.old.size ≡ graph.now.size }
         requires vertex { v < graph.now.size }
@@ -168,6 +169,7 @@ impl EffectiveDivisor {
     }
 
     /// What burning from a vertex leaves, with its counts, if it leaves something.
+    #[inline(always)]
     fn rest(&self, graph: &Graph, v: usize) -> Option<Counted>
         requires size { self.now.size ≡ graph.now.size }
         requires vertex { v < graph.now.size }
@@ -185,6 +187,7 @@ impl EffectiveDivisor {
     }
 
     /// The amounts as far as burning looks at them.
+    #[inline(always)]
     fn held(&self) -> [u8; 16]
         ensures { IsHeld self.now.size (at self.now) result }
     {
@@ -193,6 +196,7 @@ impl EffectiveDivisor {
     }
 
     /// Lets each vertex that burning left lend once.
+    #[inline(always)]
     fn fire(&mut self, graph: &Graph, rest: &Counted)
         requires size { self.old.size ≡ graph.now.size }
         requires rest { (v : ℕ) →
