@@ -4,5 +4,6 @@ mod Writing
 mod Labelling
 mod Naming
 mod NoDecimals
-mod NoIntegers
+mod Reading
+pub mod Signs
 pub mod Common

@@ -1,10 +1,15 @@
 //! Decimals of numbers.
-ghost use Rattle.std.specs.Prelude.{◌≡◌, ◌≢◌, ℕ, ℤ, ◌<◌, ◌^◌, FitsSigned, MatchOption, decimal};
+ghost use Rattle.std.specs.Prelude.{◌≡◌, ◌≢◌, ◌↔◌, ℕ, ℤ, ◌<◌, ◌≤◌, ◌^◌, List, ◌∷◌, length, slice_index, FitsSigned, IsTrue, MatchBool, MatchOption, decimal};
 ghost use Rattle.std.specs.Fmt.{signed_decimal};
 ghost use Rattle.std.specs.Int.{w64};
+ghost use Rattle.dg_tokens.specs.Decimals.{BeginsWith, HasDigitFirst};
+ghost use Rattle.dg_tokens.specs.Digits.{AreLeadingDigits};
 
 use itoa::Buffer;
 use std::str;
+
+/// The most digits that are read: whatever they are, their number fits into 64 bits.
+const MAX_DIGITS: usize = 19;
 
 /// The number whose decimal the text is, if it is below 2^64. A decimal has no sign and no leading zero.
 pub fn natural(text: &[u8]) -> Option<u64>
@@ -24,45 +29,123 @@ pub fn natural(text: &[u8]) -> Option<u64>
 }
 
 /// The whole number from -2^63 to 2^63 - 1 whose decimal the text is. A decimal has no plus and no leading zero.
+#[inline(always)]
 pub fn integer(text: &[u8]) -> Option<i64>
     ensures { MatchOption result
         ((z : ℤ) → FitsSigned w64 z → text.now ≢ signed_decimal z)
         (λ z. text.now ≡ signed_decimal z) }
 {
-    // To write the number that the digits come to is less work than to parse the text, and mostly enough.
-    let guess = number_of_digits(text);
-    if Buffer::new().format(guess).as_bytes() == text {
-        return Some(guess);
+    let Some((number, rest)) = leading_integer(text) else {
+        return None;
+    };
+    if rest.is_empty() { Some(number) } else { None }
+}
+
+/// The whole number from -2^63 to 2^63 - 1 with whose decimal the text begins, and what follows, which begins with no digit.
+#[inline(always)]
+pub fn leading_integer(text: &[u8]) -> Option<(i64, &[u8])>
+    ensures { MatchOption result
+        ((z : ℤ) (rest : List ℕ) → FitsSigned w64 z → ¬ BeginsWith text.now (signed_decimal z) rest)
+        (λ r. BeginsWith text.now (signed_decimal r.0) r.1.now) }
+{
+    if has_minus_first(text) {
+        return after_minus(&text[1..]);
     }
-    let Ok(written) = str::from_utf8(text) else {
+    without_minus(text)
+}
+
+/// The same of a minus and what stands after it.
+#[inline(always)]
+fn after_minus(digits: &[u8]) -> Option<(i64, &[u8])>
+    ensures { MatchOption result
+        ((z : ℤ) (rest : List ℕ) → FitsSigned w64 z
+        → ¬ BeginsWith (45 ∷ digits.now) (signed_decimal z) rest)
+        (λ r. BeginsWith (45 ∷ digits.now) (signed_decimal r.0) r.1.now) }
+{
+    let Some((number, rest)) = leading_natural(digits) else {
         return None;
     };
-    let Ok(whole) = written.parse::<i64>() else {
+    if number == 0 {
         return None;
-    };
-    if Buffer::new().format(whole).as_bytes() == text {
-        Some(whole)
-    } else {
-        None
+    }
+    match i64::try_from(number - 1) {
+        Ok(below) => Some((-1 - below, rest)),
+        Err(_) => None,
     }
 }
 
-/// The number that the text's digits come to, with the sign before them, if the text is a decimal. Of another text it is any
-/// number.
-fn number_of_digits(text: &[u8]) -> i64 {
-    let (digits, is_negative) = match text.split_first() {
-        Some((b'-', digits)) => (digits, true),
-        _ => (text, false),
+/// The same of a text that begins with no minus.
+#[inline(always)]
+fn without_minus(text: &[u8]) -> Option<(i64, &[u8])>
+    requires { slice_index text.now 0 ≢ 45 }
+    ensures { MatchOption result
+        ((z : ℤ) (rest : List ℕ) → FitsSigned w64 z → ¬ BeginsWith text.now (signed_decimal z) rest)
+        (λ r. BeginsWith text.now (signed_decimal r.0) r.1.now) }
+{
+    let Some((number, rest)) = leading_natural(text) else {
+        return None;
     };
-    let mut number: i64 = 0;
-    for digit in digits {
-        number = number
-            .wrapping_mul(10)
-            .wrapping_add(i64::from(digit.wrapping_sub(b'0')));
+    match i64::try_from(number) {
+        Ok(number) => Some((number, rest)),
+        Err(_) => None,
     }
-    if is_negative {
-        number.wrapping_neg()
-    } else {
-        number
+}
+
+/// Whether the text begins with a minus.
+fn has_minus_first(text: &[u8]) -> bool
+    ensures { MatchBool result
+        ((1 ≤ length text.now) × (slice_index text.now 0 ≡ 45))
+        (slice_index text.now 0 ≢ 45) }
+{
+    match text {
+        [byte, ..] => *byte == b'-',
+        [] => false,
+    }
+}
+
+/// The number of at most 19 digits with whose decimal the text begins, and what follows, which begins with no digit.
+#[inline(always)]
+fn leading_natural(text: &[u8]) -> Option<(u64, &[u8])>
+    ensures { MatchOption result
+        ((n : ℕ) (rest : List ℕ) → n < 10 ^ 19 → ¬ BeginsWith text.now (decimal n) rest)
+        (λ r. (r.0 < 10 ^ 19) × BeginsWith text.now (decimal r.0) r.1.now) }
+{
+    let (number, count) = leading_digits(text);
+    let rest = &text[count..];
+    if count == 0 {
+        return None;
+    }
+    if count > 1 && text[0] == b'0' {
+        return None;
+    }
+    if count == MAX_DIGITS && has_digit_first(rest) {
+        return None;
+    }
+    Some((number, rest))
+}
+
+/// The number that the digits come to with which the text begins, and how many these are, at most 19.
+#[inline(always)]
+fn leading_digits(text: &[u8]) -> (u64, usize)
+    ensures { AreLeadingDigits text.now result.0 result.1 }
+{
+    let front = &text[..text.len().min(MAX_DIGITS)];
+    let mut number = 0;
+    for (count, byte) in front.iter().enumerate() {
+        if *byte < b'0' || *byte > b'9' {
+            return (number, count);
+        }
+        number = 10 * number + u64::from(*byte - b'0');
+    }
+    (number, front.len())
+}
+
+/// Whether the text begins with a digit.
+fn has_digit_first(text: &[u8]) -> bool
+    ensures { IsTrue result ↔ HasDigitFirst text.now }
+{
+    match text {
+        [byte, ..] => byte.is_ascii_digit(),
+        [] => false,
     }
 }

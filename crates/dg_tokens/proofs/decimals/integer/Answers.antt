@@ -1,18 +1,17 @@
--- A text that is refused is the decimal of no number of 64 bits; one that is not is that of the number.
-use Rattle.dg_tokens.proofs.Common.{◌∙◌}
-use Rattle.dg_tokens.proofs.NoIntegers.{no_utf8, no_number, no_decimal}
+-- A text that is refused is the decimal of no number.
+use Rattle.dg_tokens.proofs.Common.{FitsSigned, w64, rules, to_z-of_z}
+use Rattle.dg_tokens.proofs.Signs.{integer_found, integer_none, integer_lost, none_left, some_left}
 use Rattle.dg_tokens.proofs.decimals.integer.Goals as goal
 
 pub returns-in_default : goal.returns-in_default
-returns-in_default c = no_utf8 c.args.text.now c.in_default.ensures.cases.0
+returns-in_default c = integer_none _ c.in_default.ensures
 
-pub returns-in_default-parse : goal.returns-in_default-parse
-returns-in_default-parse c =
-    no_number c.in-Ok.written.now c.args.text.now c.in_default-parse.field-0 c.in-Ok.ensures.cases.0
-    c.in_default-parse.ensures.value.0
+pub returns-then-is_empty : goal.returns-then-is_empty
+returns-then-is_empty c =
+    let fits : FitsSigned w64 c.in-Some.number = search rules in
+    rw (to_z-of_z fits) (integer_found _ _ _ c.in-Some.ensures (none_left _ c.if-is_empty.ensures))
 
-pub returns-else-eq-2 : goal.returns-else-eq-2
-returns-else-eq-2 c =
-    no_decimal c.in-Ok.written.now c.args.text.now c.as_bytes-2.result.now c.in-Ok-parse.whole c.parse.result
-    c.in-Ok.ensures.cases.0 c.parse.ensures.value.0 c.in-Ok-parse.is
-    (c.as_bytes-2.ensures.value ∙ c.format-2.ensures.text) c.if-eq-2.ensures
+pub returns-else-is_empty : goal.returns-else-is_empty
+returns-else-is_empty c =
+    let fits : FitsSigned w64 c.in-Some.number = search rules in
+    integer_lost _ _ _ fits c.in-Some.ensures (some_left _ c.if-is_empty.ensures)
