@@ -1,12 +1,11 @@
 -- Digits as they are read one by one, and the decimal that they are.
 --   AreDigitsTo front n count    the digits so far, and the number that they come to
---   digits_none, digits_more     none; one more
+--   digits_more                  one more keeps that
 --   digits_small                 the number of at most 18 is below 10^18
---   digits_stop, digits_all      the digits with which a text begins, where one is none, and where all are
 --   leading_found                these are a decimal, if there is one and no zero before others
 --   leading_lost                 where a text begins with a decimal, they are so
 --   one_natural                  a text begins with one decimal
-use Rattle.dg_tokens.proofs.Common.{◌≡◌, ℕ, zero, suc, ◌+◌, ◌-◌, ◌*◌, ◌<◌, ◌≤◌, ◌^◌, List, [], ◌∷◌, ◌++◌, length, take, drop, get_or, min, refl, sym, ap, ◌∙◌, subst, inl, inr, arith, decimal, below_more, cases_lt, cases_order, take_more, take-take, length-take, length-take-le, get_or-take, get_or_append_left, take-append-drop, drop_at, take_at, drop_all, length-append, decimal-digits_value, decimal_is_IsNumeral, decimal_digit, decimal_injective, decimal_nonempty, first_decimal, length-decimal-le, IsNumeralModel, numerals_by_value, tells_by_index, digits_value_short, digit_at, digit_value_digit, digits_value, digits_value_after, digit_value, BeginsWith, HasDigitFirst, AreLeadingDigits}
+use Rattle.dg_tokens.proofs.Common.{◌≡◌, ℕ, zero, suc, ◌+◌, ◌-◌, ◌*◌, ◌<◌, ◌≤◌, ◌^◌, List, [], ◌∷◌, ◌++◌, length, take, drop, get_or, refl, sym, ap, ◌∙◌, subst, inl, inr, arith, decimal, below_more, cases_lt, cases_order, take_more, length-take, length-take-le, get_or-take, get_or_append_left, take-append-drop, drop_at, take_at, length-append, decimal-digits_value, decimal_is_IsNumeral, decimal_digit, decimal_injective, decimal_nonempty, first_decimal, length-decimal-le, IsNumeralModel, numerals_by_value, tells_by_index, digits_value_short, digit_at, digit_value_digit, digits_value, digits_value_after, digit_value, BeginsWith, HasDigitFirst, AreLeadingDigits}
 
 abbrev pub IsDigit : ℕ → Type 0
 IsDigit c = (48 ≤ c) × (c ≤ 57)
@@ -21,10 +20,6 @@ pub record AreDigitsTo (front : List ℕ) (n count : ℕ) : Type 0 where
   pub digits : (i : ℕ) → i < count → IsDigit (get_or front i 0)
   pub number : digits_value 10 (take count front) ≡ n
 
-pub digits_none : (front : List ℕ) → AreDigitsTo front 0 0
-digits_none [] = record { digits = λ i less. absurd (omega arith); number = refl }
-digits_none (x ∷ xs) = record { digits = λ i less. absurd (omega arith); number = refl }
-
 pushed : (n : ℕ) (ds : List ℕ) (d : ℕ)
     → digits_value_after 10 n (ds ++ d ∷ []) ≡ digits_value_after 10 n ds * 10 + digit_value d
 pushed n [] d = refl
@@ -34,7 +29,8 @@ pub digits_more : (front : List ℕ) (n count byte m : ℕ) → AreDigitsTo fron
     → byte ≡ get_or front count 0 → 48 ≤ byte → byte ≤ 57 → m ≡ 10 * n + (byte - 48) → AreDigitsTo front m (count + 1)
 digits_more front n count byte m far inside is low high sum =
     let here : IsDigit (get_or front count 0) = (omega (arith, is), omega (arith, is)) in
-    let value : digits_value 10 (take (count + 1) front) ≡ digits_value 10 (take count front) * 10 + digit_value (get_or front count 0) =
+    let value : digits_value 10 (take (count + 1) front)
+    ≡ digits_value 10 (take count front) * 10 + digit_value (get_or front count 0) =
     ap (digits_value 10) (take_more front count 0 inside) ∙ pushed 0 (take count front) (get_or front count 0) in
     record {
       digits = below_more (λ i. IsDigit (get_or front i 0)) count far.digits here;
@@ -50,41 +46,6 @@ pub digits_small : (front : List ℕ) (n count : ℕ) → AreDigitsTo front n co
 digits_small front n count far few =
     subst (λ m. m < 10 ^ 18) far.number
     (digits_value_short own (take count front) 18 (prefix front count far.digits) (omega (arith, length-take count front)))
-
-digits_in : (text front : List ℕ) (n count : ℕ) → front ≡ take 19 text → count ≤ length front
-    → AreDigitsTo front n count → (count < 19 → ¬ HasDigitFirst (drop count text)) → AreLeadingDigits text n count
-digits_in text front n count is inside far ends =
-    let size : length front ≡ min 19 (length text) = ap length is ∙ length-take 19 text in
-    let few : count ≤ 19 = omega (arith, size) in
-    record {
-      within = omega (arith, size);
-      few = few;
-      digits = λ i less. subst IsDigit
-          (ap (λ xs. get_or xs i 0) is ∙ get_or-take 19 text i 0 (omega arith)) (far.digits i less);
-      number = ap (digits_value 10) (sym (ap (take count) is ∙ take-take count 19 text few)) ∙ far.number;
-      ends = ends;
-    }
-
-none_first : (text : List ℕ) (i : ℕ) → ¬ IsDigit (get_or text i 0) → ¬ HasDigitFirst (drop i text)
-none_first [] zero none = λ digit. digit
-none_first [] (suc i) none = λ digit. digit
-none_first (x ∷ xs) zero none = none
-none_first (x ∷ xs) (suc i) none = none_first xs i none
-
-pub digits_stop : (text front : List ℕ) (n count byte : ℕ) → front ≡ take 19 text → count < length front
-    → AreDigitsTo front n count → byte ≡ get_or front count 0 → ¬ IsDigit byte → AreLeadingDigits text n count
-digits_stop text front n count byte is inside far here none =
-    let size : length front ≡ min 19 (length text) = ap length is ∙ length-take 19 text in
-    let same : byte ≡ get_or text count 0 =
-    here ∙ ap (λ xs. get_or xs count 0) is ∙ get_or-take 19 text count 0 (omega (arith, size)) in
-    digits_in text front n count is (omega arith) far (λ less. none_first text count (subst (λ c. ¬ IsDigit c) same none))
-
-pub digits_all : (text front : List ℕ) (n count : ℕ) → front ≡ take 19 text → count ≡ length front
-    → AreDigitsTo front n count → AreLeadingDigits text n count
-digits_all text front n count is whole far =
-    let size : length front ≡ min 19 (length text) = ap length is ∙ length-take 19 text in
-    digits_in text front n count is (omega arith) far
-    (λ less. subst (λ xs. ¬ HasDigitFirst xs) (sym (drop_all count text (omega (arith, size)))) (λ digit. digit))
 
 pub leading_found : (text : List ℕ) (n count : ℕ) → AreLeadingDigits text n count → 1 ≤ count
     → (get_or text 0 0 ≡ 48 → count ≡ 1) → ¬ HasDigitFirst (drop count text)

@@ -1,7 +1,6 @@
 -- The decimals of whole numbers with a sign, with which a text begins.
 --   plain_lost       without a minus it is that of a number that is not negative
 --   minus_lost       after a minus it is that of a number above 0
---   minus_found      a minus and such a decimal are the decimal of a negative number
 --   whole_again      a text that begins with a minus is that and what stands after it
 --   integer_found, integer_lost   the text has no rest; or it has one, and is the decimal of no number
 --   none_left, some_left          whether there is a rest, as a test says
@@ -43,13 +42,6 @@ pub plain_lost : (text rest : List ℕ) (z : ℤ) → FitsSigned w64 z → get_o
     → IsPlain text rest z
 plain_lost text rest (pos n) fits none begins = record { number = n; is = refl; few = omega (arith, fits.sfits); begins = begins }
 plain_lost text rest (negsuc n) fits none begins = absurd (none (ap (λ xs. get_or xs 0 0) begins.whole))
-
-pub minus_found : (digits rest : List ℕ) (n below : ℕ) → BeginsWith digits (decimal n) rest → n ≡ suc below
-    → BeginsWith (45 ∷ digits) (signed_decimal (negsuc below)) rest
-minus_found digits rest n below begins is = record {
-  whole = ap (λ xs. 45 ∷ xs) (begins.whole ∙ ap (λ m. decimal m ++ rest) is);
-  ends = begins.ends;
-}
 
 pub whole_again : (text : List ℕ) → 1 ≤ length text → get_or text 0 0 ≡ 45
     → 45 ∷ take (length text - 1) (drop 1 text) ≡ text

@@ -12,11 +12,13 @@ returns-in_default c z rest fits begins =
 pub returns-then-number-eq0 : goal.returns-then-number-eq0
 returns-then-number-eq0 c z rest fits begins =
     let lost = minus_lost _ rest z fits begins in
-    let same = one_natural _ c.in-Some.number (suc lost.below) _ _ c.in-Some.ensures.1 lost.begins c.in-Some.ensures.0 (omega (arith, lost.few)) in
+    let same = one_natural _ c.in-Some.number (suc lost.below) _ _ c.in-Some.ensures.1 lost.begins c.in-Some.ensures.0
+    (omega (arith, lost.few)) in
     omega arith
 
 pub returns-in-Err : goal.returns-in-Err
 returns-in-Err c z rest fits begins =
     let lost = minus_lost _ rest z fits begins in
-    let same = one_natural _ c.in-Some.number (suc lost.below) _ _ c.in-Some.ensures.1 lost.begins c.in-Some.ensures.0 (omega (arith, lost.few)) in
+    let same = one_natural _ c.in-Some.number (suc lost.below) _ _ c.in-Some.ensures.1 lost.begins c.in-Some.ensures.0
+    (omega (arith, lost.few)) in
     c.in-Err.ensures (record { sfits = omega (arith, same, lost.few) })

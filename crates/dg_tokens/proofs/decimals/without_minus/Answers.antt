@@ -12,5 +12,6 @@ returns-in_default c z rest fits begins =
 pub returns-in-Err : goal.returns-in-Err
 returns-in-Err c z rest fits begins =
     let lost = plain_lost _ rest z fits c.requires begins in
-    let same = one_natural _ c.in-Some.number lost.number _ _ c.in-Some.ensures.1 lost.begins c.in-Some.ensures.0 (omega (arith, lost.few)) in
+    let same = one_natural _ c.in-Some.number lost.number _ _ c.in-Some.ensures.1 lost.begins c.in-Some.ensures.0
+    (omega (arith, lost.few)) in
     c.in-Err.ensures (record { sfits = omega (arith, same, lost.few) })
