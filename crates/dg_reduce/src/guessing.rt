@@ -18,6 +18,7 @@ use dg_burn::burn_counted;
 use dg_chips::{Script, Wide};
 use dg_graph::{Graph, MAX_VERTICES, contains};
 use std::num::f64_to_bits_with_nan;
+use std::simd::prelude::*;
 
 /// The most lendings, and the most borrowings, that are guessed.
 const MOST: i32 = 1_000_000_000;
@@ -39,7 +40,7 @@ const MOST_TIMES: i32 = 1_000_000;
 /// Amounts off q, and lendings, near to those of a reduction. What q holds is not followed: no step looks at it.
 #[derive(Clone, Copy)]
 struct GuessState {
-    chips: [i32; 16],
+    chips: i32x16,
     script: [i32; 16],
 }
 
@@ -103,11 +104,9 @@ fn guess_near(
     ensures burning { IfSome result.burning (λ x. IsWhole graph.now q x) }
 {
     let _size = graph.size();
-    let mut near = GuessState {
-        chips: *amounts,
-        script: rounded(lendings),
-    };
-    lend_all(graph.size(), lending, &mut near);
+    let script = rounded(lendings);
+    let chips = after_lendings(graph.size(), lending, amounts, &script);
+    let mut near = GuessState { chips, script };
     pay(lending, &mut near);
     let burning = burn_down(graph, lending, q, &mut near);
     Guessed {
@@ -129,17 +128,20 @@ fn amounts_off(q: usize, chips: &Wide) -> [i32; 16]
     amounts
 }
 
-/// Lets all lend so often.
-fn lend_all(size: usize, lending: &Lending, near: &mut GuessState)
+/// The amounts after all have lent so often.
+fn after_lendings(
+    size: usize,
+    lending: &Lending,
+    amounts: &[i32; 16],
+    script: &[i32; 16],
+) -> i32x16
     requires { size ≤ MAX_VERTICES }
 {
+    let mut chips = i32x16::from_array(*amounts);
     for v in 0..size {
-        let times = near.script[v];
-        // The test also keeps the compiler from taking four rows together, which is slower than one after the other.
-        if times != 0 {
-            lend(&mut near.chips, &lending.rows[v], times);
-        }
+        chips = chips + lent(&lending.rows[v], script[v]);
     }
+    chips
 }
 
 /// The whole numbers nearest to some that are within a thousand million.
@@ -158,48 +160,24 @@ fn nearest(lendings: f64) -> i32 {
     ((sum & 0xffff_ffff) as u32).cast_signed()
 }
 
-/// Lets the vertex that this row is of lend so often.
-fn lend(chips: &mut [i32; 16], row: &[i32; 16], times: i32) {
-    for w in 0..16 {
-        chips[w] = chips[w].wrapping_add(row[w].wrapping_mul(times));
-    }
+/// What each gets if the vertex that this row is of lends so often.
+fn lent(row: &[i32; 16], times: i32) -> i32x16 {
+    i32x16::from_array(*row) * i32x16::splat(times)
 }
 
 /// Lets the least who owes borrow until it owes no more, again and again. In any order of turns, each borrows as often in
 /// the end.
 fn pay(lending: &Lending, near: &mut GuessState) {
     for _ in 0..PAYINGS {
-        if !is_owing(&near.chips) {
+        let owing = near.chips.simd_lt(i32x16::splat(0)).to_bitmask();
+        if owing == 0 {
             return;
         }
-        let Some(v) = first_owing(&near.chips) else {
-            return;
-        };
-        let times = times_to_pay(near.chips[v], lending.valences[v]);
-        lend(&mut near.chips, &lending.rows[v], times);
+        let v = (owing.trailing_zeros() as usize).min(15);
+        let times = times_to_pay(near.chips.to_array()[v], lending.valences[v]);
+        near.chips = near.chips + lent(&lending.rows[v], times);
         near.script[v] = near.script[v].wrapping_add(times);
     }
-}
-
-/// Whether somebody owes: one of the amounts has the sign's bit. Mostly none has.
-fn is_owing(chips: &[i32; 16]) -> bool {
-    let mut bits = 0;
-    for v in 0..16 {
-        bits |= chips[v];
-    }
-    bits < 0
-}
-
-/// The least who owes.
-fn first_owing(chips: &[i32; 16]) -> Option<usize>
-    ensures { IfSome result (λ v. v < 16) }
-{
-    for v in 0..16 {
-        if chips[v] < 0 {
-            return Some(v);
-        }
-    }
-    None
 }
 
 /// How often, below 0, a vertex that owes lends until it owes no more. A vertex without edges never does.
@@ -216,7 +194,8 @@ fn burn_down(graph: &Graph, lending: &Lending, q: usize, near: &mut GuessState) 
     ensures { IfSome result (λ x. IsWhole graph.now q x) }
 {
     for round in 0..BURNING_ROUNDS {
-        let held = seen_by_burning(&near.chips);
+        let chips = near.chips.to_array();
+        let held = seen_by_burning(&chips);
         let counted = burn_counted(graph, q, &held);
         if counted.burnt.unburnt == 0 {
             let order = counted.burnt.order;
@@ -226,7 +205,7 @@ fn burn_down(graph: &Graph, lending: &Lending, q: usize, near: &mut GuessState) 
         let times = if round < SINGLE_ROUNDS {
             1
         } else {
-            most_times(set, &counted.joined, &near.chips)
+            most_times(set, &counted.joined, &chips)
         };
         fire(lending, set, &counted.joined, times, near);
     }
@@ -248,14 +227,16 @@ fn most_times(set: u16, joined: &[u8; 16], chips: &[i32; 16]) -> i32 {
 
 /// Lets the vertices of a set lend together so many times; `joined` are the edges of each vertex to those that are not in it.
 fn fire(lending: &Lending, set: u16, joined: &[u8; 16], times: i32, near: &mut GuessState) {
+    let mut chips = near.chips.to_array();
     for v in 0..16 {
         let lends = i32::from(contains(set, v));
         let out = i32::from(joined[v]);
         let got = (1i32.wrapping_sub(lends)).wrapping_mul(lending.valences[v]);
         let gains = got.wrapping_sub(out).wrapping_mul(times);
-        near.chips[v] = near.chips[v].wrapping_add(gains);
+        chips[v] = chips[v].wrapping_add(gains);
         near.script[v] = near.script[v].wrapping_add(lends.wrapping_mul(times));
     }
+    near.chips = i32x16::from_array(chips);
 }
 
 /// The lendings as a script, 0 at q and cut off at the most that are guessed.
