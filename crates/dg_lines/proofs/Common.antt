@@ -36,7 +36,7 @@ pub use Rattle.dg_verdict.specs.declared.verdict.Verdict.{Verdict}
 pub use Rattle.std.proofs.Common.{Bool, Bor, Decides, Err, FitsSigned, IfErr, IfOk, IsErrAnd, List, MatchOption, MatchResult, None, Ok, Option, Result, Some, [], add-one, ap, append_assoc, arith, codes, cond, decimal, drop, false, flat_map, get_or, inl, inr, int_le, length, length-take-le, lit≤, map, min, nat_lt, neg_ℤ, negsuc, not, one-add, pos, refl, rules, slice_get, subst, suc, sym, take, to_z-of_z, true, true≢false, unsigned_abs, w64, w8, zero, ℕ, ℤ, ◌%◌, ◌&&◌, ◌*◌, ◌++◌, ◌+◌, ◌-◌, ◌/◌, ◌<◌, ◌==◌, ◌^◌, ◌||◌, ◌∙◌, ◌∷◌, ◌≡◌, ◌≢◌, ◌≤◌, ◌⊎◌}
 pub use Rattle.std.proofs.Math.ListN.{get_or-append}
 pub use Rattle.std.proofs.Math.Seq.{drop-cons}
-pub use Rattle.std.proofs.lemmas.Bool.{cases_lt, eqb-true, lt-ltb}
+pub use Rattle.std.proofs.lemmas.Bool.{cases_lt, eqb-true, false_from_ne_true, lt-ltb}
 pub use Rattle.std.proofs.lemmas.Bool.Decides.{nat_tests}
 pub use Rattle.std.proofs.lemmas.Fmt.{decimal_by_steps_wide, decimal_digit, decimal_injective, decimal_is_IsNumeral, decimal_is_IsNumeral_wide, decimal_step, decimal_step_wide, length-decimal-le, signed_decimal_injective}
 pub use Rattle.std.proofs.lemmas.Grind.{flat_map-append}

@@ -107,13 +107,18 @@ lines_step xs line o other rest some first follows none is =
     ∙ ap (λ back. line ∷ lines_after back) (sym follows)
     ∙ ap (λ back. line ∷ back) (lines_after-rest o other none ∙ ap (λ back. lines back.now) (sym is))
 
+-- the pieces that are left begin with the next one
+pub pieces_next : (b : ℕ) (rest : Option (Bor (List ℕ))) (text : Bor (List ℕ)) → rest ≡ Some text
+    → pieces_after b (option_copied rest) ≡ before b text.now ∷ pieces_after b (after b text.now)
+pieces_next b rest text e = ap (λ (o : Option (Bor (List ℕ))). pieces_after b (option_copied o)) e ∙ pieces_cut b text.now
+
 -- the pieces that are left begin with the one that is cut off next
 pub pieces_left : (b : ℕ) (rest : Option (Bor (List ℕ))) (text : Bor (List ℕ)) (first : List ℕ)
     (more : Option (Bor (List ℕ)))
     → rest ≡ Some text → first ≡ before b text.now → option_copied more ≡ after b text.now
     → pieces_after b (option_copied rest) ≡ first ∷ pieces_after b (option_copied more)
 pieces_left b rest text first more e front back =
-    ap (λ (o : Option (Bor (List ℕ))). pieces_after b (option_copied o)) e ∙ pieces_cut b text.now
+    pieces_next b rest text e
     ∙ ap (λ front_is. front_is ∷ pieces_after b (after b text.now)) (sym front)
     ∙ ap (λ back_is. first ∷ pieces_after b back_is) (sym back)
 

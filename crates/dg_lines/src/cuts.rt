@@ -4,6 +4,7 @@ ghost use Rattle.std.specs.Option.{option_copied};
 ghost use lib.Lanes.{mask_l};
 ghost use Rattle.dg_lines.specs.Cuts.{before, after};
 
+use memchr::memchr;
 use std::simd::prelude::*;
 
 /// What stands before the first such byte, or all if there is none, and what stands after it, if there is one.
@@ -17,17 +18,18 @@ pub fn cut(bytes: &[u8], at: u8) -> (&[u8], Option<&[u8]>)
     }
 }
 
-/// The first place of the byte. If there are 32 bytes, these are looked at together, because most lines end there.
+/// The first place of the byte. If there are 32 bytes, these are looked at together, because most words end there.
 fn first_place(bytes: &[u8], at: u8) -> Option<usize>
     ensures { result ≡ position (λ byte. byte == at) bytes.now }
 {
-    if bytes.len() >= 32 {
-        let places = places_in_32(bytes, at);
-        if places != 0 {
-            return Some(places.trailing_zeros() as usize);
-        }
+    if bytes.len() < 32 {
+        return bytes.iter().position(|byte| *byte == at);
     }
-    bytes.iter().position(|byte| *byte == at)
+    let places = places_in_32(bytes, at);
+    if places != 0 {
+        return Some(places.trailing_zeros() as usize);
+    }
+    memchr(at, bytes)
 }
 
 /// The places of the byte among the first 32: bit i of the number is for place i.
