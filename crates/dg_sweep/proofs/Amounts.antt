@@ -2,8 +2,8 @@
 --   IsReadTo line left xs     the words of the line are the decimals of the numbers xs, and then those that are left
 --   read_none, read_one, read_all   none are read; one more; all are
 --   none_read                 where a word is no decimal, the line spells no numbers
---   one_digit, minus_digit    a word of one digit is a decimal; so is one of a minus and a digit that is not 0
-use Rattle.dg_sweep.proofs.Common.{◌≡◌, ◌≢◌, ℕ, suc, ◌-◌, ◌≤◌, ℤ, pos, negsuc, List, [], ◌∷◌, ◌++◌, map, All, FitsSigned, w64, refl, sym, ap, ◌∙◌, ◌+◌, append-nil, arith, length, signed_decimal, slice_index_or, decimal_digit, All-nil, All-push, All-head, All-tail, words, SpellsAmounts, SpellsNone}
+--   amounts_stand             a line whose amounts are those of a divisor stands for the start with it
+use Rattle.dg_sweep.proofs.Common.{◌≡◌, ◌≢◌, ℕ, suc, ◌-◌, ◌≤◌, ℤ, pos, negsuc, List, [], ◌∷◌, ◌++◌, map, All, FitsSigned, w64, refl, sym, ap, ◌∙◌, ◌+◌, append-nil, arith, length, signed_decimal, All-nil, All-push, All-head, All-tail, words, StartData, Vector, HasAmountsOf, IsDivisorOf, SpellsAmounts, SpellsNone}
 
 pub record IsReadTo (line : List ℕ) (left : List (List ℕ)) (xs : List ℤ) : Type 0 where
   pub spelled : words line ≡ map signed_decimal xs ++ left
@@ -55,20 +55,14 @@ none_read {xs = xs} word more far next never ys spells =
     no_others word more never xs ys
     (sym (ap (λ l. map signed_decimal xs ++ l) next) ∙ sym far.spelled ∙ spells.spelled) spells.held
 
-pub one_digit : (word : List ℕ) (z : ℤ) → length word ≡ 1 → 48 ≤ slice_index_or word 0 0 → slice_index_or word 0 0 ≤ 57
-    → z ≡ pos (slice_index_or word 0 0 - 48) → word ≡ signed_decimal z
-one_digit [] z long low high is = absurd (omega (arith, long))
-one_digit (x ∷ []) z long low high is =
-    let same : x ≡ 48 + (x - 48) = omega (arith, low) in
-    ap (λ d. d ∷ []) same ∙ sym (decimal_digit (x - 48) (omega (arith, high))) ∙ ap signed_decimal (sym is)
-one_digit (x ∷ y ∷ rest) z long low high is = absurd (omega (arith, long))
-
-pub minus_digit : (word : List ℕ) (z : ℤ) → length word ≡ 2 → slice_index_or word 0 0 ≡ 45 → 49 ≤ slice_index_or word 1 0
-    → slice_index_or word 1 0 ≤ 57 → z ≡ negsuc (slice_index_or word 1 0 - 49) → word ≡ signed_decimal z
-minus_digit [] z long minus low high is = absurd (omega (arith, long))
-minus_digit (x ∷ []) z long minus low high is = absurd (omega (arith, long))
-minus_digit (x ∷ y ∷ []) z long minus low high is =
-    let same : y ≡ 48 + suc (y - 49) = omega (arith, low) in
-    ap (λ d. d ∷ y ∷ []) minus ∙ ap (λ d. 45 ∷ d ∷ []) same
-    ∙ ap (λ ds. 45 ∷ ds) (sym (decimal_digit (suc (y - 49)) (omega (arith, low, high)))) ∙ ap signed_decimal (sym is)
-minus_digit (x ∷ y ∷ w ∷ rest) z long minus low high is = absurd (omega (arith, long))
+pub amounts_stand : (o : StartData) (line : List ℕ) (d : Vector) → IsDivisorOf o.graph.size line d
+    → HasAmountsOf o line (record o { divisor = d })
+amounts_stand o line d is = record {
+  xs = is.xs;
+  spelled = is.spelled;
+  divisor = d;
+  amounts = is.amounts;
+  size = is.size;
+  within = is.within;
+  rest = refl;
+}

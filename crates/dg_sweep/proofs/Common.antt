@@ -3,17 +3,17 @@ pub use Rattle.dg_chips.specs.DivisorFaults.{IsFirstChipFault}
 pub use Rattle.dg_chips.specs.Starts.{IsStart, StartData}
 pub use Rattle.dg_chips.specs.Vector.{HoldsNumbers, IsDivisor, Vector, at}
 pub use Rattle.dg_chips.specs.VectorFaults.{IsFirstPast}
-pub use Rattle.dg_chips.specs.declared.divisor.ChipFault.{ChipFault}
 pub use Rattle.dg_chips.specs.declared.divisor.ChipFault.TheVariants.{Length, Range}
+pub use Rattle.dg_chips.specs.declared.divisor.ChipFault.{ChipFault}
 pub use Rattle.dg_file.specs.Content.{Content}
 pub use Rattle.dg_file.specs.FileFaults.{RefusesFile, RefusesTable}
 pub use Rattle.dg_file.specs.FileLaws.{AreSameOpenings, FilesHaveOneMeaning}
 pub use Rattle.dg_file.specs.TableFiles.{IsTable}
-pub use Rattle.dg_file.specs.declared.fault.FileFault.{FileFault}
 pub use Rattle.dg_file.specs.declared.fault.FileFault.TheVariants.{Chip}
-pub use Rattle.dg_invocation.specs.declared.question.Question.{Question}
+pub use Rattle.dg_file.specs.declared.fault.FileFault.{FileFault}
 pub use Rattle.dg_invocation.specs.declared.question.Question.TheVariants.{Judge, Rank, RiemannRoch}
-pub use Rattle.dg_lines.proofs.Cutting.{none_left, pieces_left}
+pub use Rattle.dg_invocation.specs.declared.question.Question.{Question}
+pub use Rattle.dg_lines.proofs.Cutting.{none_left, pieces_left, pieces_next}
 pub use Rattle.dg_lines.proofs.Integers.{fits_within}
 pub use Rattle.dg_lines.proofs.Judging.{judged-named}
 pub use Rattle.dg_lines.proofs.Streams.{begins_more, begins_none, begins_one, begins_then, come_last, come_then, line_shorter, one_cutting, part_line, part_plain, part_whole}
@@ -28,13 +28,13 @@ pub use Rattle.dg_rank.specs.Ranks.{IsUntold, IsWithin, NeedsPastTests}
 pub use Rattle.dg_sweep.specs.AnswerLaws.{AmountsHaveOneAnswer, AmountsHaveOneMeaning, HasOneAnswer}
 pub use Rattle.dg_sweep.specs.Answers.{AnswersLine, AnswersRank, AnswersTable, AnswersTableWithin, AreRanks, AreUntested, IsBelow, IsRefused, IsTested, number_after, numbers_text, refusal}
 pub use Rattle.dg_sweep.specs.DivisorLaws.{with_amounts}
-pub use Rattle.dg_sweep.specs.Divisors.{AnswersAmounts, HasAmountsOf, RefusesAmounts, SpellsAmounts, SpellsNone}
+pub use Rattle.dg_sweep.specs.Divisors.{AnswersAmounts, HasAmountsOf, IsDivisorOf, RefusesAmounts, SpellsAmounts, SpellsNone}
 pub use Rattle.dg_sweep.specs.FaultTexts.{file_fault_text}
 pub use Rattle.dg_sweep.specs.Pieces.{AnswersPiece, IsAnswered, Leads}
 pub use Rattle.dg_sweep.specs.Steps.{AnswersFront, AnswersLast, EndsLine, KeepsPart, Passes, StandsFor, TakesBytes}
 pub use Rattle.dg_sweep.specs.Sweeps.{EndsAfter, IsSweep, WritesAnswers}
-pub use Rattle.dg_sweep.specs.declared.ends.SweepEnd.{SweepEnd}
 pub use Rattle.dg_sweep.specs.declared.ends.SweepEnd.TheVariants.{Read, Shortage, Write}
+pub use Rattle.dg_sweep.specs.declared.ends.SweepEnd.{SweepEnd}
 pub use Rattle.dg_sweep.specs.declared.ends.TheConstants.{READ_SIZE}
 pub use Rattle.dg_system.proofs.Growing.{appends_more, appends_none}
 pub use Rattle.dg_system.proofs.InputReads.{chunk_size, consumes_kept, consumes_more, consumes_none, read_chunk, read_nothing}
@@ -53,24 +53,28 @@ pub use Rattle.dg_theory.specs.Play.{IsWinnable}
 pub use Rattle.dg_theory.specs.Rank.{HasRankAtLeast, IsRank, canonical, less}
 pub use Rattle.dg_theory.specs.Reduced.{IsReduced}
 pub use Rattle.dg_theory.specs.Sums.{sum_below, total_below}
+pub use Rattle.dg_tokens.proofs.Signs.{one_rest}
+pub use Rattle.dg_tokens.specs.Decimals.{BeginsWith, HasDigitFirst}
 pub use Rattle.dg_verdict.specs.RankTests.{IsRankTest}
 pub use Rattle.dg_verdict.specs.Right.{IsRight, IsVerdictOn}
-pub use Rattle.dg_verdict.specs.declared.rank_verdict.RankVerdict.{RankVerdict}
 pub use Rattle.dg_verdict.specs.declared.rank_verdict.RankVerdict.TheVariants.{AtLeast, Below}
+pub use Rattle.dg_verdict.specs.declared.rank_verdict.RankVerdict.{RankVerdict}
 pub use Rattle.dg_verdict.specs.declared.verdict.Verdict.{Verdict}
-pub use Rattle.std.proofs.Common.{if◌then◌else◌, All, Bool, Bor, Err, FitsSigned, List, Ok, Option, Result, [], ap, append-nil, append_assoc, arith, codes, drop, false, flat_map, get_or, inl, inr, length, map, neg_ℤ, negsuc, of_z, pos, refl, rules, subst, suc, sym, take, tests, to_z, to_z-of_z, true, w64, zero, ℕ, ℤ, ⊎_elim, ◌*◌, ◌++◌, ◌+◌, ◌-◌, ◌<◌, ◌^◌, ◌∙◌, ◌∷◌, ◌≡◌, ◌≢◌, ◌≤◌, ◌⊎◌}
+pub use Rattle.std.proofs.Common.{All, Bool, Bor, Err, FitsSigned, List, None, Ok, Option, Result, [], ap, append-nil, append_assoc, arith, codes, cond, drop, false, flat_map, get_or, if◌then◌else◌, inl, inr, length, map, neg_ℤ, negsuc, of_z, pos, refl, rules, subst, suc, sym, take, tests, to_z, to_z-of_z, true, w64, zero, ℕ, ℤ, ⊎_elim, ◌*◌, ◌++◌, ◌+◌, ◌-◌, ◌<◌, ◌==◌, ◌^◌, ◌∙◌, ◌∷◌, ◌≡◌, ◌≢◌, ◌≤◌, ◌⊎◌}
 pub use Rattle.std.proofs.Math.IntN.{◌*ℤ◌, ◌+ℤ◌, ◌-ℤ◌}
 pub use Rattle.std.proofs.Math.Path.{fun_ext}
 pub use Rattle.std.proofs.Math.Seq.{take-append_seam}
-pub use Rattle.std.proofs.lemmas.Bool.{cases_eq, cases_lt, cases_order}
-pub use Rattle.std.proofs.lemmas.Fmt.{decimal_digit, signed_decimal_injective}
+pub use Rattle.std.proofs.lemmas.Bool.{cases_eq, cases_lt, cases_order, eqb-true, ne_eqb}
+pub use Rattle.std.proofs.lemmas.Fmt.{decimal_digit, decimal_is_IsNumeral, signed_decimal_injective}
 pub use Rattle.std.proofs.lemmas.Grind.{common_steps, flat_map-append}
 pub use Rattle.std.proofs.lemmas.Int.{ints}
-pub use Rattle.std.proofs.lemmas.List.{get_or-map, take-append-drop, take_all, take_more}
 pub use Rattle.std.proofs.lemmas.List.Elements.{All-append, All-cons, All-contains, All-get_or, All-head, All-nil, All-push, All-tail}
+pub use Rattle.std.proofs.lemmas.List.{get_or-map, take-append-drop, take_all, take_more}
 pub use Rattle.std.proofs.lemmas.Option.{get_or_from_slice_get, slice_get-get_or, slice_get_within}
+pub use Rattle.std.proofs.lemmas.Str.Parse.{digit_from_value}
 pub use Rattle.std.specs.Fmt.{signed_decimal}
 pub use Rattle.std.specs.Io.KnownBytes.{Appends, Consumes, IsAtEnd, Keeps}
 pub use Rattle.std.specs.List.{slice_index_or}
 pub use Rattle.std.specs.Option.{option_copied}
 pub use Rattle.std.specs.Prelude.{Some, decimal, slice_get, ◌<ℤ◌, ◌↔◌}
+pub use Rattle.std.specs.Str.Parse.{AllDigits}

@@ -3,6 +3,7 @@ pub mod Taken
 pub mod Pieces
 pub mod Swept
 pub mod Amounts
+mod FirstAmounts
 -- Each line has one answer.
 pub mod SameTables
 pub mod OneText

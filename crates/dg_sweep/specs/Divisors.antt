@@ -3,6 +3,7 @@
 --   SpellsAmounts line xs   == the words of the line are the decimals of the numbers xs, which 64 bits
 --                              hold
 --   SpellsNone line         == it spells no numbers so
+--   IsDivisorOf n line d    == d is the divisor on n vertices with the amounts that the line spells
 --   HasAmountsOf o line p   == the line stands for the start p: o with the amounts that it spells
 --   RefusesAmounts n line fault == the first fault of the line's amounts for n vertices, which a table
 --                              file with these amounts would have; of want of memory nothing is said
@@ -20,6 +21,13 @@ pub record SpellsAmounts (line : List ℕ) (xs : List ℤ) : Type 0 where
 
 abbrev pub SpellsNone : List ℕ → Type 0
 SpellsNone line = (xs : List ℤ) → ¬ SpellsAmounts line xs
+
+pub record IsDivisorOf (n : ℕ) (line : List ℕ) (d : Vector) : Type 0 where
+  pub xs : List ℤ
+  pub spelled : SpellsAmounts line xs
+  pub amounts : HoldsNumbers xs d
+  pub size : d.size ≡ n
+  pub within : IsDivisor d
 
 pub record HasAmountsOf (o : StartData) (line : List ℕ) (p : StartData) : Type 0 where
   pub xs : List ℤ

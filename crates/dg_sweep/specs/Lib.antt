@@ -7,5 +7,6 @@ pub mod DivisorLaws
 pub mod AnswerLaws
 -- What serves the steps of a sweep alone.
 pub mod Steps
+pub mod Subjects
 pub mod Pieces
 pub mod Common

@@ -1,19 +1,22 @@
 //! Answering one line.
-ghost use Rattle.std.specs.Prelude.{◌≡◌, ◌<◌, ◌++◌, ℕ, List, [], length, codes, OnOk};
+ghost use Rattle.std.specs.Prelude.{◌≡◌, ◌++◌, ℕ, List, [], length, codes, OnOk};
+ghost use Rattle.dg_chips.specs.Starts.{IsStart};
 ghost use Rattle.dg_chips.specs.Vector.{at};
 ghost use Rattle.dg_verdict.specs.Right.{IsVerdictOn};
 ghost use Rattle.dg_lines.specs.Judgements.{IsJudgement};
 ghost use Rattle.dg_lines.specs.Texts.{HasNames, text_of};
 ghost use Rattle.dg_sweep.specs.FaultTexts.{file_fault_text};
+ghost use Rattle.dg_sweep.specs.Subjects.{start_of};
 ghost use Rattle.dg_sweep.specs.Answers.{AnswersLine, AnswersTableLine, AnswersTable, refusal};
 
 use crate::ends::MAX_LINE;
 use crate::fault_words::push_fault;
 use crate::ranking::{push_rank, push_ranks};
 use crate::tables::Tables;
-use dg_chips::Start;
+use dg_chips::Divisor;
 use dg_file::FileFault;
 use dg_game::Reply;
+use dg_graph::Graph;
 use dg_invocation::Question;
 use dg_lines::{push_judgement, push_reply};
 use dg_reduce::InverseLaplacian;
@@ -77,52 +80,61 @@ pub(crate) fn push_refusal(fault: &FileFault, answer: &mut Vec<u8>) -> Result<()
     Ok(())
 }
 
-/// The answer for a start whose vertices have these names, into an empty buffer. An inverse that `inverse_for` made of its
+/// What a question is about: amounts for the vertices of a graph, and the vertex q.
+#[derive(Clone, Copy)]
+pub(crate) struct Subject<'a> {
+    pub(crate) graph: &'a Graph,
+    pub(crate) divisor: &'a Divisor,
+    pub(crate) q: u8,
+}
+
+/// The answer for a subject whose vertices have these names, into an empty buffer. An inverse that `inverse_for` made of its
 /// graph saves the time to make one.
 pub(crate) fn push_answer(
     question: Question,
-    start: &Start,
+    subject: &Subject<'_>,
     names: &Names,
     inverse: Option<&InverseLaplacian>,
     answer: &mut Vec<u8>,
 ) -> Result<(), AllocError>
-    requires names { length names.now ≡ start.now.graph.size }
+    requires start { IsStart (start_of subject.now) }
+    requires names { length names.now ≡ subject.now.graph.now.size }
     requires empty { answer.old.items ≡ [] }
-    ensures { OnOk result (AnswersTable question start.now names.now answer.new.items) }
+    ensures { OnOk result (AnswersTable question (start_of subject.now) names.now answer.new.items) }
 {
     match question {
-        Question::Judge { ordered } => push_verdict(start, names, inverse, ordered, answer),
-        Question::Rank(k) => push_rank(start, names, k, inverse, answer),
-        Question::RiemannRoch => push_ranks(start, inverse, answer),
+        Question::Judge { ordered } => push_verdict(subject, names, inverse, ordered, answer),
+        Question::Rank(k) => push_rank(subject, names, k, inverse, answer),
+        Question::RiemannRoch => push_ranks(subject, inverse, answer),
     }
 }
 
-/// The verdict on the amounts of a start, into an empty buffer; if it is `ordered`, with the order in which the vertices burn.
+/// The verdict on a subject, into an empty buffer; if it is `ordered`, with the order in which the vertices burn.
 fn push_verdict(
-    start: &Start,
+    subject: &Subject<'_>,
     names: &Names,
     inverse: Option<&InverseLaplacian>,
     ordered: bool,
     answer: &mut Vec<u8>,
 ) -> Result<(), AllocError>
-    requires names { length names.now ≡ start.now.graph.size }
+    requires start { IsStart (start_of subject.now) }
+    requires names { length names.now ≡ subject.now.graph.now.size }
     requires empty { answer.old.items ≡ [] }
-    ensures { OnOk result (IsJudgement start.now names.now ordered answer.new.items) }
+    ensures { OnOk result (IsJudgement (start_of subject.now) names.now ordered answer.new.items) }
 {
-    let verdict = verdict_on(start, inverse);
+    let verdict = verdict_on(subject, inverse);
     push_judgement(answer, names, &verdict, ordered)
 }
 
-/// The verdict on the amounts of a start.
-fn verdict_on(start: &Start, inverse: Option<&InverseLaplacian>) -> Verdict
-    ensures found { IsVerdictOn start.now.graph start.now.q (at start.now.divisor) result }
-    ensures vertex { start.now.q < start.now.graph.size }
+/// The verdict on a subject.
+fn verdict_on(subject: &Subject<'_>, inverse: Option<&InverseLaplacian>) -> Verdict
+    requires { IsStart (start_of subject.now) }
+    ensures { IsVerdictOn subject.now.graph.now subject.now.q (at subject.now.divisor.now) result }
 {
-    let graph = start.graph();
-    let q = usize::from(start.q());
+    let q = usize::from(subject.q);
     match inverse {
-        Some(inverse) => judge_with_inverse(graph, inverse, q, start.divisor()),
-        None => judge(graph, q, start.divisor()),
+        Some(inverse) => judge_with_inverse(subject.graph, inverse, q, subject.divisor),
+        None => judge(subject.graph, q, subject.divisor),
     }
 }
 

@@ -1,17 +1,18 @@
 //! Lines that are amounts for the vertices of one table.
-ghost use Rattle.std.specs.Prelude.{◌≡◌, ◌≢◌, ℤ, FitsSigned, OnOk, IfOk, IfErr, IfSome, MatchOption};
+ghost use Rattle.std.specs.Prelude.{◌≡◌, ◌≢◌, ℤ, FitsSigned, OnOk, IfOk, IfErr, MatchOption};
+ghost use Rattle.std.specs.Option.{option_copied};
 ghost use Rattle.std.specs.Fmt.{signed_decimal};
 ghost use Rattle.std.specs.Int.{w64};
-ghost use Rattle.dg_sweep.specs.Divisors.{HasAmountsOf, RefusesAmounts, SpellsAmounts, SpellsNone};
+ghost use Rattle.dg_lines.specs.Cuts.{before, after};
+ghost use Rattle.dg_sweep.specs.Divisors.{IsDivisorOf, RefusesAmounts, SpellsAmounts, SpellsNone};
 
-use crate::answering::{LineKind, push_answer, push_refusal};
+use crate::answering::{LineKind, Subject, push_answer, push_refusal};
 use dg_chips::{Divisor, Start};
 use dg_file::{FileFault, Shape, TableFile};
-use dg_graph::MAX_VERTICES;
+use dg_graph::{Graph, MAX_VERTICES};
 use dg_invocation::Question;
-use dg_lines::cut;
 use dg_reduce::InverseLaplacian;
-use dg_tokens::integer;
+use dg_tokens::leading_integer;
 use std::alloc::{AllocError, Global};
 
 /// Lines each of which has amounts for the vertices of one table, and what is asked of that table with these amounts.
@@ -52,10 +53,16 @@ impl LineKind for Divisors<'_> {
     ghost answers = { λ kind. AnswersAmounts kind.question kind.table.now.start kind.table.now.names };
 
     fn answer(&self, alloc: Global, line: &[u8], answer: &mut Vec<u8>) -> Result<(), AllocError> {
-        match start_of(alloc, self.table.start(), line) {
-            Ok(start) => {
+        let start = self.table.start();
+        match divisor_of(alloc, start.graph(), line) {
+            Ok(divisor) => {
+                let subject = Subject {
+                    graph: start.graph(),
+                    divisor: &divisor,
+                    q: start.q(),
+                };
                 let names = self.table.names();
-                push_answer(self.question, &start, names, Some(&self.inverse), answer)
+                push_answer(self.question, &subject, names, Some(&self.inverse), answer)
             }
             Err(FileFault::OutOfMemory) => Err(AllocError),
             Err(fault) => push_refusal(&fault, answer),
@@ -63,23 +70,18 @@ impl LineKind for Divisors<'_> {
     }
 }
 
-/// The start with the amounts that a line spells in place of its own.
+/// The divisor with the amounts that a line spells.
 ///
 /// Refused with `Shape(Amounts)` if a word is no whole number within 64 bits, and then with `Chip`. `OutOfMemory` comes if a
 /// growth is refused.
-fn start_of(alloc: Global, start: &Start, line: &[u8]) -> Result<Start, FileFault>
-    ensures start { IfOk result (HasAmountsOf start.now line.now) }
-    ensures refused { IfErr result (RefusesAmounts start.now.graph.size line.now) }
+fn divisor_of(alloc: Global, graph: &Graph, line: &[u8]) -> Result<Divisor, FileFault>
+    ensures divisor { IfOk result (IsDivisorOf graph.now.size line.now) }
+    ensures refused { IfErr result (RefusesAmounts graph.now.size line.now) }
 {
     let Some(amounts) = amounts_of(alloc, line)? else {
         return Err(FileFault::Shape(Shape::Amounts));
     };
-    let graph = start.graph();
-    let divisor = Divisor::new(graph, amounts.as_slice())?;
-    match Start::new(*graph, divisor, start.q()) {
-        Ok(start) => Ok(start),
-        Err(_) => unreachable!(),
-    }
+    Ok(Divisor::new(graph, amounts.as_slice())?)
 }
 
 /// The whole numbers that the words of a line are, with one space between two; `None` if a word is none within 64 bits.
@@ -90,8 +92,7 @@ fn amounts_of(alloc: Global, line: &[u8]) -> Result<Option<Vec<i64>>, AllocError
     let mut amounts = Vec::with_capacity(alloc, MAX_VERTICES)?;
     let mut rest = Some(line);
     'words: while let Some(text) = rest {
-        let (word, after) = cut(text, b' ');
-        let Some(amount) = number_of(word) else {
+        let Some((amount, after)) = first_amount(text) else {
             return Ok(None);
         };
         amounts.push(amount)?;
@@ -100,37 +101,20 @@ fn amounts_of(alloc: Global, line: &[u8]) -> Result<Option<Vec<i64>>, AllocError
     Ok(Some(amounts))
 }
 
-/// The whole number whose decimal the word is, if 64 bits hold it. Words of one digit are read at once.
+/// The whole number that the first word is, if 64 bits hold it, and what stands after the space that ends the word, if one does.
 #[inline(always)]
-fn number_of(word: &[u8]) -> Option<i64>
+fn first_amount(text: &[u8]) -> Option<(i64, Option<&[u8]>)>
     ensures { MatchOption result
-        ((z : ℤ) → FitsSigned w64 z → word.now ≢ signed_decimal z)
-        (λ z. word.now ≡ signed_decimal z) }
+        ((z : ℤ) → FitsSigned w64 z → before 32 text.now ≢ signed_decimal z)
+        (λ r. (before 32 text.now ≡ signed_decimal r.0)
+        × (option_copied r.1 ≡ after 32 text.now)) }
 {
-    match digit_of(word) {
-        Some(digit) => Some(digit),
-        None => integer(word),
+    let (amount, rest) = leading_integer(text)?;
+    if rest.is_empty() {
+        return Some((amount, None));
     }
-}
-
-/// The number of one digit, with a minus or without, whose decimal the word is.
-#[inline(always)]
-fn digit_of(word: &[u8]) -> Option<i64>
-    ensures { IfSome result (λ z. word.now ≡ signed_decimal z) }
-{
-    match word.len() {
-        1 => {
-            if word[0] < b'0' || word[0] > b'9' {
-                return None;
-            }
-            Some(i64::from(word[0] - b'0'))
-        }
-        2 => {
-            if word[0] != b'-' || word[1] < b'1' || word[1] > b'9' {
-                return None;
-            }
-            Some(-i64::from(word[1] - b'0'))
-        }
-        _ => None,
+    if rest[0] != b' ' {
+        return None;
     }
+    Some((amount, Some(&rest[1..])))
 }

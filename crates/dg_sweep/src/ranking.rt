@@ -1,12 +1,14 @@
 //! Rank tests, and the four numbers of Riemann-Roch: laws come before limits.
 ghost use Rattle.std.specs.Prelude.{◌≡◌, ◌<◌, ◌++◌, ◌⊎◌, [], length, codes, decimal, OnOk, MatchOption};
+ghost use Rattle.dg_chips.specs.Starts.{IsStart};
 ghost use Rattle.dg_chips.specs.Vector.{at};
 ghost use Rattle.dg_rank.specs.Ladders.{AnswersRankTest};
 ghost use Rattle.dg_rank.specs.Ranks.{AreBothRanks, NeedsPastTests};
 ghost use Rattle.dg_sweep.specs.Answers.{AnswersRank, AreRanks, AreUntested, number_after, numbers_text};
+ghost use Rattle.dg_sweep.specs.Subjects.{start_of};
 
-use crate::answering::push_line;
-use dg_chips::{Divisor, Start};
+use crate::answering::{Subject, push_line};
+use dg_chips::Divisor;
 use dg_game::Reply;
 use dg_graph::Graph;
 use dg_rank::{RankFault, both_ranks, both_ranks_by, has_rank, rank_at_least, rank_at_least_by};
@@ -16,21 +18,22 @@ use dg_verdict::RankVerdict;
 use itoa::Buffer;
 use std::alloc::AllocError;
 
-/// Whether the rank of a start's amounts is at least k, into an empty buffer. If there are too many trials to name the first
+/// Whether the rank of a subject's amounts is at least k, into an empty buffer. If there are too many trials to name the first
 /// loss, a law or the trials of the residual may still tell.
 pub(crate) fn push_rank(
-    start: &Start,
+    subject: &Subject<'_>,
     names: &Names,
     k: u32,
     inverse: Option<&InverseLaplacian>,
     answer: &mut Vec<u8>,
 ) -> Result<(), AllocError>
-    requires names { length names.now ≡ start.now.graph.size }
+    requires start { IsStart (start_of subject.now) }
+    requires names { length names.now ≡ subject.now.graph.now.size }
     requires empty { answer.old.items ≡ [] }
-    ensures { OnOk result (AnswersRank start.now k names.now answer.new.items) }
+    ensures { OnOk result (AnswersRank (start_of subject.now) k names.now answer.new.items) }
 {
-    let q = usize::from(start.q());
-    let (graph, divisor) = (start.graph(), start.divisor());
+    let q = usize::from(subject.q);
+    let (graph, divisor) = (subject.graph, subject.divisor);
     if let Ok(verdict) = rank_on(graph, inverse, q, divisor, k) {
         push_line(answer, &Reply::Rank(verdict), names)?;
         return Ok(());
@@ -96,63 +99,67 @@ fn push_below(k: u32, answer: &mut Vec<u8>) -> Result<(), AllocError>
     Ok(())
 }
 
-/// The degree, the genus and the two ranks of a start, into an empty buffer; with marks in place of ranks that no test
+/// The degree, the genus and the two ranks of a subject, into an empty buffer; with marks in place of ranks that no test
 /// within the limits tells.
 pub(crate) fn push_ranks(
-    start: &Start,
+    subject: &Subject<'_>,
     inverse: Option<&InverseLaplacian>,
     answer: &mut Vec<u8>,
 ) -> Result<(), AllocError>
-    requires { answer.old.items ≡ [] }
-    ensures { OnOk result
-        (AreRanks start.now answer.new.items ⊎ AreUntested start.now answer.new.items) }
+    requires start { IsStart (start_of subject.now) }
+    requires empty { answer.old.items ≡ [] }
+    ensures { OnOk result (AreRanks (start_of subject.now) answer.new.items
+        ⊎ AreUntested (start_of subject.now) answer.new.items) }
 {
-    let graph = start.graph();
-    let q = usize::from(start.q());
-    let Some((rank, dual_rank)) = ranks_on(graph, inverse, q, start.divisor()) else {
-        push_untold(start, answer)?;
+    let q = usize::from(subject.q);
+    let Some((rank, dual_rank)) = ranks_on(subject.graph, inverse, q, subject.divisor) else {
+        push_untold(subject, answer)?;
         return Ok(());
     };
-    push_told(start, rank, dual_rank, answer)?;
+    push_told(subject, rank, dual_rank, answer)?;
     Ok(())
 }
 
-/// The line of a start with these two ranks, into an empty buffer.
+/// The line of a subject with these two ranks, into an empty buffer.
 fn push_told(
-    start: &Start,
+    subject: &Subject<'_>,
     rank: i64,
     dual_rank: i64,
     answer: &mut Vec<u8>,
 ) -> Result<(), AllocError>
-    requires { answer.old.items ≡ [] }
-    ensures { OnOk result (answer.new.items ≡ numbers_text start.now
+    requires start { IsStart (start_of subject.now) }
+    requires empty { answer.old.items ≡ [] }
+    ensures { OnOk result (answer.new.items ≡ numbers_text (start_of subject.now)
         ++ number_after (codes " rank ") rank ++ number_after (codes " dual ") dual_rank
         ++ codes "\n") }
 {
-    push_numbers(start, answer)?;
+    push_numbers(subject, answer)?;
     push_number(answer, " rank ", rank)?;
     push_number(answer, " dual ", dual_rank)?;
     answer.push(b'\n')?;
     Ok(())
 }
 
-/// The line of a start with marks in place of the two ranks, into an empty buffer.
-fn push_untold(start: &Start, answer: &mut Vec<u8>) -> Result<(), AllocError>
-    requires { answer.old.items ≡ [] }
-    ensures { OnOk result (answer.new.items ≡ numbers_text start.now ++ codes " rank ? dual ?\n") }
+/// The line of a subject with marks in place of the two ranks, into an empty buffer.
+fn push_untold(subject: &Subject<'_>, answer: &mut Vec<u8>) -> Result<(), AllocError>
+    requires start { IsStart (start_of subject.now) }
+    requires empty { answer.old.items ≡ [] }
+    ensures { OnOk result (answer.new.items
+        ≡ numbers_text (start_of subject.now) ++ codes " rank ? dual ?\n") }
 {
-    push_numbers(start, answer)?;
+    push_numbers(subject, answer)?;
     answer.extend_from_slice(b" rank ? dual ?\n")?;
     Ok(())
 }
 
-/// The degree and the genus of a start, into an empty buffer.
-fn push_numbers(start: &Start, answer: &mut Vec<u8>) -> Result<(), AllocError>
-    requires { answer.old.items ≡ [] }
-    ensures { OnOk result (answer.new.items ≡ numbers_text start.now) }
+/// The degree and the genus of a subject, into an empty buffer.
+fn push_numbers(subject: &Subject<'_>, answer: &mut Vec<u8>) -> Result<(), AllocError>
+    requires start { IsStart (start_of subject.now) }
+    requires empty { answer.old.items ≡ [] }
+    ensures { OnOk result (answer.new.items ≡ numbers_text (start_of subject.now)) }
 {
-    push_number(answer, "degree ", start.divisor().degree())?;
-    push_number(answer, " genus ", i64::from(start.graph().genus()))?;
+    push_number(answer, "degree ", subject.divisor.degree())?;
+    push_number(answer, " genus ", i64::from(subject.graph.genus()))?;
     Ok(())
 }
 

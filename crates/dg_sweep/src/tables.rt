@@ -1,7 +1,7 @@
 //! Lines that are tables.
 ghost use Rattle.std.specs.Prelude.{◌≡◌, OnOk};
 
-use crate::answering::{LineKind, push_answer, push_refusal};
+use crate::answering::{LineKind, Subject, push_answer, push_refusal};
 use dg_file::{FileFault, read_table};
 use dg_invocation::Question;
 use std::alloc::{AllocError, Global};
@@ -19,7 +19,15 @@ impl LineKind for Tables {
 
     fn answer(&self, alloc: Global, line: &[u8], answer: &mut Vec<u8>) -> Result<(), AllocError> {
         match read_table(alloc, line) {
-            Ok(table) => push_answer(self.question, table.start(), table.names(), None, answer),
+            Ok(table) => {
+                let start = table.start();
+                let subject = Subject {
+                    graph: start.graph(),
+                    divisor: start.divisor(),
+                    q: start.q(),
+                };
+                push_answer(self.question, &subject, table.names(), None, answer)
+            }
             Err(FileFault::OutOfMemory) => Err(AllocError),
             Err(fault) => push_refusal(&fault, answer),
         }

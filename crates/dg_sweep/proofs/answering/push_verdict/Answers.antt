@@ -3,5 +3,5 @@ use Rattle.dg_sweep.proofs.answering.push_verdict.Goals as goal
 
 pub push_judgement-requires : goal.push_judgement-requires
 push_judgement-requires c =
-    judged-named c.args.names.now c.args.start.now.graph c.args.start.now.q (at c.args.start.now.divisor)
-    c.verdict_on-verdict.result c.requires.names c.verdict_on-verdict.ensures.vertex c.verdict_on-verdict.ensures.found
+    judged-named c.args.names.now c.args.subject.now.graph.now c.args.subject.now.q (at c.args.subject.now.divisor.now)
+    c.verdict_on-verdict.result c.requires.names c.requires.start.vertex c.verdict_on-verdict.ensures

@@ -3,7 +3,7 @@ use Rattle.dg_sweep.proofs.ranking.push_ranks.Goals as goal
 
 pub returns : goal.returns
 returns c =
-    let told = rw (c.graph-graph.ensures.graph, c.divisor.ensures) at c.in-Some.ensures in
+    let told = c.in-Some.ensures in
     let rank : to_z w64 (of_z w64 c.in-Some.rank) ≡ c.in-Some.rank = omega (arith, ints) in
     let dual_rank : to_z w64 (of_z w64 c.in-Some.dual_rank) ≡ c.in-Some.dual_rank = omega (arith, ints) in
     inl (record {
