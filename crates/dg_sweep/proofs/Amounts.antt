@@ -2,8 +2,7 @@
 --   IsReadTo line left xs     the words of the line are the decimals of the numbers xs, and then those that are left
 --   read_none, read_one, read_all   none are read; one more; all are
 --   none_read                 where a word is no decimal, the line spells no numbers
---   amounts_stand             a line whose amounts are those of a divisor stands for the start with it
-use Rattle.dg_sweep.proofs.Common.{◌≡◌, ◌≢◌, ℕ, suc, ◌-◌, ◌≤◌, ℤ, pos, negsuc, List, [], ◌∷◌, ◌++◌, map, All, FitsSigned, w64, refl, sym, ap, ◌∙◌, ◌+◌, append-nil, arith, length, signed_decimal, All-nil, All-push, All-head, All-tail, words, StartData, Vector, HasAmountsOf, IsDivisorOf, SpellsAmounts, SpellsNone}
+use Rattle.dg_sweep.proofs.Common.{◌≡◌, ◌≢◌, ℕ, suc, ◌-◌, ◌≤◌, ℤ, pos, negsuc, List, [], ◌∷◌, ◌++◌, map, All, FitsSigned, w64, refl, sym, ap, ◌∙◌, ◌+◌, append-nil, arith, length, signed_decimal, All-nil, All-push, All-head, All-tail, words, SpellsAmounts, SpellsNone}
 
 pub record IsReadTo (line : List ℕ) (left : List (List ℕ)) (xs : List ℤ) : Type 0 where
   pub spelled : words line ≡ map signed_decimal xs ++ left
@@ -54,15 +53,3 @@ pub none_read : {line : List ℕ} {left : List (List ℕ)} {xs : List ℤ} (word
 none_read {xs = xs} word more far next never ys spells =
     no_others word more never xs ys
     (sym (ap (λ l. map signed_decimal xs ++ l) next) ∙ sym far.spelled ∙ spells.spelled) spells.held
-
-pub amounts_stand : (o : StartData) (line : List ℕ) (d : Vector) → IsDivisorOf o.graph.size line d
-    → HasAmountsOf o line (record o { divisor = d })
-amounts_stand o line d is = record {
-  xs = is.xs;
-  spelled = is.spelled;
-  divisor = d;
-  amounts = is.amounts;
-  size = is.size;
-  within = is.within;
-  rest = refl;
-}
