@@ -165,6 +165,7 @@ fn hold<'a, N: Name, R: Threads + Wait, G: Gate>(
         seat.new result }
 {
     context.gate.enter(u32::from(seat.number()));
+    ask_ahead(context.alloc, script.len());
     let mut input = Input::new(script);
     match serve_unheard(
         context.rt,
@@ -177,6 +178,29 @@ fn hold<'a, N: Name, R: Threads + Wait, G: Gate>(
     ) {
         Ok(count) => Ok(count),
         Err(end) => Err(end),
+    }
+}
+
+// The bytes of a piece of memory. The C library maps one of 128 KB or more by itself, and unmaps it if it is given back.
+const PIECE: usize = 122_880;
+
+// How many bytes an entry in its box takes for each byte of its line: 496 for the five of a look.
+const SHARE: usize = 100;
+
+// The most pieces that are asked for at once.
+const MAX_PIECES: usize = 16;
+
+// Asks for the space of a script's entries at once, and gives it back, which leaves it to them. Otherwise the C library asks the
+// system for each page of it, and all other threads wait meanwhile. If it is refused, that is what happens.
+fn ask_ahead(alloc: Global, bytes: usize) {
+    let mut pieces = Vec::new(alloc);
+    for _ in 0..(bytes / (PIECE / SHARE) + 1).min(MAX_PIECES) {
+        let Ok(piece) = Vec::<u8>::with_capacity(alloc, PIECE) else {
+            return;
+        };
+        let Ok(()) = pieces.push(piece) else {
+            return;
+        };
     }
 }
 
