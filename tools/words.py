@@ -141,7 +141,7 @@ def numbered(text):
 
 def table_faults():
     """What is said of bytes that are no table."""
-    return [numbered(text) for text in texts(FILE_FAULTS, "file_fault_text")]
+    return [numbered(text) for text in texts(FILE_FAULTS, "file_fault_words")]
 
 
 @functools.lru_cache(maxsize=None)

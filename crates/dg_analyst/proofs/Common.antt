@@ -1,8 +1,8 @@
 -- The names that the proofs of this crate cite, passed on from one place. Declares nothing.
-pub use Rattle.dg_analyst.specs.Commits.{StaleIsCommitted, StaleRankIsCommitted}
+pub use Rattle.dg_analyst.specs.Commits.{StaleIsCommitted, StaleTriedIsCommitted}
 pub use Rattle.dg_analyst.specs.Views.{LookView}
 pub use Rattle.dg_game.specs.History.{gifts_in}
-pub use Rattle.dg_game.specs.Look.{KeepsFinding, asked_for, asked_on, degree_of}
+pub use Rattle.dg_game.specs.Look.{KeepsFinding, asked_for, asked_on, degree_found}
 pub use Rattle.dg_game.specs.declared.entry.Entry.{Entry}
 pub use Rattle.dg_game.specs.declared.entry.Reply.TheVariants.{Stale}
 pub use Rattle.dg_game.specs.declared.entry.Request.{Request}

@@ -1,7 +1,7 @@
 -- What is entered on a look that is stale.
 --   settled_stale   a question on it is so entered as each finding that is asked for alike
 --   stale_is_committed, stale_rank_is_committed   as each verdict, and as each answer of the rank test
-use Rattle.dg_analyst.proofs.Common.{◌≡◌, ℕ, ◌∷◌, [], ◌++◌, refl, sym, subst, gifts_in, asked_for, asked_on, degree_of, KeepsFinding, Entry, Stale, Request, Finding, Judged, Ranked, Question, Judge, Rank, TableData, entering, IsEnteredAfter, SeatView, IsSettled, IsStale, StaleIsCommitted, StaleRankIsCommitted}
+use Rattle.dg_analyst.proofs.Common.{◌≡◌, ℕ, ◌∷◌, [], ◌++◌, refl, sym, subst, gifts_in, asked_for, asked_on, degree_found, KeepsFinding, Entry, Stale, Request, Finding, Judged, Ranked, Question, Judge, Rank, TableData, entering, IsEnteredAfter, SeatView, IsSettled, IsStale, StaleIsCommitted, StaleTriedIsCommitted}
 
 -- a stale entry keeps nothing of what was found
 keeps_nothing : (f : Finding) (n : ℕ) → KeepsFinding f (Stale n)
@@ -25,6 +25,6 @@ pub stale_is_committed : StaleIsCommitted
 stale_is_committed table found r x y stale =
     settled_stale table found.look.receipt Judge (Judged found.verdict) r x y refl stale
 
-pub stale_rank_is_committed : StaleRankIsCommitted
+pub stale_rank_is_committed : StaleTriedIsCommitted
 stale_rank_is_committed table found r x y stale =
-    settled_stale table found.look.receipt (Rank (degree_of found.verdict)) (Ranked found.verdict) r x y refl stale
+    settled_stale table found.look.receipt (Rank (degree_found found.verdict)) (Ranked found.verdict) r x y refl stale

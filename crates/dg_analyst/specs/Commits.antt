@@ -7,9 +7,9 @@
 --   RefusesCommit table x y fault == the entry was refused with the fault; the seat knows what it knew
 --   StaleIsCommitted        == the entry of a look that is stale, though nothing was computed, is that
 --                              of each verdict on the look
---   StaleRankIsCommitted    == and of each answer of the rank test that was asked for
+--   StaleTriedIsCommitted   == and of each answer of the rank test that was asked for
 use Rattle.std.specs.Prelude.{◌≡◌, ℕ}
-use Rattle.dg_game.specs.Look.{degree_of}
+use Rattle.dg_game.specs.Look.{degree_found}
 use Rattle.dg_game.specs.declared.entry.Entry.{Entry}
 use Rattle.dg_game.specs.declared.finding.Finding.TheVariants.{Judged, Ranked}
 use Rattle.dg_game.specs.declared.finding.Question.TheVariants.{Judge, Rank}
@@ -42,7 +42,7 @@ abbrev pub StaleIsCommitted : Type 0
 StaleIsCommitted = (table : TableData) (found : Found Verdict) (r : ℕ × Entry) (x y : SeatView) →
     IsStale table found.look.receipt Judge r x y → IsCommitted table found r x y
 
-abbrev pub StaleRankIsCommitted : Type 0
-StaleRankIsCommitted = (table : TableData) (found : Found RankVerdict) (r : ℕ × Entry)
-    (x y : SeatView) → IsStale table found.look.receipt (Rank (degree_of found.verdict)) r x y →
+abbrev pub StaleTriedIsCommitted : Type 0
+StaleTriedIsCommitted = (table : TableData) (found : Found RankVerdict) (r : ℕ × Entry)
+    (x y : SeatView) → IsStale table found.look.receipt (Rank (degree_found found.verdict)) r x y →
     IsRankCommitted table found r x y

@@ -14,7 +14,7 @@ use Rattle.dg_chips.specs.Vector.{at}
 use Rattle.dg_game.specs.declared.entry.Entry.{Entry}
 use Rattle.dg_game.specs.declared.look.LookData.{LookData}
 use Rattle.dg_rank.specs.Ranks.{IsWithin, MayHaveWorkers}
-use Rattle.dg_table.specs.Looks.{HasVertices, IsLookOf}
+use Rattle.dg_table.specs.Looks.{KeptLookHasVertices, IsLookOf}
 use Rattle.dg_verdict.specs.RankTests.{IsRankTest}
 use Rattle.dg_verdict.specs.Right.{IsVerdictOn}
 use Rattle.dg_verdict.specs.declared.rank_verdict.RankVerdict.{RankVerdict}
@@ -30,7 +30,7 @@ pub record Found (A : Type 0) : Type 0 where
 
 pub record IsTaken (o : StartData) (x : LookView) : Type 0 where
   pub look : IsLookOf x.receipt x.shown
-  pub vertices : HasVertices o.graph.size x.shown
+  pub vertices : KeptLookHasVertices o.graph.size x.shown
 
 abbrev pub IsJudged : ℕ → LookView → Verdict → Type 0
 IsJudged q x v = IsVerdictOn x.shown.graph q (at x.shown.position) v

@@ -7,7 +7,7 @@ ghost use Rattle.dg_table.specs.Settled.{IsStale, IsNotStale};
 
 use crate::looks::Look;
 use crate::reckoning::{Reckoned, Tried};
-use dg_game::{Finding, Question, renew_inverse};
+use dg_game::{Finding, Question, renew_looks_inverse};
 use dg_log::{Name, Receipt};
 use dg_reduce::InverseLaplacian;
 use dg_table::{Fault, Seat, Table};
@@ -82,7 +82,7 @@ pub fn commit_look<N: Name>(
 {
     let shown = &look.shown;
     let q = usize::from(look.q);
-    renew_inverse(inverse, q, shown);
+    renew_looks_inverse(inverse, q, shown);
     let verdict = judge_with_inverse(&shown.graph, inverse, q, &shown.position);
     let finding = Finding::Judged(verdict);
     table.settle(rt, alloc, seat, &look.receipt, shown, &finding)

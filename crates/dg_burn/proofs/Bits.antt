@@ -4,8 +4,7 @@
 --   least_bit      the lowest bit of a number that is not 0
 --   all_inside     all vertices below n are below n
 --   none_burnt     and where they are left none burns
-use Rattle.dg_burn.proofs.Common.{◌≡◌, ℕ, zero, suc, ◌+◌, ◌*◌, ◌%◌, ◌^◌, ◌<◌, Bool, true, false, not, ◌&&◌, nat_eq, min, arith, refl, sym, ap, ap₂, ◌∙◌, bit_and, w16, nat_lt, bit_xor, bit_at, trailing_zeros, eqb-true, ltb-true, and_parts, one_shl, bit_at-lt, bit_at_and, bit_at_xor, bit_at-pow_same, bit_at-pow_other, bit_at-trailing_zeros, IsSetBelow, in_set-none, IsLeastIn, IsWithout}
-use Rattle.dg_graph.specs.Sets.{in_set}
+use Rattle.dg_burn.proofs.Common.{◌≡◌, ℕ, zero, suc, ◌+◌, ◌*◌, ◌%◌, ◌^◌, ◌<◌, Bool, true, false, not, ◌&&◌, nat_eq, min, arith, refl, sym, ap, ap₂, ◌∙◌, bit_and, w16, nat_lt, bit_xor, bit_at, trailing_zeros, eqb-true, ltb-true, and_parts, one_shl, bit_at-lt, bit_at_and, bit_at_xor, bit_at-pow_same, bit_at-pow_other, bit_at-trailing_zeros, IsVertexSet, in_set-none, IsLeastIn, IsWithout, in_set}
 
 both_ones : (a b : ℕ) → a < 2 → b < 2 → nat_eq (min a b) 1 ≡ (nat_eq a 1 && nat_eq b 1)
 both_ones zero b few_a few_b = let none : min 0 b ≡ 0 = omega arith in rw none refl
@@ -52,7 +51,7 @@ least_bit set some few =
     }
 
 -- of all vertices below n, none burns
-pub all_inside : (n set : ℕ) → ((v : ℕ) → in_set set v ≡ (nat_lt v n && not (in_set 0 v))) → IsSetBelow n (in_set set)
+pub all_inside : (n set : ℕ) → ((v : ℕ) → in_set set v ≡ (nat_lt v n && not (in_set 0 v))) → IsVertexSet n (in_set set)
 all_inside n set all v member = ltb-true v n (and_parts (nat_lt v n) _ (sym (all v) ∙ member)).0
 
 pub none_burnt : (n set : ℕ) → ((v : ℕ) → in_set set v ≡ (nat_lt v n && not (in_set 0 v))) →

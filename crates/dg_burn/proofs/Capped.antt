@@ -2,7 +2,7 @@
 --   capped-less    capped and not, an amount without debt is below the same numbers up to 63
 --   same-may       who may burn is the same, where q burns
 --   same-order     so the order is the same
-use Rattle.dg_burn.proofs.Common.{◌≡◌, ℕ, suc, ◌<◌, ◌≤◌, Bool, true, false, List, [], ◌∷◌, take, arith, refl, ap, ◌∙◌, ◌↔◌, ℤ, negsuc, slice_get, Some, ◌<ℤ◌, ◌≤ℤ◌, pos, both_ways, eq-eqb, ints, Multigraph, Amounts, HasNoDebtOff, among, edges_into, MayBurn, BurnsNext, BurnsInOrder, IsGraph, dollars, capped, IsHeld}
+use Rattle.dg_burn.proofs.Common.{◌≡◌, ℕ, suc, ◌<◌, ◌≤◌, Bool, true, false, List, [], ◌∷◌, take, arith, refl, ap, ◌∙◌, ◌↔◌, ℤ, negsuc, slice_get, Some, ◌<ℤ◌, ◌≤ℤ◌, pos, both_ways, eq-eqb, ints, Multigraph, Amounts, HasNoDebtOff, among, edges_into, MayBurn, BurnsNext, BurnsInOrder, IsGraph, dollars, capped, IsHeldForBurning}
 use Rattle.dg_burn.proofs.Fires.{into-few}
 
 pub capped-less : (z : ℤ) (e : ℕ) → pos 0 ≤ℤ z → e ≤ 63 → (pos (capped z) <ℤ pos e) ↔ (z <ℤ pos e)
@@ -10,22 +10,22 @@ capped-less (pos n) e some few = (λ less. omega (arith, ints), λ less. omega (
 capped-less (negsuc n) e some few = absurd (omega (arith, ints))
 
 pub same-may : (g : Multigraph) (q : ℕ) (D : Amounts) (held : List ℕ) (B : ℕ → Bool) (v : ℕ) → IsGraph g →
-    HasNoDebtOff g q D → IsHeld g.size D held → B q ≡ true → MayBurn g (dollars held) B v ↔ MayBurn g D B v
+    HasNoDebtOff g q D → IsHeldForBurning g.size D held → B q ≡ true → MayBurn g (dollars held) B v ↔ MayBurn g D B v
 same-may g q D held B v graph solvent same burns = (
   λ may. record {
     vertex = may.vertex;
     unburnt = may.unburnt;
-    reached = (both may.vertex may.unburnt).0 (rw (← same v may.vertex) may.reached);
+    reached = (hot_and_left may.vertex may.unburnt).0 (rw (← same v may.vertex) may.reached);
   },
   λ may. record {
     vertex = may.vertex;
     unburnt = may.unburnt;
-    reached = rw (same v may.vertex) ((both may.vertex may.unburnt).1 may.reached);
+    reached = rw (same v may.vertex) ((hot_and_left may.vertex may.unburnt).1 may.reached);
   },
 )
   where
-    both : v < g.size → B v ≡ false → (pos (capped (D v)) <ℤ pos (edges_into g B v)) ↔ (D v <ℤ pos (edges_into g B v))
-    both below out = capped-less (D v) (edges_into g B v)
+    hot_and_left : v < g.size → B v ≡ false → (pos (capped (D v)) <ℤ pos (edges_into g B v)) ↔ (D v <ℤ pos (edges_into g B v))
+    hot_and_left below out = capped-less (D v) (edges_into g B v)
         (solvent v below (λ is_q. both_ways _ out (ap B is_q ∙ burns)))
         (into-few g B v graph)
 
@@ -42,7 +42,7 @@ among-all (x ∷ l) q first =
     rw (eq-eqb x q is_q) refl
 
 pub same-order : (g : Multigraph) (q : ℕ) (D : Amounts) (held l : List ℕ) → IsGraph g →
-    HasNoDebtOff g q D → IsHeld g.size D held → BurnsInOrder g q (dollars held) l → BurnsInOrder g q D l
+    HasNoDebtOff g q D → IsHeldForBurning g.size D held → BurnsInOrder g q (dollars held) l → BurnsInOrder g q D l
 same-order g q D held l graph solvent same order = record {
   begun = record {
     first = order.begun.first;

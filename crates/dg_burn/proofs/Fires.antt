@@ -12,8 +12,7 @@
 --   left-less      where one is left less, one burns more
 --   burnt_out      in a fire, nobody may burn where each has burnt whose heat is above 127
 --   least_burns    in a fire, the least vertex that has not and whose heat is burns next
-use Rattle.dg_burn.proofs.Common.{if◌then◌else◌, ◌≡◌, ℕ, zero, suc, ◌+◌, ◌-◌, ◌<◌, ◌≤◌, Bool, true, false, not, ◌&&◌, List, arith, refl, sym, ap, ap₂, ◌∙◌, ⊎_elim, nat_lt, slice_index, ◌<ℤ◌, pos, cases_Bool, cases_eq, cases_lt, lt-ltb, both_ways, not-false, ints, total_below, Multigraph, IsMultigraph, edges_between, valence, edges_into, MayBurn, BurnsNext, total_below-cong, total_below-term, total_below-differ_at, into-le-valence, IsGraph, IsSetBelow, IsWith, valence-few, valence-outside, Fire, dollars, heat, burns, IsUnlit, IsOut, IsLeastToBurn, IsWithout, IsFire}
-use Rattle.dg_graph.specs.Sets.{in_set}
+use Rattle.dg_burn.proofs.Common.{if◌then◌else◌, ◌≡◌, ℕ, zero, suc, ◌+◌, ◌-◌, ◌<◌, ◌≤◌, Bool, true, false, not, ◌&&◌, List, arith, refl, sym, ap, ap₂, ◌∙◌, ⊎_elim, nat_lt, slice_index, ◌<ℤ◌, pos, cases_Bool, cases_eq, cases_lt, lt-ltb, both_ways, not-false, ints, total_below, Multigraph, IsMultigraph, edges_between, valence, edges_into, MayBurn, BurnsNext, total_below-cong, total_below-term, total_below-differ_at, into-le-valence, IsGraph, IsVertexSet, IsWith, valence-few, valence-outside, Fire, dollars, heat, burns, IsUnlit, IsOut, IsLeastToBurn, IsWithout, IsFire, in_set}
 
 total-zero : (n : ℕ) → total_below n (λ _. 0) ≡ 0
 total-zero zero = refl
@@ -84,7 +83,7 @@ left-less n x y v below less = record {
   others = λ w other. ap (λ b. nat_lt w n && not b) (sym (less.others w other));
 }
 
-pub left-rest : (n k : ℕ) (x : Fire) → k ≡ n → IsSetBelow n (in_set x.left) →
+pub left-rest : (n k : ℕ) (x : Fire) → k ≡ n → IsVertexSet n (in_set x.left) →
     (v : ℕ) → in_set x.left v ≡ (nat_lt v k && not (burns n x v))
 left-rest n k x size inside v = ⊎_elim
     (λ (left : in_set x.left v ≡ true).
@@ -99,7 +98,7 @@ left-rest n k x size inside v = ⊎_elim
     neither false = refl
 
 inside-less : (n : ℕ) (x y : Fire) (v : ℕ) → IsWithout (in_set x.left) v (in_set y.left) →
-    IsSetBelow n (in_set x.left) → IsSetBelow n (in_set y.left)
+    IsVertexSet n (in_set x.left) → IsVertexSet n (in_set y.left)
 inside-less n x y v less inside w member = ⊎_elim
     (λ (equal : w ≡ v). absurd (both_ways _ (ap (in_set y.left) equal ∙ less.here) member))
     (λ (other : w ≡ v → ⊥). inside w (less.others w other ∙ member))

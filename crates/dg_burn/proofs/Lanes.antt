@@ -4,8 +4,7 @@
 --   marks           the bits of the lanes that are above 127, as a mask of sixteen
 --   marks-few       there are sixteen of them
 --   marked          a vertex is in the set that they stand for where its lane is above 127
-use Rattle.dg_burn.proofs.Common.{◌≡◌, ℕ, ◌+◌, ◌-◌, ◌%◌, ◌^◌, ◌<◌, ◌≤◌, Bool, true, false, cond, ltb, List, map, length, get_or, replicate, arith, refl, sym, ap, ◌∙◌, ⊎_elim, Fits, w8, nat_eq, slice_index, nat_lt, bit_at, cases_lt, lt-ltb, le-ltb, get_or_past, length-map, Each1-get_or, tops_compared, length-zip2, length-sel_l, get_or-zip2, get_or-sel_l, get_or-replicate, mask_l-lt, mask_l-mod, bit_mask_l, Each1, zip2, sel_l, mask_l, top}
-use Rattle.dg_graph.specs.Sets.{in_set}
+use Rattle.dg_burn.proofs.Common.{◌≡◌, ℕ, ◌+◌, ◌-◌, ◌%◌, ◌^◌, ◌<◌, ◌≤◌, Bool, true, false, cond, ltb, List, map, length, get_or, replicate, arith, refl, sym, ap, ◌∙◌, ⊎_elim, Fits, w8, nat_eq, slice_index, nat_lt, bit_at, cases_lt, lt-ltb, le-ltb, get_or_past, length-map, Each1-get_or, tops_compared, length-zip2, length-sel_l, get_or-zip2, get_or-sel_l, get_or-replicate, mask_l-lt, mask_l-mod, bit_mask_l, Each1, zip2, sel_l, mask_l, top, in_set}
 
 pub lane-few : (xs : List ℕ) (v : ℕ) → v < length xs → Each1 (Fits w8) xs → slice_index xs v ≤ 255
 lane-few xs v few fits =

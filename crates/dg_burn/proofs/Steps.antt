@@ -7,7 +7,7 @@
 --   burning-fewer     a vertex that burns leaves one less that is not reached
 --   burning-more      the state after one vertex more
 --   burning-done      the order is whole where no vertex may burn
-use Rattle.dg_burn.proofs.Common.{if◌then◌else◌, ◌≡◌, ◌≢◌, ℕ, zero, suc, ◌+◌, ◌<◌, ◌≤◌, Bool, true, false, List, [], ◌∷◌, ◌++◌, arith, refl, sym, ap, subst, ◌∙◌, ⊎_elim, length-append, ◌==◌, ◌||◌, cases_eq, eq-eqb, ne_eqb, or_right, list_any-append, total_below, Multigraph, Amounts, among, MayBurn, BurnsNext, BurnsInOrder, total_below-cong, total_below-term, IsWith, unreached, IsBurning}
+use Rattle.dg_burn.proofs.Common.{if◌then◌else◌, ◌≡◌, ◌≢◌, ℕ, zero, suc, ◌+◌, ◌<◌, ◌≤◌, Bool, true, false, List, [], ◌∷◌, ◌++◌, arith, refl, sym, ap, subst, ◌∙◌, ⊎_elim, length-append, ◌==◌, ◌||◌, cases_eq, eq-eqb, ne_eqb, or_right, list_any-append, total_below, Multigraph, Amounts, among, MayBurn, BurnsNext, BurnsInOrder, total_below-cong, total_below-term, IsWith, count_unburnt, IsBurning}
 use Rattle.dg_burn.proofs.Orders.{so_far-first, so_far-more, so_far-done}
 
 abbrev pub one_unless : Bool → ℕ
@@ -27,16 +27,16 @@ one_less (suc n) f h v below same more = ⊎_elim
     omega arith)
     (cases_eq v n)
 
-pub unreached-fewer : (n : ℕ) (S T : ℕ → Bool) (v : ℕ) → v < n → S v ≡ false → IsWith S v T →
-    unreached n S ≡ unreached n T + 1
-unreached-fewer n S T v below new more = one_less n _ _ v below
+pub count_unburnt-fewer : (n : ℕ) (S T : ℕ → Bool) (v : ℕ) → v < n → S v ≡ false → IsWith S v T →
+    count_unburnt n S ≡ count_unburnt n T + 1
+count_unburnt-fewer n S T v below new more = one_less n _ _ v below
     (λ w other. ap one_unless (sym (more.others w other)))
     (rw (new, more.here) refl)
 
-all_unreached : (n : ℕ) (S : ℕ → Bool) → ((v : ℕ) → S v ≡ false) → unreached n S ≡ n
+all_unreached : (n : ℕ) (S : ℕ → Bool) → ((v : ℕ) → S v ≡ false) → count_unburnt n S ≡ n
 all_unreached zero S none = refl
 all_unreached (suc n) S none =
-    rw (none n) (let front : unreached n S ≡ n = all_unreached n S none in omega arith)
+    rw (none n) (let front : count_unburnt n S ≡ n = all_unreached n S none in omega arith)
 
 pub same-more : (l : List ℕ) (S T : ℕ → Bool) (v : ℕ) → IsWith S v T → ((w : ℕ) → S w ≡ among l w) →
     (w : ℕ) → T w ≡ among (l ++ v ∷ []) w
@@ -51,10 +51,10 @@ same-more l S T v more same w = ⊎_elim
     or-false true = refl
     or-false false = refl
 
-pub unreached-some : (g : Multigraph) (D : Amounts) (S : ℕ → Bool) (v : ℕ) → BurnsNext g D S v → 1 ≤ unreached g.size S
-unreached-some g D S v burns =
+pub count_unburnt-some : (g : Multigraph) (D : Amounts) (S : ℕ → Bool) (v : ℕ) → BurnsNext g D S v → 1 ≤ count_unburnt g.size S
+count_unburnt-some g D S v burns =
     let one : one_unless (S v) ≡ 1 = ap one_unless burns.may.unburnt in
-    let term : one_unless (S v) ≤ unreached g.size S =
+    let term : one_unless (S v) ≤ count_unburnt g.size S =
     total_below-term g.size (λ w. one_unless (S w)) v burns.may.vertex in
     omega arith
 
@@ -64,12 +64,12 @@ burning-lit g q D S T vertex none lit = record {
   so_far = so_far-first g q D;
   same = same-more [] S T q lit none;
   count = refl;
-  left = omega (arith, unreached-fewer g.size S T q vertex (none q) lit, all_unreached g.size S none);
+  left = omega (arith, count_unburnt-fewer g.size S T q vertex (none q) lit, all_unreached g.size S none);
 }
 
 pub burning-fewer : (g : Multigraph) (D : Amounts) (S T : ℕ → Bool) (v : ℕ) → BurnsNext g D S v → IsWith S v T →
-    unreached g.size S ≡ unreached g.size T + 1
-burning-fewer g D S T v burns more = unreached-fewer g.size S T v burns.may.vertex burns.may.unburnt more
+    count_unburnt g.size S ≡ count_unburnt g.size T + 1
+burning-fewer g D S T v burns more = count_unburnt-fewer g.size S T v burns.may.vertex burns.may.unburnt more
 
 pub burning-more : (g : Multigraph) (q : ℕ) (D : Amounts) (l : List ℕ) (n : ℕ) (S T : ℕ → Bool) (v : ℕ) →
     IsBurning g q D l n S → BurnsNext g D S v → IsWith S v T → IsBurning g q D (l ++ v ∷ []) (n + 1) T

@@ -7,8 +7,7 @@
 --   unburnt_member  if it is not empty, some vertex is in it
 --   none_unreached  if no vertex is unreached, each is reached
 --   none_whole      it is empty exactly where as many vertices burn as there are
-use Rattle.dg_burn.proofs.Common.{◌≡◌, ◌≢◌, ℕ, zero, suc, ◌<◌, ◌≤◌, Bool, true, false, not, ◌&&◌, List, arith, refl, sym, ap, subst, ◌∙◌, ⊎_elim, nat_lt, ◌↔◌, cases_lt, lt-ltb, le-ltb, and_left, and_right, not-false, not_from_true, true_from_ne_false, Multigraph, IsMultigraph, Amounts, HasNoDebtOff, edges_out, IsReduced, among, edges_into, BurnsInOrder, IsGreatestFree, unburnt_by, unburnt_by-below, rest-out, rest_fires, unburnt_fires, burnt_reduced, reduced_burnt, member_or_none, total_below-term, in_set-none, no_set, unreached, IsBurning}
-use Rattle.dg_graph.specs.Sets.{in_set}
+use Rattle.dg_burn.proofs.Common.{◌≡◌, ◌≢◌, ℕ, zero, suc, ◌<◌, ◌≤◌, Bool, true, false, not, ◌&&◌, List, arith, refl, sym, ap, subst, ◌∙◌, ⊎_elim, nat_lt, ◌↔◌, cases_lt, lt-ltb, le-ltb, and_left, and_right, not-false, not_from_true, true_from_ne_false, Multigraph, IsMultigraph, Amounts, HasNoDebtOff, edges_out, IsReduced, among, edges_into, BurnsInOrder, IsGreatestFree, unburnt_by, unburnt_by-below, rest-out, rest_fires, unburnt_fires, burnt_reduced, reduced_burnt, member_or_none, total_below-term, in_set-none, no_set, count_unburnt, IsBurning, in_set}
 use Rattle.dg_burn.proofs.Steps.{one_unless}
 
 pub set_is_rest : (g : Multigraph) (l : List ℕ) (S : ℕ → Bool) (k m : ℕ) → k ≡ g.size →
@@ -55,17 +54,17 @@ unburnt_member g q D l m solvent order rest reduced some = ⊎_elim
     (member_or_none g.size (unburnt_by g l))
 
 -- if each of n vertices is reached, none is unreached
-all_reached : (n : ℕ) (S : ℕ → Bool) → ((v : ℕ) → v < n → S v ≡ true) → unreached n S ≡ 0
+all_reached : (n : ℕ) (S : ℕ → Bool) → ((v : ℕ) → v < n → S v ≡ true) → count_unburnt n S ≡ 0
 all_reached zero S all = refl
 all_reached (suc n) S all =
-    let before : unreached n S ≡ 0 = all_reached n S (λ v below. all v (omega arith)) in
+    let before : count_unburnt n S ≡ 0 = all_reached n S (λ v below. all v (omega arith)) in
     let last : one_unless (S n) ≡ 0 = ap one_unless (all n (omega arith)) in
     omega arith
 
-pub none_unreached : (n : ℕ) (S : ℕ → Bool) (v : ℕ) → v < n → unreached n S ≡ 0 → S v ≡ true
+pub none_unreached : (n : ℕ) (S : ℕ → Bool) (v : ℕ) → v < n → count_unburnt n S ≡ 0 → S v ≡ true
 none_unreached n S v below none = true_from_ne_false (S v) (λ missed.
     let one : one_unless (S v) ≡ 1 = ap one_unless missed in
-    let term : one_unless (S v) ≤ unreached n S =
+    let term : one_unless (S v) ≤ count_unburnt n S =
     total_below-term n (λ w. one_unless (S w)) v below in
     absurd (omega arith))
 
@@ -74,13 +73,13 @@ pub none_whole : (g : Multigraph) (q : ℕ) (D : Amounts) (l : List ℕ) (n : �
     (m ≡ 0) ↔ (n ≡ g.size)
 none_whole g q D l n S k m state size rest = (
   λ none.
-      let all : unreached g.size S ≡ 0 = all_reached g.size S (λ v below.
+      let all : count_unburnt g.size S ≡ 0 = all_reached g.size S (λ v below.
       not-false (S v)
       (sym (ap (λ b. b && not (S v)) (lt-ltb v k (omega arith))) ∙ sym (rest v) ∙ ap (λ j. in_set j v) none
       ∙ in_set-none v)) in
       omega (arith, state.left),
   λ whole.
-      let none : unreached g.size S ≡ 0 = omega (arith, state.left) in
+      let none : count_unburnt g.size S ≡ 0 = omega (arith, state.left) in
       no_set m (λ v. rest v ∙ ⊎_elim
       (λ (below : v < k). and_right _ _ (not_from_true _ (none_unreached g.size S v (omega arith) none)))
       (λ (above : k ≤ v). and_left _ _ (le-ltb v k above))

@@ -5,7 +5,7 @@
 --   capped z          == the amount z, but 0 for a debt and 64 for more than 64: as no vertex has
 --                        more than 63 edges, it burns with one exactly if it burns with the
 --                        other
---   IsHeld n D l      == l are the amounts D of n vertices, capped
+--   IsHeldForBurning n D l == l are the amounts D of n vertices, capped
 --   heat x v          == the heat of v
 --   burns n x v       == v burns: it is one of n vertices and not one of those that do not
 --   IsUnlit n l x     == those that do not burn are below n, none of n vertices burns, and the
@@ -19,7 +19,7 @@
 --                        vertex is what it lacks to 127 dollars, if it holds what l tells, and
 --                        its edges to those that burn
 use Rattle.std.specs.Prelude.{◌≡◌, ◌≢◌, ℕ, ◌+◌, ◌-◌, ◌<◌, ◌≤◌, ◌&&◌, min, nat_lt, not, Bool, true, false, List, ℤ, pos, negsuc, slice_index}
-use Rattle.dg_graph.specs.Sets.{in_set, IsSetBelow}
+use Rattle.dg_graph.specs.Sets.{in_set, IsVertexSet}
 use Rattle.dg_graph.specs.declared.limits.TheConstants.{MAX_VERTICES}
 use Rattle.dg_theory.specs.Burning.{edges_into}
 use Rattle.dg_theory.specs.Firing.{Amounts}
@@ -33,8 +33,8 @@ abbrev pub capped : ℤ → ℕ
 capped (pos n) = min 64 n
 capped (negsuc n) = 0
 
-abbrev pub IsHeld : ℕ → Amounts → List ℕ → Type 0
-IsHeld n D held = (v : ℕ) → v < n → slice_index held v ≡ capped (D v)
+abbrev pub IsHeldForBurning : ℕ → Amounts → List ℕ → Type 0
+IsHeldForBurning n D held = (v : ℕ) → v < n → slice_index held v ≡ capped (D v)
 
 abbrev pub heat : Fire → ℕ → ℕ
 heat x v = slice_index x.heat v
@@ -43,7 +43,7 @@ abbrev pub burns : ℕ → Fire → ℕ → Bool
 burns n x v = nat_lt v n && not (in_set x.left v)
 
 pub record IsUnlit (n : ℕ) (l : List ℕ) (x : Fire) : Type 0 where
-  pub inside : IsSetBelow n (in_set x.left)
+  pub inside : IsVertexSet n (in_set x.left)
   pub none_burns : (v : ℕ) → burns n x v ≡ false
   pub cold : (v : ℕ) → v < MAX_VERTICES → heat x v ≡ 127 - slice_index l v
 
@@ -69,6 +69,6 @@ pub record IsWithout (S : ℕ → Bool) (v : ℕ) (T : ℕ → Bool) : Type 0 wh
   pub others : (w : ℕ) → w ≢ v → S w ≡ T w
 
 pub record IsFire (g : Multigraph) (l : List ℕ) (x : Fire) : Type 0 where
-  pub inside : IsSetBelow g.size (in_set x.left)
+  pub inside : IsVertexSet g.size (in_set x.left)
   pub heats : (v : ℕ) → v < MAX_VERTICES →
       heat x v ≡ (127 - slice_index l v) + edges_into g (burns g.size x) v

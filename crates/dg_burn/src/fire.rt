@@ -37,7 +37,7 @@ impl Fire {
     pub fn next_vertex(&self) -> Option<usize>
         ensures { MatchOption result (IsOut self.now) (IsLeastToBurn self.now) }
     {
-        least_in(both(hot(self.heat), self.left))
+        least_to_burn(hot_and_left(hot(self.heat), self.left))
     }
 
     /// Lets a vertex that is left burn: its edges are counted at all vertices.
@@ -51,8 +51,8 @@ impl Fire {
             heat self.new w ≡ heat self.old w + edges_between graph.now v w }
     {
         let _size = graph.size();
-        self.left = without_vertex(self.left, v);
-        self.heat = with_row(self.heat, u8x16::from_array(*graph.row(v)));
+        self.left = without_burning(self.left, v);
+        self.heat = with_heat_of_row(self.heat, u8x16::from_array(*graph.row(v)));
     }
 }
 
@@ -64,7 +64,7 @@ fn lack_of(held: u8x16) -> u8x16
 }
 
 /// The heat with the edges of a row more.
-fn with_row(heat: u8x16, row: u8x16) -> u8x16
+fn with_heat_of_row(heat: u8x16, row: u8x16) -> u8x16
     requires { (v : ℕ) → v < MAX_VERTICES → slice_index heat v + slice_index row v ≤ 255 }
     ensures { (v : ℕ) → v < MAX_VERTICES →
         slice_index result v ≡ slice_index heat v + slice_index row v }
@@ -90,14 +90,14 @@ fn hot(heat: u8x16) -> u16
 }
 
 /// The vertices that are in two sets.
-fn both(set: u16, other: u16) -> u16
+fn hot_and_left(set: u16, other: u16) -> u16
     ensures { (v : ℕ) → in_set result v ≡ (in_set set v && in_set other v) }
 {
     set & other
 }
 
 /// The set without one of its vertices.
-fn without_vertex(set: u16, v: usize) -> u16
+fn without_burning(set: u16, v: usize) -> u16
     requires few { v < MAX_VERTICES }
     requires member { in_set set v ≡ true }
     ensures { IsWithout (in_set set) v (in_set result) }
@@ -106,7 +106,7 @@ fn without_vertex(set: u16, v: usize) -> u16
 }
 
 /// The least vertex of a set.
-fn least_in(set: u16) -> Option<usize>
+fn least_to_burn(set: u16) -> Option<usize>
     ensures { MatchOption result (IsEmpty (in_set set)) (IsLeastIn (in_set set)) }
 {
     if set == 0 {

@@ -9,7 +9,7 @@
 --   lends-once      what is told of a vertex as a number is how often it lends
 --   held_flow       a machine's sum of an amount and what comes less what goes is the amount after it
 --   range-more      whether the first amounts are in range, and one more
-use Rattle.dg_chips.proofs.Common.{if◌then◌else◌, ◌≡◌, ℕ, ◌+◌, ◌<◌, ◌≤◌, Bool, true, false, ◌&&◌, arith, add-one, refl, ap, ◌∙◌, below_more, ⊎_elim, w32, mul-one, MatchBool, nat_le, unsigned_abs, to_z, of_z, bool_byte, cases_Bool, leb-true, leb-false, ints, ℤ, pos, ◌+ℤ◌, ◌-ℤ◌, ◌*ℤ◌, *ℤ-zero, sum_below, total_below, Multigraph, edges_between, valence, edges_into, Amounts, gain, fired, indicator, within_abs, into-le-valence, gain-outside, sum_below-total, IsGraph, IsSetBelow, valence-few, valence-outside, IsInRange, IsOutOfRange}
+use Rattle.dg_chips.proofs.Common.{if◌then◌else◌, ◌≡◌, ℕ, ◌+◌, ◌<◌, ◌≤◌, Bool, true, false, ◌&&◌, arith, add-one, refl, ap, ◌∙◌, below_more, ⊎_elim, w32, mul-one, MatchBool, nat_le, unsigned_abs, to_z, of_z, bool_byte, cases_Bool, leb-true, leb-false, ints, ℤ, pos, ◌+ℤ◌, ◌-ℤ◌, ◌*ℤ◌, *ℤ-zero, sum_below, total_below, Multigraph, edges_between, valence, edges_into, Amounts, gain, fired, indicator, within_abs, into-le-valence, gain-outside, sum_below-total, IsGraph, IsVertexSet, valence-few, valence-outside, IsInRange, IsOutOfRange}
 use Rattle.dg_chips.proofs.FlowLaws.{gain-products}
 use Rattle.dg_chips.proofs.LightLaws.{total-within}
 
@@ -39,7 +39,7 @@ into_first-in g S w v graph below member =
     ) in
     (omega arith, next)
 
-pub none_there : (g : Multigraph) (S : ℕ → Bool) (v : ℕ) → IsSetBelow g.size S → g.size ≤ v → S v ≡ false
+pub none_there : (g : Multigraph) (S : ℕ → Bool) (v : ℕ) → IsVertexSet g.size S → g.size ≤ v → S v ≡ false
 none_there g S v inside past = ⊎_elim
     (λ (member : S v ≡ true). absurd (omega (arith, inside v member)))
     (λ (missing : S v ≡ false). missing)
@@ -56,7 +56,7 @@ set-gain g S v got lent there here =
     sum_below-total g.size _ _ (λ w _. along_once (edges_between g v w) (S w)) in
     omega (arith, ints, gain-products g (indicator S) v, along_once (valence g v) (S v))
 
-pub set-outside : (g : Multigraph) (D : Amounts) (S : ℕ → Bool) (v : ℕ) → IsGraph g → IsSetBelow g.size S → g.size ≤ v →
+pub set-outside : (g : Multigraph) (D : Amounts) (S : ℕ → Bool) (v : ℕ) → IsGraph g → IsVertexSet g.size S → g.size ≤ v →
     D v ≡ pos 0 → fired g D (indicator S) v ≡ pos 0
 set-outside g D S v graph inside past none =
     omega (

@@ -8,7 +8,7 @@
 --                          another size
 -- To fire the empty set would change nothing; on a table it is refused, since it is no move.
 use Rattle.std.specs.Prelude.{◌≡◌, ◌≢◌, ℕ, ◌<◌, ◌≤◌, true, pos, negsuc}
-use Rattle.dg_graph.specs.Sets.{in_set, IsSetBelow}
+use Rattle.dg_graph.specs.Sets.{in_set, IsVertexSet}
 use Rattle.dg_theory.specs.Firing.{Amounts, only_at, indicator}
 use Rattle.dg_chips.specs.Vector.{at}
 use Rattle.dg_chips.specs.declared.moves.Move.{Move}
@@ -41,5 +41,5 @@ HasOtherSize n (Script s) = s.size ≢ n
 abbrev pub IsPlayable : ℕ → Move → Type 0
 IsPlayable n (Lend v) = v < n
 IsPlayable n (Borrow v) = v < n
-IsPlayable n (Fire m) = (m ≢ 0) × IsSetBelow n (in_set m)
+IsPlayable n (Fire m) = (m ≢ 0) × IsVertexSet n (in_set m)
 IsPlayable n (Script s) = s.size ≡ n

@@ -5,7 +5,7 @@ ghost use Rattle.std.specs.List.{slice_index_or};
 ghost use Rattle.std.specs.Int.RustNames.{unsigned_abs};
 ghost use Rattle.dg_theory.specs.Rank.{canonical};
 ghost use Rattle.dg_theory.specs.Firing.{degree, IsEffective, only_at, indicator, fired};
-ghost use Rattle.dg_graph.specs.Sets.{in_set, IsSetBelow};
+ghost use Rattle.dg_graph.specs.Sets.{in_set, IsVertexSet};
 ghost use Rattle.dg_chips.specs.Vector.{at, HoldsNumbers, IsDivisor, IsInRange, IsOutOfRange};
 ghost use Rattle.dg_chips.specs.DivisorFaults.{IsFirstChipFault, IsFirstMinusFault};
 
@@ -218,7 +218,7 @@ impl Divisor {
     /// The divisor after each vertex of a set has lent once; `None` if an amount is then not within 1,000,000.
     pub(crate) fn after_firing(&self, graph: &Graph, set: u16) -> Option<Divisor>
         requires size { self.now.size ≡ graph.now.size }
-        requires vertices { IsSetBelow graph.now.size (in_set set) }
+        requires vertices { IsVertexSet graph.now.size (in_set set) }
         ensures { MatchOption result
             (IsOutOfRange graph.now.size (fired graph.now (at self.now) (indicator (in_set set))))
             (λ d. (d.size ≡ graph.now.size)

@@ -17,11 +17,12 @@ const MOST: u64 = 1 << 30;
 pub fn is_light(graph: &Graph, lendings: &[i32; 16]) -> bool
     ensures { OnTrue result (IsLight graph.now (λ w. slice_index_or lendings.now w (pos 0))) }
 {
-    u64::from(most_edges(graph.valences())) * u64::from(most_lendings(lendings)) < MOST
+    u64::from(most_edges_when_light(graph.valences())) * u64::from(most_light_lendings(lendings))
+        < MOST
 }
 
 /// The largest of the numbers of edges.
-fn most_edges(valences: &[u8; MAX_VERTICES]) -> u8
+fn most_edges_when_light(valences: &[u8; MAX_VERTICES]) -> u8
     ensures { (v : ℕ) → slice_index valences.now v ≤ result }
 {
     let mut most = 0;
@@ -32,7 +33,7 @@ fn most_edges(valences: &[u8; MAX_VERTICES]) -> u8
 }
 
 /// The most lendings, or borrowings, of a vertex.
-fn most_lendings(lendings: &[i32; 16]) -> u32
+fn most_light_lendings(lendings: &[i32; 16]) -> u32
     ensures { (w : ℕ) → unsigned_abs (slice_index_or lendings.now w (pos 0)) ≤ result }
 {
     let mut most = 0;
@@ -53,13 +54,13 @@ pub fn gained_lightly(graph: &Graph, lendings: &[i32; 16], v: usize) -> i32
     let row = graph.row(v);
     let mut sum = 0;
     for w in 0..16 {
-        sum += carried_lightly(row[w], lendings[w]);
+        sum += dollars_along_lightly(row[w], lendings[w]);
     }
-    sum - carried_lightly(graph.valence(v), lendings[v])
+    sum - dollars_along_lightly(graph.valence(v), lendings[v])
 }
 
 /// What some edges carry together when each of them carries `each`.
-fn carried_lightly(edges: u8, each: i32) -> i32
+fn dollars_along_lightly(edges: u8, each: i32) -> i32
     requires { edges * unsigned_abs each < 2 ^ 30 }
     ensures { result ≡ pos edges *ℤ each }
 {

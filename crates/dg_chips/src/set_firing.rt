@@ -6,7 +6,7 @@ ghost use Rattle.dg_theory.specs.Multigraph.{valence};
 ghost use Rattle.dg_theory.specs.Burning.{edges_into};
 ghost use Rattle.dg_theory.specs.Firing.{gain, indicator, multiple};
 ghost use Rattle.dg_graph.specs.declared.limits.TheConstants.{MAX_VERTICES, MAX_VALENCE};
-ghost use Rattle.dg_graph.specs.Sets.{in_set, IsSetBelow};
+ghost use Rattle.dg_graph.specs.Sets.{in_set, IsVertexSet};
 
 use dg_graph::{Graph, contains};
 use std::simd::prelude::*;
@@ -54,7 +54,7 @@ fn carried(edges: u32, each: i128) -> i128
 
 /// What each vertex gets, and what it lends, when each vertex of a set lends once.
 pub(crate) fn flows(graph: &Graph, set: u16) -> ([u8; 16], [u8; 16])
-    requires { IsSetBelow graph.now.size (in_set set) }
+    requires { IsVertexSet graph.now.size (in_set set) }
     ensures got { (v : ℕ) → v < MAX_VERTICES →
         slice_index result.0 v ≡ edges_into graph.now (in_set set) v }
     ensures lent { (v : ℕ) → v < MAX_VERTICES →
@@ -64,7 +64,7 @@ pub(crate) fn flows(graph: &Graph, set: u16) -> ([u8; 16], [u8; 16])
     let mut lent = [0; 16];
     for v in 0..graph.size() {
         if contains(set, v) {
-            got = with_row(got, u8x16::from_array(*graph.row(v)));
+            got = with_flow_row(got, u8x16::from_array(*graph.row(v)));
             lent[v] = graph.valence(v);
         }
     }
@@ -72,7 +72,7 @@ pub(crate) fn flows(graph: &Graph, set: u16) -> ([u8; 16], [u8; 16])
 }
 
 /// The sums of the lanes.
-fn with_row(sums: u8x16, row: u8x16) -> u8x16
+fn with_flow_row(sums: u8x16, row: u8x16) -> u8x16
     requires { (v : ℕ) → v < MAX_VERTICES → slice_index sums v + slice_index row v ≤ 255 }
     ensures { (v : ℕ) → v < MAX_VERTICES →
         slice_index result v ≡ slice_index sums v + slice_index row v }

@@ -13,7 +13,7 @@ pub use Rattle.dg_cli.specs.Commands.{bare_program, command}
 pub use Rattle.dg_cli.specs.Faults.{IsSaid, IsWhy}
 pub use Rattle.dg_cli.specs.Numbers.{IsGiven, IsGivenOr, IsNumber}
 pub use Rattle.dg_cli.specs.Refusals.{AskNothing, Refuses}
-pub use Rattle.dg_cli.specs.Telling.{Tells, least, most, rows_in}
+pub use Rattle.dg_cli.specs.Telling.{TellsCommand, least, most, rows_in}
 pub use Rattle.dg_cli.specs.declared.arguments.Argument.{Argument}
 pub use Rattle.dg_cli.specs.declared.commands.Subcommand.{Subcommand}
 pub use Rattle.dg_cli.specs.declared.reading.NumberArgument.{NumberArgument}

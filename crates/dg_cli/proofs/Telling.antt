@@ -1,19 +1,20 @@
 -- How the library's account is read.
-use Rattle.dg_cli.proofs.Common.{◌≡◌, ◌≢◌, ◌∙◌, ◌⊎◌, ◌<◌, ◌^◌, ℕ, Option, Some, None, Result, Ok, Err, IsErrAnd, true≢false, is_some, inl, inr, sym, ap, arith, decimal, option_map, ok_or, Bor, decimal_injective, Text, IsNumber, IsGiven, IsGivenOr, Tells, least, most, NumberArgument, Capacity, Workers, Seats, Degree, Turns, Refusal}
+use Rattle.dg_cli.proofs.Common.{◌≡◌, ◌≢◌, ◌∙◌, ◌⊎◌, ◌<◌, ◌^◌, ℕ, Option, Some, None, Result, Ok, Err, IsErrAnd, true≢false, is_some, inl, inr, sym, ap, arith, decimal, option_map, ok_or, Bor, decimal_injective, Text, IsNumber, IsGiven, IsGivenOr, TellsCommand, least, most, NumberArgument, Capacity, Workers, Seats, Degree, Turns, Refusal}
 use Rattle.dg_cli.specs.declared.reading.Refusal.TheVariants.{Command}
 
 pub none≢some : {X : Type 0} (x : X) → None ≡ Some x → ⊥
 none≢some x e = true≢false (sym (ap is_some e))
 
-pub found : (o : Option (Bor Text)) (t : Option Text) → option_map (λ s. s.now) o ≡ t → Tells (λ (w : Bor Text). t ≡ Some w.now)
+pub found : (o : Option (Bor Text)) (t : Option Text) → option_map (λ s. s.now) o ≡ t →
+    TellsCommand (λ (w : Bor Text). t ≡ Some w.now)
     (ok_or o Command)
 found None t e = inr (λ w h. none≢some w.now (e ∙ h))
 found (Some s) t e = sym e
 
 -- a refusal is handed on, if whatever may be asked for then might have been asked for before
-pub passes : {A B : Type 0} (P : A → Type 0) (Q : B → Type 0) (r : Result B Refusal) (e : Refusal) → Tells P (Err e)
+pub passes : {A B : Type 0} (P : A → Type 0) (Q : B → Type 0) (r : Result B Refusal) (e : Refusal) → TellsCommand P (Err e)
     → IsErrAnd r (λ x. x ≡ e)
-    → ((y : B) → Q y → (x : A) × P x) → Tells Q r
+    → ((y : B) → Q y → (x : A) × P x) → TellsCommand Q r
 passes P Q (Ok y) e told is back = absurd is
 passes P Q (Err x) e told is back = elim told [
   | inl m ↦ inl (is ∙ m)

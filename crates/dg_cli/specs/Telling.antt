@@ -1,7 +1,7 @@
 -- How what the library of command lines tells is read.
 --   rows_in matches         == the rows of the command
 --   name_of, shown, least, most argument == the name of a number's argument, and its range
---   Tells asks result       == what is asked for; or a refusal, because memory is refused or because
+--   TellsCommand asks result == what is asked for; or a refusal, because memory is refused or because
 --                              nothing is asked for
 use Rattle.std.specs.Prelude.{◌≡◌, ◌⊎◌, ◌-◌, ◌^◌, ℕ, List, Result, Ok, Err, codes}
 use Rattle.clap.specs.Words.{Row, Text, found_of, rows_of}
@@ -36,6 +36,6 @@ most Seats = MAX_SEATS
 most Degree = 2 ^ 32 - 1
 most Turns = MAX_TURNS
 
-abbrev pub Tells : {T : Type 0} → (T → Type 0) → Result T Refusal → Type 0
-Tells asks (Ok x) = asks x
-Tells asks (Err refusal) = (refusal ≡ Memory) ⊎ ((x : _) → asks x → ⊥)
+abbrev pub TellsCommand : {T : Type 0} → (T → Type 0) → Result T Refusal → Type 0
+TellsCommand asks (Ok x) = asks x
+TellsCommand asks (Err refusal) = (refusal ≡ Memory) ⊎ ((x : _) → asks x → ⊥)

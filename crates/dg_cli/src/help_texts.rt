@@ -19,7 +19,8 @@ whole amounts from -1000000 to 1000000, one for each vertex"#;
 pub(crate) const STEPS_HELP: &str =
     "A text file with a step on each line: a seat, 1 to 64, and a command";
 
-pub(crate) const DEGREE_HELP: &str = "How many dollars are lost: a whole number, at most 1000";
+pub(crate) const DEGREE_HELP: &str =
+    "How many dollars are lost: a whole number; at most 1000 can be tested";
 
 pub(crate) const TURNS_HELP: &str = "How many turns there may be: a whole number from 0 to 65536";
 

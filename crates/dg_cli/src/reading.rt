@@ -21,7 +21,7 @@ ghost use Rattle.dg_cli.specs.Asks.{
   HasNumber,
 };
 ghost use Rattle.dg_cli.specs.Numbers.{IsGiven, IsGivenOr, IsNumber};
-ghost use Rattle.dg_cli.specs.Telling.{Tells, least, most, name_of, rows_in};
+ghost use Rattle.dg_cli.specs.Telling.{TellsCommand, least, most, name_of, rows_in};
 
 use clap::ArgMatches;
 use dg_invocation::{
@@ -124,7 +124,8 @@ pub(crate) fn asked_by<'a>(
     alloc: Global,
     matches: &ArgMatches<'a>,
 ) -> Result<Invocation<'a>, Refusal<'a>>
-    ensures { Tells (λ asked. IsSomeAnd (subcommand_rows_of matches.now) (λ entered. AsksFor entered.0 entered.1 asked)) result }
+    ensures { TellsCommand
+        (λ asked. IsSomeAnd (subcommand_rows_of matches.now) (λ entered. AsksFor entered.0 entered.1 asked)) result }
 {
     let (name, inner) = matches.subcommand().ok_or(Refusal::Command)?;
     command_in(alloc, name, inner)
@@ -136,7 +137,7 @@ fn command_in<'a>(
     name: &str,
     inner: &ArgMatches<'a>,
 ) -> Result<Invocation<'a>, Refusal<'a>>
-    ensures { Tells (AsksFor name.now (rows_in inner.now)) result }
+    ensures { TellsCommand (AsksFor name.now (rows_in inner.now)) result }
 {
     match name {
         "serve" => Ok(Invocation::Serve(serve_in(inner)?)),
@@ -154,7 +155,7 @@ fn command_in<'a>(
 ///
 /// Refused for the number of entries, then of workers, then of seats.
 fn serve_in<'a>(inner: &ArgMatches<'a>) -> Result<ServeTask<'a>, Refusal<'a>>
-    ensures { Tells (AsksServe (rows_in inner.now)) result }
+    ensures { TellsCommand (AsksServe (rows_in inner.now)) result }
 {
     let file = word_in(inner, "file")?;
     let capacity = given_or(inner, NumberArgument::Capacity, MAX_CAPACITY)?;
@@ -170,7 +171,7 @@ fn serve_in<'a>(inner: &ArgMatches<'a>) -> Result<ServeTask<'a>, Refusal<'a>>
 
 /// Scripts that are played side by side.
 fn party_in<'a>(alloc: Global, inner: &ArgMatches<'a>) -> Result<PartyTask<'a>, Refusal<'a>>
-    ensures { Tells (AsksParty (rows_in inner.now)) result }
+    ensures { TellsCommand (AsksParty (rows_in inner.now)) result }
 {
     let file = word_in(inner, "file")?;
     let capacity = given_or(inner, NumberArgument::Capacity, MAX_CAPACITY)?;
@@ -187,7 +188,7 @@ fn party_in<'a>(alloc: Global, inner: &ArgMatches<'a>) -> Result<PartyTask<'a>, 
 /// Refused if both are there, then for the number of workers, then for the degree.
 fn sweep_in<'a>(name: &str, inner: &ArgMatches<'a>) -> Result<SweepTask<'a>, Refusal<'a>>
     requires { (word_of (codes "divisors") (rows_in inner.now) ≡ None) → HasLines (rows_in inner.now) }
-    ensures { Tells (AsksSweep name.now (rows_in inner.now)) result }
+    ensures { TellsCommand (AsksSweep name.now (rows_in inner.now)) result }
 {
     let file = word_in(inner, "file")?;
     let divisors = divisors_in(inner);
@@ -206,7 +207,7 @@ fn sweep_in<'a>(name: &str, inner: &ArgMatches<'a>) -> Result<SweepTask<'a>, Ref
 
 /// What a command asks of each line.
 fn question_in<'a>(name: &str, inner: &ArgMatches<'a>) -> Result<Question, Refusal<'a>>
-    ensures { Tells (AsksQuestion name.now (rows_in inner.now)) result }
+    ensures { TellsCommand (AsksQuestion name.now (rows_in inner.now)) result }
 {
     match name {
         "judge" => Ok(Question::Judge {
@@ -222,7 +223,7 @@ fn question_in<'a>(name: &str, inner: &ArgMatches<'a>) -> Result<Question, Refus
 fn task_in<'a>(name: &str, inner: &ArgMatches<'a>) -> Result<Task<'a>, Refusal<'a>>
     requires lines { HasOneTable (rows_in inner.now) }
     requires others { (name.now ≢ codes "greedy") × (name.now ≢ codes "rehearse") }
-    ensures { Tells (AsksTask name.now (rows_in inner.now)) result }
+    ensures { TellsCommand (AsksTask name.now (rows_in inner.now)) result }
 {
     match name {
         "judge" => Ok(Task::Judge {
@@ -239,7 +240,7 @@ fn task_in<'a>(name: &str, inner: &ArgMatches<'a>) -> Result<Task<'a>, Refusal<'
 
 /// Steps that are played on a table.
 fn rehearsal_in<'a>(inner: &ArgMatches<'a>) -> Result<Task<'a>, Refusal<'a>>
-    ensures { Tells (AsksTask (codes "rehearse") (rows_in inner.now)) result }
+    ensures { TellsCommand (AsksTask (codes "rehearse") (rows_in inner.now)) result }
 {
     let file = word_in(inner, "file")?;
     let steps = word_in(inner, "steps")?;
@@ -248,7 +249,7 @@ fn rehearsal_in<'a>(inner: &ArgMatches<'a>) -> Result<Task<'a>, Refusal<'a>>
 
 /// The table file of a command that has workers for lines alone.
 fn file_alone_in<'a>(inner: &ArgMatches<'a>) -> Result<&'a str, Refusal<'a>>
-    ensures { Tells
+    ensures { TellsCommand
         (λ file. (word_of (codes "file") (rows_in inner.now) ≡ Some file.now)
         × (word_of (codes "workers") (rows_in inner.now) ≡ None))
         result }
@@ -264,7 +265,7 @@ fn file_alone_in<'a>(inner: &ArgMatches<'a>) -> Result<&'a str, Refusal<'a>>
 ///
 /// Refused for the number of workers, then for the degree.
 fn rank_in<'a>(inner: &ArgMatches<'a>) -> Result<RankTask<'a>, Refusal<'a>>
-    ensures { Tells (AsksRank (rows_in inner.now)) result }
+    ensures { TellsCommand (AsksRank (rows_in inner.now)) result }
 {
     let file = word_in(inner, "file")?;
     let workers = given_or(inner, NumberArgument::Workers, 1)?;
@@ -278,7 +279,7 @@ fn rank_in<'a>(inner: &ArgMatches<'a>) -> Result<RankTask<'a>, Refusal<'a>>
 
 /// The greedy strategy.
 fn greedy_in<'a>(inner: &ArgMatches<'a>) -> Result<GreedyTask<'a>, Refusal<'a>>
-    ensures { Tells (AsksGreedy (rows_in inner.now)) result }
+    ensures { TellsCommand (AsksGreedy (rows_in inner.now)) result }
 {
     let file = word_in(inner, "file")?;
     let turns = number_in(inner, NumberArgument::Turns)?;
@@ -322,7 +323,7 @@ fn texts_in<'a, 'm>(inner: &'m ArgMatches<'a>, name: &str) -> Option<&'m [&'a st
 
 /// The word of an argument that has to be there.
 fn word_in<'a>(inner: &ArgMatches<'a>, name: &str) -> Result<&'a str, Refusal<'a>>
-    ensures { Tells (λ word. word_of name.now (rows_in inner.now) ≡ Some word.now) result }
+    ensures { TellsCommand (λ word. word_of name.now (rows_in inner.now) ≡ Some word.now) result }
 {
     text_in(inner, name).ok_or(Refusal::Command)
 }
@@ -333,7 +334,8 @@ fn given_or<'a>(
     argument: NumberArgument,
     default: u32,
 ) -> Result<u32, Refusal<'a>>
-    ensures { Tells (IsGivenOr default (least argument) (most argument) (word_of (name_of argument) (rows_in inner.now))) result }
+    ensures { TellsCommand
+        (IsGivenOr default (least argument) (most argument) (word_of (name_of argument) (rows_in inner.now))) result }
 {
     match given_in(inner, argument)? {
         Some(number) => Ok(number),
@@ -343,7 +345,7 @@ fn given_or<'a>(
 
 /// The number of seats, if one is given.
 fn seats_in<'a>(inner: &ArgMatches<'a>) -> Result<Option<u8>, Refusal<'a>>
-    ensures { Tells (IsGiven 1 MAX_SEATS (word_of (codes "seats") (rows_in inner.now))) result }
+    ensures { TellsCommand (IsGiven 1 MAX_SEATS (word_of (codes "seats") (rows_in inner.now))) result }
 {
     match given_in(inner, NumberArgument::Seats)? {
         Some(seats) => Ok(Some(seats as u8)),
@@ -353,7 +355,7 @@ fn seats_in<'a>(inner: &ArgMatches<'a>) -> Result<Option<u8>, Refusal<'a>>
 
 /// The number of an argument that has to be there.
 fn number_in<'a>(inner: &ArgMatches<'a>, argument: NumberArgument) -> Result<u32, Refusal<'a>>
-    ensures { Tells (HasNumber (name_of argument) (least argument) (most argument) (rows_in inner.now)) result }
+    ensures { TellsCommand (HasNumber (name_of argument) (least argument) (most argument) (rows_in inner.now)) result }
 {
     match text_in(inner, argument.name()) {
         Some(word) => number_of(argument, word),
@@ -366,7 +368,8 @@ fn given_in<'a>(
     inner: &ArgMatches<'a>,
     argument: NumberArgument,
 ) -> Result<Option<u32>, Refusal<'a>>
-    ensures { Tells (IsGiven (least argument) (most argument) (word_of (name_of argument) (rows_in inner.now))) result }
+    ensures { TellsCommand
+        (IsGiven (least argument) (most argument) (word_of (name_of argument) (rows_in inner.now))) result }
 {
     match text_in(inner, argument.name()) {
         Some(word) => Ok(Some(number_of(argument, word)?)),
@@ -376,7 +379,7 @@ fn given_in<'a>(
 
 /// The number that the word of an argument is.
 fn number_of(argument: NumberArgument, word: &str) -> Result<u32, Refusal<'_>>
-    ensures { Tells (IsNumber (least argument) (most argument) word.entry.now) result }
+    ensures { TellsCommand (IsNumber (least argument) (most argument) word.entry.now) result }
 {
     let (least, most) = argument.range();
     match natural(word.as_bytes()) {
@@ -387,7 +390,7 @@ fn number_of(argument: NumberArgument, word: &str) -> Result<u32, Refusal<'_>>
 
 /// The names of the scripts.
 fn scripts_in<'a>(alloc: Global, inner: &ArgMatches<'a>) -> Result<Vec<&'a str>, Refusal<'a>>
-    ensures { Tells
+    ensures { TellsCommand
         (λ scripts. (words_of (codes "script") (rows_in inner.now)
         ≡ Some (map (λ script. script.now) scripts.items)) × (1 ≤ vec_len scripts))
         result }

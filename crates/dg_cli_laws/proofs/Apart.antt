@@ -1,5 +1,5 @@
 -- No list of words asks for two things, or asks for something and is refused.
-use Rattle.dg_cli_laws.proofs.Common.{◌≡◌, ◌∙◌, ◌⊎◌, List, [], Option, None, Some, IsSomeAnd, true, true≢false, inl, inr, refl, sym, subst, subcommand_of, ErrorKind, Invocation, ArgsFault, CommandLine, NotText, OutOfMemory, Asks, AsksFor, CallsForHelp, HasFault, Refuses, WordsHaveOneMeaning, written}
+use Rattle.dg_cli_laws.proofs.Common.{◌≡◌, ◌∙◌, ◌⊎◌, List, [], Option, None, Some, IsSomeAnd, true, true≢false, inl, inr, refl, sym, subst, subcommand_of, ErrorKind, Invocation, ArgsFault, CommandLine, NotText, OutOfMemory, Asks, AsksFor, CallsForHelp, HasFault, Refuses, CommandLinesHaveOneMeaning, written}
 use Rattle.clap.specs.Words.{IsAmong, Kinds, Row, Text, fault_of}
 use Rattle.clap.specs.declared.error.kind.ErrorKind.TheVariants as kind
 use Rattle.dg_invocation.specs.declared.invocation.Invocation.TheVariants as asked
@@ -87,5 +87,5 @@ one words a b asks also = elim (meant words a asks) [
   ]
 ]
 
-pub law : WordsHaveOneMeaning
+pub law : CommandLinesHaveOneMeaning
 law = record { one = one; apart = apart }

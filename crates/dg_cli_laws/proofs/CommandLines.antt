@@ -1,5 +1,5 @@
 -- The command lines of specs/CommandLines.antt, each by computing it.
-use Rattle.dg_cli_laws.proofs.Common.{◌≡◌, ◌∙◌, ◌++◌, ◌≤◌, ℕ, [], ◌∷◌, Option, Some, codes, decimal, refl, sym, ap, subst, arith, true≢false, true, false, slice_index, unwrap_or, decimal_step, decimal-count_text, DisplayHelp, DisplayHelpOnMissingArgumentOrSubcommand, DisplayVersion, InvalidSubcommand, UnknownArgument, Judge, Rank, IsGiven, IsNumber, CommandLinesAsk, IsFault, IsJudge, IsParty, IsRank, IsServe, IsSweepOf}
+use Rattle.dg_cli_laws.proofs.Common.{◌≡◌, ◌∙◌, ◌++◌, ◌≤◌, ℕ, [], ◌∷◌, Option, Some, codes, decimal, refl, sym, ap, subst, arith, true≢false, true, false, slice_index, unwrap_or, decimal_step, decimal-count_text, DisplayHelp, DisplayHelpOnMissingArgumentOrSubcommand, DisplayVersion, InvalidSubcommand, UnknownArgument, Judge, Rank, IsGiven, IsNumber, CommandLinesAsk, LineHasFault, LineAsksJudge, IsParty, LineAsksRank, LineAsksServe, LineAsksSweep}
 use Rattle.clap.proofs.OnLiterals.{clap_on_literals}
 use Rattle.clap.specs.Words.{Text}
 use Rattle.dg_cli.specs.Commands.{dollar}
@@ -33,16 +33,16 @@ d65536 =
     let four = decimal_step 6553 (omega arith) (omega arith) ∙ ap (λ ds. ds ++ codes "3") three in
     sym (decimal_step 65536 (omega arith) (omega arith) ∙ ap (λ ds. ds ++ codes "6") four)
 
-judge : IsJudge (codes "judge" ∷ codes "t" ∷ []) (codes "t") false
+judge : LineAsksJudge (codes "judge" ∷ codes "t" ∷ []) (codes "t") false
 unfolding dollar clap_on_literals
 judge f file =
     (refl, (refl, ap Some (sym file), ((not_set, refl), refl), (λ no. absurd (true≢false (sym no)), λ set. absurd (not_set set))))
 
-after_dashes : IsJudge (codes "judge" ∷ codes "--order" ∷ codes "--" ∷ codes "-t" ∷ []) (codes "-t") true
+after_dashes : LineAsksJudge (codes "judge" ∷ codes "--order" ∷ codes "--" ∷ codes "-t" ∷ []) (codes "-t") true
 unfolding dollar clap_on_literals
 after_dashes f file = (refl, (refl, ap Some (sym file), ((not_set, refl), refl), (λ _. refl, λ _. refl)))
 
-rank_workers : IsRank (codes "rank" ∷ codes "--workers=3" ∷ codes "t" ∷ codes "2" ∷ []) (codes "t") 2 3
+rank_workers : LineAsksRank (codes "rank" ∷ codes "--workers=3" ∷ codes "t" ∷ codes "2" ∷ []) (codes "t") 2 3
 unfolding dollar clap_on_literals
 rank_workers t file degree workers = (
   refl,
@@ -58,7 +58,7 @@ rank_workers t file degree workers = (
   ),
 )
 
-judge_order : IsSweepOf (codes "judge" ∷ codes "t" ∷ codes "--divisors" ∷ codes "s" ∷ codes "--order" ∷ []) (codes "t")
+judge_order : LineAsksSweep (codes "judge" ∷ codes "t" ∷ codes "--divisors" ∷ codes "s" ∷ codes "--order" ∷ []) (codes "t")
     (Some (codes "s")) (Judge true) 1
 unfolding dollar clap_on_literals
 judge_order t file divisors question workers = (
@@ -72,7 +72,7 @@ judge_order t file divisors question workers = (
   },
 )
 
-rank_divisors : IsSweepOf (codes "rank" ∷ codes "--divisors=s" ∷ codes "t" ∷ codes "1" ∷ []) (codes "t") (Some (codes "s"))
+rank_divisors : LineAsksSweep (codes "rank" ∷ codes "--divisors=s" ∷ codes "t" ∷ codes "1" ∷ []) (codes "t") (Some (codes "s"))
     (Rank 1) 1
 unfolding dollar clap_on_literals
 rank_divisors t file divisors question workers = (
@@ -89,7 +89,7 @@ rank_divisors t file divisors question workers = (
   },
 )
 
-serve_seats : IsServe (codes "serve" ∷ codes "t" ∷ codes "--seats" ∷ codes "64" ∷ codes "--cap=65536" ∷ []) (codes "t")
+serve_seats : LineAsksServe (codes "serve" ∷ codes "t" ∷ codes "--seats" ∷ codes "64" ∷ codes "--cap=65536" ∷ []) (codes "t")
     (Some 64) 65536 1
 unfolding dollar clap_on_literals
 serve_seats t file seats capacity workers = (
@@ -122,19 +122,19 @@ party_capacity t file scripts capacity = (
   ),
 )
 
-help_of_judge : IsFault (codes "judge" ∷ codes "--help" ∷ []) (DisplayHelp ∷ [])
+help_of_judge : LineHasFault (codes "judge" ∷ codes "--help" ∷ []) (DisplayHelp ∷ [])
 unfolding dollar clap_on_literals
 help_of_judge = refl
 
-version : IsFault (codes "--version" ∷ []) (DisplayVersion ∷ [])
+version : LineHasFault (codes "--version" ∷ []) (DisplayVersion ∷ [])
 unfolding dollar clap_on_literals
 version = refl
 
-help_is_no_command : IsFault (codes "help" ∷ codes "rank" ∷ []) (UnknownArgument ∷ InvalidSubcommand ∷ [])
+help_is_no_command : LineHasFault (codes "help" ∷ codes "rank" ∷ []) (UnknownArgument ∷ InvalidSubcommand ∷ [])
 unfolding dollar clap_on_literals
 help_is_no_command = refl
 
-no_words : IsFault ([]) (DisplayHelpOnMissingArgumentOrSubcommand ∷ [])
+no_words : LineHasFault ([]) (DisplayHelpOnMissingArgumentOrSubcommand ∷ [])
 unfolding dollar clap_on_literals
 no_words = refl
 

@@ -17,8 +17,8 @@ pub use Rattle.clap.specs.declared.error.kind.ErrorKind.TheVariants.{DisplayHelp
 pub use Rattle.dg_cli.specs.Asks.{Asks, AsksFor, AsksQuestion, CallsForHelp, HasOneTable, IsOrdered, LinesAre, divisors_of, word_of, words_of}
 pub use Rattle.dg_cli.specs.Numbers.{IsGiven, IsGivenOr, IsNumber}
 pub use Rattle.dg_cli.specs.Refusals.{HasFault, Refuses}
-pub use Rattle.dg_cli_laws.specs.CommandLines.{CommandLinesAsk, IsFault, IsJudge, IsParty, IsRank, IsServe, IsSweepOf}
-pub use Rattle.dg_cli_laws.specs.OneMeaning.{WordsHaveOneMeaning, lines_words, order_words, question_words, seats_words, written}
+pub use Rattle.dg_cli_laws.specs.CommandLines.{CommandLinesAsk, LineHasFault, LineAsksJudge, IsParty, LineAsksRank, LineAsksServe, LineAsksSweep}
+pub use Rattle.dg_cli_laws.specs.OneMeaning.{CommandLinesHaveOneMeaning, lines_words, order_words, question_words, seats_words, written}
 pub use Rattle.dg_invocation.specs.declared.invocation.Invocation.{Invocation}
 pub use Rattle.dg_invocation.specs.declared.limits.TheConstants.{MAX_CAPACITY}
 pub use Rattle.dg_invocation.specs.declared.parse_args.ArgsFault.{ArgsFault}

@@ -4,7 +4,7 @@
 --   question_words question == the command that asks this of each line
 --   written asked        == the words that say what is asked for: the command, the files and the
 --                           numbers, also those that nobody gave. The text of a help is left out
---   WordsHaveOneMeaning  == words that ask for two things ask for one, since both are written alike;
+--   CommandLinesHaveOneMeaning == words that ask for two things ask for one, since both are written alike;
 --                           and words that ask for something are refused for nothing but want of
 --                           memory
 use Rattle.std.specs.Prelude.{◌≡◌, ℕ, Bool, true, false, List, [], ◌∷◌, ◌++◌, Option, Some, None, codes, decimal, map, option_map}
@@ -54,7 +54,7 @@ written (asked.Party party) =
     ∷ map (λ script. script.now) party.scripts.items
 written (asked.Text text) = []
 
-pub record WordsHaveOneMeaning : Type 0 where
+pub record CommandLinesHaveOneMeaning : Type 0 where
   pub one : (words : List Text) (a b : Invocation) → Asks words a → Asks words b
       → written a ≡ written b
   pub apart : (words : List Text) (it : Invocation) (fault : ArgsFault) → Asks words it

@@ -1,6 +1,6 @@
 //! What command lines mean, the contracts of functions that do nothing.
 ghost use Rattle.dg_cli_laws.specs.CommandLines.{CommandLinesAsk};
-ghost use Rattle.dg_cli_laws.specs.OneMeaning.{WordsHaveOneMeaning};
+ghost use Rattle.dg_cli_laws.specs.OneMeaning.{CommandLinesHaveOneMeaning};
 
 /// Some command lines ask for what their words say, and others are refused.
 pub fn command_lines_ask()
@@ -8,6 +8,6 @@ pub fn command_lines_ask()
 {}
 
 /// A list of words asks for one thing at most, and none both asks for something and has a fault.
-pub fn words_have_one_meaning()
-    ensures { WordsHaveOneMeaning }
+pub fn command_lines_have_one_meaning()
+    ensures { CommandLinesHaveOneMeaning }
 {}

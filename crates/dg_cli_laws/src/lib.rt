@@ -3,4 +3,4 @@
 
 mod laws;
 
-pub use laws::{command_lines_ask, words_have_one_meaning};
+pub use laws::{command_lines_ask, command_lines_have_one_meaning};

@@ -5,7 +5,7 @@ pub use Rattle.dg_chips.specs.Vector.{HoldsNumbers, IsDivisor, Vector, at}
 pub use Rattle.dg_chips.specs.VectorFaults.{IsFirstPast}
 pub use Rattle.dg_chips.specs.declared.divisor.ChipFault.{ChipFault}
 pub use Rattle.dg_chips.specs.declared.divisor.ChipFault.TheVariants.{Length, Range}
-pub use Rattle.dg_file.specs.Content.{Content, HasParts, IsContent, IsNotJson, Parts, Reads, count_in, edge_from, edge_in, edges_in, listed, numbers_in, put_first, texts_in, whole}
+pub use Rattle.dg_file.specs.Content.{Content, HasParts, IsContent, IsNotJson, Parts, Reads, count_in, edge_from, edge_in, edges_in, listed, numbers_in, put_first_json, texts_in, whole}
 pub use Rattle.dg_file.specs.FileFaults.{GivesDivisor, GivesGraph, IsEdgeFault, IsGraphFault, IsNameFault, IsRefusedTable, IsShapeFault, IsShapeFaultOf, IsTwiceFault, RefusesFile, RefusesTable}
 pub use Rattle.dg_file.specs.FileLaws.{AreSameOpenings, FilesHaveOneMeaning}
 pub use Rattle.dg_file.specs.TableFiles.{IsTable, IsTableFile, item_of, items_of}

@@ -9,7 +9,7 @@
 --   parts-counted  an object of another number of members has no parts
 --   edge-three     an array of three values is an edge where they are two texts and a number of edges
 --   edge-others    an array of another number of values is no edge
-use Rattle.dg_file.proofs.Common.{◌≡◌, ◌≢◌, ℕ, suc, ◌+◌, ◌<◌, ◌≤◌, List, [], ◌∷◌, ◌++◌, length, get_or, drop, Option, Some, None, option_map, Bor, Vec, String, Global, refl, sym, ap, ◌∙◌, codes, inl, inr, arith, IsSome, option_and_then, cases_order, append_assoc, append-nil, drop_more, drop_all, Data, null, boolean, number, string, array, object, Members, get, get_member, get_item, as_object, as_array, as_str, view, items_view, members_view, Value, get_item_within, Parts, HasParts, put_first, edge_in, edge_from, count_in, listed, IsEdgeFault}
+use Rattle.dg_file.proofs.Common.{◌≡◌, ◌≢◌, ℕ, suc, ◌+◌, ◌<◌, ◌≤◌, List, [], ◌∷◌, ◌++◌, length, get_or, drop, Option, Some, None, option_map, Bor, Vec, String, Global, refl, sym, ap, ◌∙◌, codes, inl, inr, arith, IsSome, option_and_then, cases_order, append_assoc, append-nil, drop_more, drop_all, Data, null, boolean, number, string, array, object, Members, get, get_member, get_item, as_object, as_array, as_str, view, items_view, members_view, Value, get_item_within, Parts, HasParts, put_first_json, edge_in, edge_from, count_in, listed, IsEdgeFault}
 use Rattle.dg_file.specs.Content.{member_count, each, edge_of}
 
 abbrev pub after : {A : Type 0} → List A → Option (List A) → Option (List A)
@@ -34,7 +34,7 @@ module _ {A : Type 0} (read : Data → Option A) (vs : List Value) (i : ℕ) (v 
   unfolding each
   each-more x below is some so_far =
       so_far ∙ ap (λ rest. after xs (each read (items_view rest))) (left below is)
-      ∙ ap (λ first. after xs (put_first first (each read (items_view (drop (i + 1) vs))))) some
+      ∙ ap (λ first. after xs (put_first_json first (each read (items_view (drop (i + 1) vs))))) some
       ∙ after-item xs x (each read (items_view (drop (i + 1) vs)))
 
   pub each-failed : i < length vs → v ≡ get_or vs i v → read (view v) ≡ None
@@ -43,7 +43,7 @@ module _ {A : Type 0} (read : Data → Option A) (vs : List Value) (i : ℕ) (v 
   unfolding each
   each-failed below is none so_far =
       so_far ∙ ap (λ rest. after xs (each read (items_view rest))) (left below is)
-      ∙ ap (λ first. after xs (put_first first (each read (items_view (drop (i + 1) vs))))) none
+      ∙ ap (λ first. after xs (put_first_json first (each read (items_view (drop (i + 1) vs))))) none
 
 pub each-all : {A : Type 0} (read : Data → Option A) (vs : List Value) (i : ℕ) (xs : List A) → length vs ≤ i
     → each read (items_view vs) ≡ after xs (each read (items_view (drop i vs)))

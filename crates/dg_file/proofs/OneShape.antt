@@ -2,11 +2,11 @@
 --   each-none     an item that cannot be read leaves nothing
 --   shape-one     one shape at fault
 --   shape-none    no shape at fault where there is a content
-use Rattle.dg_file.proofs.Common.{◌≡◌, ℕ, zero, suc, ◌<◌, ◌⊎◌, inl, inr, Option, Some, None, refl, sym, ap, ◌∙◌, option_and_then, Data, Items, no_items, item, get_item, as_array, Content, Parts, HasParts, IsContent, put_first, edge_in, edges_in, IsEdgeFault, IsShapeFaultOf, IsShapeFault, Shape, Top, Vertices, Edges, Edge, Amounts, Q}
+use Rattle.dg_file.proofs.Common.{◌≡◌, ℕ, zero, suc, ◌<◌, ◌⊎◌, inl, inr, Option, Some, None, refl, sym, ap, ◌∙◌, option_and_then, Data, Items, no_items, item, get_item, as_array, Content, Parts, HasParts, IsContent, put_first_json, edge_in, edges_in, IsEdgeFault, IsShapeFaultOf, IsShapeFault, Shape, Top, Vertices, Edges, Edge, Amounts, Q}
 use Rattle.dg_file.specs.Content.{each}
 use Rattle.dg_file.proofs.OneContent.{found-once, first-once, none-or-some, none-found, same-parts}
 
-nothing : {A : Type 0} (o : Option A) → put_first o None ≡ None
+nothing : {A : Type 0} (o : Option A) → put_first_json o None ≡ None
 nothing None = refl
 nothing (Some a) = refl
 
@@ -16,9 +16,9 @@ unfolding each
 each-none read no_items i d there none = absurd (cc)
 each-none read (item first rest) zero d there none =
     let same : first ≡ d = cc in
-    ap (λ o. put_first o (each read rest)) (ap read same ∙ none)
+    ap (λ o. put_first_json o (each read rest)) (ap read same ∙ none)
 each-none read (item first rest) (suc i) d there none =
-    ap (put_first (read first)) (each-none read rest i d there none)
+    ap (put_first_json (read first)) (each-none read rest i d there none)
     ∙ nothing (read first)
 
 no-array : (value : Data) → as_array value ≡ None → edges_in value ≡ None

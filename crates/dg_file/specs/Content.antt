@@ -9,7 +9,7 @@
 --   member_count members     == how many members there are
 --   HasParts value parts     == the value is an object of just four members, with the names of the
 --                               parts
---   put_first a rest         == the list of the first and the rest, if both are there
+--   put_first_json a rest    == the list of the first and the rest, if both are there
 --   each read items          == what the items are read as, if each can be read
 --   listed read value        == what the items of an array are read as, if it is one and each
 --                               can be read
@@ -65,12 +65,12 @@ pub record HasParts (value : Data) (parts : Parts) : Type 0 where
   pub amounts : get_member (codes "amounts") members ≡ Some parts.amounts
   pub q : get_member (codes "q") members ≡ Some parts.q
 
-abbrev pub put_first : {A : Type 0} → Option A → Option (List A) → Option (List A)
-put_first first rest = option_and_then (λ a. option_map (λ more. a ∷ more) rest) first
+abbrev pub put_first_json : {A : Type 0} → Option A → Option (List A) → Option (List A)
+put_first_json first rest = option_and_then (λ a. option_map (λ more. a ∷ more) rest) first
 
 unfoldable pub each : {A : Type 0} → (Data → Option A) → Items → Option (List A)
 each read no_items = Some []
-each read (item value rest) = put_first (read value) (each read rest)
+each read (item value rest) = put_first_json (read value) (each read rest)
 
 abbrev pub listed : {A : Type 0} → (Data → Option A) → Data → Option (List A)
 listed read value = option_and_then (each read) (as_array value)

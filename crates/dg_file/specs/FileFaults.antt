@@ -5,7 +5,7 @@
 --                                      should
 --   IsShapeFault value shape        == the value has not the four parts, or the first of them that
 --                                      has another shape
---   HasText names i P               == there is a name i, and it is P
+--   HasJsonText names i P           == there is a name i, and it is P
 --   IsNameFault names i             == the name i is the first that is no name or stood before, and
 --                                      it is no name
 --   IsTwiceFault names i            == the name i is the first that is no name or stood before, and
@@ -60,18 +60,18 @@ abbrev pub IsShapeFault : Data → Shape → Type 0
 IsShapeFault value Top = (parts : Parts) → ¬ HasParts value parts
 IsShapeFault value shape = (parts : Parts) × HasParts value parts × IsShapeFaultOf parts shape
 
-abbrev pub HasText : List (List ℕ) → ℕ → (List ℕ → Type 0) → Type 0
-HasText names i P = (name : List ℕ) × (slice_get names i ≡ Some name) × P name
+abbrev pub HasJsonText : List (List ℕ) → ℕ → (List ℕ → Type 0) → Type 0
+HasJsonText names i P = (name : List ℕ) × (slice_get names i ≡ Some name) × P name
 
 pub record IsNameFault (names : List (List ℕ)) (i : ℕ) : Type 0 where
   pub size : IsSize (length names)
   pub before : AreNames (take i names)
-  pub refused : HasText names i (λ name. ¬ IsName name)
+  pub refused : HasJsonText names i (λ name. ¬ IsName name)
 
 pub record IsTwiceFault (names : List (List ℕ)) (i : ℕ) : Type 0 where
   pub size : IsSize (length names)
   pub before : AreNames (take i names)
-  pub refused : HasText names i (λ name. IsName name × IsTrue (has (take i names) name))
+  pub refused : HasJsonText names i (λ name. IsName name × IsTrue (has (take i names) name))
 
 pub record IsGraphFault (content : Content) (fault : GraphFault) : Type 0 where
   pub names : fault ≢ Size → AreNames content.vertices

@@ -3,17 +3,17 @@ pub use Rattle.dg_chips.specs.Moves.{script_of}
 pub use Rattle.dg_chips.specs.Starts.{StartData}
 pub use Rattle.dg_chips.specs.Vector.{IsDivisor, IsInRange, IsOutOfRange, Vector, at}
 pub use Rattle.dg_game.specs.GiftReplies.{RepliesToGift}
-pub use Rattle.dg_game.specs.History.{after_change, changed, gift_counted, gifts_in, is_change, nothing, script_by, scripts_played, scripts_since}
+pub use Rattle.dg_game.specs.History.{after_change, changed, gifts_by_reply, gifts_in, is_change, no_lendings, script_by, scripts_played, scripts_since}
 pub use Rattle.dg_game.specs.JoinReplies.{RepliesToJoin}
 pub use Rattle.dg_game.specs.Legal.{IsLegal, IsSeat, LooksBack}
-pub use Rattle.dg_game.specs.LegalLaws.{GraphsHold, HasSize, LegalIsSized, LooksAreShown}
+pub use Rattle.dg_game.specs.LegalLaws.{LegalGraphsHold, HasSize, LegalIsSized, LooksAreShown}
 pub use Rattle.dg_game.specs.Look.{IsLookAt, asked_for, asked_on}
 pub use Rattle.dg_game.specs.MoveReplies.{RepliesToMove}
 pub use Rattle.dg_game.specs.Position.{Position, Shows, fired_by, joined_at, opened, with_gift}
 pub use Rattle.dg_game.specs.Replies.{Replies, RepliesAt, RepliesToClaim, RepliesToJudge, RepliesToLook, RepliesToRank}
 pub use Rattle.dg_game.specs.Requests.{asked}
-pub use Rattle.dg_game.specs.State.{IsNext, IsRightIn, IsState, LeadsTo, State, amounts_after, gifts_after, graph_after, position_of}
-pub use Rattle.dg_game.specs.Step.{NoEntry, OneMoreEntry, SinceChange, SinceLast, SinceStart, VerticesStay, after_reply}
+pub use Rattle.dg_game.specs.State.{IsNext, IsRightIn, IsState, LeadsTo, GameState, amounts_after, gifts_after, graph_after, position_of}
+pub use Rattle.dg_game.specs.Step.{GameHasNoEntry, OneMoreEntry, SinceChange, SinceLast, PlayedSinceStart, VerticesStay, after_reply}
 pub use Rattle.dg_game.specs.declared.entry.Entry.{Entry}
 pub use Rattle.dg_game.specs.declared.entry.Plain.{Plain}
 pub use Rattle.dg_game.specs.declared.entry.Reply.{Reply}
@@ -34,7 +34,7 @@ pub use Rattle.dg_theory.proofs.JoinLaws.{size_stays}
 pub use Rattle.dg_theory.proofs.LossLaws.{equivalent-loss}
 pub use Rattle.dg_theory.proofs.RankLaws.{equivalent-rank}
 pub use Rattle.dg_theory.specs.Firing.{AgreeOn, Amounts, AreEquivalent, FiresTo, fired}
-pub use Rattle.dg_theory.specs.Joins.{entry_more}
+pub use Rattle.dg_theory.specs.Joins.{edge_entry_more}
 pub use Rattle.dg_theory.specs.Multigraph.{Multigraph}
 pub use Rattle.dg_verdict.proofs.Agreement.{right-cong}
 pub use Rattle.dg_verdict.proofs.Between.{between_leads}

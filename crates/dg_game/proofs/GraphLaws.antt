@@ -1,6 +1,6 @@
 -- The graphs of legal histories.
 --   graphs_hold      a legal history, from a start on a graph within the limits, leads to a position on one
-use Rattle.dg_game.proofs.Common.{◌≡◌, ℕ, List, [], ◌∷◌, ◌++◌, length, append_assoc, append-nil, refl, sym, subst, take-append_seam, IsGraph, Multigraph, entry_more, IsJoinable, joined_graph, StartData, IsLegal, GraphsHold, Position, Replies, after_reply, Entry, Request, Move, Gift, Join, Reply, Moved, Given, Joined}
+use Rattle.dg_game.proofs.Common.{◌≡◌, ℕ, List, [], ◌∷◌, ◌++◌, length, append_assoc, append-nil, refl, sym, subst, take-append_seam, IsGraph, Multigraph, edge_entry_more, IsJoinable, joined_graph, StartData, IsLegal, LegalGraphsHold, Position, Replies, after_reply, Entry, Request, Move, Gift, Join, Reply, Moved, Given, Joined}
 use Rattle.dg_theory.specs.Joins.{with_edge}
 use Rattle.dg_game.specs.History.{position_after}
 use Rattle.dg_game.proofs.ListLaws.{slice_get-seam}
@@ -9,7 +9,7 @@ use Rattle.dg_game.proofs.StepLaw.{no_entry, one_more_entry}
 joined_on : (g : Multigraph) (u v : ℕ) → IsGraph g → IsJoinable g u v → IsGraph (with_edge g u v)
 unfolding with_edge
 joined_on g u v graph joinable =
-    joined_graph g u v (entry_more g.table u v) (entry_more (entry_more g.table u v) v u) graph joinable refl refl
+    joined_graph g u v (edge_entry_more g.table u v) (edge_entry_more (edge_entry_more g.table u v) v u) graph joinable refl refl
 
 graph_next : (o : StartData) (K : List Entry) (request : Request) (reply : Reply) → Replies o K request reply →
     IsGraph (position_after o K).graph → IsGraph (after_reply (position_after o K) request reply).graph
@@ -33,6 +33,6 @@ graphs_since o K (e ∷ L) legal graph =
     subst (λ (H : List Entry). IsGraph (position_after o H).graph) whole
     (graphs_since o (K ++ e ∷ []) L (subst (IsLegal o) (sym whole) legal) next)
 
-pub graphs_hold : GraphsHold
+pub graphs_hold : LegalGraphsHold
 graphs_hold o H graph legal =
     graphs_since o [] H legal (subst (λ (p : Position). IsGraph p.graph) (sym (no_entry o)) graph)

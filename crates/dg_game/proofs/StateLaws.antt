@@ -5,7 +5,7 @@
 --   replies_after    a reply that is right in a state is right after a history that leads to it
 --   right_in         and the other way round
 --   leads_more       a reply that is right after the history leads with its entry to the next state
-use Rattle.dg_game.proofs.Common.{◌≡◌, ℕ, ◌+◌, ◌<◌, List, [], ◌∷◌, ◌++◌, take, arith, refl, sym, ap, subst, ◌∙◌, length-append, ints, pos, Multigraph, size_stays, Vector, at, StartData, Position, Shows, joined_at, gifts_in, gift_counted, scripts_played, after_reply, Replies, RepliesAt, State, LeadsTo, IsRightIn, IsNext, position_of, amounts_after, gifts_after, graph_after, Entry, Request, Move, Gift, Join, Look, Claim, Judge, Reply, Moved, Given, Joined, Looked, Verdict, Stale, Won, NotWon, Refused}
+use Rattle.dg_game.proofs.Common.{◌≡◌, ℕ, ◌+◌, ◌<◌, List, [], ◌∷◌, ◌++◌, take, arith, refl, sym, ap, subst, ◌∙◌, length-append, ints, pos, Multigraph, size_stays, Vector, at, StartData, Position, Shows, joined_at, gifts_in, gifts_by_reply, scripts_played, after_reply, Replies, RepliesAt, GameState, LeadsTo, IsRightIn, IsNext, position_of, amounts_after, gifts_after, graph_after, Entry, Request, Move, Gift, Join, Look, Claim, Judge, Reply, Moved, Given, Joined, Looked, Verdict, Stale, Won, NotWon, Refused}
 use Rattle.dg_game.specs.History.{position_after}
 use Rattle.dg_game.specs.declared.entry.Request.TheVariants.{Rank as RankRequest}
 use Rattle.dg_game.specs.declared.entry.Reply.TheVariants.{Rank as RankReply}
@@ -13,7 +13,7 @@ use Rattle.dg_game.proofs.HistoryLaws.{gifts_in-more, scripts_played-more}
 use Rattle.dg_game.proofs.StepLaw.{no_entry, one_more_entry}
 use Rattle.dg_game.proofs.ReplyLaws.{replies-cong}
 
-pub replies_after : (o : StartData) (H : List Entry) (s : State) (request : Request) (reply : Reply) → LeadsTo o H s →
+pub replies_after : (o : StartData) (H : List Entry) (s : GameState) (request : Request) (reply : Reply) → LeadsTo o H s →
     RepliesAt (position_of s) s.q (λ i. gifts_in (take i H)) s.gifts request reply → Replies o H request reply
 replies_after o H s request reply leads right =
     let p : Position = position_after o H in
@@ -26,7 +26,7 @@ replies_after o H s request reply leads right =
     subst (λ (n : ℕ). RepliesAt p o.q before n request reply) leads.gifts
     (subst (λ (q : ℕ). RepliesAt p q before s.gifts request reply) leads.q on_amounts)
 
-pub right_in : (o : StartData) (H : List Entry) (s : State) (request : Request) (reply : Reply) → LeadsTo o H s →
+pub right_in : (o : StartData) (H : List Entry) (s : GameState) (request : Request) (reply : Reply) → LeadsTo o H s →
     Replies o H request reply → IsRightIn s request reply
 right_in o H s request reply leads right =
     let p : Position = position_after o H in
@@ -79,7 +79,7 @@ size_after g (Join u v) (Joined count d) = size_stays g u v
 size_after g request reply = refl
 
 gifts_counted : (o : StartData) (H : List Entry) (request : Request) (reply : Reply) → Replies o H request reply →
-    gifts_after (gifts_in H) reply ≡ gifts_in H + gift_counted reply
+    gifts_after (gifts_in H) reply ≡ gifts_in H + gifts_by_reply reply
 gifts_counted o H (Move m) (Moved d) right = omega arith
 gifts_counted o H (Move m) (Refused refusal) right = omega arith
 gifts_counted o H (Gift v x) (Given count d) right = right.count'
@@ -95,7 +95,7 @@ gifts_counted o H (RankRequest i k) (RankReply x) right = omega arith
 gifts_counted o H (RankRequest i k) (Stale count) right = omega arith
 gifts_counted o H request reply right = absurd right
 
-pub leads_more : (o : StartData) (H : List Entry) (s t : State) (e : Entry) → LeadsTo o H s →
+pub leads_more : (o : StartData) (H : List Entry) (s t : GameState) (e : Entry) → LeadsTo o H s →
     Replies o H e.request e.reply →
     IsNext s e.request e.reply t → LeadsTo o (H ++ e ∷ []) t
 leads_more o H s t e leads right next =

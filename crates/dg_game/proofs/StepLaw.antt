@@ -6,7 +6,7 @@
 --   since_start         from the start on,
 --   since_last          and from the last change on
 --   vertices_stay       entries neither add nor remove vertices
-use Rattle.dg_game.proofs.Common.{refl, ◌≡◌, ℕ, Bool, true, false, List, [], ◌∷◌, ◌++◌, reverse, append_assoc, append-nil, arith, sym, ap, ◌∙◌, cond, false≢true, reverse-append, pos, ◌+ℤ◌, Multigraph, Amounts, fired-fired, fired-constant, size_stays, StartData, Position, opened, fired_by, script_by, scripts_played, is_change, changed, scripts_since, after_change, nothing, after_reply, NoEntry, OneMoreEntry, SinceChange, SinceStart, SinceLast, VerticesStay, Entry, Request, Move, Gift, Join, Reply, Moved, Given, Joined}
+use Rattle.dg_game.proofs.Common.{refl, ◌≡◌, ℕ, Bool, true, false, List, [], ◌∷◌, ◌++◌, reverse, append_assoc, append-nil, arith, sym, ap, ◌∙◌, cond, false≢true, reverse-append, pos, ◌+ℤ◌, Multigraph, Amounts, fired-fired, fired-constant, size_stays, StartData, Position, opened, fired_by, script_by, scripts_played, is_change, changed, scripts_since, after_change, no_lendings, after_reply, GameHasNoEntry, OneMoreEntry, SinceChange, PlayedSinceStart, SinceLast, VerticesStay, Entry, Request, Move, Gift, Join, Reply, Moved, Given, Joined}
 use Rattle.dg_game.specs.History.{position_after}
 
 abbrev placed : Multigraph → Amounts → Position
@@ -16,13 +16,13 @@ placed-cong : (g : Multigraph) (D E : Amounts) → ((v : ℕ) → D v ≡ E v) �
 placed-cong g D E same = λ i. placed g (λ v. same v i)
 
 -- to fire by nothing leaves a position as it is, and to fire twice is to fire by the sum
-still : (p : Position) → p ≡ fired_by p nothing
+still : (p : Position) → p ≡ fired_by p no_lendings
 still p = sym (placed-cong p.graph _ p.amounts (λ v. fired-constant p.graph p.amounts (pos 0) v))
 
 fired_on : (p : Position) (s t : Amounts) → fired_by (fired_by p s) t ≡ fired_by p (λ v. s v +ℤ t v)
 fired_on p s t = placed-cong p.graph _ _ (λ v. fired-fired p.graph p.amounts s t v)
 
-pub no_entry : NoEntry
+pub no_entry : GameHasNoEntry
 unfolding position_after
 no_entry o = sym (still (opened o))
 
@@ -73,7 +73,7 @@ since_change o K (e ∷ L) none =
     ∙ ap (λ (q : Position). fired_by q (scripts_played L)) more
     ∙ fired_on p (script_by e.request e.reply) (scripts_played L)
 
-pub since_start : SinceStart
+pub since_start : PlayedSinceStart
 since_start o L none = since_change o [] L none ∙ ap (λ (p : Position). fired_by p (scripts_played L)) (no_entry o)
 
 pub since_last : SinceLast

@@ -1,13 +1,13 @@
 -- Histories. An entry is a seat, a request and a reply; a history is a list of entries, and an
 -- entry's number is its place in it, from 0. What changes a position, but for moves, is a change:
 -- an accepted gift, levy or join.
---   nothing                    == 0 at each vertex
+--   no_lendings                == 0 at each vertex
 --   script_by request reply    == the script of an accepted move, and 0 for everything else
 --   scripts_played H           == the sum of the scripts of all accepted moves
 --   is_change reply            == the reply accepts a gift, a levy or a join
 --   changed p request reply    == the position after the change, where it stood at p before: with
 --                                 the dollars of the gift, or on the graph with the edge
---   gift_counted reply         == 1 for a change, and 0 for any other reply
+--   gifts_by_reply reply       == 1 for a change, and 0 for any other reply
 --   gifts_in H                 == how many changes there are: gifts, levies and joins
 --   with_entry H s q r         == the history H and one more entry, of the seat s with the request
 --                                 q and the reply r
@@ -29,12 +29,12 @@ use Rattle.dg_game.specs.declared.entry.Request.TheVariants.{Move, Gift, Join}
 use Rattle.dg_game.specs.declared.entry.Reply.{Reply}
 use Rattle.dg_game.specs.declared.entry.Reply.TheVariants.{Moved, Given, Joined, Looked, Verdict, Rank, Stale, Won, NotWon, Refused}
 
-abbrev pub nothing : Amounts
-nothing v = pos 0
+abbrev pub no_lendings : Amounts
+no_lendings v = pos 0
 
 abbrev pub script_by : Request → Reply → Amounts
 script_by (Move m) (Moved d) = script_of m
-script_by request reply = nothing
+script_by request reply = no_lendings
 
 abbrev pub scripts_played : List Entry → Amounts
 scripts_played [] v = pos 0
@@ -57,12 +57,12 @@ changed p (Gift v x) (Given g d) = record { graph = p.graph; amounts = with_gift
 changed p (Join u v) (Joined g d) = joined_at p u v
 changed p request reply = p
 
-abbrev pub gift_counted : Reply → ℕ
-gift_counted reply = if is_change reply then 1 else 0
+abbrev pub gifts_by_reply : Reply → ℕ
+gifts_by_reply reply = if is_change reply then 1 else 0
 
 abbrev pub gifts_in : List Entry → ℕ
 gifts_in [] = 0
-gifts_in (e ∷ H) = gift_counted e.reply + gifts_in H
+gifts_in (e ∷ H) = gifts_by_reply e.reply + gifts_in H
 
 abbrev pub with_entry : List Entry → ℕ → Request → Reply → List Entry
 with_entry H seat request reply =

@@ -9,7 +9,7 @@
 --   HasSize n reply       == each divisor, script, wide amount and graph in the reply is one of n
 --                            vertices
 --   LegalIsSized          == each reply of a legal history has the size of the start
---   GraphsHold            == a legal history, from a start on a graph within the limits, leads
+--   LegalGraphsHold       == a legal history, from a start on a graph within the limits, leads
 --                            to a position on one
 --   LooksAreShown         == a look of a legal history showed what `IsLookAt` says, whatever drift
 --                            is kept with it
@@ -56,8 +56,8 @@ abbrev pub LegalIsSized : Type 0
 LegalIsSized = (o : StartData) (H : List Entry) (i : ℕ) (e : Entry) → IsLegal o H →
     slice_get H i ≡ Some e → HasSize o.graph.size e.reply
 
-abbrev pub GraphsHold : Type 0
-GraphsHold = (o : StartData) (H : List Entry) → IsGraph o.graph → IsLegal o H →
+abbrev pub LegalGraphsHold : Type 0
+LegalGraphsHold = (o : StartData) (H : List Entry) → IsGraph o.graph → IsLegal o H →
     IsGraph (position_after o H).graph
 
 abbrev pub LooksAreShown : Type 0

@@ -1,7 +1,7 @@
 -- What a seat keeps of a look, and what was computed on it.
 --   IsLookAt o H x       == x holds the number of a look of the history H, and the gift count, the
 --                           graph and the amounts at it, and any drift
---   degree_of v          == the degree of the rank test whose verdict v is
+--   degree_found v       == the degree of the rank test whose verdict v is
 --   IsFoundFor q x f     == the finding f is right on the graph of the look x, from the vertex q,
 --                           for its amounts
 --   asked_for i f        == the request by which the finding f on the look of number i is entered
@@ -30,17 +30,17 @@ pub record IsLookAt (o : StartData) (H : List Entry) (x : LookData) : Type 0 whe
   pub graph : x.graph ≡ (position_after o (take x.number H)).graph
   pub amounts : Shows (position_after o (take x.number H)) x.position
 
-abbrev pub degree_of : RankVerdict → ℕ
-degree_of (AtLeast k) = k
-degree_of (Below k E) = k
+abbrev pub degree_found : RankVerdict → ℕ
+degree_found (AtLeast k) = k
+degree_found (Below k E) = k
 
 abbrev pub IsFoundFor : ℕ → LookData → Finding → Type 0
 IsFoundFor q x (Judged v) = IsRight x.graph q (at x.position) v
-IsFoundFor q x (Ranked v) = IsRankTest x.graph (at x.position) (degree_of v) v
+IsFoundFor q x (Ranked v) = IsRankTest x.graph (at x.position) (degree_found v) v
 
 abbrev pub asked_for : ℕ → Finding → Request
 asked_for i (Judged v) = Judge i
-asked_for i (Ranked v) = RankRequest i (degree_of v)
+asked_for i (Ranked v) = RankRequest i (degree_found v)
 
 abbrev pub asked_on : ℕ → Question → Request
 asked_on i question.Judge = Judge i

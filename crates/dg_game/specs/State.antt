@@ -1,5 +1,5 @@
 -- The state of a game.
---   State                     == the graph, the vertex q, the amounts now, how often each vertex
+--   GameState                 == the graph, the vertex q, the amounts now, how often each vertex
 --                                has lent by the accepted moves, the gift count and the number of
 --                                entries
 --   position_of s             == the position that the state shows
@@ -24,7 +24,7 @@ use Rattle.dg_game.specs.declared.entry.Reply.{Reply}
 use Rattle.dg_game.specs.declared.entry.Reply.TheVariants.{Moved, Given, Joined, Looked, Verdict, Rank, Stale, Won, NotWon, Refused}
 use Rattle.dg_game.specs.declared.game.TheConstants.{MAX_ENTRIES}
 
-pub record State : Type 0 where
+pub record GameState : Type 0 where
   pub graph : Multigraph
   pub q : ℕ
   pub amounts : Vector
@@ -32,10 +32,10 @@ pub record State : Type 0 where
   pub gifts : ℕ
   pub entries : ℕ
 
-abbrev pub position_of : State → Position
+abbrev pub position_of : GameState → Position
 position_of s = record { graph = s.graph; amounts = at s.amounts }
 
-pub record IsState (s : State) : Type 0 where
+pub record IsState (s : GameState) : Type 0 where
   pub graph : IsGraph s.graph
   pub vertex : s.q < s.graph.size
   pub size : s.amounts.size ≡ s.graph.size
@@ -44,7 +44,7 @@ pub record IsState (s : State) : Type 0 where
   pub gifts : s.gifts ≤ s.entries
   pub entries : s.entries ≤ MAX_ENTRIES
 
-pub record LeadsTo (o : StartData) (H : List Entry) (s : State) : Type 0 where
+pub record LeadsTo (o : StartData) (H : List Entry) (s : GameState) : Type 0 where
   pub graph : s.graph ≡ (position_after o H).graph
   pub q : s.q ≡ o.q
   pub amounts : Shows (position_after o H) s.amounts
@@ -52,7 +52,7 @@ pub record LeadsTo (o : StartData) (H : List Entry) (s : State) : Type 0 where
   pub gifts : s.gifts ≡ gifts_in H
   pub entries : s.entries ≡ length H
 
-abbrev pub IsRightIn : State → Request → Reply → Type 0
+abbrev pub IsRightIn : GameState → Request → Reply → Type 0
 IsRightIn s request reply =
     (before : ℕ → ℕ) × RepliesAt (position_of s) s.q before s.gifts request reply
 
@@ -84,7 +84,7 @@ abbrev pub graph_after : Multigraph → Request → Reply → Multigraph
 graph_after g (Join u v) (Joined n e) = with_edge g u v
 graph_after g request reply = g
 
-pub record IsNext (s : State) (request : Request) (reply : Reply) (t : State) : Type 0 where
+pub record IsNext (s : GameState) (request : Request) (reply : Reply) (t : GameState) : Type 0 where
   pub graph : t.graph ≡ graph_after s.graph request reply
   pub q : t.q ≡ s.q
   pub amounts : t.amounts ≡ amounts_after s.amounts reply

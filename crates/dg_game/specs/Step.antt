@@ -3,12 +3,12 @@
 --   after_reply p request reply  == the position after the request, where it stood at p and was so
 --                                   answered: fired by the script of an accepted move, changed by
 --                                   an accepted gift or join, or as it was
---   NoEntry                      == the empty history leads to the position at the start
+--   GameHasNoEntry               == the empty history leads to the position at the start
 --   OneMoreEntry                 == a history with one more entry leads to the position after that
 --                                   entry
 --   SinceChange                  == entries among which there is no change fire the position by
 --                                   their scripts
---   SinceStart                   == so entries among which there is no change fire the position at
+--   PlayedSinceStart             == so entries among which there is no change fire the position at
 --                                   the start,
 --   SinceLast                    == and those after the last change fire the position right after
 --                                   it
@@ -28,8 +28,8 @@ abbrev pub after_reply : Position → Request → Reply → Position
 after_reply p (Move m) (Moved d) = fired_by p (script_of m)
 after_reply p request reply = changed p request reply
 
-abbrev pub NoEntry : Type 0
-NoEntry = (o : StartData) → position_after o [] ≡ opened o
+abbrev pub GameHasNoEntry : Type 0
+GameHasNoEntry = (o : StartData) → position_after o [] ≡ opened o
 
 abbrev pub OneMoreEntry : Type 0
 OneMoreEntry = (o : StartData) (H : List Entry) (e : Entry) →
@@ -39,8 +39,8 @@ abbrev pub SinceChange : Type 0
 SinceChange = (o : StartData) (K L : List Entry) → gifts_in L ≡ 0 →
     position_after o (K ++ L) ≡ fired_by (position_after o K) (scripts_played L)
 
-abbrev pub SinceStart : Type 0
-SinceStart = (o : StartData) (L : List Entry) → gifts_in L ≡ 0 →
+abbrev pub PlayedSinceStart : Type 0
+PlayedSinceStart = (o : StartData) (L : List Entry) → gifts_in L ≡ 0 →
     position_after o L ≡ fired_by (opened o) (scripts_played L)
 
 abbrev pub SinceLast : Type 0

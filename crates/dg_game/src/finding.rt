@@ -75,15 +75,15 @@ pub fn judge_look_with_inverse(inverse: &InverseLaplacian, q: usize, look: &Look
 }
 
 /// Makes an inverse anew, unless it may serve the verdict on a look, computed from the vertex q. Nothing is promised of it.
-pub fn renew_inverse(inverse: &mut InverseLaplacian, q: usize, look: &LookData) {
+pub fn renew_looks_inverse(inverse: &mut InverseLaplacian, q: usize, look: &LookData) {
     if !inverse.may_serve(&look.graph, q) {
-        make_anew(inverse, q, &look.graph);
+        make_looks_inverse(inverse, q, &look.graph);
     }
 }
 
 /// Makes an inverse anew. It stands apart, so that no room for an inverse is cleared if the one that is kept serves.
 #[cold]
 #[inline(never)]
-fn make_anew(inverse: &mut InverseLaplacian, q: usize, graph: &Graph) {
+fn make_looks_inverse(inverse: &mut InverseLaplacian, q: usize, graph: &Graph) {
     *inverse = InverseLaplacian::new(graph, q);
 }

@@ -43,9 +43,9 @@ pub struct Game {
 }
 
 impl Model for Game {
-    ghost use Rattle.dg_game.specs.State.{State, IsState};
+    ghost use Rattle.dg_game.specs.State.{GameState, IsState};
 
-    ghost Value = { State };
+    ghost Value = { GameState };
 
     ghost view = { λ a. record {
       graph = a.graph;

@@ -1,15 +1,15 @@
 //! The laws of histories: functions with empty bodies, whose contracts are the laws.
-ghost use Rattle.dg_game.specs.Step.{NoEntry, OneMoreEntry, SinceChange, SinceStart, SinceLast, VerticesStay};
-ghost use Rattle.dg_game.specs.LegalLaws.{EmptyIsLegal, OneMoreIsLegal, BeginningsAreLegal, PartsAreLegal, LegalIsSized, GraphsHold, LooksAreShown};
+ghost use Rattle.dg_game.specs.Step.{GameHasNoEntry, OneMoreEntry, SinceChange, PlayedSinceStart, SinceLast, VerticesStay};
+ghost use Rattle.dg_game.specs.LegalLaws.{EmptyIsLegal, OneMoreIsLegal, BeginningsAreLegal, PartsAreLegal, LegalIsSized, LegalGraphsHold, LooksAreShown};
 
 /// What a history does to the position: without an entry it is that of the start; one more entry does what its
 /// accepted move, gift or join does, and nothing else; entries without an accepted gift or join fire it by their
 /// scripts, from the start on and from the last change on; and the vertices stay.
 pub fn law_of_histories()
-    ensures start { NoEntry }
+    ensures start { GameHasNoEntry }
     ensures step { OneMoreEntry }
     ensures since_change { SinceChange }
-    ensures since_start { SinceStart }
+    ensures since_start { PlayedSinceStart }
     ensures since_last { SinceLast }
     ensures vertices { VerticesStay }
 {}
@@ -23,6 +23,6 @@ pub fn law_of_legal_histories()
     ensures beginnings { BeginningsAreLegal }
     ensures parts { PartsAreLegal }
     ensures sizes { LegalIsSized }
-    ensures graphs { GraphsHold }
+    ensures graphs { LegalGraphsHold }
     ensures looks { LooksAreShown }
 {}

@@ -3,14 +3,14 @@ pub use Rattle.dg_graph.specs.Faults.{IsFirstHigh, IsParted, IsSize}
 pub use Rattle.dg_graph.specs.Graph.{IsGraph}
 pub use Rattle.dg_graph.specs.Items.{IsItem, IsItems, IsRightBefore, Item, edges_put}
 pub use Rattle.dg_graph.specs.Joins.{IsJoinable}
-pub use Rattle.dg_graph.specs.Search.{IsApart, IsInOrApart, IsJoined, IsNextTo, is_in}
+pub use Rattle.dg_graph.specs.Search.{IsApart, IsInOrApart, IsJoinedInTable, IsNextTo, is_in}
 pub use Rattle.dg_graph.specs.Sets.{IsWith}
 pub use Rattle.dg_theory.proofs.Chains.{JoinedIn-append, JoinedIn-cong, JoinedIn-reverse, JoinedIn-stays}
 pub use Rattle.dg_theory.proofs.Debts.{into-le-valence, out-le-valence}
-pub use Rattle.dg_theory.proofs.JoinLaws.{entry_more-row, joined_is_multigraph, size_stays, valence_grows}
+pub use Rattle.dg_theory.proofs.JoinLaws.{edge_entry_more-row, joined_is_multigraph, size_stays, valence_grows}
 pub use Rattle.dg_theory.proofs.TotalLaws.{total_below-cong, total_below-le, total_below-term}
 pub use Rattle.dg_theory.specs.Burning.{edges_into}
-pub use Rattle.dg_theory.specs.Joins.{at_either, entry_more, one_more}
+pub use Rattle.dg_theory.specs.Joins.{at_either, edge_entry_more, one_edge_more}
 pub use Rattle.dg_theory.specs.Multigraph.{JoinedIn, Multigraph, along, edges_between, here, valence}
 pub use Rattle.dg_theory.specs.Reduced.{edges_out}
 pub use Rattle.dg_theory.specs.Sums.{total_below}

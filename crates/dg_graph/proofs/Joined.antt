@@ -1,47 +1,47 @@
 -- A graph with one more edge.
---   set-one_more      to set a number of a row to one more is to have one more there
---   set-entry_more    and to set a row of a table to that is to have one more in that row
+--   set-one_edge_more      to set a number of a row to one more is to have one more there
+--   set-edge_entry_more    and to set a row of a table to that is to have one more in that row
 --   edges_few         a vertex with room for one more edge has few to each other vertex,
 --   edges_few_back    also in the table with one more edge from the other vertex
 --   joined_is         the table after both steps is that of the graph with one more edge,
 --   joined_graph      which is within the limits
-use Rattle.dg_graph.proofs.Common.{◌≡◌, ℕ, zero, suc, ◌+◌, ◌<◌, ◌≤◌, List, [], ◌∷◌, length, set, ◌≢◌, arith, refl, sym, ap, subst, ◌∙◌, slice_index, slice_index_or, nat_tests, Multigraph, edges_between, valence, one_more, entry_more, at_either, entry_more-row, size_stays, joined_is_multigraph, valence_grows, total_below-term, IsGraph, IsJoinable}
+use Rattle.dg_graph.proofs.Common.{◌≡◌, ℕ, zero, suc, ◌+◌, ◌<◌, ◌≤◌, List, [], ◌∷◌, length, set, ◌≢◌, arith, refl, sym, ap, subst, ◌∙◌, slice_index, slice_index_or, nat_tests, Multigraph, edges_between, valence, one_edge_more, edge_entry_more, at_either, edge_entry_more-row, size_stays, joined_is_multigraph, valence_grows, total_below-term, IsGraph, IsJoinable}
 use Rattle.dg_theory.specs.Multigraph.{entry}
 use Rattle.dg_theory.specs.Joins.{with_edge}
 
-pub set-one_more : (row : List ℕ) (v : ℕ) → v < length row → set row v (slice_index row v + 1) ≡ one_more row v
-set-one_more [] v inside = absurd (omega arith)
-set-one_more (x ∷ row) zero inside = refl
-set-one_more (x ∷ row) (suc v) inside = ap (λ (l : List ℕ). x ∷ l) (set-one_more row v (omega arith))
+pub set-one_edge_more : (row : List ℕ) (v : ℕ) → v < length row → set row v (slice_index row v + 1) ≡ one_edge_more row v
+set-one_edge_more [] v inside = absurd (omega arith)
+set-one_edge_more (x ∷ row) zero inside = refl
+set-one_edge_more (x ∷ row) (suc v) inside = ap (λ (l : List ℕ). x ∷ l) (set-one_edge_more row v (omega arith))
 
-pub set-entry_more : (table : List (List ℕ)) (u v : ℕ) → u < length table →
-    set table u (one_more (slice_index_or table u []) v) ≡ entry_more table u v
-set-entry_more [] u v inside = absurd (omega arith)
-set-entry_more (row ∷ table) zero v inside = refl
-set-entry_more (row ∷ table) (suc u) v inside =
-    ap (λ (l : List (List ℕ)). row ∷ l) (set-entry_more table u v (omega arith))
+pub set-edge_entry_more : (table : List (List ℕ)) (u v : ℕ) → u < length table →
+    set table u (one_edge_more (slice_index_or table u []) v) ≡ edge_entry_more table u v
+set-edge_entry_more [] u v inside = absurd (omega arith)
+set-edge_entry_more (row ∷ table) zero v inside = refl
+set-edge_entry_more (row ∷ table) (suc u) v inside =
+    ap (λ (l : List (List ℕ)). row ∷ l) (set-edge_entry_more table u v (omega arith))
 
 pub edges_few : (g : Multigraph) (u v : ℕ) → v < g.size → valence g u < 63 → entry g.table u v < 255
 edges_few g u v inside room = omega (arith, total_below-term g.size (edges_between g u) v inside)
 
-pub edges_few_back : (g : Multigraph) (u v : ℕ) → IsJoinable g u v → entry (entry_more g.table u v) v u < 255
+pub edges_few_back : (g : Multigraph) (u v : ℕ) → IsJoinable g u v → entry (edge_entry_more g.table u v) v u < 255
 edges_few_back g u v joinable =
     omega (
       arith,
-      entry_more-row g.table u v v u (λ same. joinable.different (sym same)),
+      edge_entry_more-row g.table u v v u (λ same. joinable.different (sym same)),
       edges_few g v u joinable.first joinable.second_room,
     )
 
 valence_left : (a b u v w m : ℕ) → a ≡ b + at_either u v w → b ≤ m → (w ≡ u → b < m) → (w ≡ v → b < m) → a ≤ m
 valence_left a b u v w m grows few first second = grind (arith, nat_tests)
 
-pub joined_is : (g : Multigraph) (u v : ℕ) (once both : List (List ℕ)) → once ≡ entry_more g.table u v →
-    both ≡ entry_more once v u →
+pub joined_is : (g : Multigraph) (u v : ℕ) (once both : List (List ℕ)) → once ≡ edge_entry_more g.table u v →
+    both ≡ edge_entry_more once v u →
     record { size = g.size; table = both } ≡ with_edge g u v
 unfolding with_edge
 joined_is g u v once both first second =
     ap (λ (table : List (List ℕ)). record { size = g.size; table = table })
-    (second ∙ ap (λ (table : List (List ℕ)). entry_more table v u) first)
+    (second ∙ ap (λ (table : List (List ℕ)). edge_entry_more table v u) first)
 
 with_edge-graph : (g : Multigraph) (u v : ℕ) → IsGraph g → IsJoinable g u v → IsGraph (with_edge g u v)
 with_edge-graph g u v graph joinable =
@@ -58,6 +58,6 @@ with_edge-graph g u v graph joinable =
     }
 
 pub joined_graph : (g : Multigraph) (u v : ℕ) (once both : List (List ℕ)) → IsGraph g → IsJoinable g u v →
-    once ≡ entry_more g.table u v → both ≡ entry_more once v u → IsGraph (record { size = g.size; table = both })
+    once ≡ edge_entry_more g.table u v → both ≡ edge_entry_more once v u → IsGraph (record { size = g.size; table = both })
 joined_graph g u v once both graph joinable first second =
     subst IsGraph (sym (joined_is g u v once both first second)) (with_edge-graph g u v graph joinable)

@@ -1,7 +1,7 @@
 -- The search from vertex 0: at the start only vertex 0 is reached (first), and it stays so (start); a vertex with an
 -- edge to a reached one is joined to vertex 0 (more); each step leaves one vertex less unreached (fewer); and once no
 -- edge leads out of the reached vertices, no chain joins the others to vertex 0 (tells).
-use Rattle.dg_graph.proofs.Common.{◌≡◌, ℕ, zero, suc, ◌<◌, ◌≤◌, Bool, true, false, not, cond, List, ◌∷◌, length, set, replicate, count_by, MatchBool, arith, refl, sym, subst, ◌∙◌, ⊎_elim, cases_Bool, cases_eq, false≢true, get_or-set_other, sum_by-set, JoinedIn, here, along, JoinedIn-append, JoinedIn-reverse, JoinedIn-stays, is_in, IsNextTo, IsInOrApart, IsJoined, IsApart}
+use Rattle.dg_graph.proofs.Common.{◌≡◌, ℕ, zero, suc, ◌<◌, ◌≤◌, Bool, true, false, not, cond, List, ◌∷◌, length, set, replicate, count_by, MatchBool, arith, refl, sym, subst, ◌∙◌, ⊎_elim, cases_Bool, cases_eq, false≢true, get_or-set_other, sum_by-set, JoinedIn, here, along, JoinedIn-append, JoinedIn-reverse, JoinedIn-stays, is_in, IsNextTo, IsInOrApart, IsJoinedInTable, IsApart}
 
 none_in : (k v : ℕ) → is_in (replicate k false) v ≡ false
 none_in zero v = refl
@@ -37,7 +37,7 @@ pub reached-tells : (n : ℕ) (e : ℕ → ℕ → ℕ) (reached : List Bool) (a
     ((a b : ℕ) → e a b ≡ e b a) → is_in reached 0 ≡ true →
     ((w : ℕ) → is_in reached w ≡ true → JoinedIn n e 0 w) → ((u : ℕ) → u < n → IsInOrApart n e reached u) →
     MatchBool all ((v : ℕ) → v < n → is_in reached v ≡ true) ((v : ℕ) × (v < n) × (is_in reached v ≡ false)) →
-    MatchBool all (IsJoined n e) (IsApart n e)
+    MatchBool all (IsJoinedInTable n e) (IsApart n e)
 reached-tells n e reached true some symmetric start joined settled all =
     λ u v u_below v_below.
     JoinedIn-append (JoinedIn-reverse symmetric some (joined u (all u u_below))) (joined v (all v v_below))

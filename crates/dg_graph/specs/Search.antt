@@ -2,7 +2,7 @@
 --   is_in set v           == v is in the set, which is a list of tests
 --   IsNextTo n row set    == an edge of the row leads to a vertex in the set
 --   IsInOrApart n e set u == u is in the set, or no edge joins it to the set
---   IsJoined n e          == every two vertices are joined by a chain of edges
+--   IsJoinedInTable n e   == every two vertices are joined by a chain of edges
 --   IsApart n e           == some vertex is joined to vertex 0 by none
 use Rattle.std.specs.Prelude.{◌≡◌, ℕ, ◌<◌, Bool, true, false, List}
 use Rattle.std.specs.List.{slice_index_or}
@@ -17,8 +17,8 @@ IsNextTo n row set = (w : ℕ) × (w < n) × (0 < row w) × (is_in set w ≡ tru
 abbrev pub IsInOrApart : ℕ → (ℕ → ℕ → ℕ) → List Bool → ℕ → Type 0
 IsInOrApart n e set u = is_in set u ≡ false → ¬ IsNextTo n (e u) set
 
-abbrev pub IsJoined : ℕ → (ℕ → ℕ → ℕ) → Type 0
-IsJoined n e = (u v : ℕ) → u < n → v < n → JoinedIn n e u v
+abbrev pub IsJoinedInTable : ℕ → (ℕ → ℕ → ℕ) → Type 0
+IsJoinedInTable n e = (u v : ℕ) → u < n → v < n → JoinedIn n e u v
 
 abbrev pub IsApart : ℕ → (ℕ → ℕ → ℕ) → Type 0
 IsApart n e = (v : ℕ) × (v < n) × ¬ JoinedIn n e 0 v

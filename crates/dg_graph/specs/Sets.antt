@@ -1,7 +1,7 @@
 -- Sets of vertices. A set is a test of a number, as in the theory of the game; a number stands for
 -- the set of the places at which its bits are set.
 --   in_set m v   == v is in the set that the number m stands for: bit v of m is set
---   IsSetBelow n S == each member of the set S is below n
+--   IsVertexSet n S == each member of the set S is below n
 --   IsWith S v T == T is the set S with v
 use Rattle.std.specs.Prelude.{◌≡◌, ◌≢◌, ℕ, ◌<◌, ◌==◌, Bool, true}
 use Rattle.std.specs.Int.{bit_at}
@@ -9,8 +9,8 @@ use Rattle.std.specs.Int.{bit_at}
 unfoldable pub in_set : ℕ → ℕ → Bool
 in_set m v = bit_at m v == 1
 
-abbrev pub IsSetBelow : ℕ → (ℕ → Bool) → Type 0
-IsSetBelow n S = (v : ℕ) → S v ≡ true → v < n
+abbrev pub IsVertexSet : ℕ → (ℕ → Bool) → Type 0
+IsVertexSet n S = (v : ℕ) → S v ≡ true → v < n
 
 pub record IsWith (S : ℕ → Bool) (v : ℕ) (T : ℕ → Bool) : Type 0 where
   pub here : T v ≡ true

@@ -2,7 +2,7 @@
 
 ghost use Rattle.std.specs.Prelude.{◌≡◌, ℕ, ◌<◌, ◌≤◌, true, false, MatchOption, MatchBool, slice_index};
 ghost use Rattle.dg_theory.specs.Multigraph.{entry};
-ghost use Rattle.dg_graph.specs.Search.{is_in, IsNextTo, IsInOrApart, IsJoined, IsApart};
+ghost use Rattle.dg_graph.specs.Search.{is_in, IsNextTo, IsInOrApart, IsJoinedInTable, IsApart};
 
 use crate::limits::MAX_VERTICES;
 use crate::table::Table;
@@ -12,7 +12,7 @@ pub fn is_connected(size: usize, table: &Table) -> bool
     requires some { 1 ≤ size }
     requires few { size ≤ MAX_VERTICES }
     requires symmetric { (u v : ℕ) → entry table.now u v ≡ entry table.now v u }
-    ensures { MatchBool result (IsJoined size (entry table.now)) (IsApart size (entry table.now)) }
+    ensures { MatchBool result (IsJoinedInTable size (entry table.now)) (IsApart size (entry table.now)) }
 {
     let mut reached = [false; MAX_VERTICES];
     reached[0] = true;

@@ -2,7 +2,7 @@
 
 ghost use Rattle.std.specs.Prelude.{◌≡◌, ℕ, ◌<◌, ◌≤◌, ◌&&◌, not, nat_lt, true, false};
 ghost use Rattle.std.specs.Bool.{OnTrue, OnFalse};
-ghost use Rattle.dg_graph.specs.Sets.{in_set, IsSetBelow, IsWith};
+ghost use Rattle.dg_graph.specs.Sets.{in_set, IsVertexSet, IsWith};
 
 use crate::limits::MAX_VERTICES;
 
@@ -33,7 +33,7 @@ pub fn complement(size: usize, set: u16) -> u16
 
 /// Whether a set holds vertices below the size alone.
 pub fn is_within(size: usize, set: u16) -> bool
-    ensures within { OnTrue result (IsSetBelow size (in_set set)) }
+    ensures within { OnTrue result (IsVertexSet size (in_set set)) }
     ensures past { OnFalse result ((v : ℕ) × (size ≤ v) × (in_set set v ≡ true)) }
 {
     for v in size..MAX_VERTICES {

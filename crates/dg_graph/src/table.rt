@@ -3,7 +3,7 @@
 ghost use Rattle.std.specs.Prelude.{◌≡◌, ℕ, ◌<◌, ◌≤◌, ◌*◌, MatchOption, slice_index};
 ghost use Rattle.dg_theory.specs.Sums.{total_below};
 ghost use Rattle.dg_theory.specs.Multigraph.{entry};
-ghost use Rattle.dg_theory.specs.Joins.{one_more, entry_more};
+ghost use Rattle.dg_theory.specs.Joins.{one_edge_more, edge_entry_more};
 ghost use Rattle.dg_graph.specs.Graph.{IsGraph};
 ghost use Rattle.dg_graph.specs.Valences.{valences_of};
 
@@ -84,7 +84,7 @@ pub fn with_one_more(mut table: Table, u: usize, v: usize) -> Table
     requires u { u < MAX_VERTICES }
     requires v { v < MAX_VERTICES }
     requires few { entry table u v < 255 }
-    ensures { result ≡ entry_more table u v }
+    ensures { result ≡ edge_entry_more table u v }
 {
     table[u] = row_with_one_more(table[u], v);
     table
@@ -94,7 +94,7 @@ pub fn with_one_more(mut table: Table, u: usize, v: usize) -> Table
 fn row_with_one_more(mut row: [u8; MAX_VERTICES], v: usize) -> [u8; MAX_VERTICES]
     requires v { v < MAX_VERTICES }
     requires few { slice_index row v < 255 }
-    ensures { result ≡ one_more row v }
+    ensures { result ≡ one_edge_more row v }
 {
     row[v] += 1;
     row

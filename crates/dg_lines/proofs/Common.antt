@@ -12,17 +12,17 @@ pub use Rattle.dg_game.specs.declared.entry.Plain.TheVariants.{Claim, Gift, Join
 pub use Rattle.dg_game.specs.declared.step.Command.{Command}
 pub use Rattle.dg_game.specs.declared.step.Command.TheVariants.{Call, Commit, Rank}
 pub use Rattle.dg_game.specs.declared.step.Step.{Step}
-pub use Rattle.dg_lines.specs.CommandWords.{AreGiven, AreNamed, AreNumbers, IsNumberFor, IsNumberWithin, IsScriptOf, IsScriptWord, IsSetOf, Kind, degree, dollars, name_part, number_part, script, vertex, vertices}
+pub use Rattle.dg_lines.specs.CommandWords.{AreGiven, WordsAreNamed, AreNumbers, IsNumberFor, IsNumberWithin, IsScriptOf, IsScriptWord, IsSetOf, Kind, degree, dollars, name_part, number_part, script, vertex, vertices}
 pub use Rattle.dg_lines.specs.Commands.{IsCommandLine, IsWellFormed, Means, kinds_of, kinds_wanted, words_wanted}
 pub use Rattle.dg_lines.specs.Cuts.{items, onto_first, pieces_after, words, words_after}
 pub use Rattle.dg_lines.specs.Judgements.{HasNamesIn, burning_text}
 pub use Rattle.dg_lines.specs.Keywords.{AreWords, IsBadScript, kinds, spelling}
 pub use Rattle.dg_lines.specs.LineFaults.{AreRefused, IsLineFault}
-pub use Rattle.dg_lines.specs.LineLaws.{AreAlike, IsDigit, IsNumeral, IsShort, IsUnsigned, LinesHaveOneMeaning, NumeralsAreDecimals, StepsHaveOneMeaning}
-pub use Rattle.dg_lines.specs.Schedules.{AreStepsOf, HaveSeats}
+pub use Rattle.dg_lines.specs.LineLaws.{AreAlike, IsDigit, IsNumeral, IsShortNumeral, IsUnsigned, LinesHaveOneMeaning, NumeralsAreDecimals, StepsHaveOneMeaning}
+pub use Rattle.dg_lines.specs.Schedules.{AreStepsOf, StepLinesHaveSeats}
 pub use Rattle.dg_lines.specs.Steps.{IsSeated, IsStepFault, IsStepLine, IsTextFault}
-pub use Rattle.dg_lines.specs.Streams.{Begins, HasNoNewline, HaveCome, last_line, with_newline}
-pub use Rattle.dg_lines.specs.Texts.{AllHaveNames, entry_text, pair}
+pub use Rattle.dg_lines.specs.Streams.{Begins, HasNoNewline, LinesHaveCome, last_line, with_newline}
+pub use Rattle.dg_lines.specs.Texts.{RepliesHaveNames, entry_text, pair}
 pub use Rattle.dg_lines.specs.declared.command.Keyword.{Keyword}
 pub use Rattle.dg_lines.specs.declared.command.Keyword.TheVariants.{Lend}
 pub use Rattle.dg_lines.specs.declared.line.LineFault.{LineFault}

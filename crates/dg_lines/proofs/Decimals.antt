@@ -1,6 +1,6 @@
 -- The decimals of whole numbers of at most 64 digits are the numerals.
 --   numerals_are_decimals
-use Rattle.dg_lines.proofs.Common.{◌≡◌, ◌≢◌, ℕ, zero, suc, ◌+◌, ◌*◌, ◌/◌, ◌%◌, ◌^◌, ◌<◌, ◌≤◌, inl, inr, ℤ, pos, negsuc, List, [], ◌∷◌, ◌++◌, length, get_or, drop, refl, ap, sym, ◌∙◌, subst, arith, codes, decimal, append_assoc, All, signed_decimal, digit_value, AllDigits, digits_value_after, digits_value, decimal_digit, decimal_is_IsNumeral_wide, decimal_step_wide, decimal_by_steps_wide, get_or-append, append-nil, length-append, All-nil, All-cons, All-head, All-tail, digit_value_digit, digit_from_value, digits_value_short, numerals_by_value, tells_digits, IsDigit, IsUnsigned, IsNumeral, IsShort, NumeralsAreDecimals}
+use Rattle.dg_lines.proofs.Common.{◌≡◌, ◌≢◌, ℕ, zero, suc, ◌+◌, ◌*◌, ◌/◌, ◌%◌, ◌^◌, ◌<◌, ◌≤◌, inl, inr, ℤ, pos, negsuc, List, [], ◌∷◌, ◌++◌, length, get_or, drop, refl, ap, sym, ◌∙◌, subst, arith, codes, decimal, append_assoc, All, signed_decimal, digit_value, AllDigits, digits_value_after, digits_value, decimal_digit, decimal_is_IsNumeral_wide, decimal_step_wide, decimal_by_steps_wide, get_or-append, append-nil, length-append, All-nil, All-cons, All-head, All-tail, digit_value_digit, digit_from_value, digits_value_short, numerals_by_value, tells_digits, IsDigit, IsUnsigned, IsNumeral, IsShortNumeral, NumeralsAreDecimals}
 
 first_digit : (n : ℕ) → 0 < n → n < 10 ^ 64 → 48 < get_or (decimal n) 0 0
 first_digit n some small =
@@ -37,7 +37,7 @@ decimal_unsigned n some small =
 decimal_zero : decimal 0 ≡ codes "0"
 decimal_zero = decimal_digit 0 (omega arith)
 
-pub is_numeral : (z : ℤ) → IsShort z → IsNumeral (signed_decimal z)
+pub is_numeral : (z : ℤ) → IsShortNumeral z → IsNumeral (signed_decimal z)
 is_numeral (pos zero) small = inl decimal_zero
 is_numeral (pos (suc n)) small = inr (inl (decimal_unsigned (suc n) (omega arith) small))
 is_numeral (negsuc n) small = inr (inr (decimal (suc n), refl, decimal_unsigned (suc n) (omega arith) small))
@@ -88,7 +88,7 @@ unsigned_value text known short =
         one_digit : (d : ℕ) → digit_value d + 48 ≡ d → 48 + (0 * 10 + digit_value d) ≡ d
         one_digit d is = omega arith
 
-of_numeral : (text : List ℕ) → length text ≤ 64 → IsNumeral text → (z : ℤ) × IsShort z × (text ≡ signed_decimal z)
+of_numeral : (text : List ℕ) → length text ≤ 64 → IsNumeral text → (z : ℤ) × IsShortNumeral z × (text ≡ signed_decimal z)
 of_numeral text short (inl e) = (pos 0, omega arith, e ∙ sym decimal_zero)
 of_numeral text short (inr (inl known)) =
     let value = unsigned_value text known short in
@@ -97,7 +97,7 @@ of_numeral text short (inr (inr (rest, e, known))) =
     let value = unsigned_value rest known (omega (arith, ap length e)) in
     below (digits_value 10 rest) value.0 value.1 value.2
   where
-    below : (n : ℕ) → 0 < n → n < 10 ^ 64 → rest ≡ decimal n → (z : ℤ) × IsShort z × (text ≡ signed_decimal z)
+    below : (n : ℕ) → 0 < n → n < 10 ^ 64 → rest ≡ decimal n → (z : ℤ) × IsShortNumeral z × (text ≡ signed_decimal z)
     below zero some small is = absurd (omega arith)
     below (suc n) some small is = (negsuc n, small, e ∙ ap (λ ds. 45 ∷ ds) is)
 
@@ -109,7 +109,7 @@ no_minus n ds h e =
     let first : digit_value 45 < 10 = (subst (AllDigits 10) e (decimal_is_IsNumeral_wide n h).0.1).0 in
     omega (arith, digit_from_value 45 first)
 
-one_number : (y z : ℤ) → IsShort y → IsShort z → signed_decimal y ≡ signed_decimal z → y ≡ z
+one_number : (y z : ℤ) → IsShortNumeral y → IsShortNumeral z → signed_decimal y ≡ signed_decimal z → y ≡ z
 one_number (pos m) (pos n) p q e = ap pos (injective m n p q e)
 one_number (pos m) (negsuc n) p q e = absurd (no_minus m (decimal (suc n)) p e)
 one_number (negsuc m) (pos n) p q e = absurd (no_minus n (decimal (suc m)) q (sym e))

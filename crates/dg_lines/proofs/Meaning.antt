@@ -1,12 +1,12 @@
 -- A line spells no two commands, has no two faults, and never both.
 --   line_read        what is read of the words of a line is what the line spells, or its fault
 --   lines_have_one_meaning
-use Rattle.dg_lines.proofs.Common.{◌≡◌, ◌≢◌, ℕ, ◌<◌, ◌≤◌, ◌^◌, ◌⊎◌, cond, Bool, true, false, ℤ, pos, List, [], ◌∷◌, length, map, Some, None, Result, Ok, Err, refl, ap, sym, ◌∙◌, subst, arith, codes, FitsSigned, w64, decimal, MatchResult, IfOk, IfErr, All, IsSome, is_some, bytes_eq, option_map, signed_decimal, nat_tests, decimal_injective, signed_decimal_injective, ints, All-nil, All-cons, Vector, at, Move, Borrow, Fire, Script, Command, Call, Commit, Rank, Gift, Join, Look, Claim, name_at, LineFault, Seat, Word, Form, Name, Number, words, items, Kind, vertex, vertices, script, degree, dollars, name_part, number_part, IsNumberFor, AreNamed, AreNumbers, IsScriptWord, IsSetOf, kinds_wanted, kinds_of, IsWellFormed, Means, IsCommandLine, AreRefused, IsLineFault, AreAlike, LinesHaveOneMeaning}
+use Rattle.dg_lines.proofs.Common.{◌≡◌, ◌≢◌, ℕ, ◌<◌, ◌≤◌, ◌^◌, ◌⊎◌, cond, Bool, true, false, ℤ, pos, List, [], ◌∷◌, length, map, Some, None, Result, Ok, Err, refl, ap, sym, ◌∙◌, subst, arith, codes, FitsSigned, w64, decimal, MatchResult, IfOk, IfErr, All, IsSome, is_some, bytes_eq, option_map, signed_decimal, nat_tests, decimal_injective, signed_decimal_injective, ints, All-nil, All-cons, Vector, at, Move, Borrow, Fire, Script, Command, Call, Commit, Rank, Gift, Join, Look, Claim, name_at, LineFault, Seat, Word, Form, Name, Number, words, items, Kind, vertex, vertices, script, degree, dollars, name_part, number_part, IsNumberFor, WordsAreNamed, AreNumbers, IsScriptWord, IsSetOf, kinds_wanted, kinds_of, IsWellFormed, Means, IsCommandLine, AreRefused, IsLineFault, AreAlike, LinesHaveOneMeaning}
 use Rattle.std.proofs.Common.{◌≤ℤ◌}
 use Rattle.dg_chips.specs.declared.moves.Move.TheVariants.{Lend}
 use Rattle.dg_game.specs.declared.entry.Plain.TheVariants.{Move as Play}
 use Rattle.dg_tokens.specs.Names.{place_of}
-use Rattle.dg_lines.specs.CommandWords.{number_given}
+use Rattle.dg_lines.specs.CommandWords.{number_in_script}
 use Rattle.dg_lines.specs.Commands.{kinds_beside}
 use Rattle.dg_lines.proofs.Given.{named_alone, none_given, one_set}
 use Rattle.dg_lines.proofs.Integers.{within_fits}
@@ -55,7 +55,7 @@ one_number kind text good = All-cons (IsNumberFor kind) text [] good (no_numbers
 
 module _ (names : List (List ℕ)) (keyword : List ℕ) (rest : List (List ℕ)) where
   means_good : (c : Command) → Means names c keyword rest
-      → AreNamed names (kinds_of keyword) rest × AreNumbers (kinds_of keyword) rest
+      → WordsAreNamed names (kinds_of keyword) rest × AreNumbers (kinds_of keyword) rest
   unfolding kinds_beside
   means_good (Call (Play (Lend v))) (word, one, (key, place)) =
       rw (key, one) ((named_alone names word v place, tt), (no_numbers vertex, tt))
@@ -163,7 +163,7 @@ module _ (names : List (List ℕ)) where
       same v true less =
           let below : v < length names = grind (arith, nat_tests) in
           first.script.entries v below
-          ∙ ap (λ xs. number_given (map name_part (items word)) xs (name_at names v)) numbers
+          ∙ ap (λ xs. number_in_script (map name_part (items word)) xs (name_at names v)) numbers
           ∙ sym (second.script.entries v below)
       same v false past =
           let above : length names ≤ v = grind (arith, nat_tests) in

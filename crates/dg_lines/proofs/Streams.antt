@@ -6,7 +6,7 @@
 --   part_plain, part_front, part_whole, part_line   what `cut` gives of bytes: a part with no newline, and what
 --       follows it
 --   line_shorter  what stands after a line is shorter
-use Rattle.dg_lines.proofs.Common.{Bor, length, ◌<◌, ◌≤◌, inl, inr, subst, ◌≡◌, ◌≢◌, ℕ, ◌==◌, cond, Bool, true, false, List, [], ◌∷◌, ◌++◌, Option, Some, None, refl, sym, ap, ◌∙◌, arith, append_assoc, flat_map, All-head, All-tail, All-append, All-cons, All-nil, flat_map-append, nat_tests, option_copied, onto_first, HasNoNewline, Begins, HaveCome, with_newline, last_line}
+use Rattle.dg_lines.proofs.Common.{Bor, length, ◌<◌, ◌≤◌, inl, inr, subst, ◌≡◌, ◌≢◌, ℕ, ◌==◌, cond, Bool, true, false, List, [], ◌∷◌, ◌++◌, Option, Some, None, refl, sym, ap, ◌∙◌, arith, append_assoc, flat_map, All-head, All-tail, All-append, All-cons, All-nil, flat_map-append, nat_tests, option_copied, onto_first, HasNoNewline, Begins, LinesHaveCome, with_newline, last_line}
 use Rattle.std.proofs.Common.{length-append, append-nil, All}
 use Rattle.dg_lines.specs.Cuts.{before, after, lines}
 
@@ -85,13 +85,13 @@ module _ {P : List ℕ → Type 0} (plain : (line : List ℕ) → P line → Has
   one_cutting stream rest ls cut none = lines_of cut ∙ ap (λ l. ls ++ l) (rest_last rest none)
 
   pub come_then : {E ended : Type 0} (over : E → ended) {stream rest : List ℕ} {ls : List (List ℕ)}
-      (last : List (List ℕ)) → Begins P stream ls rest → HaveCome P E rest last → HaveCome P ended stream (ls ++ last)
+      (last : List (List ℕ)) → Begins P stream ls rest → LinesHaveCome P E rest last → LinesHaveCome P ended stream (ls ++ last)
   come_then over {stream} {rest} {ls} last p come = elim come [
     | inl more ↦ inl (more.0, begins_then p more.1)
     | inr all ↦ inr (over all.0, ap (λ l. ls ++ l) all.1 ∙ sym (lines_of p), All-append P ls last p.each all.2)
   ]
 
-  pub come_last : {ended : Type 0} (p : List ℕ) → ended → P p → HaveCome P ended p (last_line p)
+  pub come_last : {ended : Type 0} (p : List ℕ) → ended → P p → LinesHaveCome P ended p (last_line p)
   come_last p over is = inr (over, sym (rest_last p (plain p is)), each_last P p is)
 
 no_newline : (bytes : List ℕ) → HasNoNewline (before 10 bytes)

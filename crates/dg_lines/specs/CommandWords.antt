@@ -14,10 +14,10 @@
 --                                       a number that 64 bits hold
 --   AreGiven names given             == each of the names given is among the names, and no two are
 --                                       the same
---   AreNamed names kinds rest        == the names that each of the words gives are given so
+--   WordsAreNamed names kinds rest   == the names that each of the words gives are given so
 --   AreNumbers kinds rest            == all numbers that they give may stand in a word of its kind
 --   IsSetOf names given set          == set has just the vertices of the names given
---   number_given given numbers name  == the number beside the name, and 0 if the name is not
+--   number_in_script given numbers name == the number beside the name, and 0 if the name is not
 --                                       given
 --   IsScriptOf names given numbers s == s has at each vertex the number given for its name, and 0
 --                                       if none is
@@ -29,7 +29,7 @@ use Rattle.std.specs.Int.RustNames.{unsigned_abs}
 use Rattle.std.specs.List.{IsDistinct}
 use Rattle.dg_chips.specs.Vector.{Vector, at}
 use Rattle.dg_chips.specs.declared.limits.TheConstants.{MAX_ENTRY}
-use Rattle.dg_graph.specs.Sets.{in_set, IsSetBelow}
+use Rattle.dg_graph.specs.Sets.{in_set, IsVertexSet}
 use Rattle.dg_tokens.specs.Names.{has, name_at}
 use Rattle.dg_lines.specs.Cuts.{before, after, items}
 
@@ -75,11 +75,11 @@ pub record AreGiven (names : List (List ℕ)) (given : List (List ℕ)) : Type 0
   pub each : All (λ name. IsTrue (has names name)) given
   pub different : IsDistinct bytes_eq given
 
-abbrev pub AreNamed : List (List ℕ) → List Kind → List (List ℕ) → Type 0
-AreNamed names [] rest = Unit {0}
-AreNamed names (kind ∷ kinds) [] = Unit {0}
-AreNamed names (kind ∷ kinds) (word ∷ rest) =
-    AreGiven names (names_in kind word) × AreNamed names kinds rest
+abbrev pub WordsAreNamed : List (List ℕ) → List Kind → List (List ℕ) → Type 0
+WordsAreNamed names [] rest = Unit {0}
+WordsAreNamed names (kind ∷ kinds) [] = Unit {0}
+WordsAreNamed names (kind ∷ kinds) (word ∷ rest) =
+    AreGiven names (names_in kind word) × WordsAreNamed names kinds rest
 
 abbrev pub AreNumbers : List Kind → List (List ℕ) → Type 0
 AreNumbers [] rest = Unit {0}
@@ -90,18 +90,18 @@ AreNumbers (kind ∷ kinds) (word ∷ rest) =
 pub record IsSetOf (names : List (List ℕ)) (given : List (List ℕ)) (set : ℕ) : Type 0 where
   pub are_given : AreGiven names given
   pub members : (v : ℕ) → v < length names → in_set set v ≡ has given (name_at names v)
-  pub within : IsSetBelow (length names) (in_set set)
+  pub within : IsVertexSet (length names) (in_set set)
 
-unfoldable pub number_given : List (List ℕ) → List ℤ → List ℕ → ℤ
-number_given [] numbers name = pos 0
-number_given (first ∷ given) [] name = pos 0
-number_given (first ∷ given) (x ∷ numbers) name =
-    cond (bytes_eq first name) x (number_given given numbers name)
+unfoldable pub number_in_script : List (List ℕ) → List ℤ → List ℕ → ℤ
+number_in_script [] numbers name = pos 0
+number_in_script (first ∷ given) [] name = pos 0
+number_in_script (first ∷ given) (x ∷ numbers) name =
+    cond (bytes_eq first name) x (number_in_script given numbers name)
 
 pub record IsScriptOf (names given : List (List ℕ)) (numbers : List ℤ) (s : Vector) : Type 0 where
   pub are_given : AreGiven names given
   pub size : s.size ≡ length names
-  pub entries : (v : ℕ) → v < length names → at s v ≡ number_given given numbers (name_at names v)
+  pub entries : (v : ℕ) → v < length names → at s v ≡ number_in_script given numbers (name_at names v)
   pub inside : (v : ℕ) → length names ≤ v → at s v ≡ pos 0
 
 pub record IsScriptWord (names : List (List ℕ)) (word : List ℕ) (s : Vector) : Type 0 where

@@ -12,7 +12,7 @@
 --   fault_text fault                    == `bad`, what is wrong with the line, and a newline
 use Rattle.std.specs.Prelude.{◌≡◌, ℕ, List, ◌∷◌, None, IsSome, codes}
 use Rattle.dg_lines.specs.Cuts.{words}
-use Rattle.dg_lines.specs.CommandWords.{AreNamed, AreNumbers}
+use Rattle.dg_lines.specs.CommandWords.{WordsAreNamed, AreNumbers}
 use Rattle.dg_lines.specs.Commands.{kinds_wanted, kinds_of, IsWellFormed}
 use Rattle.dg_lines.specs.declared.line.LineFault.{LineFault}
 use Rattle.dg_lines.specs.declared.line.LineFault.TheVariants.{Seat, Word, Form, Name, Number}
@@ -22,9 +22,9 @@ AreRefused names Seat keyword rest = ⊥
 AreRefused names Word keyword rest = kinds_wanted keyword ≡ None
 AreRefused names Form keyword rest = IsSome (kinds_wanted keyword) × ¬ IsWellFormed keyword rest
 AreRefused names Name keyword rest =
-    IsWellFormed keyword rest × ¬ AreNamed names (kinds_of keyword) rest
+    IsWellFormed keyword rest × ¬ WordsAreNamed names (kinds_of keyword) rest
 AreRefused names Number keyword rest =
-    IsWellFormed keyword rest × AreNamed names (kinds_of keyword) rest
+    IsWellFormed keyword rest × WordsAreNamed names (kinds_of keyword) rest
     × ¬ AreNumbers (kinds_of keyword) rest
 
 pub record IsLineFault (names : List (List ℕ)) (fault : LineFault) (line : List ℕ) : Type 0 where

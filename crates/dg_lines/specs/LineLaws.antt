@@ -10,7 +10,7 @@
 --   IsUnsigned text             == a digit from 1 to 9, and any digits after it
 --   IsNumeral text              == `0`, or an optional `-`, a digit from 1 to 9 and any digits
 --                                  after it
---   IsShort z                   == the whole number z has at most 64 digits
+--   IsShortNumeral z            == the whole number z has at most 64 digits
 --   NumeralsAreDecimals         == a text of at most 64 bytes is the decimal of a whole number of at
 --                                  most 64 digits exactly if it is a numeral; and no text is that of
 --                                  two such numbers
@@ -74,10 +74,10 @@ abbrev pub IsNumeral : List ℕ → Type 0
 IsNumeral text =
     (text ≡ codes "0") ⊎ IsUnsigned text ⊎ ((rest : List ℕ) × (text ≡ 45 ∷ rest) × IsUnsigned rest)
 
-abbrev pub IsShort : ℤ → Type 0
-IsShort z = unsigned_abs z < 10 ^ 64
+abbrev pub IsShortNumeral : ℤ → Type 0
+IsShortNumeral z = unsigned_abs z < 10 ^ 64
 
 pub record NumeralsAreDecimals : Type 0 where
   pub just : (text : List ℕ) → length text ≤ 64
-      → ((z : ℤ) × IsShort z × (text ≡ signed_decimal z)) ↔ IsNumeral text
-  pub one : (y z : ℤ) → IsShort y → IsShort z → signed_decimal y ≡ signed_decimal z → y ≡ z
+      → ((z : ℤ) × IsShortNumeral z × (text ≡ signed_decimal z)) ↔ IsNumeral text
+  pub one : (y z : ℤ) → IsShortNumeral y → IsShortNumeral z → signed_decimal y ≡ signed_decimal z → y ≡ z

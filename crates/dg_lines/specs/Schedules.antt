@@ -1,6 +1,6 @@
 -- A schedule: a step on each line.
 --   AreStepsOf names steps lines          == the lines spell the steps, in their order
---   HaveSeats steps                       == each step has a seat, 1 to 64
+--   StepLinesHaveSeats steps              == each step has a seat, 1 to 64
 --   IsFirstRefused names lines line fault == the line, counted from 1, is the first that is
 --                                            refused, with that fault
 --   IsStepsFault names lines fault        == the fault is the first line that is refused; of want
@@ -19,8 +19,8 @@ pub record AreStepsOf (names : List (List ℕ)) (steps : List Step) (lines : Lis
   pub each : (k : ℕ) (step : Step) (line : List ℕ)
       → slice_get steps k ≡ Some step → slice_get lines k ≡ Some line → IsStepLine names step line
 
-abbrev pub HaveSeats : List Step → Type 0
-HaveSeats steps = (k : ℕ) (step : Step) → slice_get steps k ≡ Some step → IsSeat step.seat
+abbrev pub StepLinesHaveSeats : List Step → Type 0
+StepLinesHaveSeats steps = (k : ℕ) (step : Step) → slice_get steps k ≡ Some step → IsSeat step.seat
 
 pub record IsFirstRefused (names lines : List (List ℕ)) (line : ℕ)
     (fault : LineFault) : Type 0 where

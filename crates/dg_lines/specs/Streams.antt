@@ -3,7 +3,7 @@
 --   with_newline line       == the line and its newline
 --   last_line rest          == the rest as a last line, if it has a byte
 --   Begins P stream ls rest == the stream is the lines ls, each with its newline, and then the rest
---   HaveCome P ended stream ls == the stream begins with the lines ls; or it has ended, and they
+--   LinesHaveCome P ended stream ls == the stream begins with the lines ls; or it has ended, and they
 --                                 are
 --                              all its lines
 use Rattle.std.specs.Prelude.{◌≡◌, ◌≢◌, ℕ, ◌⊎◌, List, [], ◌∷◌, ◌++◌, All, flat_map}
@@ -24,6 +24,6 @@ pub record Begins (P : List ℕ → Type 0) (stream : List ℕ) (ls : List (List
   pub whole : stream ≡ flat_map with_newline ls ++ rest
   pub each : All P ls
 
-abbrev pub HaveCome : (List ℕ → Type 0) → Type 0 → List ℕ → List (List ℕ) → Type 0
-HaveCome P ended stream ls =
+abbrev pub LinesHaveCome : (List ℕ → Type 0) → Type 0 → List ℕ → List (List ℕ) → Type 0
+LinesHaveCome P ended stream ls =
     ((rest : List ℕ) × Begins P stream ls rest) ⊎ (ended × (ls ≡ lines stream) × All P ls)

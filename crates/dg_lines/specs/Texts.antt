@@ -14,7 +14,7 @@
 --   entry_text names number reply == the line of an entry: its number, a space, the text and a
 --                                    newline
 --   history_text names n H        == the lines of the entries H, numbered from n on
---   AllHaveNames names H          == there are as many names as each reply of H has amounts
+--   RepliesHaveNames names H      == there are as many names as each reply of H has amounts
 use Rattle.std.specs.Prelude.{◌≡◌, ℕ, ◌+◌, ℤ, Bool, true, false, List, [], ◌∷◌, ◌++◌, length, slice_get, Some, codes, decimal}
 use Rattle.std.specs.Fmt.{signed_decimal}
 use Rattle.dg_chips.specs.Vector.{at}
@@ -85,5 +85,5 @@ unfoldable pub history_text : List (List ℕ) → ℕ → List Entry → List �
 history_text names n [] = []
 history_text names n (e ∷ H) = entry_text names n e.reply ++ history_text names (n + 1) H
 
-abbrev pub AllHaveNames : List (List ℕ) → List Entry → Type 0
-AllHaveNames names H = (k : ℕ) (e : Entry) → slice_get H k ≡ Some e → HasNames names e.reply
+abbrev pub RepliesHaveNames : List (List ℕ) → List Entry → Type 0
+RepliesHaveNames names H = (k : ℕ) (e : Entry) → slice_get H k ≡ Some e → HasNames names e.reply

@@ -1,7 +1,7 @@
 -- The names that the proofs of this crate cite, passed on from one place. Declares nothing.
 pub use Rattle.dg_game.specs.declared.entry.Entry.{Entry}
-pub use Rattle.dg_log.specs.Numbered.{AreBelow, IsBeginning, IsLonger, StandIn}
-pub use Rattle.dg_log.specs.ReceiptSets.{AreNamed, IsEnd, said_by}
+pub use Rattle.dg_log.specs.Numbered.{ReceiptsAreBelow, IsPrefixOf, IsLonger, StandIn}
+pub use Rattle.dg_log.specs.ReceiptSets.{AreReceiptsNamed, IsReceiptSetEnd, entries_of_receipts}
 pub use Rattle.dg_log.specs.Written.{Written}
 pub use Rattle.dg_witness.specs.Witnesses.{Agree, AgreesWith}
 pub use Rattle.once_cell.specs.Once.{cell_name}

@@ -15,45 +15,49 @@
 --   began          a history that a pen wrote once is the beginning of a longer one, where they agree
 --   begins_itself  a history begins with itself
 --   longer_second, longer_first   of a history and its beginning, it is the longer
-use Rattle.dg_log.proofs.Common.{◌≡◌, ℕ, zero, suc, ◌+◌, ◌<◌, ◌≤◌, List, [], ◌∷◌, ◌++◌, length, map, take, slice_get, Some, arith, refl, sym, ap, subst, ◌∙◌, length-append, slice_get_within, length-map, append-nil, Entry, AgreesWith, Agree, AreBelow, StandIn, IsBeginning, IsLonger, said_by, AreNamed, IsEnd}
+use Rattle.dg_log.proofs.Common.{◌≡◌, ℕ, zero, suc, ◌+◌, ◌<◌, ◌≤◌, List, [], ◌∷◌, ◌++◌, length, map, take, slice_get, Some, arith, refl, sym, ap, subst, ◌∙◌, length-append, slice_get_within, length-map, append-nil, Entry, AgreesWith, Agree, ReceiptsAreBelow, StandIn, IsPrefixOf, IsLonger, entries_of_receipts, AreReceiptsNamed, IsReceiptSetEnd}
 
-pub below_up : (m n : ℕ) (ps : List (ℕ × Entry)) → m ≤ n → AreBelow m ps → AreBelow n ps
+pub below_up : (m n : ℕ) (ps : List (ℕ × Entry)) → m ≤ n → ReceiptsAreBelow m ps → ReceiptsAreBelow n ps
 below_up m n [] up below = tt
 below_up m n (p ∷ ps) up below = (omega (arith, below.0, up), below_up m n ps up below.1)
 
-pub below_more : (n : ℕ) (ps : List (ℕ × Entry)) (p : ℕ × Entry) → AreBelow n ps → p.0 < n → AreBelow n (ps ++ p ∷ [])
+pub below_more : (n : ℕ) (ps : List (ℕ × Entry)) (p : ℕ × Entry) → ReceiptsAreBelow n ps → p.0 < n →
+    ReceiptsAreBelow n (ps ++ p ∷ [])
 below_more n [] p below last = (last, tt)
 below_more n (x ∷ ps) p below last = (below.0, below_more n ps p below.1 last)
 
-pub below_fewer : (n : ℕ) (ps : List (ℕ × Entry)) (p : ℕ × Entry) → AreBelow n (ps ++ p ∷ []) → AreBelow n ps ×
+pub below_fewer : (n : ℕ) (ps : List (ℕ × Entry)) (p : ℕ × Entry) → ReceiptsAreBelow n (ps ++ p ∷ []) →
+    ReceiptsAreBelow n ps ×
     (p.0 < n)
 below_fewer n [] p below = (tt, below.0)
 below_fewer n (x ∷ ps) p below = let rest = below_fewer n ps p below.1 in ((below.0, rest.0), rest.1)
 
 pub said_more : (items : List (ℕ × ℕ × Entry)) (x : ℕ × ℕ × Entry) →
-    said_by (items ++ x ∷ []) ≡ said_by items ++ (x.0, x.2) ∷ []
+    entries_of_receipts (items ++ x ∷ []) ≡ entries_of_receipts items ++ (x.0, x.2) ∷ []
 said_more [] x = refl
 said_more (y ∷ items) x = ap (λ ps. (y.0, y.2) ∷ ps) (said_more items x)
 
-pub named_more : (row : List ℕ) (items : List (ℕ × ℕ × Entry)) (x : ℕ × ℕ × Entry) → AreNamed row items →
-    slice_get row x.0 ≡ Some x.1 → AreNamed row (items ++ x ∷ [])
+pub named_more : (row : List ℕ) (items : List (ℕ × ℕ × Entry)) (x : ℕ × ℕ × Entry) → AreReceiptsNamed row items →
+    slice_get row x.0 ≡ Some x.1 → AreReceiptsNamed row (items ++ x ∷ [])
 named_more row [] x named last = (last, tt)
 named_more row (y ∷ items) x named last = (named.0, named_more row items x named.1 last)
 
-pub named_below : (row : List ℕ) (items : List (ℕ × ℕ × Entry)) → AreNamed row items →
-    AreBelow (length row) (said_by items)
+pub named_below : (row : List ℕ) (items : List (ℕ × ℕ × Entry)) → AreReceiptsNamed row items →
+    ReceiptsAreBelow (length row) (entries_of_receipts items)
 named_below row [] named = tt
 named_below row (x ∷ items) named = (slice_get_within row x.0 x.1 named.0, named_below row items named.1)
 
-pub end_more : (end prefix : ℕ) (ps : List (ℕ × Entry)) (p : ℕ × Entry) → IsEnd end ps → prefix ≡ p.0 + 1 → end < prefix →
-    IsEnd prefix (ps ++ p ∷ [])
+pub end_more : (end prefix : ℕ) (ps : List (ℕ × Entry)) (p : ℕ × Entry) → IsReceiptSetEnd end ps → prefix ≡ p.0 + 1 →
+    end < prefix →
+    IsReceiptSetEnd prefix (ps ++ p ∷ [])
 end_more end prefix ps p is_end last greater = (
   below_more prefix ps p (below_up end prefix ps (omega arith) is_end.0) (omega arith),
   λ n below. omega (arith, (below_fewer n ps p below).1),
 )
 
-pub end_same : (end prefix : ℕ) (ps : List (ℕ × Entry)) (p : ℕ × Entry) → IsEnd end ps → prefix ≡ p.0 + 1 → prefix ≤ end →
-    IsEnd end (ps ++ p ∷ [])
+pub end_same : (end prefix : ℕ) (ps : List (ℕ × Entry)) (p : ℕ × Entry) → IsReceiptSetEnd end ps → prefix ≡ p.0 + 1 →
+    prefix ≤ end →
+    IsReceiptSetEnd end (ps ++ p ∷ [])
 end_same end prefix ps p is_end last within = (
   below_more end ps p is_end.0 (omega arith),
   λ n below. is_end.1 n (below_fewer n ps p below).0,
@@ -89,9 +93,10 @@ cells_more row items x cells next =
     map_more items x ∙ ap (λ ns. ns ++ x.1 ∷ []) cells ∙ sym (take_more (length items) row x.1 next)
     ∙ ap (λ k. take k row) (sym longer)
 
-pub stands : (row : List ℕ) (items others : List (ℕ × ℕ × Entry)) → Agree items others → AreNamed row items →
-    map (λ y. y.1) others ≡ take (length others) row → AreBelow (length (map (λ y. y.2) others)) (said_by items) →
-    StandIn (map (λ y. y.2) others) (said_by items)
+pub stands : (row : List ℕ) (items others : List (ℕ × ℕ × Entry)) → Agree items others → AreReceiptsNamed row items →
+    map (λ y. y.1) others ≡ take (length others) row →
+    ReceiptsAreBelow (length (map (λ y. y.2) others)) (entries_of_receipts items) →
+    StandIn (map (λ y. y.2) others) (entries_of_receipts items)
 stands row [] others agree named cells below = tt
 stands row (x ∷ items) others agree named cells below =
     let inside : x.0 < length others = omega (arith, below.0, length-map others (λ (y : ℕ × ℕ × Entry). y.2)) in
@@ -109,13 +114,13 @@ agree_past : (items : List (ℕ × ℕ × Entry)) (y : ℕ × ℕ × Entry) (oth
 agree_past [] y others agree = tt
 agree_past (x ∷ items) y others agree = (agree.0.1, agree_past items y others agree.1)
 
-begins_more : (e f : Entry) (K H : List Entry) → e ≡ f → IsBeginning K H → IsBeginning (e ∷ K) (f ∷ H)
+begins_more : (e f : Entry) (K H : List Entry) → e ≡ f → IsPrefixOf K H → IsPrefixOf (e ∷ K) (f ∷ H)
 begins_more e f K H same (rest, is) = (rest, ap (λ L. f ∷ L) is ∙ ap (λ d. d ∷ (K ++ rest)) (sym same))
 
 pub began : (row : List ℕ) (items others : List (ℕ × ℕ × Entry)) → Agree items others →
     map (λ y. y.1) items ≡ take (length items) row → map (λ y. y.1) others ≡ take (length others) row →
     length items ≤ length others →
-    IsBeginning (map (λ y. y.2) items) (map (λ y. y.2) others)
+    IsPrefixOf (map (λ y. y.2) items) (map (λ y. y.2) others)
 began row [] others agree cells more few = (map (λ y. y.2) others, refl)
 began row (x ∷ items) [] agree cells more few = absurd (omega arith)
 began [] (x ∷ items) (y ∷ others) agree cells more few = absurd (cc)
@@ -124,21 +129,21 @@ began (c ∷ row) (x ∷ items) (y ∷ others) agree cells more few =
     begins_more x.2 y.2 _ _ (first_agrees x y others agree.0 same)
     (began row items others (agree_past items y others agree.1) (cc) (cc) (omega arith))
 
-pub begins_itself : (H : List Entry) → IsBeginning H H
+pub begins_itself : (H : List Entry) → IsPrefixOf H H
 begins_itself H = ([], sym (append-nil H))
 
-pub longer_second : (K H M : List Entry) → IsBeginning K H → M ≡ H → length K ≤ length H → IsLonger K H M
+pub longer_second : (K H M : List Entry) → IsPrefixOf K H → M ≡ H → length K ≤ length H → IsLonger K H M
 longer_second K H M begins is few = record {
-  first = subst (IsBeginning K) (sym is) begins;
-  second = subst (IsBeginning H) (sym is) (begins_itself H);
+  first = subst (IsPrefixOf K) (sym is) begins;
+  second = subst (IsPrefixOf H) (sym is) (begins_itself H);
   second_longer = λ more. is;
   first_longer = λ more. absurd (omega (arith, few, more));
 }
 
-pub longer_first : (K H M : List Entry) → IsBeginning H K → M ≡ K → length H < length K → IsLonger K H M
+pub longer_first : (K H M : List Entry) → IsPrefixOf H K → M ≡ K → length H < length K → IsLonger K H M
 longer_first K H M begins is few = record {
-  first = subst (IsBeginning K) (sym is) (begins_itself K);
-  second = subst (IsBeginning H) (sym is) begins;
+  first = subst (IsPrefixOf K) (sym is) (begins_itself K);
+  second = subst (IsPrefixOf H) (sym is) begins;
   second_longer = λ more. absurd (omega (arith, few, more));
   first_longer = λ more. is;
 }

@@ -1,24 +1,24 @@
 -- Entries with their numbers in a history, as receipts tell of them.
---   AreBelow n ps   == the numbers of the entries ps are less than n
+--   ReceiptsAreBelow n ps == the numbers of the entries ps are less than n
 --   StandIn H ps    == each of the entries ps stands in the history H at its number
---   IsBeginning K H == the history H begins with the entries K
+--   IsPrefixOf K H  == the history H begins with the entries K
 --   IsLonger K H M  == M is the longer of the histories K and H, and begins with both
 use Rattle.std.specs.Prelude.{◌≡◌, ℕ, ◌<◌, ◌≤◌, List, [], ◌∷◌, ◌++◌, length, slice_get, Some, ⊤}
 use Rattle.dg_game.specs.declared.entry.Entry.{Entry}
 
-abbrev pub AreBelow : ℕ → List (ℕ × Entry) → Type 0
-AreBelow n [] = ⊤
-AreBelow n (p ∷ ps) = (p.0 < n) × AreBelow n ps
+abbrev pub ReceiptsAreBelow : ℕ → List (ℕ × Entry) → Type 0
+ReceiptsAreBelow n [] = ⊤
+ReceiptsAreBelow n (p ∷ ps) = (p.0 < n) × ReceiptsAreBelow n ps
 
 abbrev pub StandIn : List Entry → List (ℕ × Entry) → Type 0
 StandIn H [] = ⊤
 StandIn H (p ∷ ps) = (slice_get H p.0 ≡ Some p.1) × StandIn H ps
 
-abbrev pub IsBeginning : List Entry → List Entry → Type 0
-IsBeginning K H = (rest : List Entry) × (H ≡ K ++ rest)
+abbrev pub IsPrefixOf : List Entry → List Entry → Type 0
+IsPrefixOf K H = (rest : List Entry) × (H ≡ K ++ rest)
 
 pub record IsLonger (K H M : List Entry) : Type 0 where
-  pub first : IsBeginning K M
-  pub second : IsBeginning H M
+  pub first : IsPrefixOf K M
+  pub second : IsPrefixOf H M
   pub second_longer : length K ≤ length H → M ≡ H
   pub first_longer : length H < length K → M ≡ K

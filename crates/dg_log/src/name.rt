@@ -1,7 +1,7 @@
 //! Names of tables, which exist in the proofs alone.
 ghost use Rattle.std.specs.Prelude.{ℕ, List, []};
 ghost use Rattle.dg_log.specs.Tables.{TableData};
-ghost use Rattle.dg_log.specs.Nobody.{nothing};
+ghost use Rattle.dg_log.specs.Nobody.{no_table};
 
 use std::marker::Brand;
 
@@ -19,5 +19,5 @@ pub trait Name {
 impl Name for Brand {
     ghost cells = { [] };
 
-    ghost table = { nothing };
+    ghost table = { no_table };
 }

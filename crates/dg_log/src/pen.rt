@@ -3,7 +3,7 @@ ghost use Rattle.std.specs.Prelude.{◌≡◌, ◌<◌, ◌≤◌, [], ◌∷◌
 ghost use Rattle.std.specs.List.{slice_get};
 ghost use Rattle.std.specs.declared.option.Option.TheVariants.{Some};
 ghost use Rattle.dg_game.specs.declared.game.TheConstants.{MAX_ENTRIES};
-ghost use Rattle.dg_log.specs.Numbered.{AreBelow, StandIn, IsBeginning};
+ghost use Rattle.dg_log.specs.Numbered.{ReceiptsAreBelow, StandIn, IsPrefixOf};
 ghost use Rattle.dg_log.specs.Written.{blank, with_entry, after_refusal};
 
 use crate::log::Log;
@@ -105,7 +105,7 @@ impl<N: Name> Pen<N> {
     /// What receipts say stands in the history that was written. It does nothing. The condition is that their numbers are
     /// less than its length.
     pub fn holds(&self, receipt_set: &ReceiptSet<N>)
-        requires { AreBelow (length self.now.entries) receipt_set.now }
+        requires { ReceiptsAreBelow (length self.now.entries) receipt_set.now }
         ensures { StandIn self.now.entries receipt_set.now }
     {
         receipt_set.witnesses.agree(&self.witnesses);
@@ -122,7 +122,7 @@ impl<N: Name> Pen<N> {
     /// many entries, or more.
     pub fn began(&self, prefix: &Prefix<N>)
         requires { length prefix.now ≤ length self.now.entries }
-        ensures { IsBeginning prefix.now self.now.entries }
+        ensures { IsPrefixOf prefix.now self.now.entries }
     {
         prefix.witnesses.agree(&self.witnesses);
     }

@@ -1,6 +1,6 @@
 //! How a history began.
 ghost use Rattle.std.specs.Prelude.{◌≡◌, ◌⊎◌, [], length, map, take};
-ghost use Rattle.dg_log.specs.Numbered.{AreBelow, StandIn, IsBeginning, IsLonger};
+ghost use Rattle.dg_log.specs.Numbered.{ReceiptsAreBelow, StandIn, IsPrefixOf, IsLonger};
 
 use crate::name::Name;
 use crate::receipt_set::ReceiptSet;
@@ -87,7 +87,7 @@ impl<N: Name> Prefix<N> {
 
     /// What receipts say stands in the history. It does nothing. The condition is that their numbers are less than its length.
     pub fn holds(&self, receipt_set: &ReceiptSet<N>)
-        requires { AreBelow (length self.now) receipt_set.now }
+        requires { ReceiptsAreBelow (length self.now) receipt_set.now }
         ensures { StandIn self.now receipt_set.now }
     {
         receipt_set.witnesses.agree(&self.witnesses);
@@ -95,7 +95,7 @@ impl<N: Name> Prefix<N> {
 
     /// Of two histories of one table, one is the beginning of the other. It does nothing.
     pub fn compare(&self, other: &Prefix<N>)
-        ensures { IsBeginning self.now other.now ⊎ IsBeginning other.now self.now }
+        ensures { IsPrefixOf self.now other.now ⊎ IsPrefixOf other.now self.now }
     {
         self.witnesses.agree(&other.witnesses);
         other.witnesses.agree(&self.witnesses);

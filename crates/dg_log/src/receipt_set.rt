@@ -1,8 +1,8 @@
 //! What many receipts say, in a few bytes.
 ghost use Rattle.std.specs.Prelude.{◌≡◌, ℕ, ◌<◌, ◌≤◌, List, [], ◌∷◌, ◌++◌, length, IsTrue, ◌↔◌};
 ghost use Rattle.dg_game.specs.declared.entry.Entry.{Entry as EntryData};
-ghost use Rattle.dg_log.specs.Numbered.{AreBelow};
-ghost use Rattle.dg_log.specs.ReceiptSets.{said_by, AreNamed, IsEnd};
+ghost use Rattle.dg_log.specs.Numbered.{ReceiptsAreBelow};
+ghost use Rattle.dg_log.specs.ReceiptSets.{entries_of_receipts, AreReceiptsNamed, IsReceiptSetEnd};
 
 use crate::name::Name;
 use crate::receipt::Receipt;
@@ -22,9 +22,10 @@ pub struct ReceiptSet<N: Name> {
 impl<N: Name> Model for ReceiptSet<N> {
     ghost Value = { List (ℕ × EntryData) };
 
-    ghost view = { λ d. said_by d.witnesses.items };
+    ghost view = { λ d. entries_of_receipts d.witnesses.items };
 
-    ghost invariant = { λ d. AreNamed N.cells d.witnesses.items × IsEnd d.end (said_by d.witnesses.items) };
+    ghost invariant = { λ d. AreReceiptsNamed N.cells d.witnesses.items
+        × IsReceiptSetEnd d.end (entries_of_receipts d.witnesses.items) };
 }
 
 impl<N: Name> ReceiptSet<N> {
@@ -53,7 +54,7 @@ impl<N: Name> ReceiptSet<N> {
 
     /// Whether all numbers are less than the given one. They are if that is the number of cells, or greater.
     pub fn below(&self, count: u32) -> bool
-        ensures below { IsTrue result ↔ AreBelow count self.now }
+        ensures below { IsTrue result ↔ ReceiptsAreBelow count self.now }
         ensures cells { length N.cells ≤ count → IsTrue result }
     {
         self.end <= u64::from(count)

@@ -1,6 +1,6 @@
 //! Tables that are opened, played on and closed, if memory may be refused.
 ghost use Rattle.std.specs.Prelude.{◌≡◌, length};
-ghost use Rattle.dg_log.specs.Tables.{table_of};
+ghost use Rattle.dg_log.specs.Tables.{table_data_of};
 
 use crate::acts::act_in_turn;
 use crate::lends::LendFirst;
@@ -111,7 +111,7 @@ fn opened<N: Name, R: Threads + Wait + Abort + Print>(
     test: TableTest,
 ) -> Result<Outcome, Fail>
     requires row { row ≡ N.cells }
-    requires table { N.table ≡ table_of file.now.start count (length row) }
+    requires table { N.table ≡ table_data_of file.now.start count (length row) }
 {
     if let TableTest::Pen = test {
         return writes::<N, R>(rt, alloc, row);

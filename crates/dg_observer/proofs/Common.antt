@@ -4,14 +4,14 @@ pub use Rattle.dg_chips.specs.Vector.{Vector}
 pub use Rattle.dg_game.proofs.ListLaws.{more_holds, slice_get-seam}
 pub use Rattle.dg_game.proofs.StateLaws.{shows_after}
 pub use Rattle.dg_game.proofs.StepLaw.{no_entry, one_more_entry}
-pub use Rattle.dg_game.specs.History.{gift_counted, gifts_in, is_change, position_after}
+pub use Rattle.dg_game.specs.History.{gifts_by_reply, gifts_in, is_change, position_after}
 pub use Rattle.dg_game.specs.Legal.{IsLegal}
 pub use Rattle.dg_game.specs.Position.{Shows}
 pub use Rattle.dg_game.specs.Replies.{Replies}
 pub use Rattle.dg_game.specs.State.{amounts_after}
 pub use Rattle.dg_game.specs.declared.entry.Entry.{Entry}
-pub use Rattle.dg_observer.specs.Folds.{AreNumbered, Folds, Observed}
-pub use Rattle.dg_observer.specs.Watched.{GiftsAreCounted, PositionsAreShown, counted, gifts_after_entry}
+pub use Rattle.dg_observer.specs.Folds.{AreReadInOrder, Folds, Observed}
+pub use Rattle.dg_observer.specs.Watched.{WatchCountsGifts, WatchShowsPositions, counted, gifts_after_entry}
 pub use Rattle.std.proofs.Common.{Bool, List, [], ap, append-nil, append_assoc, arith, cond, false, inl, inr, length, length-append, map, refl, subst, sym, take, true, ℕ, ◌++◌, ◌+◌, ◌-◌, ◌<◌, ◌^◌, ◌∙◌, ◌∷◌, ◌≡◌, ◌≤◌}
 pub use Rattle.std.proofs.Math.Seq.{take-append_seam}
 pub use Rattle.std.proofs.lemmas.List.{length-map, map-append}

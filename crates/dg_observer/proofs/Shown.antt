@@ -1,6 +1,6 @@
 -- Amounts that are kept while a legal history is read.
 --   positions_shown   from the start on, what the replies show is the position
-use Rattle.dg_observer.proofs.Common.{◌≡◌, List, [], ◌∷◌, ◌++◌, length, take, append_assoc, append-nil, refl, sym, subst, take-append_seam, FoldsTo, StartData, Vector, position_after, IsLegal, Shows, Replies, amounts_after, Entry, slice_get-seam, shows_after, no_entry, one_more_entry, PositionsAreShown}
+use Rattle.dg_observer.proofs.Common.{◌≡◌, List, [], ◌∷◌, ◌++◌, length, take, append_assoc, append-nil, refl, sym, subst, take-append_seam, FoldsTo, StartData, Vector, position_after, IsLegal, Shows, Replies, amounts_after, Entry, slice_get-seam, shows_after, no_entry, one_more_entry, WatchShowsPositions}
 
 shown_along : (o : StartData) (K L : List Entry) (d last : Vector) → IsLegal o (K ++ L) → Shows (position_after o K) d →
     FoldsTo (λ old e next. next ≡ amounts_after old e.reply) d L last → Shows (position_after o (K ++ L)) last
@@ -17,7 +17,7 @@ shown_along o K (e ∷ L) d last legal shows (next, step, rest) =
     subst (λ (H : List Entry). Shows (position_after o H) last) whole
     (shown_along o (K ++ e ∷ []) L next last (subst (IsLegal o) (sym whole) legal) after rest)
 
-pub positions_shown : PositionsAreShown
+pub positions_shown : WatchShowsPositions
 positions_shown o H d start legal folds =
     let start : Shows (position_after o []) o.divisor =
     rw (no_entry o) (record { size = start.size; amounts = λ v below. refl }) in

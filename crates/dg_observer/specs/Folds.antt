@@ -2,7 +2,7 @@
 --   Observed S                        == a state, and the entries that were read
 --   Folds begins goes_on entries last == from a first state one step for each of the entries, in
 --                                        order, leads to the last state
---   AreNumbered ps                    == the entries ps are numbered from 0 on
+--   AreReadInOrder ps                 == the entries ps are numbered from 0 on
 use Rattle.std.specs.Prelude.{◌≡◌, ℕ, List, slice_get, Some}
 use Rattle.std.specs.List.{FoldsTo}
 use Rattle.dg_game.specs.declared.entry.Entry.{Entry}
@@ -17,5 +17,5 @@ pub record Folds {S : Type 0} (begins : S → Type 0) (goes_on : S → Entry →
   pub begun : begins first
   pub steps : FoldsTo goes_on first entries last
 
-abbrev pub AreNumbered : List (ℕ × Entry) → Type 0
-AreNumbered ps = (i : ℕ) (p : ℕ × Entry) → slice_get ps i ≡ Some p → p.0 ≡ i
+abbrev pub AreReadInOrder : List (ℕ × Entry) → Type 0
+AreReadInOrder ps = (i : ℕ) (p : ℕ × Entry) → slice_get ps i ≡ Some p → p.0 ≡ i

@@ -7,4 +7,4 @@ mod watches;
 
 pub use observer::{Observer, ObserverFault};
 pub use watch::Watch;
-pub use watches::{Gifts, Positions, RefusedMoves, gifts_are_counted, positions_are_shown};
+pub use watches::{Gifts, Positions, RefusedMoves, watch_counts_gifts, watch_shows_positions};

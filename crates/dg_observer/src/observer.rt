@@ -30,14 +30,14 @@ pub struct Observer<N: Name, W: Watch + Drop> {
 impl<N: Name, W: Watch + Drop> Model for Observer<N, W> {
     ghost use Rattle.std.specs.Prelude.{◌≤◌, map, length};
     ghost use Rattle.dg_game.specs.declared.game.TheConstants.{MAX_ENTRIES};
-    ghost use Rattle.dg_observer.specs.Folds.{Observed, Folds, AreNumbered};
+    ghost use Rattle.dg_observer.specs.Folds.{Observed, Folds, AreReadInOrder};
 
     ghost Value = { Observed W.State };
 
     ghost view = { λ o. record { state = o.state; entries = map (λ r. r.1) o.receipts.items } };
 
     ghost invariant = { λ o. Folds W.begins W.goes_on (map (λ r. r.1) o.receipts.items) o.state
-        × AreNumbered o.receipts.items
+        × AreReadInOrder o.receipts.items
         × (length o.receipts.items ≤ length N.cells) × (length o.receipts.items ≤ MAX_ENTRIES) };
 }
 

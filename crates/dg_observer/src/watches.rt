@@ -1,6 +1,6 @@
 //! Three watches: the gift count, the position, and the refused moves of each seat.
 ghost use Rattle.std.specs.Prelude.{◌≡◌};
-ghost use Rattle.dg_observer.specs.Watched.{GiftsAreCounted, PositionsAreShown, is_refused};
+ghost use Rattle.dg_observer.specs.Watched.{WatchCountsGifts, WatchShowsPositions, is_watched_refusal};
 
 use crate::watch::Watch;
 use dg_chips::Divisor;
@@ -10,7 +10,7 @@ use std::alloc::AllocError;
 use std::marker::PhantomData;
 
 /// Counts the accepted gifts, levies and joins, as far as 64 bits go. That the count is that of the game is the law
-/// `gifts_are_counted`.
+/// `watch_counts_gifts`.
 #[derive(Clone, Copy)]
 pub struct Gifts;
 
@@ -40,7 +40,7 @@ impl Watch for Gifts {
 }
 
 /// Keeps the amounts of the table N after the entries that were read. That they are those of the position is the law
-/// `positions_are_shown`.
+/// `watch_shows_positions`.
 #[derive(Clone, Copy)]
 pub struct Positions<N> {
     of: PhantomData<N>,
@@ -107,7 +107,7 @@ fn is_refused_move(entry: &Entry) -> bool
     ensures { result ≡ Rattle.dg_observer.specs.Watched.is_refused_move entry.now }
 {
     match entry.request {
-        Request::Move(_) => is_refusal(&entry.reply),
+        Request::Move(_) => watches_refusal(&entry.reply),
         Request::Gift(..)
         | Request::Join(..)
         | Request::Look
@@ -117,8 +117,8 @@ fn is_refused_move(entry: &Entry) -> bool
     }
 }
 
-fn is_refusal(reply: &Reply) -> bool
-    ensures { result ≡ is_refused reply.now }
+fn watches_refusal(reply: &Reply) -> bool
+    ensures { result ≡ is_watched_refusal reply.now }
 {
     match reply {
         Reply::Refused(_) => true,
@@ -136,11 +136,11 @@ fn is_refusal(reply: &Reply) -> bool
 
 /// A count that is kept as `Gifts` keeps it, over all entries of a history of less than 2^64, is the gift count of the game
 /// after it.
-pub fn gifts_are_counted()
-    ensures { GiftsAreCounted }
+pub fn watch_counts_gifts()
+    ensures { WatchCountsGifts }
 {}
 
 /// Amounts that are kept as `Positions` keeps them, over all entries of a legal history, are the position after it.
-pub fn positions_are_shown()
-    ensures { PositionsAreShown }
+pub fn watch_shows_positions()
+    ensures { WatchShowsPositions }
 {}

@@ -7,7 +7,7 @@ pub use Rattle.dg_game.specs.Position.{Shows}
 pub use Rattle.dg_game.specs.declared.entry.Entry.{Entry}
 pub use Rattle.dg_lines.proofs.Printing.{legal_named}
 pub use Rattle.dg_lines.specs.Texts.{pairs}
-pub use Rattle.dg_log.specs.Tables.{TableData, table_of}
+pub use Rattle.dg_log.specs.Tables.{TableData, table_data_of}
 pub use Rattle.dg_log.specs.declared.name.Name.{Ghosts}
 pub use Rattle.dg_party.specs.Parties.{IsParty, IsPartyRefused}
 pub use Rattle.dg_party.specs.Sessions.{IsSessionOver, RefusesSessions, contents}

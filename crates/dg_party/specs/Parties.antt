@@ -17,7 +17,7 @@ use Rattle.dg_chips.specs.Vector.{Vector}
 use Rattle.dg_game.specs.History.{position_after}
 use Rattle.dg_game.specs.Position.{Shows}
 use Rattle.dg_game.specs.declared.entry.Entry.{Entry}
-use Rattle.dg_log.specs.Numbered.{IsBeginning}
+use Rattle.dg_log.specs.Numbered.{IsPrefixOf}
 use Rattle.dg_log.specs.Tables.{TableData}
 use Rattle.dg_session.specs.declared.ends.SessionEnd.{SessionEnd}
 use Rattle.dg_system.specs.declared.shortage.Shortage.TheVariants.{OutOfMemory, Spawn}
@@ -38,8 +38,8 @@ pub record IsSessionIn (table : TableData) (names : List (List ℕ)) (H : List E
   pub seat : before.number ≡ s
   pub fresh : before.mine ≡ []
   pub own : entries_of s H ≡ after.mine
-  pub begins : IsBeginning after.prefix H
-  pub met : IsBeginning after.met H
+  pub begins : IsPrefixOf after.prefix H
+  pub met : IsPrefixOf after.met H
   pub session : IsSessionOver table names script before after end
 
 pub record IsParty (table : TableData) (names : List (List ℕ)) (scripts : List (List ℕ))

@@ -1,7 +1,7 @@
 //! Parties: a table is opened, played by many seats at once, and closed.
 ghost use Rattle.std.specs.Prelude.{◌≡◌, length, IfOk, IfErr};
 ghost use Rattle.dg_log.specs.Rows.{IsCapacity};
-ghost use Rattle.dg_log.specs.Tables.{table_of};
+ghost use Rattle.dg_log.specs.Tables.{table_data_of};
 ghost use Rattle.dg_table.specs.Opened.{MayHaveSeats};
 ghost use Rattle.dg_party.specs.Sessions.{contents};
 ghost use Rattle.dg_party.specs.Parties.{IsParty, IsPartyRefused};
@@ -39,10 +39,10 @@ pub fn party<R: Threads + Wait + Sync, G: Gate>(
     requires scripts { MayHaveSeats (length scripts.now) }
     requires names { length names.now ≡ start.now.graph.size }
     ensures played { IfOk result
-        (λ p. IsParty (table_of start.now (length scripts.now) cap) names.now (contents scripts.now)
+        (λ p. IsParty (table_data_of start.now (length scripts.now) cap) names.now (contents scripts.now)
         p.ends.items p.text.items) }
     ensures refused { IfErr result
-        (IsPartyRefused (table_of start.now (length scripts.now) cap) names.now (contents scripts.now)) }
+        (IsPartyRefused (table_data_of start.now (length scripts.now) cap) names.now (contents scripts.now)) }
 {
     let row = match Row::new(alloc, cap) {
         Ok(row) => row,
@@ -66,7 +66,7 @@ fn party_of<N: Name + Send + Sync, R: Threads + Wait + Sync, G: Gate>(
     gate: &G,
 ) -> Result<Played, PartyRefusal>
     requires row { row ≡ N.cells }
-    requires table { N.table ≡ table_of start.now (length scripts.now) (length row) }
+    requires table { N.table ≡ table_data_of start.now (length scripts.now) (length row) }
     requires scripts { MayHaveSeats (length scripts.now) }
     requires names { length names.now ≡ start.now.graph.size }
     ensures played { IfOk result

@@ -1,6 +1,6 @@
 //! Tables are opened, and a test is played on each.
 ghost use Rattle.std.specs.Prelude.{◌≡◌, length};
-ghost use Rattle.dg_log.specs.Tables.{table_of};
+ghost use Rattle.dg_log.specs.Tables.{table_data_of};
 
 use crate::analyst::looks::{asks_too_much, judged, ranked};
 use crate::observer::watching::watched;
@@ -73,7 +73,7 @@ fn opened<N: Name + Send + Sync, R: Threads + Wait + Abort + Sync>(
     test: TableTest<'_>,
 ) -> Result<(), Fail>
     requires row { row ≡ N.cells }
-    requires table { N.table ≡ table_of start.now count (length row) }
+    requires table { N.table ≡ table_data_of start.now count (length row) }
 {
     if let TableTest::Pen = test {
         return writes::<N>(rt, alloc, row);

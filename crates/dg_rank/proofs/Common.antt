@@ -4,11 +4,11 @@ pub use Rattle.dg_chips.specs.Vector.{Vector, at}
 pub use Rattle.dg_reduce.proofs.Outcome.{reduced_few}
 pub use Rattle.dg_graph.specs.Graph.{IsGraph}
 pub use Rattle.dg_rank.specs.Divisors.{HoldsTrial, amounts_of}
-pub use Rattle.dg_rank.specs.Ladders.{AnswersRankTest, AreAnswers, FailsAfter, MeetsTooMany, PassesBelow, RankByLadder, RanksByLadders}
-pub use Rattle.dg_rank.specs.LateLosses.{IsFirstFrom, IsFrom, IsPassed, WinFrom, restored}
-pub use Rattle.dg_rank.specs.Limits.{IsPastLimits, IsWithinLimits}
+pub use Rattle.dg_rank.specs.Ladders.{AnswersRankTest, AreAnswers, FailsAfter, MeetsTooMany, PassesBelow, RankByLadder, RanksByTrialLadders}
+pub use Rattle.dg_rank.specs.LateLosses.{IsFirstFrom, IsFrom, IsPassed, WinFrom, restored_trial}
+pub use Rattle.dg_rank.specs.Limits.{ArePastTrialLimits, IsWithinLimits}
 pub use Rattle.dg_rank.specs.Losses.{AllWin, IsFirstLossIn, IsLeft, IsPartial, ReducedWin, WinsWithout}
-pub use Rattle.dg_rank.specs.Moves.{IsMoved, after_move, change}
+pub use Rattle.dg_rank.specs.Moves.{IsMoved, after_trial_move, trial_change}
 pub use Rattle.dg_rank.specs.Pieces.{piece_start}
 pub use Rattle.dg_rank.specs.Ranks.{BothArePast, FailsFirstAt, IsRankFault, IsRankInLimits, IsUnsettled, IsUntold, IsWithin, MayHaveWorkers, NeedsPastTests, NeedsTooMany}
 pub use Rattle.dg_rank.specs.Trials.{AnyTrial, AreCounted, ComesBefore, IsNumbering, IsTrial}

@@ -6,7 +6,7 @@
 --   both_past        where the lower of both degrees is past the limits, so are both tests
 --   told_rich, told_poor, told_high   what the degree or the genus settles is told
 --   told_within      so is what a test of the lower degree within the limits tells
-use Rattle.dg_rank.proofs.Common.{◌≡◌, ℕ, ◌<◌, inl, inr, Bool, true, false, arith, subst, ◌↔◌, ◌≤ℤ◌, ◌<ℤ◌, ◌+ℤ◌, MatchBool, min, cases_lt, ints, pos, Multigraph, IsMultigraph, genus, Amounts, degree, AgreeOn, less, canonical, HasRankAtLeast, sum_below-cong, equivalent-refl, equivalent-rank, IsDual, dual-degree, dual_tests, IsPastLimits, IsWithin, IsUnsettled, BothArePast, IsUntold}
+use Rattle.dg_rank.proofs.Common.{◌≡◌, ℕ, ◌<◌, inl, inr, Bool, true, false, arith, subst, ◌↔◌, ◌≤ℤ◌, ◌<ℤ◌, ◌+ℤ◌, MatchBool, min, cases_lt, ints, pos, Multigraph, IsMultigraph, genus, Amounts, degree, AgreeOn, less, canonical, HasRankAtLeast, sum_below-cong, equivalent-refl, equivalent-rank, IsDual, dual-degree, dual_tests, ArePastTrialLimits, IsWithin, IsUnsettled, BothArePast, IsUntold}
 use Rattle.dg_rank.proofs.Numbering.{past_above, past_within}
 
 pub decided : {P Q : Type 0} (b : Bool) → P ↔ Q → MatchBool b P (¬ P) → MatchBool b Q (¬ Q)
@@ -35,7 +35,7 @@ dual_passes g D E k l graph some dual same =
     let tests : HasRankAtLeast g D k ↔ HasRankAtLeast g (less (canonical g) D) l = dual_tests g D k l graph some dual in
     (λ rank. tests.1 (alike.0 rank), λ rank. alike.1 (tests.0 rank))
 
-pub both_past : (g : Multigraph) (D : Amounts) (k l : ℕ) → 0 < g.size → IsDual g D k l → IsPastLimits g.size (min k l) →
+pub both_past : (g : Multigraph) (D : Amounts) (k l : ℕ) → 0 < g.size → IsDual g D k l → ArePastTrialLimits g.size (min k l) →
     BothArePast g D k
 both_past g D k l some dual past = record {
   other = l;
@@ -59,7 +59,7 @@ told_within g D k l dual within untold =
     elim (cases_lt l k) [
       | inl less ↦
           let least : min k l ≡ l = omega (arith, less) in
-          past_within g.size l (subst (IsPastLimits g.size) other untold.past.dual_past)
+          past_within g.size l (subst (ArePastTrialLimits g.size) other untold.past.dual_past)
           (subst (IsWithin g.size) least within)
       | inr most ↦
           let least : min k l ≡ k = omega (arith, most) in

@@ -17,7 +17,7 @@
 --   form_kept       the same amounts are as good a form, of what is the same on the vertices
 --   repaid_told     what repaying tells, once dollars were taken from a form, it tells of all that the form stands for
 --   left_degree     what is left without a trial adds up to no more than before
-use Rattle.dg_rank.proofs.Common.{◌≡◌, ℕ, ◌+◌, ◌*◌, ◌<◌, ◌≤◌, Bool, true, false, List, [], length, arith, sym, ap, subst, ◌∙◌, ⊎_elim, slice_index, ◌≤ℤ◌, MatchBool, unsigned_abs, cases_eq, ints, sum, get_or-le-sum_by, ℤ, pos, ◌-ℤ◌, Multigraph, IsMultigraph, Amounts, degree, only_at, IsEffective, HasNoDebtOff, AgreeOn, AreEquivalent, IsWinnable, less, within_abs, abs_within, equivalent-refl, equivalent-trans, equivalent-degree, degree-only_at, degree-less, only_at-here, only_at-other, sum_below-one, sum_below-at_most, sum_below-cong, sum_below-add, equivalent-winnable, IsGraph, Vector, at, IsEffectiveDivisor, amounts_of, IsTrial, IsWithinLimits, WinsWithout, change, after_move, IsMoved, Moved}
+use Rattle.dg_rank.proofs.Common.{◌≡◌, ℕ, ◌+◌, ◌*◌, ◌<◌, ◌≤◌, Bool, true, false, List, [], length, arith, sym, ap, subst, ◌∙◌, ⊎_elim, slice_index, ◌≤ℤ◌, MatchBool, unsigned_abs, cases_eq, ints, sum, get_or-le-sum_by, ℤ, pos, ◌-ℤ◌, Multigraph, IsMultigraph, Amounts, degree, only_at, IsEffective, HasNoDebtOff, AgreeOn, AreEquivalent, IsWinnable, less, within_abs, abs_within, equivalent-refl, equivalent-trans, equivalent-degree, degree-only_at, degree-less, only_at-here, only_at-other, sum_below-one, sum_below-at_most, sum_below-cong, sum_below-add, equivalent-winnable, IsGraph, Vector, at, IsEffectiveDivisor, amounts_of, IsTrial, IsWithinLimits, WinsWithout, trial_change, after_trial_move, IsMoved, Moved}
 use Rattle.std.proofs.Math.IntN.{◌+ℤ◌}
 use Rattle.dg_rank.specs.Numbering.{nth_trial}
 use Rattle.dg_rank.proofs.FirstLosses.{nth-trial}
@@ -92,23 +92,23 @@ pub form_wins : (g : Multigraph) (A : Amounts) (x : Vector) → IsEffectiveDivis
 form_wins g A x form = (equivalent-winnable g A (at x) form.led).1 ([], form.effective)
 
 after_less : (g : Multigraph) (D : Amounts) (E F : List ℕ) (m : Moved) → length E ≡ g.size → IsMoved E F m →
-    AgreeOn g.size (less D (amounts_of F)) (after_move g.size m (less D (amounts_of E)))
+    AgreeOn g.size (less D (amounts_of F)) (after_trial_move g.size m (less D (amounts_of E)))
 after_less g D E F m places moved v below =
-    let here : amounts_of F v ≡ amounts_of E v -ℤ change g.size m v =
-    subst (λ (n : ℕ). amounts_of F v ≡ amounts_of E v -ℤ change n m v) places (moved.amounts v (omega arith)) in
+    let here : amounts_of F v ≡ amounts_of E v -ℤ trial_change g.size m v =
+    subst (λ (n : ℕ). amounts_of F v ≡ amounts_of E v -ℤ trial_change n m v) places (moved.amounts v (omega arith)) in
     omega (arith, ints)
 
 pub next_told : (b : Bool) (g : Multigraph) (D : Amounts) (E F : List ℕ) (m : Moved) (x y : Vector) →
     length E ≡ g.size → IsMoved E F m →
     IsEffectiveDivisor g (less D (amounts_of E)) x →
-    MatchBool b (IsEffectiveDivisor g (after_move g.size m (at x)) y) (¬ IsWinnable g (after_move g.size m (at x))) →
+    MatchBool b (IsEffectiveDivisor g (after_trial_move g.size m (at x)) y) (¬ IsWinnable g (after_trial_move g.size m (at x))) →
     MatchBool b (IsEffectiveDivisor g (less D (amounts_of F)) y) (¬ WinsWithout g D F)
 next_told b g D E F m x y places moved form told =
     let D' : Amounts = less D (amounts_of E) in
-    told_by b g (less D (amounts_of F)) (after_move g.size m (at x)) y
-    (equivalent-trans g (less D (amounts_of F)) (after_move g.size m D') (after_move g.size m (at x))
-    (equivalent-refl g (less D (amounts_of F)) (after_move g.size m D') (after_less g D E F m places moved))
-    (more_equivalent g D' (at x) (change g.size m) form.led))
+    told_by b g (less D (amounts_of F)) (after_trial_move g.size m (at x)) y
+    (equivalent-trans g (less D (amounts_of F)) (after_trial_move g.size m D') (after_trial_move g.size m (at x))
+    (equivalent-refl g (less D (amounts_of F)) (after_trial_move g.size m D') (after_less g D E F m places moved))
+    (more_equivalent g D' (at x) (trial_change g.size m) form.led))
     told
 
 pub left_degree : (g : Multigraph) (D : Amounts) (E : List ℕ) (x : Vector) → IsGraph g →

@@ -10,7 +10,7 @@
 --   rank_by_ladder  the rank by its tests
 --   rank_agrees, in_limits_agrees, needs_agrees   it is the same of amounts that agree on the vertices
 --   ranks_by_ladders   both ranks by their tests
-use Rattle.dg_rank.proofs.Common.{◌≡◌, ℕ, zero, suc, ◌+◌, ◌<◌, ◌⊎◌, inl, inr, arith, refl, sym, ap, subst, ◌∙◌, ⊎_elim, Result, Ok, Err, cases_eq, ints, ℤ, pos, negsuc, ◌-ℤ◌, Multigraph, Amounts, AgreeOn, less, canonical, HasRankAtLeast, IsRank, agree-sym, equivalent-refl, loss_bounds_rank, equivalent-rank, rank_passes, Vector, at, RankVerdict, AtLeast, Below, AnswersRankTest, AreAnswers, PassesBelow, FailsAfter, MeetsTooMany, RankByLadder, RanksByLadders, IsPastLimits, IsWithin, IsRankInLimits, NeedsTooMany, RankFault, TooMany}
+use Rattle.dg_rank.proofs.Common.{◌≡◌, ℕ, zero, suc, ◌+◌, ◌<◌, ◌⊎◌, inl, inr, arith, refl, sym, ap, subst, ◌∙◌, ⊎_elim, Result, Ok, Err, cases_eq, ints, ℤ, pos, negsuc, ◌-ℤ◌, Multigraph, Amounts, AgreeOn, less, canonical, HasRankAtLeast, IsRank, agree-sym, equivalent-refl, loss_bounds_rank, equivalent-rank, rank_passes, Vector, at, RankVerdict, AtLeast, Below, AnswersRankTest, AreAnswers, PassesBelow, FailsAfter, MeetsTooMany, RankByLadder, RanksByTrialLadders, ArePastTrialLimits, IsWithin, IsRankInLimits, NeedsTooMany, RankFault, TooMany}
 use Rattle.std.proofs.Math.IntN.{◌+ℤ◌}
 use Rattle.dg_rank.proofs.Numbering.{past_above, past_within}
 use Rattle.dg_rank.proofs.RankByTests.{rank_before}
@@ -25,22 +25,22 @@ module _ (g : Multigraph) (D : Amounts) (k : ℕ) where
       let told : AnswersRankTest g D k (Ok (Below k d)) = subst (AnswersRankTest g D k) is answers in
       (told.0, λ rank. loss_bounds_rank g D k (at d) told.1.2 rank)
 
-  past_told : (x : Result RankVerdict RankFault) → AnswersRankTest g D k x → x ≡ Err TooMany → IsPastLimits g.size k
+  past_told : (x : Result RankVerdict RankFault) → AnswersRankTest g D k x → x ≡ Err TooMany → ArePastTrialLimits g.size k
   past_told x answers is = (rw is at answers).1
 
-  answer_passed : (x : Result RankVerdict RankFault) → AnswersRankTest g D k x → (¬ IsPastLimits g.size k) →
+  answer_passed : (x : Result RankVerdict RankFault) → AnswersRankTest g D k x → (¬ ArePastTrialLimits g.size k) →
       HasRankAtLeast g D k → x ≡ Ok (AtLeast k)
   answer_passed (Ok (AtLeast j)) answers within rank = ap (λ (i : ℕ). Ok (AtLeast i)) answers.1.0
   answer_passed (Ok (Below j d)) answers within rank = absurd (loss_bounds_rank g D k (at d) answers.1.2 rank)
   answer_passed (Err e) answers within rank = absurd (within answers.1)
 
-  answer_failed : (x : Result RankVerdict RankFault) → AnswersRankTest g D k x → (¬ IsPastLimits g.size k) →
+  answer_failed : (x : Result RankVerdict RankFault) → AnswersRankTest g D k x → (¬ ArePastTrialLimits g.size k) →
       (¬ HasRankAtLeast g D k) → (d : Vector) × (x ≡ Ok (Below k d))
   answer_failed (Ok (AtLeast j)) answers within fails = absurd (fails answers.1.1)
   answer_failed (Ok (Below j d)) answers within fails = (d, ap (λ (i : ℕ). Ok (Below i d)) answers.1.0)
   answer_failed (Err e) answers within fails = absurd (within answers.1)
 
-  answer_past : (x : Result RankVerdict RankFault) → AnswersRankTest g D k x → IsPastLimits g.size k → x ≡ Err TooMany
+  answer_past : (x : Result RankVerdict RankFault) → AnswersRankTest g D k x → ArePastTrialLimits g.size k → x ≡ Err TooMany
   answer_past (Ok v) answers past = absurd (past_within g.size k past answers.0)
   answer_past (Err e) answers past = ap (λ (f : RankFault). Err f) answers.0
 
@@ -56,7 +56,7 @@ module _ (g : Multigraph) (D : Amounts) (f : ℕ → Result RankVerdict RankFaul
   fails_after : (r : ℤ) → IsRankInLimits g D r → FailsAfter f r
   fails_after r told =
       let next = told.next in
-      let within : ¬ IsPastLimits g.size next = λ past. past_within g.size next past told.within in
+      let within : ¬ ArePastTrialLimits g.size next = λ past. past_within g.size next past told.within in
       let some : 0 < g.size = told.within.1.some in
       let (loss, fails) = answer_failed g D next (f next) (answers next) within (rank_fails g D r next told.is_rank told.follows)
       in record {
@@ -155,7 +155,7 @@ module _ (g : Multigraph) (D E : Amounts) (same : AgreeOn g.size D E) where
     passed = λ k below. rank_agrees g D E same k (needs.passed k below);
   }
 
-pub ranks_by_ladders : RanksByLadders
+pub ranks_by_ladders : RanksByTrialLadders
 ranks_by_ladders g D E f h dual answers answers' =
     let K = less (canonical g) D in
     let back = agree-sym g.size E K dual in

@@ -15,7 +15,7 @@
 --   same_numbers, wins_alike   what is remembered of the same amounts
 --   all_restored     what is left without the first trial, with all its dollars back
 --   wins_all, loses_all   what is found from the first place on is found among all trials
-use Rattle.dg_rank.proofs.Common.{◌≡◌, ◌≢◌, ℕ, suc, ◌+◌, ◌-◌, ◌<◌, ◌≤◌, List, [], length, arith, refl, sym, ap, subst, ◌∙◌, ⊎_elim, Bool, true, false, ◌&&◌, max, set, length-set, get_or-set_same, get_or-set_other, slice_index, ◌≤ℤ◌, sum, slice_index_or, int_eq, signed_items, pointwise, cases_eq, cases_lt, both_ways, ints, get_or_past, ℤ, pos, ◌-ℤ◌, Multigraph, IsMultigraph, Amounts, degree, only_at, IsEffective, AreEquivalent, IsWinnable, less, IsBefore, equivalent-refl, equivalent-trans, degree-less, degree-only_at, only_at-here, only_at-other, sum_below-one, sum_below-cong, equivalent-winnable, Vector, at, IsEffectiveDivisor, amounts_of, IsWithinLimits, WinsWithout, AllWin, IsFirstLossIn, restored, IsFrom, WinFrom, IsFirstFrom, IsTrial, IsNumbering, AnyTrial, ComesBefore}
+use Rattle.dg_rank.proofs.Common.{◌≡◌, ◌≢◌, ℕ, suc, ◌+◌, ◌-◌, ◌<◌, ◌≤◌, List, [], length, arith, refl, sym, ap, subst, ◌∙◌, ⊎_elim, Bool, true, false, ◌&&◌, max, set, length-set, get_or-set_same, get_or-set_other, slice_index, ◌≤ℤ◌, sum, slice_index_or, int_eq, signed_items, pointwise, cases_eq, cases_lt, both_ways, ints, get_or_past, ℤ, pos, ◌-ℤ◌, Multigraph, IsMultigraph, Amounts, degree, only_at, IsEffective, AreEquivalent, IsWinnable, less, IsBefore, equivalent-refl, equivalent-trans, degree-less, degree-only_at, only_at-here, only_at-other, sum_below-one, sum_below-cong, equivalent-winnable, Vector, at, IsEffectiveDivisor, amounts_of, IsWithinLimits, WinsWithout, AllWin, IsFirstLossIn, restored_trial, IsFrom, WinFrom, IsFirstFrom, IsTrial, IsNumbering, AnyTrial, ComesBefore}
 use Rattle.std.proofs.Common.{not, min}
 use Rattle.std.proofs.Math.IntN.{◌+ℤ◌}
 use Rattle.dg_rank.specs.Numbering.{trial_count, nth_trial}
@@ -63,11 +63,11 @@ some_taken v r s w few = ⊎_elim
 
 -- what wins wherever more dollars are taken wins wherever fewer are
 pub win_fewer : (g : Multigraph) (x : Vector) (r s d : ℕ) → r ≤ s → d < g.size →
-    WinFrom g (restored g.size x s) s d → WinFrom g (restored g.size x r) r d
+    WinFrom g (restored_trial g.size x s) s d → WinFrom g (restored_trial g.size x r) r d
 win_fewer g x r s d fewer inside wins F from =
     let more : Amounts = only_at (g.size - 1) (pos (s - r)) in
     let F' : Amounts = λ v. F v +ℤ more v in
-    let win : IsWinnable g (less (restored g.size x s) F') =
+    let win : IsWinnable g (less (restored_trial g.size x s) F') =
     wins F' (record {
       effective = λ v below. omega (arith, ints, from.effective v below, only_at-more (g.size - 1) (s - r) v);
       of_degree = omega (
@@ -80,12 +80,12 @@ win_fewer g x r s d fewer inside wins F from =
           let other : v ≢ g.size - 1 = omega arith in
           omega (arith, ints, from.empty v low, only_at-other (g.size - 1) (pos (s - r)) v other);
     }) in
-    (equivalent-winnable g (less (restored g.size x s) F') (less (restored g.size x r) F)
-    (equivalent-refl g (less (restored g.size x s) F') (less (restored g.size x r) F)
+    (equivalent-winnable g (less (restored_trial g.size x s) F') (less (restored_trial g.size x r) F)
+    (equivalent-refl g (less (restored_trial g.size x s) F') (less (restored_trial g.size x r) F)
     (λ v below. omega (arith, ints, some_taken (g.size - 1) r s v fewer)))).0 win
 
 pub rich_wins : (g : Multigraph) (x : Vector) (r d : ℕ) → IsEffective g.size (at x) →
-    ((v : ℕ) → d ≤ v → v + 1 < g.size → pos r ≤ℤ at x v) → WinFrom g (restored g.size x r) r d
+    ((v : ℕ) → d ≤ v → v + 1 < g.size → pos r ≤ℤ at x v) → WinFrom g (restored_trial g.size x r) r d
 rich_wins g x r d effective rich F from = (
   [],
   λ v inside. ⊎_elim
@@ -122,12 +122,12 @@ IsOther g A B p = AreEquivalent g (less A (only_at p (pos 1))) B
 
 pub carried_other : (g : Multigraph) (x y z : Vector) (r p : ℕ) → 1 ≤ r →
     IsEffectiveDivisor g (λ v. (at x v +ℤ only_at (g.size - 1) (pos 1) v) -ℤ only_at p (pos 1) v) y →
-    IsEffectiveDivisor g (at y) z → IsOther g (restored g.size x r) (restored g.size z (r - 1)) p
+    IsEffectiveDivisor g (at y) z → IsOther g (restored_trial g.size x r) (restored_trial g.size z (r - 1)) p
 carried_other g x y z r p some carried reduced =
-    let A : Amounts = less (restored g.size x r) (only_at p (pos 1)) in
+    let A : Amounts = less (restored_trial g.size x r) (only_at p (pos 1)) in
     let C : Amounts = λ v. (at x v +ℤ only_at (g.size - 1) (pos 1) v) -ℤ only_at p (pos 1) v in
     let more : Amounts = only_at (g.size - 1) (pos (r - 1)) in
-    equivalent-trans g A (λ v. C v +ℤ more v) (restored g.size z (r - 1))
+    equivalent-trans g A (λ v. C v +ℤ more v) (restored_trial g.size z (r - 1))
     (equivalent-refl g A (λ v. C v +ℤ more v) (λ v below. omega (arith, ints, some_taken (g.size - 1) 1 r v some)))
     (more_equivalent g C (at z) more (equivalent-trans g C (at y) (at z) carried.led reduced.led))
 
@@ -281,12 +281,12 @@ first_at_last g B r p E inside places held empty loses = record {
 }
 
 pub first_carried : (g : Multigraph) (x : Vector) (r d p : ℕ) (E E' : List ℕ) → d ≤ p → p < g.size → 1 ≤ r →
-    WinFrom g (restored g.size x r) r (p + 1) → length E' ≡ g.size → slice_index E' (g.size - 1) ≡ r - 1 →
+    WinFrom g (restored_trial g.size x r) r (p + 1) → length E' ≡ g.size → slice_index E' (g.size - 1) ≡ r - 1 →
     ((u : ℕ) → u + 1 < g.size → slice_index E' u ≡ 0) → E ≡ set E' p (slice_index E' p + 1) →
     ¬ IsWinnable g (λ v. (at x v +ℤ only_at (g.size - 1) (pos 1) v) -ℤ only_at p (pos 1) v) →
-    IsFirstFrom g (restored g.size x r) r d E
+    IsFirstFrom g (restored_trial g.size x r) r d E
 first_carried g x r d p E E' past inside some wins places held empty is lost =
-    let A : Amounts = restored g.size x r in
+    let A : Amounts = restored_trial g.size x r in
     let B : Amounts = less A (only_at p (pos 1)) in
     let C : Amounts = λ v. (at x v +ℤ only_at (g.size - 1) (pos 1) v) -ℤ only_at p (pos 1) v in
     first_with g A B r d p E E' past inside some (equivalent-refl g B B (λ v below. refl)) wins
@@ -325,13 +325,13 @@ pub same_numbers : (a : Bool) (xs ys : List ℤ) → false ≡ not (a && pointwi
 same_numbers a xs ys same = (signed_items xs ys).0 (both_true a (pointwise int_eq xs ys) same)
 
 pub wins_alike : (g : Multigraph) (x y : Vector) (r d : ℕ) → x.numbers ≡ y.numbers →
-    WinFrom g (restored g.size x r) r d → WinFrom g (restored g.size y r) r d
+    WinFrom g (restored_trial g.size x r) r d → WinFrom g (restored_trial g.size y r) r d
 wins_alike g x y r d same won =
     subst (λ (ns : List ℤ). WinFrom g (λ v. slice_index_or ns v (pos 0) +ℤ only_at (g.size - 1) (pos r) v) r d) same won
 
 pub all_restored : (g : Multigraph) (D : Amounts) (k c : ℕ) (E : List ℕ) (x y : Vector) →
     IsWithinLimits g.size k c → E ≡ nth_trial g.size k 0 → IsEffectiveDivisor g (less D (amounts_of E)) x →
-    IsEffectiveDivisor g (at x) y → AreEquivalent g D (restored g.size y k)
+    IsEffectiveDivisor g (at x) y → AreEquivalent g D (restored_trial g.size y k)
 all_restored g D k c E x y limits is form reduced =
     let n : ℕ = g.size in
     let one : suc (n - 1) ≡ n = omega (arith, limits.some) in
@@ -340,7 +340,7 @@ all_restored g D k c E x y limits is form reduced =
     let none : (u : ℕ) → u + 1 < n → amounts_of E u ≡ pos 0 =
     λ u inner. ap (λ (L : List ℕ). amounts_of L u) is ∙ ap pos (rw (← one) (first_empty (n - 1) k u (omega arith))) in
     let last : Amounts = only_at (n - 1) (pos k) in
-    equivalent-trans g D (λ v. less D (amounts_of E) v +ℤ last v) (restored n y k)
+    equivalent-trans g D (λ v. less D (amounts_of E) v +ℤ last v) (restored_trial n y k)
     (equivalent-refl g D (λ v. less D (amounts_of E) v +ℤ last v)
     (λ v below. omega (arith, ints, all_last n k v (amounts_of E) (degree-trial n k E trial) none below)))
     (more_equivalent g (less D (amounts_of E)) (at y) last

@@ -6,8 +6,8 @@
 --   past_above       past the limits of a degree are all above it
 --   past_within      no rank test is past the limits and within them
 --   some_trial       on one place or more there is some trial of each degree
-use Rattle.dg_rank.proofs.Common.{◌≡◌, ℕ, zero, suc, ◌+◌, ◌-◌, ◌<◌, ◌≤◌, List, [], ◌∷◌, length, arith, refl, sym, ap, subst, ◌∙◌, ⊎_elim, ◌⊎◌, inl, inr, slice_index, sum, cases_lt, cond_below, cond_above, IsTrial, IsNumbering, AreCounted, AnyTrial, ComesBefore, MAX_TRIALS, IsWithinLimits, IsPastLimits, IsWithin}
-use Rattle.dg_rank.specs.Numbering.{one_place_more, trial_count, raised, with_place, nth_trial}
+use Rattle.dg_rank.proofs.Common.{◌≡◌, ℕ, zero, suc, ◌+◌, ◌-◌, ◌<◌, ◌≤◌, List, [], ◌∷◌, length, arith, refl, sym, ap, subst, ◌∙◌, ⊎_elim, ◌⊎◌, inl, inr, slice_index, sum, cases_lt, cond_below, cond_above, IsTrial, IsNumbering, AreCounted, AnyTrial, ComesBefore, MAX_TRIALS, IsWithinLimits, ArePastTrialLimits, IsWithin}
+use Rattle.dg_rank.specs.Numbering.{one_place_more, trial_count, raised, with_trial_place, nth_trial}
 use Rattle.dg_rank.proofs.Lists.{sum_cons, no_places, trial_cons, trial_tail, before_cons}
 use Rattle.dg_rank.proofs.CountedOnce.{lower_number, counted_once}
 use Rattle.dg_rank.proofs.Pascal.{one_place, count_grows, count_grows_by_degree}
@@ -117,18 +117,18 @@ joined_ascending n k c d f g h first second whole i j less small = ⊎_elim
     (parts c j)
 
 place_numbered : (n : ℕ) (c : ℕ → ℕ) (f : ℕ → ℕ → List ℕ) → ((k : ℕ) → IsNumbering n k AnyTrial (c k) (f k)) →
-    (k : ℕ) → IsNumbering (suc n) k AnyTrial (one_place_more c k) (with_place c f k)
-unfolding one_place_more with_place
-place_numbered n c f numbers zero = broke_numbered n (c 0) (f 0) (with_place c f 0) (numbers 0) (λ i. refl)
+    (k : ℕ) → IsNumbering (suc n) k AnyTrial (one_place_more c k) (with_trial_place c f k)
+unfolding one_place_more with_trial_place
+place_numbered n c f numbers zero = broke_numbered n (c 0) (f 0) (with_trial_place c f 0) (numbers 0) (λ i. refl)
 place_numbered n c f numbers (suc k) =
     let first : IsNumbering n (suc k) AnyTrial (c (suc k)) (f (suc k)) = numbers (suc k) in
-    let second : IsNumbering (suc n) k AnyTrial (one_place_more c k) (with_place c f k) =
+    let second : IsNumbering (suc n) k AnyTrial (one_place_more c k) (with_trial_place c f k) =
     place_numbered n c f numbers k in
-    let whole : IsJoined (c (suc k)) (f (suc k)) (with_place c f k) (with_place c f (suc k)) = record {
-      low = λ i low. sym (cond_below i (c (suc k)) (0 ∷ f (suc k) i) (raised (with_place c f k (i - c (suc k)))) low);
+    let whole : IsJoined (c (suc k)) (f (suc k)) (with_trial_place c f k) (with_trial_place c f (suc k)) = record {
+      low = λ i low. sym (cond_below i (c (suc k)) (0 ∷ f (suc k) i) (raised (with_trial_place c f k (i - c (suc k)))) low);
       high = λ i. sym (cond_above (c (suc k) + i) (c (suc k)) (0 ∷ f (suc k) (c (suc k) + i)) _
-          (raised (with_place c f k i))
-          (omega arith) (ap (λ (j : ℕ). raised (with_place c f k j)) (omega arith)));
+          (raised (with_trial_place c f k i))
+          (omega arith) (ap (λ (j : ℕ). raised (with_trial_place c f k j)) (omega arith)));
     } in
     record {
       each = λ i low. (joined_each n k _ _ _ _ _ first second whole i low, tt);
@@ -190,13 +190,13 @@ more_trials n j k some less (c, many, counted) =
     let all : c ≡ trial_count n j = counted_once n j _ c (trial_count n j) counted (nth_trial n j, numbered n j) in
     (trial_count n k, omega (arith, count_grows_by_degree n j k some less), (nth_trial n k, numbered n k))
 
-pub past_above : (n j k : ℕ) → 0 < n → j ≤ k → IsPastLimits n j → IsPastLimits n k
+pub past_above : (n j k : ℕ) → 0 < n → j ≤ k → ArePastTrialLimits n j → ArePastTrialLimits n k
 past_above n j k some less (inl none) = inl none
 past_above n j k some less (inr (inl much)) = inr (inl much)
 past_above n j k some less (inr (inr (inl high))) = inr (inr (inl (omega arith)))
 past_above n j k some less (inr (inr (inr many))) = inr (inr (inr (more_trials n j k some less many)))
 
-pub past_within : (n k : ℕ) → IsPastLimits n k → IsWithin n k → ⊥
+pub past_within : (n k : ℕ) → ArePastTrialLimits n k → IsWithin n k → ⊥
 past_within n k (inl none) (c, within) = omega (arith, none, within.some)
 past_within n k (inr (inl many)) (c, within) = omega (arith, many, within.few)
 past_within n k (inr (inr (inl large))) (c, within) = omega (arith, large, within.small)

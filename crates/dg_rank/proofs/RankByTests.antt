@@ -6,7 +6,7 @@
 --   in_limits         the rank is told within the limits, where the next test is
 --   needs_too_many    where a test of the next degree after the rank is past the limits, too many tests are needed
 --   tests_suffice     where all tests up to one that fails are told, none past the limits is needed
-use Rattle.dg_rank.proofs.Common.{◌≡◌, ℕ, zero, suc, ◌+◌, ◌<◌, ◌≤◌, inl, inr, arith, refl, sym, subst, unsigned_abs, ◌≤ℤ◌, ◌<ℤ◌, cases_eq, cases_lt, ints, by_lt_z, ℤ, pos, ◌-ℤ◌, Multigraph, IsMultigraph, genus, Amounts, degree, less, canonical, HasRankAtLeast, IsRank, poor_rank, rank_passes, rank_of_dual, IsDual, high_rank, IsWithinLimits, IsPastLimits, IsRankInLimits, NeedsTooMany, IsUntold, NeedsPastTests, FailsFirstAt}
+use Rattle.dg_rank.proofs.Common.{◌≡◌, ℕ, zero, suc, ◌+◌, ◌<◌, ◌≤◌, inl, inr, arith, refl, sym, subst, unsigned_abs, ◌≤ℤ◌, ◌<ℤ◌, cases_eq, cases_lt, ints, by_lt_z, ℤ, pos, ◌-ℤ◌, Multigraph, IsMultigraph, genus, Amounts, degree, less, canonical, HasRankAtLeast, IsRank, poor_rank, rank_passes, rank_of_dual, IsDual, high_rank, IsWithinLimits, ArePastTrialLimits, IsRankInLimits, NeedsTooMany, IsUntold, NeedsPastTests, FailsFirstAt}
 use Rattle.std.proofs.Math.IntN.{◌+ℤ◌}
 
 pub rank_before : (g : Multigraph) (D : Amounts) (k : ℕ) → FailsFirstAt g D k → IsRank g D (pos k -ℤ pos 1)
@@ -29,7 +29,7 @@ fails_low g D (suc j) graph some first =
     (λ (poor : degree g.size D <ℤ pos j). absurd (poor_rank g D j graph some poor (first.passed j (omega arith))))
     (λ (enough : pos j ≤ℤ degree g.size D). omega (arith, ints))
 
-pub needs_too_many : (g : Multigraph) (D : Amounts) (k : ℕ) → IsRank g D (pos k -ℤ pos 1) → IsPastLimits g.size k →
+pub needs_too_many : (g : Multigraph) (D : Amounts) (k : ℕ) → IsRank g D (pos k -ℤ pos 1) → ArePastTrialLimits g.size k →
     NeedsTooMany g D
 needs_too_many g D k rank past = record {
   degree = k;

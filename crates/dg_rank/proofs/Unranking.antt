@@ -16,7 +16,7 @@
 --   one_amount              on one place there is but one trial
 --   last_amount             what is left goes to the last place
 use Rattle.dg_rank.proofs.Common.{◌≡◌, ℕ, suc, ◌+◌, ◌-◌, ◌<◌, ◌≤◌, List, [], ◌∷◌, ◌++◌, length, take, set, arith, refl, sym, ap, subst, ◌∙◌, length-set, take_more_set, take_all, cond_below, cond_above, IsTrial}
-use Rattle.dg_rank.specs.Numbering.{one_place_more, trial_count, raised, with_place, nth_trial}
+use Rattle.dg_rank.specs.Numbering.{one_place_more, trial_count, raised, with_trial_place, nth_trial}
 use Rattle.dg_rank.proofs.Lists.{no_places}
 use Rattle.dg_rank.proofs.Numbering.{numbered}
 use Rattle.dg_rank.proofs.Pascal.{count_more}
@@ -40,16 +40,16 @@ more_raised a [] = refl
 more_raised a (x ∷ E) = ap (λ (y : ℕ). y ∷ E) (omega arith)
 
 pub nth_low : (n k i : ℕ) → i < trial_count n (suc k) → nth_trial (suc n) (suc k) i ≡ 0 ∷ nth_trial n (suc k) i
-unfolding nth_trial with_place
+unfolding nth_trial with_trial_place
 nth_low n k i low = sym (cond_below i (trial_count n (suc k)) (0 ∷ nth_trial n (suc k) i) _ low)
 
 pub nth_high : (n k i : ℕ) → trial_count n (suc k) ≤ i →
     nth_trial (suc n) (suc k) i ≡ raised (nth_trial (suc n) k (i - trial_count n (suc k)))
-unfolding nth_trial with_place
+unfolding nth_trial with_trial_place
 nth_high n k i high = sym (cond_above i (trial_count n (suc k)) (0 ∷ nth_trial n (suc k) i) _ _ high refl)
 
 pub nth_broke : (n i : ℕ) → nth_trial (suc n) 0 i ≡ 0 ∷ nth_trial n 0 i
-unfolding nth_trial with_place
+unfolding nth_trial with_trial_place
 nth_broke n i = refl
 
 pub count_broke : (n : ℕ) → trial_count (suc n) 0 ≡ trial_count n 0

@@ -7,7 +7,7 @@
 --   last_held          a trial that has a next one holds something past its first place
 --   following          the walk makes the next trial of one that has a next
 --   moved_as_told      the walk moves what it tells
-use Rattle.dg_rank.proofs.Common.{◌≡◌, ◌≢◌, ℕ, ◌+◌, ◌-◌, ◌<◌, ◌≤◌, List, length, set, arith, sym, ap, ◌∙◌, ⊎_elim, length-set, get_or-set_same, get_or-set_other, slice_index, sum, pos, ◌-ℤ◌, cases_eq, cases_lt, ints, sum_by-set, get_or-le-sum_by, only_at, only_at-here, only_at-other, IsTrial, IsWithinLimits, amounts_of, change, IsMoved}
+use Rattle.dg_rank.proofs.Common.{◌≡◌, ◌≢◌, ℕ, ◌+◌, ◌-◌, ◌<◌, ◌≤◌, List, length, set, arith, sym, ap, ◌∙◌, ⊎_elim, length-set, get_or-set_same, get_or-set_other, slice_index, sum, pos, ◌-ℤ◌, cases_eq, cases_lt, ints, sum_by-set, get_or-le-sum_by, only_at, only_at-here, only_at-other, IsTrial, IsWithinLimits, amounts_of, trial_change, IsMoved}
 use Rattle.dg_rank.specs.Numbering.{trial_count, nth_trial}
 use Rattle.dg_rank.proofs.Numbering.{limits_count, limits_trial}
 use Rattle.dg_rank.proofs.NextTrial.{IsNext, next_number, has_place}
@@ -116,7 +116,7 @@ last_held E q (n, k, c, i, limits, low, is) within held after =
 
 at_end : (E : List ℕ) (q v : ℕ) → IsLastHeld E q → v < length E → v ≡ length E - 1 →
     amounts_of (moved E q) v
-    ≡ amounts_of E v -ℤ change (length E) (record { place = q; others = slice_index E q - 1 }) v
+    ≡ amounts_of E v -ℤ trial_change (length E) (record { place = q; others = slice_index E q - 1 }) v
 at_end E q v last inside end =
     let t : ℕ = slice_index E q in
     let held : 0 < t = last.held in
@@ -141,7 +141,7 @@ at_end E q v last inside end =
 
 before_end : (E : List ℕ) (q v : ℕ) → IsLastHeld E q → v + 1 < length E →
     amounts_of (moved E q) v
-    ≡ amounts_of E v -ℤ change (length E) (record { place = q; others = slice_index E q - 1 }) v
+    ≡ amounts_of E v -ℤ trial_change (length E) (record { place = q; others = slice_index E q - 1 }) v
 before_end E q v last inside =
     let t : ℕ = slice_index E q in
     let held : 0 < t = last.held in

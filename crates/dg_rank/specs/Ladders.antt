@@ -9,7 +9,7 @@
 --   RankByLadder         == the rank of D is r, and is told within the limits, exactly if the tests of
 --                           D fail after r; and D needs too many tests exactly if they meet one past
 --                           the limits before one that fails
---   RanksByLadders       == so it is of D and its residual E: both ranks are told within the limits
+--   RanksByTrialLadders  == so it is of D and its residual E: both ranks are told within the limits
 --                           exactly if the tests of both fail, each after its rank; and one of the two
 --                           needs too many exactly if the tests of one meet a test past the limits
 use Rattle.std.specs.Prelude.{◌≡◌, ◌↔◌, ℕ, ◌<◌, ◌⊎◌, ℤ, pos, ◌+ℤ◌, Result, Ok, Err, MatchResult}
@@ -20,7 +20,7 @@ use Rattle.dg_theory.specs.Multigraph.{Multigraph}
 use Rattle.dg_verdict.specs.RankTests.{IsRankTest}
 use Rattle.dg_verdict.specs.declared.rank_verdict.RankVerdict.{RankVerdict}
 use Rattle.dg_verdict.specs.declared.rank_verdict.RankVerdict.TheVariants.{AtLeast, Below}
-use Rattle.dg_rank.specs.Limits.{IsPastLimits}
+use Rattle.dg_rank.specs.Limits.{ArePastTrialLimits}
 use Rattle.dg_rank.specs.Ranks.{IsWithin, IsRankInLimits, AreRanksInLimits, NeedsTooMany, EitherNeedsTooMany}
 use Rattle.dg_rank.specs.declared.rank_fault.RankFault.{RankFault}
 use Rattle.dg_rank.specs.declared.rank_fault.RankFault.TheVariants.{TooMany}
@@ -28,7 +28,7 @@ use Rattle.dg_rank.specs.declared.rank_fault.RankFault.TheVariants.{TooMany}
 abbrev pub AnswersRankTest : Multigraph → Amounts → ℕ → Result RankVerdict RankFault → Type 0
 AnswersRankTest g D k answer = MatchResult answer
     (λ x. IsWithin g.size k × IsRankTest g D k x)
-    (λ e. (e ≡ TooMany) × IsPastLimits g.size k)
+    (λ e. (e ≡ TooMany) × ArePastTrialLimits g.size k)
 
 abbrev pub AreAnswers : Multigraph → Amounts → (ℕ → Result RankVerdict RankFault) → Type 0
 AreAnswers g D f = (k : ℕ) → AnswersRankTest g D k (f k)
@@ -53,8 +53,8 @@ RankByLadder = (g : Multigraph) (D : Amounts) (f : ℕ → Result RankVerdict Ra
     AreAnswers g D f → ((r : ℤ) → IsRankInLimits g D r ↔ FailsAfter f r)
     × (NeedsTooMany g D ↔ MeetsTooMany f)
 
-abbrev pub RanksByLadders : Type 0
-RanksByLadders = (g : Multigraph) (D E : Amounts) (f h : ℕ → Result RankVerdict RankFault) →
+abbrev pub RanksByTrialLadders : Type 0
+RanksByTrialLadders = (g : Multigraph) (D E : Amounts) (f h : ℕ → Result RankVerdict RankFault) →
     DualOf g D E → AreAnswers g D f → AreAnswers g E h →
     ((r : ℤ × ℤ) → AreRanksInLimits g D r ↔ (FailsAfter f r.0 × FailsAfter h r.1))
     × (EitherNeedsTooMany g D ↔ (MeetsTooMany f ⊎ MeetsTooMany h))

@@ -1,6 +1,6 @@
 -- The trials that hold nothing before a place, for amounts from which dollars were taken at the last
 -- place.
---   restored n x r          == the amounts x with r dollars more at the last of n vertices
+--   restored_trial n x r    == the amounts x with r dollars more at the last of n vertices
 --   IsFrom n r d F          == F is effective, of degree r, and holds nothing before place d
 --   WinFrom g A r d         == A less each of these is winnable
 --   IsFirstFrom g A r d E   == the trial E is the first of these without which A is not winnable
@@ -17,8 +17,8 @@ use Rattle.dg_rank.specs.Divisors.{amounts_of}
 use Rattle.dg_rank.specs.Losses.{WinsWithout}
 use Rattle.dg_rank.specs.declared.passed.Passed.{Passed}
 
-abbrev pub restored : ℕ → Vector → ℕ → Amounts
-restored n x r v = at x v +ℤ only_at (n - 1) (pos r) v
+abbrev pub restored_trial : ℕ → Vector → ℕ → Amounts
+restored_trial n x r v = at x v +ℤ only_at (n - 1) (pos r) v
 
 pub record IsFrom (n r d : ℕ) (F : Amounts) : Type 0 where
   pub effective : IsEffective n F
@@ -37,9 +37,9 @@ pub record IsFirstFrom (g : Multigraph) (A : Amounts) (r d : ℕ) (E : List ℕ)
 
 abbrev pub TellsFrom : Multigraph → Vector → ℕ → ℕ → Option (Option (List ℕ)) → Type 0
 TellsFrom g x r d None = ⊤
-TellsFrom g x r d (Some None) = WinFrom g (restored g.size x r) r d
-TellsFrom g x r d (Some (Some E)) = IsFirstFrom g (restored g.size x r) r d E
+TellsFrom g x r d (Some None) = WinFrom g (restored_trial g.size x r) r d
+TellsFrom g x r d (Some (Some E)) = IsFirstFrom g (restored_trial g.size x r) r d E
 
 pub record IsPassed (g : Multigraph) (p : Passed) : Type 0 where
   pub place : p.place < g.size
-  pub win : WinFrom g (restored g.size p.left p.dollars) p.dollars p.place
+  pub win : WinFrom g (restored_trial g.size p.left p.dollars) p.dollars p.place

@@ -2,7 +2,7 @@
 -- trials.
 --   IsWithinLimits n k c == rank tests of degree k on n vertices are within the limits, and there
 --                           are c trials
---   IsPastLimits n k     == rank tests of degree k on n vertices are past one of the limits
+--   ArePastTrialLimits n k == rank tests of degree k on n vertices are past one of the limits
 use Rattle.std.specs.Prelude.{◌≡◌, ℕ, ◌<◌, ◌≤◌, ◌⊎◌}
 use Rattle.dg_graph.specs.declared.limits.TheConstants.{MAX_VERTICES}
 use Rattle.dg_rank.specs.Trials.{AreCounted, AnyTrial}
@@ -15,6 +15,6 @@ pub record IsWithinLimits (n k c : ℕ) : Type 0 where
   pub counted : AreCounted n k AnyTrial c
   pub limit : c ≤ MAX_TRIALS
 
-abbrev pub IsPastLimits : ℕ → ℕ → Type 0
-IsPastLimits n k = (n ≡ 0) ⊎ (MAX_VERTICES < n) ⊎ (MAX_DEGREE < k) ⊎
+abbrev pub ArePastTrialLimits : ℕ → ℕ → Type 0
+ArePastTrialLimits n k = (n ≡ 0) ⊎ (MAX_VERTICES < n) ⊎ (MAX_DEGREE < k) ⊎
     ((c : ℕ) × (MAX_TRIALS < c) × AreCounted n k AnyTrial c)

@@ -1,6 +1,6 @@
 -- A piece of the trials, from one number up to another, for the divisor D.
---   AreSmall n D              == each of n amounts is within 1,999,000
---   AddUpToFew n D            == n amounts add up to at most 32,000,000
+--   AreSmallForTrials n D     == each of n amounts is within 1,999,000
+--   AddUpToFewForTrials n D   == n amounts add up to at most 32,000,000
 --   WinsWithout g D E         == D less the trial E is winnable
 --   AllWin g D k i j          == D less each trial from number i up to, but not including, number j
 --                                is winnable
@@ -27,11 +27,11 @@ use Rattle.dg_rank.specs.Numbering.{nth_trial}
 use Rattle.dg_rank.specs.declared.search_state.SearchState.{SearchState}
 use Rattle.dg_rank.specs.declared.search_state.SearchState.TheVariants.{Lost, Won, Open}
 
-abbrev pub AreSmall : ℕ → Amounts → Type 0
-AreSmall n D = (v : ℕ) → v < n → unsigned_abs (D v) ≤ 1999000
+abbrev pub AreSmallForTrials : ℕ → Amounts → Type 0
+AreSmallForTrials n D = (v : ℕ) → v < n → unsigned_abs (D v) ≤ 1999000
 
-abbrev pub AddUpToFew : ℕ → Amounts → Type 0
-AddUpToFew n D = degree n D ≤ℤ pos 32000000
+abbrev pub AddUpToFewForTrials : ℕ → Amounts → Type 0
+AddUpToFewForTrials n D = degree n D ≤ℤ pos 32000000
 
 abbrev pub WinsWithout : Multigraph → Amounts → List ℕ → Type 0
 WinsWithout g D E = IsWinnable g (less D (amounts_of E))

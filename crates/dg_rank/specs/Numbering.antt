@@ -3,7 +3,7 @@
 --   one_place_more c k    == with one place more: the sum of c 0, c 1, .. up to c k
 --   trial_count n k       == how many trials of degree k there are on n places
 --   raised E              == the trial E with one dollar more at its first place
---   with_place c nth k i  == the trial number i of degree k on one place more, if c and nth
+--   with_trial_place c nth k i == the trial number i of degree k on one place more, if c and nth
 --                            number those without it
 --   nth_trial n k i       == the trial number i of degree k on n places
 use Rattle.std.specs.Prelude.{if◌then◌else◌, ℕ, zero, suc, ◌+◌, ◌-◌, nat_lt, List, [], ◌∷◌}
@@ -21,12 +21,12 @@ unfoldable pub raised : List ℕ → List ℕ
 raised [] = []
 raised (a ∷ E) = suc a ∷ E
 
-unfoldable pub with_place : (ℕ → ℕ) → (ℕ → ℕ → List ℕ) → ℕ → ℕ → List ℕ
-with_place c nth zero i = 0 ∷ nth zero i
-with_place c nth (suc k) i =
+unfoldable pub with_trial_place : (ℕ → ℕ) → (ℕ → ℕ → List ℕ) → ℕ → ℕ → List ℕ
+with_trial_place c nth zero i = 0 ∷ nth zero i
+with_trial_place c nth (suc k) i =
     if nat_lt i (c (suc k)) then (0 ∷ nth (suc k) i) else
-    (raised (with_place c nth k (i - c (suc k))))
+    (raised (with_trial_place c nth k (i - c (suc k))))
 
 unfoldable pub nth_trial : ℕ → ℕ → ℕ → List ℕ
 nth_trial zero k i = []
-nth_trial (suc n) k i = with_place (trial_count n) (nth_trial n) k i
+nth_trial (suc n) k i = with_trial_place (trial_count n) (nth_trial n) k i

@@ -6,7 +6,7 @@
 use Rattle.std.specs.Prelude.{◌≡◌, ℕ, ◌*◌, ◌/◌, ◌≤◌}
 use Rattle.dg_chips.specs.Vector.{at}
 use Rattle.dg_rank.specs.Limits.{IsWithinLimits}
-use Rattle.dg_rank.specs.Losses.{AreSmall, IsPartial}
+use Rattle.dg_rank.specs.Losses.{AreSmallForTrials, IsPartial}
 use Rattle.dg_rank.specs.declared.pieces.Search.{Search}
 use Rattle.dg_rank.specs.declared.search_state.SearchState.{SearchState}
 
@@ -15,7 +15,7 @@ piece_start s j = j * s.count / s.workers
 
 pub record CanSearch (s : Search) : Type 0 where
   pub size : s.chips.size ≡ s.graph.size
-  pub range : AreSmall s.graph.size (at s.chips)
+  pub range : AreSmallForTrials s.graph.size (at s.chips)
   pub limits : (c : ℕ) × IsWithinLimits s.graph.size s.k c × (s.count ≤ c)
 
 abbrev pub Tells : Search → ℕ → ℕ → SearchState → Type 0

@@ -27,7 +27,7 @@ use Rattle.dg_chips.specs.Vector.{IsInRange}
 use Rattle.dg_theory.specs.Firing.{Amounts, degree}
 use Rattle.dg_theory.specs.Multigraph.{Multigraph, genus}
 use Rattle.dg_theory.specs.Rank.{less, canonical, HasRankAtLeast, IsRank}
-use Rattle.dg_rank.specs.Limits.{IsWithinLimits, IsPastLimits}
+use Rattle.dg_rank.specs.Limits.{IsWithinLimits, ArePastTrialLimits}
 use Rattle.dg_rank.specs.declared.rank_fault.RankFault.{RankFault}
 use Rattle.dg_rank.specs.declared.rank_fault.RankFault.TheVariants.{TooMany, Workers, OutOfMemory, Spawn}
 use Rattle.dg_rank.specs.declared.workers.TheConstants.{MAX_WORKERS}
@@ -51,7 +51,7 @@ AreRanksInLimits g D r =
 
 pub record NeedsTooMany (g : Multigraph) (D : Amounts) : Type 0 where
   pub degree : ℕ
-  pub past : IsPastLimits g.size degree
+  pub past : ArePastTrialLimits g.size degree
   pub passed : (k : ℕ) → k < degree → HasRankAtLeast g D k
 
 abbrev pub EitherNeedsTooMany : Multigraph → Amounts → Type 0
@@ -64,8 +64,8 @@ pub record RefusesBothRanks (g : Multigraph) (D : Amounts) : Type 0 where
 pub record BothArePast (g : Multigraph) (D : Amounts) (k : ℕ) : Type 0 where
   pub other : ℕ
   pub dual : pos k -ℤ pos other ≡ (degree g.size D +ℤ pos 1) -ℤ genus g
-  pub past : IsPastLimits g.size k
-  pub dual_past : IsPastLimits g.size other
+  pub past : ArePastTrialLimits g.size k
+  pub dual_past : ArePastTrialLimits g.size other
 
 pub record IsUntold (g : Multigraph) (D : Amounts) (k : ℕ) : Type 0 where
   pub unsettled : IsUnsettled g D k
@@ -93,7 +93,7 @@ abbrev pub MayHaveWorkers : ℕ → Type 0
 MayHaveWorkers w = (1 ≤ w) × (w ≤ MAX_WORKERS)
 
 abbrev pub IsRankFault : ℕ → ℕ → ℕ → RankFault → Type 0
-IsRankFault n k w TooMany = IsPastLimits n k
+IsRankFault n k w TooMany = ArePastTrialLimits n k
 IsRankFault n k w Workers = IsWithin n k × (¬ MayHaveWorkers w)
 IsRankFault n k w OutOfMemory = ⊥
 IsRankFault n k w Spawn = IsWithin n k × MayHaveWorkers w

@@ -1,7 +1,7 @@
 //! How many trials of a degree there are, and which one has a number.
 ghost use Rattle.std.specs.Prelude.{◌≡◌, ℕ, ◌+◌, ◌<◌, ◌≤◌, MatchOption, min};
 ghost use Rattle.dg_rank.specs.Divisors.{IsTrialNumber};
-ghost use Rattle.dg_rank.specs.Limits.{IsWithinLimits, IsPastLimits};
+ghost use Rattle.dg_rank.specs.Limits.{IsWithinLimits, ArePastTrialLimits};
 ghost use Rattle.dg_rank.specs.Numbering.{trial_count};
 
 use crate::enumeration::Trial;
@@ -17,7 +17,7 @@ pub const MAX_TRIALS: u32 = 200_000;
 /// How many trials of degree k there are on n vertices: effective divisors of that degree. `None` if n is not 1 to
 /// 16, if k is above 1,000, or if there are more than 200,000.
 pub fn trials(n: usize, k: u32) -> Option<u32>
-    ensures { MatchOption result (IsPastLimits n k) (IsWithinLimits n k) }
+    ensures { MatchOption result (ArePastTrialLimits n k) (IsWithinLimits n k) }
 {
     if n < 1 || n > MAX_VERTICES || k > MAX_DEGREE {
         return None;

@@ -9,7 +9,7 @@ ghost use Rattle.dg_reduce.specs.declared.limits.TheConstants.{MAX_START};
 ghost use Rattle.dg_graph.specs.Graph.{IsGraph};
 ghost use Rattle.dg_chips.specs.Vector.{at};
 ghost use Rattle.dg_rank.specs.Limits.{IsWithinLimits};
-ghost use Rattle.dg_rank.specs.Losses.{AreSmall, AllWin, IsFirstLossIn, IsPartial};
+ghost use Rattle.dg_rank.specs.Losses.{AreSmallForTrials, AllWin, IsFirstLossIn, IsPartial};
 ghost use Rattle.dg_rank.specs.Ranks.{IsUnsettled, TellsRankTest};
 ghost use Rattle.dg_rank.specs.declared.rank_fault.RankFault.TheVariants.{TooMany};
 
@@ -95,7 +95,7 @@ pub(crate) fn search_cheaply(
     requires unsettled { IsUnsettled graph.now (at divisor.now) k }
     requires chips { chips.now.size ≡ graph.now.size }
     requires fired { AreEquivalent graph.now (at divisor.now) (at chips.now) }
-    requires range { AreSmall graph.now.size (at chips.now) }
+    requires range { AreSmallForTrials graph.now.size (at chips.now) }
     requires limits { IsWithinLimits graph.now.size k count }
     requires most { most ≤ count }
     ensures { IsPartial graph.now (at chips.now) k 0 count result }
@@ -120,7 +120,7 @@ fn search_more(
     count: u32,
 ) -> SearchState
     requires size { chips.now.size ≡ graph.now.size }
-    requires range { AreSmall graph.now.size (at chips.now) }
+    requires range { AreSmallForTrials graph.now.size (at chips.now) }
     requires limits { IsWithinLimits graph.now.size k count }
     requires from { from ≤ count }
     requires before { AllWin graph.now (at chips.now) k 0 from }
@@ -168,7 +168,7 @@ fn search_dual(
     requires unsettled { IsUnsettled graph.now (at divisor.now) k }
     requires chips { chips.now.size ≡ graph.now.size }
     requires fired { AreEquivalent graph.now (at divisor.now) (at chips.now) }
-    requires range { AreSmall graph.now.size (at chips.now) }
+    requires range { AreSmallForTrials graph.now.size (at chips.now) }
     requires limits { (c : ℕ) × IsWithinLimits graph.now.size k c × (most ≤ c) × (from ≤ c) }
     requires before { AllWin graph.now (at chips.now) k 0 from }
     ensures { (c : ℕ) → IsWithinLimits graph.now.size k c →
@@ -204,7 +204,7 @@ pub(crate) fn loss_after(
     told: SearchState,
 ) -> Option<Trial>
     requires size { chips.now.size ≡ graph.now.size }
-    requires range { AreSmall graph.now.size (at chips.now) }
+    requires range { AreSmallForTrials graph.now.size (at chips.now) }
     requires limits { IsWithinLimits graph.now.size k count }
     requires told { IsPartial graph.now (at chips.now) k 0 count told }
     ensures { MatchOption result

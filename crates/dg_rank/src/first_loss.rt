@@ -11,8 +11,8 @@ ghost use Rattle.dg_rank.specs.Divisors.{amounts_of};
 ghost use Rattle.dg_rank.specs.Limits.{IsWithinLimits};
 ghost use Rattle.dg_rank.specs.Trials.{IsTrial};
 ghost use Rattle.dg_rank.specs.Numbering.{nth_trial};
-ghost use Rattle.dg_rank.specs.Moves.{after_move};
-ghost use Rattle.dg_rank.specs.Losses.{AreSmall, AddUpToFew, WinsWithout, AllWin, IsFirstLossIn, IsLeft};
+ghost use Rattle.dg_rank.specs.Moves.{after_trial_move};
+ghost use Rattle.dg_rank.specs.Losses.{AreSmallForTrials, AddUpToFewForTrials, WinsWithout, AllWin, IsFirstLossIn, IsLeft};
 
 use crate::counting::count;
 use crate::enumeration::{Moved, Trial};
@@ -32,7 +32,7 @@ pub fn first_loss(
     to: u32,
 ) -> Option<Trial>
     requires size { chips.now.size ≡ graph.now.size }
-    requires range { AreSmall graph.now.size (at chips.now) }
+    requires range { AreSmallForTrials graph.now.size (at chips.now) }
     requires limits { (c : ℕ) × IsWithinLimits graph.now.size k c × (to ≤ c) }
     ensures { MatchOption result
         (AllWin graph.now (at chips.now) k from to)
@@ -65,7 +65,7 @@ pub(crate) fn left_without(
 ) -> Option<EffectiveDivisor>
     requires graph { IsGraph graph.now }
     requires size { chips.now.size ≡ graph.now.size }
-    requires range { AreSmall graph.now.size (at chips.now) }
+    requires range { AreSmallForTrials graph.now.size (at chips.now) }
     requires trial { (k : ℕ) × (c : ℕ) × IsWithinLimits graph.now.size k c ×
         IsTrial graph.now.size k trial.now }
     ensures { MatchOption result
@@ -88,13 +88,13 @@ pub(crate) fn left_without(
 fn lose_elsewhere(graph: &Graph, left: &mut EffectiveDivisor, moved: &Moved) -> bool
     requires size { left.old.size ≡ graph.now.size }
     requires effective { IsEffective graph.now.size (at left.old) }
-    requires degree { AddUpToFew graph.now.size (at left.old) }
+    requires degree { AddUpToFewForTrials graph.now.size (at left.old) }
     requires past { 0 < moved.now.place }
     requires place { moved.now.place < graph.now.size }
     requires few { moved.now.others < 1000 }
     ensures { MatchBool result
-        (IsEffectiveDivisor graph.now (after_move graph.now.size moved.now (at left.old)) left.new)
-        (¬ IsWinnable graph.now (after_move graph.now.size moved.now (at left.old))) }
+        (IsEffectiveDivisor graph.now (after_trial_move graph.now.size moved.now (at left.old)) left.new)
+        (¬ IsWinnable graph.now (after_trial_move graph.now.size moved.now (at left.old))) }
 {
     let last = graph.size() - 1;
     let before = moved.place - 1;
@@ -114,7 +114,7 @@ fn leap(trial: &mut Trial, left: &mut EffectiveDivisor) -> u32
     requires trial { (k : ℕ) × (c : ℕ) × (i : ℕ) × IsWithinLimits left.old.size k c × (i < c) ×
         (trial.old ≡ nth_trial left.old.size k i) }
     requires effective { IsEffective left.old.size (at left.old) }
-    requires degree { AddUpToFew left.old.size (at left.old) }
+    requires degree { AddUpToFewForTrials left.old.size (at left.old) }
     ensures { (g : Multigraph) (D : Amounts) (k c i : ℕ) → IsWithinLimits g.size k c → i < c →
         IsLeft g D k i trial.old left.old →
         (i + result < c) × AllWin g D k i (i + result + 1)

@@ -4,8 +4,8 @@ ghost use Rattle.std.specs.Prelude.{◌≡◌, ℕ, ◌-◌, ◌<◌, ◌≤◌,
 ghost use Rattle.dg_theory.specs.Firing.{IsEffective};
 ghost use Rattle.dg_chips.specs.Vector.{at};
 ghost use Rattle.dg_rank.specs.Limits.{IsWithinLimits};
-ghost use Rattle.dg_rank.specs.Losses.{AreSmall, AddUpToFew, IsPartial};
-ghost use Rattle.dg_rank.specs.LateLosses.{restored, WinFrom, TellsFrom, IsPassed};
+ghost use Rattle.dg_rank.specs.Losses.{AreSmallForTrials, AddUpToFewForTrials, IsPartial};
+ghost use Rattle.dg_rank.specs.LateLosses.{restored_trial, WinFrom, TellsFrom, IsPassed};
 
 use crate::enumeration::Trial;
 use crate::first_loss::left_without;
@@ -35,7 +35,7 @@ pub(crate) fn search_by_places(
     count: u32,
 ) -> SearchState
     requires size { chips.now.size ≡ graph.now.size }
-    requires range { AreSmall graph.now.size (at chips.now) }
+    requires range { AreSmallForTrials graph.now.size (at chips.now) }
     requires limits { IsWithinLimits graph.now.size k count }
     ensures { IsPartial graph.now (at chips.now) k 0 count result }
 {
@@ -73,7 +73,7 @@ fn first_from(
     requires place { place < graph.now.size }
     requires few { dollars ≤ 1000 }
     requires effective { IsEffective graph.now.size (at left.now) }
-    requires small { AddUpToFew graph.now.size (at left.now) }
+    requires small { AddUpToFewForTrials graph.now.size (at left.now) }
     requires memory { All (IsPassed graph.now) memory.old.slots }
     ensures told { TellsFrom graph.now left.now dollars place result }
     ensures memory { All (IsPassed graph.now) memory.new.slots }
@@ -122,7 +122,7 @@ fn won_from(
     ensures after { place ≤ result }
     ensures within { result < graph.now.size }
     ensures some { place < result → 1 ≤ dollars }
-    ensures won { WinFrom graph.now (restored graph.now.size left.now dollars) dollars result }
+    ensures won { WinFrom graph.now (restored_trial graph.now.size left.now dollars) dollars result }
     ensures memory { All (IsPassed graph.now) memory.new.slots }
 {
     let rich = rich_from(left, dollars, place, graph.size() - 1);

@@ -1,7 +1,7 @@
 //! What is remembered of a walk through trials: from which place on none loses, for some of the amounts that were left.
 ghost use Rattle.std.specs.Prelude.{◌≡◌, ℕ, ◌<◌, All, IfSome};
 ghost use Rattle.dg_theory.specs.Multigraph.{Multigraph};
-ghost use Rattle.dg_rank.specs.LateLosses.{restored, WinFrom, IsPassed};
+ghost use Rattle.dg_rank.specs.LateLosses.{restored_trial, WinFrom, IsPassed};
 
 use dg_reduce::EffectiveDivisor;
 
@@ -54,7 +54,7 @@ impl Memory {
     /// A place from which on none loses that takes so many dollars from what is left, if as many or more are remembered.
     pub(crate) fn recall(&mut self, left: &EffectiveDivisor, dollars: u32) -> Option<usize>
         ensures place { (g : Multigraph) → All (IsPassed g) self.old.slots →
-            IfSome result (λ p. WinFrom g (restored g.size left.now dollars) dollars p) }
+            IfSome result (λ p. WinFrom g (restored_trial g.size left.now dollars) dollars p) }
         ensures slots { self.new.slots ≡ self.old.slots }
     {
         let passed = &self.slots[slot_of(left)];

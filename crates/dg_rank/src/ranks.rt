@@ -5,7 +5,7 @@ ghost use Rattle.dg_theory.specs.Firing.{Amounts, AreEquivalent};
 ghost use Rattle.dg_chips.specs.Vector.{at};
 ghost use Rattle.dg_rank.specs.Limits.{IsWithinLimits};
 ghost use Rattle.dg_rank.specs.Trials.{IsTrial};
-ghost use Rattle.dg_rank.specs.Losses.{AreSmall, AllWin, IsFirstLossIn};
+ghost use Rattle.dg_rank.specs.Losses.{AreSmallForTrials, AllWin, IsFirstLossIn};
 ghost use Rattle.dg_verdict.specs.RankTests.{IsRankTest};
 ghost use Rattle.dg_rank.specs.Ladders.{AnswersRankTest};
 ghost use Rattle.dg_rank.specs.Ranks.{IsWithin, IsUnsettled};
@@ -102,7 +102,7 @@ pub(crate) fn small_amounts(
     requires unsettled { IsUnsettled graph.now (at divisor.now) k }
     ensures size { result.size ≡ graph.now.size }
     ensures fired { AreEquivalent graph.now (at divisor.now) (at result) }
-    ensures small { AreSmall graph.now.size (at result) }
+    ensures small { AreSmallForTrials graph.now.size (at result) }
 {
     let _size = graph.size();
     // The clause of `size` says that the amounts are within their limit.

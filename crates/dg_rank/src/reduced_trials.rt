@@ -6,7 +6,7 @@ ghost use Rattle.dg_theory.specs.Play.{IsWinnable};
 ghost use Rattle.dg_theory.specs.Rank.{less, HasRankAtLeast};
 ghost use Rattle.dg_chips.specs.Vector.{at};
 ghost use Rattle.dg_reduce.specs.Effective.{IsEffectiveDivisor};
-ghost use Rattle.dg_rank.specs.Losses.{AreSmall, AddUpToFew, ReducedWin};
+ghost use Rattle.dg_rank.specs.Losses.{AreSmallForTrials, AddUpToFewForTrials, ReducedWin};
 ghost use Rattle.dg_rank.specs.Ranks.{IsWithin};
 
 use crate::enumeration::Trial;
@@ -66,7 +66,7 @@ pub(crate) fn search_reduced(
     visits: u32,
 ) -> Option<bool>
     requires size { chips.now.size ≡ graph.now.size }
-    requires range { AreSmall graph.now.size (at chips.now) }
+    requires range { AreSmallForTrials graph.now.size (at chips.now) }
     requires limits { IsWithin graph.now.size k }
     ensures { MatchOption result ⊤ (λ b. MatchBool b
         (HasRankAtLeast graph.now (at chips.now) k)
@@ -99,7 +99,7 @@ fn reduced_win(
     requires lost { IsEffective graph.now.size (at lost.now) }
     requires few { degree graph.now.size (at lost.now) ≤ℤ pos 1000 }
     requires left { IsEffective graph.now.size (at left.old) }
-    requires small { AddUpToFew graph.now.size (at left.old) }
+    requires small { AddUpToFewForTrials graph.now.size (at left.old) }
     ensures told { (D : Amounts) (k : ℕ) → degree graph.now.size (at lost.now) ≡ pos k →
         IsEffectiveDivisor graph.now (less D (at lost.now)) left.old →
         MatchOption result ⊤ (λ b. MatchBool b
@@ -156,7 +156,7 @@ pub(crate) fn move_chip(graph: &Graph, left: &mut EffectiveDivisor, from: usize,
     requires from { from < graph.now.size }
     requires to { to < graph.now.size }
     requires left { IsEffective graph.now.size (at left.old) }
-    requires small { AddUpToFew graph.now.size (at left.old) }
+    requires small { AddUpToFewForTrials graph.now.size (at left.old) }
     ensures { MatchBool result
         (IsEffectiveDivisor graph.now (λ v. (at left.old v +ℤ only_at from (pos 1) v) -ℤ only_at to (pos 1) v)
         left.new)

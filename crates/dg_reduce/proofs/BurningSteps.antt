@@ -5,8 +5,8 @@
 --   burning_down-falls        and the weight falls
 --   burning_down-chips, burning_down-script   amounts and script are within the limits of a firing
 use Rattle.dg_reduce.proofs.Common.{◌≡◌, ℕ, ◌+◌, ◌*◌, ◌^◌, ◌<◌, ◌≤◌, Bool, true, false, arith, sym, ◌∙◌, refl, ints, ℤ, pos, ◌+ℤ◌, ◌-ℤ◌, unsigned_abs, Multigraph, fired, indicator, multiple, IsDistance, within_abs, abs_within, multiple-off, weights, levels_are_potential, weight_of, weight_of-cong, weight_falls_by_firings, IsLed, clear_all, led_start, led_step, led-cong, led_limit, script_between, IsGraph, at, Walk, IsTied, IsFired, IsCleared, IsMost}
-use Rattle.dg_reduce.specs.States.{limit_at}
-use Rattle.dg_reduce.proofs.LevelLimits.{limit_at-small}
+use Rattle.dg_reduce.specs.States.{level_limit_at}
+use Rattle.dg_reduce.proofs.LevelLimits.{level_limit_at-small}
 
 pub record IsBurningDown (g : Multigraph) (q : ℕ) (x y : Walk) : Type 0 where
   pub tied : IsTied g y
@@ -57,17 +57,17 @@ burning_down-falls g q level S m x y z v graph distance state without most insid
     omega arith
 
 chips_limit : (g : Multigraph) (q : ℕ) (level : ℕ → ℕ) (x y : Walk) → IsGraph g → q < g.size → IsCleared g level 1 x →
-    IsBurningDown g q x y → (v : ℕ) → v < g.size → unsigned_abs (at y.chips v) ≤ 17 * limit_at 0
+    IsBurningDown g q x y → (v : ℕ) → v < g.size → unsigned_abs (at y.chips v) ≤ 17 * level_limit_at 0
 chips_limit g q level x y graph vertex cleared state v inside =
-    led_limit g q (at x.chips) (at y.chips) (limit_at 0) v vertex graph.few cleared.chips state.led inside
+    led_limit g q (at x.chips) (at y.chips) (level_limit_at 0) v vertex graph.few cleared.chips state.led inside
 
 pub burning_down-chips : (g : Multigraph) (q : ℕ) (level : ℕ → ℕ) (x y : Walk) → IsGraph g → q < g.size →
     IsCleared g level 1 x →
     IsBurningDown g q x y → (v : ℕ) → v < g.size → unsigned_abs (at y.chips v) ≤ 2 ^ 120
 burning_down-chips g q level x y graph vertex cleared state v inside =
-    let most : unsigned_abs (at y.chips v) ≤ 17 * limit_at 0 =
+    let most : unsigned_abs (at y.chips v) ≤ 17 * level_limit_at 0 =
     chips_limit g q level x y graph vertex cleared state v inside in
-    let small : limit_at 0 < 2 ^ 111 = limit_at-small 0 in
+    let small : level_limit_at 0 < 2 ^ 111 = level_limit_at-small 0 in
     omega arith
 
 near_both : (a b : ℤ) (m n : ℕ) → unsigned_abs (a -ℤ b) ≤ m → unsigned_abs b ≤ n → unsigned_abs a ≤ m + n
@@ -83,13 +83,13 @@ pub burning_down-script : (g : Multigraph) (q : ℕ) (level : ℕ → ℕ) (x y 
 burning_down-script g q level x y graph vertex cleared state range v inside =
     let range' : (w : ℕ) → w < g.size → unsigned_abs (at y.start w) ≤ 2000000 =
     λ w below. rw (state.begun) (range w below) in
-    let apart : unsigned_abs (at y.script v -ℤ at y.script q) ≤ 225 * (2000000 + 17 * limit_at 0) =
-    script_between g q (at y.start) (at y.script) 2000000 (17 * limit_at 0) v graph.multigraph vertex graph.few
+    let apart : unsigned_abs (at y.script v -ℤ at y.script q) ≤ 225 * (2000000 + 17 * level_limit_at 0) =
+    script_between g q (at y.start) (at y.script) 2000000 (17 * level_limit_at 0) v graph.multigraph vertex graph.few
     (λ w below _. range' w below)
     (λ w below _. rw (← state.tied.led w below) (chips_limit g q level x y graph vertex cleared state w below)) inside
     in
-    let at_q : unsigned_abs (at y.script q) ≤ limit_at 0 = rw (state.kept) (cleared.script q vertex) in
-    let most : unsigned_abs (at y.script v) ≤ 225 * (2000000 + 17 * limit_at 0) + limit_at 0 =
-    near_both (at y.script v) (at y.script q) (225 * (2000000 + 17 * limit_at 0)) (limit_at 0) apart at_q in
-    let small : limit_at 0 < 2 ^ 111 = limit_at-small 0 in
+    let at_q : unsigned_abs (at y.script q) ≤ level_limit_at 0 = rw (state.kept) (cleared.script q vertex) in
+    let most : unsigned_abs (at y.script v) ≤ 225 * (2000000 + 17 * level_limit_at 0) + level_limit_at 0 =
+    near_both (at y.script v) (at y.script q) (225 * (2000000 + 17 * level_limit_at 0)) (level_limit_at 0) apart at_q in
+    let small : level_limit_at 0 < 2 ^ 111 = level_limit_at-small 0 in
     omega arith

@@ -2,10 +2,10 @@
 --   held-may       who may burn is the same, where q burns
 --   whole_order    so its order is that of the amounts
 --   whole_reduced  and the amounts are reduced
-use Rattle.dg_reduce.proofs.Common.{◌≡◌, ◌≢◌, ℕ, suc, ◌<◌, Bool, true, false, List, [], ◌∷◌, take, arith, ap, sym, ◌∙◌, ◌↔◌, slice_get, Some, both_ways, ints, Multigraph, Amounts, among, MayBurn, BurnsNext, BurnsInOrder, IsReduced, among_first, q_burns, dollars, Burning, IsBurningOrder, IsWhole, IsHeldOff}
+use Rattle.dg_reduce.proofs.Common.{◌≡◌, ◌≢◌, ℕ, suc, ◌<◌, Bool, true, false, List, [], ◌∷◌, take, arith, ap, sym, ◌∙◌, ◌↔◌, slice_get, Some, both_ways, ints, Multigraph, Amounts, among, MayBurn, BurnsNext, BurnsInOrder, IsReduced, among_first, q_burns, dollars, Burning, IsBurningOrder, IsWhole, IsGuessedOff}
 
 pub held-may : (g : Multigraph) (q : ℕ) (D : Amounts) (held : List ℕ) (B : ℕ → Bool) (v : ℕ) →
-    IsHeldOff g.size q D held → B q ≡ true → MayBurn g (dollars held) B v ↔ MayBurn g D B v
+    IsGuessedOff g.size q D held → B q ≡ true → MayBurn g (dollars held) B v ↔ MayBurn g D B v
 held-may g q D held B v same burns = (
   λ may. record {
     vertex = may.vertex;
@@ -27,7 +27,7 @@ among-begun : (l : List ℕ) (q i : ℕ) → slice_get l 0 ≡ Some q → among 
 among-begun [] q i first = let clash : ⊥ = cc in absurd clash
 among-begun (x ∷ l) q i first = among_first (x ∷ take i l) q first
 
-pub whole_order : (g : Multigraph) (q : ℕ) (D : Amounts) (x : Burning) → IsHeldOff g.size q D x.held →
+pub whole_order : (g : Multigraph) (q : ℕ) (D : Amounts) (x : Burning) → IsGuessedOff g.size q D x.held →
     IsWhole g q x → IsBurningOrder g q D x.order
 whole_order g q D x same whole = record {
   burns = record {
@@ -54,7 +54,7 @@ whole_order g q D x same whole = record {
     order : BurnsInOrder g q (dollars x.held) l
     order = whole.order.burns
 
-pub whole_reduced : (g : Multigraph) (q : ℕ) (D : Amounts) (x : Burning) → IsHeldOff g.size q D x.held →
+pub whole_reduced : (g : Multigraph) (q : ℕ) (D : Amounts) (x : Burning) → IsGuessedOff g.size q D x.held →
     IsWhole g q x → IsReduced g q D
 whole_reduced g q D x same whole = record {
   no_debt = λ v below other. omega (arith, ints, same v below other);

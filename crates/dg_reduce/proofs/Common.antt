@@ -1,19 +1,19 @@
 -- The names that the proofs of this crate cite, passed on from one place. Declares nothing.
 pub use Rattle.dg_burn.proofs.Capped.{same-order}
 pub use Rattle.dg_burn.proofs.Told.{none_reduced, reduced_none, rest_is_free, unburnt_member}
-pub use Rattle.dg_burn.specs.Fires.{IsHeld, dollars}
+pub use Rattle.dg_burn.specs.Fires.{IsHeldForBurning, dollars}
 pub use Rattle.dg_chips.proofs.FlowLaws.{times_held}
 pub use Rattle.dg_chips.specs.Vector.{IsWide, Vector, at}
 pub use Rattle.dg_graph.proofs.SetLaws.{in_set-none}
 pub use Rattle.dg_graph.proofs.Valences.{valence-few, valence-outside}
 pub use Rattle.dg_graph.specs.Graph.{IsGraph}
 pub use Rattle.dg_graph.specs.Sets.{in_set}
-pub use Rattle.dg_reduce.specs.Burnings.{IsHeldOff, IsWhole}
+pub use Rattle.dg_reduce.specs.Burnings.{IsGuessedOff, IsWhole}
 pub use Rattle.dg_reduce.specs.Certificates.{IsBurningOrder}
 pub use Rattle.dg_reduce.specs.Effective.{IsEffectiveDivisor}
-pub use Rattle.dg_reduce.specs.Firings.{IsMost, Lacks, LastsAt, SendsNothing, largest}
-pub use Rattle.dg_reduce.specs.Reaching.{HasNearer, IsReached, spread}
-pub use Rattle.dg_reduce.specs.Reductions.{IsOnly, IsReduction}
+pub use Rattle.dg_reduce.specs.Firings.{IsMost, LacksForFirings, LastsAt, SetSendsNothing, largest}
+pub use Rattle.dg_reduce.specs.Reaching.{HasNearer, IsReached, spread_level}
+pub use Rattle.dg_reduce.specs.Reductions.{IsOnlyReduction, IsReduction}
 pub use Rattle.dg_reduce.specs.States.{IsCleared, IsClearedOff, IsFired, IsLargestDebt, IsTied}
 pub use Rattle.dg_reduce.specs.declared.certificate.Burning.{Burning}
 pub use Rattle.dg_reduce.specs.declared.reduced.Reduced.{Reduced}

@@ -8,21 +8,21 @@
 --   cleared_free     if nobody of the next level is in debt, it is cleared
 --   cleared_paid     and it is cleared once the nearer vertices have lent as often as its largest debt
 use Rattle.dg_reduce.proofs.Common.{if◌then◌else◌, ◌≡◌, ℕ, ◌+◌, ◌-◌, ◌*◌, ◌^◌, ◌<◌, ◌≤◌, Bool, arith, ap, sym, ◌∙◌, inl, inr, ⊎_elim, cases_eq, ints, ℤ, pos, negsuc, ◌+ℤ◌, ◌*ℤ◌, ◌≤ℤ◌, ◌<ℤ◌, unsigned_abs, Multigraph, Amounts, indicator, multiple, IsDistance, within_abs, abs_within, abs-add, fired-cong, multiple-within, nearer, fired_nearer, level_limit, level_paid, clear_step, clear_stays, IsGraph, at, Walk, IsFired, IsCleared, IsLargestDebt}
-use Rattle.dg_reduce.specs.States.{limit_at}
-use Rattle.dg_reduce.proofs.LevelLimits.{limit_at-next, limit_at-small}
+use Rattle.dg_reduce.specs.States.{level_limit_at}
+use Rattle.dg_reduce.proofs.LevelLimits.{level_limit_at-next, level_limit_at-small}
 
 pub chips_small : (g : Multigraph) (level : ℕ → ℕ) (j : ℕ) (x : Walk) → IsCleared g level j x →
     (v : ℕ) → v < g.size → unsigned_abs (at x.chips v) ≤ 2 ^ 120
 chips_small g level j x cleared v inside =
-    let most : unsigned_abs (at x.chips v) ≤ limit_at (j - 1) = cleared.chips v inside in
-    let small : limit_at (j - 1) < 2 ^ 111 = limit_at-small (j - 1) in
+    let most : unsigned_abs (at x.chips v) ≤ level_limit_at (j - 1) = cleared.chips v inside in
+    let small : level_limit_at (j - 1) < 2 ^ 111 = level_limit_at-small (j - 1) in
     omega arith
 
 pub script_small : (g : Multigraph) (level : ℕ → ℕ) (j : ℕ) (x : Walk) → IsCleared g level j x →
     (v : ℕ) → v < g.size → unsigned_abs (at x.script v) ≤ 2 ^ 126
 script_small g level j x cleared v inside =
-    let most : unsigned_abs (at x.script v) ≤ limit_at (j - 1) = cleared.script v inside in
-    let small : limit_at (j - 1) < 2 ^ 111 = limit_at-small (j - 1) in
+    let most : unsigned_abs (at x.script v) ≤ level_limit_at (j - 1) = cleared.script v inside in
+    let small : level_limit_at (j - 1) < 2 ^ 111 = level_limit_at-small (j - 1) in
     omega arith
 
 pub debt_more : (n : ℕ) (level : ℕ → ℕ) (j : ℕ) (D : Amounts) (m t : ℤ) → IsLargestDebt n level j D m → level n ≡ j →
@@ -71,16 +71,16 @@ debt_small g level j x m cleared debt =
 pub cleared_free : (g : Multigraph) (level : ℕ → ℕ) (j : ℕ) (x : Walk) → 0 < j → j ≤ 15 → IsCleared g level (j + 1) x →
     IsLargestDebt g.size level j (at x.chips) (pos 0) → IsCleared g level j x
 cleared_free g level j x some few cleared debt =
-    let place : limit_at ((j + 1) - 1) ≡ limit_at j = ap limit_at (omega arith) in
-    let next : limit_at (j - 1) ≡ 64 * limit_at j = limit_at-next j some few in
+    let place : level_limit_at ((j + 1) - 1) ≡ level_limit_at j = ap level_limit_at (omega arith) in
+    let next : level_limit_at (j - 1) ≡ 64 * level_limit_at j = level_limit_at-next j some few in
     record {
       tied = cleared.tied;
       clear = clear_step g level j (at x.chips) cleared.clear (λ v inside on.
           let enough : pos 0 ≤ℤ (at x.chips v +ℤ pos 0) = debt.enough v inside on in omega (arith, ints));
       chips = λ v inside.
-          let small : unsigned_abs (at x.chips v) ≤ limit_at ((j + 1) - 1) = cleared.chips v inside in omega arith;
+          let small : unsigned_abs (at x.chips v) ≤ level_limit_at ((j + 1) - 1) = cleared.chips v inside in omega arith;
       script = λ v inside.
-          let small : unsigned_abs (at x.script v) ≤ limit_at ((j + 1) - 1) = cleared.script v inside in omega arith;
+          let small : unsigned_abs (at x.script v) ≤ level_limit_at ((j + 1) - 1) = cleared.script v inside in omega arith;
     }
 
 nearer_fired : (g : Multigraph) (level : ℕ → ℕ) (j k : ℕ) (S : ℕ → Bool) (x y : Walk) → IsFired g S (pos k) x y →
@@ -98,13 +98,13 @@ pub cleared_paid : (g : Multigraph) (q : ℕ) (level : ℕ → ℕ) (j : ℕ) (S
 cleared_paid g q level j S (negsuc k) x y graph distance some few cleared debt fires same =
     absurd (omega (arith, ints, debt.some))
 cleared_paid g q level j S (pos k) x y graph distance some few cleared debt fires same =
-    let place : limit_at ((j + 1) - 1) ≡ limit_at j = ap limit_at (omega arith) in
-    let next : limit_at (j - 1) ≡ 64 * limit_at j = limit_at-next j some few in
+    let place : level_limit_at ((j + 1) - 1) ≡ level_limit_at j = ap level_limit_at (omega arith) in
+    let next : level_limit_at (j - 1) ≡ 64 * level_limit_at j = level_limit_at-next j some few in
     let now : (v : ℕ) → v < g.size → at y.chips v ≡ fired_nearer g level j k (at x.chips) v =
     nearer_fired g level j k S x y fires same in
-    let before : (v : ℕ) → v < g.size → unsigned_abs (at x.chips v) ≤ limit_at j = λ v inside.
-    let small : unsigned_abs (at x.chips v) ≤ limit_at ((j + 1) - 1) = cleared.chips v inside in omega arith in
-    let often : k ≤ limit_at j = debt_within g.size level j (at x.chips) (pos k) (limit_at j) debt before in
+    let before : (v : ℕ) → v < g.size → unsigned_abs (at x.chips v) ≤ level_limit_at j = λ v inside.
+    let small : unsigned_abs (at x.chips v) ≤ level_limit_at ((j + 1) - 1) = cleared.chips v inside in omega arith in
+    let often : k ≤ level_limit_at j = debt_within g.size level j (at x.chips) (pos k) (level_limit_at j) debt before in
     record {
       tied = fires.tied;
       clear = clear_step g level j (at y.chips)
@@ -114,13 +114,13 @@ cleared_paid g q level j S (pos k) x y graph distance some few cleared debt fire
           (level_paid g q level j k (at x.chips) v distance inside (graph.valences v inside) some on
           (debt.enough v inside on)));
       chips = λ v inside.
-          let most : unsigned_abs (fired_nearer g level j k (at x.chips) v) ≤ 64 * limit_at j =
-          level_limit g level j k (limit_at j) (at x.chips) v (graph.valences v inside) often (before v inside) in
+          let most : unsigned_abs (fired_nearer g level j k (at x.chips) v) ≤ 64 * level_limit_at j =
+          level_limit g level j k (level_limit_at j) (at x.chips) v (graph.valences v inside) often (before v inside) in
           rw (now v inside, next) most;
       script = λ v inside.
-          let small : unsigned_abs (at x.script v) ≤ limit_at ((j + 1) - 1) = cleared.script v inside in
-          let sum : unsigned_abs (at y.script v) ≤ limit_at j + limit_at j = rw (fires.script v inside)
-          (abs-add (at x.script v) (multiple (pos k) (indicator S) v) (limit_at j) (limit_at j) (omega arith)
-          (multiple-within (pos k) S v (limit_at j) often)) in
+          let small : unsigned_abs (at x.script v) ≤ level_limit_at ((j + 1) - 1) = cleared.script v inside in
+          let sum : unsigned_abs (at y.script v) ≤ level_limit_at j + level_limit_at j = rw (fires.script v inside)
+          (abs-add (at x.script v) (multiple (pos k) (indicator S) v) (level_limit_at j) (level_limit_at j) (omega arith)
+          (multiple-within (pos k) S v (level_limit_at j) often)) in
           omega arith;
     }

@@ -11,47 +11,48 @@
 --   reached-next      once all vertices of a level are passed, it is the turn of the next
 --   reached-gradual   when no level is left, the levels are gradual
 --   levels-first      so the list at the start is right
-use Rattle.dg_reduce.proofs.Common.{◌≡◌, ◌≢◌, ℕ, ◌+◌, ◌<◌, ◌≤◌, set, replicate, slice_index, arith, ap, sym, subst, ◌∙◌, ⊎_elim, cases_eq, cases_lt, nat_tests, get_or-set_same, get_or-set_other, get_or-replicate, length-replicate, Multigraph, IsMultigraph, edges_between, IsGradual, HasNearer, IsReached, spread}
+use Rattle.dg_reduce.proofs.Common.{◌≡◌, ◌≢◌, ℕ, ◌+◌, ◌<◌, ◌≤◌, set, replicate, slice_index, arith, ap, sym, subst, ◌∙◌, ⊎_elim, cases_eq, cases_lt, nat_tests, get_or-set_same, get_or-set_other, get_or-replicate, length-replicate, Multigraph, IsMultigraph, edges_between, IsGradual, HasNearer, IsReached, spread_level}
 
-spread-new : (g : Multigraph) (v k : ℕ) (level : ℕ → ℕ) (w : ℕ) → level w ≡ g.size → 0 < edges_between g v w →
-    spread g v k level w ≡ k
-spread-new g v k level w far edge = grind (arith, nat_tests)
+spread_level-new : (g : Multigraph) (v k : ℕ) (level : ℕ → ℕ) (w : ℕ) → level w ≡ g.size → 0 < edges_between g v w →
+    spread_level g v k level w ≡ k
+spread_level-new g v k level w far edge = grind (arith, nat_tests)
 
-spread-reached : (g : Multigraph) (v k : ℕ) (level : ℕ → ℕ) (w : ℕ) → level w < g.size → spread g v k level w ≡ level w
-spread-reached g v k level w near = grind (arith, nat_tests)
+spread_level-reached : (g : Multigraph) (v k : ℕ) (level : ℕ → ℕ) (w : ℕ) → level w < g.size →
+    spread_level g v k level w ≡ level w
+spread_level-reached g v k level w near = grind (arith, nat_tests)
 
-spread-apart : (g : Multigraph) (v k : ℕ) (level : ℕ → ℕ) (w : ℕ) → edges_between g v w ≡ 0 →
-    spread g v k level w ≡ level w
-spread-apart g v k level w none = grind (arith, nat_tests)
+spread_level-apart : (g : Multigraph) (v k : ℕ) (level : ℕ → ℕ) (w : ℕ) → edges_between g v w ≡ 0 →
+    spread_level g v k level w ≡ level w
+spread_level-apart g v k level w none = grind (arith, nat_tests)
 
 abbrev AreSpread : Multigraph → ℕ → ℕ → (ℕ → ℕ) → (ℕ → ℕ) → Type 0
-AreSpread g v k level after = (w : ℕ) → w < g.size → after w ≡ spread g v k level w
+AreSpread g v k level after = (w : ℕ) → w < g.size → after w ≡ spread_level g v k level w
 
 by_spread : {P : Type 0} (g : Multigraph) (v k : ℕ) (level after : ℕ → ℕ) (w : ℕ) → AreSpread g v k level after →
     w < g.size →
     level w ≤ g.size → (level w < g.size → after w ≡ level w → P) →
     (level w ≡ g.size → 0 < edges_between g v w → after w ≡ k → P) → (level w ≡ g.size → after w ≡ g.size → P) → P
 by_spread g v k level after w spreads inside most near new apart =
-    let is : after w ≡ spread g v k level w = spreads w inside in
+    let is : after w ≡ spread_level g v k level w = spreads w inside in
     ⊎_elim
-    (λ (low : level w < g.size). near low (is ∙ spread-reached g v k level w low))
+    (λ (low : level w < g.size). near low (is ∙ spread_level-reached g v k level w low))
     (λ (high : g.size ≤ level w).
     let far : level w ≡ g.size = omega arith in
     ⊎_elim
-    (λ (edge : 0 < edges_between g v w). new far edge (is ∙ spread-new g v k level w far edge))
-    (λ (none : edges_between g v w ≤ 0). apart far (is ∙ spread-apart g v k level w (omega arith) ∙ far))
+    (λ (edge : 0 < edges_between g v w). new far edge (is ∙ spread_level-new g v k level w far edge))
+    (λ (none : edges_between g v w ≤ 0). apart far (is ∙ spread_level-apart g v k level w (omega arith) ∙ far))
     (cases_lt 0 (edges_between g v w)))
     (cases_lt (level w) g.size)
 
-spread-lower : (g : Multigraph) (v k : ℕ) (level after : ℕ → ℕ) (w : ℕ) → AreSpread g v k level after → w < g.size →
+spread_level-lower : (g : Multigraph) (v k : ℕ) (level after : ℕ → ℕ) (w : ℕ) → AreSpread g v k level after → w < g.size →
     level w ≤ g.size → k ≤ g.size → after w ≤ level w
-spread-lower g v k level after w spreads inside most few =
+spread_level-lower g v k level after w spreads inside most few =
     by_spread g v k level after w spreads inside most (λ _ same. omega arith) (λ far _ new. omega arith)
     (λ far same. omega arith)
 
-spread-kept : (g : Multigraph) (v k : ℕ) (level after : ℕ → ℕ) (w : ℕ) → AreSpread g v k level after → w < g.size →
+spread_level-kept : (g : Multigraph) (v k : ℕ) (level after : ℕ → ℕ) (w : ℕ) → AreSpread g v k level after → w < g.size →
     level w ≤ g.size → k < g.size → after w < k → level w ≡ after w
-spread-kept g v k level after w spreads inside most few low =
+spread_level-kept g v k level after w spreads inside most few low =
     by_spread g v k level after w spreads inside most (λ _ same. sym same) (λ far _ new. absurd (omega arith))
     (λ far same. absurd (omega arith))
 
@@ -80,11 +81,11 @@ reached_nearer g q k v level after graph vertex few state at spreads w inside ot
     (λ low same.
     let (x, below, edge, less) = state.nearer w inside other low in
     let lower : after x ≤ level x =
-    spread-lower g v (k + 1) level after x spreads below (state.most x below) (omega arith) in
+    spread_level-lower g v (k + 1) level after x spreads below (state.most x below) (omega arith) in
     (x, below, edge, omega arith))
     (λ far edge new.
     let lower : after v ≤ level v =
-    spread-lower g v (k + 1) level after v spreads vertex (state.most v vertex) (omega arith) in
+    spread_level-lower g v (k + 1) level after v spreads vertex (state.most v vertex) (omega arith) in
     let back : 0 < edges_between g w v = omega (arith, graph.symmetric w v) in
     (v, vertex, back, omega arith))
     (λ far same. absurd (omega arith))
@@ -98,16 +99,16 @@ reached_by g q k v level after graph few state spreads a inside edge =
     (λ far _ new. omega arith)
     (λ far same.
     let out : 0 < edges_between g v a = omega (arith, graph.symmetric a v) in
-    omega (arith, spreads a inside, spread-new g v (k + 1) level a far out))
+    omega (arith, spreads a inside, spread_level-new g v (k + 1) level a far out))
 
 pub reached-passed : (g : Multigraph) (q k v : ℕ) (level after : ℕ → ℕ) → IsMultigraph g → q < g.size → v < g.size →
     k + 1 < g.size → IsReached g q k v level → level v ≡ k → AreSpread g v (k + 1) level after →
     IsReached g q k (v + 1) after
 reached-passed g q k v level after graph start vertex few state at spreads =
     let lower : (w : ℕ) → w < g.size → after w ≤ level w =
-    λ w inside. spread-lower g v (k + 1) level after w spreads inside (state.most w inside) (omega arith) in
+    λ w inside. spread_level-lower g v (k + 1) level after w spreads inside (state.most w inside) (omega arith) in
     let kept : (w : ℕ) → w < g.size → after w < k + 1 → level w ≡ after w =
-    λ w inside low. spread-kept g v (k + 1) level after w spreads inside (state.most w inside) few low in
+    λ w inside low. spread_level-kept g v (k + 1) level after w spreads inside (state.most w inside) few low in
     record {
       start = omega (arith, lower q start, state.start);
       most = λ w inside. omega (arith, lower w inside, state.most w inside);

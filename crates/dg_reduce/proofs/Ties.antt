@@ -3,8 +3,8 @@
 --   tied-more      after another script, the sum of both leads to the new amounts
 --   cleared-start  at the start no level beyond the farthest is in debt
 use Rattle.dg_reduce.proofs.Common.{◌≡◌, ℕ, ◌-◌, ◌<◌, ◌≤◌, arith, ap, sym, ◌∙◌, ℤ, pos, ◌+ℤ◌, unsigned_abs, Multigraph, Amounts, gain, fired, IsDistance, fired-fired, fired-constant, fired-cong, IsGraph, at, Walk, IsTied, IsCleared}
-use Rattle.dg_reduce.specs.States.{limit_at}
-use Rattle.dg_reduce.proofs.LevelLimits.{limit_at-least}
+use Rattle.dg_reduce.specs.States.{level_limit_at}
+use Rattle.dg_reduce.proofs.LevelLimits.{level_limit_at-least}
 
 pub tied-start : (g : Multigraph) (D s : Amounts) → ((v : ℕ) → s v ≡ pos 0) → (v : ℕ) → v < g.size → D v ≡ fired g D s v
 tied-start g D s none v inside =
@@ -24,7 +24,7 @@ pub cleared-start : (g : Multigraph) (q : ℕ) (level : ℕ → ℕ) (x : Walk) 
     ((v : ℕ) → v < g.size → unsigned_abs (at x.chips v) ≤ 2000000) → ((v : ℕ) → at x.script v ≡ pos 0) →
     IsCleared g level g.size x
 cleared-start g q level x graph distance tied range none =
-    let start : 2000000 ≤ limit_at (g.size - 1) = limit_at-least (g.size - 1) in
+    let start : 2000000 ≤ level_limit_at (g.size - 1) = level_limit_at-least (g.size - 1) in
     record {
       tied = tied;
       clear = λ v inside far. absurd (omega (arith, distance.few v inside));

@@ -1,6 +1,6 @@
 -- A burning that is kept for amounts which may be those that burnt.
 --   IsWhole g q x     == all vertices burn from q, in the order of x, if they hold what x tells
---   IsHeldOff n q D l == each of n vertices but q has as many dollars in D as l tells
+--   IsGuessedOff n q D l == each of n vertices but q has as many dollars in D as l tells
 use Rattle.std.specs.Prelude.{◌≡◌, ◌≢◌, ℕ, ◌<◌, List}
 use Rattle.dg_burn.specs.Fires.{dollars}
 use Rattle.dg_theory.specs.Firing.{Amounts}
@@ -13,5 +13,5 @@ pub record IsWhole (g : Multigraph) (q : ℕ) (x : Burning) : Type 0 where
   pub reduced : IsReduced g q (dollars x.held)
   pub order : IsBurningOrder g q (dollars x.held) x.order
 
-abbrev pub IsHeldOff : ℕ → ℕ → Amounts → List ℕ → Type 0
-IsHeldOff n q D l = (v : ℕ) → v < n → v ≢ q → D v ≡ dollars l v
+abbrev pub IsGuessedOff : ℕ → ℕ → Amounts → List ℕ → Type 0
+IsGuessedOff n q D l = (v : ℕ) → v < n → v ≢ q → D v ≡ dollars l v

@@ -4,8 +4,8 @@
 --   IsNextFiring g q D S m == S has a member and fires freely, and m, which is within 2^120, is how
 --                             often it can fire at once
 --   largest                == the largest number of 128 bits
---   Lacks g D S v m        == v is in S and has no dollars for m firings of S
---   SendsNothing g S v     == v sends no dollar out of S
+--   LacksForFirings g D S v m == v is in S and has no dollars for m firings of S
+--   SetSendsNothing g S v  == v sends no dollar out of S
 --   LastsAt g D S v m      == v has dollars for m firings of S, and lacks some for one more; if it
 --                             sends nothing, m may be the largest number
 use Rattle.std.specs.Prelude.{◌≡◌, ℕ, ◌^◌, ◌<◌, ◌≤◌, Bool, true, ℤ, pos, ◌+ℤ◌, ◌*ℤ◌, ◌≤ℤ◌, ◌<ℤ◌, ◌⊎◌}
@@ -30,14 +30,14 @@ pub record IsNextFiring (g : Multigraph) (q : ℕ) (D : Amounts) (S : ℕ → Bo
 abbrev pub largest : ℤ
 largest = pos 170141183460469231731687303715884105727
 
-abbrev pub Lacks : Multigraph → Amounts → (ℕ → Bool) → ℕ → ℤ → Type 0
-Lacks g D S v m = (S v ≡ true) × (D v <ℤ (pos (edges_out g S v) *ℤ m))
+abbrev pub LacksForFirings : Multigraph → Amounts → (ℕ → Bool) → ℕ → ℤ → Type 0
+LacksForFirings g D S v m = (S v ≡ true) × (D v <ℤ (pos (edges_out g S v) *ℤ m))
 
-abbrev pub SendsNothing : Multigraph → (ℕ → Bool) → ℕ → Type 0
-SendsNothing g S v = S v ≡ true → edges_out g S v ≡ 0
+abbrev pub SetSendsNothing : Multigraph → (ℕ → Bool) → ℕ → Type 0
+SetSendsNothing g S v = S v ≡ true → edges_out g S v ≡ 0
 
 pub record LastsAt (g : Multigraph) (D : Amounts) (S : ℕ → Bool) (v : ℕ) (m : ℤ) : Type 0 where
   pub some : pos 1 ≤ℤ m
   pub few : m ≤ℤ largest
   pub enough : S v ≡ true → (pos (edges_out g S v) *ℤ m) ≤ℤ D v
-  pub last : Lacks g D S v (m +ℤ pos 1) ⊎ ((m ≡ largest) × SendsNothing g S v)
+  pub last : LacksForFirings g D S v (m +ℤ pos 1) ⊎ ((m ≡ largest) × SetSendsNothing g S v)

@@ -3,7 +3,7 @@
 --   HasNearer g level v     == an edge joins v to a vertex of a lower level
 --   IsReached g q k u level == the vertices nearer than k, and those of level k before vertex u,
 --                              are passed: their neighbours are reached
---   spread g v k level      == the levels after the neighbours of v that are not reached get level
+--   spread_level g v k level == the levels after the neighbours of v that are not reached get level
 --                              k
 use Rattle.std.specs.Prelude.{if◌then◌else◌, ◌≡◌, ◌≢◌, ℕ, ◌+◌, ◌<◌, ◌≤◌, ◌&&◌, nat_eq, nat_lt}
 use Rattle.dg_theory.specs.Multigraph.{Multigraph, edges_between}
@@ -21,6 +21,6 @@ pub record IsReached (g : Multigraph) (q k u : ℕ) (level : ℕ → ℕ) : Type
   pub passed : (v w : ℕ) → v < g.size → w < g.size → 0 < edges_between g v w → level w ≡ k → w < u →
       level v ≤ k + 1
 
-abbrev pub spread : Multigraph → ℕ → ℕ → (ℕ → ℕ) → ℕ → ℕ
-spread g v k level w =
+abbrev pub spread_level : Multigraph → ℕ → ℕ → (ℕ → ℕ) → ℕ → ℕ
+spread_level g v k level w =
     if nat_eq (level w) g.size && nat_lt 0 (edges_between g v w) then k else level w

@@ -2,7 +2,7 @@
 --   IsTied g x                  == the script of the walk x leads from its amounts at the start to
 --                                  those now
 --   IsFired g S k x y           == the walk y is x after k lendings of each vertex of the set S
---   limit_at j                  == 2000000 * 64 ^ (15 - j), which bounds all amounts before the
+--   level_limit_at j            == 2000000 * 64 ^ (15 - j), which bounds all amounts before the
 --                                  debts of level j are cleared
 --   IsCleared g level j x       == in the walk x nobody of level j or farther is in debt, and its
 --                                  amounts and script are within the limit of level j - 1, which is
@@ -31,14 +31,14 @@ pub record IsFired (g : Multigraph) (S : ℕ → Bool) (k : ℤ) (x y : Walk) : 
       at y.chips v ≡ fired g (at x.chips) (multiple k (indicator S)) v
   pub script : (v : ℕ) → v < g.size → at y.script v ≡ at x.script v +ℤ multiple k (indicator S) v
 
-unfoldable pub limit_at : ℕ → ℕ
-limit_at j = 2000000 * 64 ^ (15 - j)
+unfoldable pub level_limit_at : ℕ → ℕ
+level_limit_at j = 2000000 * 64 ^ (15 - j)
 
 pub record IsCleared (g : Multigraph) (level : ℕ → ℕ) (j : ℕ) (x : Walk) : Type 0 where
   pub tied : IsTied g x
   pub clear : (v : ℕ) → v < g.size → j ≤ level v → pos 0 ≤ℤ at x.chips v
-  pub chips : (v : ℕ) → v < g.size → unsigned_abs (at x.chips v) ≤ limit_at (j - 1)
-  pub script : (v : ℕ) → v < g.size → unsigned_abs (at x.script v) ≤ limit_at (j - 1)
+  pub chips : (v : ℕ) → v < g.size → unsigned_abs (at x.chips v) ≤ level_limit_at (j - 1)
+  pub script : (v : ℕ) → v < g.size → unsigned_abs (at x.script v) ≤ level_limit_at (j - 1)
 
 pub record IsLargestDebt (n : ℕ) (level : ℕ → ℕ) (j : ℕ) (D : Amounts) (m : ℤ) : Type 0 where
   pub some : pos 0 ≤ℤ m
@@ -48,5 +48,5 @@ pub record IsLargestDebt (n : ℕ) (level : ℕ → ℕ) (j : ℕ) (D : Amounts)
 pub record IsClearedOff (g : Multigraph) (q : ℕ) (x : Walk) : Type 0 where
   pub tied : IsTied g x
   pub no_debt : HasNoDebtOff g q (at x.chips)
-  pub chips : (v : ℕ) → v < g.size → unsigned_abs (at x.chips v) ≤ limit_at 0
-  pub script : (v : ℕ) → v < g.size → unsigned_abs (at x.script v) ≤ limit_at 0
+  pub chips : (v : ℕ) → v < g.size → unsigned_abs (at x.chips v) ≤ level_limit_at 0
+  pub script : (v : ℕ) → v < g.size → unsigned_abs (at x.script v) ≤ level_limit_at 0

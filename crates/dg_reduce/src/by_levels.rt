@@ -31,7 +31,7 @@ pub fn reduce_after(graph: &Graph, q: usize, chips: &Wide, script: &Script) -> R
 {
     let _size = graph.size();
     let left = chips.fired_by(graph, script).with_amount(q, 0);
-    if !is_within_start(&left) {
+    if !is_within_reduction_limit(&left) {
         return reduce_by_levels(graph, q, chips);
     }
     let sum = script.plus(&reduce_by_levels(graph, q, &left).script);
@@ -42,7 +42,7 @@ pub fn reduce_after(graph: &Graph, q: usize, chips: &Wide, script: &Script) -> R
 }
 
 /// Whether a reduction may start from these amounts: all are within 2,000,000.
-pub fn is_within_start(chips: &Wide) -> bool
+pub fn is_within_reduction_limit(chips: &Wide) -> bool
     ensures small { OnTrue result
         ((v : ℕ) → v < chips.now.size → unsigned_abs (at chips.now v) ≤ MAX_START) }
     ensures large { OnFalse result

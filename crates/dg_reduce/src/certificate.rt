@@ -6,7 +6,7 @@ ghost use Rattle.dg_theory.specs.Firing.{HasNoDebtOff};
 ghost use Rattle.dg_theory.specs.Reduced.{IsReduced};
 ghost use Rattle.dg_chips.specs.Vector.{at};
 ghost use Rattle.dg_reduce.specs.Certificates.{IsBurningOrder};
-ghost use Rattle.dg_reduce.specs.Burnings.{IsWhole, IsHeldOff};
+ghost use Rattle.dg_reduce.specs.Burnings.{IsWhole, IsGuessedOff};
 
 use dg_burn::burn;
 use dg_chips::Wide;
@@ -33,7 +33,7 @@ pub fn order_by(graph: &Graph, q: usize, chips: &Wide, known: &Option<Burning>) 
 {
     let _size = graph.size();
     if let Some(burning) = known {
-        if is_held_off(q, chips, &burning.held) {
+        if certifies_amounts(q, chips, &burning.held) {
             return Some(burning.order);
         }
     }
@@ -41,8 +41,8 @@ pub fn order_by(graph: &Graph, q: usize, chips: &Wide, known: &Option<Burning>) 
 }
 
 /// Whether each vertex but q has as many dollars as it is held to have.
-fn is_held_off(q: usize, chips: &Wide, held: &[u8; 16]) -> bool
-    ensures { OnTrue result (IsHeldOff chips.now.size q (at chips.now) held.now) }
+fn certifies_amounts(q: usize, chips: &Wide, held: &[u8; 16]) -> bool
+    ensures { OnTrue result (IsGuessedOff chips.now.size q (at chips.now) held.now) }
 {
     for v in 0..chips.size() {
         if v != q && chips.get(v) != i128::from(held[v]) {

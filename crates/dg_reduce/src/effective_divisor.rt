@@ -10,7 +10,7 @@ ghost use Rattle.dg_theory.specs.Reduced.{edges_out, IsReduced};
 ghost use Rattle.dg_graph.specs.declared.limits.TheConstants.{MAX_VERTICES};
 ghost use Rattle.dg_graph.specs.Sets.{in_set};
 ghost use Rattle.dg_chips.specs.Vector.{at};
-ghost use Rattle.dg_burn.specs.Fires.{IsHeld};
+ghost use Rattle.dg_burn.specs.Fires.{IsHeldForBurning};
 ghost use Rattle.dg_reduce.specs.Effective.{IsEffectiveDivisor};
 ghost use Rattle.dg_reduce.specs.Rests.{IsRest};
 
@@ -189,7 +189,7 @@ impl EffectiveDivisor {
     /// The amounts as far as burning looks at them.
     #[inline(always)]
     fn held(&self) -> [u8; 16]
-        ensures { IsHeld self.now.size (at self.now) result }
+        ensures { IsHeldForBurning self.now.size (at self.now) result }
     {
         let _size = self.size;
         seen_by_burning(&self.amounts)
@@ -218,7 +218,7 @@ impl EffectiveDivisor {
 
 /// The amounts as far as burning looks at them: 0 for a debt, and 64 for more than 64.
 pub(crate) fn seen_by_burning(amounts: &[i32; 16]) -> [u8; 16]
-    ensures { IsHeld MAX_VERTICES (λ v. slice_index_or amounts.now v (pos 0)) result }
+    ensures { IsHeldForBurning MAX_VERTICES (λ v. slice_index_or amounts.now v (pos 0)) result }
 {
     let mut held = [0; 16];
     for v in 0..16 {

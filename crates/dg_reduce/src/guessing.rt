@@ -129,12 +129,7 @@ fn amounts_off(q: usize, chips: &Wide) -> [i32; 16]
 }
 
 /// The amounts after all have lent so often.
-fn after_lendings(
-    size: usize,
-    lending: &Lending,
-    amounts: &[i32; 16],
-    script: &[i32; 16],
-) -> i32x16
+fn after_lendings(size: usize, lending: &Lending, amounts: &[i32; 16], script: &[i32; 16]) -> i32x16
     requires { size ≤ MAX_VERTICES }
 {
     let mut chips = i32x16::from_array(*amounts);

@@ -6,7 +6,7 @@ ghost use Rattle.std.specs.Int.RustNames.{unsigned_abs};
 ghost use Rattle.dg_theory.specs.Distances.{IsDistance};
 ghost use Rattle.dg_graph.specs.Sets.{in_set};
 ghost use Rattle.dg_chips.specs.Vector.{at};
-ghost use Rattle.dg_reduce.specs.Reaching.{IsReached, spread};
+ghost use Rattle.dg_reduce.specs.Reaching.{IsReached, spread_level};
 ghost use Rattle.dg_reduce.specs.States.{IsLargestDebt};
 
 use dg_chips::Wide;
@@ -46,7 +46,7 @@ fn with_next_level(graph: &Graph, levels: &[usize; 16], level: usize) -> [usize;
 fn with_neighbours(graph: &Graph, v: usize, levels: &[usize; 16], level: usize) -> [usize; 16]
     requires { v < graph.now.size }
     ensures { (w : ℕ) → w < graph.now.size →
-        slice_index result w ≡ spread graph.now v level (slice_index levels.now) w }
+        slice_index result w ≡ spread_level graph.now v level (slice_index levels.now) w }
 {
     let size = graph.size();
     let mut reached = *levels;

@@ -18,7 +18,7 @@ mod reduced;
 mod reducing;
 mod walk;
 
-pub use by_levels::{is_within_start, reduce_after, reduce_by_levels};
+pub use by_levels::{is_within_reduction_limit, reduce_after, reduce_by_levels};
 pub use certificate::{Burning, is_solvent_off, order_by, order_if_reduced};
 pub use effective_divisor::EffectiveDivisor;
 pub use guessing::{Guessed, guess, guess_once};

@@ -8,7 +8,7 @@ pub use Rattle.dg_game.proofs.StepLaw.{vertices_stay}
 pub use Rattle.dg_game.specs.Legal.{IsLegal, IsSeat}
 pub use Rattle.dg_game.specs.Look.{IsLookAt}
 pub use Rattle.dg_game.specs.Requests.{asked}
-pub use Rattle.dg_game.specs.State.{LeadsTo, State}
+pub use Rattle.dg_game.specs.State.{LeadsTo, GameState}
 pub use Rattle.dg_game.specs.declared.entry.Entry.{Entry}
 pub use Rattle.dg_game.specs.declared.entry.Plain.{Plain}
 pub use Rattle.dg_game.specs.declared.game.TheConstants.{MAX_ENTRIES}
@@ -16,9 +16,9 @@ pub use Rattle.dg_game.specs.declared.look.LookData.{LookData}
 pub use Rattle.dg_game.specs.declared.step.Command.{Command}
 pub use Rattle.dg_game.specs.declared.step.Command.TheVariants.{Call, Commit, Rank}
 pub use Rattle.dg_game.specs.declared.step.Step.{Step}
-pub use Rattle.dg_rank.specs.Limits.{IsPastLimits}
+pub use Rattle.dg_rank.specs.Limits.{ArePastTrialLimits}
 pub use Rattle.dg_rehearsal.specs.Rehearsal.{IsPlaying, KeepsLook}
-pub use Rattle.dg_rehearsal.specs.Schedule.{AreGoodBefore, HasLook, HasTrials, IsAsked, IsEntryOf, IsGood, IsKept, UsesLook, UsesUp}
+pub use Rattle.dg_rehearsal.specs.Schedule.{AreGoodBefore, HasLook, ScheduleHasTrials, IsAsked, IsEntryOf, IsGood, IsKept, StepUsesKeptLook, UsesUp}
 pub use Rattle.dg_rehearsal.specs.ScheduleFaults.{IsFirstFault}
 pub use Rattle.dg_rehearsal.specs.declared.schedule.Rehearsal.{Rehearsal}
 pub use Rattle.dg_rehearsal.specs.declared.schedule.RehearseFault.TheVariants.{TooMany}

@@ -6,12 +6,12 @@
 --   keeps_more     the look that a seat keeps stays, unless the step is the seat's and uses looks
 --   keeps_new      after a look by the seat it keeps that one
 --   keeps_none     after a step of the seat that uses its look up it keeps none
-use Rattle.dg_rehearsal.proofs.Common.{◌≡◌, ℕ, ◌+◌, List, [], ◌∷◌, ◌++◌, length, length-append, slice_get, Option, Some, None, arith, refl, sym, ap, subst, ◌∙◌, inl, inr, cases_lt, StartData, IsLookAt, KeepsLook, UsesUp, UsesLook, IsKept, Entry, LookData, Command, Call, Commit, Rank, Step, look_kept}
+use Rattle.dg_rehearsal.proofs.Common.{◌≡◌, ℕ, ◌+◌, List, [], ◌∷◌, ◌++◌, length, length-append, slice_get, Option, Some, None, arith, refl, sym, ap, subst, ◌∙◌, inl, inr, cases_lt, StartData, IsLookAt, KeepsLook, UsesUp, StepUsesKeptLook, IsKept, Entry, LookData, Command, Call, Commit, Rank, Step, look_kept}
 use Rattle.dg_game.specs.declared.entry.Plain.TheVariants as plain
 
 -- the step is another seat's, or uses no look
 abbrev pub LeavesLook : ℕ → Step → Type 0
-LeavesLook seat step = step.seat ≡ seat → ¬ UsesLook step.command
+LeavesLook seat step = step.seat ≡ seat → ¬ StepUsesKeptLook step.command
 
 one_step : (steps : List Step) (n : ℕ) (s t : Step) → slice_get steps n ≡ Some s → slice_get steps n ≡ Some t → s ≡ t
 one_step steps n s t first second = let same : Some s ≡ Some t = sym first ∙ second in (cc)
@@ -66,7 +66,7 @@ no_call (Call p) up = absurd up
 no_call Commit up = refl
 no_call (Rank k) up = refl
 
-uses_look : (c : Command) → UsesUp c → UsesLook c
+uses_look : (c : Command) → UsesUp c → StepUsesKeptLook c
 uses_look (Call p) up = absurd up
 uses_look Commit up = tt
 uses_look (Rank k) up = tt

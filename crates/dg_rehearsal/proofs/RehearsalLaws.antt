@@ -12,7 +12,7 @@
 --   aimed          the schedule goes on with any inverse
 --   past_limits    a rank test past the limits is the first fault, where the seat keeps a look
 --   told_err       a refusal that is handed on tells what it told before
-use Rattle.dg_rehearsal.proofs.Common.{◌≡◌, ℕ, ◌+◌, ◌<◌, List, [], ◌∷◌, ◌++◌, length, length-append, slice_get, Option, Some, None, Result, Ok, Err, set, arith, refl, sym, ap, ◌∙◌, inl, inr, length-set, replicate, slice_index_or, MatchResult, IsErrAnd, cases_lt, cases_eq, get_or-set_same, get_or-set_other, get_or-replicate, length-replicate, StartData, IsPastLimits, IsSeat, IsLegal, KeepsLook, IsPlaying, asked, UsesUp, UsesLook, IsKept, IsAsked, IsEntryOf, HasLook, HasTrials, IsGood, AreGoodBefore, IsFirstFault, LeadsTo, Entry, Plain, MAX_ENTRIES, LookData, Rehearsal, TooMany, Command, Call, Commit, Rank, Step, more_holds, legal_none, look_new}
+use Rattle.dg_rehearsal.proofs.Common.{◌≡◌, ℕ, ◌+◌, ◌<◌, List, [], ◌∷◌, ◌++◌, length, length-append, slice_get, Option, Some, None, Result, Ok, Err, set, arith, refl, sym, ap, ◌∙◌, inl, inr, length-set, replicate, slice_index_or, MatchResult, IsErrAnd, cases_lt, cases_eq, get_or-set_same, get_or-set_other, get_or-replicate, length-replicate, StartData, ArePastTrialLimits, IsSeat, IsLegal, KeepsLook, IsPlaying, asked, UsesUp, StepUsesKeptLook, IsKept, IsAsked, IsEntryOf, HasLook, ScheduleHasTrials, IsGood, AreGoodBefore, IsFirstFault, LeadsTo, Entry, Plain, MAX_ENTRIES, LookData, Rehearsal, TooMany, Command, Call, Commit, Rank, Step, more_holds, legal_none, look_new}
 use Rattle.dg_game.specs.declared.entry.Plain.TheVariants as plain
 use Rattle.dg_rehearsal.proofs.KeptLaws.{keeps_more, keeps_new, keeps_none}
 
@@ -66,7 +66,7 @@ playing_more o H steps r t step e playing there good asks legal leads q places l
 
 pub looks_same : (o : StartData) (H : List Entry) (e : Entry) (steps : List Step) (step : Step)
     (looks : List (Option LookData)) →
-    slice_get steps (length H) ≡ Some step → (¬ UsesLook step.command) → AreLooks o H steps looks →
+    slice_get steps (length H) ≡ Some step → (¬ StepUsesKeptLook step.command) → AreLooks o H steps looks →
     AreLooks o (H ++ e ∷ []) steps looks
 looks_same o H e steps step looks there leaves kept seat is =
     keeps_more o H e steps seat step (slice_index_or looks seat None) there (λ its. leaves) (kept seat is)
@@ -85,7 +85,7 @@ looks_set o H e steps step looks x there places its keeps kept seat is = elim (c
 ]
 
 -- a call that is no look uses none
-no_look : (p : Plain) → (p ≡ plain.Look → ⊥) → ¬ UsesLook (Call p)
+no_look : (p : Plain) → (p ≡ plain.Look → ⊥) → ¬ StepUsesKeptLook (Call p)
 no_look plain.Look other uses = other refl
 no_look p other uses = uses
 
@@ -124,7 +124,7 @@ has_look steps seat j i (Rank k) kept = (i, kept)
 
 pub entered : (o : StartData) (H : List Entry) (e : Entry) (steps : List Step) (r t : Rehearsal) (seat : ℕ) (c : Command)
     (x : LookData) → IsPlaying o steps H r → slice_get steps (length H) ≡ Some (record { seat = seat; command = c }) →
-    IsSeat seat → KeepsLook o H steps seat (Some x) → UsesUp c → HasTrials o.graph.size c →
+    IsSeat seat → KeepsLook o H steps seat (Some x) → UsesUp c → ScheduleHasTrials o.graph.size c →
     e.seat ≡ seat → IsAsked steps seat (length H) c e.request →
     IsLegal o (H ++ e ∷ []) → LeadsTo o (H ++ e ∷ []) t.game →
     t.q ≡ r.q → t.looks ≡ set r.looks seat None → IsPlaying o steps (H ++ e ∷ []) t
@@ -164,7 +164,7 @@ pub past_limits : (o : StartData) (H : List Entry) (steps : List Step) (r : Rehe
     IsPlaying o steps H r →
     slice_get steps (length H) ≡ Some (record { seat = seat; command = Rank k }) → i ≡ length H → i < MAX_ENTRIES →
     IsSeat seat →
-    IsKept steps seat (length H) j → IsPastLimits o.graph.size k → IsFirstFault o.graph.size steps (TooMany i)
+    IsKept steps seat (length H) j → ArePastTrialLimits o.graph.size k → IsFirstFault o.graph.size steps (TooMany i)
 past_limits o H steps r seat k j i playing there here room is kept past = (
   room,
   rw here playing.good,

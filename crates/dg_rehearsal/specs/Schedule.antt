@@ -1,7 +1,7 @@
 -- Schedules: lists of steps, each a seat and a command.
---   IsLook call                   == the call is a look
+--   IsLookOfSchedule call         == the call is a look
 --   UsesUp command                == the command uses a look up
---   UsesLook command              == the command takes a look, or uses one up
+--   StepUsesKeptLook command      == the command takes a look, or uses one up
 --   IsKept steps seat j i         == before step j, step i is the last look that the seat has taken
 --                                    and not used up
 --   IsAsked steps seat j c r      == r is the request of the command c, if the seat gives it as
@@ -10,7 +10,7 @@
 --                                    command
 --   HasLook steps seat j c        == if the command c enters what was computed on a look, the seat
 --                                    keeps one before step j
---   HasTrials n c                 == if the command c is a rank test, it is within the limits on n
+--   ScheduleHasTrials n c         == if the command c is a rank test, it is within the limits on n
 --                                    vertices
 --   IsGood n steps j step         == step j has a seat, a look if it needs one, and no trials past
 --                                    the limits
@@ -33,25 +33,25 @@ use Rattle.dg_rank.specs.Ranks.{IsWithin}
 use Rattle.dg_game.specs.declared.entry.Plain.TheVariants as plain
 use Rattle.dg_game.specs.declared.entry.Request.TheVariants as request
 
-abbrev pub IsLook : Plain → Type 0
-IsLook plain.Look = ⊤
-IsLook call = ⊥
+abbrev pub IsLookOfSchedule : Plain → Type 0
+IsLookOfSchedule plain.Look = ⊤
+IsLookOfSchedule call = ⊥
 
 abbrev pub UsesUp : Command → Type 0
 UsesUp (Call p) = ⊥
 UsesUp Commit = ⊤
 UsesUp (Rank k) = ⊤
 
-abbrev pub UsesLook : Command → Type 0
-UsesLook (Call p) = IsLook p
-UsesLook Commit = ⊤
-UsesLook (Rank k) = ⊤
+abbrev pub StepUsesKeptLook : Command → Type 0
+StepUsesKeptLook (Call p) = IsLookOfSchedule p
+StepUsesKeptLook Commit = ⊤
+StepUsesKeptLook (Rank k) = ⊤
 
 pub record IsKept (steps : List Step) (seat j i : ℕ) : Type 0 where
   pub before : i < j
   pub look : slice_get steps i ≡ Some (record { seat = seat; command = Call plain.Look })
   pub last : (k : ℕ) (step : Step) → i < k → k < j → slice_get steps k ≡ Some step →
-      step.seat ≡ seat → ¬ UsesLook step.command
+      step.seat ≡ seat → ¬ StepUsesKeptLook step.command
 
 abbrev pub IsAsked : List Step → ℕ → ℕ → Command → Request → Type 0
 IsAsked steps seat j (Call p) r = r ≡ asked p
@@ -67,14 +67,14 @@ HasLook steps seat j (Call p) = ⊤
 HasLook steps seat j Commit = (i : ℕ) × IsKept steps seat j i
 HasLook steps seat j (Rank k) = (i : ℕ) × IsKept steps seat j i
 
-abbrev pub HasTrials : ℕ → Command → Type 0
-HasTrials n (Call p) = ⊤
-HasTrials n Commit = ⊤
-HasTrials n (Rank k) = IsWithin n k
+abbrev pub ScheduleHasTrials : ℕ → Command → Type 0
+ScheduleHasTrials n (Call p) = ⊤
+ScheduleHasTrials n Commit = ⊤
+ScheduleHasTrials n (Rank k) = IsWithin n k
 
 abbrev pub IsGood : ℕ → List Step → ℕ → Step → Type 0
 IsGood n steps j step =
-    IsSeat step.seat × HasLook steps step.seat j step.command × HasTrials n step.command
+    IsSeat step.seat × HasLook steps step.seat j step.command × ScheduleHasTrials n step.command
 
 abbrev pub AreGoodBefore : ℕ → List Step → ℕ → Type 0
 AreGoodBefore n steps j =

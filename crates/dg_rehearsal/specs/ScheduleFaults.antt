@@ -1,5 +1,5 @@
 -- When a schedule is refused, and for which step.
---   AsksTooMany n c               == the command c is a rank test past one of the limits on n
+--   ScheduleAsksTooMany n c       == the command c is a rank test past one of the limits on n
 --                                    vertices
 --   HasStep steps i P             == there is a step i, and it has the property P
 --   IsFirstFault n steps fault    == on n vertices the fault is the first one; nothing is said of
@@ -10,15 +10,15 @@ use Rattle.dg_game.specs.declared.game.TheConstants.{MAX_ENTRIES}
 use Rattle.dg_game.specs.declared.step.Command.{Command}
 use Rattle.dg_game.specs.declared.step.Command.TheVariants.{Call, Commit, Rank}
 use Rattle.dg_game.specs.declared.step.Step.{Step}
-use Rattle.dg_rank.specs.Limits.{IsPastLimits}
+use Rattle.dg_rank.specs.Limits.{ArePastTrialLimits}
 use Rattle.dg_rehearsal.specs.Schedule.{HasLook, AreGoodBefore}
 use Rattle.dg_rehearsal.specs.declared.schedule.RehearseFault.{RehearseFault}
 use Rattle.dg_rehearsal.specs.declared.schedule.RehearseFault.TheVariants.{Seat, Full, NoLook, TooMany, OutOfMemory}
 
-abbrev pub AsksTooMany : ℕ → Command → Type 0
-AsksTooMany n (Call p) = ⊥
-AsksTooMany n Commit = ⊥
-AsksTooMany n (Rank k) = IsPastLimits n k
+abbrev pub ScheduleAsksTooMany : ℕ → Command → Type 0
+ScheduleAsksTooMany n (Call p) = ⊥
+ScheduleAsksTooMany n Commit = ⊥
+ScheduleAsksTooMany n (Rank k) = ArePastTrialLimits n k
 
 abbrev pub HasStep : List Step → ℕ → (Step → Type 0) → Type 0
 HasStep steps i P = (step : Step) × (slice_get steps i ≡ Some step) × P step
@@ -32,5 +32,5 @@ IsFirstFault n steps (NoLook i) = (i < MAX_ENTRIES) × AreGoodBefore n steps i �
     HasStep steps i (λ step. IsSeat step.seat × (¬ HasLook steps step.seat i step.command))
 IsFirstFault n steps (TooMany i) = (i < MAX_ENTRIES) × AreGoodBefore n steps i ×
     HasStep steps i (λ step. IsSeat step.seat × HasLook steps step.seat i step.command ×
-    AsksTooMany n step.command)
+    ScheduleAsksTooMany n step.command)
 IsFirstFault n steps OutOfMemory = ⊤

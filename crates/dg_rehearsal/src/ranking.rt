@@ -1,6 +1,6 @@
 //! Rank tests that are computed on a look.
 ghost use Rattle.std.specs.Prelude.{◌≡◌, ℕ, ◌<◌, MatchResult};
-ghost use Rattle.dg_rank.specs.Limits.{IsPastLimits};
+ghost use Rattle.dg_rank.specs.Limits.{ArePastTrialLimits};
 ghost use Rattle.dg_rank.specs.Ranks.{IsWithin};
 ghost use Rattle.dg_rank.specs.declared.rank_fault.RankFault.TheVariants.{TooMany};
 ghost use Rattle.dg_game.specs.Look.{IsFoundFor, asked_for};
@@ -19,7 +19,7 @@ pub(crate) fn rank_look(q: usize, look: &LookData, k: u32) -> Result<Finding, Ra
     ensures { MatchResult result
         (λ f. IsWithin look.now.graph.size k × IsFoundFor q look.now f ×
         ((i : ℕ) → asked_for i f ≡ RankRequest i k))
-        (λ e. (e ≡ TooMany) × IsPastLimits look.now.graph.size k) }
+        (λ e. (e ≡ TooMany) × ArePastTrialLimits look.now.graph.size k) }
 {
     let verdict = rank_at_least(&look.graph, q, &look.position, k)?;
     Ok(Finding::Ranked(verdict))

@@ -3,7 +3,7 @@ ghost use Rattle.std.specs.Prelude.{◌≡◌, ◌≢◌, ℕ, ◌<◌, ◌≤�
 ghost use Rattle.dg_chips.specs.Starts.{StartData};
 ghost use Rattle.dg_game.specs.Legal.{IsSeat};
 ghost use Rattle.dg_game.specs.Look.{IsFoundFor, asked_for, asked_on};
-ghost use Rattle.dg_rehearsal.specs.Schedule.{UsesUp, IsKept, IsAsked, HasTrials, IsRehearsal};
+ghost use Rattle.dg_rehearsal.specs.Schedule.{UsesUp, IsKept, IsAsked, ScheduleHasTrials, IsRehearsal};
 ghost use Rattle.dg_rehearsal.specs.ScheduleFaults.{IsFirstFault};
 ghost use Rattle.dg_rehearsal.specs.Rehearsal.{KeepsLook, IsPlaying, IsInPlay, PlaysOn, StopsPlay};
 ghost use Rattle.dg_game.specs.declared.entry.Entry.{Entry};
@@ -15,7 +15,7 @@ use crate::ranking::rank_look;
 use dg_chips::Start;
 use dg_game::{
     BLANK, Command, Entry, Finding, Game, LookData, MAX_ENTRIES, MAX_SEATS, Plain, Question, Step,
-    judge_look_with_inverse, renew_inverse,
+    judge_look_with_inverse, renew_looks_inverse,
 };
 use dg_rank::{RankFault, trials};
 use dg_reduce::InverseLaplacian;
@@ -173,7 +173,7 @@ impl Rehearsal {
             return Ok(());
         }
         let q = self.q();
-        renew_inverse(&mut self.inverse, q, &look);
+        renew_looks_inverse(&mut self.inverse, q, &look);
         let finding = judge_look_with_inverse(&self.inverse, q, &look);
         self.enter_finding(seat, &look, &finding, entry);
         Ok(())
@@ -261,7 +261,7 @@ impl Rehearsal {
         ensures { (o : StartData) (H : List Entry) (steps : List Step) (c : Command) →
             IsPlaying o steps H self.old → KeepsLook o H steps seat (Some look.now) →
             slice_get steps (length H) ≡ Some (record { seat = seat; command = c }) →
-            UsesUp c → HasTrials o.graph.size c →
+            UsesUp c → ScheduleHasTrials o.graph.size c →
             IsAsked steps seat (length H) c (asked_for look.now.number finding.now) →
             IsPlaying o steps (H ++ entry.new ∷ []) self.new }
     {
@@ -280,7 +280,7 @@ impl Rehearsal {
         ensures { (o : StartData) (H : List Entry) (steps : List Step) (c : Command) →
             IsPlaying o steps H self.old → KeepsLook o H steps seat (Some look.now) →
             slice_get steps (length H) ≡ Some (record { seat = seat; command = c }) →
-            UsesUp c → HasTrials o.graph.size c →
+            UsesUp c → ScheduleHasTrials o.graph.size c →
             IsAsked steps seat (length H) c (asked_on look.now.number asks.now) →
             IsPlaying o steps (H ++ entry.new ∷ []) self.new }
     {

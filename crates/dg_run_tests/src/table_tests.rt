@@ -1,6 +1,6 @@
 //! Tables are opened, and a test is played on each.
 ghost use Rattle.std.specs.Prelude.{◌≡◌, length};
-ghost use Rattle.dg_log.specs.Tables.{table_of};
+ghost use Rattle.dg_log.specs.Tables.{table_data_of};
 
 use crate::party::gates::enter_first;
 use crate::session::streams::{Flow, Sip, serves};
@@ -46,7 +46,7 @@ fn opened<N: Name + Send + Sync, R: Threads + Wait + Abort + Sync>(
     test: TableTest<'_>,
 ) -> Result<(), Fail>
     requires row { row ≡ N.cells }
-    requires table { N.table ≡ table_of start.now count (length row) }
+    requires table { N.table ≡ table_data_of start.now count (length row) }
 {
     let (table, mut seats) = Table::<N>::open(alloc, row, start, count)
         .ok()

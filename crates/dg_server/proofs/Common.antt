@@ -3,7 +3,7 @@ pub use Rattle.dg_chips.specs.Starts.{StartData}
 pub use Rattle.dg_game.specs.declared.entry.Entry.{Entry}
 pub use Rattle.dg_game.specs.declared.entry.TheConstants.{MAX_SEATS}
 pub use Rattle.dg_invocation.specs.declared.invocation.PartyTask.{PartyTask}
-pub use Rattle.dg_log.specs.Tables.{table_of}
+pub use Rattle.dg_log.specs.Tables.{table_data_of}
 pub use Rattle.dg_party.proofs.Whole.{contents_count}
 pub use Rattle.dg_party.specs.Parties.{IsParty, IsPartyRefused}
 pub use Rattle.dg_party.specs.Sessions.{contents}

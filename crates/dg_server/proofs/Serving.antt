@@ -8,8 +8,7 @@
 --   refused_on     so is one that is refused
 --   refused_lent   so is it where the start, the names and the scripts were lent
 --   as_it_was      what nobody writes to is as it was
-use Rattle.dg_server.proofs.Common.{◌≡◌, ℕ, suc, ◌≤◌, List, [], ◌∷◌, ◌++◌, length, take, map, Option, None, Some, refl, sym, ap, subst, ◌∙◌, Bor, Vec, Global, length-map, take-append_seam, MAX_SEATS, MayHaveSeats, SeatView, Held, StartData, Entry, IsClosed, IsCloseRefused, all_there, none_missing, entered_all, full_at_close, Setup, Passage, IsHeard, IsServed, IsUnclosed, SessionEnd, contents, IsParty, IsPartyRefused, contents_count, PartyRefusal, PartyTask, DescribesTable, MayHoldAll, Keeps, names_in, IsPartyOn, IsRefusedOn, table_of}
-use Rattle.std.specs.Prelude.{Result, Option}
+use Rattle.dg_server.proofs.Common.{◌≡◌, ℕ, suc, ◌≤◌, List, [], ◌∷◌, ◌++◌, length, take, map, Option, None, Some, refl, sym, ap, subst, ◌∙◌, Bor, Vec, Global, length-map, take-append_seam, MAX_SEATS, MayHaveSeats, SeatView, Held, StartData, Entry, IsClosed, IsCloseRefused, all_there, none_missing, entered_all, full_at_close, Setup, Passage, IsHeard, IsServed, IsUnclosed, SessionEnd, contents, IsParty, IsPartyRefused, contents_count, PartyRefusal, PartyTask, DescribesTable, MayHoldAll, Keeps, names_in, IsPartyOn, IsRefusedOn, table_data_of, Result}
 
 pub seats_back : (len : ℕ) (xs ys rest : List SeatView) → length xs ≡ len
     → map (λ (x : SeatView). x.number) ys ≡ map (λ (x : SeatView). x.number) xs → take len (ys ++ rest) ≡ ys
@@ -70,7 +69,7 @@ pub party_on : (held : List ℕ → Held) (task : PartyTask) (o : StartData) (na
     (all : List (Vec ℕ Global))
     (ends : List (Result ℕ SessionEnd)) (text : List ℕ) → DescribesTable (held task.file.now) o names →
     MayHoldAll held (names_in task) (map (λ script. script.items) all)
-    → IsParty (table_of o (length all) task.capacity) names (contents all) ends text →
+    → IsParty (table_data_of o (length all) task.capacity) names (contents all) ends text →
     IsPartyOn held task ends text
 party_on held task o names all ends text table known party =
     record {
@@ -80,14 +79,14 @@ party_on held task o names all ends text table known party =
       holds = (
         contents all,
         known,
-        subst (λ n. IsParty (table_of o n task.capacity) names (contents all) ends text) (sym (contents_count all)) party,
+        subst (λ n. IsParty (table_data_of o n task.capacity) names (contents all) ends text) (sym (contents_count all)) party,
       );
     }
 
 pub refused_on : (held : List ℕ → Held) (task : PartyTask) (o : StartData) (names : List (List ℕ))
     (all : List (Vec ℕ Global)) (refusal : PartyRefusal) → DescribesTable (held task.file.now) o names →
     MayHoldAll held (names_in task) (map (λ script. script.items) all)
-    → IsPartyRefused (table_of o (length all) task.capacity) names (contents all) refusal → IsRefusedOn held task refusal
+    → IsPartyRefused (table_data_of o (length all) task.capacity) names (contents all) refusal → IsRefusedOn held task refusal
 refused_on held task o names all refusal table known refused =
     record {
       start = o;
@@ -96,7 +95,7 @@ refused_on held task o names all refusal table known refused =
       holds = (
         contents all,
         known,
-        subst (λ n. IsPartyRefused (table_of o n task.capacity) names (contents all) refusal) (sym (contents_count all))
+        subst (λ n. IsPartyRefused (table_data_of o n task.capacity) names (contents all) refusal) (sym (contents_count all))
             refused,
       );
     }
@@ -105,12 +104,12 @@ pub refused_lent : (held : List ℕ → Held) (task : PartyTask) {o o' : StartDa
     {all all' : List (Vec ℕ Global)} (refusal : PartyRefusal) → o' ≡ o → names' ≡ names → all' ≡ all
     → DescribesTable (held task.file.now) o names
     → MayHoldAll held (names_in task) (map (λ script. script.items) all)
-    → IsPartyRefused (table_of o' (length all') task.capacity) names' (contents all') refusal → IsRefusedOn held task refusal
+    → IsPartyRefused (table_data_of o' (length all') task.capacity) names' (contents all') refusal → IsRefusedOn held task refusal
 refused_lent held task {o} {o'} {names} {names'} {all} {all'} refusal opened named lent table known refused =
     refused_on held task o names all refusal table known
-    (subst (λ (x : StartData). IsPartyRefused (table_of x (length all) task.capacity) names (contents all) refusal) opened
-    (subst (λ (x : List (List ℕ)). IsPartyRefused (table_of o' (length all) task.capacity) x (contents all) refusal) named
-    (subst (λ (x : List (Vec ℕ Global)). IsPartyRefused (table_of o' (length x) task.capacity) names' (contents x) refusal)
+    (subst (λ (x : StartData). IsPartyRefused (table_data_of x (length all) task.capacity) names (contents all) refusal) opened
+    (subst (λ (x : List (List ℕ)). IsPartyRefused (table_data_of o' (length all) task.capacity) x (contents all) refusal) named
+    (subst (λ (x : List (Vec ℕ Global)). IsPartyRefused (table_data_of o' (length x) task.capacity) names' (contents x) refusal)
     lent refused)))
 
 pub as_it_was : (held : Option (List ℕ)) → Keeps held held

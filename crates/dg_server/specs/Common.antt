@@ -3,7 +3,7 @@ pub use Rattle.dg_chips.specs.Starts.{StartData}
 pub use Rattle.dg_file.specs.declared.fault.FileFault.{FileFault}
 pub use Rattle.dg_game.specs.declared.entry.Entry.{Entry}
 pub use Rattle.dg_game.specs.declared.entry.TheConstants.{MAX_SEATS}
-pub use Rattle.dg_invocation.specs.Seats.{seat_count}
+pub use Rattle.dg_invocation.specs.Seats.{seats_asked_for}
 pub use Rattle.dg_invocation.specs.declared.invocation.Invocation.{Invocation}
 pub use Rattle.dg_invocation.specs.declared.invocation.Invocation.TheVariants.{Party, Serve, Sweep, Task, Text}
 pub use Rattle.dg_invocation.specs.declared.invocation.PartyTask.{PartyTask}
@@ -11,7 +11,7 @@ pub use Rattle.dg_invocation.specs.declared.invocation.ServeTask.{ServeTask}
 pub use Rattle.dg_invocation.specs.declared.parse_args.ArgsFault.{ArgsFault}
 pub use Rattle.dg_invocation.specs.declared.question.Question.{Question}
 pub use Rattle.dg_invocation.specs.declared.question.SweepTask.{SweepTask}
-pub use Rattle.dg_log.specs.Tables.{table_of}
+pub use Rattle.dg_log.specs.Tables.{table_data_of}
 pub use Rattle.dg_party.specs.Parties.{IsParty, IsPartyRefused}
 pub use Rattle.dg_party.specs.declared.ending.PartyRefusal.{PartyRefusal}
 pub use Rattle.dg_session.specs.Ends.{IsSession}
@@ -26,7 +26,7 @@ pub use Rattle.dg_sweep.specs.Divisors.{AnswersAmounts}
 pub use Rattle.dg_sweep.specs.Sweeps.{IsSweep}
 pub use Rattle.dg_sweep.specs.declared.ends.SweepEnd.{SweepEnd}
 pub use Rattle.dg_system.specs.AllHeld.{IsFirstUnread, MayHoldAll}
-pub use Rattle.dg_system.specs.Growth.{AppendsFront, Reading, Writing}
+pub use Rattle.dg_system.specs.Growth.{AppendsFront, StreamReading, StreamWriting}
 pub use Rattle.dg_system.specs.Held.{Held, MayHold, RefusesHeld}
 pub use Rattle.dg_system.specs.Streams.{MayGive, RefusesStream}
 pub use Rattle.dg_system.specs.declared.shortage.Shortage.TheVariants.{OutOfMemory}

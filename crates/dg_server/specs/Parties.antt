@@ -8,7 +8,7 @@
 --                         has grown by that text
 --   RefusesReading held file names fault == the table file is not read, or it is held, and a script
 --                         is the first that is not
---   RefusesFiles held file names fault == a file is not read; or all are, and the table file is
+--   RefusesFilesAsked held file names fault == a file is not read; or all are, and the table file is
 --                         refused
 --   IsPrintedWith ends text fault old new == the output has grown by the text, and the fault tells
 --                             of the sessions that ended early, of which there is one, least being
@@ -27,7 +27,7 @@ use Rattle.std.specs.Prelude.{◌≡◌, ℕ, ◌+◌, ◌<◌, ◌≤◌, List,
 use Rattle.std.specs.Io.KnownBytes.{Appends, Keeps}
 use Rattle.std.specs.declared.result.Result.{Result}
 use Rattle.std.specs.declared.result.Result.TheVariants.{Ok, Err}
-use Rattle.dg_server.specs.Common.{MAX_SEATS, SessionEnd, AppendsFront, table_of, IsParty, IsPartyRefused, PartyRefusal, Held, MayHold, RefusesHeld, MayHoldAll, IsFirstUnread, TaskFault, Source, File, IsOnTable, RefusesContents, SourceFault, PartyTask, OutOfMemory}
+use Rattle.dg_server.specs.Common.{MAX_SEATS, SessionEnd, AppendsFront, table_data_of, IsParty, IsPartyRefused, PartyRefusal, Held, MayHold, RefusesHeld, MayHoldAll, IsFirstUnread, TaskFault, Source, File, IsOnTable, RefusesContents, SourceFault, PartyTask, OutOfMemory}
 use Rattle.dg_party.specs.declared.ending.PartyRefusal.TheVariants as party
 use Rattle.dg_server.specs.OfTasks.{IsOfTask}
 use Rattle.dg_server.specs.declared.fault.Fault.{Fault}
@@ -44,7 +44,7 @@ early s (Err end ∷ ends) = (s, end) ∷ early (s + 1) ends
 abbrev pub IsPartyOn : (List ℕ → Held) → PartyTask → List (Result ℕ SessionEnd) → List ℕ → Type 0
 IsPartyOn held task ends text = IsOnTable (held task.file.now) (λ o names.
     (scripts : List (List ℕ)) × MayHoldAll held (names_in task) scripts
-    × IsParty (table_of o (length scripts) task.capacity) names scripts ends text)
+    × IsParty (table_data_of o (length scripts) task.capacity) names scripts ends text)
 
 pub record PlaysParty (held : List ℕ → Held) (task : PartyTask) (old new : Option (List ℕ))
     : Type 0 where
@@ -59,11 +59,11 @@ RefusesReading held file names fault =
     RefusesHeld (held file) fault
     ⊎ (((table : List ℕ) × MayHold (held file) table) × IsFirstUnread held names fault)
 
-abbrev pub RefusesFiles : (List ℕ → Held) → List ℕ → List (List ℕ) → TaskFault → Type 0
-RefusesFiles held file names (Source fault) = RefusesReading held file names fault
-RefusesFiles held file names (File fault) =
+abbrev pub RefusesFilesAsked : (List ℕ → Held) → List ℕ → List (List ℕ) → TaskFault → Type 0
+RefusesFilesAsked held file names (Source fault) = RefusesReading held file names fault
+RefusesFilesAsked held file names (File fault) =
     ((all : List (List ℕ)) × MayHoldAll held names all) × RefusesContents (held file) fault
-RefusesFiles held file names fault = ⊥
+RefusesFilesAsked held file names fault = ⊥
 
 abbrev pub IsPrintedWith : List (Result ℕ SessionEnd) → List ℕ → Fault → Option (List ℕ)
     → Option (List ℕ) → Type 0
@@ -83,7 +83,7 @@ pub record EndsSome (held : List ℕ → Held) (task : PartyTask) (fault : Fault
 abbrev pub IsRefusedOn : (List ℕ → Held) → PartyTask → PartyRefusal → Type 0
 IsRefusedOn held task refusal = IsOnTable (held task.file.now) (λ o names.
     (scripts : List (List ℕ)) × MayHoldAll held (names_in task) scripts
-    × IsPartyRefused (table_of o (length scripts) task.capacity) names scripts refusal)
+    × IsPartyRefused (table_data_of o (length scripts) task.capacity) names scripts refusal)
 
 abbrev pub IsWanting : (List ℕ → Held) → PartyTask → Fault → Type 0
 IsWanting held task (Shortage lack) = IsRefusedOn held task (party.Shortage lack)
@@ -95,6 +95,6 @@ abbrev pub RefusesParty : (List ℕ → Held) → PartyTask → Fault → Option
 RefusesParty held task fault old new =
     ((fault ≡ Seats) × (MAX_SEATS < length task.scripts.items) × Keeps old new)
     ⊎ ((length task.scripts.items ≤ MAX_SEATS)
-    × IsOfTask (RefusesFiles held task.file.now (names_in task)) fault × Keeps old new)
+    × IsOfTask (RefusesFilesAsked held task.file.now (names_in task)) fault × Keeps old new)
     ⊎ ((length task.scripts.items ≤ MAX_SEATS) × IsWanting held task fault × Keeps old new)
     ⊎ EndsSome held task fault old new

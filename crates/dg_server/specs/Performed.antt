@@ -10,7 +10,7 @@
 --                         output failed at the text of the answer, or of the help
 use Rattle.std.specs.Prelude.{◌≡◌, ◌⊎◌, ℕ, List, Option, string_bytes, ⊤}
 use Rattle.std.specs.Io.KnownBytes.{Appends, Keeps}
-use Rattle.dg_server.specs.Common.{Passage, Reading, Held, IsAnswer, RefusesTask, Invocation, Task, Serve, Party, Sweep, Text}
+use Rattle.dg_server.specs.Common.{Passage, StreamReading, Held, IsAnswer, RefusesTask, Invocation, Task, Serve, Party, Sweep, Text}
 use Rattle.dg_server.specs.OfTasks.{IsOfTask}
 use Rattle.dg_server.specs.Streams.{BreaksOff}
 use Rattle.dg_server.specs.Sessions.{Serves, RefusesServing}
@@ -27,7 +27,7 @@ Performs held input (Party task) old new = PlaysParty held task old new
 Performs held input (Sweep task) old new = Sweeps held task old new
 Performs held input (Text help) old new = Appends old new (string_bytes help)
 
-abbrev pub LeavesInput : Invocation → Reading → Reading → Type 0
+abbrev pub LeavesInput : Invocation → StreamReading → StreamReading → Type 0
 LeavesInput (Serve task) input rest = ⊤
 LeavesInput asked input rest = rest ≡ input
 

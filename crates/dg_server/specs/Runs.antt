@@ -15,7 +15,7 @@
 --   Fails asks refuses run n == n is the status of a fault that has its cause
 use Rattle.std.specs.Prelude.{◌≡◌, ◌⊎◌, ℕ, List, true}
 use Rattle.std.specs.Io.KnownBytes.{Keeps}
-use Rattle.dg_server.specs.Common.{Invocation, ArgsFault, Reading, Writing, Held, passage}
+use Rattle.dg_server.specs.Common.{Invocation, ArgsFault, StreamReading, StreamWriting, Held, passage}
 use Rattle.dg_server.specs.Streams.{IsOfInput, IsOfOutput}
 use Rattle.dg_server.specs.Performed.{Performs, LeavesInput, Refuses}
 use Rattle.dg_server.specs.Status.{status}
@@ -25,12 +25,12 @@ use Rattle.dg_server.specs.declared.fault.Fault.TheVariants.{Words}
 pub record Run : Type 0 where
   pub words : List (List ℕ)
   pub held : List ℕ → Held
-  pub input : Reading
-  pub rest : Reading
-  pub old : Writing
-  pub new : Writing
+  pub input : StreamReading
+  pub rest : StreamReading
+  pub old : StreamWriting
+  pub new : StreamWriting
 
-abbrev pub run_of : List (List ℕ) → (List ℕ → Held) → Reading → Reading → Writing → Writing → Run
+abbrev pub run_of : List (List ℕ) → (List ℕ → Held) → StreamReading → StreamReading → StreamWriting → StreamWriting → Run
 run_of words held input rest old new =
     record { words = words; held = held; input = input; rest = rest; old = old; new = new }
 

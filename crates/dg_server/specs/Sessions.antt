@@ -24,7 +24,7 @@ use Rattle.std.specs.Io.KnownBytes.{Keeps}
 use Rattle.std.specs.List.{enumerate_from}
 use Rattle.std.specs.declared.result.Result.{Result}
 use Rattle.std.specs.declared.result.Result.TheVariants.{Ok, Err}
-use Rattle.dg_server.specs.Common.{Entry, AreFresh, IsClosed, IsCloseRefused, SeatView, Setup, setup, Passage, passage, IsSession, LineFormat, OneSeat, BySeat, SessionEnd, Table, Full, Held, IsOnTable, RefusesItsTable, seat_count, ServeTask, OutOfMemory, StartData, table_of}
+use Rattle.dg_server.specs.Common.{Entry, AreFresh, IsClosed, IsCloseRefused, SeatView, Setup, setup, Passage, passage, IsSession, LineFormat, OneSeat, BySeat, SessionEnd, Table, Full, Held, IsOnTable, RefusesItsTable, seats_asked_for, ServeTask, OutOfMemory, StartData, table_data_of}
 use Rattle.dg_server.specs.OfTasks.{IsOfTask}
 use Rattle.dg_server.specs.declared.fault.Fault.{Fault}
 use Rattle.dg_server.specs.declared.fault.Fault.TheVariants.{Session, Shortage, History}
@@ -35,7 +35,7 @@ line_format (Some n) = BySeat
 
 abbrev pub session_of : ServeTask → StartData → List (List ℕ) → Setup
 session_of task o names =
-    setup (line_format task.seats) (table_of o (seat_count task.seats) task.capacity) names task.workers
+    setup (line_format task.seats) (table_data_of o (seats_asked_for task.seats) task.capacity) names task.workers
 
 pub record IsHeard (t : Setup) (input output : Passage) (end : Result ℕ SessionEnd) : Type 0 where
   pub seats : List SeatView

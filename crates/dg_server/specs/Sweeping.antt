@@ -7,8 +7,8 @@
 --   IsSwept old new result h right == bytes that the file h may have were swept, with that result,
 --                         where `right` says what answers a line
 --   Sweeps held task old new         == all its lines were answered
---   RefusesLines h fault == the file h of lines can't be opened
---   RefusesFiles held file divisors fault == the file of lines can't be opened; or the table file is
+--   RefusesSweptFile h fault == the file h of lines can't be opened
+--   RefusesFilesAsked held file divisors fault == the file of lines can't be opened; or the table file is
 --                         refused, which comes first if the lines are amounts
 --   RefusesSweeping held task fault old new == the files are refused so, and the output is as it
 --                         was; or the sweep ended early
@@ -39,19 +39,19 @@ pub record IsSwept (old new : Option (List ℕ)) (result : Result (Unit {0}) Swe
 abbrev pub Sweeps : (List ℕ → Held) → SweepTask → Option (List ℕ) → Option (List ℕ) → Type 0
 Sweeps held task old new = HasLines held task (IsSwept old new (Ok tt))
 
-abbrev pub RefusesLines : Held → TaskFault → Type 0
-RefusesLines h (Source fault) = RefusesStream h fault
-RefusesLines h fault = ⊥
+abbrev pub RefusesSweptFile : Held → TaskFault → Type 0
+RefusesSweptFile h (Source fault) = RefusesStream h fault
+RefusesSweptFile h fault = ⊥
 
-abbrev pub RefusesFiles : (List ℕ → Held) → List ℕ → Option (Bor (List ℕ)) → TaskFault → Type 0
-RefusesFiles held file None fault = RefusesLines (held file) fault
-RefusesFiles held file (Some lines) fault =
+abbrev pub RefusesFilesAsked : (List ℕ → Held) → List ℕ → Option (Bor (List ℕ)) → TaskFault → Type 0
+RefusesFilesAsked held file None fault = RefusesSweptFile (held file) fault
+RefusesFilesAsked held file (Some lines) fault =
     RefusesItsTable (held file) fault
-    ⊎ IsOnTable (held file) (λ o names. RefusesLines (held lines.now) fault)
+    ⊎ IsOnTable (held file) (λ o names. RefusesSweptFile (held lines.now) fault)
 
 abbrev pub RefusesSweeping : (List ℕ → Held) → SweepTask → Fault → Option (List ℕ) → Option (List ℕ)
     → Type 0
 RefusesSweeping held task (Task fault) old new =
-    RefusesFiles held task.file.now task.divisors fault × Keeps old new
+    RefusesFilesAsked held task.file.now task.divisors fault × Keeps old new
 RefusesSweeping held task (Sweep end) old new = HasLines held task (IsSwept old new (Err end))
 RefusesSweeping held task fault old new = ⊥

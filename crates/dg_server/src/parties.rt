@@ -4,7 +4,7 @@ ghost use Rattle.std.specs.Io.KnownBytes.{Appends};
 ghost use Rattle.dg_tasks.specs.Tasks.{DescribesTable};
 ghost use Rattle.dg_system.specs.AllHeld.{MayHoldAll};
 ghost use Rattle.dg_server.specs.OfTasks.{IsOfTask};
-ghost use Rattle.dg_server.specs.Parties.{early, PlaysParty, names_in, RefusesFiles, IsPrintedWith, RefusesParty};
+ghost use Rattle.dg_server.specs.Parties.{early, PlaysParty, names_in, RefusesFilesAsked, IsPrintedWith, RefusesParty};
 ghost use Rattle.dg_server.specs.Streams.{IsOfInput, IsOfOutput};
 
 use crate::fault::Fault;
@@ -81,7 +81,7 @@ where
         MayHoldAll (S.held sources.now) (names_in task.now)
         (map (λ script. script.items) r.1.items)) }
     ensures refused { IfErr result
-        (IsOfTask (RefusesFiles (S.held sources.now) task.now.file.now (names_in task.now))) }
+        (IsOfTask (RefusesFilesAsked (S.held sources.now) task.now.file.now (names_in task.now))) }
 {
     let file = match sources.bytes(rt, task.file) {
         Ok(file) => file,

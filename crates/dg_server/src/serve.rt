@@ -1,7 +1,7 @@
 //! Sessions over the input of the program.
 ghost use Rattle.std.specs.Prelude.{◌≡◌, ◌≤◌, ℕ, length, Ok, Err, true, IfErr, OnOk};
-ghost use Rattle.dg_invocation.specs.Seats.{seat_count};
-ghost use Rattle.dg_log.specs.Tables.{table_of};
+ghost use Rattle.dg_invocation.specs.Seats.{seats_asked_for};
+ghost use Rattle.dg_log.specs.Tables.{table_data_of};
 ghost use Rattle.dg_session.specs.Ends.{IsSession};
 ghost use Rattle.dg_session.specs.Setup.{setup};
 ghost use Rattle.dg_session.specs.Streams.{passage};
@@ -67,7 +67,7 @@ where
 
 /// How many seats there are, and how lines name them.
 fn places_of(seats: Option<u8>) -> (u8, LineFormat)
-    ensures count { result.0 ≡ seat_count seats }
+    ensures count { result.0 ≡ seats_asked_for seats }
     ensures how { result.1 ≡ line_format seats }
 {
     match seats {
@@ -93,17 +93,17 @@ where
     I: Read,
     O: Write,
     requires row { row ≡ N.cells }
-    requires table { N.table ≡ table_of table.now.start seats (length row) }
+    requires table { N.table ≡ table_data_of table.now.start seats (length row) }
     requires some { MayHaveSeats seats }
     requires alone { how ≡ OneSeat → seats ≡ 1 }
     requires workers { MayHaveWorkers workers }
     ensures done { OnOk result ((count : ℕ)
-        × IsServed (setup how (table_of table.now.start seats (length row)) table.now.names workers)
+        × IsServed (setup how (table_data_of table.now.start seats (length row)) table.now.names workers)
         (passage input.old.remaining input.new.remaining) (passage output.old.contents output.new.contents) (Ok count)) }
     ensures read { IfErr result (λ fault. IsOfInput fault → input.new.has_failed ≡ true) }
     ensures write { IfErr result (λ fault. IsOfOutput fault → output.new.has_failed ≡ true) }
     ensures early { IfErr result (λ fault.
-        EndsEarly (setup how (table_of table.now.start seats (length row)) table.now.names workers)
+        EndsEarly (setup how (table_data_of table.now.start seats (length row)) table.now.names workers)
         (passage input.old.remaining input.new.remaining) fault (passage output.old.contents output.new.contents)) }
 {
     let alloc = rt.alloc();

@@ -12,33 +12,34 @@
 --   line_one       a line makes at most one entry
 --   refused_made   so does one that is refused
 --   last_made      what was made is the last entry, where there is one more
-use Rattle.dg_session.proofs.Common.{◌≡◌, ℕ, ◌+◌, ◌-◌, ◌<◌, ◌≤◌, inl, inr, List, [], ◌∷◌, ◌++◌, length, length-append, Option, Some, None, slice_get, refl, sym, ap, subst, ◌∙◌, arith, slice_get_within, same_Some, legal_none, Entry, IsHistoryOf, Command, Call, Commit, Rank, AreBelow, StandIn, IsBeginning, SeatView, Keeps, Meets, begins_on, begins_length, stand_longer, AscendFrom, ComeAfter, Setup, Gains, AnswersCommand, AnswersLine, RefusesCommand, RefusesLine, SessionEnd, Table, Memory, Spawn, TableData}
+use Rattle.dg_session.proofs.Common.{◌≡◌, ℕ, ◌+◌, ◌-◌, ◌<◌, ◌≤◌, inl, inr, List, [], ◌∷◌, ◌++◌, length, length-append, Option, Some, None, slice_get, refl, sym, ap, subst, ◌∙◌, arith, slice_get_within, same_Some, legal_none, Entry, IsHistoryOf, Command, Call, Commit, Rank, ReceiptsAreBelow, StandIn, IsPrefixOf, SeatView, Keeps, Meets, begins_on, begins_length, stand_longer, AnswersAscendFrom, ComeAfter, Setup, Gains, AnswersCommand, AnswersLine, RefusesCommand, RefusesLine, SessionEnd, Table, Memory, Spawn, TableData}
 
 pub history_none : (table : TableData) → IsHistoryOf table []
 history_none table = record { legal = legal_none table.start; few = omega arith; seated = λ k e at. absurd (cc) }
 
-pub ascend_from : (a b : ℕ) (ps : List (ℕ × Entry)) → a ≤ b → AscendFrom b ps → AscendFrom a ps
+pub ascend_from : (a b : ℕ) (ps : List (ℕ × Entry)) → a ≤ b → AnswersAscendFrom b ps → AnswersAscendFrom a ps
 ascend_from a b [] few up = tt
 ascend_from a b (p ∷ ps) few up = (omega (arith, few, up.0), up.1)
 
-pub ascend_more : (a n : ℕ) (ps qs : List (ℕ × Entry)) → a ≤ n → AscendFrom a ps → AreBelow n ps → AscendFrom n qs
-    → AscendFrom a (ps ++ qs)
+pub ascend_more : (a n : ℕ) (ps qs : List (ℕ × Entry)) → a ≤ n → AnswersAscendFrom a ps → ReceiptsAreBelow n ps →
+    AnswersAscendFrom n qs
+    → AnswersAscendFrom a (ps ++ qs)
 ascend_more a n [] qs few up below more = ascend_from a n qs few more
 ascend_more a n (p ∷ ps) qs few up below more =
     (up.0, ascend_more (p.0 + 1) n ps qs (omega (arith, below.0)) up.1 below.1 more)
 
-pub below_stand : (H : List Entry) (ps : List (ℕ × Entry)) → StandIn H ps → AreBelow (length H) ps
+pub below_stand : (H : List Entry) (ps : List (ℕ × Entry)) → StandIn H ps → ReceiptsAreBelow (length H) ps
 below_stand H [] stand = tt
 below_stand H (p ∷ ps) stand = (slice_get_within H p.0 p.1 stand.0, below_stand H ps stand.1)
 
-pub stand_on : (K H : List Entry) (ps : List (ℕ × Entry)) → IsBeginning K H → StandIn K ps → StandIn H ps
+pub stand_on : (K H : List Entry) (ps : List (ℕ × Entry)) → IsPrefixOf K H → StandIn K ps → StandIn H ps
 stand_on K H ps (rest, is) stand = subst (λ L. StandIn L ps) (sym is) (stand_longer K rest ps stand)
 
 pub stand_both : (H : List Entry) (ps qs : List (ℕ × Entry)) → StandIn H ps → StandIn H qs → StandIn H (ps ++ qs)
 stand_both H [] qs first second = second
 stand_both H (p ∷ ps) qs first second = (first.0, stand_both H ps qs first.1 second)
 
-pub comes_from : (K M H : List Entry) (made : List (ℕ × Entry)) → IsBeginning K M → ComeAfter M made H
+pub comes_from : (K M H : List Entry) (made : List (ℕ × Entry)) → IsPrefixOf K M → ComeAfter M made H
     → ComeAfter K made H
 comes_from K M H made begins comes = record {
   begins = begins_on K M H begins comes.begins;
@@ -62,7 +63,7 @@ module _ {x m : SeatView} (meets : Keeps x m) where
     mine = g.mine ∙ ap (λ ps. ps ++ made) meets.mine;
     heard = g.heard;
     told = g.told ∙ ap (λ ps. ps ++ g.heard) meets.told;
-    prefix = subst (λ K. IsBeginning K y.prefix) meets.prefix g.prefix;
+    prefix = subst (λ K. IsPrefixOf K y.prefix) meets.prefix g.prefix;
     order = comes_from x.met m.met y.met made meets.met g.order;
     still = λ none. let kept = g.still none in (kept.0 ∙ meets.told, kept.1 ∙ meets.prefix);
   }

@@ -4,7 +4,7 @@ pub use Rattle.dg_chips.specs.Starts.{StartData}
 pub use Rattle.dg_game.proofs.LegalLaws.{legal_none, legal_sized}
 pub use Rattle.dg_game.proofs.ListLaws.{slice_get-seam}
 pub use Rattle.dg_game.specs.LegalLaws.{HasSize}
-pub use Rattle.dg_game.specs.Look.{asked_for, asked_on, degree_of}
+pub use Rattle.dg_game.specs.Look.{asked_for, asked_on, degree_found}
 pub use Rattle.dg_game.specs.Requests.{asked}
 pub use Rattle.dg_game.specs.declared.entry.Entry.{Entry}
 pub use Rattle.dg_game.specs.declared.entry.Plain.{Plain}
@@ -19,30 +19,30 @@ pub use Rattle.dg_lines.proofs.Streams.{begins_more, begins_none, begins_one, be
 pub use Rattle.dg_lines.specs.Commands.{IsCommandLine}
 pub use Rattle.dg_lines.specs.LineFaults.{IsLineFault, fault_text}
 pub use Rattle.dg_lines.specs.Steps.{IsSeated}
-pub use Rattle.dg_lines.specs.Streams.{Begins, HasNoNewline, HaveCome, last_line, with_newline}
+pub use Rattle.dg_lines.specs.Streams.{Begins, HasNoNewline, LinesHaveCome, last_line, with_newline}
 pub use Rattle.dg_lines.specs.Texts.{HasNames, entry_text}
 pub use Rattle.dg_lines.specs.declared.line.LineFault.{LineFault}
-pub use Rattle.dg_log.specs.Numbered.{AreBelow, IsBeginning, StandIn}
+pub use Rattle.dg_log.specs.Numbered.{ReceiptsAreBelow, IsPrefixOf, StandIn}
 pub use Rattle.dg_log.specs.Tables.{TableData}
 pub use Rattle.dg_rank.proofs.Numbering.{past_within}
-pub use Rattle.dg_rank.specs.Limits.{IsPastLimits}
+pub use Rattle.dg_rank.specs.Limits.{ArePastTrialLimits}
 pub use Rattle.dg_rank.specs.Ranks.{IsRankFault, IsWithin}
 pub use Rattle.dg_session.specs.EntriesSoFar.{EntriesSoFarView}
-pub use Rattle.dg_session.specs.Ends.{AreInOrder, EndsBy, IsOver, Reading, StopsAt, Writes, reading}
-pub use Rattle.dg_session.specs.Order.{AscendFrom, ComeAfter}
+pub use Rattle.dg_session.specs.Ends.{AreInOrder, EndsBy, IsOver, SessionReading, StopsAt, Writes, reading}
+pub use Rattle.dg_session.specs.Order.{AnswersAscendFrom, ComeAfter}
 pub use Rattle.dg_session.specs.Refusing.{CallsTable, RefusesCommand, RefusesLine}
-pub use Rattle.dg_session.specs.Saying.{AnswersCommand, AnswersLine, Enters, Gains, kept_after, look_after}
+pub use Rattle.dg_session.specs.Saying.{AnswersCommand, AnswersLine, Enters, Gains, speakers_kept_after, speakers_look_after}
 pub use Rattle.dg_session.specs.Setup.{Setup, setup}
-pub use Rattle.dg_session.specs.SoFar.{Goes, Halts, Handles, Hears, IsCleared, IsReady, IsSaid, IsWritten, Obeys, RefusesPart, SoFar, Speaker, StaysAt, StopsIn, Takes, TakesEnd, Tells, beginning, heard, round, so_far}
+pub use Rattle.dg_session.specs.SoFar.{Goes, Halts, Handles, Hears, AnswersAreCleared, IsReady, IsSaid, IsWritten, Obeys, RefusesPart, SoFar, Speaker, StaysAt, StopsIn, Takes, TakesEnd, TellsSpeaker, beginning, heard, round, so_far}
 pub use Rattle.dg_session.specs.Speakers.{AnswersLineOf, GoesOn, IsFor, IsForNone, RefusesLineOf, Replaces, Speakers, kept_number, newcomers, speakers}
-pub use Rattle.dg_session.specs.Streams.{AreLines, IsLine, Passage, passage}
+pub use Rattle.dg_session.specs.Streams.{AreSessionLines, IsLine, Passage, passage}
 pub use Rattle.dg_session.specs.declared.ends.SessionEnd.{SessionEnd}
 pub use Rattle.dg_session.specs.declared.ends.SessionEnd.TheVariants.{LongLine, Memory, Read, Spawn, Table, Turns, Write}
 pub use Rattle.dg_session.specs.declared.ends.TheConstants.{MAX_LINE, MAX_LINES, READ_SIZE}
 pub use Rattle.dg_session.specs.declared.line_format.LineFormat.TheVariants.{BySeat}
 pub use Rattle.dg_system.proofs.Growing.{appends_more, appends_none}
 pub use Rattle.dg_system.proofs.InputReads.{chunk_size, consumes_kept, consumes_more, consumes_none, read_chunk, read_nothing}
-pub use Rattle.dg_system.specs.Growth.{AppendsFront, Writing}
+pub use Rattle.dg_system.specs.Growth.{AppendsFront, StreamWriting}
 pub use Rattle.dg_table.proofs.Counts.{seats_counted}
 pub use Rattle.dg_table.proofs.Numbered.{begins_length, begins_on, stand_longer}
 pub use Rattle.dg_table.proofs.Placed.{get_set}

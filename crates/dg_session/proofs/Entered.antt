@@ -5,16 +5,16 @@
 --   calls_all       the calls of all seats are as many as the entries of their history
 --   entered_all     what was entered is all of the history
 --   full_at_close   which is full, where the session ended so
-use Rattle.dg_session.proofs.Common.{◌≡◌, ℕ, zero, suc, ◌+◌, ◌<◌, ◌≤◌, inl, inr, List, [], ◌∷◌, ◌++◌, length, length-append, map, Some, sum, get_or, slice_get, Result, Err, refl, sym, ap, subst, ◌∙◌, arith, append_assoc, enumerate_from, same_Some, length-map, nil_from_length, sum_by-cons, Entry, slice_get-seam, AreBelow, StandIn, IsBeginning, IsClosed, AreFresh, SeatView, entries_of, Full, seats_counted, begins_length, Setup, AscendFrom, Passage, reading, EndsBy, IsOver, SessionEnd, Table, get_set, TableData}
+use Rattle.dg_session.proofs.Common.{◌≡◌, ℕ, zero, suc, ◌+◌, ◌<◌, ◌≤◌, inl, inr, List, [], ◌∷◌, ◌++◌, length, length-append, map, Some, sum, get_or, slice_get, Result, Err, refl, sym, ap, subst, ◌∙◌, arith, append_assoc, enumerate_from, same_Some, length-map, nil_from_length, sum_by-cons, Entry, slice_get-seam, ReceiptsAreBelow, StandIn, IsPrefixOf, IsClosed, AreFresh, SeatView, entries_of, Full, seats_counted, begins_length, Setup, AnswersAscendFrom, Passage, reading, EndsBy, IsOver, SessionEnd, Table, get_set, TableData}
 use Rattle.dg_session.proofs.Coming.{below_stand, stand_on}
 use Rattle.dg_session.proofs.InOrder.{calls_of, fits_all}
 
-few_between : (a b : ℕ) (ps : List (ℕ × Entry)) → AscendFrom a ps → AreBelow b ps → a ≤ b → a + length ps ≤ b
+few_between : (a b : ℕ) (ps : List (ℕ × Entry)) → AnswersAscendFrom a ps → ReceiptsAreBelow b ps → a ≤ b → a + length ps ≤ b
 few_between a b [] up below few = omega (arith, few)
 few_between a b (p ∷ ps) up below few =
     omega (arith, up.0, few_between (p.0 + 1) b ps up.1 below.1 (omega (arith, below.0)))
 
-all_after : (K rest : List Entry) (ps : List (ℕ × Entry)) → AscendFrom (length K) ps → StandIn (K ++ rest) ps
+all_after : (K rest : List Entry) (ps : List (ℕ × Entry)) → AnswersAscendFrom (length K) ps → StandIn (K ++ rest) ps
     → length ps ≡ length rest → ps ≡ enumerate_from (length K) rest
 all_after K [] ps up stand size = nil_from_length ps size
 all_after K (e ∷ rest) [] up stand size = absurd (omega (arith, size))
@@ -27,13 +27,13 @@ all_after K (e ∷ rest) (p ∷ ps) up stand size =
     let entry : p.1 ≡ e = same_Some p.1 e (sym stand.0 ∙ ap (slice_get (K ++ e ∷ rest)) place ∙ slice_get-seam K e rest) in
     let more : length (K ++ e ∷ []) ≡ length K + 1 = length-append K (e ∷ []) in
     let next : length (K ++ e ∷ []) ≡ p.0 + 1 = omega (arith, more, place) in
-    let tail = all_after (K ++ e ∷ []) rest ps (subst (λ n. AscendFrom n ps) (sym next) up.1)
+    let tail = all_after (K ++ e ∷ []) rest ps (subst (λ n. AnswersAscendFrom n ps) (sym next) up.1)
     (subst (λ H. StandIn H ps) (sym whole) stand.1) (omega (arith, size)) in
     let head : p ≡ (length K, e) = ap (λ i. (i, p.1)) place ∙ ap (λ (x : Entry). (length K, x)) entry in
     ap (λ (q : ℕ × Entry). q ∷ ps) head
     ∙ ap (λ (qs : List (ℕ × Entry)). (length K, e) ∷ qs) (tail ∙ ap (λ n. enumerate_from n rest) more)
 
-pub all_numbered : (H : List Entry) (ps : List (ℕ × Entry)) → AscendFrom 0 ps → StandIn H ps → length ps ≡ length H
+pub all_numbered : (H : List Entry) (ps : List (ℕ × Entry)) → AnswersAscendFrom 0 ps → StandIn H ps → length ps ≡ length H
     → ps ≡ enumerate_from 0 H
 all_numbered H ps up stand size = all_after [] H ps up stand size
 
@@ -97,10 +97,10 @@ entered_all {t} {input = input} {xs = xs} {ys} {result} {H} over fresh same clos
     let none = calls_none xs fresh.mine in
     let all = calls_all xs ys fresh same closed in
     let seats = ap calls_of over.seats in
-    let begins : IsBeginning over.end.latest H = elim over.order.met [
-      | inl empty ↦ subst (λ K. IsBeginning K H) (sym empty) (H, refl)
+    let begins : IsPrefixOf over.end.latest H = elim over.order.met [
+      | inl empty ↦ subst (λ K. IsPrefixOf K H) (sym empty) (H, refl)
       | inr met ↦
-          subst (λ K. IsBeginning K H) (sym met.3)
+          subst (λ K. IsPrefixOf K H) (sym met.3)
           (closed.held met.0 met.1 (sym (ap (λ zs. slice_get zs met.0) over.seats) ∙ met.2)).met
     ] in
     all_numbered H over.end.entered over.order.ascend

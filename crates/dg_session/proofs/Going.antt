@@ -7,7 +7,7 @@
 --   halts_part, halts_line       the session ends at a part that is not taken, and at a line that is refused
 --   last_none, last_one, last_halts   what is pending as the last line: none, one that is answered, and one that is
 --       refused
-use Rattle.dg_session.proofs.Common.{◌≡◌, ◌≢◌, ℕ, ◌+◌, ◌<◌, ◌≤◌, inl, inr, List, [], ◌∷◌, ◌++◌, length, take, drop, refl, sym, ap, subst, ◌∙◌, arith, append_assoc, append-nil, length-append, take-append-drop, All-append, All-nil, All-take, length-take-le, HasNoNewline, Begins, last_line, begins_none, begins_one, begins_then, begins_more, one_line, Setup, IsLine, AreLines, Speakers, AnswersLineOf, RefusesLineOf, SoFar, IsReady, Goes, round, Halts, RefusesPart, StaysAt, MAX_LINE, MAX_LINES, SessionEnd, LongLine, Turns}
+use Rattle.dg_session.proofs.Common.{◌≡◌, ◌≢◌, ℕ, ◌+◌, ◌<◌, ◌≤◌, inl, inr, List, [], ◌∷◌, ◌++◌, length, take, drop, refl, sym, ap, subst, ◌∙◌, arith, append_assoc, append-nil, length-append, take-append-drop, All-append, All-nil, All-take, length-take-le, HasNoNewline, Begins, last_line, begins_none, begins_one, begins_then, begins_more, one_line, Setup, IsLine, AreSessionLines, Speakers, AnswersLineOf, RefusesLineOf, SoFar, IsReady, Goes, round, Halts, RefusesPart, StaysAt, MAX_LINE, MAX_LINES, SessionEnd, LongLine, Turns}
 use Rattle.dg_session.specs.Ends.{Answers}
 use Rattle.dg_session.proofs.Cutting.{lines_end}
 use Rattle.dg_session.proofs.Seated.{sizes_kept}
@@ -181,7 +181,7 @@ last_halts {t} {E} {at} {z} {end} over ready some refused = record {
   goes = goes_none refl ready;
   fails = inr (record {
     line = at.pending;
-    came = subst (AreLines E (at.pending ++ [])) (one_line at.pending some) (lines_end at.pending over ready.line);
+    came = subst (AreSessionLines E (at.pending ++ [])) (one_line at.pending some) (lines_end at.pending over ready.line);
     few = let other : at.count ≢ MAX_LINES = λ all. omega (arith, some, ap length (ready.full all)) in
         omega (arith, other, ready.few);
     stops = subst (λ l. RefusesLineOf t at.who l z end) (append-nil at.pending) refused;

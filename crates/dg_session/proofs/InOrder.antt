@@ -3,7 +3,7 @@
 --   Fits n s      what the lines entered is in order, and the seats, which had n calls, made no others
 --   fits_begun    so it is before the first line
 --   fits_all      and after all, however the session ends
-use Rattle.dg_session.proofs.Common.{◌≡◌, ℕ, zero, suc, ◌+◌, inl, inr, List, [], ◌∷◌, ◌++◌, length, length-append, Some, slice_get, Result, Ok, Err, refl, sym, ap, subst, ◌∙◌, arith, slice_set, Entry, StandIn, SeatView, get_set, Setup, AscendFrom, Gains, Speakers, newcomers, Replaces, GoesOn, AnswersLineOf, RefusesLineOf, Reading, StopsAt, EndsBy, AreInOrder, SessionEnd, Read, Write, LongLine, Turns, Table, Memory, Spawn}
+use Rattle.dg_session.proofs.Common.{◌≡◌, ℕ, zero, suc, ◌+◌, inl, inr, List, [], ◌∷◌, ◌++◌, length, length-append, Some, slice_get, Result, Ok, Err, refl, sym, ap, subst, ◌∙◌, arith, slice_set, Entry, StandIn, SeatView, get_set, Setup, AnswersAscendFrom, Gains, Speakers, newcomers, Replaces, GoesOn, AnswersLineOf, RefusesLineOf, SessionReading, StopsAt, EndsBy, AreInOrder, SessionEnd, Read, Write, LongLine, Turns, Table, Memory, Spawn}
 use Rattle.dg_session.specs.Ends.{Answers}
 use Rattle.dg_session.proofs.Coming.{ascend_more, below_stand, stand_on, stand_both}
 
@@ -30,7 +30,7 @@ fits_on : {n : ℕ} (i : ℕ) (s z : Speakers) (x y : SeatView) (made : List (�
     → Replaces i s.seats z.seats x y → Gains x y made → GoesOn s z y made → Fits n s → Fits n z
 fits_on {n} i s z x y made turn gained goes fits = record {
   order = record {
-    ascend = subst (AscendFrom 0) (sym goes.entered)
+    ascend = subst (AnswersAscendFrom 0) (sym goes.entered)
         (ascend_more 0 (length s.latest) s.entered made (omega arith) fits.order.ascend
         (below_stand s.latest s.entered fits.order.stand) goes.order.after);
     stand = subst (StandIn z.latest) (sym goes.entered) (subst (λ L. StandIn L (s.entered ++ made)) (sym goes.latest)
@@ -68,7 +68,7 @@ fits_answered {n} t (line ∷ ls) s z text p fits =
     let (m, front, back, answer, more, whole) = p in
     fits_answered t ls m z back more (fits_said t s m line front answer fits)
 
-module _ {n : ℕ} (t : Setup) (r : Reading) (s z : Speakers) (fits : Fits n s) where
+module _ {n : ℕ} (t : Setup) (r : SessionReading) (s z : Speakers) (fits : Fits n s) where
   same : z ≡ s → Fits n z
   same is = subst (Fits n) (sym is) fits
 
@@ -85,7 +85,7 @@ module _ {n : ℕ} (t : Setup) (r : Reading) (s z : Speakers) (fits : Fits n s) 
   fits_ended (Err (Table fault)) h = stopped (Table fault) h
   fits_ended (Err Spawn) h = stopped Spawn h
 
-pub fits_all : (t : Setup) (r : Reading) (told last : List (List ℕ)) (xs : List SeatView)
+pub fits_all : (t : Setup) (r : SessionReading) (told last : List (List ℕ)) (xs : List SeatView)
     (m w z : Speakers) (said text : List ℕ) (result : Result ℕ SessionEnd) → Answers t (newcomers xs) told m said
     → Answers t m last w text → EndsBy t r w z result → Fits (calls_of xs) z
 fits_all t r told last xs m w z said text result first second ends =

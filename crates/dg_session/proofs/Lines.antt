@@ -1,7 +1,7 @@
 -- Lines that a seat hears.
 --   heard       a line is answered or refused as its command
 --   bad_heard   a line with a fault is answered by it
-use Rattle.dg_session.proofs.Common.{ℕ, inl, inr, List, [], Option, Result, Ok, Err, refl, sym, subst, Command, IsCommandLine, fault_text, IsLineFault, LineFault, RefusesCommand, RefusesLine, Setup, Speaker, Tells, Hears, Obeys, SessionEnd, Memory}
+use Rattle.dg_session.proofs.Common.{ℕ, inl, inr, List, [], Option, Result, Ok, Err, refl, sym, subst, Command, IsCommandLine, fault_text, IsLineFault, LineFault, RefusesCommand, RefusesLine, Setup, Speaker, TellsSpeaker, Hears, Obeys, SessionEnd, Memory}
 use Rattle.dg_session.proofs.Made.{gains_same}
 
 line_refused : (t : Setup) (line : List ℕ) (command : Command) (old new : Speaker) (end : SessionEnd)
@@ -37,7 +37,7 @@ heard {t = t} {line} {command} {old} {new} {result = Err end} spelled h =
 
 pub bad_heard : {B : Type 0} {t : Setup} {line : List ℕ} {said : Option (List ℕ)} {old : Speaker} {result : Result B SessionEnd}
     (fault : LineFault)
-    → IsLineFault t.names fault line → Tells (fault_text fault) old.said said result
+    → IsLineFault t.names fault line → TellsSpeaker (fault_text fault) old.said said result
     → Hears t line old (record old { said = said }) result
 bad_heard {old = old} {result = Ok b} fault bad told = record {
   done = record {

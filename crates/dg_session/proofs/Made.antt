@@ -14,7 +14,7 @@
 --   obeys_after     a command that is obeyed to a seat after it met a longer history is obeyed to it
 --   with_look, with_none   so it is with the look that is kept, and with none
 --   call_keeps      a call that is no look keeps the look
-use Rattle.dg_session.proofs.Common.{◌≡◌, ◌≢◌, ℕ, inl, inr, List, [], ◌∷◌, ◌++◌, length, Option, Some, None, slice_get, Result, Ok, Err, OnOk, refl, sym, ap, subst, ◌∙◌, append-nil, codes, arith, StartData, IsWithin, IsPastLimits, past_within, RankVerdict, AtLeast, Below, degree_of, asked_for, asked_on, asked, Entry, Plain, Request, Ranked, Finding, Question, Command, LookView, IsTaken, IsTried, HasNames, entry_text, HasSize, legal_sized, slice_get-seam, begins_on, begins_length, SeatView, Keeps, RefusesCall, Fault, entering, IsEnteredAfter, IsAnswered, IsSettled, IsStale, Gains, Enters, kept_after, look_after, AnswersCommand, SessionEnd, Table, kept_number, CallsTable, RefusesCommand, Setup, Speaker, Tells, Obeys, TableData}
+use Rattle.dg_session.proofs.Common.{◌≡◌, ◌≢◌, ℕ, inl, inr, List, [], ◌∷◌, ◌++◌, length, Option, Some, None, slice_get, Result, Ok, Err, OnOk, refl, sym, ap, subst, ◌∙◌, append-nil, codes, arith, StartData, IsWithin, ArePastTrialLimits, past_within, RankVerdict, AtLeast, Below, degree_found, asked_for, asked_on, asked, Entry, Plain, Request, Ranked, Finding, Question, Command, LookView, IsTaken, IsTried, HasNames, entry_text, HasSize, legal_sized, slice_get-seam, begins_on, begins_length, SeatView, Keeps, RefusesCall, Fault, entering, IsEnteredAfter, IsAnswered, IsSettled, IsStale, Gains, Enters, speakers_kept_after, speakers_look_after, AnswersCommand, SessionEnd, Table, kept_number, CallsTable, RefusesCommand, Setup, Speaker, TellsSpeaker, Obeys, TableData}
 use Rattle.dg_game.specs.declared.entry.Plain.TheVariants as plain
 use Rattle.dg_game.specs.declared.entry.Request.TheVariants.{Rank as RankRequest}
 use Rattle.dg_session.proofs.Coming.{gained_met, command_met}
@@ -104,7 +104,7 @@ pub stale_made : {table : TableData} {look r : ℕ × Entry} {x y : SeatView} (a
 stale_made {table} {look} {r} {x} {y} asks stale =
     entry_made table stale.0 (asked_on look.0 asks) _ (look ∷ []) r x y refl stale.1.entered
 
-degree_kept : (look : LookView) (k w : ℕ) (v : RankVerdict) → IsTried look k w v → degree_of v ≡ k
+degree_kept : (look : LookView) (k w : ℕ) (v : RankVerdict) → IsTried look k w v → degree_found v ≡ k
 degree_kept look k w (AtLeast j) tried = tried.right.0
 degree_kept look k w (Below j d) tried = tried.right.0
 
@@ -119,9 +119,9 @@ pub rank_within : {o : StartData} {look : LookView} {k : ℕ} → IsTaken o look
     → IsWithin o.graph.size k
 rank_within {k = k} taken within = subst (λ n. IsWithin n k) taken.vertices.0 within
 
-pub rank_past : {o : StartData} {look : LookView} {k : ℕ} → IsTaken o look → IsPastLimits look.shown.graph.size k
+pub rank_past : {o : StartData} {look : LookView} {k : ℕ} → IsTaken o look → ArePastTrialLimits look.shown.graph.size k
     → IsWithin o.graph.size k → ⊥
-rank_past {o} {k = k} taken prefix = past_within o.graph.size k (subst (λ n. IsPastLimits n k) taken.vertices.0 prefix)
+rank_past {o} {k = k} taken prefix = past_within o.graph.size k (subst (λ n. ArePastTrialLimits n k) taken.vertices.0 prefix)
 
 pub named : {o : StartData} {request : Request} {r : ℕ × Entry} {x y : SeatView} (names : List (List ℕ))
     → length names ≡ o.graph.size
@@ -133,14 +133,14 @@ pub entered : {B : Type 0} {t : Setup} {command : Command} {request : Request} {
     {result : Result B SessionEnd} → Stands t.table.start request r old.seat new.seat
     → ((made : List (ℕ × Entry)) (after : Option ℕ) (text : List ℕ) → Enters t.names old.kept request made after text
     → AnswersCommand t old.kept command made after text)
-    → OnOk result (new.kept ≡ look_after old.kept r.0 request)
-    → Tells (entry_text t.names r.0 r.1.reply) old.said new.said result → Obeys t command old new result
+    → OnOk result (new.kept ≡ speakers_look_after old.kept r.0 request)
+    → TellsSpeaker (entry_text t.names r.0 r.1.reply) old.said new.said result → Obeys t command old new result
 entered {t = t} {r = r} {old} {new} {result = Ok b} stands opens keeps told = record {
   done = record {
     made = r ∷ [];
     text = entry_text t.names r.0 r.1.reply;
     answers = opens (r ∷ []) new.kept (entry_text t.names r.0 r.1.reply)
-        (r, stands.asked', refl, keeps ∙ sym (ap (look_after old.kept r.0) stands.asked'), refl);
+        (r, stands.asked', refl, keeps ∙ sym (ap (speakers_look_after old.kept r.0) stands.asked'), refl);
     gained = stands.gained;
     said = told;
   };
@@ -153,9 +153,9 @@ entered {t = t} {command} {r = r} {old} {new} {result = Err end} stands opens ke
       (record {
         more = r ∷ [];
         next = inr (
-          kept_after old.kept r,
+          speakers_kept_after old.kept r,
           entry_text t.names r.0 r.1.reply,
-          opens (r ∷ []) (kept_after old.kept r) (entry_text t.names r.0 r.1.reply)
+          opens (r ∷ []) (speakers_kept_after old.kept r) (entry_text t.names r.0 r.1.reply)
               (r, stands.asked', refl, refl, refl),
         );
         gained = stands.gained;
@@ -167,7 +167,7 @@ entered {t = t} {command} {r = r} {old} {new} {result = Err end} stands opens ke
 pub words_said : {B : Type 0} {t : Setup} {command : Command} {x : SeatView} {kept after : Option ℕ}
     {old new : Option (List ℕ)} {result : Result B SessionEnd} (words : List ℕ) → OnOk result
     (AnswersCommand t kept command [] after words)
-    → Tells words old new result
+    → TellsSpeaker words old new result
     → Obeys t command (record { seat = x; kept = kept; said = old }) (record { seat = x; kept = after; said = new })
     result
 words_said {x = x} {result = Ok b} words answers told = record {
@@ -212,7 +212,7 @@ pub with_none : {B : Type 0} {t : Setup} {command : Command} {x : SeatView} {kep
     {old new : Option (List ℕ)}
     {result : Result B SessionEnd} → kept ≡ None → after ≡ None
     → AnswersCommand t None command [] None (codes "bad look\n")
-    → Tells (codes "bad look\n") old new result
+    → TellsSpeaker (codes "bad look\n") old new result
     → Obeys t command (record { seat = x; kept = kept_number kept; said = old })
     (record { seat = x; kept = kept_number after; said = new }) result
 with_none {t = t} {command} {x} {kept} {after} {old} {new} {result} p q answers told =
@@ -222,7 +222,7 @@ with_none {t = t} {command} {x} {kept} {after} {old} {new} {result} p q answers 
     (record { seat = x; kept = kept_number k; said = new }) result) (sym q)
     (words_said (codes "bad look\n") (any_ok result answers) told))
 
-pub call_keeps : (kept : Option ℕ) (n : ℕ) (call : Plain) → call ≢ plain.Look → look_after kept n (asked call) ≡ kept
+pub call_keeps : (kept : Option ℕ) (n : ℕ) (call : Plain) → call ≢ plain.Look → speakers_look_after kept n (asked call) ≡ kept
 call_keeps kept n plain.Look other = absurd (other refl)
 call_keeps kept n (plain.Move m) other = refl
 call_keeps kept n (plain.Gift v x) other = refl

@@ -16,7 +16,7 @@
 --   number_alone     so has the seat that is alone
 --   one_more         what holds of each seat so far, and of the next
 --   fewer_left       fewer bytes can still be read
-use Rattle.dg_session.proofs.Common.{◌≡◌, ◌≢◌, ℕ, zero, suc, ◌+◌, ◌-◌, ◌*◌, ◌<◌, ◌≤◌, inl, inr, List, [], ◌∷◌, ◌++◌, length, take, map, Option, None, Result, Ok, Err, OnOk, IfErr, true, refl, sym, ap, subst, ◌∙◌, arith, append-nil, length-append, All, flat_map, ⊤, All-nil, All-head, All-tail, All-push, length-map, slice_index_or, Appends, Consumes, IsAtEnd, Entry, SeatView, Begins, with_newline, last_line, begins_then, begins_more, one_cutting, Writing, AppendsFront, appends_none, appends_more, consumes_none, consumes_more, consumes_kept, Setup, IsLine, AreLines, Passage, passage, Speakers, newcomers, Reading, reading, StopsAt, EndsBy, Writes, IsOver, SoFar, beginning, IsReady, Goes, StopsIn, round, Halts, Takes, TakesEnd, IsWritten, MAX_LINE, MAX_LINES, READ_SIZE, SessionEnd, Read, Write, LongLine, Turns, Table, Memory, Spawn}
+use Rattle.dg_session.proofs.Common.{◌≡◌, ◌≢◌, ℕ, zero, suc, ◌+◌, ◌-◌, ◌*◌, ◌<◌, ◌≤◌, inl, inr, List, [], ◌∷◌, ◌++◌, length, take, map, Option, None, Result, Ok, Err, OnOk, IfErr, true, refl, sym, ap, subst, ◌∙◌, arith, append-nil, length-append, All, flat_map, ⊤, All-nil, All-head, All-tail, All-push, length-map, slice_index_or, Appends, Consumes, IsAtEnd, Entry, SeatView, Begins, with_newline, last_line, begins_then, begins_more, one_cutting, StreamWriting, AppendsFront, appends_none, appends_more, consumes_none, consumes_more, consumes_kept, Setup, IsLine, AreSessionLines, Passage, passage, Speakers, newcomers, SessionReading, reading, StopsAt, EndsBy, Writes, IsOver, SoFar, beginning, IsReady, Goes, StopsIn, round, Halts, Takes, TakesEnd, IsWritten, MAX_LINE, MAX_LINES, READ_SIZE, SessionEnd, Read, Write, LongLine, Turns, Table, Memory, Spawn}
 use Rattle.std.specs.Io.KnownBytes.{Keeps}
 use Rattle.dg_session.specs.Ends.{Answers}
 use Rattle.dg_session.proofs.Cutting.{plain, lines_then, lines_end}
@@ -123,7 +123,7 @@ module _ {t : Setup} {input rest old mid : Option (List ℕ)} {xs : List SeatVie
   begins bytes = begins_more bytes (subst (Begins IsLine far.stream far.goes.ls) (append-nil at.pending) far.goes.came)
 
   is_over : {rest' new : Option (List ℕ)} {result : Result ℕ SessionEnd} (bytes text : List ℕ) (w z : Speakers)
-      (last : List (List ℕ)) → Consumes rest rest' bytes → AreLines (IsAtEnd rest') (at.pending ++ bytes) last
+      (last : List (List ℕ)) → Consumes rest rest' bytes → AreSessionLines (IsAtEnd rest') (at.pending ++ bytes) last
       → at.count + length last ≤ MAX_LINES → length (flat_map with_newline last) ≤ READ_SIZE + MAX_LINE + 1
       → Answers t at.who last w text → Writes result (passage old new) far.text text
       → EndsBy t (reading (far.stream ++ bytes) (far.goes.ls ++ last) rest') w z result
@@ -231,7 +231,7 @@ module _ {t : Setup} {input rest old mid : Option (List ℕ)} {xs : List SeatVie
       let g : Goes t at [] [] at [] = goes_none refl far.goes.ready in
       over_goes at.who g (consumes_none rest) (omega arith) unsaid (inl refl)
 
-pub written_ok : {B P : Type 0} {b : B} (taken : Result B SessionEnd) (text : List ℕ) (w w' : Writing)
+pub written_ok : {B P : Type 0} {b : B} (taken : Result B SessionEnd) (text : List ℕ) (w w' : StreamWriting)
     → IsWritten taken text w w' (Ok b) → OnOk taken P → P × Appends w.contents w'.contents text
 written_ok {B} {P} taken text w w' written holds = elim written [
   | inl so ↦ (subst (λ r. OnOk r P) so.0 holds, so.1)
@@ -243,7 +243,7 @@ on_ok (Ok b) f p = f p
 on_ok (Err e) f p = tt
 
 -- all that was said is written, or the writer took no more
-module _ {t : Setup} {input rest old : Option (List ℕ)} {xs : List SeatView} {at : SoFar} (w w' : Writing)
+module _ {t : Setup} {input rest old : Option (List ℕ)} {xs : List SeatView} {at : SoFar} (w w' : StreamWriting)
     (far : IsSoFar t input rest old w.contents xs at) where
   grown : (text : List ℕ) → Appends w.contents w'.contents text → Appends old w'.contents (far.text ++ text)
   grown text p = appends_more old w.contents w'.contents far.text text far.written p
@@ -310,7 +310,7 @@ module _ {t : Setup} {input rest old : Option (List ℕ)} {xs : List SeatView} {
 abbrev pub over_by : SessionEnd → Result ℕ SessionEnd
 over_by end = Err end
 
-pub not_read : {B : Type 0} {P : SessionEnd → Type 0} (taken : Result B SessionEnd) (text : List ℕ) (w w' : Writing)
+pub not_read : {B : Type 0} {P : SessionEnd → Type 0} (taken : Result B SessionEnd) (text : List ℕ) (w w' : StreamWriting)
     (end : SessionEnd) → IfErr taken P → ((e : SessionEnd) → P e → IsHalt e) → IsWritten taken text w w' (Err end)
     → over_by end ≡ over_by Read → ⊥
 not_read {B} {P} taken text w w' end halted by written is = let same : end ≡ Read = cc in elim written [
@@ -318,7 +318,7 @@ not_read {B} {P} taken text w w' end halted by written is = let same : end ≡ R
   | inr stuck ↦ (let wrong : end ≡ Write = cc in cc)
 ]
 
-pub write_failed : {B : Type 0} {P : SessionEnd → Type 0} (taken : Result B SessionEnd) (text : List ℕ) (w w' : Writing)
+pub write_failed : {B : Type 0} {P : SessionEnd → Type 0} (taken : Result B SessionEnd) (text : List ℕ) (w w' : StreamWriting)
     (end : SessionEnd) → IfErr taken P → ((e : SessionEnd) → P e → IsHalt e) → IsWritten taken text w w' (Err end)
     → over_by end ≡ over_by Write → w'.has_failed ≡ true
 write_failed {B} {P} taken text w w' end halted by written is = let same : end ≡ Write = cc in elim written [
@@ -335,7 +335,7 @@ numbers_answered t (line ∷ ls) s z text p =
     let (m, front, back, answer, more, whole) = p in
     numbers_answered t ls m z back more ∙ numbers_said t s m line front answer
 
-module _ (t : Setup) (r : Reading) (s z : Speakers) where
+module _ (t : Setup) (r : SessionReading) (s z : Speakers) where
   numbers_stopped : (end : SessionEnd) → StopsAt t r s z end → numbers z ≡ numbers s
   numbers_stopped end h = numbers_left t s z h.0 end h.2
 

@@ -4,7 +4,7 @@
 --   said_whole     after nothing, all that is kept is what was said since
 --   cleared_whole  and where that is cleared, it is nothing again
 --   unheard, silent   what is said is kept just where what was said before is
-use Rattle.dg_session.proofs.Common.{◌≡◌, ℕ, List, [], ◌++◌, Option, Some, None, refl, sym, ap, subst, ◌∙◌, append_assoc, append-nil, append_known, Setup, SoFar, Goes, IsSaid, IsCleared}
+use Rattle.dg_session.proofs.Common.{◌≡◌, ℕ, List, [], ◌++◌, Option, Some, None, refl, sym, ap, subst, ◌∙◌, append_assoc, append-nil, append_known, Setup, SoFar, Goes, IsSaid, AnswersAreCleared}
 
 pub said_none : (a : Option (List ℕ)) → a ≡ append_known a []
 said_none None = refl
@@ -30,11 +30,11 @@ said_whole (Some old) text none same said =
     subst (λ x. IsSaid x text) (sym (said ∙ ap (λ x. append_known x text) same)) (ap (λ l. l ++ text) none)
 
 pub cleared_whole : (a : Option (List ℕ)) {b c d : Option (List ℕ)} (text : List ℕ) → IsSaid a [] → b ≡ a
-    → c ≡ append_known b text → IsCleared c d → d ≡ a
+    → c ≡ append_known b text → AnswersAreCleared c d → d ≡ a
 cleared_whole None {d = d} text none same said cleared =
-    subst (λ x. IsCleared x d) (said ∙ ap (λ x. append_known x text) same) cleared
+    subst (λ x. AnswersAreCleared x d) (said ∙ ap (λ x. append_known x text) same) cleared
 cleared_whole (Some old) {d = d} text none same said cleared =
-    subst (λ x. IsCleared x d) (said ∙ ap (λ x. append_known x text) same) cleared ∙ ap (λ l. Some l) (sym none)
+    subst (λ x. AnswersAreCleared x d) (said ∙ ap (λ x. append_known x text) same) cleared ∙ ap (λ l. Some l) (sym none)
 
 pub unheard : (a : Option (List ℕ)) {b c : Option (List ℕ)} (text : List ℕ) → b ≡ a → c ≡ append_known b text
     → c ≡ None → a ≡ None

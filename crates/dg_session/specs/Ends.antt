@@ -2,10 +2,10 @@
 --   Answers t s ls z text == the lines ls are answered one after another with the text
 --   IsTooLong rest        == the rest begins with one byte more than a line may have, and no
 --                         newline
---   Reading               == what was read, the lines in it that are answered, and what the reader
+--   SessionReading        == what was read, the lines in it that are answered, and what the reader
 --                            has left, if that is known
 --   reading stream ls left == that of these
---   Leaves r P            == what stands after the answered lines is a rest of which P holds
+--   SessionLeaves r P     == what stands after the answered lines is a rest of which P holds
 --   StopsAt t r s z end   == after the answered lines one more came, at which the session ends so
 --   EndsBy t r s z result == what each end says, if just those lines are answered: they are all,
 --                            and counted; reading failed after all whole lines; a line is too long,
@@ -27,8 +27,8 @@ use Rattle.std.specs.Prelude.{◌≡◌, ℕ, ◌+◌, ◌<◌, ◌≤◌, ◌�
 use Rattle.std.specs.Io.KnownBytes.{Appends, Consumes, IsAtEnd}
 use Rattle.dg_session.specs.Common.{StandIn, HasPrefix, SeatView, lines, HasNoNewline, Begins, with_newline, AppendsFront}
 use Rattle.dg_session.specs.Setup.{Setup}
-use Rattle.dg_session.specs.Streams.{IsLine, AreLines, Passage}
-use Rattle.dg_session.specs.Order.{AscendFrom}
+use Rattle.dg_session.specs.Streams.{IsLine, AreSessionLines, Passage}
+use Rattle.dg_session.specs.Order.{AnswersAscendFrom}
 use Rattle.dg_session.specs.Speakers.{Speakers, newcomers, AnswersLineOf, RefusesLineOf}
 use Rattle.dg_session.specs.declared.ends.TheConstants.{MAX_LINE, MAX_LINES, READ_SIZE}
 use Rattle.dg_session.specs.declared.ends.SessionEnd.{SessionEnd}
@@ -46,34 +46,34 @@ pub record IsTooLong (rest : List ℕ) : Type 0 where
   pub no_newline : HasNoNewline front
   pub long : length front ≡ MAX_LINE + 1
 
-pub record Reading : Type 0 where
+pub record SessionReading : Type 0 where
   pub stream : List ℕ
   pub answered : List (List ℕ)
   pub left : Option (List ℕ)
 
-abbrev pub reading : List ℕ → List (List ℕ) → Option (List ℕ) → Reading
+abbrev pub reading : List ℕ → List (List ℕ) → Option (List ℕ) → SessionReading
 reading stream ls left = record { stream = stream; answered = ls; left = left }
 
-abbrev pub Leaves : Reading → (List ℕ → Type 0) → Type 0
-Leaves r P = (rest : List ℕ) × Begins IsLine r.stream r.answered rest × P rest
+abbrev pub SessionLeaves : SessionReading → (List ℕ → Type 0) → Type 0
+SessionLeaves r P = (rest : List ℕ) × Begins IsLine r.stream r.answered rest × P rest
 
-abbrev pub StopsAt : Setup → Reading → Speakers → Speakers → SessionEnd → Type 0
-StopsAt t r s z end = (line : List ℕ) × AreLines (IsAtEnd r.left) r.stream (r.answered ++ line ∷ [])
+abbrev pub StopsAt : Setup → SessionReading → Speakers → Speakers → SessionEnd → Type 0
+StopsAt t r s z end = (line : List ℕ) × AreSessionLines (IsAtEnd r.left) r.stream (r.answered ++ line ∷ [])
     × RefusesLineOf t s line z end
 
-abbrev pub EndsBy : Setup → Reading → Speakers → Speakers → Result ℕ SessionEnd → Type 0
+abbrev pub EndsBy : Setup → SessionReading → Speakers → Speakers → Result ℕ SessionEnd → Type 0
 EndsBy t r s z (Ok count) =
     (z ≡ s) × IsAtEnd r.left × (r.answered ≡ lines r.stream) × (count ≡ length r.answered)
-EndsBy t r s z (Err Read) = (z ≡ s) × Leaves r IsLine
-EndsBy t r s z (Err LongLine) = (z ≡ s) × (length r.answered < MAX_LINES) × Leaves r IsTooLong
+EndsBy t r s z (Err Read) = (z ≡ s) × SessionLeaves r IsLine
+EndsBy t r s z (Err LongLine) = (z ≡ s) × (length r.answered < MAX_LINES) × SessionLeaves r IsTooLong
 EndsBy t r s z (Err Turns) =
-    (z ≡ s) × (length r.answered ≡ MAX_LINES) × Leaves r (λ rest. 1 ≤ length rest)
+    (z ≡ s) × (length r.answered ≡ MAX_LINES) × SessionLeaves r (λ rest. 1 ≤ length rest)
 EndsBy t r s z (Err Write) = (z ≡ s) ⊎ ((end : SessionEnd) × StopsAt t r s z end)
 EndsBy t r s z (Err Memory) = (z ≡ s) ⊎ StopsAt t r s z Memory
 EndsBy t r s z (Err end) = StopsAt t r s z end
 
 pub record AreInOrder (s : Speakers) : Type 0 where
-  pub ascend : AscendFrom 0 s.entered
+  pub ascend : AnswersAscendFrom 0 s.entered
   pub stand : StandIn s.latest s.entered
   pub met : (s.latest ≡ [])
       ⊎ ((i : ℕ) × (x : SeatView) × (slice_get s.seats i ≡ Some x) × (s.latest ≡ x.met))
@@ -88,7 +88,7 @@ pub record IsOver (t : Setup) (input output : Passage) (xs ys : List SeatView)
   pub read : Consumes input.before input.after stream
   pub told : List (List ℕ)
   pub last : List (List ℕ)
-  pub came : AreLines (IsAtEnd input.after) stream (told ++ last)
+  pub came : AreSessionLines (IsAtEnd input.after) stream (told ++ last)
   pub few : length (flat_map with_newline last) ≤ READ_SIZE + MAX_LINE + 1
   pub middle : Speakers
   pub after : Speakers

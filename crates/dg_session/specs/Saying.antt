@@ -2,7 +2,7 @@
 -- the one history that the seat has found (`HasPrefix`), and is answered there as the game answers
 -- it. `names` are the names of the vertices, and `kept` is the number of the look that the session
 -- keeps, if it keeps one.
---   kept_after kept p           == the look that is kept after the entry p: it, if it is a look;
+--   speakers_kept_after kept p  == the look that is kept after the entry p: it, if it is a look;
 --                                  none, if it enters what was computed on the look; otherwise the
 --                                  one that was kept
 --   Says kept words made after text == no entry is made, and these words are said
@@ -18,19 +18,19 @@
 --                           the one that it had met; and where it made none, it was told of no
 --                           entry, and found no history
 use Rattle.std.specs.Prelude.{◌≡◌, ℕ, ◌⊎◌, List, [], ◌∷◌, ◌++◌, Option, Some, None, codes}
-use Rattle.dg_session.specs.Common.{IsWithin, asked, Entry, Request, Look, Judge, Command, Call, Commit, Rank, IsBeginning, SeatView, IsCommandLine, IsLineFault, fault_text, entry_text, LineFault}
+use Rattle.dg_session.specs.Common.{IsWithin, asked, Entry, Request, Look, Judge, Command, Call, Commit, Rank, IsPrefixOf, SeatView, IsCommandLine, IsLineFault, fault_text, entry_text, LineFault}
 use Rattle.dg_game.specs.declared.entry.Request.TheVariants.{Rank as RankRequest}
 use Rattle.dg_session.specs.Setup.{Setup}
 use Rattle.dg_session.specs.Order.{ComeAfter}
 
-abbrev pub look_after : Option ℕ → ℕ → Request → Option ℕ
-look_after kept number Look = Some number
-look_after kept number (Judge i) = None
-look_after kept number (RankRequest i k) = None
-look_after kept number request = kept
+abbrev pub speakers_look_after : Option ℕ → ℕ → Request → Option ℕ
+speakers_look_after kept number Look = Some number
+speakers_look_after kept number (Judge i) = None
+speakers_look_after kept number (RankRequest i k) = None
+speakers_look_after kept number request = kept
 
-abbrev pub kept_after : Option ℕ → ℕ × Entry → Option ℕ
-kept_after kept p = look_after kept p.0 p.1.request
+abbrev pub speakers_kept_after : Option ℕ → ℕ × Entry → Option ℕ
+speakers_kept_after kept p = speakers_look_after kept p.0 p.1.request
 
 abbrev pub Says : Option ℕ → List ℕ → List (ℕ × Entry) → Option ℕ → List ℕ → Type 0
 Says kept words made after text = (made ≡ []) × (after ≡ kept) × (text ≡ words)
@@ -38,7 +38,7 @@ Says kept words made after text = (made ≡ []) × (after ≡ kept) × (text ≡
 abbrev pub Enters : List (List ℕ) → Option ℕ → Request → List (ℕ × Entry) → Option ℕ → List ℕ
     → Type 0
 Enters names kept request made after text =
-    (p : ℕ × Entry) × (p.1.request ≡ request) × (made ≡ p ∷ []) × (after ≡ kept_after kept p)
+    (p : ℕ × Entry) × (p.1.request ≡ request) × (made ≡ p ∷ []) × (after ≡ speakers_kept_after kept p)
     × (text ≡ entry_text names p.0 p.1.reply)
 
 abbrev pub AnswersCommand : Setup → Option ℕ → Command → List (ℕ × Entry) → Option ℕ → List ℕ
@@ -65,6 +65,6 @@ pub record Gains (x y : SeatView) (made : List (ℕ × Entry)) : Type 0 where
   pub mine : y.mine ≡ x.mine ++ made
   pub heard : List (ℕ × Entry)
   pub told : y.told ≡ x.told ++ heard
-  pub prefix : IsBeginning x.prefix y.prefix
+  pub prefix : IsPrefixOf x.prefix y.prefix
   pub order : ComeAfter x.met made y.met
   pub still : made ≡ [] → (y.told ≡ x.told) × (y.prefix ≡ x.prefix)

@@ -6,7 +6,7 @@
 --   Talk       == how far all seats are: who speaks, and what was said
 --   SoFar      == how far the session is: what came after the last newline, how many lines are
 --                 answered, and who speaks
---   Tells words old new result == the words are said; or memory is refused, and nothing is
+--   TellsSpeaker words old new result == the words are said; or memory is refused, and nothing is
 --   Obeys t command old new result == the speaker's command is done and answered; or the session
 --                 ends so at it, and nothing is said
 --   Hears t line old new result    == so is the speaker's line
@@ -20,7 +20,7 @@
 --   StaysAt at rest end == the session ends so before the rest: a line there is too long or one too
 --                 many, or memory is refused
 --   StopsIn t ended at rest z end  == or at the line that comes next, as it is refused
---   Round      == who speaks after some lines, and the text that answers them
+--   SessionRound == who speaks after some lines, and the text that answers them
 --   round z text == that of these
 --   Halts t ended old bytes after end == the bytes are taken but for a rest, and there the session
 --                 ends so; `ended` says that no more is to come
@@ -29,22 +29,22 @@
 --   TakesEnd t old new said result == so is the end: what is pending is the last line, if it has a
 --                 byte
 --   IsSaid said text == what was said, if it is kept, is the text
---   IsCleared old new == it is kept as before, and is nothing now
+--   AnswersAreCleared old new == it is kept as before, and is nothing now
 --   IsWritten taken text old new result == all that was said is written, and it ends as the taking
 --                 did; or a front of it is, and the writer took no more
 use Rattle.std.specs.Prelude.{◌≡◌, ◌≢◌, ℕ, ◌+◌, ◌<◌, ◌≤◌, ◌⊎◌, List, [], ◌∷◌, ◌++◌, length, true, Option, None, Some, Result, Ok, Err, OnOk, OnErr, IfErr, ⊤}
 use Rattle.std.specs.Global.{Vec}
 use Rattle.std.specs.Io.KnownBytes.{Appends, append_known}
-use Rattle.dg_session.specs.Common.{Entry, Command, SeatView, LookView, Writing, AppendsFront, Begins, last_line}
+use Rattle.dg_session.specs.Common.{Entry, Command, SeatView, LookView, StreamWriting, AppendsFront, Begins, last_line}
 use Rattle.dg_session.specs.Setup.{Setup}
 use Rattle.dg_session.specs.EntriesSoFar.{EntriesSoFarView}
-use Rattle.dg_session.specs.Streams.{IsLine, AreLines, Passage}
+use Rattle.dg_session.specs.Streams.{IsLine, AreSessionLines, Passage}
 use Rattle.dg_session.specs.Saying.{Gains, AnswersCommand, AnswersLine}
 use Rattle.dg_session.specs.Refusing.{RefusesCommand, RefusesLine}
 use Rattle.dg_session.specs.Speakers.{Speakers, speakers, newcomers, kept_number, AnswersLineOf, RefusesLineOf}
 use Rattle.dg_session.specs.Ends.{Answers, IsTooLong}
 use Rattle.dg_session.specs.declared.answering.AnswerBuffer.{AnswerBuffer}
-use Rattle.dg_session.specs.declared.taking.Progress.{Progress}
+use Rattle.dg_session.specs.declared.taking.SessionProgress.{SessionProgress}
 use Rattle.dg_session.specs.declared.ends.TheConstants.{MAX_LINE, MAX_LINES}
 use Rattle.dg_session.specs.declared.ends.SessionEnd.{SessionEnd}
 use Rattle.dg_session.specs.declared.ends.SessionEnd.TheVariants.{Write, LongLine, Turns, Memory}
@@ -74,7 +74,7 @@ pub record SoFar : Type 0 where
   pub count : ℕ
   pub who : Speakers
 
-abbrev pub so_far : {N : Type 0} → Progress N → List SeatView → SoFar
+abbrev pub so_far : {N : Type 0} → SessionProgress N → List SeatView → SoFar
 so_far p xs = record {
   pending = p.pending.items;
   count = p.count;
@@ -92,10 +92,10 @@ pub record IsDone (A : List (ℕ × Entry) → Option ℕ → List ℕ → Type 
   pub gained : Gains old.seat new.seat made
   pub said : new.said ≡ append_known old.said text
 
-abbrev pub Tells : {B : Type 0} → List ℕ → Option (List ℕ) → Option (List ℕ)
+abbrev pub TellsSpeaker : {B : Type 0} → List ℕ → Option (List ℕ) → Option (List ℕ)
     → Result B SessionEnd → Type 0
-Tells words old new (Ok b) = new ≡ append_known old words
-Tells words old new (Err end) = (end ≡ Memory) × (new ≡ old)
+TellsSpeaker words old new (Ok b) = new ≡ append_known old words
+TellsSpeaker words old new (Err end) = (end ≡ Memory) × (new ≡ old)
 
 pub record Obeys {B : Type 0} (t : Setup) (command : Command) (old new : Speaker)
     (result : Result B SessionEnd) : Type 0 where
@@ -152,18 +152,18 @@ StaysAt at rest end = ⊥
 pub record StopsIn (t : Setup) (ended : Type 0) (at : SoFar) (rest : List ℕ) (z : Speakers)
     (end : SessionEnd) : Type 0 where
   pub line : List ℕ
-  pub came : AreLines ended (at.pending ++ rest) (line ∷ [])
+  pub came : AreSessionLines ended (at.pending ++ rest) (line ∷ [])
   pub few : at.count < MAX_LINES
   pub stops : RefusesLineOf t at.who line z end
 
-pub record Round : Type 0 where
+pub record SessionRound : Type 0 where
   pub who : Speakers
   pub text : List ℕ
 
-abbrev pub round : Speakers → List ℕ → Round
+abbrev pub round : Speakers → List ℕ → SessionRound
 round z text = record { who = z; text = text }
 
-pub record Halts (t : Setup) (ended : Type 0) (old : SoFar) (bytes : List ℕ) (after : Round)
+pub record Halts (t : Setup) (ended : Type 0) (old : SoFar) (bytes : List ℕ) (after : SessionRound)
     (end : SessionEnd) : Type 0 where
   pub rest : List ℕ
   pub at : SoFar
@@ -189,11 +189,11 @@ abbrev pub IsSaid : Option (List ℕ) → List ℕ → Type 0
 IsSaid None text = ⊤
 IsSaid (Some said) text = said ≡ text
 
-abbrev pub IsCleared : Option (List ℕ) → Option (List ℕ) → Type 0
-IsCleared None new = new ≡ None
-IsCleared (Some text) new = new ≡ Some []
+abbrev pub AnswersAreCleared : Option (List ℕ) → Option (List ℕ) → Type 0
+AnswersAreCleared None new = new ≡ None
+AnswersAreCleared (Some text) new = new ≡ Some []
 
-abbrev pub IsWritten : {B : Type 0} → Result B SessionEnd → List ℕ → Writing → Writing
+abbrev pub IsWritten : {B : Type 0} → Result B SessionEnd → List ℕ → StreamWriting → StreamWriting
     → Result B SessionEnd → Type 0
 IsWritten taken text old new result =
     ((taken ≡ result) × Appends old.contents new.contents text)

@@ -4,7 +4,7 @@ ghost use Rattle.dg_rank.specs.Ranks.{MayHaveWorkers};
 ghost use Rattle.dg_game.specs.declared.step.Command.TheVariants.{Call, Commit, Rank};
 ghost use Rattle.dg_lines.specs.Texts.{HasNames, entry_text};
 ghost use Rattle.dg_session.specs.Setup.{setup};
-ghost use Rattle.dg_session.specs.SoFar.{heard, speaker, Tells, Hears, Obeys};
+ghost use Rattle.dg_session.specs.SoFar.{heard, speaker, TellsSpeaker, Hears, Obeys};
 
 use crate::ends::SessionEnd;
 use crate::line_format::LineFormat;
@@ -47,7 +47,7 @@ pub(crate) struct AnswerBuffer {
 impl AnswerBuffer {
     /// Says the words. If memory is refused, nothing more is said.
     pub(crate) fn say(&mut self, words: &[u8]) -> Result<(), SessionEnd>
-        ensures { Tells words.now (heard self.old.text) (heard self.new.text) result }
+        ensures { TellsSpeaker words.now (heard self.old.text) (heard self.new.text) result }
     {
         let Some(text) = &mut self.text else {
             return Ok(());
@@ -66,7 +66,7 @@ impl AnswerBuffer {
         receipt: &Receipt<N>,
     ) -> Result<(), SessionEnd>
         requires { HasNames names.now receipt.now.1.reply }
-        ensures { Tells (entry_text names.now receipt.now.0 receipt.now.1.reply)
+        ensures { TellsSpeaker (entry_text names.now receipt.now.0 receipt.now.1.reply)
             (heard self.old.text) (heard self.new.text) result }
     {
         let Some(text) = &mut self.text else {

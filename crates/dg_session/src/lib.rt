@@ -12,6 +12,6 @@ mod taking;
 
 pub use dg_lines::{LineFault, parse_line, parse_step, reply_text};
 pub use ends::{MAX_LINE, MAX_LINES, READ_SIZE, SessionEnd};
-pub use laws::streams_are_cut_in_one_way;
+pub use laws::sessions_cut_one_way;
 pub use line_format::LineFormat;
 pub use serving::{serve, serve_seats, serve_unheard};

@@ -6,12 +6,12 @@ ghost use Rattle.dg_session.specs.Ends.{IsOver, IsSession};
 ghost use Rattle.dg_session.specs.Setup.{setup};
 ghost use Rattle.dg_session.specs.Streams.{passage};
 ghost use Rattle.dg_session.specs.declared.line_format.LineFormat.TheVariants.{OneSeat};
-ghost use Rattle.dg_session.specs.SoFar.{heard, IsSaid, IsCleared, IsWritten};
+ghost use Rattle.dg_session.specs.SoFar.{heard, IsSaid, AnswersAreCleared, IsWritten};
 
 use crate::answering::{AnswerBuffer, Shared};
 use crate::ends::{READ_SIZE, SessionEnd};
 use crate::line_format::LineFormat;
-use crate::taking::{Progress, take_bytes, take_end};
+use crate::taking::{SessionProgress, take_bytes, take_end};
 use dg_log::Name;
 use dg_system::{Input, Output};
 use dg_table::{Seat, Table};
@@ -93,7 +93,7 @@ pub fn serve_seats<N: Name, R: Threads + Wait, I: Read, O: Write>(
         how,
     };
     let ended = serve_lines(&shared, seats, reader, writer, Some(Vec::new(alloc)));
-    have_prefixes(seats);
+    seats_have_prefixes(seats);
     ended
 }
 
@@ -126,12 +126,12 @@ pub fn serve_unheard<N: Name, R: Threads + Wait, I: Read>(
     let mut writer = Output::new(io::sink());
     let seats = slice::from_mut(seat);
     let ended = serve_lines(&shared, seats, reader, &mut writer, None);
-    have_prefixes(seats);
+    seats_have_prefixes(seats);
     ended
 }
 
 /// Each seat has found a history of its table. Nothing is done.
-fn have_prefixes<N: Name>(seats: &[Seat<N>])
+fn seats_have_prefixes<N: Name>(seats: &[Seat<N>])
     ensures { All (HasPrefix N.table) seats.now }
 {
     for seat in seats {
@@ -160,7 +160,8 @@ fn serve_lines<N: Name, R: Threads + Wait, I: Read, O: Write>(
     let Ok(mut buffer) = vec![in shared.alloc; 0u8; READ_SIZE] else {
         return Err(SessionEnd::Memory);
     };
-    let Some(mut progress) = Progress::new(shared.alloc, seats, text, shared.table.inverse()) else {
+    let Some(mut progress) = SessionProgress::new(shared.alloc, seats, text, shared.table.inverse())
+    else {
         return Err(SessionEnd::Memory);
     };
     'reads: loop {
@@ -191,7 +192,7 @@ fn write_said<O: Write>(
     requires { heard said.old.text ≡ None → writer.old.contents ≡ None }
     ensures written { (text : List ℕ) → IsSaid (heard said.old.text) text →
         IsWritten taken text writer.old writer.new result }
-    ensures cleared { OnOk result (IsCleared (heard said.old.text) (heard said.new.text)) }
+    ensures cleared { OnOk result (AnswersAreCleared (heard said.old.text) (heard said.new.text)) }
     ensures still { heard said.old.text ≡ None → writer.new ≡ writer.old }
 {
     let Some(text) = &mut said.text else {

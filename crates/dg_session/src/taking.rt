@@ -20,7 +20,7 @@ use std::thread::Threads;
 
 /// How far a session is.
 #[derive(Drop)]
-pub(crate) struct Progress<N: Name> {
+pub(crate) struct SessionProgress<N: Name> {
     /// What came after the last newline.
     pub(crate) pending: Vec<u8>,
     /// How many lines are answered.
@@ -32,7 +32,7 @@ pub(crate) struct Progress<N: Name> {
     pub(crate) said: AnswerBuffer,
 }
 
-impl<N: Name> Progress<N> {
+impl<N: Name> SessionProgress<N> {
     /// How far a session is that has read nothing, and whose seats keep no look. It writes its answers into this text, and uses
     /// this inverse for its verdicts. `None` if memory is refused.
     pub(crate) fn new(
@@ -40,7 +40,7 @@ impl<N: Name> Progress<N> {
         seats: &[Seat<N>],
         text: Option<Vec<u8>>,
         inverse: &InverseLaplacian,
-    ) -> Option<Progress<N>>
+    ) -> Option<SessionProgress<N>>
         ensures pending { IfSome result (λ p. p.pending.items ≡ []) }
         ensures count { IfSome result (λ p. p.count ≡ 0) }
         ensures kept { IfSome result (λ p.
@@ -53,7 +53,7 @@ impl<N: Name> Progress<N> {
             Some(kept) => kept,
             None => return None,
         };
-        Some(Progress {
+        Some(SessionProgress {
             pending: Vec::new(alloc),
             count: 0,
             kept,
@@ -101,7 +101,7 @@ fn may_take(pending: &[u8], count: u32, part: &[u8]) -> Result<(), SessionEnd>
 #[inline(always)]
 fn answer_pending<N: Name, R: Threads + Wait>(
     shared: &Shared<N, R>,
-    progress: &mut Progress<N>,
+    progress: &mut SessionProgress<N>,
     seats: &mut [Seat<N>],
     part: &[u8],
 ) -> Result<(), SessionEnd>
@@ -140,7 +140,7 @@ fn answer_pending<N: Name, R: Threads + Wait>(
 #[inline(always)]
 fn end_line<N: Name, R: Threads + Wait>(
     shared: &Shared<N, R>,
-    progress: &mut Progress<N>,
+    progress: &mut SessionProgress<N>,
     seats: &mut [Seat<N>],
     part: &[u8],
 ) -> Result<(), SessionEnd>
@@ -167,7 +167,7 @@ fn end_line<N: Name, R: Threads + Wait>(
 /// Takes bytes that were read, and answers the lines that end in them.
 pub(crate) fn take_bytes<N: Name, R: Threads + Wait>(
     shared: &Shared<N, R>,
-    progress: &mut Progress<N>,
+    progress: &mut SessionProgress<N>,
     seats: &mut [Seat<N>],
     bytes: &[u8],
 ) -> Result<(), SessionEnd>
@@ -201,7 +201,7 @@ pub(crate) fn take_bytes<N: Name, R: Threads + Wait>(
 /// Takes the end: answers what is pending as the last line, if it has a byte.
 pub(crate) fn take_end<N: Name, R: Threads + Wait>(
     shared: &Shared<N, R>,
-    progress: &mut Progress<N>,
+    progress: &mut SessionProgress<N>,
     seats: &mut [Seat<N>],
 ) -> Result<(), SessionEnd>
     requires { IsReady (so_far progress.old seats.old) }

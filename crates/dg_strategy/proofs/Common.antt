@@ -10,12 +10,12 @@ pub use Rattle.dg_game.proofs.HistoryLaws.{gifts_in-more}
 pub use Rattle.dg_game.proofs.LegalLaws.{legal_more, legal_none, legal_part}
 pub use Rattle.dg_game.proofs.ListLaws.{slice_get-append, slice_get-seam}
 pub use Rattle.dg_game.proofs.StepLaw.{one_more_entry}
-pub use Rattle.dg_game.specs.History.{gift_counted, gifts_in, position_after}
+pub use Rattle.dg_game.specs.History.{gifts_by_reply, gifts_in, position_after}
 pub use Rattle.dg_game.specs.Legal.{IsLegal, LooksBack}
 pub use Rattle.dg_game.specs.MoveReplies.{RepliesToMove}
 pub use Rattle.dg_game.specs.Position.{Position, Shows}
 pub use Rattle.dg_game.specs.Replies.{Replies, RepliesAt, RepliesToClaim}
-pub use Rattle.dg_game.specs.State.{LeadsTo, State}
+pub use Rattle.dg_game.specs.State.{LeadsTo, GameState}
 pub use Rattle.dg_game.specs.Step.{after_reply}
 pub use Rattle.dg_game.specs.declared.entry.Entry.{Entry}
 pub use Rattle.dg_game.specs.declared.entry.Refusal.TheVariants.{Empty, NoVertex, Range}
@@ -26,14 +26,14 @@ pub use Rattle.dg_game.specs.declared.entry.Request.TheVariants.{Claim}
 pub use Rattle.dg_graph.specs.Graph.{IsGraph}
 pub use Rattle.dg_log.specs.Tables.{TableData}
 pub use Rattle.dg_strategy.specs.Choices.{BorrowsAtLeast, BorrowsInDebt, Choosing, GivesMoves, IsLeastInDebt, SettlesDebts}
-pub use Rattle.dg_strategy.specs.Greedy.{AllMoves, AreGreedy, EndsSo, EndsTurn, IsGreedyCall, IsGreedyGame, IsGreedyTurn}
-pub use Rattle.dg_strategy.specs.GreedyLaws.{AreSameGame, GreedyGameIsOne, IsAloneAt, LeastDebtors, SettlingOutIsGreedy, ShowTheSame}
-pub use Rattle.dg_strategy.specs.Plays.{AreMoves, Gains, IsClaimed, IsMadeOrPastRange, IsMove, IsPlayed, IsPlayedOut, IsSettlerTurn, IsStopped, IsStrategyTurn, IsTurnBy}
+pub use Rattle.dg_strategy.specs.Greedy.{AllChosenMoves, AreGreedy, EndsSo, EndsTurn, IsGreedyCall, IsGreedyGame, IsGreedyTurn}
+pub use Rattle.dg_strategy.specs.GreedyLaws.{AreSameGreedyGame, GreedyGameIsOne, StrategyIsAloneAt, LeastDebtors, SettlingOutIsGreedy, GreedyShowTheSame}
+pub use Rattle.dg_strategy.specs.Plays.{AreMoves, Gains, IsClaimed, ChoiceIsMadeOrPastRange, IsChosenMove, IsPlayed, IsPlayedOut, IsSettlerTurn, IsStopped, IsStrategyTurn, IsTurnBy}
 pub use Rattle.dg_strategy.specs.declared.playing.Ended.{Ended}
 pub use Rattle.dg_strategy.specs.declared.playing.Ended.TheVariants.{Settled, Turns}
 pub use Rattle.dg_table.proofs.Entries.{entries_enumerated, enumerate_from-more, own_alone}
 pub use Rattle.dg_table.specs.Faults.{RefusesCall}
-pub use Rattle.dg_table.specs.Seats.{AreSeated, Keeps, SeatView, entries_of}
+pub use Rattle.dg_table.specs.Seats.{AreOfTableSeats, Keeps, SeatView, entries_of}
 pub use Rattle.dg_game.specs.Requests.{request_for}
 pub use Rattle.dg_table.specs.declared.fault.Fault.{Fault}
 pub use Rattle.dg_theory.specs.Firing.{AgreeOn, IsEffective}

@@ -7,7 +7,7 @@
 --   stopped_by       a turn that is refused
 --   played_out       turns that were all moves
 --   gained_as, played_as, stopped_as   turns that are each of another kind too
-use Rattle.dg_strategy.proofs.Common.{◌≡◌, ℕ, ◌+◌, ◌<◌, List, [], ◌∷◌, ◌++◌, length, length-append, Option, Some, None, append_assoc, append-nil, arith, refl, sym, ap, subst, ◌∙◌, FoldsTo-push, FoldsTo, Move, Entry, Claim, RefusesCall, request_for, SeatView, Keeps, Fault, Choosing, IsTurnBy, IsMove, AreMoves, Gains, IsPlayedOut, IsClaimed, IsPlayed, IsStopped, Ended, Settled, Turns, TableData}
+use Rattle.dg_strategy.proofs.Common.{◌≡◌, ℕ, ◌+◌, ◌<◌, List, [], ◌∷◌, ◌++◌, length, length-append, Option, Some, None, append_assoc, append-nil, arith, refl, sym, ap, subst, ◌∙◌, FoldsTo-push, FoldsTo, Move, Entry, Claim, RefusesCall, request_for, SeatView, Keeps, Fault, Choosing, IsTurnBy, IsChosenMove, AreMoves, Gains, IsPlayedOut, IsClaimed, IsPlayed, IsStopped, Ended, Settled, Turns, TableData}
 
 -- the seat y is the seat x with the entries es
 pub record Left (x : SeatView) (es : List (ℕ × Entry)) (y : SeatView) : Type 0 where
@@ -40,7 +40,7 @@ gained_by A table x es y z steps kept =
       told = kept.told ∙ left.told;
     }
 
-moves_more : (es : List (ℕ × Entry)) (r : ℕ × Entry) → AreMoves es → IsMove r.1.request → AreMoves (es ++ r ∷ [])
+moves_more : (es : List (ℕ × Entry)) (r : ℕ × Entry) → AreMoves es → IsChosenMove r.1.request → AreMoves (es ++ r ∷ [])
 moves_more [] r moves move = (move, tt)
 moves_more (p ∷ es) r moves move = (moves.0, moves_more es r moves.1 move)
 
@@ -49,11 +49,11 @@ keeps_itself x = record { number = refl; mine = refl; told = refl; prefix = refl
 
 module _ (A : Choosing) (table : TableData) where
   pub a_move : (x : SeatView) (r : ℕ × Entry) (y : SeatView) → IsTurnBy A table x r y → ¬ (r.1.request ≡ Claim) →
-      IsMove r.1.request
+      IsChosenMove r.1.request
   a_move x r y turn other = asks turn.answer turn.answered.request'
     where
-      asks : (m : Option Move) → r.1.request ≡ request_for m → IsMove r.1.request
-      asks (Some m) is = subst IsMove (sym is) tt
+      asks : (m : Option Move) → r.1.request ≡ request_for m → IsChosenMove r.1.request
+      asks (Some m) is = subst IsChosenMove (sym is) tt
       asks None is = absurd (other is)
 
   -- what turns that are moves leave of a seat, and how many they are

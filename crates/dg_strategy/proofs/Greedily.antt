@@ -6,16 +6,16 @@
 --   went_on        with one more turn that is a move
 --   settled_game   with one more turn that is the claim the game is settled
 --   used_up        or its turns are used up
-use Rattle.dg_strategy.proofs.Common.{◌≡◌, ℕ, ◌<◌, Bool, true, false, not, is_some, List, [], ◌∷◌, ◌++◌, length, Option, Some, None, arith, refl, sym, subst, append_assoc, append-nil, IsEffective, StartData, Move, position_after, IsLegal, LooksBack, Position, Replies, State, LeadsTo, Entry, Request, legal_none, legal_more, request_for, BorrowsAtLeast, IsGreedyCall, AreGreedy, AllMoves, EndsTurn, IsGreedyGame, IsGreedyTurn, IsMove}
+use Rattle.dg_strategy.proofs.Common.{◌≡◌, ℕ, ◌<◌, Bool, true, false, not, is_some, List, [], ◌∷◌, ◌++◌, length, Option, Some, None, arith, refl, sym, subst, append_assoc, append-nil, IsEffective, StartData, Move, position_after, IsLegal, LooksBack, Position, Replies, GameState, LeadsTo, Entry, Request, legal_none, legal_more, request_for, BorrowsAtLeast, IsGreedyCall, AreGreedy, AllChosenMoves, EndsTurn, IsGreedyGame, IsGreedyTurn, IsChosenMove}
 use Rattle.dg_strategy.proofs.Turned.{claim_won}
 
-pub record IsUnderWay (o : StartData) (H : List Entry) (s : State) : Type 0 where
+pub record IsUnderWay (o : StartData) (H : List Entry) (s : GameState) : Type 0 where
   pub leads : LeadsTo o H s
   pub legal : IsLegal o H
   pub greedy : AreGreedy o [] H
-  pub moves : AllMoves H
+  pub moves : AllChosenMoves H
 
-pub turn_made : (o : StartData) (H : List Entry) (s : State) (answer : Option Move) (e : Entry) (settled : Bool) →
+pub turn_made : (o : StartData) (H : List Entry) (s : GameState) (answer : Option Move) (e : Entry) (settled : Bool) →
     LeadsTo o H s → BorrowsAtLeast s.amounts answer → e.seat ≡ 1 → e.request ≡ request_for answer →
     Replies o H e.request e.reply → is_some answer ≡ not settled → IsGreedyTurn o H e settled
 turn_made o H s answer e settled leads least seat asked right there = record {
@@ -30,7 +30,7 @@ turn_made o H s answer e settled leads least seat asked right there = record {
 
     ends : (b : Bool) (m : Option Move) → is_some m ≡ not b → e.request ≡ request_for m → BorrowsAtLeast s.amounts m →
         EndsTurn b e
-    ends false (Some m) there is at_least = subst IsMove (sym is) tt
+    ends false (Some m) there is at_least = subst IsChosenMove (sym is) tt
     ends false None there is effective = absurd (cc)
     ends true (Some m) there is at_least = absurd (cc)
     ends true None there is effective =
@@ -41,7 +41,7 @@ turn_made o H s answer e settled leads least seat asked right there = record {
           claim_won p e.reply everywhere (subst (λ (q : Request). Replies o H q e.reply) is right),
         )
 
-pub begun : (o : StartData) (s : State) → LeadsTo o [] s → IsUnderWay o [] s
+pub begun : (o : StartData) (s : GameState) → LeadsTo o [] s → IsUnderWay o [] s
 begun o s leads = record { leads = leads; legal = legal_none o; greedy = tt; moves = tt }
 
 -- a move and a claim look back to nothing
@@ -75,11 +75,11 @@ greedy_turns : (o : StartData) (H : List Entry) (e : Entry) (settled : Bool) →
     IsGreedyTurn o H e settled → AreGreedy o [] (H ++ e ∷ [])
 greedy_turns o H e settled greedy turn = greedy_more o [] H e turn.seat turn.call greedy
 
-moves_more : (H : List Entry) (e : Entry) → AllMoves H → IsMove e.request → AllMoves (H ++ e ∷ [])
+moves_more : (H : List Entry) (e : Entry) → AllChosenMoves H → IsChosenMove e.request → AllChosenMoves (H ++ e ∷ [])
 moves_more [] e moves move = (move, tt)
 moves_more (x ∷ H) e moves move = (moves.0, moves_more H e moves.1 move)
 
-pub went_on : (o : StartData) (H : List Entry) (e : Entry) (s t : State) (settled : Bool) → settled ≡ false →
+pub went_on : (o : StartData) (H : List Entry) (e : Entry) (s t : GameState) (settled : Bool) → settled ≡ false →
     IsGreedyTurn o H e settled → LeadsTo o (H ++ e ∷ []) t → IsUnderWay o H s → IsUnderWay o (H ++ e ∷ []) t
 went_on o H e s t false is turn leads known = record {
   leads = leads;
@@ -89,7 +89,7 @@ went_on o H e s t false is turn leads known = record {
 }
 went_on o H e s t true is turn leads known = absurd (cc)
 
-pub settled_game : (o : StartData) (n : ℕ) (H : List Entry) (e : Entry) (s : State) (settled : Bool) → settled ≡ true →
+pub settled_game : (o : StartData) (n : ℕ) (H : List Entry) (e : Entry) (s : GameState) (settled : Bool) → settled ≡ true →
     IsGreedyTurn o H e settled → length H < n → IsUnderWay o H s → IsGreedyGame o n (H ++ e ∷ []) true
 settled_game o n H e s true is turn few known = record {
   legal = legal_turn o H e true known.legal turn;
@@ -98,6 +98,6 @@ settled_game o n H e s true is turn few known = record {
 }
 settled_game o n H e s false is turn few known = absurd (cc)
 
-pub used_up : (o : StartData) (n : ℕ) (H : List Entry) (s : State) → length H ≡ n → IsUnderWay o H s →
+pub used_up : (o : StartData) (n : ℕ) (H : List Entry) (s : GameState) → length H ≡ n → IsUnderWay o H s →
     IsGreedyGame o n H false
 used_up o n H s count known = record { legal = known.legal; greedy = known.greedy; ends = (known.moves, count) }

@@ -11,7 +11,7 @@
 --   ends_on         so does a greedy game
 --   one_game_on     greedy games that go on from one position are the same
 --   greedy_game_is_one   so are those from one start
-use Rattle.dg_strategy.proofs.Common.{◌≡◌, ℕ, ◌-◌, ◌<◌, ◌≤◌, Bool, true, false, List, [], ◌∷◌, ◌++◌, length, take, Option, Some, None, ◌⊎◌, inl, inr, arith, refl, sym, ap, subst, ◌∙◌, append_assoc, ⊎_elim, take-append_seam, cases_lt, ints, AgreeOn, StartData, Vector, at, IsAfterMove, Move, Borrow, position_after, gifts_in, IsLegal, RepliesToMove, Position, Shows, Replies, RepliesAt, after_reply, Entry, Range, Request, Reply, Moved, Refused, Won, slice_get-seam, one_more_entry, request_for, IsLeastInDebt, BorrowsAtLeast, IsGreedyCall, AreGreedy, AllMoves, EndsSo, ShowTheSame, AreSameGame, GreedyGameIsOne, IsMove, IsMadeOrPastRange}
+use Rattle.dg_strategy.proofs.Common.{◌≡◌, ℕ, ◌-◌, ◌<◌, ◌≤◌, Bool, true, false, List, [], ◌∷◌, ◌++◌, length, take, Option, Some, None, ◌⊎◌, inl, inr, arith, refl, sym, ap, subst, ◌∙◌, append_assoc, ⊎_elim, take-append_seam, cases_lt, ints, AgreeOn, StartData, Vector, at, IsAfterMove, Move, Borrow, position_after, gifts_in, IsLegal, RepliesToMove, Position, Shows, Replies, RepliesAt, after_reply, Entry, Range, Request, Reply, Moved, Refused, Won, slice_get-seam, one_more_entry, request_for, IsLeastInDebt, BorrowsAtLeast, IsGreedyCall, AreGreedy, AllChosenMoves, EndsSo, GreedyShowTheSame, AreSameGreedyGame, GreedyGameIsOne, IsChosenMove, ChoiceIsMadeOrPastRange}
 use Rattle.dg_game.specs.declared.entry.Request.TheVariants as request
 use Rattle.dg_strategy.proofs.Turned.{move_answered}
 
@@ -62,7 +62,7 @@ asked_once p q r call other =
     (chosen_once p call.amounts other.amounts call.answer other.answer call.shown other.shown call.least other.least)
     ∙ sym other.asked
 
-made_or_past : (a : Reply) → IsMadeOrPastRange a → ((d : Vector) × (a ≡ Moved d)) ⊎ (a ≡ Refused Range)
+made_or_past : (a : Reply) → ChoiceIsMadeOrPastRange a → ((d : Vector) × (a ≡ Moved d)) ⊎ (a ≡ Refused Range)
 made_or_past (Moved d) made = inl (d, refl)
 made_or_past (Refused Range) made = inr refl
 made_or_past (Refused refusal) made = absurd made
@@ -70,7 +70,7 @@ made_or_past a made = absurd made
 
 -- the replies show the same, and lead from the position to one position
 abbrev pub LeadAlike : Position → Request → Reply → Reply → Type 0
-LeadAlike p r a b = ShowTheSame a b × (after_reply p r a ≡ after_reply p r b)
+LeadAlike p r a b = GreedyShowTheSame a b × (after_reply p r a ≡ after_reply p r b)
 
 -- a move that was made was not refused for the range
 made_not_past : (p : Position) (m : Move) (d : Vector) → RepliesToMove p m (Moved d) →
@@ -101,7 +101,7 @@ same_moved p v a b below right right' =
         let same : a ≡ b = past ∙ sym past' in
         (inl same, ap leads same)
 
-same_reply : (p : Position) (q : ℕ) (f h : ℕ → ℕ) (i j : ℕ) (r : Request) (a b : Reply) → IsGreedyCall p r → IsMove r →
+same_reply : (p : Position) (q : ℕ) (f h : ℕ → ℕ) (i j : ℕ) (r : Request) (a b : Reply) → IsGreedyCall p r → IsChosenMove r →
     RepliesAt p q f i r a → RepliesAt p q h j r b → LeadAlike p r a b
 same_reply p q f h i j r a b call move right right' = by_answer call.answer call.least call.asked
   where
@@ -113,7 +113,7 @@ same_reply p q f h i j r a b call move right right' = by_answer call.answer call
         subst (λ (s : Request). LeadAlike p s a b) (sym asks)
         (same_moved p v a b below (subst (λ (s : Request). RepliesAt p q f i s a) asks right)
         (subst (λ (s : Request). RepliesAt p q h j s b) asks right'))
-    by_answer None least asked = absurd (subst IsMove asked move)
+    by_answer None least asked = absurd (subst IsChosenMove asked move)
 
 right_here : (o : StartData) (K : List Entry) (e : Entry) (H : List Entry) → IsLegal o (K ++ e ∷ H) →
     Replies o K e.request e.reply
@@ -123,15 +123,15 @@ right_here o K e H legal =
 
 abbrev pub EndsOn : ℕ → List Entry → Bool → Type 0
 EndsOn n [] settled = (n ≡ 0) × (settled ≡ false)
-EndsOn n (e ∷ H) settled = (0 < n) × ((IsMove e.request × EndsOn (n - 1) H settled)
+EndsOn n (e ∷ H) settled = (0 < n) × ((IsChosenMove e.request × EndsOn (n - 1) H settled)
     ⊎ ((e.request ≡ request.Claim) × (e.reply ≡ Won) × (H ≡ []) × (settled ≡ true)))
 
-ends_by_moves : (n : ℕ) (H : List Entry) → AllMoves H → length H ≡ n → EndsOn n H false
+ends_by_moves : (n : ℕ) (H : List Entry) → AllChosenMoves H → length H ≡ n → EndsOn n H false
 ends_by_moves n [] moves count = (sym count, refl)
 ends_by_moves n (e ∷ H) moves count =
     (omega (arith, count), inl (moves.0, ends_by_moves (n - 1) H moves.1 (omega (arith, count))))
 
-ends_by_claim : (n : ℕ) (H : List Entry) (e : Entry) → AllMoves H → length H < n → e.request ≡ request.Claim →
+ends_by_claim : (n : ℕ) (H : List Entry) (e : Entry) → AllChosenMoves H → length H < n → e.request ≡ request.Claim →
     e.reply ≡ Won → EndsOn n (H ++ e ∷ []) true
 ends_by_claim n [] e moves few claim won = (omega (arith, few), inr (claim, won, refl, refl))
 ends_by_claim n (x ∷ H) e moves few claim won =
@@ -145,7 +145,7 @@ ends_on n H true (moves, claim, is, all, few, asks, won) =
 module _ (o : StartData) where
   one_game_on : (K L : List Entry) (n : ℕ) (H M : List Entry) (s t : Bool) →
       position_after o K ≡ position_after o L → IsLegal o (K ++ H) → IsLegal o (L ++ M) → AreGreedy o K H →
-      AreGreedy o L M → EndsOn n H s → EndsOn n M t → AreSameGame H M × (s ≡ t)
+      AreGreedy o L M → EndsOn n H s → EndsOn n M t → AreSameGreedyGame H M × (s ≡ t)
   one_game_on K L n [] [] s t same legal legal' greedy greedy' ends ends' = (tt, ends.1 ∙ sym ends'.1)
   one_game_on K L n [] (e ∷ M) s t same legal legal' greedy greedy' ends ends' =
       absurd (omega (arith, ends.0, ends'.0))
@@ -165,7 +165,7 @@ module _ (o : StartData) where
       request' = asked_once p d.request e.request call
           (subst (λ (r : Position). IsGreedyCall r e.request) (sym same) call')
 
-      alike : IsMove d.request → LeadAlike p d.request d.reply e.reply
+      alike : IsChosenMove d.request → LeadAlike p d.request d.reply e.reply
       alike move = same_reply p o.q (λ i. gifts_in (take i K)) (λ i. gifts_in (take i L)) (gifts_in K) (gifts_in L)
           d.request d.reply e.reply call move (right_here o K d H legal)
           (subst
@@ -174,28 +174,28 @@ module _ (o : StartData) where
           (λ (r : Position). RepliesAt r o.q (λ i. gifts_in (take i L)) (gifts_in L) e.request e.reply) (sym same)
           (right_here o L e M legal')))
 
-      next : IsMove d.request → position_after o (K ++ d ∷ []) ≡ position_after o (L ++ e ∷ [])
+      next : IsChosenMove d.request → position_after o (K ++ d ∷ []) ≡ position_after o (L ++ e ∷ [])
       next move =
           one_more_entry o K d ∙ (alike move).1 ∙ ap (λ (r : Request). after_reply p r e.reply) request'
           ∙ ap (λ (r : Position). after_reply r e.request e.reply) same ∙ sym (one_more_entry o L e)
 
-      by_ends : (IsMove d.request → EndsOn (n - 1) H s → EndsOn (n - 1) M t → AreSameGame H M × (s ≡ t)) →
-          ((IsMove d.request × EndsOn (n - 1) H s)
+      by_ends : (IsChosenMove d.request → EndsOn (n - 1) H s → EndsOn (n - 1) M t → AreSameGreedyGame H M × (s ≡ t)) →
+          ((IsChosenMove d.request × EndsOn (n - 1) H s)
           ⊎ ((d.request ≡ request.Claim) × (d.reply ≡ Won) × (H ≡ []) × (s ≡ true))) →
-          ((IsMove e.request × EndsOn (n - 1) M t)
+          ((IsChosenMove e.request × EndsOn (n - 1) M t)
           ⊎ ((e.request ≡ request.Claim) × (e.reply ≡ Won) × (M ≡ []) × (t ≡ true))) →
-          AreSameGame (d ∷ H) (e ∷ M) × (s ≡ t)
+          AreSameGreedyGame (d ∷ H) (e ∷ M) × (s ≡ t)
       by_ends go (inl (move, more)) (inl (move', more')) =
           let (games, ended) = go move more more' in
           ((seat ∙ sym seat', request', (alike move).0, games), ended)
-      by_ends go (inl (move, more)) (inr (claim, won, none, ended)) = absurd (subst IsMove (request' ∙ claim) move)
-      by_ends go (inr (claim, won, none, ended)) (inl (move, more)) = absurd (subst IsMove (sym request' ∙ claim) move)
+      by_ends go (inl (move, more)) (inr (claim, won, none, ended)) = absurd (subst IsChosenMove (request' ∙ claim) move)
+      by_ends go (inr (claim, won, none, ended)) (inl (move, more)) = absurd (subst IsChosenMove (sym request' ∙ claim) move)
       by_ends go (inr (claim, won, none, ended)) (inr (claim', won', none', ended')) = (
         (
           seat ∙ sym seat',
           request',
           inl (won ∙ sym won'),
-          subst (λ (G : List Entry). AreSameGame G M) (sym none) (subst (AreSameGame []) (sym none') tt),
+          subst (λ (G : List Entry). AreSameGreedyGame G M) (sym none) (subst (AreSameGreedyGame []) (sym none') tt),
         ),
         ended ∙ sym ended',
       )

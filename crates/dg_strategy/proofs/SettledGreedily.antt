@@ -10,7 +10,7 @@
 --   last_asked      how the last entry of a greedy history is asked for
 --   claim_at_end    the claim at the end of a legal and greedy history is won
 --   settling_out_is_greedy   a greedy game is made
-use Rattle.dg_strategy.proofs.Common.{◌≡◌, ℕ, ◌+◌, ◌<◌, List, [], ◌∷◌, ◌++◌, length, map, Some, Option, None, arith, refl, sym, ap, subst, ◌∙◌, append_assoc, append-nil, FoldsTo, enumerate_from, take-append_seam, slice_get_within, IsEffective, StartData, Move, position_after, IsLegal, Position, Replies, Entry, Request, Claim, Won, legal_none, slice_get-append, slice_get-seam, TableData, SeatView, AreSeated, entries_of, request_for, enumerate_from-more, entries_enumerated, own_alone, BorrowsAtLeast, IsGreedyCall, AreGreedy, AllMoves, LeastDebtors, IsAloneAt, SettlingOutIsGreedy, AreMoves, IsTurnBy, IsSettlerTurn, Gains, Settled, Turns}
+use Rattle.dg_strategy.proofs.Common.{◌≡◌, ℕ, ◌+◌, ◌<◌, List, [], ◌∷◌, ◌++◌, length, map, Some, Option, None, arith, refl, sym, ap, subst, ◌∙◌, append_assoc, append-nil, FoldsTo, enumerate_from, take-append_seam, slice_get_within, IsEffective, StartData, Move, position_after, IsLegal, Position, Replies, Entry, Request, Claim, Won, legal_none, slice_get-append, slice_get-seam, TableData, SeatView, AreOfTableSeats, entries_of, request_for, enumerate_from-more, entries_enumerated, own_alone, BorrowsAtLeast, IsGreedyCall, AreGreedy, AllChosenMoves, LeastDebtors, StrategyIsAloneAt, SettlingOutIsGreedy, AreMoves, IsTurnBy, IsSettlerTurn, Gains, Settled, Turns}
 use Rattle.dg_strategy.proofs.Turned.{claim_won}
 
 pub bare : List (ℕ × Entry) → List Entry
@@ -26,7 +26,7 @@ unfolding bare
 bare_count [] = refl
 bare_count (e ∷ es) = omega (arith, bare_count es)
 
-bare_moves : (es : List (ℕ × Entry)) → AreMoves es → AllMoves (bare es)
+bare_moves : (es : List (ℕ × Entry)) → AreMoves es → AllChosenMoves (bare es)
 unfolding bare
 bare_moves [] moves = tt
 bare_moves (e ∷ es) moves = (moves.0, bare_moves es moves.1)
@@ -53,12 +53,12 @@ module _ (table : TableData) (alone : table.seats ≡ 1) where
       IsTurnBy LeastDebtors table x r y → NextTurn table K r y
   next_turn K x r y known turn =
       let H = turn.history in
-      let seated : AreSeated 1 (H ++ r.1 ∷ []) =
-      subst (λ (n : ℕ). AreSeated n (H ++ r.1 ∷ [])) alone turn.answered.history.seated in
+      let seated : AreOfTableSeats 1 (H ++ r.1 ∷ []) =
+      subst (λ (n : ℕ). AreOfTableSeats n (H ++ r.1 ∷ [])) alone turn.answered.history.seated in
       let bounds = seated (length H) r.1 (slice_get-seam H r.1 []) in
       let seat : r.1.seat ≡ 1 = omega (arith, bounds.0, bounds.1) in
       let number : x.number ≡ 1 = sym turn.answered.seat ∙ seat in
-      let before : AreSeated 1 H = λ k e at.
+      let before : AreOfTableSeats 1 H = λ k e at.
       seated k e (slice_get-append H (r.1 ∷ []) k (slice_get_within H k e at) ∙ at) in
       let own : entries_of 1 H ≡ x.mine = ap (λ (s : ℕ). entries_of s H) (sym number) ∙ turn.answered.before.mine in
       let all : enumerate_from 0 H ≡ enumerate_from 0 K = sym (own_alone H before) ∙ own ∙ known in
@@ -118,7 +118,7 @@ claim_at_end o H e legal greedy claim =
     (subst (λ (q : Request). Replies o H q e.reply) claim here)
 
 -- what turns leave of a seat that had no call
-gained : (table : TableData) (x : SeatView) (es : List (ℕ × Entry)) (y : SeatView) → IsAloneAt table x →
+gained : (table : TableData) (x : SeatView) (es : List (ℕ × Entry)) (y : SeatView) → StrategyIsAloneAt table x →
     Gains (IsSettlerTurn LeastDebtors table) x es y →
     AreGreedy table.start [] (bare es) × IsLegal table.start (bare es) × (y.mine ≡ enumerate_from 0 (bare es))
 gained table x es y (alone, none) gains =

@@ -4,12 +4,12 @@
 --   settler_moves    a settler's moves can be made
 --   strategy_turn    a turn by a choice whose moves can be made
 --   settler_turn     a turn by a choice that settles debts
-use Rattle.dg_strategy.proofs.Common.{◌≡◌, ℕ, ◌<◌, [], ◌∷◌, Option, Some, None, arith, refl, ap, subst, ◌∙◌, IsEffective, IsGraph, at, IsPlayable, Move, Lend, Borrow, Fire, Script, position_after, gift_counted, Position, RepliesToMove, Replies, RepliesToClaim, Entry, NoVertex, Empty, Range, Reply, Moved, Refused, Won, NotWon, gifts_in-more, legal_part, graphs_hold, SeatView, request_for, Choosing, GivesMoves, SettlesDebts, BorrowsInDebt, IsTurnBy, IsMove, IsMadeOrPastRange, IsStrategyTurn, IsSettlerTurn, TableData}
+use Rattle.dg_strategy.proofs.Common.{◌≡◌, ℕ, ◌<◌, [], ◌∷◌, Option, Some, None, arith, refl, ap, subst, ◌∙◌, IsEffective, IsGraph, at, IsPlayable, Move, Lend, Borrow, Fire, Script, position_after, gifts_by_reply, Position, RepliesToMove, Replies, RepliesToClaim, Entry, NoVertex, Empty, Range, Reply, Moved, Refused, Won, NotWon, gifts_in-more, legal_part, graphs_hold, SeatView, request_for, Choosing, GivesMoves, SettlesDebts, BorrowsInDebt, IsTurnBy, IsChosenMove, ChoiceIsMadeOrPastRange, IsStrategyTurn, IsSettlerTurn, TableData}
 use Rattle.dg_game.specs.declared.entry.Refusal.TheVariants.{Script as OtherScript}
 use Rattle.dg_game.specs.declared.entry.Request.TheVariants as request
 
 pub move_answered : (p : Position) (m : Move) (reply : Reply) → IsPlayable p.graph.size m → RepliesToMove p m reply →
-    IsMadeOrPastRange reply × (gift_counted reply ≡ 0)
+    ChoiceIsMadeOrPastRange reply × (gifts_by_reply reply ≡ 0)
 move_answered p m (Moved d) playable replies = (tt, refl)
 move_answered p (Lend v) (Refused NoVertex) playable replies = absurd (omega (arith, playable, replies))
 move_answered p (Borrow v) (Refused NoVertex) playable replies = absurd (omega (arith, playable, replies))
@@ -29,7 +29,7 @@ move_answered p m (Refused refusal) playable replies = absurd replies
 move_answered p m reply playable replies = absurd replies
 
 -- a claim gives nothing
-claim_answered : (p : Position) (reply : Reply) → RepliesToClaim p reply → gift_counted reply ≡ 0
+claim_answered : (p : Position) (reply : Reply) → RepliesToClaim p reply → gifts_by_reply reply ≡ 0
 claim_answered p Won replies = refl
 claim_answered p NotWon replies = refl
 claim_answered p reply replies = absurd replies
@@ -57,7 +57,7 @@ module _ (A : Choosing) (table : TableData) (start : IsGraph table.start.graph) 
     (y : SeatView) where
   -- the reply to what was answered, and what is known of it where the answer is a move that can be made
   answered : (gives : GivesMoves A) (turn : IsTurnBy A table x r y) (m : Option Move) → turn.answer ≡ m →
-      (IsMove r.1.request → IsMadeOrPastRange r.1.reply) × (gift_counted r.1.reply ≡ 0)
+      (IsChosenMove r.1.request → ChoiceIsMadeOrPastRange r.1.reply) × (gifts_by_reply r.1.reply ≡ 0)
   answered gives turn (Some m) is =
       let graph = graph_found A table x r y start turn in
       let chosen = rw is at turn.chosen in
@@ -70,8 +70,11 @@ module _ (A : Choosing) (table : TableData) (start : IsGraph table.start.graph) 
   answered gives turn None is =
       let asked : r.1.request ≡ request.Claim = turn.answered.request' ∙ ap request_for is in
       let replies : Replies table.start turn.history request.Claim r.1.reply =
-      subst (λ q. Replies table.start turn.history q r.1.reply) (ap request_for is) turn.answered.reply in
-      ((λ move. absurd (subst IsMove asked move)), claim_answered (position_after table.start turn.history) r.1.reply replies)
+      subst (λ q. Replies table.start turn.history q r.1.reply) (ap request_for is) turn.answered.reply in (
+        (λ move. absurd (subst IsChosenMove asked move)),
+        claim_answered (position_after table.start turn.history)
+            r.1.reply replies,
+      )
 
   pub strategy_turn : GivesMoves A → IsTurnBy A table x r y → IsStrategyTurn A table x r y
   strategy_turn gives turn =

@@ -4,7 +4,7 @@
 --                                 the position p; it is a claim if nobody is in debt there
 --   AreGreedy o K H            == each of the entries H is of seat 1, and is so asked for, after
 --                                 the history K and those before it
---   AllMoves H                 == each of the entries H is a move
+--   AllChosenMoves H           == each of the entries H is a move
 --   EndsSo n H settled         == there are n entries, all moves; or, if it is settled, fewer
 --                                 moves than n, and then a claim that is won
 --   IsGreedyGame o n H settled == the history H from the start o is legal and greedy, and ends so
@@ -14,7 +14,7 @@
 use Rattle.std.specs.Prelude.{◌≡◌, ℕ, ◌<◌, Bool, true, false, List, [], ◌∷◌, ◌++◌, length, Option, ⊤}
 use Rattle.dg_strategy.specs.Common.{StartData, Vector, Move, Position, Shows, position_after, IsLegal, Replies, Entry, Request, Claim, Won, request_for}
 use Rattle.dg_strategy.specs.Choices.{BorrowsAtLeast}
-use Rattle.dg_strategy.specs.Plays.{IsMove}
+use Rattle.dg_strategy.specs.Plays.{IsChosenMove}
 
 pub record IsGreedyCall (p : Position) (request : Request) : Type 0 where
   pub amounts : Vector
@@ -28,14 +28,14 @@ AreGreedy o K [] = ⊤
 AreGreedy o K (e ∷ H) =
     (e.seat ≡ 1) × IsGreedyCall (position_after o K) e.request × AreGreedy o (K ++ e ∷ []) H
 
-abbrev pub AllMoves : List Entry → Type 0
-AllMoves [] = ⊤
-AllMoves (e ∷ H) = IsMove e.request × AllMoves H
+abbrev pub AllChosenMoves : List Entry → Type 0
+AllChosenMoves [] = ⊤
+AllChosenMoves (e ∷ H) = IsChosenMove e.request × AllChosenMoves H
 
 abbrev pub EndsSo : ℕ → List Entry → Bool → Type 0
-EndsSo n H false = AllMoves H × (length H ≡ n)
+EndsSo n H false = AllChosenMoves H × (length H ≡ n)
 EndsSo n H true = (moves : List Entry) × (claim : Entry) × (H ≡ moves ++ claim ∷ []) ×
-    AllMoves moves × (length moves < n)
+    AllChosenMoves moves × (length moves < n)
     × (claim.request ≡ Claim) × (claim.reply ≡ Won)
 
 pub record IsGreedyGame (o : StartData) (n : ℕ) (H : List Entry) (settled : Bool) : Type 0 where
@@ -44,7 +44,7 @@ pub record IsGreedyGame (o : StartData) (n : ℕ) (H : List Entry) (settled : Bo
   pub ends : EndsSo n H settled
 
 abbrev pub EndsTurn : Bool → Entry → Type 0
-EndsTurn false e = IsMove e.request
+EndsTurn false e = IsChosenMove e.request
 EndsTurn true e = (e.request ≡ Claim) × (e.reply ≡ Won)
 
 pub record IsGreedyTurn (o : StartData) (H : List Entry) (e : Entry) (settled : Bool) : Type 0 where

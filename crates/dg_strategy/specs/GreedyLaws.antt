@@ -2,14 +2,14 @@
 -- and there is only one.
 --   LeastDebtors         == the choice of the greedy settler: the least vertex in debt borrows, and
 --                           there is a claim if nobody is in debt
---   IsAloneAt table x    == the table has one seat, and the seat x has made no call
+--   StrategyIsAloneAt table x == the table has one seat, and the seat x has made no call
 --   HasGreedyGame table n y ended == the calls of the seat y are the history of a greedy game of n
 --                           turns, numbered from 0 on, which ended so
 --   SettlingOutIsGreedy N table == so it is after every play of the greedy settler that is not
 --                           refused, by a seat that is alone at the new table N
---   ShowTheSame a b      == the replies are the same, but that an accepted move may hold its amounts
+--   GreedyShowTheSame a b == the replies are the same, but that an accepted move may hold its amounts
 --                           in another way
---   AreSameGame H K      == the histories are as long, and in each place of the same seat and request,
+--   AreSameGreedyGame H K == the histories are as long, and in each place of the same seat and request,
 --                           with replies that show the same
 --   GreedyGameIsOne      == from one start, and with one number of turns, greedy games have the same
 --                           history, and end in the same way
@@ -24,27 +24,27 @@ use Rattle.dg_strategy.specs.declared.playing.Ended.{Ended}
 abbrev pub LeastDebtors : Choosing
 LeastDebtors g d answer = BorrowsAtLeast d answer
 
-abbrev pub IsAloneAt : TableData → SeatView → Type 0
-IsAloneAt table x = (table.seats ≡ 1) × (x.mine ≡ [])
+abbrev pub StrategyIsAloneAt : TableData → SeatView → Type 0
+StrategyIsAloneAt table x = (table.seats ≡ 1) × (x.mine ≡ [])
 
 abbrev pub HasGreedyGame : {N : Type 0} → TableData → ℕ → SeatView → Ended N → Type 0
 HasGreedyGame table n y ended = (H : List Entry) × (y.mine ≡ enumerate_from 0 H) ×
     IsGreedyGame table.start n H (is_settled ended)
 
 abbrev pub SettlingOutIsGreedy : Type 0 → TableData → Type 0
-SettlingOutIsGreedy N table = (n : ℕ) (x y : SeatView) (ended : Ended N) → IsAloneAt table x →
+SettlingOutIsGreedy N table = (n : ℕ) (x y : SeatView) (ended : Ended N) → StrategyIsAloneAt table x →
     Plays (IsSettlerTurn LeastDebtors table) table n x y (Ok ended) → HasGreedyGame table n y ended
 
-abbrev pub ShowTheSame : Reply → Reply → Type 0
-ShowTheSame a b = (a ≡ b) ⊎ ((d e : Vector) × (a ≡ Moved d) × (b ≡ Moved e) × (d.size ≡ e.size)
+abbrev pub GreedyShowTheSame : Reply → Reply → Type 0
+GreedyShowTheSame a b = (a ≡ b) ⊎ ((d e : Vector) × (a ≡ Moved d) × (b ≡ Moved e) × (d.size ≡ e.size)
     × AgreeOn d.size (at d) (at e))
 
-abbrev pub AreSameGame : List Entry → List Entry → Type 0
-AreSameGame [] [] = ⊤
-AreSameGame (x ∷ H) (y ∷ K) = (x.seat ≡ y.seat) × (x.request ≡ y.request)
-    × ShowTheSame x.reply y.reply × AreSameGame H K
-AreSameGame H K = ⊥
+abbrev pub AreSameGreedyGame : List Entry → List Entry → Type 0
+AreSameGreedyGame [] [] = ⊤
+AreSameGreedyGame (x ∷ H) (y ∷ K) = (x.seat ≡ y.seat) × (x.request ≡ y.request)
+    × GreedyShowTheSame x.reply y.reply × AreSameGreedyGame H K
+AreSameGreedyGame H K = ⊥
 
 abbrev pub GreedyGameIsOne : Type 0
 GreedyGameIsOne = (o : StartData) (n : ℕ) (H K : List Entry) (settled ended : Bool) →
-    IsGreedyGame o n H settled → IsGreedyGame o n K ended → AreSameGame H K × (settled ≡ ended)
+    IsGreedyGame o n H settled → IsGreedyGame o n K ended → AreSameGreedyGame H K × (settled ≡ ended)

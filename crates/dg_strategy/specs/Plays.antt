@@ -1,11 +1,11 @@
 -- Playing as a choice says. A has what the choice may answer; x and y are a seat before and after.
 -- Each history of a turn begins with the one that the seat found at the turn before, and that
 -- turn's entry: so all turns are in one.
---   IsMove request          == the request is a move
+--   IsChosenMove request    == the request is a move
 --   AreMoves es             == each of the entries es is a move
 --   IsTurnBy A table x r y  == after some history the seat x is answered with the receipt r, and is
 --                              then y; it asked for what A has there
---   IsMadeOrPastRange reply == the move was made, or refused only because an amount would have left
+--   ChoiceIsMadeOrPastRange reply == the move was made, or refused only because an amount would have left
 --                              the range
 --   IsStrategyTurn A table x r y == it is such a turn; the gift count stays, and a move is answered
 --                              so
@@ -27,13 +27,13 @@ use Rattle.dg_strategy.specs.Choices.{Choosing, BorrowsInDebt}
 use Rattle.dg_strategy.specs.declared.playing.Ended.{Ended}
 use Rattle.dg_strategy.specs.declared.playing.Ended.TheVariants.{Settled, Turns}
 
-abbrev pub IsMove : Request → Type 0
-IsMove (request.Move m) = ⊤
-IsMove request = ⊥
+abbrev pub IsChosenMove : Request → Type 0
+IsChosenMove (request.Move m) = ⊤
+IsChosenMove request = ⊥
 
 abbrev pub AreMoves : List (ℕ × Entry) → Type 0
 AreMoves [] = ⊤
-AreMoves (p ∷ es) = IsMove p.1.request × AreMoves es
+AreMoves (p ∷ es) = IsChosenMove p.1.request × AreMoves es
 
 pub record IsTurnBy (A : Choosing) (table : TableData) (x : SeatView) (r : ℕ × Entry)
     (y : SeatView) : Type 0 where
@@ -44,16 +44,16 @@ pub record IsTurnBy (A : Choosing) (table : TableData) (x : SeatView) (r : ℕ �
   pub chosen : A (position_after table.start history).graph amounts answer
   pub answered : IsAnsweredAfter table (request_for answer) (entering history r x y)
 
-abbrev pub IsMadeOrPastRange : Reply → Type 0
-IsMadeOrPastRange (Moved d) = ⊤
-IsMadeOrPastRange (Refused Range) = ⊤
-IsMadeOrPastRange reply = ⊥
+abbrev pub ChoiceIsMadeOrPastRange : Reply → Type 0
+ChoiceIsMadeOrPastRange (Moved d) = ⊤
+ChoiceIsMadeOrPastRange (Refused Range) = ⊤
+ChoiceIsMadeOrPastRange reply = ⊥
 
 pub record IsStrategyTurn (A : Choosing) (table : TableData) (x : SeatView)
     (r : ℕ × Entry) (y : SeatView) : Type 0 where
   pub turn : IsTurnBy A table x r y
   pub gifts : gifts_in (turn.history ++ r.1 ∷ []) ≡ gifts_in turn.history
-  pub moved : IsMove r.1.request → IsMadeOrPastRange r.1.reply
+  pub moved : IsChosenMove r.1.request → ChoiceIsMadeOrPastRange r.1.reply
 
 pub record IsSettlerTurn (A : Choosing) (table : TableData) (x : SeatView) (r : ℕ × Entry)
     (y : SeatView) : Type 0 where

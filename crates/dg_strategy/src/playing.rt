@@ -95,7 +95,7 @@ fn turns_by<N: Name, C: Choose>(
 {
     for _ in 0..turns {
         let receipt = turn_by(rt, alloc, table, seat, choice)?;
-        if is_claim(table.log().entry(&receipt)) {
+        if is_claim_of_strategy(table.log().entry(&receipt)) {
             return Ok(Ended::Settled(receipt));
         }
     }
@@ -119,7 +119,7 @@ fn turn_by<N: Name, C: Choose>(
     table.turn(rt, alloc, seat, &mut choose)
 }
 
-fn is_claim(entry: &Entry) -> bool
+fn is_claim_of_strategy(entry: &Entry) -> bool
     ensures { IsTrue result ↔ (entry.now.request ≡ ClaimRequest) }
 {
     match entry.request {

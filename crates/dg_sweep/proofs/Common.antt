@@ -19,19 +19,20 @@ pub use Rattle.dg_lines.proofs.Judging.{judged-named}
 pub use Rattle.dg_lines.proofs.Streams.{begins_more, begins_none, begins_one, begins_then, come_last, come_then, line_shorter, one_cutting, part_line, part_plain, part_whole}
 pub use Rattle.dg_lines.specs.CommandWords.{IsNumberWithin}
 pub use Rattle.dg_lines.specs.Cuts.{lines, pieces_after, words}
+unfoldable pub use Rattle.dg_lines.specs.Cuts.{after, before}
 pub use Rattle.dg_lines.specs.Judgements.{IsJudgement, burning_text, judgement_text}
-pub use Rattle.dg_lines.specs.Streams.{Begins, HasNoNewline, HaveCome, last_line, with_newline}
+pub use Rattle.dg_lines.specs.Streams.{Begins, HasNoNewline, LinesHaveCome, last_line, with_newline}
 pub use Rattle.dg_lines.specs.Texts.{pair, rank_text, verdict_text, verdict_word}
 pub use Rattle.dg_rank.proofs.Numbering.{past_within}
-pub use Rattle.dg_rank.specs.Limits.{IsPastLimits}
+pub use Rattle.dg_rank.specs.Limits.{ArePastTrialLimits}
 pub use Rattle.dg_rank.specs.Ranks.{IsUntold, IsWithin, NeedsPastTests}
-pub use Rattle.dg_sweep.specs.AnswerLaws.{AmountsHaveOneAnswer, AmountsHaveOneMeaning, HasOneAnswer}
-pub use Rattle.dg_sweep.specs.Answers.{AnswersLine, AnswersRank, AnswersTable, AnswersTableWithin, AreRanks, AreUntested, IsBelow, IsRefused, IsTested, number_after, numbers_text, refusal}
-pub use Rattle.dg_sweep.specs.DivisorLaws.{with_amounts}
-pub use Rattle.dg_sweep.specs.Divisors.{AnswersAmounts, HasAmountsOf, IsDivisorOf, RefusesAmounts, SpellsAmounts, SpellsNone}
-pub use Rattle.dg_sweep.specs.FaultTexts.{file_fault_text}
+pub use Rattle.dg_sweep.specs.AnswerLaws.{AmountsHaveOneAnswer, AmountLinesHaveOneMeaning, HasOneAnswer}
+pub use Rattle.dg_sweep.specs.Answers.{AnswersLine, AnswersRankLine, AnswersTable, AnswersTableWithin, AreRanks, AreUntested, IsBelow, IsRefused, IsTested, answer_number, degree_and_genus_words, refusal_line}
+pub use Rattle.dg_sweep.specs.DivisorLaws.{with_amounts_of_line}
+pub use Rattle.dg_sweep.specs.Divisors.{AnswersAmounts, HasAmountsOf, IsDivisorOf, RefusesAmounts, SpellsAmounts, SpellsNoAmounts}
+pub use Rattle.dg_sweep.specs.FaultTexts.{file_fault_words}
 pub use Rattle.dg_sweep.specs.Pieces.{AnswersPiece, IsAnswered, Leads}
-pub use Rattle.dg_sweep.specs.Steps.{AnswersFront, AnswersLast, EndsLine, KeepsPart, Passes, StandsFor, TakesBytes}
+pub use Rattle.dg_sweep.specs.Steps.{AnswersFront, AnswersLast, EndsPiece, KeepsPartOfPiece, PassesAnswers, StandsFor, TakesBytes}
 pub use Rattle.dg_sweep.specs.Sweeps.{EndsAfter, IsSweep, WritesAnswers}
 pub use Rattle.dg_sweep.specs.declared.ends.SweepEnd.TheVariants.{Read, Shortage, Write}
 pub use Rattle.dg_sweep.specs.declared.ends.SweepEnd.{SweepEnd}
@@ -64,12 +65,12 @@ pub use Rattle.std.proofs.Common.{All, Bool, Bor, Err, FitsSigned, List, None, O
 pub use Rattle.std.proofs.Math.IntN.{◌*ℤ◌, ◌+ℤ◌, ◌-ℤ◌}
 pub use Rattle.std.proofs.Math.Path.{fun_ext}
 pub use Rattle.std.proofs.Math.Seq.{take-append_seam}
-pub use Rattle.std.proofs.lemmas.Bool.{cases_eq, cases_lt, cases_order, eqb-true, ne_eqb}
+pub use Rattle.std.proofs.lemmas.Bool.{cases_eq, cases_lt, cases_order, eqb-true, false≢true, ne_eqb}
 pub use Rattle.std.proofs.lemmas.Fmt.{decimal_digit, decimal_is_IsNumeral, signed_decimal_injective}
 pub use Rattle.std.proofs.lemmas.Grind.{common_steps, flat_map-append}
 pub use Rattle.std.proofs.lemmas.Int.{ints}
 pub use Rattle.std.proofs.lemmas.List.Elements.{All-append, All-cons, All-contains, All-get_or, All-head, All-nil, All-push, All-tail}
-pub use Rattle.std.proofs.lemmas.List.{get_or-map, take-append-drop, take_all, take_more}
+pub use Rattle.std.proofs.lemmas.List.{get_or-map, take-append-drop, take_all, take_more, take_rest}
 pub use Rattle.std.proofs.lemmas.Option.{get_or_from_slice_get, slice_get-get_or, slice_get_within}
 pub use Rattle.std.proofs.lemmas.Str.Parse.{digit_from_value}
 pub use Rattle.std.specs.Fmt.{signed_decimal}

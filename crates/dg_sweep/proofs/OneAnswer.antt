@@ -3,10 +3,10 @@
 --   answer_once    a table has one answer
 --   table_once, amounts_once   so has a line of a table, and one of amounts
 --   just_one       a line that is answered, and by no other text, has just one answer
-use Rattle.dg_sweep.proofs.Common.{◌≡◌, ℕ, Bool, ◌<◌, ◌⊎◌, inl, inr, List, ◌++◌, length, codes, sym, ap, ◌∙◌, arith, subst, fun_ext, Multigraph, IsMultigraph, Amounts, degree, less, canonical, HasRankAtLeast, IsRank, rank_once, StartData, IsStart, at, IsVerdictOn, IsJudgement, IsRankTest, RankVerdict, IsPastLimits, IsWithin, IsUntold, NeedsPastTests, past_within, AreSameOpenings, FilesHaveOneMeaning, RefusesFile, FileFault, Question, Judge, Rank, RiemannRoch, HasOneAnswer, AmountsHaveOneAnswer, IsTested, IsBelow, AnswersRank, number_after, numbers_text, AreRanks, AreUntested, AnswersTable, refusal, IsRefused, AnswersTableWithin, AnswersLine, RefusesAmounts, AnswersAmounts, file_fault_text}
+use Rattle.dg_sweep.proofs.Common.{◌≡◌, ℕ, Bool, ◌<◌, ◌⊎◌, inl, inr, List, ◌++◌, length, codes, sym, ap, ◌∙◌, arith, subst, fun_ext, Multigraph, IsMultigraph, Amounts, degree, less, canonical, HasRankAtLeast, IsRank, rank_once, StartData, IsStart, at, IsVerdictOn, IsJudgement, IsRankTest, RankVerdict, ArePastTrialLimits, IsWithin, IsUntold, NeedsPastTests, past_within, AreSameOpenings, FilesHaveOneMeaning, RefusesFile, FileFault, Question, Judge, Rank, RiemannRoch, HasOneAnswer, AmountsHaveOneAnswer, IsTested, IsBelow, AnswersRankLine, answer_number, degree_and_genus_words, AreRanks, AreUntested, AnswersTable, refusal_line, IsRefused, AnswersTableWithin, AnswersLine, RefusesAmounts, AnswersAmounts, file_fault_words}
 use Rattle.std.proofs.Math.IntN.{ℤ}
 use Rattle.dg_lines.proofs.Given.{vertex_named}
-use Rattle.dg_sweep.proofs.OneMeaning.{amounts_have_one_meaning}
+use Rattle.dg_sweep.proofs.OneMeaning.{amount_lines_have_one_meaning}
 use Rattle.dg_sweep.proofs.OneText.{judgement_same, test_same}
 use Rattle.dg_sweep.proofs.SameTables.{IsSameGraph, same_back, same_genus, same_canonical, found_on, tested_on, rank_on, is_rank_on, untold_on, needs_on}
 
@@ -41,10 +41,10 @@ module _ (o p : StartData) (alike : AreSameOpenings o p) where
       needs_on p.graph o.graph (same_back o.graph p.graph same) (at o.divisor)
       (move_back (NeedsPastTests p.graph) there)
 
-  numbers : numbers_text o ≡ numbers_text p
+  numbers : degree_and_genus_words o ≡ degree_and_genus_words p
   numbers = λ i.
-      number_after (codes "degree ") (degree (alike.size i) (amounts i))
-      ++ number_after (codes " genus ") (same_genus o.graph p.graph same i)
+      answer_number (codes "degree ") (degree (alike.size i) (amounts i))
+      ++ answer_number (codes " genus ") (same_genus o.graph p.graph same i)
 
   verdict_moves : (names : List (List ℕ)) (ordered : Bool) (text : List ℕ) → IsJudgement o names ordered text
       → IsJudgement p names ordered text
@@ -60,8 +60,8 @@ module _ (o p : StartData) (alike : AreSameOpenings o p) where
   named_moves k P (inl within) = inl (subst (λ (n : ℕ). IsWithin n k) alike.size within)
   named_moves k P (inr other) = inr other
 
-  rank_moves : (k : ℕ) (names : List (List ℕ)) (text : List ℕ) → AnswersRank o k names text
-      → AnswersRank p k names text
+  rank_moves : (k : ℕ) (names : List (List ℕ)) (text : List ℕ) → AnswersRankLine o k names text
+      → AnswersRankLine p k names text
   rank_moves k names text (inl is) = inl (record {
     verdict = is.verdict;
     right = move (λ (D : Amounts). IsRankTest p.graph D k is.verdict)
@@ -71,7 +71,7 @@ module _ (o p : StartData) (alike : AreSameOpenings o p) where
     printed = is.printed;
   })
   rank_moves k names text (inr (inl is)) = inr (inl (record {
-    past = subst (λ (n : ℕ). IsPastLimits n k) alike.size is.past;
+    past = subst (λ (n : ℕ). ArePastTrialLimits n k) alike.size is.past;
     told = λ there. is.told (untold_back k there);
     below = λ there. is.below (rank_back k there);
     printed = is.printed;
@@ -93,8 +93,8 @@ module _ (o p : StartData) (alike : AreSameOpenings o p) where
         (λ i. less (same_canonical o.graph p.graph same i) (amounts i))
         (is_rank_on o.graph p.graph same (less (canonical o.graph) (at o.divisor)) is.dual_rank is.of_dual);
     printed = is.printed
-        ∙ ap (λ (t : List ℕ). t ++ number_after (codes " rank ") is.rank
-        ++ number_after (codes " dual ") is.dual_rank ++ codes "\n") numbers;
+        ∙ ap (λ (t : List ℕ). t ++ answer_number (codes " rank ") is.rank
+        ++ answer_number (codes " dual ") is.dual_rank ++ codes "\n") numbers;
   })
   ranks_move text (inr is) = inr (record {
     past = move (NeedsPastTests p.graph) (needs_on o.graph p.graph same (at o.divisor) is.past);
@@ -116,7 +116,7 @@ module _ (o : StartData) (names : List (List ℕ)) (graph : IsMultigraph o.graph
         below.below (subst (λ (x : RankVerdict). IsRankTest o.graph (at o.divisor) k x) most tested.right).1
   ]
 
-  rank_once_more : (k : ℕ) (text other : List ℕ) → AnswersRank o k names text → AnswersRank o k names other
+  rank_once_more : (k : ℕ) (text other : List ℕ) → AnswersRankLine o k names text → AnswersRankLine o k names other
       → text ≡ other
   rank_once_more k text other (inl a) (inl b) =
       a.printed
@@ -136,11 +136,11 @@ module _ (o : StartData) (names : List (List ℕ)) (graph : IsMultigraph o.graph
       → text ≡ other
   ranks_once text other (inl a) (inl b) =
       a.printed
-      ∙ ap (λ (z : ℤ). numbers_text o ++ number_after (codes " rank ") z
-      ++ number_after (codes " dual ") a.dual_rank ++ codes "\n")
+      ∙ ap (λ (z : ℤ). degree_and_genus_words o ++ answer_number (codes " rank ") z
+      ++ answer_number (codes " dual ") a.dual_rank ++ codes "\n")
       (rank_once o.graph (at o.divisor) a.rank b.rank a.of_divisor b.of_divisor)
-      ∙ ap (λ (z : ℤ). numbers_text o ++ number_after (codes " rank ") b.rank
-      ++ number_after (codes " dual ") z ++ codes "\n")
+      ∙ ap (λ (z : ℤ). degree_and_genus_words o ++ answer_number (codes " rank ") b.rank
+      ++ answer_number (codes " dual ") z ++ codes "\n")
       (rank_once o.graph (less (canonical o.graph) (at o.divisor)) a.dual_rank b.dual_rank a.of_dual b.of_dual)
       ∙ sym b.printed
   ranks_once text other (inl a) (inr b) = absurd (a.told b.past)
@@ -160,7 +160,7 @@ module _ (o : StartData) (names : List (List ℕ)) (graph : IsMultigraph o.graph
 refused_once : (refuses : FileFault → Type 0) (text other : List ℕ) (a : IsRefused refuses text)
     (b : IsRefused refuses other) → a.fault ≡ b.fault → text ≡ other
 refused_once refuses text other a b same =
-    a.printed ∙ ap (λ (f : FileFault). refusal (file_fault_text f)) same ∙ sym b.printed
+    a.printed ∙ ap (λ (f : FileFault). refusal_line (file_fault_words f)) same ∙ sym b.printed
 
 line_once : (right : List ℕ → List ℕ → Type 0) (line : List ℕ)
     → ((text other : List ℕ) → right line text → right line other → text ≡ other) → (text other : List ℕ)
@@ -194,13 +194,13 @@ module _ (question : Question) where
       → AnswersAmounts question o names line text → AnswersAmounts question o names line other → text ≡ other
   amounts_once o names line text other start fit (inl a) (inl b) =
       refused_once (RefusesAmounts o.graph.size line) text other a b
-      (amounts_have_one_meaning.fault o.graph.size line a.fault b.fault a.found b.found a.refused b.refused)
+      (amount_lines_have_one_meaning.fault o.graph.size line a.fault b.fault a.found b.found a.refused b.refused)
   amounts_once o names line text other start fit (inl a) (inr b) =
-      absurd (amounts_have_one_meaning.refused o b.start line a.fault a.found a.refused b.stands)
+      absurd (amount_lines_have_one_meaning.refused o b.start line a.fault a.found a.refused b.stands)
   amounts_once o names line text other start fit (inr a) (inl b) =
-      absurd (amounts_have_one_meaning.refused o a.start line b.fault b.found b.refused a.stands)
+      absurd (amount_lines_have_one_meaning.refused o a.start line b.fault b.found b.refused a.stands)
   amounts_once o names line text other start fit (inr a) (inr b) =
-      let alike = amounts_have_one_meaning.start o b.start a.start line b.stands a.stands in
+      let alike = amount_lines_have_one_meaning.start o b.start a.start line b.stands a.stands in
       let graph : a.start.graph ≡ o.graph = ap (λ (s : StartData). s.graph) a.stands.rest in
       let q : a.start.q ≡ o.q = ap (λ (s : StartData). s.q) a.stands.rest in
       let size : a.start.graph.size ≡ o.graph.size = ap (λ (g : Multigraph). g.size) graph in

@@ -1,7 +1,7 @@
 -- A line of amounts has one meaning.
 --   spelled_once      numbers are spelled in one way
---   amounts_have_one_meaning
-use Rattle.dg_sweep.proofs.Common.{◌≡◌, ◌≢◌, ℕ, ◌<◌, ◌≤◌, ◌⊎◌, inl, inr, ℤ, pos, List, [], ◌∷◌, length, map, All, FitsSigned, w64, refl, sym, ap, ◌∙◌, arith, subst, ⊎_elim, ◌^◌, ◌-◌, neg_ℤ, signed_decimal, cases_lt, cases_order, signed_decimal_injective, All-head, All-tail, edges_between, StartData, Vector, at, HoldsNumbers, IsDivisor, IsFirstPast, IsFirstChipFault, ChipFault, Length, Range, IsNumberWithin, fits_within, AreSameOpenings, FileFault, AmountsHaveOneMeaning, SpellsAmounts, SpellsNone, HasAmountsOf, RefusesAmounts}
+--   amount_lines_have_one_meaning
+use Rattle.dg_sweep.proofs.Common.{◌≡◌, ◌≢◌, ℕ, ◌<◌, ◌≤◌, ◌⊎◌, inl, inr, ℤ, pos, List, [], ◌∷◌, length, map, All, FitsSigned, w64, refl, sym, ap, ◌∙◌, arith, subst, ⊎_elim, ◌^◌, ◌-◌, neg_ℤ, signed_decimal, cases_lt, cases_order, signed_decimal_injective, All-head, All-tail, edges_between, StartData, Vector, at, HoldsNumbers, IsDivisor, IsFirstPast, IsFirstChipFault, ChipFault, Length, Range, IsNumberWithin, fits_within, AreSameOpenings, FileFault, AmountLinesHaveOneMeaning, SpellsAmounts, SpellsNoAmounts, HasAmountsOf, RefusesAmounts}
 use Rattle.dg_file.specs.declared.fault.FileFault.TheVariants as fault
 use Rattle.dg_file.specs.declared.fault.Shape.TheVariants as shape
 
@@ -78,7 +78,7 @@ line_once line xs ys first second =
 
 -- why a line of amounts is refused
 data Cause (n : ℕ) (line : List ℕ) : FileFault → Type 0 where
-  none : SpellsNone line → Cause n line (fault.Shape shape.Amounts)
+  none : SpellsNoAmounts line → Cause n line (fault.Shape shape.Amounts)
   chip : (f : ChipFault) (xs : List ℤ) → SpellsAmounts line xs → IsFirstChipFault n xs f → Cause n line (fault.Chip f)
 
 cause : (n : ℕ) (line : List ℕ) (f : FileFault) → f ≢ fault.OutOfMemory → RefusesAmounts n line f → Cause n line f
@@ -127,8 +127,8 @@ start_once o p r line a b =
       vertex = ap (λ (s : StartData). s.q) a.rest ∙ sym (ap (λ (s : StartData). s.q) b.rest);
     }
 
-pub amounts_have_one_meaning : AmountsHaveOneMeaning
-amounts_have_one_meaning = record {
+pub amount_lines_have_one_meaning : AmountLinesHaveOneMeaning
+amount_lines_have_one_meaning = record {
   start = start_once;
   refused = λ o p line f known refused has. no_start o p line f (cause o.graph.size line f known refused) has;
   fault = λ n line one other known known' a b.

@@ -9,7 +9,7 @@
 --   sweep_ends       it ends where its input does
 --   sweep_unsaid     it ends before it reads, for want of memory
 --   sweep_halts, sweep_halts_last   it ends early in what was read, or at the last line
-use Rattle.dg_sweep.proofs.Common.{◌≡◌, ◌≢◌, ℕ, ◌≤◌, inl, List, [], ◌∷◌, ◌++◌, length, take, Option, Result, Ok, Err, sym, subst, arith, append-nil, All-nil, Appends, Consumes, Keeps, IsAtEnd, lines, HasNoNewline, Begins, HaveCome, last_line, begins_none, begins_more, begins_then, one_cutting, come_then, come_last, AppendsFront, appends_none, appends_more, consumes_none, consumes_more, consumes_kept, IsSweep, EndsAfter, WritesAnswers, StandsFor, TakesBytes, AnswersLast, Passes, READ_SIZE, SweepEnd, Read, Write, Shortage, OutOfMemory}
+use Rattle.dg_sweep.proofs.Common.{◌≡◌, ◌≢◌, ℕ, ◌≤◌, inl, List, [], ◌∷◌, ◌++◌, length, take, Option, Result, Ok, Err, sym, subst, arith, append-nil, All-nil, Appends, Consumes, Keeps, IsAtEnd, lines, HasNoNewline, Begins, LinesHaveCome, last_line, begins_none, begins_more, begins_then, one_cutting, come_then, come_last, AppendsFront, appends_none, appends_more, consumes_none, consumes_more, consumes_kept, IsSweep, EndsAfter, WritesAnswers, StandsFor, TakesBytes, AnswersLast, PassesAnswers, READ_SIZE, SweepEnd, Read, Write, Shortage, OutOfMemory}
 use Rattle.dg_sweep.specs.Answers.{AnswersLines}
 use Rattle.dg_sweep.proofs.Taken.{answers_none, answers_more}
 
@@ -65,7 +65,7 @@ module _ {right : List ℕ → List ℕ → Type 0} {input rest old mid : Option
 
   is_sweep : {rest' new : Option (List ℕ)} (result : Result (Unit {0}) SweepEnd) (bytes text : List ℕ)
       (last : List (List ℕ)) → Consumes rest rest' bytes
-      → HaveCome HasNoNewline (IsAtEnd rest') (far.part ++ bytes) last → length last ≤ READ_SIZE
+      → LinesHaveCome HasNoNewline (IsAtEnd rest') (far.part ++ bytes) last → length last ≤ READ_SIZE
       → AnswersLines right last text → WritesAnswers result old new far.text text
       → EndsAfter (IsAtEnd rest') (far.stream ++ bytes) (far.ls ++ last) result
       → IsSweep right input rest' old new result
@@ -110,7 +110,7 @@ module _ {right : List ℕ → List ℕ → Type 0} {input rest old mid : Option
       → IsSweep right input rest' old new result
   over_last {rest'} result text read over answered written ends =
       is_sweep result [] text (last_line far.part) read
-      (subst (λ l. HaveCome HasNoNewline (IsAtEnd rest') l (last_line far.part)) (sym (append-nil far.part))
+      (subst (λ l. LinesHaveCome HasNoNewline (IsAtEnd rest') l (last_line far.part)) (sym (append-nil far.part))
       (come_last plain far.part over far.stands.no_newline)) (few_last far.part) (answered far.part far.stands) written
       ends
     where
@@ -135,7 +135,7 @@ module _ {right : List ℕ → List ℕ → Type 0} {input rest old mid : Option
   front new text passed = (passed.0, passed.1, grown new (take passed.0 text) passed.2)
 
   pub sweep_halts : {rest' new : Option (List ℕ)} (bytes pending' : List ℕ) (end : SweepEnd) → Consumes rest rest' bytes
-      → length bytes ≤ READ_SIZE → Passes (TakesBytes right pending bytes pending') mid new (Err end)
+      → length bytes ≤ READ_SIZE → PassesAnswers (TakesBytes right pending bytes pending') mid new (Err end)
       → IsSweep right input rest' old new (Err end)
   sweep_halts bytes pending' Read read small passed = absurd passed
   sweep_halts {new = new} bytes pending' Write read small passed =
@@ -146,7 +146,7 @@ module _ {right : List ℕ → List ℕ → Type 0} {input rest old mid : Option
       unwritten (Shortage lack) bytes read (grown new [] passed) tt
 
   pub sweep_halts_last : {rest' new : Option (List ℕ)} (end : SweepEnd) → Consumes rest rest' [] → IsAtEnd rest'
-      → Passes (AnswersLast right pending) mid new (Err end) → IsSweep right input rest' old new (Err end)
+      → PassesAnswers (AnswersLast right pending) mid new (Err end) → IsSweep right input rest' old new (Err end)
   sweep_halts_last Read read over passed = absurd passed
   sweep_halts_last {new = new} Write read over passed =
       over_last (Err Write) passed.0 read over passed.1 (front new passed.0 passed.2) tt

@@ -7,7 +7,7 @@
 --   takes_part, takes_lines    bytes without a newline, and with one
 --   nothing                    a list of length 0
 --   takes_no_end, takes_end    the end
-use Rattle.dg_sweep.proofs.Common.{◌≡◌, ◌≢◌, ℕ, ◌+◌, ◌-◌, ◌≤◌, take, drop, inl, inr, List, [], ◌∷◌, ◌++◌, length, refl, sym, ap, subst, ◌∙◌, arith, append_assoc, append-nil, flat_map, All-append, All-head, All-tail, take-append_seam, take-append-drop, AnswersLine, HasNoNewline, Begins, with_newline, last_line, begins_none, begins_one, begins_more, begins_then, StandsFor, KeepsPart, AnswersFront, EndsLine, TakesBytes, AnswersLast}
+use Rattle.dg_sweep.proofs.Common.{◌≡◌, ◌≢◌, ℕ, ◌+◌, ◌-◌, ◌≤◌, take, drop, inl, inr, List, [], ◌∷◌, ◌++◌, length, refl, sym, ap, subst, ◌∙◌, arith, append_assoc, append-nil, flat_map, All-append, All-head, All-tail, take-append_seam, take-append-drop, AnswersLine, HasNoNewline, Begins, with_newline, last_line, begins_none, begins_one, begins_more, begins_then, StandsFor, KeepsPartOfPiece, AnswersFront, EndsPiece, TakesBytes, AnswersLast}
 use Rattle.std.proofs.Common.{length-append}
 use Rattle.dg_sweep.specs.Answers.{AnswersLines}
 
@@ -100,7 +100,7 @@ ends_with (x ∷ xs) ys (z ∷ front) y byte e = ends_with xs ys front y byte (a
     tail (h ∷ t) = t
 
 pub nothing_left : (bytes rest : List ℕ) (ls : List (List ℕ)) → Begins HasNoNewline bytes ls rest → HasNoNewline rest
-    → EndsLine bytes → rest ≡ []
+    → EndsPiece bytes → rest ≡ []
 nothing_left bytes [] ls cut none ends = refl
 nothing_left bytes (y ∷ ys) ls cut none ends =
     let (more, e) = ends_with (flat_map with_newline ls) ys ends.0 y 10 (sym cut.whole ∙ ends.1) in
@@ -112,7 +112,7 @@ nothing_left bytes (y ∷ ys) ls cut none ends =
 
 pub front_ends : (bytes early later part after : List ℕ) (n : ℕ) → early ≡ take n bytes → later ≡ drop n bytes
     → later ≡ part ++ 10 ∷ after
-    → (length after ≤ length bytes) × EndsLine (take (length bytes - length after) bytes)
+    → (length after ≤ length bytes) × EndsPiece (take (length bytes - length after) bytes)
     × (bytes ≡ take (length bytes - length after) bytes ++ after)
 front_ends bytes early later part after n e1 e2 e =
     let split : early ++ later ≡ bytes = ap (λ l. l ++ later) e1 ∙ ap (λ l. take n bytes ++ l) e2
@@ -127,7 +127,7 @@ front_ends bytes early later part after n e1 e2 e =
     ap (λ n. take n bytes) size ∙ ap (take (length front)) whole ∙ take-append_seam front after in
     (omega (arith, ap length whole, sum), (early ++ part, same), whole ∙ ap (λ l. l ++ after) (sym same))
 
-pub pieces_both : (right : List ℕ → List ℕ → Type 0) (bytes front back rest rest' last said said' text : List ℕ) → EndsLine front
+pub pieces_both : (right : List ℕ → List ℕ → Type 0) (bytes front back rest rest' last said said' text : List ℕ) → EndsPiece front
     → bytes ≡ front ++ back
     → AnswersFront right front rest said → AnswersFront right back rest' said' → last ≡ rest'
     → text ≡ said ++ said'
@@ -149,7 +149,7 @@ pieces_both right bytes front back rest rest' last said said' text ends e here t
     }
 
 -- what is pending still stands for the part of the line, with more of it
-stands_more : (old more new part : List ℕ) → StandsFor old part → HasNoNewline more → KeepsPart old more new
+stands_more : (old more new part : List ℕ) → StandsFor old part → HasNoNewline more → KeepsPartOfPiece old more new
     → StandsFor new (part ++ more)
 stands_more old more new part stands none kept = record {
   no_newline = All-append (λ byte. byte ≢ 10) part more stands.no_newline none;
@@ -181,7 +181,7 @@ same_answer right pending part text stands answered = elim stands.same [
 ]
 
 pub takes_part : (right : List ℕ → List ℕ → Type 0) (old bytes part new text : List ℕ) → text ≡ [] → HasNoNewline part
-    → bytes ≡ part ++ [] → KeepsPart old part new
+    → bytes ≡ part ++ [] → KeepsPartOfPiece old part new
     → TakesBytes right old bytes new text
 takes_part right old bytes part new text unsaid none e kept p stands =
     let whole : part ≡ bytes = sym (e ∙ append-nil part) in
@@ -196,9 +196,9 @@ takes_part right old bytes part new text unsaid none e kept p stands =
 
 pub takes_lines : (right : List ℕ → List ℕ → Type 0) (old bytes part after mid first text rest new : List ℕ) → HasNoNewline part
     → bytes ≡ part ++ 10 ∷ after
-    → KeepsPart old part mid → (line : List ℕ) → line ≡ mid → AnswersLine right line first
+    → KeepsPartOfPiece old part mid → (line : List ℕ) → line ≡ mid → AnswersLine right line first
     → (said : List ℕ) × AnswersFront right after rest said × (text ≡ first ++ said) → (empty : List ℕ) → empty ≡ []
-    → KeepsPart empty rest new
+    → KeepsPartOfPiece empty rest new
     → TakesBytes right old bytes new text
 takes_lines right old bytes part after mid first text rest new none e kept shown is_mid answered lines empty is_empty
     kept' p stands =
@@ -210,7 +210,7 @@ takes_lines right old bytes part after mid first text rest new none e kept shown
       ls = line ∷ front.ls;
       part = rest;
       cut = begins_then (begins_line (p ++ bytes) line after is_line.no_newline cut) front.cut;
-      stands = stands_alone rest new front.no_newline (subst (λ l. KeepsPart l rest new) is_empty kept');
+      stands = stands_alone rest new front.no_newline (subst (λ l. KeepsPartOfPiece l rest new) is_empty kept');
       few = let size = length-append part (10 ∷ after) in omega (arith, ap length e, size, front.few);
       answers = subst (AnswersLines right (line ∷ front.ls)) (sym grown)
           (answers_more right (line ∷ []) front.ls first said
@@ -219,7 +219,7 @@ takes_lines right old bytes part after mid first text rest new none e kept shown
           (subst (λ l. AnswersLine right l first) is_mid answered))) front.answers);
     }
   where
-    stands_alone : (rest new : List ℕ) → HasNoNewline rest → KeepsPart [] rest new → StandsFor new rest
+    stands_alone : (rest new : List ℕ) → HasNoNewline rest → KeepsPartOfPiece [] rest new → StandsFor new rest
     stands_alone rest new none kept = record {
       no_newline = none;
       same = elim kept [ inl grown ↦ inl grown | inr full ↦ absurd (omega (arith, full.0)) ];

@@ -1,7 +1,7 @@
 -- Laws of answers and of amounts.
 --   HasOneAnswer right line == just one text answers the line
 --   AmountsHaveOneAnswer == no two texts answer a line of amounts for a start and its names
---   AmountsHaveOneMeaning == a line of amounts that stands for a start has no such fault and stands
+--   AmountLinesHaveOneMeaning == a line of amounts that stands for a start has no such fault and stands
 --                          for no other start, and no line has two such faults
 use Rattle.std.specs.Prelude.{◌≡◌, ◌≢◌, ℕ, List, length}
 use Rattle.dg_chips.specs.Starts.{IsStart}
@@ -21,7 +21,7 @@ AmountsHaveOneAnswer =
     → AnswersLine (AnswersAmounts question o names) line text
     → AnswersLine (AnswersAmounts question o names) line other → text ≡ other
 
-pub record AmountsHaveOneMeaning : Type 0 where
+pub record AmountLinesHaveOneMeaning : Type 0 where
   pub start : (o p r : StartData) (line : List ℕ) → HasAmountsOf o line p → HasAmountsOf o line r
       → AreSameOpenings p r
   pub refused : (o p : StartData) (line : List ℕ) (fault : FileFault) → fault ≢ OutOfMemory

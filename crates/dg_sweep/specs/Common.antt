@@ -17,9 +17,9 @@ pub use Rattle.dg_invocation.specs.declared.question.Question.{Question}
 pub use Rattle.dg_invocation.specs.declared.question.Question.TheVariants.{Judge, Rank, RiemannRoch}
 pub use Rattle.dg_lines.specs.Cuts.{lines, words}
 pub use Rattle.dg_lines.specs.Judgements.{IsJudgement}
-pub use Rattle.dg_lines.specs.Streams.{Begins, HasNoNewline, HaveCome, last_line}
+pub use Rattle.dg_lines.specs.Streams.{Begins, HasNoNewline, LinesHaveCome, last_line}
 pub use Rattle.dg_lines.specs.Texts.{text_of}
-pub use Rattle.dg_rank.specs.Limits.{IsPastLimits}
+pub use Rattle.dg_rank.specs.Limits.{ArePastTrialLimits}
 pub use Rattle.dg_rank.specs.Ranks.{IsUntold, IsWithin, NeedsPastTests}
 pub use Rattle.dg_system.specs.Growth.{AppendsFront}
 pub use Rattle.dg_theory.specs.Firing.{degree}

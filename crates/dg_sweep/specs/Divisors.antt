@@ -2,7 +2,7 @@
 -- for that table with its amounts, as the file of a table would have them.
 --   SpellsAmounts line xs   == the words of the line are the decimals of the numbers xs, which 64 bits
 --                              hold
---   SpellsNone line         == it spells no numbers so
+--   SpellsNoAmounts line    == it spells no numbers so
 --   IsDivisorOf n line d    == d is the divisor on n vertices with the amounts that the line spells
 --   HasAmountsOf o line p   == the line stands for the start p: o with the amounts that it spells
 --   RefusesAmounts n line fault == the first fault of the line's amounts for n vertices, which a table
@@ -19,8 +19,8 @@ pub record SpellsAmounts (line : List ℕ) (xs : List ℤ) : Type 0 where
   pub spelled : words line ≡ map signed_decimal xs
   pub held : All (FitsSigned w64) xs
 
-abbrev pub SpellsNone : List ℕ → Type 0
-SpellsNone line = (xs : List ℤ) → ¬ SpellsAmounts line xs
+abbrev pub SpellsNoAmounts : List ℕ → Type 0
+SpellsNoAmounts line = (xs : List ℤ) → ¬ SpellsAmounts line xs
 
 pub record IsDivisorOf (n : ℕ) (line : List ℕ) (d : Vector) : Type 0 where
   pub xs : List ℤ
@@ -39,7 +39,7 @@ pub record HasAmountsOf (o : StartData) (line : List ℕ) (p : StartData) : Type
   pub rest : p ≡ record o { divisor = divisor }
 
 abbrev pub RefusesAmounts : ℕ → List ℕ → FileFault → Type 0
-RefusesAmounts n line (Shape Amounts) = SpellsNone line
+RefusesAmounts n line (Shape Amounts) = SpellsNoAmounts line
 RefusesAmounts n line (Chip fault) =
     (xs : List ℤ) × SpellsAmounts line xs × IsFirstChipFault n xs fault
 RefusesAmounts n line OutOfMemory = ⊤

@@ -1,17 +1,17 @@
 -- The steps of a sweep. What is pending stands for the part of a line that was read last.
 --   StandsFor pending part == the part has no newline, and it is what is pending, or both are
 --                         longer than a line may be
---   KeepsPart old part new == the part is put after what is pending, or that is longer already than
+--   KeepsPartOfPiece old part new == the part is put after what is pending, or that is longer already than
 --                         a line may be
 --   AnswersFront right bytes rest text == the bytes are lines, each with its newline, and then
 --                             the rest, which has none; and the text is the answers to the lines
---   EndsLine bytes           == the last of the bytes is a newline
+--   EndsPiece bytes          == the last of the bytes is a newline
 --   TakesBytes right old bytes new text == whatever part of a line was pending, it and the bytes
 --                             are lines and then a part of a line, which then is pending; there are
 --                             no more lines than bytes; and the text is their answers
 --   AnswersLast right pending text == whatever part of a line was pending, it is the last line,
 --                             if it has a byte, and the text its answer
---   Passes T old new result == such a text, of which T holds, was written; or memory or a thread
+--   PassesAnswers T old new result == such a text, of which T holds, was written; or memory or a thread
 --                             was refused, and nothing was written; or a front of it was written,
 --                             and the writer took no more
 use Rattle.std.specs.Prelude.{◌≡◌, ℕ, ◌<◌, ◌≤◌, ◌⊎◌, List, [], ◌∷◌, ◌++◌, length, Option, Result, Ok, Err}
@@ -26,8 +26,8 @@ pub record StandsFor (pending part : List ℕ) : Type 0 where
   pub no_newline : HasNoNewline part
   pub same : (pending ≡ part) ⊎ ((MAX_LINE < length pending) × (MAX_LINE < length part))
 
-abbrev pub KeepsPart : List ℕ → List ℕ → List ℕ → Type 0
-KeepsPart old part new = (new ≡ old ++ part) ⊎ ((MAX_LINE < length old) × (new ≡ old))
+abbrev pub KeepsPartOfPiece : List ℕ → List ℕ → List ℕ → Type 0
+KeepsPartOfPiece old part new = (new ≡ old ++ part) ⊎ ((MAX_LINE < length old) × (new ≡ old))
 
 pub record AnswersFront (right : List ℕ → List ℕ → Type 0) (bytes rest text : List ℕ) : Type 0 where
   pub ls : List (List ℕ)
@@ -36,8 +36,8 @@ pub record AnswersFront (right : List ℕ → List ℕ → Type 0) (bytes rest t
   pub few : length ls ≤ length bytes
   pub answers : AnswersLines right ls text
 
-abbrev pub EndsLine : List ℕ → Type 0
-EndsLine bytes = (front : List ℕ) × (bytes ≡ front ++ 10 ∷ [])
+abbrev pub EndsPiece : List ℕ → Type 0
+EndsPiece bytes = (front : List ℕ) × (bytes ≡ front ++ 10 ∷ [])
 
 pub record Taken (right : List ℕ → List ℕ → Type 0) (bytes new text : List ℕ) (n : ℕ) : Type 0 where
   pub ls : List (List ℕ)
@@ -55,9 +55,9 @@ abbrev pub AnswersLast : (List ℕ → List ℕ → Type 0) → List ℕ → Lis
 AnswersLast right pending text = (part : List ℕ) → StandsFor pending part
     → AnswersLines right (last_line part) text
 
-abbrev pub Passes : (List ℕ → Type 0) → Option (List ℕ) → Option (List ℕ)
+abbrev pub PassesAnswers : (List ℕ → Type 0) → Option (List ℕ) → Option (List ℕ)
     → Result (Unit {0}) SweepEnd → Type 0
-Passes T old new (Ok done) = (text : List ℕ) × T text × Appends old new text
-Passes T old new (Err Write) = (text : List ℕ) × T text × AppendsFront old new [] text
-Passes T old new (Err (Shortage lack)) = Appends old new []
-Passes T old new (Err Read) = ⊥
+PassesAnswers T old new (Ok done) = (text : List ℕ) × T text × Appends old new text
+PassesAnswers T old new (Err Write) = (text : List ℕ) × T text × AppendsFront old new [] text
+PassesAnswers T old new (Err (Shortage lack)) = Appends old new []
+PassesAnswers T old new (Err Read) = ⊥

@@ -11,7 +11,7 @@
 --                       no more than the bytes of one read
 use Rattle.std.specs.Prelude.{◌≡◌, ℕ, ◌≤◌, List, ◌++◌, length, Option, Result, Ok, Err, ⊤}
 use Rattle.std.specs.Io.KnownBytes.{Appends, Consumes, IsAtEnd}
-use Rattle.dg_sweep.specs.Common.{lines, HasNoNewline, Begins, HaveCome, AppendsFront}
+use Rattle.dg_sweep.specs.Common.{lines, HasNoNewline, Begins, LinesHaveCome, AppendsFront}
 use Rattle.dg_sweep.specs.Answers.{AnswersLines}
 use Rattle.dg_sweep.specs.declared.ends.TheConstants.{READ_SIZE}
 use Rattle.dg_sweep.specs.declared.ends.SweepEnd.{SweepEnd}
@@ -34,7 +34,7 @@ pub record IsSweep (right : List ℕ → List ℕ → Type 0) (input rest : Opti
   pub read : Consumes input rest stream
   pub told : List (List ℕ)
   pub last : List (List ℕ)
-  pub came : HaveCome HasNoNewline (IsAtEnd rest) stream (told ++ last)
+  pub came : LinesHaveCome HasNoNewline (IsAtEnd rest) stream (told ++ last)
   pub few : length last ≤ READ_SIZE
   pub said : List ℕ
   pub text : List ℕ

@@ -5,12 +5,12 @@ ghost use Rattle.dg_chips.specs.Vector.{at};
 ghost use Rattle.dg_verdict.specs.Right.{IsVerdictOn};
 ghost use Rattle.dg_lines.specs.Judgements.{IsJudgement};
 ghost use Rattle.dg_lines.specs.Texts.{HasNames, text_of};
-ghost use Rattle.dg_sweep.specs.FaultTexts.{file_fault_text};
+ghost use Rattle.dg_sweep.specs.FaultTexts.{file_fault_words};
 ghost use Rattle.dg_sweep.specs.Subjects.{start_of};
-ghost use Rattle.dg_sweep.specs.Answers.{AnswersLine, AnswersTableLine, AnswersTable, refusal};
+ghost use Rattle.dg_sweep.specs.Answers.{AnswersLine, AnswersTableLine, AnswersTable, refusal_line};
 
 use crate::ends::MAX_LINE;
-use crate::fault_words::push_fault;
+use crate::fault_words::push_file_fault_words;
 use crate::ranking::{push_rank, push_ranks};
 use crate::tables::Tables;
 use dg_chips::Divisor;
@@ -72,10 +72,10 @@ pub(crate) fn answer_of_kind<K: LineKind>(
 /// `refused`, the text of the fault and a newline, into an empty buffer.
 pub(crate) fn push_refusal(fault: &FileFault, answer: &mut Vec<u8>) -> Result<(), AllocError>
     requires { answer.old.items ≡ [] }
-    ensures { OnOk result (answer.new.items ≡ refusal (file_fault_text fault.now)) }
+    ensures { OnOk result (answer.new.items ≡ refusal_line (file_fault_words fault.now)) }
 {
     answer.extend_from_slice(b"refused ")?;
-    push_fault(answer, fault)?;
+    push_file_fault_words(answer, fault)?;
     answer.push(b'\n')?;
     Ok(())
 }
@@ -139,7 +139,7 @@ fn verdict_on(subject: &Subject<'_>, inverse: Option<&InverseLaplacian>) -> Verd
 }
 
 /// The text of a reply and a newline, into an empty buffer.
-pub(crate) fn push_line(
+pub(crate) fn push_verdict_line(
     answer: &mut Vec<u8>,
     reply: &Reply,
     names: &Names,

@@ -4,7 +4,7 @@ ghost use Rattle.std.specs.Option.{option_copied};
 ghost use Rattle.std.specs.Fmt.{signed_decimal};
 ghost use Rattle.std.specs.Int.{w64};
 ghost use Rattle.dg_lines.specs.Cuts.{before, after};
-ghost use Rattle.dg_sweep.specs.Divisors.{IsDivisorOf, RefusesAmounts, SpellsAmounts, SpellsNone};
+ghost use Rattle.dg_sweep.specs.Divisors.{IsDivisorOf, RefusesAmounts, SpellsAmounts, SpellsNoAmounts};
 
 use crate::answering::{LineKind, Subject, push_answer, push_refusal};
 use dg_chips::{Divisor, Start};
@@ -86,7 +86,7 @@ fn divisor_of(alloc: Global, graph: &Graph, line: &[u8]) -> Result<Divisor, File
 
 /// The whole numbers that the words of a line are, with one space between two; `None` if a word is none within 64 bits.
 fn amounts_of(alloc: Global, line: &[u8]) -> Result<Option<Vec<i64>>, AllocError>
-    ensures { IfOk result (λ amounts. MatchOption amounts (SpellsNone line.now)
+    ensures { IfOk result (λ amounts. MatchOption amounts (SpellsNoAmounts line.now)
         (λ amounts. SpellsAmounts line.now amounts.items)) }
 {
     let mut amounts = Vec::with_capacity(alloc, MAX_VERTICES)?;

@@ -1,6 +1,6 @@
 //! What is said of bytes that are refused as a table.
 ghost use Rattle.std.specs.Prelude.{◌≡◌, ◌++◌, decimal, OnOk};
-ghost use Rattle.dg_sweep.specs.FaultTexts.{file_fault_text, shape_text, graph_text, chip_text};
+ghost use Rattle.dg_sweep.specs.FaultTexts.{file_fault_words, shape_fault_words, graph_fault_words, chip_fault_words};
 
 use dg_chips::ChipFault;
 use dg_file::{FileFault, Shape};
@@ -9,27 +9,27 @@ use itoa::Buffer;
 use std::alloc::AllocError;
 
 /// What is said of a fault, after the text.
-pub(crate) fn push_fault(text: &mut Vec<u8>, fault: &FileFault) -> Result<(), AllocError>
-    ensures { OnOk result (text.new.items ≡ text.old.items ++ file_fault_text fault.now) }
+pub(crate) fn push_file_fault_words(text: &mut Vec<u8>, fault: &FileFault) -> Result<(), AllocError>
+    ensures { OnOk result (text.new.items ≡ text.old.items ++ file_fault_words fault.now) }
 {
     match fault {
         FileFault::Json => text.extend_from_slice(b"not JSON")?,
-        FileFault::Shape(shape) => push_shape(text, *shape)?,
-        FileFault::Graph(fault) => push_graph_fault(text, *fault)?,
+        FileFault::Shape(shape) => push_shape_fault_words(text, *shape)?,
+        FileFault::Graph(fault) => push_graph_fault_words(text, *fault)?,
         FileFault::Name(v) => push_labelled(text, b"name of vertex ", *v)?,
         FileFault::Twice(v) => {
             push_labelled(text, b"vertex ", *v)?;
             text.extend_from_slice(b" named twice")?;
         }
-        FileFault::Chip(fault) => push_chip_fault(text, *fault)?,
+        FileFault::Chip(fault) => push_chip_fault_words(text, *fault)?,
         FileFault::NoQ => text.extend_from_slice(b"no vertex q")?,
         FileFault::OutOfMemory => text.extend_from_slice(b"out of memory")?,
     }
     Ok(())
 }
 
-fn push_shape(text: &mut Vec<u8>, shape: Shape) -> Result<(), AllocError>
-    ensures { OnOk result (text.new.items ≡ text.old.items ++ shape_text shape) }
+fn push_shape_fault_words(text: &mut Vec<u8>, shape: Shape) -> Result<(), AllocError>
+    ensures { OnOk result (text.new.items ≡ text.old.items ++ shape_fault_words shape) }
 {
     match shape {
         Shape::Top => text.extend_from_slice(b"shape of top")?,
@@ -42,8 +42,8 @@ fn push_shape(text: &mut Vec<u8>, shape: Shape) -> Result<(), AllocError>
     Ok(())
 }
 
-fn push_graph_fault(text: &mut Vec<u8>, fault: GraphFault) -> Result<(), AllocError>
-    ensures { OnOk result (text.new.items ≡ text.old.items ++ graph_text fault) }
+fn push_graph_fault_words(text: &mut Vec<u8>, fault: GraphFault) -> Result<(), AllocError>
+    ensures { OnOk result (text.new.items ≡ text.old.items ++ graph_fault_words fault) }
 {
     match fault {
         GraphFault::Size => text.extend_from_slice(b"number of vertices")?,
@@ -65,8 +65,8 @@ fn push_graph_fault(text: &mut Vec<u8>, fault: GraphFault) -> Result<(), AllocEr
     Ok(())
 }
 
-fn push_chip_fault(text: &mut Vec<u8>, fault: ChipFault) -> Result<(), AllocError>
-    ensures { OnOk result (text.new.items ≡ text.old.items ++ chip_text fault) }
+fn push_chip_fault_words(text: &mut Vec<u8>, fault: ChipFault) -> Result<(), AllocError>
+    ensures { OnOk result (text.new.items ≡ text.old.items ++ chip_fault_words fault) }
 {
     match fault {
         ChipFault::Length => text.extend_from_slice(b"number of amounts")?,

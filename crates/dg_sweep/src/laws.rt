@@ -1,6 +1,6 @@
 //! Laws of the lines of a sweep, each the contract of a function that no other needs.
 ghost use Rattle.std.specs.Prelude.{OnOk};
-ghost use Rattle.dg_sweep.specs.AnswerLaws.{AmountsHaveOneAnswer, AmountsHaveOneMeaning, HasOneAnswer};
+ghost use Rattle.dg_sweep.specs.AnswerLaws.{AmountsHaveOneAnswer, AmountLinesHaveOneMeaning, HasOneAnswer};
 ghost use Rattle.dg_sweep.specs.Answers.{AnswersTableWithin};
 ghost use Rattle.dg_sweep.specs.DivisorLaws.{LinesStandForTables};
 
@@ -32,8 +32,8 @@ pub fn amounts_have_one_answer()
 {}
 
 /// A line of amounts stands for no two starts, has no two faults for which it is refused, and never both; want of memory aside.
-pub fn amounts_have_one_meaning()
-    ensures { AmountsHaveOneMeaning }
+pub fn amount_lines_have_one_meaning()
+    ensures { AmountLinesHaveOneMeaning }
 {}
 
 /// A line of amounts for the table of a file stands for the table that the file would describe with these amounts, and is

@@ -4,10 +4,10 @@ ghost use Rattle.dg_chips.specs.Starts.{IsStart};
 ghost use Rattle.dg_chips.specs.Vector.{at};
 ghost use Rattle.dg_rank.specs.Ladders.{AnswersRankTest};
 ghost use Rattle.dg_rank.specs.Ranks.{AreBothRanks, NeedsPastTests};
-ghost use Rattle.dg_sweep.specs.Answers.{AnswersRank, AreRanks, AreUntested, number_after, numbers_text};
+ghost use Rattle.dg_sweep.specs.Answers.{AnswersRankLine, AreRanks, AreUntested, answer_number, degree_and_genus_words};
 ghost use Rattle.dg_sweep.specs.Subjects.{start_of};
 
-use crate::answering::{Subject, push_line};
+use crate::answering::{Subject, push_verdict_line};
 use dg_chips::Divisor;
 use dg_game::Reply;
 use dg_graph::Graph;
@@ -30,12 +30,12 @@ pub(crate) fn push_rank(
     requires start { IsStart (start_of subject.now) }
     requires names { length names.now ≡ subject.now.graph.now.size }
     requires empty { answer.old.items ≡ [] }
-    ensures { OnOk result (AnswersRank (start_of subject.now) k names.now answer.new.items) }
+    ensures { OnOk result (AnswersRankLine (start_of subject.now) k names.now answer.new.items) }
 {
     let q = usize::from(subject.q);
     let (graph, divisor) = (subject.graph, subject.divisor);
     if let Ok(verdict) = rank_on(graph, inverse, q, divisor, k) {
-        push_line(answer, &Reply::Rank(verdict), names)?;
+        push_verdict_line(answer, &Reply::Rank(verdict), names)?;
         return Ok(());
     }
     let Ok(passes) = has_rank(graph, q, divisor, k) else {
@@ -44,7 +44,7 @@ pub(crate) fn push_rank(
     };
     if passes {
         let verdict = RankVerdict::AtLeast(k);
-        push_line(answer, &Reply::Rank(verdict), names)?;
+        push_verdict_line(answer, &Reply::Rank(verdict), names)?;
         return Ok(());
     }
     push_below(k, answer)?;
@@ -113,7 +113,7 @@ pub(crate) fn push_ranks(
 {
     let q = usize::from(subject.q);
     let Some((rank, dual_rank)) = ranks_on(subject.graph, inverse, q, subject.divisor) else {
-        push_untold(subject, answer)?;
+        push_untold_answer(subject, answer)?;
         return Ok(());
     };
     push_told(subject, rank, dual_rank, answer)?;
@@ -129,23 +129,23 @@ fn push_told(
 ) -> Result<(), AllocError>
     requires start { IsStart (start_of subject.now) }
     requires empty { answer.old.items ≡ [] }
-    ensures { OnOk result (answer.new.items ≡ numbers_text (start_of subject.now)
-        ++ number_after (codes " rank ") rank ++ number_after (codes " dual ") dual_rank
+    ensures { OnOk result (answer.new.items ≡ degree_and_genus_words (start_of subject.now)
+        ++ answer_number (codes " rank ") rank ++ answer_number (codes " dual ") dual_rank
         ++ codes "\n") }
 {
     push_numbers(subject, answer)?;
-    push_number(answer, " rank ", rank)?;
-    push_number(answer, " dual ", dual_rank)?;
+    push_answer_number(answer, " rank ", rank)?;
+    push_answer_number(answer, " dual ", dual_rank)?;
     answer.push(b'\n')?;
     Ok(())
 }
 
 /// The line of a subject with marks in place of the two ranks, into an empty buffer.
-fn push_untold(subject: &Subject<'_>, answer: &mut Vec<u8>) -> Result<(), AllocError>
+fn push_untold_answer(subject: &Subject<'_>, answer: &mut Vec<u8>) -> Result<(), AllocError>
     requires start { IsStart (start_of subject.now) }
     requires empty { answer.old.items ≡ [] }
     ensures { OnOk result (answer.new.items
-        ≡ numbers_text (start_of subject.now) ++ codes " rank ? dual ?\n") }
+        ≡ degree_and_genus_words (start_of subject.now) ++ codes " rank ? dual ?\n") }
 {
     push_numbers(subject, answer)?;
     answer.extend_from_slice(b" rank ? dual ?\n")?;
@@ -156,16 +156,16 @@ fn push_untold(subject: &Subject<'_>, answer: &mut Vec<u8>) -> Result<(), AllocE
 fn push_numbers(subject: &Subject<'_>, answer: &mut Vec<u8>) -> Result<(), AllocError>
     requires start { IsStart (start_of subject.now) }
     requires empty { answer.old.items ≡ [] }
-    ensures { OnOk result (answer.new.items ≡ numbers_text (start_of subject.now)) }
+    ensures { OnOk result (answer.new.items ≡ degree_and_genus_words (start_of subject.now)) }
 {
-    push_number(answer, "degree ", subject.divisor.degree())?;
-    push_number(answer, " genus ", i64::from(subject.graph.genus()))?;
+    push_answer_number(answer, "degree ", subject.divisor.degree())?;
+    push_answer_number(answer, " genus ", i64::from(subject.graph.genus()))?;
     Ok(())
 }
 
 /// A label and a number, after the text.
-fn push_number(text: &mut Vec<u8>, label: &str, number: i64) -> Result<(), AllocError>
-    ensures { OnOk result (text.new.items ≡ text.old.items ++ number_after label.now number) }
+fn push_answer_number(text: &mut Vec<u8>, label: &str, number: i64) -> Result<(), AllocError>
+    ensures { OnOk result (text.new.items ≡ text.old.items ++ answer_number label.now number) }
 {
     text.extend_from_slice(label.as_bytes())?;
     text.extend_from_slice(Buffer::new().format(number).as_bytes())?;

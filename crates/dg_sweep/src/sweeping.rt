@@ -9,7 +9,7 @@ use crate::answering::LineKind;
 use crate::divisors::Divisors;
 use crate::ends::{READ_SIZE, SweepEnd};
 use crate::tables::Tables;
-use crate::taking::Progress;
+use crate::taking::SweepProgress;
 use crate::workers::SweepContext;
 use dg_file::TableFile;
 use dg_invocation::Question;
@@ -94,7 +94,7 @@ fn sweep_kind<R: Threads + Wait + Sync, K: LineKind + Sync, I: Read, O: Write>(
         kind,
         workers: workers as usize,
     };
-    let mut progress = Progress::new(alloc);
+    let mut progress = SweepProgress::new(alloc);
     'reads: for _ in 0..u64::MAX {
         let Some(size) = reader.read_some(&mut buffer) else {
             return Err(SweepEnd::Read);

@@ -1,6 +1,6 @@
 //! Taking what was read: bytes that are cut into lines, and the end.
 ghost use Rattle.std.specs.Prelude.{◌≡◌, ◌≢◌, ◌≤◌, ◌++◌, ℕ, List, [], true, IfOk, OnOk, Err};
-ghost use Rattle.dg_sweep.specs.Steps.{AnswersFront, KeepsPart, Passes, TakesBytes, AnswersLast};
+ghost use Rattle.dg_sweep.specs.Steps.{AnswersFront, KeepsPartOfPiece, PassesAnswers, TakesBytes, AnswersLast};
 ghost use Rattle.dg_sweep.specs.declared.ends.SweepEnd.TheVariants.{Write as WriteEnd, Shortage as ShortageEnd};
 ghost use Rattle.dg_system.specs.declared.shortage.Shortage.TheVariants.{Spawn};
 
@@ -16,7 +16,7 @@ use std::thread::Threads;
 
 /// How far a sweep is.
 #[derive(Drop)]
-pub(crate) struct Progress {
+pub(crate) struct SweepProgress {
     /// What came after the last newline; no more is put to it once it is longer than a line may be.
     pub(crate) pending: Vec<u8>,
     /// The answers to what was taken last.
@@ -25,12 +25,12 @@ pub(crate) struct Progress {
     answer: Vec<u8>,
 }
 
-impl Progress {
+impl SweepProgress {
     /// How far a sweep is that has read nothing.
-    pub(crate) fn new(alloc: Global) -> Progress
+    pub(crate) fn new(alloc: Global) -> SweepProgress
         ensures pending { result.pending.items ≡ [] }
     {
-        Progress {
+        SweepProgress {
             pending: Vec::new(alloc),
             text: Vec::new(alloc),
             answer: Vec::new(alloc),
@@ -44,7 +44,7 @@ impl Progress {
         writer: &mut Output<O>,
         bytes: &[u8],
     ) -> Result<(), SweepEnd>
-        ensures passed { Passes
+        ensures passed { PassesAnswers
             (TakesBytes (K.answers context.now.kind.now) self.old.pending.items bytes.now self.new.pending.items)
             writer.old.contents writer.new.contents result }
         ensures write { result ≡ Err WriteEnd → writer.new.has_failed ≡ true }
@@ -66,7 +66,7 @@ impl Progress {
         kind: &K,
         writer: &mut Output<O>,
     ) -> Result<(), SweepEnd>
-        ensures passed { Passes (AnswersLast (K.answers kind.now) self.old.pending.items)
+        ensures passed { PassesAnswers (AnswersLast (K.answers kind.now) self.old.pending.items)
             writer.old.contents writer.new.contents result }
         ensures write { result ≡ Err WriteEnd → writer.new.has_failed ≡ true }
         ensures spawn { result ≢ Err (ShortageEnd Spawn) }
@@ -92,14 +92,14 @@ impl Progress {
     {
         self.text.clear();
         let (part, after) = cut(bytes, b'\n');
-        keep_part(&mut self.pending, part)?;
+        keep_part_of_piece(&mut self.pending, part)?;
         let Some(after) = after else {
             return Ok(());
         };
         answer_of_kind(context.alloc, context.kind, &self.pending, &mut self.text)?;
         self.pending.clear();
         let part = answer_batch(context, after, &mut self.text, &mut self.answer)?;
-        keep_part(&mut self.pending, part)?;
+        keep_part_of_piece(&mut self.pending, part)?;
         Ok(())
     }
 
@@ -117,8 +117,8 @@ impl Progress {
 }
 
 /// Keeps a part of a line, unless what is pending is longer already than a line may be.
-fn keep_part(pending: &mut Vec<u8>, part: &[u8]) -> Result<(), AllocError>
-    ensures { OnOk result (KeepsPart pending.old.items part.now pending.new.items) }
+fn keep_part_of_piece(pending: &mut Vec<u8>, part: &[u8]) -> Result<(), AllocError>
+    ensures { OnOk result (KeepsPartOfPiece pending.old.items part.now pending.new.items) }
 {
     if pending.len() <= MAX_LINE {
         pending.extend_from_slice(part)?;

@@ -1,18 +1,18 @@
 -- What is known of streams.
---   Reading                  == a reader: the bytes that it has yet to give, if they are known,
+--   StreamReading            == a reader: the bytes that it has yet to give, if they are known,
 --                         and whether a read of it has failed
---   Writing                  == a writer: the bytes that it holds, if they are known, and
+--   StreamWriting            == a writer: the bytes that it holds, if they are known, and
 --                         whether a write to it has failed
 --   AppendsFront old new told text == known bytes have grown by what was told, and by a front of
 --                         the text
 use Rattle.std.specs.Prelude.{ℕ, Bool, ◌≤◌, List, ◌++◌, length, take, Option}
 use Rattle.std.specs.Io.KnownBytes.{Appends}
 
-pub record Reading : Type 0 where
+pub record StreamReading : Type 0 where
   pub remaining : Option (List ℕ)
   pub has_failed : Bool
 
-pub record Writing : Type 0 where
+pub record StreamWriting : Type 0 where
   pub contents : Option (List ℕ)
   pub has_failed : Bool
 

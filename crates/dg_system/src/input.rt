@@ -16,9 +16,9 @@ pub struct Input<I: Read> {
 }
 
 impl<I: Read> Model for Input<I> {
-    ghost use Rattle.dg_system.specs.Growth.{Reading};
+    ghost use Rattle.dg_system.specs.Growth.{StreamReading};
 
-    ghost Value = { Reading };
+    ghost Value = { StreamReading };
 
     ghost view = { λ input.
         record { remaining = I.remaining input.inner; has_failed = input.has_failed } };

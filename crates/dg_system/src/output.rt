@@ -16,9 +16,9 @@ pub struct Output<O: Write> {
 }
 
 impl<O: Write> Model for Output<O> {
-    ghost use Rattle.dg_system.specs.Growth.{Writing};
+    ghost use Rattle.dg_system.specs.Growth.{StreamWriting};
 
-    ghost Value = { Writing };
+    ghost Value = { StreamWriting };
 
     ghost view = { λ output.
         record { contents = O.contents output.inner; has_failed = output.has_failed } };

@@ -11,7 +11,7 @@ pub use Rattle.dg_game.specs.Legal.{IsLegal}
 pub use Rattle.dg_game.specs.Look.{IsLookAt, KeepsFinding, asked_for, asked_on}
 pub use Rattle.dg_game.specs.Position.{Shows}
 pub use Rattle.dg_game.specs.Replies.{Replies}
-pub use Rattle.dg_game.specs.State.{LeadsTo, State}
+pub use Rattle.dg_game.specs.State.{LeadsTo, GameState}
 pub use Rattle.dg_game.specs.declared.entry.Entry.{Entry}
 pub use Rattle.dg_game.specs.declared.entry.Reply.{Reply}
 pub use Rattle.dg_game.specs.declared.entry.Reply.TheVariants.{Looked, Stale, Verdict}
@@ -22,21 +22,21 @@ pub use Rattle.dg_game.specs.declared.finding.Finding.{Finding}
 pub use Rattle.dg_game.specs.declared.finding.Finding.TheVariants.{Judged, Ranked}
 pub use Rattle.dg_game.specs.declared.finding.Question.{Question}
 pub use Rattle.dg_game.specs.declared.look.LookData.{LookData}
-pub use Rattle.dg_log.specs.Numbered.{IsBeginning, IsLonger, StandIn}
+pub use Rattle.dg_log.specs.Numbered.{IsPrefixOf, IsLonger, StandIn}
 pub use Rattle.dg_log.specs.Tables.{TableData}
 pub use Rattle.dg_log.specs.Written.{Written}
 pub use Rattle.dg_log.specs.declared.name.Name.{Ghosts}
 pub use Rattle.dg_table.specs.Answered.{IsAnsweredAfter, IsEnteredAfter, entering}
-pub use Rattle.dg_table.specs.Closing.{AllHeld, AreTotals, HasSeat, HaveMet, IsCloseRefused, IsComplete}
+pub use Rattle.dg_table.specs.Closing.{AllHeld, AreTotals, TableHasSeat, HaveMet, IsCloseRefused, IsComplete}
 pub use Rattle.dg_table.specs.Faults.{RefusesSettling, RefusesStep}
 pub use Rattle.dg_table.specs.Histories.{IsHistoryOf}
-pub use Rattle.dg_table.specs.Lock.{AreCountsOf, IsKeptLook, IsReady, IsSeatState, IsUnderLock}
-pub use Rattle.dg_table.specs.Looks.{HasVertices, IsLastLook, IsLookOf, LastLook, asks_look, is_look, last_look}
+pub use Rattle.dg_table.specs.Lock.{AreSeatCounts, IsKeptLook, IsReady, IsSeatState, IsUnderLock}
+pub use Rattle.dg_table.specs.Looks.{KeptLookHasVertices, IsLastLook, IsLookOf, SeatKeepsLastLook, asks_for_kept_look, is_look, last_look}
 pub use Rattle.dg_table.specs.Opened.{AreFresh}
-pub use Rattle.dg_table.specs.SeatLaws.{EntriesStand, NoEntries, OneSeat, OtherEntry, OwnEntry}
-pub use Rattle.dg_table.specs.Seats.{AreSeated, Holds, IsAdmissible, Meets, SeatView, entries_of}
-pub use Rattle.dg_table.specs.Settled.{IsCarriedTo, IsNotStaleAfter, IsSettledAfter, IsStaleAfter}
-pub use Rattle.dg_table.specs.Turns.{IsAskedToEnter, asking}
+pub use Rattle.dg_table.specs.SeatLaws.{SeatEntriesStand, SeatHasNoEntries, OneSeatHasAll, OtherSeatsEntry, OwnSeatsEntry}
+pub use Rattle.dg_table.specs.Seats.{AreOfTableSeats, Holds, IsAdmissible, Meets, SeatView, entries_of}
+pub use Rattle.dg_table.specs.Settled.{IsSettledFor, IsNotStaleAfter, IsSettledAfter, IsStaleAfter}
+pub use Rattle.dg_table.specs.Turns.{IsAskedToEnter, asking_at_table}
 pub use Rattle.dg_table.specs.declared.audit.Audit.{Audit}
 pub use Rattle.dg_table.specs.declared.fault.Fault.{Fault}
 pub use Rattle.dg_table.specs.declared.fault.Fault.TheVariants.{Full, Log, OutOfMemory}

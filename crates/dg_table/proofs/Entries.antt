@@ -11,7 +11,7 @@
 --   own_alone             in a history of one seat its entries are all
 --   own_stand             the entries of the seat in the beginning of a history stand in it
 --   all_own               the entries of the seat in the beginning of a history are all, where they are as many as all
-use Rattle.dg_table.proofs.Common.{◌≡◌, ℕ, suc, ◌+◌, ◌==◌, Bool, true, false, cond, List, [], ◌∷◌, ◌++◌, length, length-append, map, slice_get, Some, arith, refl, sym, ap, subst, ◌∙◌, eq-eqb, ⊤, filter, enumerate_from, append-nil, nil_from_length, filter-append, ne_eqb, Entry, StandIn, IsBeginning, AreSeated, entries_of, OneSeat, NoEntries, OwnEntry, OtherEntry, EntriesStand}
+use Rattle.dg_table.proofs.Common.{◌≡◌, ℕ, suc, ◌+◌, ◌==◌, Bool, true, false, cond, List, [], ◌∷◌, ◌++◌, length, length-append, map, slice_get, Some, arith, refl, sym, ap, subst, ◌∙◌, eq-eqb, ⊤, filter, enumerate_from, append-nil, nil_from_length, filter-append, ne_eqb, Entry, StandIn, IsPrefixOf, AreOfTableSeats, entries_of, OneSeatHasAll, SeatHasNoEntries, OwnSeatsEntry, OtherSeatsEntry, SeatEntriesStand}
 use Rattle.dg_table.proofs.Numbered.{stand_longer}
 
 pub enumerate_from-more : {X : Type 0} (n : ℕ) (xs : List X) (x : X) →
@@ -22,7 +22,7 @@ enumerate_from-more {X} n (y ∷ xs) x =
     let place = ap (λ i. enumerate_from (n + 1) xs ++ (i, x) ∷ []) same in
     ap (λ (ps : List (ℕ × X)). (n, y) ∷ ps) (enumerate_from-more (n + 1) xs x ∙ place)
 
-pub none_of : NoEntries
+pub none_of : SeatHasNoEntries
 none_of s = refl
 
 -- the entries of the seat s in H, whose first has the number n
@@ -37,11 +37,11 @@ one_more s H e =
     ap (filter test) (enumerate_from-more 0 H e ∙ ap (λ i. enumerate_from 0 H ++ (i, e) ∷ []) last)
     ∙ filter-append test (enumerate_from 0 H) ((length H, e) ∷ [])
 
-pub own_more : OwnEntry
+pub own_more : OwnSeatsEntry
 own_more s H e own =
     one_more s H e ∙ ap (λ b. entries_of s H ++ cond b ((length H, e) ∷ []) []) (eq-eqb e.seat s own)
 
-pub other_more : OtherEntry
+pub other_more : OtherSeatsEntry
 other_more s H e other =
     one_more s H e ∙ ap (λ b. entries_of s H ++ cond b ((length H, e) ∷ []) []) (ne_eqb e.seat s other)
     ∙ append-nil (entries_of s H)
@@ -75,7 +75,7 @@ stand_in H (p ∷ ps) ((k, number, at), stand) =
     let same : p.0 ≡ k = omega arith in
     (ap (slice_get H) same ∙ at, stand_in H ps stand)
 
-pub entries_stand : EntriesStand
+pub entries_stand : SeatEntriesStand
 entries_stand s H = stand_in H (entries_of s H) (stands_from s 0 H)
 
 enumerate_from-append : {X : Type 0} (n : ℕ) (xs ys : List X) →
@@ -94,12 +94,12 @@ entries_both s K rest =
     ap (filter test) (enumerate_from-append 0 K rest ∙ ap (λ i. enumerate_from 0 K ++ enumerate_from i rest) start)
     ∙ filter-append test (enumerate_from 0 K) (enumerate_from (length K) rest)
 
-pub own_stand : (s : ℕ) (K H : List Entry) (ps : List (ℕ × Entry)) → IsBeginning K H → entries_of s K ≡ ps →
+pub own_stand : (s : ℕ) (K H : List Entry) (ps : List (ℕ × Entry)) → IsPrefixOf K H → entries_of s K ≡ ps →
     StandIn H ps
 own_stand s K H ps (rest, is) own =
     subst (λ L. StandIn L ps) (sym is) (stand_longer K rest ps (subst (StandIn K) own (entries_stand s K)))
 
-pub all_own : (s : ℕ) (K H : List Entry) (ps : List (ℕ × Entry)) → IsBeginning K H → entries_of s K ≡ ps →
+pub all_own : (s : ℕ) (K H : List Entry) (ps : List (ℕ × Entry)) → IsPrefixOf K H → entries_of s K ≡ ps →
     length ps ≡ length (entries_of s H) → entries_of s H ≡ ps
 all_own s K H ps (rest, is) own count =
     let both : entries_of s H ≡ ps ++ entries_from s (length K) rest =
@@ -112,7 +112,7 @@ pub entries_enumerated : (n : ℕ) (H : List Entry) → map (λ (p : ℕ × Entr
 entries_enumerated n [] = refl
 entries_enumerated n (e ∷ H) = ap (λ L. e ∷ L) (entries_enumerated (n + 1) H)
 
-alone_from : (n : ℕ) (H : List Entry) → AreSeated 1 H → entries_from 1 n H ≡ enumerate_from n H
+alone_from : (n : ℕ) (H : List Entry) → AreOfTableSeats 1 H → entries_from 1 n H ≡ enumerate_from n H
 alone_from n [] seated = refl
 alone_from n (e ∷ H) seated =
     let bounds = seated 0 e refl in
@@ -121,5 +121,5 @@ alone_from n (e ∷ H) seated =
     ap (λ b. cond b ((n, e) ∷ F) F) (eq-eqb e.seat 1 one)
     ∙ ap (λ (ps : List (ℕ × Entry)). (n, e) ∷ ps) (alone_from (n + 1) H (λ k x at. seated (suc k) x at))
 
-pub own_alone : OneSeat
+pub own_alone : OneSeatHasAll
 own_alone H seated = alone_from 0 H seated

@@ -9,16 +9,16 @@
 --   stale_both       the reply to a finding on an entry is stale just where a gift was accepted after it
 --   carried_over     where none was, the finding is carried to the position now
 --   look_stands      what is kept of an entry of a legal history that is a look, is of a look of it
-use Rattle.dg_table.proofs.Common.{◌≡◌, ◌≢◌, ◌↔◌, ℕ, Bool, true, false, cond, List, [], ◌∷◌, ◌++◌, take, slice_get, Option, Some, None, refl, sym, ap, subst, ◌∙◌, filter, last_or, append-nil, same_Some, filter-append, Multigraph, StartData, Vector, position_after, gifts_in, IsLegal, IsLookAt, asked_for, KeepsFinding, Replies, Entry, Request, Look, Reply, Looked, Verdict, Stale, Finding, Judged, Ranked, LookData, legal_looks, vertices_stay, IsKeptLook, LastLook, HasVertices, IsLastLook, IsLookOf, is_look, last_look, asks_look, IsCarriedTo}
+use Rattle.dg_table.proofs.Common.{◌≡◌, ◌≢◌, ◌↔◌, ℕ, Bool, true, false, cond, List, [], ◌∷◌, ◌++◌, take, slice_get, Option, Some, None, refl, sym, ap, subst, ◌∙◌, filter, last_or, append-nil, same_Some, filter-append, Multigraph, StartData, Vector, position_after, gifts_in, IsLegal, IsLookAt, asked_for, KeepsFinding, Replies, Entry, Request, Look, Reply, Looked, Verdict, Stale, Finding, Judged, Ranked, LookData, legal_looks, vertices_stay, IsKeptLook, SeatKeepsLastLook, KeptLookHasVertices, IsLastLook, IsLookOf, is_look, last_look, asks_for_kept_look, IsSettledFor}
 use Rattle.dg_game.specs.declared.entry.Reply.TheVariants.{Rank as RankReply}
 
 last_or-snoc : {A : Type 0} (o : Option A) (xs : List A) (x : A) → last_or o (xs ++ x ∷ []) ≡ Some x
 last_or-snoc o [] x = refl
 last_or-snoc o (y ∷ xs) x = last_or-snoc (Some y) xs x
 
-pub last_after : LastLook
+pub last_after : SeatKeepsLastLook
 last_after ps p look =
-    let test : is_look p ≡ true = ap asks_look look in
+    let test : is_look p ≡ true = ap asks_for_kept_look look in
     ap (last_or None) (filter-append is_look ps (p ∷ [])
     ∙ ap (λ (b : Bool). filter is_look ps ++ cond b (p ∷ []) []) test)
     ∙ last_or-snoc None (filter is_look ps) p
@@ -37,7 +37,7 @@ look_kept o ps p (Some x) test kept =
     record { last = (q, last_kept ps p test ∙ last, of); vertices = kept.vertices }
 
 pub look_seen : (o : StartData) (ps : List (ℕ × Entry)) (p : ℕ × Entry) (x : LookData) → IsLookOf p x →
-    HasVertices o.graph.size x →
+    KeptLookHasVertices o.graph.size x →
     IsKeptLook o (ps ++ p ∷ []) (Some x)
 look_seen o ps p x of vertices = record { last = (p, last_after ps p of.look, of); vertices = vertices }
 
@@ -53,7 +53,7 @@ look_asked o H request n d g right = absurd right
 
 pub looked_vertices : (o : StartData) (H : List Entry) (x : LookData) →
     Replies o H Look (Looked x.gifts x.position x.graph) →
-    HasVertices o.graph.size x
+    KeptLookHasVertices o.graph.size x
 looked_vertices o H x right =
     let (count, shows, graph) = right in
     let size : x.graph.size ≡ o.graph.size = ap (λ (g : Multigraph). g.size) graph ∙ vertices_stay o H in
@@ -69,7 +69,7 @@ stale_both o H i (Ranked v) (Stale count) right = ((λ other. ap Stale right.1),
 stale_both o H i f reply right = absurd right
 
 pub carried_over : (o : StartData) (H : List Entry) (i : ℕ) (f : Finding) (reply : Reply) → KeepsFinding f reply →
-    Replies o H (asked_for i f) reply → gifts_in (take i H) ≡ gifts_in H → IsCarriedTo (position_after o H) o.q f reply
+    Replies o H (asked_for i f) reply → gifts_in (take i H) ≡ gifts_in H → IsSettledFor (position_after o H) o.q f reply
 carried_over o H i (Judged v) (Verdict w) kept right same = (right.1, rw kept.0 at right.1.led)
 carried_over o H i (Judged v) (Stale count) kept right same = right.0 same
 carried_over o H i (Ranked v) (RankReply w) kept right same = right.1

@@ -13,7 +13,7 @@
 --                 is refused
 --   held_none     what the lock holds at the start
 --   held_more     what the lock holds after one more entry
-use Rattle.dg_table.proofs.Common.{inl, inr, ◌≡◌, ◌≢◌, Option, take, ℕ, ◌+◌, ◌<◌, ◌≤◌, List, [], ◌∷◌, ◌++◌, length, get_or, set, slice_get, Some, arith, refl, sym, ap, subst, ◌∙◌, length-set, length_push, append-nil, slice_get_within, StartData, IsLegal, gifts_in, IsLookAt, asked_for, asked_on, KeepsFinding, Replies, State, LeadsTo, Entry, MAX_SEATS, Stale, Request, Finding, Question, LookData, legal_none, slice_get-append, entering, IsEnteredAfter, IsAnsweredAfter, RefusesStep, RefusesSettling, Fault, OutOfMemory, Full, Log, IsUnderLock, IsReady, IsKeptLook, IsSeatState, IsBeginning, IsHistoryOf, IsLookOf, SeatView, Holds, IsAdmissible, Meets, AreSeated, entries_of, IsSettledAfter, IsStaleAfter, IsNotStaleAfter, TableData, Written}
+use Rattle.dg_table.proofs.Common.{inl, inr, ◌≡◌, ◌≢◌, Option, take, ℕ, ◌+◌, ◌<◌, ◌≤◌, List, [], ◌∷◌, ◌++◌, length, get_or, set, slice_get, Some, arith, refl, sym, ap, subst, ◌∙◌, length-set, length_push, append-nil, slice_get_within, StartData, IsLegal, gifts_in, IsLookAt, asked_for, asked_on, KeepsFinding, Replies, GameState, LeadsTo, Entry, MAX_SEATS, Stale, Request, Finding, Question, LookData, legal_none, slice_get-append, entering, IsEnteredAfter, IsAnsweredAfter, RefusesStep, RefusesSettling, Fault, OutOfMemory, Full, Log, IsUnderLock, IsReady, IsKeptLook, IsSeatState, IsPrefixOf, IsHistoryOf, IsLookOf, SeatView, Holds, IsAdmissible, Meets, AreOfTableSeats, entries_of, IsSettledAfter, IsStaleAfter, IsNotStaleAfter, TableData, Written}
 use Rattle.dg_table.proofs.Entries.{own_more}
 use Rattle.dg_table.proofs.Findings.{stale_both, carried_over}
 use Rattle.dg_table.proofs.Numbered.{stand_more, stand_longer}
@@ -30,7 +30,7 @@ holds_more H e x y holds own number mine told prefix met = record {
   told = rw told (stand_longer H (e ∷ []) x.told holds.told);
 }
 
-pub history_more : (table : TableData) (H : List Entry) (e : Entry) → AreSeated table.seats H → 1 ≤ e.seat →
+pub history_more : (table : TableData) (H : List Entry) (e : Entry) → AreOfTableSeats table.seats H → 1 ≤ e.seat →
     e.seat ≤ table.seats →
     length H < table.capacity → IsLegal table.start (H ++ e ∷ []) → IsHistoryOf table (H ++ e ∷ [])
 history_more table H e seated least most room legal = record {
@@ -93,8 +93,8 @@ told_of {table} {H} {request} {r} {s} {m} look t answered stands number mine tol
       before = answered.before;
       history = answered.history;
       holds = record {
-        prefix = subst (λ K. IsBeginning K (H ++ r.1 ∷ [])) (sym prefix) answered.holds.prefix;
-        met = subst (λ K. IsBeginning K (H ++ r.1 ∷ [])) (sym met) answered.holds.met;
+        prefix = subst (λ K. IsPrefixOf K (H ++ r.1 ∷ [])) (sym prefix) answered.holds.prefix;
+        met = subst (λ K. IsPrefixOf K (H ++ r.1 ∷ [])) (sym met) answered.holds.met;
         mine = ap (λ s. entries_of s (H ++ r.1 ∷ [])) number ∙ answered.holds.mine ∙ sym mine;
         told = rw told (stand_more (H ++ r.1 ∷ []) m.told look answered.holds.told there);
       };
@@ -126,7 +126,7 @@ settled table H look x f r s m t answered of stands kept number mine told prefix
     }
 
 pub staled : (table : TableData) (H : List Entry) (look : ℕ × Entry) (x : LookData) (asks : Question)
-    (game : State) (r : ℕ × Entry)
+    (game : GameState) (r : ℕ × Entry)
     (s m t : SeatView) →
     IsAnsweredAfter table (asked_on x.number asks) (entering H r s m) → IsLookOf look x →
     slice_get H look.0 ≡ Some look.1 →
@@ -143,7 +143,7 @@ staled table H look x asks game r s m t answered of stands leads at other reply 
       stale = reply ∙ ap Stale leads.gifts;
     }
 
-pub not_stale : {table : TableData} {H : List Entry} {look : ℕ × Entry} {x : LookData} {game : State} {s t : SeatView} →
+pub not_stale : {table : TableData} {H : List Entry} {look : ℕ × Entry} {x : LookData} {game : GameState} {s t : SeatView} →
     IsHistoryOf table H → IsReady table.capacity H s → slice_get H look.0 ≡ Some look.1 → IsLookOf look x →
     IsLookAt table.start H x → LeadsTo table.start H game → game.gifts ≡ x.gifts → Meets H s t →
     IsNotStaleAfter table look H s t
@@ -174,7 +174,7 @@ settling_refused table p q i x Log admissible read (room, refused) = (
   ],
 )
 
-pub held_none : {o : StartData} {game : State} (seats : ℕ) (counts : List ℕ) → LeadsTo o [] game →
+pub held_none : {o : StartData} {game : GameState} (seats : ℕ) (counts : List ℕ) → LeadsTo o [] game →
     length counts ≡ MAX_SEATS → ((s : ℕ) → s < MAX_SEATS → get_or counts s 0 ≡ 0) → seats ≤ MAX_SEATS →
     IsUnderLock o seats [] game counts
 held_none {o} {game} seats counts leads places zeros few = record {
@@ -186,7 +186,7 @@ held_none {o} {game} seats counts leads places zeros few = record {
   few = few;
 }
 
-pub held_more : {o : StartData} {seats : ℕ} {H : List Entry} {game next : State} {counts : List ℕ} (e : Entry) (s c : ℕ) →
+pub held_more : {o : StartData} {seats : ℕ} {H : List Entry} {game next : GameState} {counts : List ℕ} (e : Entry) (s c : ℕ) →
     IsUnderLock o seats H game counts → IsLegal o (H ++ e ∷ []) → LeadsTo o (H ++ e ∷ []) next → e.seat ≡ s + 1 →
     e.seat ≤ seats → c ≡ get_or counts s 0 + 1 → IsUnderLock o seats (H ++ e ∷ []) next (set counts s c)
 held_more {o} {seats} {H} {game} {next} {counts} e s c held legal leads own few more = record {

@@ -2,10 +2,10 @@
 --   totals       the counts of what the lock holds are those of the seats, and add up to the number of entries
 --   history_of   the history of what the lock holds is legal, and its entries are of the table's seats
 --   longer_history   the longer of two histories of a table is one
-use Rattle.dg_table.proofs.Common.{◌≡◌, ℕ, ◌+◌, ◌≤◌, List, length, get_or, arith, sym, ap, subst, ◌∙◌, inl, inr, get_or_past, cases_lt, StartData, position_after, Shows, State, Entry, MAX_SEATS, IsLonger, AllHeld, AreTotals, IsHistoryOf, IsUnderLock, SeatView, entries_of, Ghosts, Audit, TableData}
+use Rattle.dg_table.proofs.Common.{◌≡◌, ℕ, ◌+◌, ◌≤◌, List, length, get_or, arith, sym, ap, subst, ◌∙◌, inl, inr, get_or_past, cases_lt, StartData, position_after, Shows, GameState, Entry, MAX_SEATS, IsLonger, AllHeld, AreTotals, IsHistoryOf, IsUnderLock, SeatView, entries_of, Ghosts, Audit, TableData}
 use Rattle.dg_table.proofs.Counts.{none_past, all_counted}
 
-counted_at : {o : StartData} {seats : ℕ} {H : List Entry} {game : State} {counts : List ℕ} (s : ℕ) →
+counted_at : {o : StartData} {seats : ℕ} {H : List Entry} {game : GameState} {counts : List ℕ} (s : ℕ) →
     IsUnderLock o seats H game counts → get_or counts s 0 ≡ length (entries_of (s + 1) H)
 counted_at {o} {seats} {H} {game} {counts} s held = elim (cases_lt s MAX_SEATS) [
   | inl inside ↦ held.counted s inside
@@ -14,7 +14,7 @@ counted_at {o} {seats} {H} {game} {counts} s held = elim (cases_lt s MAX_SEATS) 
       get_or_past counts s 0 (omega (arith, held.places)) ∙ ap length (sym none)
 ]
 
-pub totals : {N : Type 0} {named : Ghosts N} {table : TableData} {game : State} {counts : List ℕ} (a : Audit N named)
+pub totals : {N : Type 0} {named : Ghosts N} {table : TableData} {game : GameState} {counts : List ℕ} (a : Audit N named)
     (xs : List SeatView) →
     IsUnderLock table.start table.seats a.pen.entries game counts → AllHeld a.pen.entries xs → a.entries ≡ game.entries →
     a.gifts ≡ game.gifts → a.graph ≡ game.graph → a.position ≡ game.amounts → a.calls ≡ counts → AreTotals table xs a
@@ -34,7 +34,7 @@ totals {table = table} {game} {counts} a xs held all entries gifts graph positio
           (least, omega (arith, held.few))) ∙ sym held.game'.entries);
     }
 
-pub history_of : {table : TableData} {H : List Entry} {game : State} {counts : List ℕ} →
+pub history_of : {table : TableData} {H : List Entry} {game : GameState} {counts : List ℕ} →
     IsUnderLock table.start table.seats H game counts → length H ≤ table.capacity → IsHistoryOf table H
 history_of held few = record { legal = held.legal; few = few; seated = held.seated }
 

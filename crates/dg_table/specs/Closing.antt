@@ -1,5 +1,5 @@
 -- Closing a table.
---   HasSeat xs s                 == the seat s is among the seats xs
+--   TableHasSeat xs s            == the seat s is among the seats xs
 --   IsComplete n xs              == each of the seats 1 to n is among the seats xs
 --   AllHeld H xs                 == the history H holds what each of the seats xs knows
 --   IsClosed table xs H          == H is a history of the table, and holds what each of the seats xs
@@ -23,11 +23,11 @@ use Rattle.dg_table.specs.Histories.{IsHistoryOf}
 use Rattle.dg_table.specs.Seats.{SeatView, Holds, IsAdmissible, Meets}
 use Rattle.dg_table.specs.declared.audit.Audit.{Audit}
 
-abbrev pub HasSeat : List SeatView → ℕ → Type 0
-HasSeat xs s = (i : ℕ) × (x : SeatView) × (slice_get xs i ≡ Some x) × (x.number ≡ s)
+abbrev pub TableHasSeat : List SeatView → ℕ → Type 0
+TableHasSeat xs s = (i : ℕ) × (x : SeatView) × (slice_get xs i ≡ Some x) × (x.number ≡ s)
 
 abbrev pub IsComplete : ℕ → List SeatView → Type 0
-IsComplete n xs = (s : ℕ) → 1 ≤ s → s ≤ n → HasSeat xs s
+IsComplete n xs = (s : ℕ) → 1 ≤ s → s ≤ n → TableHasSeat xs s
 
 abbrev pub AllHeld : List Entry → List SeatView → Type 0
 AllHeld H xs = (i : ℕ) (x : SeatView) → slice_get xs i ≡ Some x → Holds H x
@@ -50,8 +50,8 @@ pub record AreTotals {N : Type 0} {named : Ghosts N} (table : TableData) (xs : L
 
 pub record IsMissing (n : ℕ) (xs : List SeatView) (s : ℕ) : Type 0 where
   pub seat : (1 ≤ s) × (s ≤ n)
-  pub missing : ¬ HasSeat xs s
-  pub least : (t : ℕ) → 1 ≤ t → t < s → HasSeat xs t
+  pub missing : ¬ TableHasSeat xs s
+  pub least : (t : ℕ) → 1 ≤ t → t < s → TableHasSeat xs t
 
 abbrev pub SomeKeepsMore : List Entry → List SeatView → Type 0
 SomeKeepsMore H xs = (i : ℕ) × (x : SeatView) × (slice_get xs i ≡ Some x) × (¬ IsAdmissible H x)

@@ -4,11 +4,11 @@ pub use Rattle.dg_chips.specs.Vector.{Vector, at}
 pub use Rattle.dg_chips.specs.declared.moves.Move.{Move}
 pub use Rattle.dg_game.specs.History.{gifts_in, position_after}
 pub use Rattle.dg_game.specs.Legal.{IsLegal, IsSeat}
-pub use Rattle.dg_game.specs.Look.{KeepsFinding, asked_for, asked_on, degree_of}
+pub use Rattle.dg_game.specs.Look.{KeepsFinding, asked_for, asked_on, degree_found}
 pub use Rattle.dg_game.specs.Position.{Position, Shows}
 pub use Rattle.dg_game.specs.Replies.{Replies}
 pub use Rattle.dg_game.specs.Requests.{request_for}
-pub use Rattle.dg_game.specs.State.{LeadsTo, State}
+pub use Rattle.dg_game.specs.State.{LeadsTo, GameState}
 pub use Rattle.dg_game.specs.declared.entry.Entry.{Entry}
 pub use Rattle.dg_game.specs.declared.entry.Reply.{Reply}
 pub use Rattle.dg_game.specs.declared.entry.Reply.TheVariants.{Looked, Rank, Stale, Verdict}
@@ -20,7 +20,7 @@ pub use Rattle.dg_game.specs.declared.finding.Finding.TheVariants.{Judged, Ranke
 pub use Rattle.dg_game.specs.declared.finding.Question.{Question}
 pub use Rattle.dg_game.specs.declared.game.TheConstants.{MAX_ENTRIES}
 pub use Rattle.dg_game.specs.declared.look.LookData.{LookData}
-pub use Rattle.dg_log.specs.Numbered.{AreBelow, IsBeginning, IsLonger, StandIn}
+pub use Rattle.dg_log.specs.Numbered.{ReceiptsAreBelow, IsPrefixOf, IsLonger, StandIn}
 pub use Rattle.dg_log.specs.Tables.{TableData}
 pub use Rattle.dg_log.specs.Written.{Written}
 pub use Rattle.dg_log.specs.declared.name.Name.{Ghosts}

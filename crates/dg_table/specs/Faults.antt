@@ -11,7 +11,7 @@
 --                                  after `Full`, the history that it has met then fills the table;
 --                                  after `Log`, that has room
 use Rattle.std.specs.Prelude.{◌≡◌, ℕ, ◌<◌, ◌≤◌, List, true, length, ⊤, ◌⊎◌}
-use Rattle.dg_table.specs.Common.{Entry, StandIn, IsBeginning, TableData, Written}
+use Rattle.dg_table.specs.Common.{Entry, StandIn, IsPrefixOf, TableData, Written}
 use Rattle.dg_table.specs.Histories.{IsHistoryOf}
 use Rattle.dg_table.specs.Seats.{SeatView, IsAdmissible}
 use Rattle.dg_table.specs.declared.fault.Fault.{Fault}
@@ -20,7 +20,7 @@ use Rattle.dg_table.specs.declared.fault.Fault.TheVariants.{OutOfMemory, Full, L
 pub record StandsFull (table : TableData) (H : List Entry) (x : SeatView) : Type 0 where
   pub full : length H ≡ table.capacity
   pub history : IsHistoryOf table H
-  pub prefix : IsBeginning x.prefix H
+  pub prefix : IsPrefixOf x.prefix H
   pub mine : StandIn H x.mine
   pub told : StandIn H x.told
 

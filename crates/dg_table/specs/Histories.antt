@@ -6,16 +6,16 @@
 --                          in order; before its first call it is empty. The longest history that the
 --                          seat has met begins with it, and is such a history too
 use Rattle.std.specs.Prelude.{◌≡◌, ◌≤◌, List, length}
-use Rattle.dg_table.specs.Common.{IsBeginning, IsLegal, Entry, TableData}
-use Rattle.dg_table.specs.Seats.{SeatView, AreSeated, entries_of}
+use Rattle.dg_table.specs.Common.{IsPrefixOf, IsLegal, Entry, TableData}
+use Rattle.dg_table.specs.Seats.{SeatView, AreOfTableSeats, entries_of}
 
 pub record IsHistoryOf (table : TableData) (H : List Entry) : Type 0 where
   pub legal : IsLegal table.start H
   pub few : length H ≤ table.capacity
-  pub seated : AreSeated table.seats H
+  pub seated : AreOfTableSeats table.seats H
 
 pub record HasPrefix (table : TableData) (x : SeatView) : Type 0 where
   pub history : IsHistoryOf table x.prefix
   pub own : entries_of x.number x.prefix ≡ x.mine
   pub met : IsHistoryOf table x.met
-  pub since : IsBeginning x.prefix x.met
+  pub since : IsPrefixOf x.prefix x.met

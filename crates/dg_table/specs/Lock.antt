@@ -1,5 +1,5 @@
 -- What the lock holds.
---   AreCountsOf counts H          == at the place of each seat, from 0, is the number of its entries
+--   AreSeatCounts counts H        == at the place of each seat, from 0, is the number of its entries
 --                                    in H
 --   IsUnderLock o n H game counts == the game and the counts are those of the legal history H, whose
 --                                    entries are of the seats 1 to n
@@ -16,22 +16,22 @@
 use Rattle.std.specs.Prelude.{◌≡◌, ℕ, ◌+◌, ◌<◌, ◌≤◌, ◌&&◌, nat_lt, List, length, Option, IfSome}
 use Rattle.std.specs.List.{slice_index}
 use Rattle.std.specs.Vec.{vec_len, vec_capacity}
-use Rattle.dg_table.specs.Common.{StartData, IsSeat, IsLegal, State, LeadsTo, Entry, MAX_SEATS, MAX_ENTRIES, LookData, IsBeginning, TableData}
+use Rattle.dg_table.specs.Common.{StartData, IsSeat, IsLegal, GameState, LeadsTo, Entry, MAX_SEATS, MAX_ENTRIES, LookData, IsPrefixOf, TableData}
 use Rattle.dg_table.specs.Histories.{IsHistoryOf}
-use Rattle.dg_table.specs.Looks.{HasVertices, IsLastLook}
-use Rattle.dg_table.specs.Seats.{SeatView, Holds, IsAdmissible, AreSeated, entries_of}
+use Rattle.dg_table.specs.Looks.{KeptLookHasVertices, IsLastLook}
+use Rattle.dg_table.specs.Seats.{SeatView, Holds, IsAdmissible, AreOfTableSeats, entries_of}
 use Rattle.dg_table.specs.declared.seat.Seat.TheInside.{Inside}
 
-abbrev pub AreCountsOf : List ℕ → List Entry → Type 0
-AreCountsOf counts H =
+abbrev pub AreSeatCounts : List ℕ → List Entry → Type 0
+AreSeatCounts counts H =
     (s : ℕ) → s < MAX_SEATS → slice_index counts s ≡ length (entries_of (s + 1) H)
 
-pub record IsUnderLock (o : StartData) (n : ℕ) (H : List Entry) (game : State)
+pub record IsUnderLock (o : StartData) (n : ℕ) (H : List Entry) (game : GameState)
     (counts : List ℕ) : Type 0 where
   pub legal : IsLegal o H
   pub game' : LeadsTo o H game
-  pub seated : AreSeated n H
-  pub counted : AreCountsOf counts H
+  pub seated : AreOfTableSeats n H
+  pub counted : AreSeatCounts counts H
   pub places : length counts ≡ MAX_SEATS
   pub few : n ≤ MAX_SEATS
 
@@ -44,7 +44,7 @@ pub record IsReady (cap : ℕ) (H : List Entry) (x : SeatView) : Type 0 where
 
 pub record IsKeptLook (o : StartData) (ps : List (ℕ × Entry)) (look : Option LookData) : Type 0 where
   pub last : IsLastLook ps look
-  pub vertices : IfSome look (HasVertices o.graph.size)
+  pub vertices : IfSome look (KeptLookHasVertices o.graph.size)
 
 abbrev pub seat_view : {N : Type 0} → Inside N → SeatView
 seat_view x = record {
@@ -64,6 +64,6 @@ pub record IsSeatState (table : TableData) (x : SeatView) (d : List (ℕ × Entr
   pub found : IsHistoryOf table x.prefix
   pub own : entries_of x.number x.prefix ≡ x.mine
   pub met : IsHistoryOf table x.met
-  pub since : IsBeginning x.prefix x.met
+  pub since : IsPrefixOf x.prefix x.met
   pub told_said : d ≡ x.told
   pub look_kept : IsKeptLook table.start x.mine look

@@ -1,7 +1,7 @@
 -- What a seat knows of the history.
 --   entries_of s H     == the entries of the seat s in the history H, each with its number, in
 --                         order
---   AreSeated n H      == each entry of the history H is one of the seats 1 to n
+--   AreOfTableSeats n H == each entry of the history H is one of the seats 1 to n
 --   SeatView           == a seat's number, the entries of its own calls, the entries that it was
 --                         told of, the history as it found it at its last call, the longest history
 --                         that it has met, whether it has space for one more call, and whether it
@@ -19,13 +19,13 @@
 --                         H and what it had met it keeps the longer
 use Rattle.std.specs.Prelude.{◌≡◌, ℕ, ◌==◌, ◌≤◌, List, Bool, Some, length, slice_get}
 use Rattle.std.specs.List.{filter, enumerate_from}
-use Rattle.dg_table.specs.Common.{Entry, AreBelow, StandIn, IsBeginning, IsLonger}
+use Rattle.dg_table.specs.Common.{Entry, ReceiptsAreBelow, StandIn, IsPrefixOf, IsLonger}
 
 abbrev pub entries_of : ℕ → List Entry → List (ℕ × Entry)
 entries_of s H = filter (λ p. p.1.seat == s) (enumerate_from 0 H)
 
-abbrev pub AreSeated : ℕ → List Entry → Type 0
-AreSeated n H = (k : ℕ) (e : Entry) → slice_get H k ≡ Some e → (1 ≤ e.seat) × (e.seat ≤ n)
+abbrev pub AreOfTableSeats : ℕ → List Entry → Type 0
+AreOfTableSeats n H = (k : ℕ) (e : Entry) → slice_get H k ≡ Some e → (1 ≤ e.seat) × (e.seat ≤ n)
 
 pub record SeatView : Type 0 where
   pub number : ℕ
@@ -37,14 +37,14 @@ pub record SeatView : Type 0 where
   pub hears : Bool
 
 pub record Holds (H : List Entry) (x : SeatView) : Type 0 where
-  pub prefix : IsBeginning x.prefix H
-  pub met : IsBeginning x.met H
+  pub prefix : IsPrefixOf x.prefix H
+  pub met : IsPrefixOf x.met H
   pub mine : entries_of x.number H ≡ x.mine
   pub told : StandIn H x.told
 
 pub record IsAdmissible (H : List Entry) (x : SeatView) : Type 0 where
   pub met : length x.met ≤ length H
-  pub told : AreBelow (length H) x.told
+  pub told : ReceiptsAreBelow (length H) x.told
   pub count : length x.mine ≡ length (entries_of x.number H)
 
 pub record Keeps (x y : SeatView) : Type 0 where
@@ -52,7 +52,7 @@ pub record Keeps (x y : SeatView) : Type 0 where
   pub mine : y.mine ≡ x.mine
   pub told : y.told ≡ x.told
   pub prefix : y.prefix ≡ x.prefix
-  pub met : IsBeginning x.met y.met
+  pub met : IsPrefixOf x.met y.met
 
 pub record Meets (H : List Entry) (x y : SeatView) : Type 0 where
   pub number : y.number ≡ x.number

@@ -1,5 +1,5 @@
 -- How a finding on an older look is entered.
---   IsCarriedTo p q f reply     == the finding f is entered for the position p: a verdict that is
+--   IsSettledFor p q f reply    == the finding f is entered for the position p: a verdict that is
 --                                  right there from the vertex q, whose script leads from the
 --                                  amounts of p to the divisor that was found; or a rank test that
 --                                  is right there
@@ -14,16 +14,16 @@
 --                                  accepted since; the seat has met H, and knows what it knew
 --   IsNotStale table look x y   == so it is after the history that the seat has met then
 use Rattle.std.specs.Prelude.{◌≡◌, ◌≢◌, ◌↔◌, ℕ, List, [], ◌∷◌, ◌++◌, take, slice_get, Some}
-use Rattle.dg_table.specs.Common.{FiresTo, at, IsRight, IsRankTest, Position, position_after, gifts_in, asked_for, asked_on, degree_of, KeepsFinding, Entry, Reply, Verdict, Rank, Stale, Finding, Judged, Ranked, Question, TableData}
+use Rattle.dg_table.specs.Common.{FiresTo, at, IsRight, IsRankTest, Position, position_after, gifts_in, asked_for, asked_on, degree_found, KeepsFinding, Entry, Reply, Verdict, Rank, Stale, Finding, Judged, Ranked, Question, TableData}
 use Rattle.dg_table.specs.Answered.{Entering, entering, IsEnteredAfter}
 use Rattle.dg_table.specs.Histories.{IsHistoryOf}
 use Rattle.dg_table.specs.Seats.{SeatView, Holds, Keeps}
 
-abbrev pub IsCarriedTo : Position → ℕ → Finding → Reply → Type 0
-IsCarriedTo p q (Judged v) (Verdict w) =
+abbrev pub IsSettledFor : Position → ℕ → Finding → Reply → Type 0
+IsSettledFor p q (Judged v) (Verdict w) =
     IsRight p.graph q p.amounts w × FiresTo p.graph (at w.script) p.amounts (at v.reduced)
-IsCarriedTo p q (Ranked v) (Rank w) = IsRankTest p.graph p.amounts (degree_of v) w
-IsCarriedTo p q f reply = ⊥
+IsSettledFor p q (Ranked v) (Rank w) = IsRankTest p.graph p.amounts (degree_found v) w
+IsSettledFor p q f reply = ⊥
 
 pub record IsSettledAfter (table : TableData) (look : ℕ × Entry) (f : Finding) (e : Entering)
     : Type 0 where
@@ -35,7 +35,7 @@ pub record IsSettledAfter (table : TableData) (look : ℕ × Entry) (f : Finding
       ↔ (e.receipt.1.reply ≡ Stale (gifts_in e.history))
   -- no gift was
   pub carried : gifts_in (take look.0 e.history) ≡ gifts_in e.history →
-      IsCarriedTo (position_after table.start e.history) table.start.q f e.receipt.1.reply
+      IsSettledFor (position_after table.start e.history) table.start.q f e.receipt.1.reply
 
 abbrev pub IsSettled : TableData → ℕ × Entry → Finding → ℕ × Entry → SeatView → SeatView → Type 0
 IsSettled table look f r x y = (H : List Entry) × IsSettledAfter table look f (entering H r x y)

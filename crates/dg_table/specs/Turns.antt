@@ -2,7 +2,7 @@
 -- handed a graph and amounts; c has the members of its kind.
 --   MayBeAsked c f        == f may be asked at every graph and amounts of as many vertices
 --   Asking                == a choice before and after
---   asking f f'           == that of these
+--   asking_at_table f f'  == that of these
 --   IsAsked c a g d m     == asked once, at the graph g and the amounts d, the choice answers m
 --   IsAskedAfter c table H a m == the choice is so asked at the table's position after the history H
 --   IsTurnAfter c table a e    == the choice is so asked, once, and its answer is the call that is
@@ -27,8 +27,8 @@ pub record Asking (F : Type 0) : Type 0 where
   pub before : F
   pub after : F
 
-abbrev pub asking : {F : Type 0} → F → F → Asking F
-asking f f' = record { before = f; after = f' }
+abbrev pub asking_at_table : {F : Type 0} → F → F → Asking F
+asking_at_table f f' = record { before = f; after = f' }
 
 module _ {F : Type 0} (c : Mut F (Bor Multigraph × (Bor Vector × Unit {0})) (Option Move)) where
   abbrev pub MayBeAsked : F → Type 0

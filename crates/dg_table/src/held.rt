@@ -8,7 +8,7 @@ ghost use Rattle.dg_game.specs.Requests.{asked};
 ghost use Rattle.dg_game.specs.State.{LeadsTo};
 ghost use Rattle.dg_log.specs.Written.{blank, with_entry, after_refusal};
 ghost use Rattle.dg_table.specs.Answered.{entering, IsAnsweredAfter};
-ghost use Rattle.dg_table.specs.Closing.{HasSeat, IsComplete, AllHeld, AreTotals, IsMissing, SomeKeepsMore, RefusesClose, HaveMet};
+ghost use Rattle.dg_table.specs.Closing.{TableHasSeat, IsComplete, AllHeld, AreTotals, IsMissing, SomeKeepsMore, RefusesClose, HaveMet};
 ghost use Rattle.dg_table.specs.Faults.{RefusesStep, RefusesSettling};
 ghost use Rattle.dg_table.specs.declared.fault.Fault.TheVariants.{Log as LogFault};
 ghost use Rattle.dg_game.specs.declared.entry.Entry.{Entry as EntryData};
@@ -18,7 +18,7 @@ ghost use Rattle.dg_table.specs.Looks.{IsLookOf};
 ghost use Rattle.dg_table.specs.Opened.{MayHaveSeats};
 ghost use Rattle.dg_table.specs.Seats.{SeatView, Holds, IsAdmissible, Meets};
 ghost use Rattle.dg_table.specs.Settled.{IsSettledAfter, IsStaleAfter, IsNotStaleAfter};
-ghost use Rattle.dg_table.specs.Turns.{MayBeAsked, asking, IsTurnAfter, IsAskedToEnter};
+ghost use Rattle.dg_table.specs.Turns.{MayBeAsked, asking_at_table, IsTurnAfter, IsAskedToEnter};
 
 use crate::audit::Audit;
 use crate::fault::Fault;
@@ -176,14 +176,14 @@ impl<N: Name> Held<N> {
         requires space { seat.old.space ≡ true }
         requires asked { MayBeAsked F.FnMut choose.old }
         ensures entered { IfOk result (λ r.
-            IsTurnAfter F.FnMut N.table (asking choose.old choose.new)
+            IsTurnAfter F.FnMut N.table (asking_at_table choose.old choose.new)
             (entering self.old.entries r seat.old seat.new) ×
             (self.new ≡ with_entry self.old r.1)) }
         ensures refused { IfErr result
             (λ f. (self.new.entries ≡ self.old.entries) × Meets self.old.entries seat.old seat.new ×
             RefusesStep N.table self.old self.new seat.old f) }
         ensures asked { OnErr result
-            (IsAskedToEnter F.FnMut N.table self.old.entries seat.old (asking choose.old choose.new)) }
+            (IsAskedToEnter F.FnMut N.table self.old.entries seat.old (asking_at_table choose.old choose.new)) }
     {
         match self.ready(log, seat) {
             Ok(()) => {}
@@ -326,7 +326,7 @@ impl<N: Name> Held<N> {
         };
         let place = usize::from(seat.number - 1);
         let entry = log.entry(&receipt);
-        keep_look(&mut seat.look, &self.game, entry);
+        keep_seats_look(&mut seat.look, &self.game, entry);
         self.game.follow(entry);
         self.counts[place] += 1;
         seat.prefix = self.pen.prefix();
@@ -393,7 +393,7 @@ impl<N: Name> Held<N> {
 }
 
 /// Keeps the look that an entry after the game's history takes, if it takes one, in place of an older look.
-fn keep_look(look: &mut Option<LookData>, game: &Game, entry: &Entry)
+fn keep_seats_look(look: &mut Option<LookData>, game: &Game, entry: &Entry)
     ensures { (o : StartData) (H : List EntryData) (ps : List (ℕ × EntryData)) →
         LeadsTo o H game.now → Replies o H entry.now.request entry.now.reply →
         IsKeptLook o ps look.old → IsKeptLook o (ps ++ (length H, entry.now) ∷ []) look.new }
@@ -433,7 +433,7 @@ fn first_missing<N: Name>(seats: &[Seat<N>], count: u8) -> Option<u8>
 
 /// Whether the seat with this number is among these.
 fn has_seat<N: Name>(seats: &[Seat<N>], number: u8) -> bool
-    ensures { IsTrue result ↔ HasSeat seats.now number }
+    ensures { IsTrue result ↔ TableHasSeat seats.now number }
 {
     for seat in seats {
         if seat.number() == number {

@@ -1,6 +1,6 @@
 //! The laws of seats, and the value that the lock of a table holds.
-ghost use Rattle.dg_table.specs.Looks.{LastLook};
-ghost use Rattle.dg_table.specs.SeatLaws.{NoEntries, OwnEntry, OtherEntry, EntriesStand, OneSeat};
+ghost use Rattle.dg_table.specs.Looks.{SeatKeepsLastLook};
+ghost use Rattle.dg_table.specs.SeatLaws.{SeatHasNoEntries, OwnSeatsEntry, OtherSeatsEntry, SeatEntriesStand, OneSeatHasAll};
 
 pub use crate::held::Held;
 
@@ -8,14 +8,14 @@ pub use crate::held::Held;
 /// the history's length for its number, and leaves those of any other seat; a seat's entries stand in the history; and where
 /// the seat 1 is alone they are all.
 pub fn law_of_seats()
-    ensures none { NoEntries }
-    ensures own { OwnEntry }
-    ensures other { OtherEntry }
-    ensures stand { EntriesStand }
-    ensures alone { OneSeat }
+    ensures none { SeatHasNoEntries }
+    ensures own { OwnSeatsEntry }
+    ensures other { OtherSeatsEntry }
+    ensures stand { SeatEntriesStand }
+    ensures alone { OneSeatHasAll }
 {}
 
 /// Which look of a seat is its last: the one after which it took no other.
-pub fn law_of_looks()
-    ensures { LastLook }
+pub fn law_of_kept_looks()
+    ensures { SeatKeepsLastLook }
 {}

@@ -3,7 +3,7 @@ ghost use Rattle.std.specs.Prelude.{◌≡◌, ◌-◌, ◌<◌, ◌≤◌, [], 
 ghost use Rattle.std.specs.Vec.{vec_capacity};
 ghost use Rattle.dg_table.specs.Faults.{StandsFull};
 ghost use Rattle.dg_table.specs.Histories.{HasPrefix, IsHistoryOf};
-ghost use Rattle.dg_table.specs.Looks.{HasVertices, IsLastLook};
+ghost use Rattle.dg_table.specs.Looks.{KeptLookHasVertices, IsLastLook};
 ghost use Rattle.dg_table.specs.Opened.{MayHaveSeats, AreFresh};
 ghost use Rattle.dg_table.specs.Seats.{Keeps, Meets};
 
@@ -153,7 +153,7 @@ impl<N: Name> Seat<N> {
     /// vertices of the start, and there is an amount for each.
     pub fn look_data(&self) -> Option<LookData>
         ensures look { IsLastLook self.now.mine result }
-        ensures vertices { IfSome result (HasVertices N.table.start.graph.size) }
+        ensures vertices { IfSome result (KeptLookHasVertices N.table.start.graph.size) }
     {
         self.look
     }
@@ -161,7 +161,7 @@ impl<N: Name> Seat<N> {
     /// The same where it lies.
     pub fn last_look(&self) -> Option<&LookData>
         ensures { MatchOption result (IsLastLook self.now.mine None)
-            (λ x. IsLastLook self.now.mine (Some x.now) × HasVertices N.table.start.graph.size x.now) }
+            (λ x. IsLastLook self.now.mine (Some x.now) × KeptLookHasVertices N.table.start.graph.size x.now) }
     {
         self.look.as_ref()
     }

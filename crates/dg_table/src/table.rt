@@ -2,7 +2,7 @@
 ghost use Rattle.std.specs.Prelude.{◌≡◌, ◌≢◌, ◌<◌, length, true, IfOk, IfErr, MatchOption, MatchResult};
 ghost use Rattle.dg_game.specs.Look.{IsFoundFor};
 ghost use Rattle.dg_game.specs.Requests.{asked};
-ghost use Rattle.dg_log.specs.Tables.{table_of};
+ghost use Rattle.dg_log.specs.Tables.{table_data_of};
 ghost use Rattle.dg_table.specs.Answered.{IsAnswered};
 ghost use Rattle.dg_table.specs.Closing.{IsClosed, AreTotals, IsCloseRefused};
 ghost use Rattle.dg_table.specs.Faults.{RefusesCall};
@@ -10,7 +10,7 @@ ghost use Rattle.dg_table.specs.Looks.{IsLookOf};
 ghost use Rattle.dg_table.specs.Opened.{AreFresh, RefusesOpening};
 ghost use Rattle.dg_table.specs.Seats.{Keeps};
 ghost use Rattle.dg_table.specs.Settled.{IsSettled, IsStale, IsNotStale};
-ghost use Rattle.dg_table.specs.Turns.{MayBeAsked, asking, IsTurn, RefusesTurn};
+ghost use Rattle.dg_table.specs.Turns.{MayBeAsked, asking_at_table, IsTurn, RefusesTurn};
 ghost use Rattle.dg_table.specs.declared.fault.Fault.TheVariants.{Log as LogFault};
 
 use crate::audit::Audit;
@@ -67,7 +67,7 @@ impl<N: Name> Table<N> {
         seats: u8,
     ) -> Result<(Table<N>, Vec<Seat<N>>), (Row, TableFault)>
         requires row { row ≡ N.cells }
-        requires table { N.table ≡ table_of start.now seats (length row) }
+        requires table { N.table ≡ table_data_of start.now seats (length row) }
         ensures { MatchResult result
             (λ r. AreFresh seats r.1.items)
             (λ e. (e.0 ≡ row) × RefusesOpening seats e.1) }
@@ -146,9 +146,9 @@ impl<N: Name> Table<N> {
     ) -> Result<Receipt<N>, Fault>
         requires { MayBeAsked F.FnMut choose.old }
         ensures turned { IfOk result
-            (λ r. IsTurn F.FnMut N.table (asking choose.old choose.new) r seat.old seat.new) }
+            (λ r. IsTurn F.FnMut N.table (asking_at_table choose.old choose.new) r seat.old seat.new) }
         ensures fault { IfErr result (λ f. Keeps seat.old seat.new ×
-            RefusesTurn F.FnMut N.table seat.new (asking choose.old choose.new) f) }
+            RefusesTurn F.FnMut N.table seat.new (asking_at_table choose.old choose.new) f) }
     {
         let slot = self.room(alloc, seat)?;
         self.held.lock(rt).turn(&self.log, seat, slot, choose)

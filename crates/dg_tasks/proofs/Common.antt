@@ -10,13 +10,13 @@ pub use Rattle.dg_game.proofs.LegalLaws.{legal_part}
 pub use Rattle.dg_game.proofs.ListLaws.{slice_get-seam}
 pub use Rattle.dg_game.proofs.StepLaw.{one_more_entry, vertices_stay}
 pub use Rattle.dg_game.specs.GiftReplies.{IsGivenTo, RefusesGift, RepliesToGift}
-pub use Rattle.dg_game.specs.History.{gift_counted, gifts_in, position_after}
+pub use Rattle.dg_game.specs.History.{gifts_by_reply, gifts_in, position_after}
 pub use Rattle.dg_game.specs.JoinReplies.{IsJoinedTo, RefusesToJoin, RepliesToJoin}
 pub use Rattle.dg_game.specs.Legal.{IsLegal}
 pub use Rattle.dg_game.specs.MoveReplies.{RefusesMove, RepliesToMove}
 pub use Rattle.dg_game.specs.Position.{Position, Shows}
 pub use Rattle.dg_game.specs.Replies.{Replies, RepliesAt, RepliesToClaim, RepliesToJudge, RepliesToLook, RepliesToRank}
-pub use Rattle.dg_game.specs.State.{LeadsTo, State}
+pub use Rattle.dg_game.specs.State.{LeadsTo, GameState}
 pub use Rattle.dg_game.specs.Step.{after_reply}
 pub use Rattle.dg_game.specs.declared.entry.Entry.{Entry}
 pub use Rattle.dg_game.specs.declared.entry.Refusal.{Refusal}
@@ -47,12 +47,12 @@ pub use Rattle.dg_rehearsal.specs.declared.schedule.RehearseFault.TheVariants.{S
 pub use Rattle.dg_strategy.proofs.Greedily.{IsUnderWay, begun, legal_turn, settled_game, used_up, went_on}
 pub use Rattle.dg_strategy.proofs.OneGame.{greedy_game_is_one}
 pub use Rattle.dg_strategy.specs.Greedy.{IsGreedyTurn}
-pub use Rattle.dg_strategy.specs.GreedyLaws.{AreSameGame}
+pub use Rattle.dg_strategy.specs.GreedyLaws.{AreSameGreedyGame}
 pub use Rattle.dg_tasks.specs.Games.{IsGreedyAnswer, turns_text}
-pub use Rattle.dg_tasks.specs.OneText.{GreedyHasOneText, LegalHaveOneText, RehearsalsHaveOneText, asked_in}
+pub use Rattle.dg_tasks.specs.OneText.{GreedyHasOneText, LegalAnswersAreOneText, RehearsalsHaveOneText, printed_requests}
 pub use Rattle.dg_tasks.specs.RankTests.{IsRiemannRoch, riemann_roch_text}
 pub use Rattle.dg_tasks.specs.Refusals.{IsFaultOf}
-pub use Rattle.dg_tasks.specs.Rehearsals.{IsPlayed, IsPrinted, IsStopped}
+pub use Rattle.dg_tasks.specs.Rehearsals.{IsPlayed, IsPrinted, StopsRehearsalTask}
 pub use Rattle.dg_theory.proofs.ConstantLaws.{same_by_constant}
 pub use Rattle.dg_theory.proofs.Equivalence.{equivalent-sym, equivalent-trans}
 pub use Rattle.dg_theory.proofs.LossLaws.{loss_bounds_rank, loss_once}

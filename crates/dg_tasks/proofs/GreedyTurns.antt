@@ -6,16 +6,16 @@
 --   one_played     with one more turn that is a move
 --   all_settled    with one more turn that is the claim the text is the answer
 --   all_used_up    and with `turns` where its turns are used up
-use Rattle.dg_tasks.proofs.Common.{◌≡◌, ℕ, ◌+◌, ◌<◌, Bool, true, false, List, [], ◌∷◌, ◌++◌, length, arith, refl, sym, ap, ◌∙◌, append-nil, length-append, StartData, State, LeadsTo, Entry, slice_get-seam, IsGreedyTurn, IsUnderWay, begun, legal_turn, went_on, settled_game, used_up, HasNames, entry_text, legal_named, history_more, IsGreedyAnswer, turns_text}
+use Rattle.dg_tasks.proofs.Common.{◌≡◌, ℕ, ◌+◌, ◌<◌, Bool, true, false, List, [], ◌∷◌, ◌++◌, length, arith, refl, sym, ap, ◌∙◌, append-nil, length-append, StartData, GameState, LeadsTo, Entry, slice_get-seam, IsGreedyTurn, IsUnderWay, begun, legal_turn, went_on, settled_game, used_up, HasNames, entry_text, legal_named, history_more, IsGreedyAnswer, turns_text}
 use Rattle.dg_lines.specs.Texts.{history_text}
 
-pub record IsPlayedTo (o : StartData) (names : List (List ℕ)) (s : State) (n : ℕ) (text : List ℕ) : Type 0 where
+pub record IsPlayedTo (o : StartData) (names : List (List ℕ)) (s : GameState) (n : ℕ) (text : List ℕ) : Type 0 where
   pub history : List Entry
   pub under_way : IsUnderWay o history s
   pub count : n ≡ length history
   pub printed : text ≡ history_text names 0 history
 
-pub none_played : (o : StartData) (names : List (List ℕ)) (s : State) (text : List ℕ) → LeadsTo o [] s → text ≡ [] →
+pub none_played : (o : StartData) (names : List (List ℕ)) (s : GameState) (text : List ℕ) → LeadsTo o [] s → text ≡ [] →
     IsPlayedTo o names s 0 text
 unfolding history_text
 none_played o names s text leads empty = record {
@@ -26,13 +26,13 @@ none_played o names s text leads empty = record {
 }
 
 -- what a turn from the state s does, whatever its history
-abbrev pub IsTurnFrom : State → Entry → Bool → Type 0
+abbrev pub IsTurnFrom : GameState → Entry → Bool → Type 0
 IsTurnFrom s e settled = (o : StartData) (H : List Entry) → LeadsTo o H s → IsGreedyTurn o H e settled
 
-abbrev pub LeadsOn : State → Entry → State → Type 0
+abbrev pub LeadsOn : GameState → Entry → GameState → Type 0
 LeadsOn s e t = (o : StartData) (H : List Entry) → LeadsTo o H s → LeadsTo o (H ++ e ∷ []) t
 
-module _ (o : StartData) (names : List (List ℕ)) (s : State) (n : ℕ) (text : List ℕ) (e : Entry) (settled : Bool)
+module _ (o : StartData) (names : List (List ℕ)) (s : GameState) (n : ℕ) (text : List ℕ) (e : Entry) (settled : Bool)
     (turn : IsTurnFrom s e settled) (known : IsPlayedTo o names s n text) where
   made : IsGreedyTurn o known.history e settled
   made = turn o known.history known.under_way.leads
@@ -51,7 +51,7 @@ module _ (o : StartData) (names : List (List ℕ)) (s : State) (n : ℕ) (text :
       ∙ ap (λ (k : ℕ). history_text names 0 known.history ++ entry_text names k e.reply) place
       ∙ sym (history_more names 0 known.history e)
 
-  pub one_played : (t : State) (longer : List ℕ) → settled ≡ false → LeadsOn s e t →
+  pub one_played : (t : GameState) (longer : List ℕ) → settled ≡ false → LeadsOn s e t →
       longer ≡ text ++ entry_text names n e.reply → IsPlayedTo o names t (n + 1) longer
   one_played t longer move leads written = record {
     history = known.history ++ e ∷ [];
@@ -71,7 +71,7 @@ module _ (o : StartData) (names : List (List ℕ)) (s : State) (n : ℕ) (text :
     printed = line_more longer written ∙ sym (append-nil (history_text names 0 (known.history ++ e ∷ [])));
   }
 
-pub all_used_up : (o : StartData) (names : List (List ℕ)) (s : State) (n : ℕ) (text longer : List ℕ) →
+pub all_used_up : (o : StartData) (names : List (List ℕ)) (s : GameState) (n : ℕ) (text longer : List ℕ) →
     longer ≡ text ++ turns_text false → IsPlayedTo o names s n text → IsGreedyAnswer o n names longer
 all_used_up o names s n text longer written known = record {
   history = known.history;

@@ -3,14 +3,14 @@
 --   pairs_same      amounts that agree on the vertices have the same pairs
 --   move_once, gift_once, join_once, look_once, claim_once, judge_once, rank_once   so it is of replies to each request
 --   reply_once      and to any
-use Rattle.dg_tasks.proofs.Common.{◌≡◌, ◌≢◌, ℕ, ◌+◌, ◌<◌, ◌≤◌, ◌⊎◌, inl, inr, Bool, true, false, List, [], ◌∷◌, ◌++◌, length, codes, arith, refl, sym, ap, ◌∙◌, ◌↔◌, decimal, false≢true, ints, ℤ, Multigraph, Amounts, AgreeOn, IsEffective, IsWinnable, same_by_constant, equivalent-sym, equivalent-trans, loss_once, loss_bounds_rank, reduced_once, IsGraph, in_set-none, in_set, Vector, at, NamesNoVertex, IsEmptySet, HasOtherSize, IsPlayable, IsAfterMove, Move, Lend, Borrow, Fire, Script, IsRight, IsRankTest, RankVerdict, AtLeast, Below, gift_counted, IsGivenTo, RefusesGift, RepliesToGift, IsJoinedTo, RefusesToJoin, RepliesToJoin, RefusesMove, RepliesToMove, Position, Shows, RepliesAt, RepliesToLook, RepliesToClaim, RepliesToJudge, RepliesToRank, after_reply, Refusal, Request, Reply, Moved, Given, Joined, Looked, Verdict, Rank, Stale, Won, NotWon, Refused, pair, verdict_word, verdict_text, rank_text, text_of}
+use Rattle.dg_tasks.proofs.Common.{◌≡◌, ◌≢◌, ℕ, ◌+◌, ◌<◌, ◌≤◌, ◌⊎◌, inl, inr, Bool, true, false, List, [], ◌∷◌, ◌++◌, length, codes, arith, refl, sym, ap, ◌∙◌, ◌↔◌, decimal, false≢true, ints, ℤ, Multigraph, Amounts, AgreeOn, IsEffective, IsWinnable, same_by_constant, equivalent-sym, equivalent-trans, loss_once, loss_bounds_rank, reduced_once, IsGraph, in_set-none, in_set, Vector, at, NamesNoVertex, IsEmptySet, HasOtherSize, IsPlayable, IsAfterMove, Move, Lend, Borrow, Fire, Script, IsRight, IsRankTest, RankVerdict, AtLeast, Below, gifts_by_reply, IsGivenTo, RefusesGift, RepliesToGift, IsJoinedTo, RefusesToJoin, RepliesToJoin, RefusesMove, RepliesToMove, Position, Shows, RepliesAt, RepliesToLook, RepliesToClaim, RepliesToJudge, RepliesToRank, after_reply, Refusal, Request, Reply, Moved, Given, Joined, Looked, Verdict, Rank, Stale, Won, NotWon, Refused, pair, verdict_word, verdict_text, rank_text, text_of}
 use Rattle.dg_verdict.specs.declared.verdict.Verdict.{Verdict as VerdictFound}
 use Rattle.dg_game.specs.declared.entry.Refusal.TheVariants as refusal
 use Rattle.dg_game.specs.declared.entry.Request.TheVariants as request
 use Rattle.dg_lines.specs.Texts.{more_pairs, pairs}
 
 pub record Alike (names : List (List ℕ)) (p : Position) (r : Request) (a b : Reply) : Type 0 where
-  pub counted : gift_counted a ≡ gift_counted b
+  pub counted : gifts_by_reply a ≡ gifts_by_reply b
   pub leads : after_reply p r a ≡ after_reply p r b
   pub text : text_of names a ≡ text_of names b
 
@@ -34,7 +34,7 @@ pairs_same (name ∷ names) x y same =
 module _ (names : List (List ℕ)) (p : Position) (fit : length names ≡ p.graph.size) where
   same_alike : (r : Request) (a b : Reply) → a ≡ b → Alike names p r a b
   same_alike r a b same = record {
-    counted = ap gift_counted same;
+    counted = ap gifts_by_reply same;
     leads = ap (after_reply p r) same;
     text = ap (text_of names) same;
   }
@@ -130,7 +130,7 @@ module _ (names : List (List ℕ)) (p : Position) (fit : length names ≡ p.grap
           (((d : Vector) × (b ≡ Moved d) × IsAfterMove p.graph p.amounts m d)
           ⊎ ((x : Refusal) × (b ≡ Refused x) × RefusesMove p m x)) → Alike names p (request.Move m) a b
       by_shapes (inl (d, is, first)) (inl (e, is', second)) = record {
-        counted = ap gift_counted is ∙ sym (ap gift_counted is');
+        counted = ap gifts_by_reply is ∙ sym (ap gifts_by_reply is');
         leads = ap (after_reply p (request.Move m)) is ∙ sym (ap (after_reply p (request.Move m)) is');
         text = ap (text_of names) is
             ∙ ap (λ (ps : List ℕ). codes "moved " ++ ps)
@@ -181,7 +181,7 @@ module _ (names : List (List ℕ)) (p : Position) (fit : length names ≡ p.grap
           (((n : ℕ) × (d : Vector) × (b ≡ Given n d) × IsGivenTo p g v x n d)
           ⊎ ((y : Refusal) × (b ≡ Refused y) × RefusesGift p v x y)) → Alike names p (request.Gift v x) a b
       by_shapes (inl (n, d, is, first)) (inl (l, e, is', second)) = record {
-        counted = ap gift_counted is ∙ sym (ap gift_counted is');
+        counted = ap gifts_by_reply is ∙ sym (ap gifts_by_reply is');
         leads = ap (after_reply p (request.Gift v x)) is ∙ sym (ap (after_reply p (request.Gift v x)) is');
         text = ap (text_of names) is
             ∙ ap (λ (i : ℕ). codes "given " ++ decimal i ++ codes " " ++ pairs names (at d))
@@ -245,7 +245,7 @@ module _ (names : List (List ℕ)) (p : Position) (fit : length names ≡ p.grap
           (((n : ℕ) × (d : Vector) × (b ≡ Joined n d) × IsJoinedTo p g u v n d)
           ⊎ ((y : Refusal) × (b ≡ Refused y) × RefusesToJoin p u v y)) → Alike names p (request.Join u v) a b
       by_shapes (inl (n, d, is, first)) (inl (l, e, is', second)) = record {
-        counted = ap gift_counted is ∙ sym (ap gift_counted is');
+        counted = ap gifts_by_reply is ∙ sym (ap gifts_by_reply is');
         leads = ap (after_reply p (request.Join u v)) is ∙ sym (ap (after_reply p (request.Join u v)) is');
         text = ap (text_of names) is
             ∙ ap (λ (i : ℕ). codes "joined " ++ decimal i ++ codes " " ++ pairs names (at d))
@@ -269,7 +269,7 @@ module _ (names : List (List ℕ)) (p : Position) (fit : length names ≡ p.grap
       let (n, d, graph, is, count, shown) = look_shape g a right in
       let (l, e, graph', is', count', shown') = look_shape g b right' in
       record {
-        counted = ap gift_counted is ∙ sym (ap gift_counted is');
+        counted = ap gifts_by_reply is ∙ sym (ap gifts_by_reply is');
         leads = ap (after_reply p request.Look) is ∙ sym (ap (after_reply p request.Look) is');
         text = ap (text_of names) is
             ∙ ap (λ (i : ℕ). codes "looked " ++ decimal i ++ codes " " ++ pairs names (at d)) (count ∙ sym count')
@@ -345,7 +345,7 @@ module _ (names : List (List ℕ)) (p : Position) (fit : length names ≡ p.grap
             (((x : VerdictFound) × (b ≡ Verdict x) × (h' ≡ g) × IsRight p.graph q p.amounts x)
             ⊎ ((b ≡ Stale g) × (h' ≢ g))) → Alike names p (request.Judge i) a b
         by_shapes (inl (x, is, now, first)) (inl (y, is', now', second)) = record {
-          counted = ap gift_counted is ∙ sym (ap gift_counted is');
+          counted = ap gifts_by_reply is ∙ sym (ap gifts_by_reply is');
           leads = ap (after_reply p (request.Judge i)) is ∙ sym (ap (after_reply p (request.Judge i)) is');
           text = ap (text_of names) is ∙ verdict_same x y first second ∙ sym (ap (text_of names) is');
         }
@@ -382,7 +382,7 @@ module _ (names : List (List ℕ)) (p : Position) (fit : length names ≡ p.grap
           (((x : RankVerdict) × (b ≡ Rank x) × (h' ≡ g) × IsRankTest p.graph p.amounts k x)
           ⊎ ((b ≡ Stale g) × (h' ≢ g))) → Alike names p (request.Rank i k) a b
       by_shapes (inl (x, is, now, first)) (inl (y, is', now', second)) = record {
-        counted = ap gift_counted is ∙ sym (ap gift_counted is');
+        counted = ap gifts_by_reply is ∙ sym (ap gifts_by_reply is');
         leads = ap (after_reply p (request.Rank i k)) is ∙ sym (ap (after_reply p (request.Rank i k)) is');
         text = ap (text_of names) is ∙ test_same k x y first second ∙ sym (ap (text_of names) is');
       }

@@ -12,7 +12,7 @@
 --   rehearsals_have_one_text   histories of the same steps have one text
 --   same_asks         greedy games that are the same ask for the same
 --   greedy_has_one_text   what is printed of a greedy game
-use Rattle.dg_tasks.proofs.Common.{◌≡◌, ℕ, zero, suc, ◌+◌, ◌<◌, ◌≤◌, Bool, List, [], ◌∷◌, ◌++◌, length, take, slice_get, Some, arith, refl, sym, ap, subst, ◌∙◌, append_assoc, ⊎_elim, codes, take-append_seam, decimal, slice_get_within, cases_lt, StartData, IsStart, position_after, gifts_in, gift_counted, IsLegal, Position, Replies, RepliesAt, after_reply, Entry, Request, Reply, Command, Call, Commit, Step, graphs_hold, legal_part, slice_get-seam, one_more_entry, vertices_stay, IsKept, IsAsked, IsEntryOf, AreSameGame, greedy_game_is_one, entry_text, turns_text, asked_in, LegalHaveOneText, RehearsalsHaveOneText, GreedyHasOneText}
+use Rattle.dg_tasks.proofs.Common.{◌≡◌, ℕ, zero, suc, ◌+◌, ◌<◌, ◌≤◌, Bool, List, [], ◌∷◌, ◌++◌, length, take, slice_get, Some, arith, refl, sym, ap, subst, ◌∙◌, append_assoc, ⊎_elim, codes, take-append_seam, decimal, slice_get_within, cases_lt, StartData, IsStart, position_after, gifts_in, gifts_by_reply, IsLegal, Position, Replies, RepliesAt, after_reply, Entry, Request, Reply, Command, Call, Commit, Step, graphs_hold, legal_part, slice_get-seam, one_more_entry, vertices_stay, IsKept, IsAsked, IsEntryOf, AreSameGreedyGame, greedy_game_is_one, entry_text, turns_text, printed_requests, LegalAnswersAreOneText, RehearsalsHaveOneText, GreedyHasOneText}
 use Rattle.dg_game.specs.declared.entry.Request.TheVariants as request
 use Rattle.dg_game.specs.declared.step.Command.TheVariants.{Rank}
 use Rattle.dg_lines.specs.Texts.{history_text}
@@ -20,12 +20,12 @@ use Rattle.dg_tasks.proofs.OneReply.{Alike, reply_once}
 
 pub counts : List Entry → List ℕ
 counts [] = []
-counts (e ∷ H) = gift_counted e.reply ∷ counts H
+counts (e ∷ H) = gifts_by_reply e.reply ∷ counts H
 
-counts_more : (H : List Entry) (e : Entry) → counts (H ++ e ∷ []) ≡ counts H ++ gift_counted e.reply ∷ []
+counts_more : (H : List Entry) (e : Entry) → counts (H ++ e ∷ []) ≡ counts H ++ gifts_by_reply e.reply ∷ []
 unfolding counts
 counts_more [] e = refl
-counts_more (x ∷ H) e = ap (λ (ns : List ℕ). gift_counted x.reply ∷ ns) (counts_more H e)
+counts_more (x ∷ H) e = ap (λ (ns : List ℕ). gifts_by_reply x.reply ∷ ns) (counts_more H e)
 
 added : List ℕ → ℕ
 added [] = 0
@@ -63,7 +63,8 @@ module _ (o : StartData) (start : IsStart o) (names : List (List ℕ)) (fit : le
       (subst (λ (p : Position). RepliesAt p o.q (λ i. gifts_in (take i L)) (gifts_in L) r b) (sym same) right'))
 
   seen_on : (K L H M : List Entry) (n : ℕ) → position_after o K ≡ position_after o L → counts K ≡ counts L →
-      IsLegal o (K ++ H) → IsLegal o (L ++ M) → asked_in H ≡ asked_in M → history_text names n H ≡ history_text names n M
+      IsLegal o (K ++ H) → IsLegal o (L ++ M) → printed_requests H ≡ printed_requests M →
+      history_text names n H ≡ history_text names n M
   unfolding history_text
   seen_on K L [] [] n same counted legal legal' asks = refl
   seen_on K L [] (e ∷ M) n same counted legal legal' asks = absurd (cc)
@@ -102,21 +103,21 @@ module _ (o : StartData) (start : IsStart o) (names : List (List ℕ)) (fit : le
 
       counted' : counts (K ++ d ∷ []) ≡ counts (L ++ e ∷ [])
       counted' =
-          counts_more K d ∙ ap (λ (ns : List ℕ). ns ++ gift_counted d.reply ∷ []) counted
+          counts_more K d ∙ ap (λ (ns : List ℕ). ns ++ gifts_by_reply d.reply ∷ []) counted
           ∙ ap (λ (i : ℕ). counts L ++ i ∷ []) alike.counted ∙ sym (counts_more L e)
 
-pub legal_have_one_text : LegalHaveOneText
+pub legal_have_one_text : LegalAnswersAreOneText
 legal_have_one_text o names H K start fit legal legal' asks =
     seen_on o start names fit [] [] H K 0 refl refl legal legal' asks
 
 asked_alike : (H K : List Entry) → length H ≡ length K →
     ((i : ℕ) (d e : Entry) → slice_get H i ≡ Some d → slice_get K i ≡ Some e → d.request ≡ e.request) →
-    asked_in H ≡ asked_in K
+    printed_requests H ≡ printed_requests K
 asked_alike [] [] count same = refl
 asked_alike [] (e ∷ K) count same = absurd (omega (arith, count))
 asked_alike (d ∷ H) [] count same = absurd (omega (arith, count))
 asked_alike (d ∷ H) (e ∷ K) count same =
-    ap (λ (r : Request). r ∷ asked_in H) (same 0 d e refl refl)
+    ap (λ (r : Request). r ∷ printed_requests H) (same 0 d e refl refl)
     ∙ ap (λ (rs : List Request). e.request ∷ rs)
     (asked_alike H K (omega (arith, count)) (λ i x y here there. same (suc i) x y here there))
 
@@ -156,12 +157,12 @@ rehearsals_have_one_text o names steps H K start fit first second =
     let other : IsEntryOf steps i step e = second.entries i step e at there in
     asked_once steps step.seat i step.command d.request e.request one.request other.request))
 
-same_asks : (H K : List Entry) → AreSameGame H K → asked_in H ≡ asked_in K
+same_asks : (H K : List Entry) → AreSameGreedyGame H K → printed_requests H ≡ printed_requests K
 same_asks [] [] same = refl
 same_asks [] (e ∷ K) same = absurd same
 same_asks (d ∷ H) [] same = absurd same
 same_asks (d ∷ H) (e ∷ K) (seat, request', reply, same) =
-    ap (λ (r : Request). r ∷ asked_in H) request' ∙ ap (λ (rs : List Request). e.request ∷ rs) (same_asks H K same)
+    ap (λ (r : Request). r ∷ printed_requests H) request' ∙ ap (λ (rs : List Request). e.request ∷ rs) (same_asks H K same)
 
 pub greedy_has_one_text : GreedyHasOneText
 greedy_has_one_text o names n text other start fit first second =

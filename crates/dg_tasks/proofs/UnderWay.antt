@@ -15,13 +15,13 @@
 --   all_played       after the last line the text is that of the history
 --   first_fault      after the last line the fault is the first one of the steps
 --   never_unseated   a step that a line spells has a seat
-use Rattle.dg_tasks.proofs.Common.{◌≡◌, ℕ, ◌+◌, ◌<◌, ◌≤◌, ◌==◌, cond, true, false, List, [], ◌∷◌, ◌++◌, length, slice_get, Option, Some, None, arith, refl, sym, ap, subst, ◌∙◌, append_assoc, append-nil, length-append, is_none, StartData, IsPlaying, PlaysOn, StopsPlay, IsFirstFault, Entry, MAX_ENTRIES, Rehearsal, RehearseFault, Seat, Step, slice_get-seam, onto_first, IsStepLine, entry_text, history_more, AreRead, none_read, one_more, all_read, steps_seated, IsPrinted, IsPlayed, IsStopped, IsFaultOf}
+use Rattle.dg_tasks.proofs.Common.{◌≡◌, ℕ, ◌+◌, ◌<◌, ◌≤◌, ◌==◌, cond, true, false, List, [], ◌∷◌, ◌++◌, length, slice_get, Option, Some, None, arith, refl, sym, ap, subst, ◌∙◌, append_assoc, append-nil, length-append, is_none, StartData, IsPlaying, PlaysOn, StopsPlay, IsFirstFault, Entry, MAX_ENTRIES, Rehearsal, RehearseFault, Seat, Step, slice_get-seam, onto_first, IsStepLine, entry_text, history_more, AreRead, none_read, one_more, all_read, steps_seated, IsPrinted, IsPlayed, StopsRehearsalTask, IsFaultOf}
 use Rattle.dg_lines.specs.Cuts.{lines}
 use Rattle.dg_lines.specs.Texts.{history_text}
 
 abbrev pub StandsAt : StartData → List (List ℕ) → List Step → Rehearsal → List ℕ → Option RehearseFault → Type 0
 StandsAt o names steps r text None = IsPlayed o names steps r text
-StandsAt o names steps r text (Some fault) = IsStopped o steps fault
+StandsAt o names steps r text (Some fault) = StopsRehearsalTask o steps fault
 
 pub record IsUnderWay (o : StartData) (names all left : List (List ℕ)) (line : ℕ) (r : Rehearsal) (text : List ℕ)
     (stopped : Option RehearseFault) : Type 0 where
@@ -76,15 +76,15 @@ played_more o names steps step e r t text longer number plays room counted writt
 
 pub stopped_at : (o : StartData) (names : List (List ℕ)) (steps : List Step) (step : Step) (r : Rehearsal) (text : List ℕ)
     (fault : RehearseFault)
-    → StopsPlay r step fault → IsPlayed o names steps r text → IsStopped o (steps ++ step ∷ []) fault
+    → StopsPlay r step fault → IsPlayed o names steps r text → StopsRehearsalTask o (steps ++ step ∷ []) fault
 stopped_at o names steps step r text fault stops known more =
     subst (λ (all : List Step). IsFirstFault o.graph.size all fault) (sym (together steps more step))
     (stops.1 o known.history (steps ++ step ∷ more) (known.playing (step ∷ more))
     (next_is steps more step (length known.history) known.count))
 
 -- a fault stays the first
-pub stays_stopped : (o : StartData) (steps : List Step) (step : Step) (fault : RehearseFault) → IsStopped o steps fault →
-    IsStopped o (steps ++ step ∷ []) fault
+pub stays_stopped : (o : StartData) (steps : List Step) (step : Step) (fault : RehearseFault) → StopsRehearsalTask o steps fault →
+    StopsRehearsalTask o (steps ++ step ∷ []) fault
 stays_stopped o steps step fault stopped more =
     subst (λ (all : List Step). IsFirstFault o.graph.size all fault) (sym (together steps more step))
     (stopped (step ∷ more))
@@ -144,7 +144,7 @@ pub one_refused : (o : StartData) (names own all left back : List (List ℕ)) (b
     (stopped : Option RehearseFault) (step : Step) (fault : RehearseFault) → own ≡ names → left ≡ bytes ∷ back →
     IsStepLine own step bytes
     → is_none stopped ≡ true
-    → ((o : StartData) (steps : List Step) → IsPlayed o own steps r text → IsStopped o (steps ++ step ∷ []) fault)
+    → ((o : StartData) (steps : List Step) → IsPlayed o own steps r text → StopsRehearsalTask o (steps ++ step ∷ []) fault)
     → IsUnderWay o names all left line r text stopped → IsUnderWay o names all back (line + 1) t longer (Some fault)
 one_refused o names own all left back bytes line r t text longer None step fault same next accepted none stops known =
     record {

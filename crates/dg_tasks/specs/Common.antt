@@ -18,7 +18,7 @@ pub use Rattle.dg_lines.specs.Cuts.{lines}
 pub use Rattle.dg_lines.specs.Judgements.{IsJudgement}
 pub use Rattle.dg_lines.specs.Schedules.{AreStepsOf, IsFirstRefused}
 pub use Rattle.dg_lines.specs.Texts.{history_text, text_of}
-pub use Rattle.dg_rank.specs.Limits.{IsPastLimits}
+pub use Rattle.dg_rank.specs.Limits.{ArePastTrialLimits}
 pub use Rattle.dg_rank.specs.Ranks.{RefusesBothRanks, IsRankInLimits, IsWithin}
 pub use Rattle.dg_rehearsal.specs.Rehearsal.{IsPlaying}
 pub use Rattle.dg_rehearsal.specs.Schedule.{IsRehearsal}

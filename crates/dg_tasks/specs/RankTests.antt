@@ -6,7 +6,7 @@
 --   RefusesRank n k w fault     == a rank test of degree k on n vertices is past the limits; or
 --                                  memory was refused; or a thread, which only a test by two
 --                                  workers or more starts, of which there are w
---   number_line label z         == the label, the number and a newline
+--   answer_line label z         == the label, the number and a newline
 --   riemann_roch_text o r s     == the lines of the start divisor's degree, of the genus, and of
 --                                  the ranks r and s
 --   IsRiemannRoch o text        == the residual is in range, and the text is those lines, with the rank
@@ -16,7 +16,7 @@
 --                                  past the limits; of want of memory nothing is said
 use Rattle.std.specs.Prelude.{◌≡◌, ◌≤◌, ℕ, ℤ, pos, ◌+ℤ◌, ◌-ℤ◌, List, ◌++◌, codes, ⊤}
 use Rattle.std.specs.Fmt.{signed_decimal}
-use Rattle.dg_tasks.specs.Common.{genus, degree, less, canonical, IsDualFault, StartData, at, IsInRange, IsPastLimits, IsRankTest, IsWithin, IsRankInLimits, RefusesBothRanks, RankVerdict, Rank, text_of, OutOfMemory, Spawn}
+use Rattle.dg_tasks.specs.Common.{genus, degree, less, canonical, IsDualFault, StartData, at, IsInRange, ArePastTrialLimits, IsRankTest, IsWithin, IsRankInLimits, RefusesBothRanks, RankVerdict, Rank, text_of, OutOfMemory, Spawn}
 use Rattle.dg_tasks.specs.declared.fault.TaskFault.{TaskFault}
 use Rattle.dg_tasks.specs.declared.fault.TaskFault.TheVariants.{TooMany, Chip, Shortage}
 
@@ -27,20 +27,20 @@ pub record IsRankAnswer (o : StartData) (k : ℕ) (names : List (List ℕ)) (tex
   pub printed : text ≡ text_of names (Rank verdict) ++ codes "\n"
 
 abbrev pub RefusesRank : ℕ → ℕ → ℕ → TaskFault → Type 0
-RefusesRank n k w TooMany = IsPastLimits n k
+RefusesRank n k w TooMany = ArePastTrialLimits n k
 RefusesRank n k w (Shortage OutOfMemory) = ⊤
 RefusesRank n k w (Shortage Spawn) = 2 ≤ w
 RefusesRank n k w fault = ⊥
 
-abbrev pub number_line : List ℕ → ℤ → List ℕ
-number_line label z = label ++ signed_decimal z ++ codes "\n"
+abbrev pub answer_line : List ℕ → ℤ → List ℕ
+answer_line label z = label ++ signed_decimal z ++ codes "\n"
 
 abbrev pub riemann_roch_text : StartData → ℤ → ℤ → List ℕ
 riemann_roch_text o rank dual_rank =
-    number_line (codes "degree ") (degree o.graph.size (at o.divisor))
-    ++ number_line (codes "genus ") (genus o.graph)
-    ++ number_line (codes "rank ") rank
-    ++ number_line (codes "dual ") dual_rank
+    answer_line (codes "degree ") (degree o.graph.size (at o.divisor))
+    ++ answer_line (codes "genus ") (genus o.graph)
+    ++ answer_line (codes "rank ") rank
+    ++ answer_line (codes "dual ") dual_rank
 
 pub record IsRiemannRoch (o : StartData) (text : List ℕ) : Type 0 where
   pub in_range : IsInRange o.graph.size (less (canonical o.graph) (at o.divisor))

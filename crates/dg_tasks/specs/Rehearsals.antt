@@ -4,7 +4,7 @@
 --   IsPlayed o names steps r text   == r is what the steps have come to from the start o,
 --                                      whatever steps follow, and the text is that of their history,
 --                                      which has room for them
---   IsStopped o steps fault         == the fault is the first of these steps, whatever steps follow
+--   StopsRehearsalTask o steps fault == the fault is the first of these steps, whatever steps follow
 --   MayGoOn names r text            == so some steps from some start have come to this
 --   Played                          == what steps have come to, and the text of their history
 --   played r text                   == that of these
@@ -29,8 +29,8 @@ pub record IsPlayed (o : StartData) (names : List (List ℕ)) (steps : List Step
   pub few : length steps ≤ MAX_ENTRIES
   pub printed : text ≡ history_text names 0 history
 
-abbrev pub IsStopped : StartData → List Step → RehearseFault → Type 0
-IsStopped o steps fault = (more : List Step) → IsFirstFault o.graph.size (steps ++ more) fault
+abbrev pub StopsRehearsalTask : StartData → List Step → RehearseFault → Type 0
+StopsRehearsalTask o steps fault = (more : List Step) → IsFirstFault o.graph.size (steps ++ more) fault
 
 abbrev pub MayGoOn : List (List ℕ) → Rehearsal → List ℕ → Type 0
 MayGoOn names r text =
@@ -49,4 +49,4 @@ GoesOn names step old new result = MatchResult result
     (λ _. (o : StartData) (steps : List Step) → IsPlayed o names steps old.rehearsal old.text →
     IsPlayed o names (steps ++ step ∷ []) new.rehearsal new.text)
     (λ fault. (o : StartData) (steps : List Step) → IsPlayed o names steps old.rehearsal old.text →
-    IsStopped o (steps ++ step ∷ []) fault)
+    StopsRehearsalTask o (steps ++ step ∷ []) fault)

@@ -11,7 +11,7 @@ mod table_source;
 mod tasks;
 
 pub use fault::TaskFault;
-pub use laws::histories_have_one_text;
+pub use laws::rehearsals_have_one_text;
 pub use printed::judgement;
 pub use ranks::{rank_alone, rank_answer, riemann_roch};
 pub use rehearsing::rehearsal;

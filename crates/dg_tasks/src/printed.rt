@@ -31,7 +31,11 @@ pub fn judgement(alloc: Global, table: &TableFile, ordered: bool) -> Result<Vec<
 }
 
 /// The text of a reply, and a newline.
-pub(crate) fn reply_line(alloc: Global, reply: &Reply, names: &Names) -> Result<Vec<u8>, AllocError>
+pub(crate) fn printed_reply(
+    alloc: Global,
+    reply: &Reply,
+    names: &Names,
+) -> Result<Vec<u8>, AllocError>
     requires { HasNames names.now reply.now }
     ensures { IfOk result (λ line. line.items ≡ text_of names.now reply.now ++ codes "\n") }
 {

@@ -3,10 +3,10 @@ ghost use Rattle.std.specs.Prelude.{◌≡◌, ℤ, ◌++◌, codes, IfOk, IfErr
 ghost use Rattle.dg_rank.specs.Ranks.{MayHaveWorkers};
 ghost use Rattle.dg_lines.specs.Texts.{HasNames, text_of};
 ghost use Rattle.dg_game.specs.declared.entry.Reply.TheVariants.{Rank};
-ghost use Rattle.dg_tasks.specs.RankTests.{IsRankAnswer, RefusesRank, number_line, riemann_roch_text, IsRiemannRoch, RefusesRiemannRoch};
+ghost use Rattle.dg_tasks.specs.RankTests.{IsRankAnswer, RefusesRank, answer_line, riemann_roch_text, IsRiemannRoch, RefusesRiemannRoch};
 
 use crate::fault::TaskFault;
-use crate::printed::reply_line;
+use crate::printed::printed_reply;
 use dg_chips::{Start, dual};
 use dg_file::TableFile;
 use dg_game::Reply;
@@ -70,7 +70,7 @@ fn rank_line(alloc: Global, verdict: RankVerdict, names: &Names) -> Result<Vec<u
         (λ text. text.items ≡ text_of names.now (Rank verdict) ++ codes "\n") }
     ensures refused { IfErr result (λ fault. fault ≡ TaskFault.Shortage Shortage.OutOfMemory) }
 {
-    match reply_line(alloc, &Reply::Rank(verdict), names) {
+    match printed_reply(alloc, &Reply::Rank(verdict), names) {
         Ok(text) => Ok(text),
         Err(_) => Err(TaskFault::Shortage(Shortage::OutOfMemory)),
     }
@@ -111,20 +111,20 @@ fn riemann_roch_lines(
     ensures { IfOk result (λ text. text.items ≡ riemann_roch_text start.now rank dual_rank) }
 {
     let mut text = Vec::new(alloc);
-    push_number(&mut text, "degree ", start.divisor().degree())?;
-    push_number(&mut text, "genus ", i64::from(start.graph().genus()))?;
-    push_number(&mut text, "rank ", rank)?;
-    push_number(&mut text, "dual ", dual_rank)?;
+    push_answer_line(&mut text, "degree ", start.divisor().degree())?;
+    push_answer_line(&mut text, "genus ", i64::from(start.graph().genus()))?;
+    push_answer_line(&mut text, "rank ", rank)?;
+    push_answer_line(&mut text, "dual ", dual_rank)?;
     Ok(text)
 }
 
 /// A label, a number and a newline.
-fn push_number<A: Allocator>(
+fn push_answer_line<A: Allocator>(
     text: &mut Vec<u8, A>,
     label: &str,
     number: i64,
 ) -> Result<(), AllocError>
-    ensures { OnOk result (text.new.items ≡ text.old.items ++ number_line label.now number) }
+    ensures { OnOk result (text.new.items ≡ text.old.items ++ answer_line label.now number) }
 {
     text.extend_from_slice(label.as_bytes())?;
     text.extend_from_slice(Buffer::new().format(number).as_bytes())?;

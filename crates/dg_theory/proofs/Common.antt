@@ -7,8 +7,8 @@ pub use Rattle.dg_theory.specs.EquivalenceLaws.{EquivalenceIsReflexive, Equivale
 pub use Rattle.dg_theory.specs.ExistenceLaws.{ReducedExists, RichIsWinnable}
 pub use Rattle.dg_theory.specs.Firing.{AgreeOn, Amounts, AreEquivalent, FiresTo, HasNoDebtOff, IsEffective, degree, fired, gain, indicator, multiple, only_at}
 pub use Rattle.dg_theory.specs.FiringLaws.{ConstantScriptsDoNothing, FiringAddsUp, FiringKeepsDegree, SameByConstant}
-pub use Rattle.dg_theory.specs.JoinLaws.{EdgeIsAdded, JoinedIsMultigraph, SizeStays, ValenceGrows}
-pub use Rattle.dg_theory.specs.Joins.{at_either, entry_more, on_pair, one_more}
+pub use Rattle.dg_theory.specs.JoinLaws.{EdgeIsAdded, JoinedIsMultigraph, EdgeKeepsSize, ValenceGrows}
+pub use Rattle.dg_theory.specs.Joins.{at_either, edge_entry_more, on_pair, one_edge_more}
 pub use Rattle.dg_theory.specs.Multigraph.{IsMultigraph, JoinedIn, Multigraph, along, edge_count, edges_between, genus, here, valence}
 pub use Rattle.dg_theory.specs.Play.{IsWinnable, Play, lend, played, script_of_play}
 pub use Rattle.dg_theory.specs.Rank.{HasRankAtLeast, IsBefore, IsFirstLoss, IsRank, canonical, less}

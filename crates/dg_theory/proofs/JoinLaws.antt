@@ -1,45 +1,45 @@
 -- One edge more.
---   one_more-same        the number at the place is one higher
---   one_more-other       those at other places are as before
---   entry_more-same      so it is with a table: the number in the row and the column,
---   entry_more-column    those in its other columns,
---   entry_more-row       and those in other rows
+--   one_edge_more-same        the number at the place is one higher
+--   one_edge_more-other       those at other places are as before
+--   edge_entry_more-same      so it is with a table: the number in the row and the column,
+--   edge_entry_more-column    those in its other columns,
+--   edge_entry_more-row       and those in other rows
 --   on_pair-turned       a pair is the same either way
 --   edge_is_added        the law of the edges between two vertices
 --   size_stays           the law of the size
 --   joined_is_multigraph the law of multigraphs
 --   valence_grows        the law of valences
-use Rattle.dg_theory.proofs.Common.{◌≡◌, ◌≢◌, ℕ, zero, suc, ◌+◌, ◌<◌, ◌≤◌, List, [], ◌∷◌, arith, refl, ap, ◌∙◌, inl, inr, slice_index, slice_index_or, cases_eq, nat_tests, total_below, JoinedIn, edges_between, one_more, entry_more, on_pair, at_either, EdgeIsAdded, JoinedIsMultigraph, ValenceGrows, SizeStays}
+use Rattle.dg_theory.proofs.Common.{◌≡◌, ◌≢◌, ℕ, zero, suc, ◌+◌, ◌<◌, ◌≤◌, List, [], ◌∷◌, arith, refl, ap, ◌∙◌, inl, inr, slice_index, slice_index_or, cases_eq, nat_tests, total_below, JoinedIn, edges_between, one_edge_more, edge_entry_more, on_pair, at_either, EdgeIsAdded, JoinedIsMultigraph, ValenceGrows, EdgeKeepsSize}
 use Rattle.dg_theory.specs.Multigraph.{entry}
 use Rattle.dg_theory.specs.Joins.{with_edge}
 use Rattle.dg_theory.proofs.Chains.{JoinedIn-more}
 use Rattle.dg_theory.proofs.TotalLaws.{total_below-cong, total_below-differ_at}
 
-pub one_more-same : (row : List ℕ) (v : ℕ) → slice_index (one_more row v) v ≡ slice_index row v + 1
-one_more-same [] zero = refl
-one_more-same [] (suc v) = one_more-same [] v
-one_more-same (x ∷ row) zero = refl
-one_more-same (x ∷ row) (suc v) = one_more-same row v
+pub one_edge_more-same : (row : List ℕ) (v : ℕ) → slice_index (one_edge_more row v) v ≡ slice_index row v + 1
+one_edge_more-same [] zero = refl
+one_edge_more-same [] (suc v) = one_edge_more-same [] v
+one_edge_more-same (x ∷ row) zero = refl
+one_edge_more-same (x ∷ row) (suc v) = one_edge_more-same row v
 
-pub one_more-other : (row : List ℕ) (v w : ℕ) → w ≢ v → slice_index (one_more row v) w ≡ slice_index row w
-one_more-other [] zero zero other = absurd (other refl)
-one_more-other [] zero (suc w) other = refl
-one_more-other [] (suc v) zero other = refl
-one_more-other [] (suc v) (suc w) other = one_more-other [] v w (λ same. other (ap suc same))
-one_more-other (x ∷ row) zero zero other = absurd (other refl)
-one_more-other (x ∷ row) zero (suc w) other = refl
-one_more-other (x ∷ row) (suc v) zero other = refl
-one_more-other (x ∷ row) (suc v) (suc w) other = one_more-other row v w (λ same. other (ap suc same))
+pub one_edge_more-other : (row : List ℕ) (v w : ℕ) → w ≢ v → slice_index (one_edge_more row v) w ≡ slice_index row w
+one_edge_more-other [] zero zero other = absurd (other refl)
+one_edge_more-other [] zero (suc w) other = refl
+one_edge_more-other [] (suc v) zero other = refl
+one_edge_more-other [] (suc v) (suc w) other = one_edge_more-other [] v w (λ same. other (ap suc same))
+one_edge_more-other (x ∷ row) zero zero other = absurd (other refl)
+one_edge_more-other (x ∷ row) zero (suc w) other = refl
+one_edge_more-other (x ∷ row) (suc v) zero other = refl
+one_edge_more-other (x ∷ row) (suc v) (suc w) other = one_edge_more-other row v w (λ same. other (ap suc same))
 
 row-same : (table : List (List ℕ)) (u v : ℕ) →
-    slice_index_or (entry_more table u v) u [] ≡ one_more (slice_index_or table u []) v
+    slice_index_or (edge_entry_more table u v) u [] ≡ one_edge_more (slice_index_or table u []) v
 row-same [] zero v = refl
 row-same [] (suc u) v = row-same [] u v
 row-same (row ∷ table) zero v = refl
 row-same (row ∷ table) (suc u) v = row-same table u v
 
 row-other : (table : List (List ℕ)) (u v a : ℕ) → a ≢ u →
-    slice_index_or (entry_more table u v) a [] ≡ slice_index_or table a []
+    slice_index_or (edge_entry_more table u v) a [] ≡ slice_index_or table a []
 row-other [] zero v zero other = absurd (other refl)
 row-other [] zero v (suc a) other = refl
 row-other [] (suc u) v zero other = refl
@@ -49,19 +49,19 @@ row-other (row ∷ table) zero v (suc a) other = refl
 row-other (row ∷ table) (suc u) v zero other = refl
 row-other (row ∷ table) (suc u) v (suc a) other = row-other table u v a (λ same. other (ap suc same))
 
-pub entry_more-same : (table : List (List ℕ)) (u v : ℕ) → entry (entry_more table u v) u v ≡ entry table u v + 1
+pub edge_entry_more-same : (table : List (List ℕ)) (u v : ℕ) → entry (edge_entry_more table u v) u v ≡ entry table u v + 1
 unfolding entry
-entry_more-same table u v =
-    ap (λ (row : List ℕ). slice_index row v) (row-same table u v) ∙ one_more-same (slice_index_or table u []) v
+edge_entry_more-same table u v =
+    ap (λ (row : List ℕ). slice_index row v) (row-same table u v) ∙ one_edge_more-same (slice_index_or table u []) v
 
-pub entry_more-column : (table : List (List ℕ)) (u v b : ℕ) → b ≢ v → entry (entry_more table u v) u b ≡ entry table u b
+pub edge_entry_more-column : (table : List (List ℕ)) (u v b : ℕ) → b ≢ v → entry (edge_entry_more table u v) u b ≡ entry table u b
 unfolding entry
-entry_more-column table u v b other =
-    ap (λ (row : List ℕ). slice_index row b) (row-same table u v) ∙ one_more-other (slice_index_or table u []) v b other
+edge_entry_more-column table u v b other =
+    ap (λ (row : List ℕ). slice_index row b) (row-same table u v) ∙ one_edge_more-other (slice_index_or table u []) v b other
 
-pub entry_more-row : (table : List (List ℕ)) (u v a b : ℕ) → a ≢ u → entry (entry_more table u v) a b ≡ entry table a b
+pub edge_entry_more-row : (table : List (List ℕ)) (u v a b : ℕ) → a ≢ u → entry (edge_entry_more table u v) a b ≡ entry table a b
 unfolding entry
-entry_more-row table u v a b other = ap (λ (row : List ℕ). slice_index row b) (row-other table u v a other)
+edge_entry_more-row table u v a b other = ap (λ (row : List ℕ). slice_index row b) (row-other table u v a other)
 
 -- a cell and the one across the diagonal, one after the other
 both_more : (before middle after : ℕ → ℕ → ℕ) (u v : ℕ) → u ≢ v →
@@ -74,12 +74,12 @@ both_more before middle after u v different at row others back column rest a b =
 pub edge_is_added : EdgeIsAdded
 unfolding with_edge
 edge_is_added g u v different =
-    let once : List (List ℕ) = entry_more g.table u v in
-    both_more (entry g.table) (entry once) (entry (entry_more once v u)) u v different
-    (entry_more-same g.table u v) (entry_more-column g.table u v) (entry_more-row g.table u v)
-    (entry_more-same once v u) (entry_more-column once v u) (entry_more-row once v u)
+    let once : List (List ℕ) = edge_entry_more g.table u v in
+    both_more (entry g.table) (entry once) (entry (edge_entry_more once v u)) u v different
+    (edge_entry_more-same g.table u v) (edge_entry_more-column g.table u v) (edge_entry_more-row g.table u v)
+    (edge_entry_more-same once v u) (edge_entry_more-column once v u) (edge_entry_more-row once v u)
 
-pub size_stays : SizeStays
+pub size_stays : EdgeKeepsSize
 unfolding with_edge
 size_stays g u v = refl
 

@@ -3,7 +3,7 @@
 --                         as many as before
 --   JoinedIsMultigraph == with an edge between two different vertices a multigraph is one
 --   ValenceGrows       == that edge meets its two vertices, and no other
---   SizeStays          == an edge more leaves the number of vertices
+--   EdgeKeepsSize      == an edge more leaves the number of vertices
 use Rattle.std.specs.Prelude.{◌≡◌, ◌≢◌, ℕ, ◌+◌, ◌<◌}
 use Rattle.dg_theory.specs.Multigraph.{Multigraph, IsMultigraph, edges_between, valence}
 use Rattle.dg_theory.specs.Joins.{with_edge, on_pair, at_either}
@@ -21,5 +21,5 @@ abbrev pub ValenceGrows : Type 0
 ValenceGrows = (g : Multigraph) (u v : ℕ) → u < g.size → v < g.size → u ≢ v → (w : ℕ) →
     valence (with_edge g u v) w ≡ valence g w + at_either u v w
 
-abbrev pub SizeStays : Type 0
-SizeStays = (g : Multigraph) (u v : ℕ) → (with_edge g u v).size ≡ g.size
+abbrev pub EdgeKeepsSize : Type 0
+EdgeKeepsSize = (g : Multigraph) (u v : ℕ) → (with_edge g u v).size ≡ g.size

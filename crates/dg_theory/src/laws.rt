@@ -6,7 +6,7 @@ ghost use Rattle.dg_theory.specs.WinningLaws.{WinnableByScript, WinnableByClass,
 ghost use Rattle.dg_theory.specs.ReducedLaws.{ReducedDecides, ReducedOnce, ReducedBelowGenus};
 ghost use Rattle.dg_theory.specs.BurningLaws.{UnburntFires, GreatestIsOne, BurntIsReduced, BurnsToReduced};
 ghost use Rattle.dg_theory.specs.ExistenceLaws.{ReducedExists, RichIsWinnable};
-ghost use Rattle.dg_theory.specs.JoinLaws.{EdgeIsAdded, JoinedIsMultigraph, ValenceGrows, SizeStays};
+ghost use Rattle.dg_theory.specs.JoinLaws.{EdgeIsAdded, JoinedIsMultigraph, ValenceGrows, EdgeKeepsSize};
 ghost use Rattle.dg_theory.specs.RankLaws.{EquivalentRank, EquivalentLoss, RankBelow, RankZero, RichRank, PoorRank, LossOnce, LossBoundsRank};
 ghost use Rattle.dg_theory.specs.DualityLaws.{RiemannRoch, RankOfDual, DualTests, LossOfDual, HighRank, RankExists, RankOnce, RankOfSum, Clifford};
 
@@ -87,7 +87,7 @@ pub fn laws_of_joining()
     ensures edges { EdgeIsAdded }
     ensures multigraph { JoinedIsMultigraph }
     ensures valence { ValenceGrows }
-    ensures size { SizeStays }
+    ensures size { EdgeKeepsSize }
 {}
 
 /// The theorem of Riemann and Roch: the rank of a divisor less that of its residual, which is the canonical divisor less it, is

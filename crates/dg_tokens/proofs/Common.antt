@@ -2,7 +2,8 @@
 pub use Rattle.dg_tokens.specs.Decimals.{BeginsWith, HasDigitFirst}
 pub use Rattle.dg_tokens.specs.Digits.{AreLeadingDigits}
 pub use Rattle.dg_tokens.specs.Labels.{AreLabels, IsLabel}
-pub use Rattle.dg_tokens.specs.Names.{AreNames, IsName, added, has, is_from_to, is_name_byte, name_at}
+pub use Rattle.dg_tokens.specs.Names.{AreNames, IsName, added, has, is_byte_between, is_name_byte, name_at}
+unfoldable pub use Rattle.dg_tokens.specs.Names.{place_of}
 pub use Rattle.dg_tokens.specs.declared.label.Label.{Label}
 pub use Rattle.indexmap.specs.IndexSet.{insert_key}
 pub use Rattle.std.proofs.Common.{Bool, Err, FitsSigned, IsTrue, List, MatchOption, None, Ok, Option, Result, Some, [], ap, append-nil, append_assoc, arith, below_more, cond, decimal, drop, eq-eqb, false, get_or, inl, inr, length, length-append, length-drop, length-take-le, map, min, negsuc, not, of_z, option_map, pos, refl, rules, set, string_bytes, subst, suc, sym, take, take-add, to_z, to_z-of_z, true, w64, zero, ℕ, ℤ, ◌&&◌, ◌*◌, ◌++◌, ◌+◌, ◌-◌, ◌<◌, ◌^◌, ◌||◌, ◌∙◌, ◌∷◌, ◌≡◌, ◌≢◌, ◌≤◌, ◌⊎◌}

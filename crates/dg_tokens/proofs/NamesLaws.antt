@@ -8,24 +8,23 @@
 --   name_at-place_of   the vertex of a name has that name
 --   place_of-name_at   the name of a vertex has that vertex
 --   bytes_eq-swaps     comparing bytes is symmetric
-use Rattle.dg_tokens.proofs.Common.{◌≡◌, ℕ, zero, suc, ◌<◌, Bool, true, false, not, ◌&&◌, List, [], ◌∷◌, ◌++◌, length, Some, IsTrue, refl, sym, subst, ◌||◌, ◌∙◌, arith, inl, inr, All, bytes_eq, leb, ◌==◌, IsUtf8, AllByRecursion, list_all, prefix_len, false≢true, false_from_ne_true, and_parts, leb-true, lt-ltb, eqb-true, cond_both, or_cases, All-nil, All-cons, All-head, All-tail, All-push, position-Some, bytes_eq-Decides, IsUtf8-from_ascii, IsAscii-from_all, IsName, AreNames, is_from_to, is_name_byte, has, added, name_at}
+use Rattle.dg_tokens.proofs.Common.{◌≡◌, ℕ, zero, suc, ◌<◌, Bool, true, false, not, ◌&&◌, List, [], ◌∷◌, ◌++◌, length, Some, IsTrue, refl, sym, subst, ◌||◌, ◌∙◌, arith, inl, inr, All, bytes_eq, leb, ◌==◌, IsUtf8, AllByRecursion, list_all, prefix_len, false≢true, false_from_ne_true, and_parts, leb-true, lt-ltb, eqb-true, cond_both, or_cases, All-nil, All-cons, All-head, All-tail, All-push, position-Some, bytes_eq-Decides, IsUtf8-from_ascii, IsAscii-from_all, IsName, AreNames, is_byte_between, is_name_byte, has, added, name_at, place_of}
 use Rattle.std.specs.List.{IsDistinct}
-use Rattle.dg_tokens.specs.Names.{place_of}
 
 abbrev pub is_name : List ℕ → Bool
 is_name bytes = leb 1 (length bytes) && leb (length bytes) 16 && list_all is_name_byte bytes
 
-below : (low high b : ℕ) → is_from_to low high b ≡ true → high < 128 → b < 128
+below : (low high b : ℕ) → is_byte_between low high b ≡ true → high < 128 → b < 128
 below low high b within few =
     omega (arith, leb-true b high (and_parts (leb low b) (leb b high) within).1)
 
 ascii : (b : ℕ) → IsTrue (is_name_byte b) → b < 128
 ascii b is =
-    elim (or_cases (is_from_to 48 57 b || is_from_to 65 90 b || is_from_to 97 122 b) (b == 95) is) [
+    elim (or_cases (is_byte_between 48 57 b || is_byte_between 65 90 b || is_byte_between 97 122 b) (b == 95) is) [
       | inl letter ↦
-          elim (or_cases (is_from_to 48 57 b || is_from_to 65 90 b) (is_from_to 97 122 b) letter) [
+          elim (or_cases (is_byte_between 48 57 b || is_byte_between 65 90 b) (is_byte_between 97 122 b) letter) [
             | inl capital ↦
-                elim (or_cases (is_from_to 48 57 b) (is_from_to 65 90 b) capital) [
+                elim (or_cases (is_byte_between 48 57 b) (is_byte_between 65 90 b) capital) [
                   | inl digit ↦ below 48 57 b digit (omega arith)
                   | inr other ↦ below 65 90 b other (omega arith)
                 ]

@@ -3,8 +3,7 @@
 --   insert_text     the bytes of the texts after `insert`
 --   position_text   the text of these bytes stands where the name does
 --   no_place        what is no name has no place
-use Rattle.dg_tokens.proofs.Common.{◌≡◌, ℕ, suc, ◌+◌, ◌||◌, cond, not, length, Option, Some, None, List, [], ◌∷◌, ◌++◌, Bool, true, false, refl, sym, ap, ◌∙◌, map, string_bytes, arith, bytes_eq, nat_lt, String, string_eq, position, is_some, list_any, prefix_len, false≢true, nat_tests, length-map, map-append, Global, insert_key, IsName, AreNames, has, added}
-use Rattle.dg_tokens.specs.Names.{place_of}
+use Rattle.dg_tokens.proofs.Common.{◌≡◌, ℕ, suc, ◌+◌, ◌||◌, cond, not, length, Option, Some, None, List, [], ◌∷◌, ◌++◌, Bool, true, false, refl, sym, ap, ◌∙◌, map, string_bytes, arith, bytes_eq, nat_lt, String, string_eq, position, is_some, list_any, prefix_len, false≢true, nat_tests, length-map, map-append, Global, insert_key, IsName, AreNames, has, added, place_of}
 use Rattle.dg_tokens.proofs.NamesLaws.{bytes_eq-swaps, has-no_name}
 
 abbrev pub bytes_of : List (String Global) → List (List ℕ)

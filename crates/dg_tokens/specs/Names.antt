@@ -1,5 +1,5 @@
 -- Names of vertices. A table's names are a list of byte lists, in vertex order.
---   is_from_to low high b == whether the byte b is from low to high
+--   is_byte_between low high b == whether the byte b is from low to high
 --   is_name_byte b      == whether the byte b is an ASCII digit, an ASCII letter or `_`
 --   IsName bytes        == 1 to 16 bytes, each an ASCII letter, an ASCII digit or `_`
 --   has names name      == whether the name is among the names
@@ -14,12 +14,12 @@ use Rattle.std.specs.Prelude.{ℕ, ◌≤◌, ◌||◌, ◌&&◌, Bool, IsTrue, 
 use Rattle.std.specs.List.{list_any, slice_index_or, IsDistinct}
 use Rattle.dg_tokens.specs.declared.names.TheConstants.{MAX_NAME}
 
-abbrev pub is_from_to : ℕ → ℕ → ℕ → Bool
-is_from_to low high b = leb low b && leb b high
+abbrev pub is_byte_between : ℕ → ℕ → ℕ → Bool
+is_byte_between low high b = leb low b && leb b high
 
 -- a digit, a capital letter, a small letter, or the byte 95, `_`
 abbrev pub is_name_byte : ℕ → Bool
-is_name_byte b = is_from_to 48 57 b || is_from_to 65 90 b || is_from_to 97 122 b || b == 95
+is_name_byte b = is_byte_between 48 57 b || is_byte_between 65 90 b || is_byte_between 97 122 b || b == 95
 
 pub record IsName (bytes : List ℕ) : Type 0 where
   pub not_empty : 1 ≤ length bytes

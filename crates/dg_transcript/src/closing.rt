@@ -1,6 +1,6 @@
 //! What is printed of a table that was closed.
 ghost use Rattle.std.specs.Prelude.{◌≡◌, ◌≤◌, ◌++◌, length, take, IfOk, OnOk};
-ghost use Rattle.dg_lines.specs.Texts.{HasNames, AllHaveNames};
+ghost use Rattle.dg_lines.specs.Texts.{HasNames, RepliesHaveNames};
 ghost use Rattle.dg_transcript.specs.Printed.{seat_entry_text, entries_text, seat_text, calls_text, totals_text};
 
 use dg_chips::Divisor;
@@ -23,7 +23,7 @@ pub fn closing_text<N: Name>(
     audit: &Audit<N>,
     seats: usize,
 ) -> Result<Vec<u8>, AllocError>
-    requires history { AllHaveNames names.now audit.now.pen.entries }
+    requires history { RepliesHaveNames names.now audit.now.pen.entries }
     requires position { length names.now ≡ audit.now.position.size }
     requires seats { seats ≤ 64 }
     ensures { IfOk result (λ text. text.items ≡ entries_text names.now 0 audit.now.pen.entries
@@ -49,7 +49,7 @@ fn push_entries<N: Name>(
     names: &Names,
     audit: &Audit<N>,
 ) -> Result<(), AllocError>
-    requires { AllHaveNames names.now audit.now.pen.entries }
+    requires { RepliesHaveNames names.now audit.now.pen.entries }
     ensures { OnOk result
         (text.new.items ≡ text.old.items ++ entries_text names.now 0 audit.now.pen.entries) }
 {

@@ -1,8 +1,8 @@
 -- The names that the proofs of this crate cite, passed on from one place. Declares nothing.
 pub use Rattle.dg_burn.proofs.Orders.{get-first, next-more}
-pub use Rattle.dg_burn.proofs.Steps.{burning-lit, same-more, unreached-fewer}
+pub use Rattle.dg_burn.proofs.Steps.{burning-lit, same-more, count_unburnt-fewer}
 pub use Rattle.dg_burn.proofs.Told.{none_unreached}
-pub use Rattle.dg_burn.specs.SoFar.{IsBurning, unreached}
+pub use Rattle.dg_burn.specs.SoFar.{IsBurning, count_unburnt}
 pub use Rattle.dg_chips.specs.Vector.{Vector, at}
 pub use Rattle.dg_reduce.proofs.Outcome.{script_near}
 pub use Rattle.dg_graph.proofs.SetLaws.{in_set-none}

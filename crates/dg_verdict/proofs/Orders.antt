@@ -5,13 +5,13 @@
 --   order-more    an order so far with one more vertex that may burn is one
 --   order-done    an order so far of as many vertices as there are burns them all
 --   order-fails   where a vertex stands that may not burn after those before it, not all burn
-use Rattle.dg_verdict.proofs.Common.{◌≡◌, ℕ, zero, suc, ◌+◌, ◌<◌, ◌≤◌, Bool, false, List, [], ◌∷◌, length, take, arith, sym, ap, subst, ◌∙◌, slice_get, Some, slice_index_or, take_more, take-take, get_or-take, length-take, slice_get-get_or, Multigraph, Amounts, among, MayBurn, BurnsAll, IsWith, unreached, IsBurning, get-first, next-more, unreached-fewer, same-more, burning-lit, none_unreached}
+use Rattle.dg_verdict.proofs.Common.{◌≡◌, ℕ, zero, suc, ◌+◌, ◌<◌, ◌≤◌, Bool, false, List, [], ◌∷◌, length, take, arith, sym, ap, subst, ◌∙◌, slice_get, Some, slice_index_or, take_more, take-take, get_or-take, length-take, slice_get-get_or, Multigraph, Amounts, among, MayBurn, BurnsAll, IsWith, count_unburnt, IsBurning, get-first, next-more, count_unburnt-fewer, same-more, burning-lit, none_unreached}
 
 pub record IsOrderSoFar (g : Multigraph) (q : ℕ) (D : Amounts) (l : List ℕ) (n : ℕ) (S : ℕ → Bool) : Type 0 where
   pub first : slice_get l 0 ≡ Some q
   pub next : (i v : ℕ) → slice_get l (suc i) ≡ Some v → MayBurn g D (among (take (suc i) l)) v
   pub same : (v : ℕ) → S v ≡ among l v
-  pub left : n + unreached g.size S ≡ g.size
+  pub left : n + count_unburnt g.size S ≡ g.size
 
 only_q : (g : Multigraph) (q : ℕ) (D : Amounts) (S T : ℕ → Bool) → q < g.size → ((v : ℕ) → S v ≡ false) → IsWith S q T →
     IsOrderSoFar g q D (q ∷ []) 1 T
@@ -40,7 +40,7 @@ order-more g q D order i S T v state within named burns more =
       next = next-more (MayBurn g D) (take i order) v state.next
           (subst (λ B. MayBurn g D B v) (λ j w. state.same w j) burns);
       same = same-more (take i order) S T v more state.same;
-      left = omega (arith, state.left, unreached-fewer g.size S T v burns.vertex burns.unburnt more);
+      left = omega (arith, state.left, count_unburnt-fewer g.size S T v burns.vertex burns.unburnt more);
     })
 
 pub order-done : (g : Multigraph) (q : ℕ) (D : Amounts) (order : List ℕ) (n : ℕ) (S : ℕ → Bool) →

@@ -52,7 +52,7 @@ fn all_burn(graph: &Graph, q: usize, chips: &Wide, order: &[u8; 16]) -> bool
     let mut reached = with_vertex(0, q);
     for i in 1..size {
         let v = usize::from(order[i]);
-        if !may_burn(graph, chips, reached, v) {
+        if !passes_check(graph, chips, reached, v) {
             return false;
         }
         reached = with_vertex(reached, v);
@@ -61,7 +61,7 @@ fn all_burn(graph: &Graph, q: usize, chips: &Wide, order: &[u8; 16]) -> bool
 }
 
 /// Whether a number is a vertex that is not reached, and that more edges join to reached ones than it holds dollars.
-fn may_burn(graph: &Graph, chips: &Wide, reached: u16, v: usize) -> bool
+fn passes_check(graph: &Graph, chips: &Wide, reached: u16, v: usize) -> bool
     requires { chips.now.size ≡ graph.now.size }
     ensures { MatchBool result
         (MayBurn graph.now (at chips.now) (in_set reached) v)

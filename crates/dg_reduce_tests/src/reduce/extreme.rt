@@ -5,7 +5,9 @@ ghost use Rattle.std.specs.Prelude.{◌≡◌, ◌<◌, ◌≤◌};
 
 use dg_chips::{Script, Wide};
 use dg_graph::Graph;
-use dg_reduce::{InverseLaplacian, certified_by, is_within_start, reduce_by_levels, reduce_certified};
+use dg_reduce::{
+    InverseLaplacian, certified_by, is_within_reduction_limit, reduce_by_levels, reduce_certified,
+};
 use std::test::Fail;
 
 /// How the edges of a graph lie.
@@ -90,7 +92,7 @@ fn agrees(graph: &Graph, q: usize, chips: &Wide) -> bool
     requires size { chips.now.size ≡ graph.now.size }
     requires vertex { q < graph.now.size }
 {
-    if !is_within_start(chips) {
+    if !is_within_reduction_limit(chips) {
         return false;
     }
     let found = reduce_certified(graph, &InverseLaplacian::new(graph, q), q, chips);

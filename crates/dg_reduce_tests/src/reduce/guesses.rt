@@ -5,7 +5,10 @@ ghost use Rattle.std.specs.Prelude.{◌≡◌};
 use crate::edges::{PATH, SQUARE, TRIANGLE};
 use dg_chips::{Script, Wide};
 use dg_graph::{Graph, GraphFault};
-use dg_reduce::{Certified, InverseLaplacian, Reduced, certified_by, guess, is_solvent_off, is_within_start, order_if_reduced, reduce_certified, reduce_wide};
+use dg_reduce::{
+    Certified, InverseLaplacian, Reduced, certified_by, guess, is_solvent_off,
+    is_within_reduction_limit, order_if_reduced, reduce_certified, reduce_wide,
+};
 use std::process::Abort;
 use std::test::Fail;
 
@@ -142,7 +145,7 @@ fn certified_after(graph: &Graph, q: usize, chips: &Wide, script: &Script) -> Op
     requires size { chips.now.size ≡ graph.now.size }
     requires script { script.now.size ≡ graph.now.size }
 {
-    if q >= graph.size() || !is_within_start(chips) || script.get(q) != 0 {
+    if q >= graph.size() || !is_within_reduction_limit(chips) || script.get(q) != 0 {
         return None;
     }
     Some(certified_by(graph, q, chips, script, &None))
@@ -160,10 +163,10 @@ fn certified_beside(
     requires script { script.now.size ≡ graph.now.size }
     requires other { other.now.size ≡ graph.now.size }
 {
-    if q >= graph.size() || !is_within_start(chips) || script.get(q) != 0 {
+    if q >= graph.size() || !is_within_reduction_limit(chips) || script.get(q) != 0 {
         return None;
     }
-    if !is_within_start(other) {
+    if !is_within_reduction_limit(other) {
         return None;
     }
     let known = guess(graph, &InverseLaplacian::new(graph, q), q, other).burning;
@@ -287,7 +290,7 @@ fn guesses_are_right(rt: HostRuntime) -> Result<(), Fail> {
 
 fn is_guessed(rt: &impl Abort, path: &Graph, q: usize, chips: &Wide) {
     assert!(rt; q < path.size() && chips.size() == path.size());
-    assert!(rt; is_within_start(chips));
+    assert!(rt; is_within_reduction_limit(chips));
     let script = guess(path, &InverseLaplacian::new(path, q), q, chips).script;
     let left = chips.fired_by(path, &script);
     assert!(rt; order_if_reduced(path, q, &left).is_some(), "for {q}");
@@ -316,7 +319,7 @@ fn inverses_of_others(rt: HostRuntime) -> Result<(), Fail> {
 fn serves(rt: &impl Abort, square: &Graph, inverse: &InverseLaplacian) -> Result<(), Fail> {
     let chips = Wide::new(square, &[-300, 100, 90, 80])?;
     let _size = square.size();
-    assert!(rt; is_within_start(&chips));
+    assert!(rt; is_within_reduction_limit(&chips));
     let wanted = reduce_wide(square, 0, &chips);
     assert!(rt; Wide::new(square, &[-30, 0, 0, 0]) == Ok(wanted.divisor));
     let found = reduce_certified(square, inverse, 0, &chips);

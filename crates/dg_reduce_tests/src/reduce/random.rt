@@ -8,7 +8,10 @@ use crate::reduce::guesses::is_wanted;
 use dg_burn::capped_at;
 use dg_chips::{Script, Wide};
 use dg_graph::Graph;
-use dg_reduce::{Burning, InverseLaplacian, Reduced, guess, is_within_start, order_if_reduced, reduce_after, reduce_by_levels, reduce_certified};
+use dg_reduce::{
+    Burning, InverseLaplacian, Reduced, guess, is_within_reduction_limit, order_if_reduced,
+    reduce_after, reduce_by_levels, reduce_certified,
+};
 use std::process::Abort;
 use std::test::Fail;
 
@@ -191,7 +194,7 @@ fn by_levels(graph: &Graph, q: usize, chips: &Wide, most: u64, script: &Script) 
     requires vertex { q < graph.now.size }
     requires script { script.now.size ≡ graph.now.size }
 {
-    if !is_within_start(chips) {
+    if !is_within_reduction_limit(chips) {
         return None;
     }
     Some(if most <= 10 {
@@ -228,7 +231,7 @@ fn agrees(
     let size = graph.size();
     let amounts = amounts_of(dice, size, most);
     let chips = Wide::new(graph, &amounts[..size]).ok()?;
-    if !is_within_start(&chips) {
+    if !is_within_reduction_limit(&chips) {
         return None;
     }
     let inverse = InverseLaplacian::new(graph, q);

@@ -6,7 +6,7 @@ use crate::edges::{SQUARE, TRIANGLE};
 use crate::reduce::reference::{Single, reduce_singly};
 use dg_chips::{Divisor, Script, Wide};
 use dg_graph::Graph;
-use dg_reduce::{Reduced, is_within_start, reduce, reduce_wide};
+use dg_reduce::{Reduced, is_within_reduction_limit, reduce, reduce_wide};
 use std::process::Abort;
 use std::test::Fail;
 
@@ -24,7 +24,7 @@ fn is_reduced(rt: &impl Abort, graph: &Graph, reduced: &Reduced, chips: &[i128],
 fn twice_the_range(rt: HostRuntime) -> Result<(), Fail> {
     let pair = Graph::new(2, PAIR)?;
     let chips = Wide::new(&pair, &[-2_000_000, 2_000_000])?;
-    assert!(rt; is_within_start(&chips));
+    assert!(rt; is_within_reduction_limit(&chips));
     let reduced = reduce_wide(&pair, 0, &chips);
     is_reduced(&rt, &pair, &reduced, &[-2, 2], &[0, 666_666]);
     Ok(())

@@ -1,6 +1,6 @@
 use Rattle.dg_burn.proofs.Common.{◌<◌, length, take, arith, refl, length-set, ◌∙◌, get_or-set_other, ints, take_more_set, BurnsNext, dollars, burns}
 use Rattle.dg_burn.proofs.Rests.{none_after}
-use Rattle.dg_burn.proofs.Steps.{unreached-some, burning-lit, burning-fewer, burning-more, burning-done}
+use Rattle.dg_burn.proofs.Steps.{count_unburnt-some, burning-lit, burning-fewer, burning-more, burning-done}
 use Rattle.dg_burn.proofs.Told.{set_is_rest, rest_is_free, rest_counts, none_whole}
 use Rattle.dg_burn.proofs.Fires.{fire-unlit, fire-room, fire-more, fire-counts, left-less, left-rest, burnt_out, least_burns}
 use Rattle.dg_burn.proofs.burning.burn_counted.Goals as goal
@@ -34,7 +34,7 @@ bounds-order-count c =
       arith,
       c.size-size.ensures.graph.few,
       c.burning.invariant.state.left,
-      unreached-some c.args.graph.now _ _ c.in-Some.v next,
+      count_unburnt-some c.args.graph.now _ _ c.in-Some.v next,
     )
 
 pub burn_vertex-requires-in-Some-clause-room : goal.burn_vertex-requires-in-Some-clause-room

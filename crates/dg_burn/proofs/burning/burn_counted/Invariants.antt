@@ -1,4 +1,4 @@
-use Rattle.dg_burn.proofs.Common.{◌≡◌, ℕ, ◌≤◌, length, take, slice_index_or, unreached, IsBurning, dollars, burns, IsFire}
+use Rattle.dg_burn.proofs.Common.{◌≡◌, ℕ, ◌≤◌, length, take, slice_index_or, count_unburnt, IsBurning, dollars, burns, IsFire}
 use Rattle.dg_burn.proofs.burning.burn_counted.Given as goal
 
 abbrev pub invariant-burning : goal.invariant-burning
@@ -10,4 +10,4 @@ invariant-burning l = record {
 }
 
 abbrev pub decreases-burning : goal.decreases-burning
-decreases-burning l = unreached l.graph.size (burns l.graph.size l.fire)
+decreases-burning l = count_unburnt l.graph.size (burns l.graph.size l.fire)

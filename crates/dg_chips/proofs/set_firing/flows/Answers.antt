@@ -2,8 +2,8 @@ use Rattle.dg_chips.proofs.Common.{◌≡◌, ◌∙◌, true, sym, arith, in_se
 use Rattle.dg_chips.proofs.SetLending.{into_first-in}
 use Rattle.dg_chips.proofs.set_firing.flows.Goals as goal
 
-pub with_row-got-requires : goal.with_row-got-requires
-with_row-got-requires c = λ w below.
+pub with_flow_row-got-requires : goal.with_flow_row-got-requires
+with_flow_row-got-requires c = λ w below.
     let member : in_set c.args.set c.loop-v.v ≡ true = sym c.contains.ensures ∙ c.if-contains.true in
     omega (
       arith,

@@ -1,4 +1,4 @@
-use Rattle.dg_rank.proofs.Common.{◌≡◌, ◌<◌, arith, refl, ◌≤ℤ◌, ◌<ℤ◌, min, ints, pos, ◌-ℤ◌, genus, degree, equivalent-refl, rich_rank, poor_rank, equivalent-rank, high_rank, at, IsPastLimits, IsWithin}
+use Rattle.dg_rank.proofs.Common.{◌≡◌, ◌<◌, arith, refl, ◌≤ℤ◌, ◌<ℤ◌, min, ints, pos, ◌-ℤ◌, genus, degree, equivalent-refl, rich_rank, poor_rank, equivalent-rank, high_rank, at, ArePastTrialLimits, IsWithin}
 use Rattle.std.proofs.Math.IntN.{◌+ℤ◌}
 use Rattle.dg_rank.proofs.DualTests.{decided, unsettled-cong, unsettled_dual, dual_passes, both_past, told_rich, told_poor, told_high, told_within}
 use Rattle.dg_rank.proofs.duals.passes.Goals.{then-rest-lt0-via-then-rest-lt0, then-rest-lt0-via-else-rest-lt0+then-from-genus}
@@ -42,7 +42,7 @@ returns-in_default c =
     let g = c.args.graph.now in
     let rest : c.degree_left-rest.result ≡ degree g.size (at c.args.divisor.now) -ℤ pos c.args.k =
     rw c.requires.size at c.degree_left-rest.ensures in
-    let past : IsPastLimits g.size (min c.args.k c.degree_of_dual-other.result) =
+    let past : ArePastTrialLimits g.size (min c.args.k c.degree_of_dual-other.result) =
     rw (c.size-size.ensures.size, c.min.ensures) at c.in_default.ensures in (
       refl,
       record {

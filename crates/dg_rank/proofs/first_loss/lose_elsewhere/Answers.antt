@@ -1,4 +1,4 @@
-use Rattle.dg_rank.proofs.Common.{◌≡◌, ℕ, ◌+◌, ◌-◌, ◌≤◌, arith, ◌≤ℤ◌, unsigned_abs, pos, ◌-ℤ◌, ints, degree, IsEffective, only_at, win_more, at, after_move}
+use Rattle.dg_rank.proofs.Common.{◌≡◌, ℕ, ◌+◌, ◌-◌, ◌≤◌, arith, ◌≤ℤ◌, unsigned_abs, pos, ◌-ℤ◌, ints, degree, IsEffective, only_at, win_more, at, after_trial_move}
 use Rattle.std.proofs.Math.IntN.{◌+ℤ◌}
 use Rattle.dg_rank.proofs.Elsewhere.{only_at-more, gift_stays, owed_at, rich_small, owed_small, degree-given, degree-taken, form_degree, repaid_told}
 use Rattle.dg_rank.proofs.first_loss.lose_elsewhere.Goals as goal
@@ -54,7 +54,7 @@ repay-requires-clause-range c w inside =
 pub returns-then-not-repay : goal.returns-then-not-repay
 returns-then-not-repay c win =
     c.if-not-repay.ensures
-    (win_more c.args.graph.now (after_move c.args.graph.now.size c.args.moved.now (at c.args.left.now))
+    (win_more c.args.graph.now (after_trial_move c.args.graph.now.size c.args.moved.now (at c.args.left.now))
     (at c.take.new.self)
     (λ w below.
     omega (
@@ -113,7 +113,7 @@ returns c =
     let taken = rw c.size-last.ensures.size at c.take-2.ensures.amounts in
     repaid_told c.repay-2.result c.args.graph.now (at c.take.new.self) (at c.take-2.new.self)
     (λ w. pos 0 -ℤ only_at last (pos others) w)
-    (after_move c.args.graph.now.size c.args.moved.now (at c.args.left.now)) c.repay.new.self c.repay-2.new.self
+    (after_trial_move c.args.graph.now.size c.args.moved.now (at c.args.left.now)) c.repay.new.self c.repay-2.new.self
     (λ w below. omega (arith, ints, c.give.ensures.amounts w, c.take.ensures.amounts w))
     c.if-not-repay.ensures
     (λ w below. omega (arith, ints, taken w))

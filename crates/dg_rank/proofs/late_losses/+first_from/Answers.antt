@@ -1,4 +1,4 @@
-use Rattle.dg_rank.proofs.Common.{◌≡◌, ℕ, ◌+◌, ◌-◌, ◌≤◌, arith, subst, ◌∙◌, ◌≤ℤ◌, slice_index, unsigned_abs, ints, pos, ◌-ℤ◌, degree, only_at, at, IsEffectiveDivisor, restored, WinFrom, IsFirstFrom}
+use Rattle.dg_rank.proofs.Common.{◌≡◌, ℕ, ◌+◌, ◌-◌, ◌≤◌, arith, subst, ◌∙◌, ◌≤ℤ◌, slice_index, unsigned_abs, ints, pos, ◌-ℤ◌, degree, only_at, at, IsEffectiveDivisor, restored_trial, WinFrom, IsFirstFrom}
 use Rattle.std.proofs.Math.IntN.{◌+ℤ◌}
 use Rattle.dg_rank.proofs.Elsewhere.{rich_small, form_degree}
 use Rattle.dg_rank.proofs.LateLosses.{IsOther, carried_other, carried_degree, held_few, wins_with, first_with, first_carried}
@@ -62,9 +62,9 @@ first_from-requires t c =
     )
 
 won : (t : ℕ) (c : After-move_chip t) → WinFrom c.args.graph.now
-    (restored c.args.graph.now.size c.args.left.now c.args.dollars) c.args.dollars (c.places.at - 1 + 1)
+    (restored_trial c.args.graph.now.size c.args.left.now c.args.dollars) c.args.dollars (c.places.at - 1 + 1)
 won t c =
-    let A = restored c.args.graph.now.size c.args.left.now c.args.dollars in
+    let A = restored_trial c.args.graph.now.size c.args.left.now c.args.dollars in
     let up : c.places.at ≡ c.places.at - 1 + 1 = omega arith in
     subst (λ (d : ℕ). WinFrom c.args.graph.now A c.args.dollars d) up c.places.invariant.won
 
@@ -78,13 +78,13 @@ returns-then-not-move_chip-clause-told t c =
     (rw c.size-last.ensures.size at c.if-not-move_chip.ensures)
 
 first_later : (t : ℕ) (c : In-Some t) → IsFirstFrom c.args.graph.now
-    (restored c.args.graph.now.size c.reduce.new.self (c.args.dollars - 1)) (c.args.dollars - 1) (c.places.at - 1)
+    (restored_trial c.args.graph.now.size c.reduce.new.self (c.args.dollars - 1)) (c.args.dollars - 1) (c.places.at - 1)
     c.in-Some.trial
 first_later t c = rw c.in-Some.is at c.in_ok-trial.ensures.told
 
 other : (t : ℕ) (c : After-reduce t) → IsOther c.args.graph.now
-    (restored c.args.graph.now.size c.args.left.now c.args.dollars)
-    (restored c.args.graph.now.size c.reduce.new.self (c.args.dollars - 1)) (c.places.at - 1)
+    (restored_trial c.args.graph.now.size c.args.left.now c.args.dollars)
+    (restored_trial c.args.graph.now.size c.reduce.new.self (c.args.dollars - 1)) (c.places.at - 1)
 other t c =
     let d = goal.at.After-reduce t c in
     carried_other c.args.graph.now c.args.left.now c.move_chip.new.left c.reduce.new.self c.args.dollars (c.places.at - 1)
@@ -101,7 +101,7 @@ with_more-requires-in-Some-clause-place t c =
 pub with_more-requires-in-Some-clause-few : goal.with_more-requires-in-Some-clause-few
 with_more-requires-in-Some-clause-few t c =
     let few : slice_index c.in-Some.trial (c.places.at - 1) ≤ c.args.dollars - 1 =
-    held_few c.args.graph.now (restored c.args.graph.now.size c.reduce.new.self (c.args.dollars - 1))
+    held_few c.args.graph.now (restored_trial c.args.graph.now.size c.reduce.new.self (c.args.dollars - 1))
     (c.args.dollars - 1) (c.places.at - 1) (c.places.at - 1) c.in-Some.trial
     (first_later t (goal.at.with_more-requires-in-Some-clause-few t c).In-Some)
     (omega (arith, c.places.invariant.within)) in
@@ -110,8 +110,8 @@ with_more-requires-in-Some-clause-few t c =
 pub returns-in-Some-clause-told : goal.returns-in-Some-clause-told
 returns-in-Some-clause-told t c =
     let d = goal.at.returns-in-Some-clause-told t c in
-    first_with c.args.graph.now (restored c.args.graph.now.size c.args.left.now c.args.dollars)
-    (restored c.args.graph.now.size c.reduce.new.self (c.args.dollars - 1)) c.args.dollars c.args.place
+    first_with c.args.graph.now (restored_trial c.args.graph.now.size c.args.left.now c.args.dollars)
+    (restored_trial c.args.graph.now.size c.reduce.new.self (c.args.dollars - 1)) c.args.dollars c.args.place
     (c.places.at - 1) c.with_more-in-Some.result c.in-Some.trial (omega arith)
     (omega (arith, c.places.invariant.within)) (some t d.After-move_chip) (other t d.After-reduce) (won t d.After-move_chip)
     (first_later t d.In-Some) c.with_more-in-Some.ensures
@@ -119,14 +119,14 @@ returns-in-Some-clause-told t c =
 pub places-preserved : goal.places-preserved
 places-preserved t c =
     let d = goal.at.places-preserved t c in
-    let told : WinFrom c.args.graph.now (restored c.args.graph.now.size c.reduce.new.self (c.args.dollars - 1))
+    let told : WinFrom c.args.graph.now (restored_trial c.args.graph.now.size c.reduce.new.self (c.args.dollars - 1))
     (c.args.dollars - 1) (c.places.at - 1) = rw c.in_default.is at c.in_ok-trial.ensures.told in
     record {
       after = omega arith;
       within = omega (arith, c.places.invariant.within);
       some = λ _. some t d.After-move_chip;
-      won = wins_with c.args.graph.now (restored c.args.graph.now.size c.args.left.now c.args.dollars)
-          (restored c.args.graph.now.size c.reduce.new.self (c.args.dollars - 1)) c.args.dollars (c.places.at - 1)
+      won = wins_with c.args.graph.now (restored_trial c.args.graph.now.size c.args.left.now c.args.dollars)
+          (restored_trial c.args.graph.now.size c.reduce.new.self (c.args.dollars - 1)) c.args.dollars (c.places.at - 1)
           (omega (arith, c.places.invariant.within)) (other t d.After-reduce) (won t d.After-move_chip) told;
       memory = c.in_ok-trial.ensures.memory;
     }

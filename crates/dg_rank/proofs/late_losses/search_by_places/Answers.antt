@@ -1,4 +1,4 @@
-use Rattle.dg_rank.proofs.Common.{◌≡◌, ℕ, ◌-◌, ◌≤◌, List, arith, refl, sym, subst, ◌∙◌, unsigned_abs, ints, AreEquivalent, at, restored, IsTrial}
+use Rattle.dg_rank.proofs.Common.{◌≡◌, ℕ, ◌-◌, ◌≤◌, List, arith, refl, sym, subst, ◌∙◌, unsigned_abs, ints, AreEquivalent, at, restored_trial, IsTrial}
 use Rattle.dg_rank.specs.Numbering.{nth_trial}
 use Rattle.dg_rank.proofs.Elsewhere.{left_degree, rich_small, form_degree}
 use Rattle.dg_rank.proofs.FirstLosses.{nth-trial, some_number}
@@ -66,7 +66,7 @@ first_from-requires-clause-memory c =
     })
 
 restored_all : (c : After-reduce) → AreEquivalent c.args.graph.now (at c.args.chips.now)
-    (restored c.args.graph.now.size c.reduce.new.self c.args.k)
+    (restored_trial c.args.graph.now.size c.reduce.new.self c.args.k)
 restored_all c =
     all_restored c.args.graph.now (at c.args.chips.now) c.args.k c.args.count c.with_number-first.result c.in-Some.left
     c.reduce.new.self c.requires.limits (is_first (goal.at.After-reduce c).After-with_number-first)
@@ -75,13 +75,13 @@ restored_all c =
 pub returns-in-Some-Some : goal.returns-in-Some-Some
 returns-in-Some-Some c =
     let d = (goal.at.returns-in-Some-Some c).After-reduce in
-    loses_all c.args.graph.now (at c.args.chips.now) (restored c.args.graph.now.size c.reduce.new.self c.args.k)
+    loses_all c.args.graph.now (at c.args.chips.now) (restored_trial c.args.graph.now.size c.reduce.new.self c.args.k)
     c.args.k c.args.count c.in-Some-Some.trial c.requires.limits (restored_all d)
     (rw c.in-Some-Some.field-0-is at c.in-Some-Some.ensures.told)
 
 pub returns-in-Some-None : goal.returns-in-Some-None
 returns-in-Some-None c =
     let d = (goal.at.returns-in-Some-None c).After-reduce in
-    wins_all c.args.graph.now (at c.args.chips.now) (restored c.args.graph.now.size c.reduce.new.self c.args.k)
+    wins_all c.args.graph.now (at c.args.chips.now) (restored_trial c.args.graph.now.size c.reduce.new.self c.args.k)
     c.args.k c.args.count c.requires.limits (restored_all d)
     (rw c.in-Some-None.field-0-is at c.in-Some-None.ensures.told)

@@ -1,7 +1,6 @@
 -- A word that is a number is read; one that is none leaves the line without numbers.
-use Rattle.dg_sweep.proofs.Common.{FitsSigned, w64, to_z-of_z, rules, ap, arith, length, refl, pieces_left, pieces_next, none_left}
+use Rattle.dg_sweep.proofs.Common.{FitsSigned, w64, to_z-of_z, rules, ap, arith, length, refl, pieces_left, pieces_next, none_left, before}
 use Rattle.dg_sweep.proofs.Amounts.{read_none, read_one, read_all, none_read}
-use Rattle.dg_lines.specs.Cuts.{before}
 use Rattle.dg_sweep.proofs.divisors.amounts_of.Goals as goal
 
 pub words-init : goal.words-init

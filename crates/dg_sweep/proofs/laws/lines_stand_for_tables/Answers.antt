@@ -1,13 +1,13 @@
 -- The table with other amounts has the same names, graph and q.
-use Rattle.dg_sweep.proofs.Common.{◌≡◌, ℕ, ℤ, List, length, sym, ap, ◌∙◌, subst, StartData, IsFirstChipFault, ChipFault, Content, IsTable, RefusesTable, Chip, SpellsAmounts, HasAmountsOf, RefusesAmounts, with_amounts}
+use Rattle.dg_sweep.proofs.Common.{◌≡◌, ℕ, ℤ, List, length, sym, ap, ◌∙◌, subst, StartData, IsFirstChipFault, ChipFault, Content, IsTable, RefusesTable, Chip, SpellsAmounts, HasAmountsOf, RefusesAmounts, with_amounts_of_line}
 use Rattle.dg_sweep.proofs.laws.lines_stand_for_tables.Goals as goal
 
 stands : (content : Content) (o p : StartData) (names : List (List ℕ)) (line : List ℕ) → IsTable content o names
-    → HasAmountsOf o line p → (xs : List ℤ) × SpellsAmounts line xs × IsTable (with_amounts content xs) p names
+    → HasAmountsOf o line p → (xs : List ℤ) × SpellsAmounts line xs × IsTable (with_amounts_of_line content xs) p names
 stands content o p names line table has = (
   has.xs,
   has.spelled,
-  subst (λ x. IsTable (with_amounts content has.xs) x names) (sym has.rest) (record {
+  subst (λ x. IsTable (with_amounts_of_line content has.xs) x names) (sym has.rest) (record {
     given = table.given;
     are_names = table.are_names;
     graph = table.graph;
@@ -20,7 +20,7 @@ stands content o p names line table has = (
 
 refused : (content : Content) (o : StartData) (names : List (List ℕ)) (line : List ℕ) (fault : ChipFault)
     → IsTable content o names → RefusesAmounts o.graph.size line (Chip fault)
-    → (xs : List ℤ) × SpellsAmounts line xs × RefusesTable (with_amounts content xs) (Chip fault)
+    → (xs : List ℤ) × SpellsAmounts line xs × RefusesTable (with_amounts_of_line content xs) (Chip fault)
 refused content o names line fault table (xs, spelled, first) =
     let size : o.graph.size ≡ length content.vertices = table.graph.size ∙ ap length table.given in (
       xs,

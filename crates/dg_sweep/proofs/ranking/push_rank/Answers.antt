@@ -9,7 +9,7 @@ returns-in-Ok c =
       right = told.1;
       told = λ untold. past_within _ _ untold.past.past told.0;
       named = inl told.0;
-      printed = c.in_ok-push_line.ensures;
+      printed = c.in_ok-push_verdict_line.ensures;
     })
 
 pub returns-then-passes : goal.returns-then-passes
@@ -20,7 +20,7 @@ returns-then-passes c =
       right = (refl, told.0);
       told = told.1;
       named = inr refl;
-      printed = c.in_ok-push_line-2.ensures;
+      printed = c.in_ok-push_verdict_line-2.ensures;
     })
 
 pub returns : goal.returns

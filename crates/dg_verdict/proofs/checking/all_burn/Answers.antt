@@ -8,8 +8,8 @@ loop-i-init c =
     (omega arith)
     (grind arith) in_set-none c.with_vertex-reached.ensures
 
-pub returns-then-not-may_burn : goal.returns-then-not-may_burn
-returns-then-not-may_burn c =
+pub returns-then-not-passes_check : goal.returns-then-not-passes_check
+returns-then-not-passes_check c =
     order-fails c.args.graph.now c.args.q (at c.args.chips.now) c.args.order.now c.loop-i.i (in_set c.loop-i.reached)
     c.loop-i.invariant (omega arith) (omega arith) (omega (arith, c.size-size.ensures.graph.few)) (grind arith)
 
@@ -17,7 +17,7 @@ pub loop-i-preserved : goal.loop-i-preserved
 loop-i-preserved c =
     order-more c.args.graph.now c.args.q (at c.args.chips.now) c.args.order.now c.loop-i.i (in_set c.loop-i.reached) _
     c.from-v.result c.loop-i.invariant (omega (arith, c.size-size.ensures.graph.few))
-    (grind arith) c.if-not-may_burn.ensures
+    (grind arith) c.if-not-passes_check.ensures
     c.with_vertex-reached-in-loop-i.ensures
 
 pub returns : goal.returns

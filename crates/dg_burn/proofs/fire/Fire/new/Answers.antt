@@ -1,5 +1,4 @@
-use Rattle.dg_burn.proofs.Common.{◌≡◌, ℕ, not, ◌&&◌, ap, ◌∙◌, nat_lt}
-use Rattle.dg_graph.specs.Sets.{in_set}
+use Rattle.dg_burn.proofs.Common.{◌≡◌, ℕ, not, ◌&&◌, ap, ◌∙◌, nat_lt, in_set}
 use Rattle.dg_burn.proofs.Bits.{all_inside, none_burnt}
 use Rattle.dg_burn.proofs.fire.Fire.new.Goals as goal
 

@@ -1,4 +1,4 @@
-use Rattle.dg_chips.proofs.Common.{◌≡◌, ◌∙◌, ℕ, ◌<◌, ◌≤◌, List, length, length-set, get_or-set_other, ◌≢◌, Bool, ap, arith, inl, inr, w32, slice_index_or, slice_index, unsigned_abs, ℤ, pos, ◌+ℤ◌, ◌-ℤ◌, cases_lt, ints, get_or_past, to_z, of_z, Amounts, fired, indicator, gain, Multigraph, valence, IsGraph, in_set, IsSetBelow, valence-few, Vector, IsVector, at}
+use Rattle.dg_chips.proofs.Common.{◌≡◌, ◌∙◌, ℕ, ◌<◌, ◌≤◌, List, length, length-set, get_or-set_other, ◌≢◌, Bool, ap, arith, inl, inr, w32, slice_index_or, slice_index, unsigned_abs, ℤ, pos, ◌+ℤ◌, ◌-ℤ◌, cases_lt, ints, get_or_past, to_z, of_z, Amounts, fired, indicator, gain, Multigraph, valence, IsGraph, in_set, IsVertexSet, valence-few, Vector, IsVector, at}
 use Rattle.dg_chips.proofs.VectorLaws.{filled-set, within_all}
 use Rattle.dg_chips.proofs.OneLending.{read_back}
 use Rattle.dg_chips.proofs.SetLending.{set-gain, set-outside, some-few, held_flow, range-more}
@@ -46,7 +46,7 @@ loop-w-preserved c =
     }
 
 -- there is nothing past the graph
-none : (g : Multigraph) (d : Vector) (S : ℕ → Bool) (v : ℕ) → IsGraph g → IsSetBelow g.size S → IsVector 1000000 d →
+none : (g : Multigraph) (d : Vector) (S : ℕ → Bool) (v : ℕ) → IsGraph g → IsVertexSet g.size S → IsVector 1000000 d →
     d.size ≡ g.size → g.size ≤ v → fired g (at d) (indicator S) v ≡ pos 0
 none g d S v graph inside right size past = set-outside g (at d) S v graph inside past (right.inside v (omega arith))
 

@@ -1,4 +1,4 @@
-use Rattle.dg_game.proofs.Common.{◌≡◌, List, arith, ap, subst, slice_index_or, ℤ, pos, at, IsRight, State}
+use Rattle.dg_game.proofs.Common.{◌≡◌, List, arith, ap, subst, slice_index_or, ℤ, pos, at, IsRight, GameState}
 use Rattle.dg_game.proofs.LookLaws.{moved_since, judged_after, ranked_after, look_size}
 use Rattle.dg_game.proofs.game.Game.answer_found.Goals as goal
 
@@ -9,20 +9,20 @@ pub verdict_now-carried-requires-clause-led : goal.verdict_now-carried-requires-
 verdict_now-carried-requires-clause-led c =
     let (o, H, leads, look) = c.requires.look in
     let (graph, t, led) =
-    moved_since o H _ _ leads look (omega (arith, c.if-self-look.false, ap (λ (s : State). s.gifts) c.self.view_is)) in
+    moved_since o H _ _ leads look (omega (arith, c.if-self-look.false, ap (λ (s : GameState). s.gifts) c.self.view_is)) in
     (t, led)
 
 pub verdict_now-carried-requires-clause-right : goal.verdict_now-carried-requires-clause-right
 verdict_now-carried-requires-clause-right c =
     let (o, H, leads, look) = c.requires.look in
     let (graph, t, led) =
-    moved_since o H _ _ leads look (omega (arith, c.if-self-look.false, ap (λ (s : State). s.gifts) c.self.view_is)) in
+    moved_since o H _ _ leads look (omega (arith, c.if-self-look.false, ap (λ (s : GameState). s.gifts) c.self.view_is)) in
     rw graph (rw c.in-Judged.is at c.requires.found)
 
 pub returns-then-stands_at-clause-replies : goal.returns-then-stands_at-clause-replies
 returns-then-stands_at-clause-replies c = λ o H leads look.
     let same : c.args.self.now.gifts ≡ c.args.look.now.gifts =
-    omega (arith, c.if-self-look.false, ap (λ (s : State). s.gifts) c.self.view_is) in
+    omega (arith, c.if-self-look.false, ap (λ (s : GameState). s.gifts) c.self.view_is) in
     let (graph, t, led) = moved_since o H _ _ leads look same in
     let found : IsRight c.args.self.now.graph c.args.self.now.q (at c.args.look.now.position) c.in-Judged.verdict =
     rw graph (rw c.in-Judged.is at c.requires.found) in
@@ -33,12 +33,12 @@ returns-then-stands_at-clause-replies c = λ o H leads look.
 pub returns-else-stands_at-clause-replies : goal.returns-else-stands_at-clause-replies
 returns-else-stands_at-clause-replies c = λ o H leads look.
     rw c.in-Judged.is (judged_after o H _ _ c.verdict_now-carried.result leads look
-    (omega (arith, c.if-self-look.false, ap (λ (s : State). s.gifts) c.self.view_is))
+    (omega (arith, c.if-self-look.false, ap (λ (s : GameState). s.gifts) c.self.view_is))
     c.verdict_now-carried.ensures.right)
 
 pub returns-in-Ranked-clause-replies : goal.returns-in-Ranked-clause-replies
 returns-in-Ranked-clause-replies c = λ o H leads look.
     let same : c.args.self.now.gifts ≡ c.args.look.now.gifts =
-    omega (arith, c.if-self-look.false, ap (λ (s : State). s.gifts) c.self.view_is) in
+    omega (arith, c.if-self-look.false, ap (λ (s : GameState). s.gifts) c.self.view_is) in
     rw c.in-Ranked.is (ranked_after o H _ _ _ c.in-Ranked.verdict leads look same
     (rw c.in-Ranked.is at c.requires.found))

@@ -1,4 +1,4 @@
-use Rattle.dg_game.proofs.Common.{◌≡◌, ℕ, ◌<◌, arith, sym, ap, subst, ◌∙◌, Multigraph, size_stays, State}
+use Rattle.dg_game.proofs.Common.{◌≡◌, ℕ, ◌<◌, arith, sym, ap, subst, ◌∙◌, Multigraph, size_stays, GameState}
 use Rattle.dg_game.proofs.game.Game.follow_now.Goals as goal
 
 pub invariant_of-self-in-Joined : goal.invariant_of-self-in-Joined
@@ -16,6 +16,6 @@ invariant_of-self-in-Joined c =
       drift_limit = λ v below.
           let inside : v < c.self.inside.graph.size = subst (λ (n : ℕ). v < n) size below in
           omega (arith, c.self.invariant.drift_limit v inside);
-      gifts = omega (arith, right'.count', c.self.invariant.gifts, ap (λ (s : State). s.gifts) c.self.view_is);
-      entries = omega (arith, c.requires.room, ap (λ (s : State). s.entries) c.self.view_is);
+      gifts = omega (arith, right'.count', c.self.invariant.gifts, ap (λ (s : GameState). s.gifts) c.self.view_is);
+      entries = omega (arith, c.requires.room, ap (λ (s : GameState). s.entries) c.self.view_is);
     }

@@ -1,4 +1,4 @@
-use Rattle.dg_log.proofs.Common.{◌≡◌, ◌≤◌, length, map, ap, subst, arith, length-map, Written, IsBeginning}
+use Rattle.dg_log.proofs.Common.{◌≡◌, ◌≤◌, length, map, ap, subst, arith, length-map, Written, IsPrefixOf}
 use Rattle.dg_log.proofs.ReceiptSets.{began}
 use Rattle.dg_log.proofs.pen.Pen.began.Goals as goal
 
@@ -19,6 +19,6 @@ returns g c =
       length-map items (λ x. x.2),
       length-map mine (λ x. x.2),
     ) in
-    subst (λ H. IsBeginning c.args.prefix.now H) entries
-    (subst (λ K. IsBeginning K (map (λ x. x.2) mine)) past_view
+    subst (λ H. IsPrefixOf c.args.prefix.now H) entries
+    (subst (λ K. IsPrefixOf K (map (λ x. x.2) mine)) past_view
     (began g.N.Name.cells items mine c.agree.ensures c.prefix.invariant.1 c.self.invariant.3 few))

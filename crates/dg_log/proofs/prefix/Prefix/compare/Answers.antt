@@ -1,4 +1,4 @@
-use Rattle.dg_log.proofs.Common.{◌≡◌, length, map, subst, arith, inl, inr, cases_lt, IsBeginning}
+use Rattle.dg_log.proofs.Common.{◌≡◌, length, map, subst, arith, inl, inr, cases_lt, IsPrefixOf}
 use Rattle.dg_log.proofs.ReceiptSets.{began}
 use Rattle.dg_log.proofs.prefix.Prefix.compare.Goals as goal
 
@@ -9,10 +9,10 @@ returns g c =
     let mine_view : map (λ x. x.2) mine ≡ c.args.self.now = c.self.view_is in
     let yours_view : map (λ x. x.2) yours ≡ c.args.other.now = c.other.view_is in
     elim (cases_lt (length yours) (length mine)) [
-      | inl fewer ↦ inr (subst (λ H. IsBeginning c.args.other.now H) mine_view
-          (subst (λ K. IsBeginning K (map (λ x. x.2) mine)) yours_view
+      | inl fewer ↦ inr (subst (λ H. IsPrefixOf c.args.other.now H) mine_view
+          (subst (λ K. IsPrefixOf K (map (λ x. x.2) mine)) yours_view
           (began g.N.Name.cells yours mine c.agree-2.ensures c.other.invariant.1 c.self.invariant.1 (omega arith))))
-      | inr more ↦ inl (subst (λ H. IsBeginning c.args.self.now H) yours_view
-          (subst (λ K. IsBeginning K (map (λ x. x.2) yours)) mine_view
+      | inr more ↦ inl (subst (λ H. IsPrefixOf c.args.self.now H) yours_view
+          (subst (λ K. IsPrefixOf K (map (λ x. x.2) yours)) mine_view
           (began g.N.Name.cells mine yours c.agree.ensures c.self.invariant.1 c.other.invariant.1 (omega arith))))
     ]

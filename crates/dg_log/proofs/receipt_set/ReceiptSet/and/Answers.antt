@@ -1,4 +1,4 @@
-use Rattle.dg_log.proofs.Common.{◌≡◌, ℕ, ◌+◌, [], ◌∷◌, ◌++◌, Some, slice_get, rules, ap, ◌∙◌, sym, Entry, said_by}
+use Rattle.dg_log.proofs.Common.{◌≡◌, ℕ, ◌+◌, [], ◌∷◌, ◌++◌, Some, slice_get, rules, ap, ◌∙◌, sym, Entry, entries_of_receipts}
 use Rattle.dg_log.proofs.ReceiptSets.{said_more, named_more, end_more, end_same}
 use Rattle.dg_log.proofs.receipt_set.ReceiptSet.and.Goals as goal
 use Rattle.dg_log.proofs.receipt_set.ReceiptSet.and.Goals.{then-prefix-self, else-prefix-self}
@@ -13,16 +13,16 @@ invariant_of-result g c =
     let named : slice_get g.N.Name.cells x.0 ≡ Some x.1 =
     ap (slice_get g.N.Name.cells) (c.number-2.ensures.number ∙ ap (λ p. p.0) (sym c.receipt.view_is))
     ∙ c.receipt.invariant in
-    let said : said_by (items ++ x ∷ []) ≡ said_by items ++ (x.0, x.2) ∷ [] = said_more items x in
+    let said : entries_of_receipts (items ++ x ∷ []) ≡ entries_of_receipts items ++ (x.0, x.2) ∷ [] = said_more items x in
     let prefix : c.from-prefix.result + 1 ≡ c.number-2.result + 1 = search rules in
     rw longer (
       named_more g.N.Name.cells items x c.self.invariant.0 named,
       elim c.if-prefix-self.branch [
         | then-prefix-self w ↦ rw (said, w.result-is)
-            (end_more c.self.inside.end (c.from-prefix.result + 1) (said_by items)
+            (end_more c.self.inside.end (c.from-prefix.result + 1) (entries_of_receipts items)
             (x.0, x.2) c.self.invariant.1 prefix w.if-prefix-self.true)
         | else-prefix-self w ↦ rw (said, w.result-is)
-            (end_same c.self.inside.end (c.from-prefix.result + 1) (said_by items)
+            (end_same c.self.inside.end (c.from-prefix.result + 1) (entries_of_receipts items)
             (x.0, x.2) c.self.invariant.1 prefix w.if-prefix-self.false)
       ],
     )

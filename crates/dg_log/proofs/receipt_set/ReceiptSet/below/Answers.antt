@@ -1,4 +1,4 @@
-use Rattle.dg_log.proofs.Common.{◌≡◌, length, arith, sym, nat_tests, said_by}
+use Rattle.dg_log.proofs.Common.{◌≡◌, length, arith, sym, nat_tests, entries_of_receipts}
 use Rattle.dg_log.proofs.ReceiptSets.{below_up, named_below}
 use Rattle.dg_log.proofs.receipt_set.ReceiptSet.below.Goals as goal
 
@@ -6,9 +6,9 @@ use Rattle.dg_log.proofs.receipt_set.ReceiptSet.below.Goals as goal
 pub returns-clause-below : goal.returns-clause-below
 returns-clause-below g c =
     let items = c.self.inside.witnesses.items in
-    let view : said_by items ≡ c.args.self.now = c.self.view_is in
+    let view : entries_of_receipts items ≡ c.args.self.now = c.self.view_is in
     let is_end = c.self.invariant.1 in rw (sym view) (
-      (λ yes. below_up c.self.inside.end c.args.count (said_by items)
+      (λ yes. below_up c.self.inside.end c.args.count (entries_of_receipts items)
           (grind (arith, nat_tests, yes, c.from.ensures)) is_end.0),
       (λ below. grind (arith, nat_tests, is_end.1 c.args.count below, c.from.ensures)),
     )

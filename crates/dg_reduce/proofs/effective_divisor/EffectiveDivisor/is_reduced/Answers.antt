@@ -1,4 +1,4 @@
-use Rattle.dg_reduce.proofs.Common.{◌≡◌, ◌≢◌, ℕ, eqb, true, false, take, MatchBool, ⊎_elim, eqb_tells, BurnsInOrder, at, IsHeld, same-order, none_reduced, reduced_none}
+use Rattle.dg_reduce.proofs.Common.{◌≡◌, ◌≢◌, ℕ, eqb, true, false, take, MatchBool, ⊎_elim, eqb_tells, BurnsInOrder, at, IsHeldForBurning, same-order, none_reduced, reduced_none}
 use Rattle.dg_reduce.proofs.effective_divisor.EffectiveDivisor.is_reduced.Goals as goal
 
 decides : (m : ℕ) (P : Type 0) → (m ≡ 0 → P) → (P → m ≡ 0) → MatchBool (eqb m 0) P (¬ P)
@@ -11,7 +11,7 @@ pub returns : goal.returns
 returns c =
     let g = c.args.graph.now in
     let burnt = c.burn_counted-seen.result.burnt in
-    let held : IsHeld g.size (at c.args.self.now) c.held.result = rw c.requires.size at c.held.ensures in
+    let held : IsHeldForBurning g.size (at c.args.self.now) c.held.result = rw c.requires.size at c.held.ensures in
     let order : BurnsInOrder g c.args.v (at c.args.self.now) (take burnt.burnt burnt.order) =
     same-order g c.args.v
     (at c.args.self.now) c.held.result _ c.size-size.ensures.graph c.requires.no_debt

@@ -45,8 +45,8 @@ invariant_of-seat g c =
     let shown = subst (λ (x : Entry). Replies g.N.Name.table.start H x.request x.reply) (sym entry) replies in
     let seen =
     subst (λ (x : Entry). IsKeptLook g.N.Name.table.start
-    (c.seat.inside.mine.items ++ (length H, x) ∷ []) c.keep_look.new.look) entry
-    (c.keep_look.ensures g.N.Name.table.start H c.seat.inside.mine.items c.self.invariant.0.game' shown
+    (c.seat.inside.mine.items ++ (length H, x) ∷ []) c.keep_seats_look.new.look) entry
+    (c.keep_seats_look.ensures g.N.Name.table.start H c.seat.inside.mine.items c.self.invariant.0.game' shown
     c.seat.invariant.look_kept) in
     let seated = c.seat.invariant in
     let history : c.put.new.self.entries ≡ H ++ e ∷ [] = ap (λ (w : Written). w.entries) c.in-Ok.ensures.1 in
