@@ -29,6 +29,14 @@ fn first_place(bytes: &[u8], at: u8) -> Option<usize>
     if places != 0 {
         return Some(places.trailing_zeros() as usize);
     }
+    far_place(bytes, at)
+}
+
+/// The first place of the byte, if it is far. This stands apart, so that a byte that is near costs nothing for it.
+#[inline(never)]
+fn far_place(bytes: &[u8], at: u8) -> Option<usize>
+    ensures { result ≡ position (λ byte. byte == at) bytes.now }
+{
     memchr(at, bytes)
 }
 
