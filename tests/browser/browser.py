@@ -37,6 +37,11 @@ addEventListener("load", async () => {
   globalThis.inside = script ? await import(script.src) : { get viewer() { return $("#board").viewer; } };
 });"""
 READY = "document.readyState === 'complete' && Boolean(globalThis.inside && inside.viewer)"
+# What a page holds in which something never came to be true.
+WHERE = """(() => {
+  const at = globalThis.inside, kept = location.protocol === "http:" ? JSON.stringify({ ...sessionStorage }) : "";
+  return [location.href, document.readyState, Boolean(at), Boolean(at && at.viewer), kept.slice(0, 600)].join(" | ");
+})()"""
 LISTED = "$$('#whole li').map((at) => [...at.querySelectorAll('code')].map((code) => code.textContent))"
 MIDDLE = """(() => {
   const at = $(%s);
@@ -195,7 +200,7 @@ class Browser:
                 raise
 
         if not waited(held):
-            raise TimeoutError(expression)
+            raise TimeoutError(f"{expression}: {self.value(WHERE)}")
 
     def press(self, key, modifiers=0):
         """Presses a key and lets it go."""
