@@ -1,4 +1,6 @@
--- What receipts say, and the cells that a pen has set.
+-- What receipts say, the cells that a pen has set, and what is known of them.
+mod AllNoted
 mod Cells
 mod ReceiptSets
+mod Tokens
 pub mod Common

@@ -6,3 +6,4 @@ pub mod Tables
 -- Words of private fields.
 pub mod Nobody
 pub mod ReceiptSets
+pub mod Witnesses

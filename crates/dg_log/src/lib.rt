@@ -1,5 +1,8 @@
 //! The history of one table, in cells that are each set once, and receipts for its entries. No call takes memory but
 //! `Row::new`.
+//!
+//! What is known of a cell goes by tokens, copies of the notes of `once_cell`, which can be read, copied and compared behind a
+//! `&`. They take no bytes, and no step of theirs touches a cell.
 #![tactic(auto)]
 
 mod log;
@@ -10,6 +13,8 @@ mod receipt;
 mod receipt_set;
 mod row;
 mod seating;
+mod witness;
+mod witnesses;
 
 pub use log::Log;
 pub use name::Name;

@@ -10,8 +10,9 @@ use crate::pen::Pen;
 use crate::receipt::Receipt;
 use crate::row::Row;
 use crate::seating::Seating;
+use crate::witness::Witness;
+use crate::witnesses::Witnesses;
 use dg_game::Entry;
-use dg_witness::{Witness, Witnesses};
 use once_cell::race::OnceBox;
 use std::marker::PhantomData;
 

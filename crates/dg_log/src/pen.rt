@@ -11,8 +11,9 @@ use crate::name::Name;
 use crate::prefix::Prefix;
 use crate::receipt::Receipt;
 use crate::receipt_set::ReceiptSet;
+use crate::witness::Witness;
+use crate::witnesses::Witnesses;
 use dg_game::Entry;
-use dg_witness::{Witness, Witnesses};
 use std::marker::{Model, PhantomData};
 
 /// The one pen of the table N. A contract sees the history that it wrote, and whether the last entry was refused.

@@ -4,8 +4,8 @@ ghost use Rattle.dg_log.specs.Numbered.{ReceiptsAreBelow, StandIn, IsPrefixOf, I
 
 use crate::name::Name;
 use crate::receipt_set::ReceiptSet;
+use crate::witnesses::Witnesses;
 use dg_game::Entry;
-use dg_witness::Witnesses;
 use std::marker::{Model, PhantomData};
 
 /// The history of the table N as its pen had written it once. A contract sees these entries; in memory there is only their

@@ -5,8 +5,8 @@ ghost use Rattle.std.specs.declared.option.Option.TheVariants.{Some};
 ghost use Rattle.dg_game.specs.declared.entry.Entry.{Entry as EntryData};
 
 use crate::name::Name;
+use crate::witness::Witness;
 use dg_game::Entry;
-use dg_witness::Witness;
 use std::marker::{Model, PhantomData};
 
 /// A receipt for an entry of the table N. A contract sees the entry's number and the entry. It takes four bytes, and can be

@@ -6,8 +6,8 @@ ghost use Rattle.dg_log.specs.ReceiptSets.{entries_of_receipts, AreReceiptsNamed
 
 use crate::name::Name;
 use crate::receipt::Receipt;
+use crate::witnesses::Witnesses;
 use dg_game::Entry;
-use dg_witness::Witnesses;
 use std::marker::{Model, PhantomData};
 
 /// What a list of receipts says. A contract sees the list; in memory there is only the least number that is greater than

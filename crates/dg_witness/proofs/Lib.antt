@@ -1,3 +1,0 @@
-pub mod AllNoted
-pub mod Tokens
-pub mod Common

@@ -1,2 +1,0 @@
--- What is known of cells that are set once.
-pub mod Witnesses
