@@ -404,6 +404,15 @@ def with_an_end(player):
     player.until(f"table !== {json.dumps(before)} && viewer.game.length === 0 && $('#won').hidden")
 
 
+KEPT_WITH_A_DRAFT = """play("claim").then(() => {
+  editor.open();
+  editor.clear();
+  window.dispatchEvent(new Event("pagehide"));
+  editor.close();
+  return JSON.parse(sessionStorage.getItem(`dollar ${location.pathname}`)).places;
+})"""
+
+
 def with_editor(player):
     """A table is edited on the board and in lists, and saved as a file which the program takes."""
     player.open_example("triangle", asks=False)
@@ -449,6 +458,7 @@ def with_editor(player):
           "a table from an empty board")
     player.click("#edit-cancel")
     equal(player.value("[viewer.game.names.length, viewer.now]"), [3, 1], "an edit that is left")
+    equal(player.value(KEPT_WITH_A_DRAFT), places, "the places that are kept while the editor draws")
 
 
 def with_bad_names(player):

@@ -80,8 +80,7 @@ function keepNow() {
   if (keeping === null) return;
   clearTimeout(keeping);
   keeping = null;
-  const { game, board } = viewer;
-  store("sessionStorage", KEPT, { table, fileName, steps: stepsText(game.length), places: ownPlaces(board.layout) });
+  store("sessionStorage", KEPT, { table, fileName, steps: stepsText(viewer.game.length), places: ownPlaces(editor.gameLayout()) });
 }
 
 /* What was kept, with what the program prints of it, or null. */

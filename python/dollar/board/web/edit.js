@@ -63,6 +63,11 @@ export class Editor {
     this.shown(false);
   }
 
+  /* Where the vertices of the game are: the board may show those of a draft. */
+  gameLayout() {
+    return this.draft ? this.kept : this.viewer.board.layout;
+  }
+
   text() {
     return `${JSON.stringify(this.draft, null, 1)}\n`;
   }
