@@ -10,7 +10,7 @@
 --   party_unclosed   where the table was not closed with them, there is no party for that
 use Rattle.dg_party.proofs.Common.{◌≡◌, ℕ, zero, suc, ◌+◌, ◌<◌, ◌≤◌, List, [], ◌∷◌, ◌++◌, length, map, take, slice_get, Some, arith, refl, sym, ap, subst, ◌∙◌, Result, codes, decimal, unwrap_or, slice_index, Vec, none-some, take-append_seam, StartData, Vector, at, Shows, position_after, gifts_in, pairs, Entry, vertices_stay, SeatView, entries_of, AreFresh, IsClosed, AreTotals, IsCloseRefused, all_there, none_missing, Ghosts, Audit, SessionEnd, IsSessionOver, contents, entries_text, seat_text, totals_text, IsParty, IsPartyRefused, Log, TableData}
 use Rattle.dg_party.specs.Sessions.{AreSessions}
-use Rattle.dg_transcript.specs.Printed.{seats_text, calls_text}
+use Rattle.dg_party.specs.Printed.{seats_text, calls_text}
 
 number_kept : {table : TableData} {names : List (List ℕ)} {script : List ℕ} {x y : SeatView}
     {end : Result ℕ SessionEnd}

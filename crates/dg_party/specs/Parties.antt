@@ -25,7 +25,7 @@ use Rattle.dg_table.specs.Closing.{IsCloseRefused}
 use Rattle.dg_table.specs.Histories.{IsHistoryOf}
 use Rattle.dg_table.specs.Opened.{AreFresh}
 use Rattle.dg_table.specs.Seats.{SeatView, entries_of}
-use Rattle.dg_transcript.specs.Printed.{entries_text, audit_text}
+use Rattle.dg_party.specs.Printed.{entries_text, audit_text}
 use Rattle.dg_party.specs.Sessions.{IsSessionOver, AreSessions, RefusesSessions}
 use Rattle.dg_party.specs.declared.ending.PartyRefusal.{PartyRefusal}
 use Rattle.dg_party.specs.declared.ending.PartyRefusal.TheVariants.{Shortage, Log}

@@ -1,6 +1,7 @@
 //! Parties: sessions side by side on one table, and what is printed of its history.
 #![tactic(auto)]
 
+mod closing;
 mod ending;
 mod parties;
 mod threads;

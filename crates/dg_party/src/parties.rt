@@ -6,6 +6,7 @@ ghost use Rattle.dg_table.specs.Opened.{MayHaveSeats};
 ghost use Rattle.dg_party.specs.Sessions.{contents};
 ghost use Rattle.dg_party.specs.Parties.{IsParty, IsPartyRefused};
 
+use crate::closing::closing_text;
 use crate::ending::{PartyRefusal, Played};
 use crate::threads::sessions;
 use dg_chips::Start;
@@ -14,7 +15,6 @@ use dg_rank::Gate;
 use dg_system::Shortage;
 use dg_table::{Table, TableFault};
 use dg_tokens::Names;
-use dg_transcript::closing_text;
 use std::alloc::Global;
 use std::marker::Brand;
 use std::sync::Wait;

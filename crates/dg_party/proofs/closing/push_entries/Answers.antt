@@ -1,9 +1,9 @@
 use Rattle.std.proofs.Common.{◌≡◌, ◌+◌, [], ◌∷◌, ◌++◌, take, sym, ap, ◌∙◌, append-nil}
 use Rattle.std.proofs.lemmas.List.{take_more}
 use Rattle.std.proofs.lemmas.Option.{slice_get_within, get_or_from_slice_get}
-use Rattle.dg_transcript.specs.Printed.{entries_text}
-use Rattle.dg_transcript.proofs.Printing.{entries_step}
-use Rattle.dg_transcript.proofs.closing.push_entries.Goals as goal
+use Rattle.dg_party.specs.Printed.{entries_text}
+use Rattle.dg_party.proofs.Printing.{entries_step}
+use Rattle.dg_party.proofs.closing.push_entries.Goals as goal
 
 pub entries-init : goal.entries-init
 unfolding entries_text

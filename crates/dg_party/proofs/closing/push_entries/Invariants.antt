@@ -1,6 +1,6 @@
 use Rattle.std.proofs.Common.{◌≡◌, ◌++◌, take}
-use Rattle.dg_transcript.specs.Printed.{entries_text}
-use Rattle.dg_transcript.proofs.closing.push_entries.Given as goal
+use Rattle.dg_party.specs.Printed.{entries_text}
+use Rattle.dg_party.proofs.closing.push_entries.Given as goal
 
 abbrev pub invariant-entries : goal.invariant-entries
 invariant-entries g l =

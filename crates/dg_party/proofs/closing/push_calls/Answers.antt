@@ -1,8 +1,8 @@
 use Rattle.std.proofs.Common.{ℕ, ◌<◌, List, length, arith, sym, append-nil}
 use Rattle.std.proofs.lemmas.List.{take_more}
-use Rattle.dg_transcript.specs.Printed.{calls_text}
-use Rattle.dg_transcript.proofs.Printing.{calls_step}
-use Rattle.dg_transcript.proofs.closing.push_calls.Goals as goal
+use Rattle.dg_party.specs.Printed.{calls_text}
+use Rattle.dg_party.proofs.Printing.{calls_step}
+use Rattle.dg_party.proofs.closing.push_calls.Goals as goal
 
 pub seats-init : goal.seats-init
 unfolding calls_text

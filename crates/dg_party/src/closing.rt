@@ -1,7 +1,7 @@
 //! What is printed of a table that was closed.
-ghost use Rattle.std.specs.Prelude.{◌≡◌, ◌≤◌, ◌++◌, length, take, IfOk, OnOk};
+ghost use Rattle.std.specs.Prelude.{◌≡◌, ◌≤◌, ◌++◌, length, take, decimal, IfOk, OnOk};
 ghost use Rattle.dg_lines.specs.Texts.{HasNames, RepliesHaveNames};
-ghost use Rattle.dg_transcript.specs.Printed.{seat_entry_text, entries_text, seat_text, calls_text, totals_text};
+ghost use Rattle.dg_party.specs.Printed.{seat_entry_text, entries_text, seat_text, calls_text, totals_text};
 
 use dg_chips::Divisor;
 use dg_game::Entry;
@@ -17,7 +17,7 @@ use std::alloc::{AllocError, Global};
 /// seats.
 ///
 /// Refused if there is not enough memory.
-pub fn closing_text<N: Name>(
+pub(crate) fn closing_text<N: Name>(
     alloc: Global,
     names: &Names,
     audit: &Audit<N>,
@@ -75,8 +75,7 @@ fn push_seat_entry(
     text.extend_from_slice(Buffer::new().format(entry.seat).as_bytes())?;
     text.extend_from_slice(b" ")?;
     push_reply(text, &entry.reply, names)?;
-    text.extend_from_slice(b"\n")?;
-    Ok(())
+    text.extend_from_slice(b"\n")
 }
 
 // How many entries there are, how many gifts, levies and joins, the amounts, and the calls of each seat, after the text.
@@ -93,15 +92,12 @@ fn push_totals(
         (text.new.items ≡ text.old.items
         ++ totals_text names.now entries gifts position.now calls.now) }
 {
-    text.extend_from_slice(b"entries ")?;
-    text.extend_from_slice(Buffer::new().format(entries).as_bytes())?;
-    text.extend_from_slice(b"\ngifts ")?;
-    text.extend_from_slice(Buffer::new().format(gifts).as_bytes())?;
+    push_count(text, b"entries ", u64::from(entries))?;
+    push_count(text, b"\ngifts ", u64::from(gifts))?;
     text.extend_from_slice(b"\nposition ")?;
     push_amounts(text, names, position)?;
     text.extend_from_slice(b"\n")?;
-    push_calls(text, calls)?;
-    Ok(())
+    push_calls(text, calls)
 }
 
 // The line of each seat's calls, from seat 1 on, after the text.
@@ -118,10 +114,15 @@ fn push_calls(text: &mut Vec<u8>, calls: &[u64]) -> Result<(), AllocError>
 fn push_seat(text: &mut Vec<u8>, number: u64, count: u64) -> Result<(), AllocError>
     ensures { OnOk result (text.new.items ≡ text.old.items ++ seat_text number count) }
 {
-    text.extend_from_slice(b"seat ")?;
-    text.extend_from_slice(Buffer::new().format(number).as_bytes())?;
-    text.extend_from_slice(b" calls ")?;
-    text.extend_from_slice(Buffer::new().format(count).as_bytes())?;
-    text.extend_from_slice(b"\n")?;
-    Ok(())
+    push_count(text, b"seat ", number)?;
+    push_count(text, b" calls ", count)?;
+    text.extend_from_slice(b"\n")
+}
+
+// A label and a number, after the text.
+fn push_count(text: &mut Vec<u8>, label: &[u8], count: u64) -> Result<(), AllocError>
+    ensures { OnOk result (text.new.items ≡ text.old.items ++ label.now ++ decimal count) }
+{
+    text.extend_from_slice(label)?;
+    text.extend_from_slice(Buffer::new().format(count).as_bytes())
 }

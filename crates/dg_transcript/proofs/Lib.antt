@@ -1,2 +1,0 @@
--- The lemmas that the proofs cite, over plain variables.
-mod Printing

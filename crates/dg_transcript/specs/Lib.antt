@@ -1,2 +1,0 @@
--- What is printed of a table that was closed.
-pub mod Printed
