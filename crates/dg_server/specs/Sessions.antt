@@ -19,11 +19,9 @@
 --                            began, and the input and the output are as they were
 --   RefusesServing held input task fault old new == the table file is refused so, and the input and
 --                            the output are as they were; or the session on its table ended so
-use Rattle.std.specs.Prelude.{◌≡◌, ℕ, List, length, Option, None, Some, ◌⊎◌}
+use Rattle.std.specs.Prelude.{◌≡◌, ℕ, List, length, Option, None, Some, Result, Ok, Err, ◌⊎◌}
 use Rattle.std.specs.Io.KnownBytes.{Keeps}
 use Rattle.std.specs.List.{enumerate_from}
-use Rattle.std.specs.declared.result.Result.{Result}
-use Rattle.std.specs.declared.result.Result.TheVariants.{Ok, Err}
 use Rattle.dg_server.specs.Common.{Entry, AreFresh, IsClosed, IsCloseRefused, SeatView, Setup, setup, Passage, passage, IsSession, LineFormat, OneSeat, BySeat, SessionEnd, Table, Full, Held, IsOnTable, RefusesItsTable, seats_asked_for, ServeTask, OutOfMemory, StartData, table_data_of}
 use Rattle.dg_server.specs.OfTasks.{IsOfTask}
 use Rattle.dg_server.specs.declared.fault.Fault.{Fault}

@@ -8,7 +8,7 @@ ghost use Rattle.dg_session.specs.Streams.{passage};
 ghost use Rattle.dg_session.specs.declared.line_format.LineFormat.TheVariants.{OneSeat};
 ghost use Rattle.dg_rank.specs.Ranks.{MayHaveWorkers};
 ghost use Rattle.dg_table.specs.Opened.{MayHaveSeats};
-ghost use Rattle.dg_server.specs.Sessions.{line_format, Serves, EndsEarly, IsServed, RefusesServing};
+ghost use Rattle.dg_server.specs.Sessions.{line_format, session_of, Serves, EndsEarly, IsServed, RefusesServing};
 ghost use Rattle.dg_server.specs.Streams.{IsOfInput, IsOfOutput};
 
 use crate::fault::Fault;
@@ -53,16 +53,36 @@ where
         Ok(table) => table,
         Err(fault) => return Err(Fault::Task(fault)),
     };
+    serve_table(rt, task, &table, input, output)
+}
+
+/// Answers the lines of the input, on this table.
+fn serve_table<R, I, O>(
+    rt: &R,
+    task: &ServeTask<'_>,
+    table: &TableFile,
+    input: &mut Input<I>,
+    output: &mut Output<O>,
+) -> Result<(), Fault>
+where
+    R: AllocGlobal + Threads + Wait,
+    I: Read,
+    O: Write,
+    ensures done { OnOk result ((count : ℕ)
+        × IsServed (session_of task.now table.now.start table.now.names)
+        (passage input.old.remaining input.new.remaining) (passage output.old.contents output.new.contents) (Ok count)) }
+    ensures read { IfErr result (λ fault. IsOfInput fault → input.new.has_failed ≡ true) }
+    ensures write { IfErr result (λ fault. IsOfOutput fault → output.new.has_failed ≡ true) }
+    ensures early { IfErr result (λ fault. EndsEarly (session_of task.now table.now.start table.now.names)
+        (passage input.old.remaining input.new.remaining) fault (passage output.old.contents output.new.contents)) }
+{
     let row = match Row::new(rt.alloc(), task.capacity) {
         Ok(row) => row,
         Err(LogFault::Capacity) => unreachable!(),
         Err(LogFault::OutOfMemory) => return Err(Fault::Shortage(Shortage::OutOfMemory)),
     };
     let (seats, how) = places_of(task.seats);
-    match serve_on::<Brand, R, I, O>(rt, row, &table, seats, how, task.workers, input, output) {
-        Ok(()) => Ok(()),
-        Err(fault) => Err(fault),
-    }
+    serve_on::<Brand, R, I, O>(rt, row, table, seats, how, task.workers, input, output)
 }
 
 /// How many seats there are, and how lines name them.

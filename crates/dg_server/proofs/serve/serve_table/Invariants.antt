@@ -1,5 +1,5 @@
 use Rattle.dg_server.proofs.Common.{length, table_data_of}
-use Rattle.dg_server.proofs.serve.serve_input.Given as goal
+use Rattle.dg_server.proofs.serve.serve_table.Given as goal
 
 -- A table is named by its row, its start and its number of seats.
 abbrev pub ghosts-serve_on : goal.ghosts-serve_on
