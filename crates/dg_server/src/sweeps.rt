@@ -1,9 +1,11 @@
 //! Sweeps over the lines of a file.
 ghost use Rattle.std.specs.Prelude.{◌≡◌, true, IfErr, OnOk, Some, None};
+ghost use Rattle.dg_tasks.specs.Tasks.{DescribesTable};
 ghost use Rattle.dg_server.specs.Sweeping.{Sweeps, RefusesSweeping};
 ghost use Rattle.dg_server.specs.Streams.{IsOfInput, IsOfOutput};
 
 use crate::fault::Fault;
+use dg_file::TableFile;
 use dg_invocation::SweepTask;
 use dg_sweep::{sweep, sweep_divisors};
 use dg_system::{Input, Output, Sources};
@@ -32,7 +34,13 @@ where
         output.old.contents output.new.contents) }
 {
     match task.divisors {
-        Some(lines) => sweep_amounts(rt, task, lines, sources, output),
+        Some(lines) => {
+            let table = match table_in(rt, sources, task.file) {
+                Ok(table) => table,
+                Err(fault) => return Err(Fault::Task(fault)),
+            };
+            sweep_amounts(rt, task, lines, &table, sources, output)
+        }
         None => sweep_tables(rt, task, sources, output),
     }
 }
@@ -74,11 +82,12 @@ where
     }
 }
 
-/// Answers the lines of a file of amounts for one table.
+/// Answers the lines of a file of amounts for the table that was read.
 fn sweep_amounts<R, S, O>(
     rt: &R,
     task: &SweepTask<'_>,
     lines: &str,
+    table: &TableFile,
     sources: &S,
     output: &mut Output<O>,
 ) -> Result<(), Fault>
@@ -86,7 +95,8 @@ where
     R: Files + AllocGlobal + Threads + Wait + Sync,
     S: Sources,
     O: Write,
-    requires { task.now.divisors ≡ Some lines }
+    requires divisors { task.now.divisors ≡ Some lines }
+    requires table { DescribesTable (S.held sources.now task.now.file.now) table.now.start table.now.names }
     ensures done { OnOk result
         (Sweeps (S.held sources.now) task.now output.old.contents output.new.contents) }
     ensures read { IfErr result (λ fault. ¬ IsOfInput fault) }
@@ -94,10 +104,6 @@ where
     ensures refused { IfErr result (λ fault. RefusesSweeping (S.held sources.now) task.now fault
         output.old.contents output.new.contents) }
 {
-    let table = match table_in(rt, sources, task.file) {
-        Ok(table) => table,
-        Err(fault) => return Err(Fault::Task(fault)),
-    };
     let stream = match sources.open(rt, lines) {
         Ok(stream) => stream,
         Err(fault) => return Err(Fault::Task(TaskFault::Source(fault))),
@@ -107,7 +113,7 @@ where
         rt,
         rt.alloc(),
         task.question,
-        &table,
+        table,
         task.workers,
         &mut reader,
         output,
