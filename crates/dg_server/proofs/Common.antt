@@ -23,9 +23,8 @@ pub use Rattle.dg_table.specs.Closing.{IsCloseRefused, IsClosed}
 pub use Rattle.dg_table.specs.Opened.{AreFresh, MayHaveSeats}
 pub use Rattle.dg_table.specs.Seats.{SeatView}
 pub use Rattle.dg_tasks.specs.Tasks.{DescribesTable}
-pub use Rattle.std.proofs.Common.{Bor, Global, List, None, Option, Some, Vec, [], ap, arith, inl, inr, length, map, refl, rules, subst, suc, sym, take, ℕ, ◌++◌, ◌+◌, ◌<◌, ◌∙◌, ◌∷◌, ◌≡◌, ◌≤◌}
+pub use Rattle.std.proofs.Common.{Bor, Err, Global, List, None, Ok, Option, Result, Some, Vec, [], ap, arith, inl, inr, length, map, refl, rules, subst, suc, sym, take, ℕ, ◌++◌, ◌+◌, ◌<◌, ◌∙◌, ◌∷◌, ◌≡◌, ◌≤◌}
 pub use Rattle.std.proofs.Math.Seq.{take-append_seam}
 pub use Rattle.std.proofs.lemmas.List.{length-map, length-take-le, take_more}
+pub use Rattle.std.proofs.lemmas.Result.{IfErr-weaker, on_ok_weaker}
 pub use Rattle.std.specs.Io.KnownBytes.{Keeps}
-pub use Rattle.std.specs.declared.result.Result.{Result}
-pub use Rattle.std.specs.declared.result.Result.TheVariants.{Err, Ok}

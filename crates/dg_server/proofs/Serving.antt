@@ -6,7 +6,7 @@
 --   unclosed       a session whose table is not closed, though all its seats were handed in
 --   party_on       a party over files that are held is that of the table that one of them describes
 --   refused_on     so is one that is refused
---   refused_lent   so is it where the start, the names and the scripts were lent
+--   refused_lent   so is it where the start and the names were lent
 --   as_it_was      what nobody writes to is as it was
 use Rattle.dg_server.proofs.Common.{◌≡◌, ℕ, suc, ◌≤◌, List, [], ◌∷◌, ◌++◌, length, take, map, Option, None, Some, refl, sym, ap, subst, ◌∙◌, Bor, Vec, Global, length-map, take-append_seam, MAX_SEATS, MayHaveSeats, SeatView, Held, StartData, Entry, IsClosed, IsCloseRefused, all_there, none_missing, entered_all, full_at_close, Setup, Passage, IsHeard, IsServed, IsUnclosed, SessionEnd, contents, IsParty, IsPartyRefused, contents_count, PartyRefusal, PartyTask, DescribesTable, MayHoldAll, Keeps, names_in, IsPartyOn, IsRefusedOn, table_data_of, Result}
 
@@ -101,16 +101,14 @@ refused_on held task o names all refusal table known refused =
     }
 
 pub refused_lent : (held : List ℕ → Held) (task : PartyTask) {o o' : StartData} {names names' : List (List ℕ)}
-    {all all' : List (Vec ℕ Global)} (refusal : PartyRefusal) → o' ≡ o → names' ≡ names → all' ≡ all
-    → DescribesTable (held task.file.now) o names
+    (all : List (Vec ℕ Global)) (refusal : PartyRefusal) → o' ≡ o → names' ≡ names → DescribesTable (held task.file.now) o names
     → MayHoldAll held (names_in task) (map (λ script. script.items) all)
-    → IsPartyRefused (table_data_of o' (length all') task.capacity) names' (contents all') refusal → IsRefusedOn held task refusal
-refused_lent held task {o} {o'} {names} {names'} {all} {all'} refusal opened named lent table known refused =
+    → IsPartyRefused (table_data_of o' (length all) task.capacity) names' (contents all) refusal → IsRefusedOn held task refusal
+refused_lent held task {o} {o'} {names} {names'} all refusal opened named table known refused =
     refused_on held task o names all refusal table known
     (subst (λ (x : StartData). IsPartyRefused (table_data_of x (length all) task.capacity) names (contents all) refusal) opened
     (subst (λ (x : List (List ℕ)). IsPartyRefused (table_data_of o' (length all) task.capacity) x (contents all) refusal) named
-    (subst (λ (x : List (Vec ℕ Global)). IsPartyRefused (table_data_of o' (length x) task.capacity) names' (contents x) refusal)
-    lent refused)))
+    refused))
 
 pub as_it_was : (held : Option (List ℕ)) → Keeps held held
 as_it_was None = tt

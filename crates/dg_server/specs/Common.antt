@@ -36,6 +36,6 @@ pub use Rattle.dg_table.specs.Closing.{IsCloseRefused, IsClosed}
 pub use Rattle.dg_table.specs.Opened.{AreFresh}
 pub use Rattle.dg_table.specs.Seats.{SeatView}
 pub use Rattle.dg_table.specs.declared.fault.Fault.TheVariants.{Full, Log}
-pub use Rattle.dg_tasks.specs.Tasks.{IsAnswer, IsOnTable, RefusesContents, RefusesItsTable, RefusesTask}
+pub use Rattle.dg_tasks.specs.Tasks.{DescribesTable, IsAnswer, IsOnTable, RefusesContents, RefusesItsTable, RefusesTask}
 pub use Rattle.dg_tasks.specs.declared.fault.TaskFault.{TaskFault}
 pub use Rattle.dg_tasks.specs.declared.fault.TaskFault.TheVariants.{File, Source}

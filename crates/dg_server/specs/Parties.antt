@@ -1,5 +1,7 @@
 -- Parties: a session over each of the scripts that are named, on one table.
 --   names_in task     == the names of the scripts, in their order
+--   AreHeld held task o names scripts == the file that is named describes a table of the start o with
+--                             these names, and the files of the scripts may hold these
 --   early s ends           == the ends, from seat s on, that came early, each with its seat
 --   IsPartyOn held task ends text == on the table of the file that is named, sessions over the
 --                             scripts came to these ends, and the text is that of the table's
@@ -23,11 +25,9 @@
 --                             is not read; or the table file is refused, if all are; or memory,
 --                             a thread or the history is refused. The output is as it was, unless
 --                             sessions ended early, or it failed
-use Rattle.std.specs.Prelude.{◌≡◌, ℕ, ◌+◌, ◌<◌, ◌≤◌, List, [], ◌∷◌, length, map, Option, ◌⊎◌}
+use Rattle.std.specs.Prelude.{◌≡◌, ℕ, ◌+◌, ◌<◌, ◌≤◌, List, [], ◌∷◌, length, map, Option, Result, Ok, Err, ◌⊎◌}
 use Rattle.std.specs.Io.KnownBytes.{Appends, Keeps}
-use Rattle.std.specs.declared.result.Result.{Result}
-use Rattle.std.specs.declared.result.Result.TheVariants.{Ok, Err}
-use Rattle.dg_server.specs.Common.{MAX_SEATS, SessionEnd, AppendsFront, table_data_of, IsParty, IsPartyRefused, PartyRefusal, Held, MayHold, RefusesHeld, MayHoldAll, IsFirstUnread, TaskFault, Source, File, IsOnTable, RefusesContents, SourceFault, PartyTask, OutOfMemory}
+use Rattle.dg_server.specs.Common.{MAX_SEATS, SessionEnd, AppendsFront, StartData, table_data_of, IsParty, IsPartyRefused, PartyRefusal, Held, MayHold, RefusesHeld, MayHoldAll, IsFirstUnread, TaskFault, Source, File, DescribesTable, IsOnTable, RefusesContents, SourceFault, PartyTask, OutOfMemory}
 use Rattle.dg_party.specs.declared.ending.PartyRefusal.TheVariants as party
 use Rattle.dg_server.specs.OfTasks.{IsOfTask}
 use Rattle.dg_server.specs.declared.fault.Fault.{Fault}
@@ -35,6 +35,10 @@ use Rattle.dg_server.specs.declared.fault.Fault.TheVariants.{Sessions, Seats, Sh
 
 abbrev pub names_in : PartyTask → List (List ℕ)
 names_in task = map (λ name. name.now) task.scripts.items
+
+abbrev pub AreHeld : (List ℕ → Held) → PartyTask → StartData → List (List ℕ) → List (List ℕ) → Type 0
+AreHeld held task o names scripts =
+    DescribesTable (held task.file.now) o names × MayHoldAll held (names_in task) scripts
 
 abbrev pub early : ℕ → List (Result ℕ SessionEnd) → List (ℕ × SessionEnd)
 early s [] = []

@@ -1,10 +1,10 @@
 //! Parties: scripts that are played side by side, and what is printed of them.
-ghost use Rattle.std.specs.Prelude.{◌≡◌, [], map, true, IfOk, IfErr, OnOk};
-ghost use Rattle.std.specs.Io.KnownBytes.{Appends};
-ghost use Rattle.dg_tasks.specs.Tasks.{DescribesTable};
-ghost use Rattle.dg_system.specs.AllHeld.{MayHoldAll};
+ghost use Rattle.std.specs.Prelude.{◌≡◌, ◌⊎◌, ℕ, List, [], length, map, true, IfOk, IfErr, OnOk};
+ghost use Rattle.std.specs.Io.KnownBytes.{Appends, Keeps};
+ghost use Rattle.dg_system.specs.Held.{Held};
+ghost use Rattle.dg_table.specs.Opened.{MayHaveSeats};
 ghost use Rattle.dg_server.specs.OfTasks.{IsOfTask};
-ghost use Rattle.dg_server.specs.Parties.{early, PlaysParty, names_in, RefusesFilesAsked, IsPrintedWith, RefusesParty};
+ghost use Rattle.dg_server.specs.Parties.{early, AreHeld, PlaysParty, names_in, RefusesFilesAsked, IsPrintedWith, EndsSome, IsWanting, RefusesParty};
 ghost use Rattle.dg_server.specs.Streams.{IsOfInput, IsOfOutput};
 
 use crate::fault::Fault;
@@ -48,23 +48,45 @@ where
         Ok(read) => read,
         Err(fault) => return Err(fault),
     };
+    play_scripts(rt, task, &table, scripts.as_slice(), output)
+}
+
+/// Plays the scripts that were read for the task on its table, and prints the history and the totals.
+fn play_scripts<R, O>(
+    rt: &R,
+    task: &PartyTask<'_>,
+    table: &TableFile,
+    scripts: &[Vec<u8>],
+    output: &mut Output<O>,
+) -> Result<(), Fault>
+where
+    R: AllocGlobal + Threads + Wait + Sync,
+    O: Write,
+    requires { MayHaveSeats (length scripts.now) }
+    ensures done { OnOk result ((held : List ℕ → Held)
+        → AreHeld held task.now table.now.start table.now.names (map (λ script. script.items) scripts.now)
+        → PlaysParty held task.now output.old.contents output.new.contents) }
+    ensures refused { IfErr result (λ fault. (held : List ℕ → Held)
+        → AreHeld held task.now table.now.start table.now.names (map (λ script. script.items) scripts.now)
+        → (IsWanting held task.now fault × Keeps output.old.contents output.new.contents)
+        ⊎ EndsSome held task.now fault output.old.contents output.new.contents) }
+    ensures read { IfErr result (λ fault. ¬ IsOfInput fault) }
+    ensures write { IfErr result (λ fault. IsOfOutput fault → output.new.has_failed ≡ true) }
+{
     let played = match party(
         rt,
         rt.alloc(),
         task.capacity,
         table.start(),
         table.names(),
-        scripts.as_slice(),
+        scripts,
         &OpenGate,
     ) {
         Ok(played) => played,
         Err(PartyRefusal::Shortage(shortage)) => return Err(Fault::Shortage(shortage)),
         Err(PartyRefusal::Log) => return Err(Fault::History),
     };
-    match print_played(rt.alloc(), &played, output) {
-        Ok(()) => Ok(()),
-        Err(fault) => Err(fault),
-    }
+    print_played(rt.alloc(), &played, output)
 }
 
 /// The table of the file that is named, and the bytes of the scripts. All files are read before the table's is judged.
@@ -77,8 +99,7 @@ where
     R: Files + AllocGlobal,
     S: Sources,
     ensures read { IfOk result
-        (λ r. DescribesTable (S.held sources.now task.now.file.now) r.0.start r.0.names ×
-        MayHoldAll (S.held sources.now) (names_in task.now)
+        (λ r. AreHeld (S.held sources.now) task.now r.0.start r.0.names
         (map (λ script. script.items) r.1.items)) }
     ensures refused { IfErr result
         (IsOfTask (RefusesFilesAsked (S.held sources.now) task.now.file.now (names_in task.now))) }

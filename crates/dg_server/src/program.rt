@@ -47,17 +47,8 @@ where
             Ok(text) => Ok(output.write_whole(text.as_slice())?),
             Err(fault) => Err(Fault::Task(fault)),
         },
-        Invocation::Serve(task) => match serve_input(rt, &task, sources, input, output) {
-            Ok(()) => Ok(()),
-            Err(fault) => Err(fault),
-        },
-        Invocation::Sweep(task) => match sweep_file(rt, &task, sources, output) {
-            Ok(()) => Ok(()),
-            Err(fault) => Err(fault),
-        },
-        Invocation::Party(task) => match play_party(rt, &task, sources, output) {
-            Ok(()) => Ok(()),
-            Err(fault) => Err(fault),
-        },
+        Invocation::Serve(task) => serve_input(rt, &task, sources, input, output),
+        Invocation::Sweep(task) => sweep_file(rt, &task, sources, output),
+        Invocation::Party(task) => play_party(rt, &task, sources, output),
     }
 }
