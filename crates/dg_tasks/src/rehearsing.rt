@@ -1,8 +1,8 @@
 //! Schedules that are read, played and printed line by line: neither the steps nor the history are kept.
-ghost use Rattle.std.specs.Prelude.{IfOk, IfErr};
+ghost use Rattle.std.specs.Prelude.{ℕ, List, ◌≢◌, IfOk, IfErr};
 ghost use Rattle.dg_lines.specs.Cuts.{lines};
 ghost use Rattle.dg_tasks.specs.Rehearsals.{IsPrinted, MayGoOn, played, GoesOn};
-ghost use Rattle.dg_tasks.specs.Refusals.{RefusesSchedule};
+ghost use Rattle.dg_tasks.specs.Refusals.{IsFaultOf, RefusesSchedule};
 
 use crate::fault::TaskFault;
 use dg_file::TableFile;
@@ -45,15 +45,23 @@ pub fn rehearsal(alloc: Global, table: &TableFile, steps: &[u8]) -> Result<Vec<u
             }
         }
     }
-    let Some(fault) = stopped else {
-        return Ok(text);
-    };
+    match stopped {
+        Some(fault) => Err(task_fault(fault)),
+        None => Ok(text),
+    }
+}
+
+/// Why a schedule is not played whose step is refused so. The condition is that the step has a seat.
+fn task_fault(fault: RehearseFault) -> TaskFault
+    requires { (i : ℕ) → fault ≢ RehearseFault.Seat i }
+    ensures { (n : ℕ) (names all : List (List ℕ)) → IsFaultOf n names all fault → RefusesSchedule n names all result }
+{
     match fault {
         RehearseFault::Seat(_) => unreachable!(),
-        RehearseFault::Full(i) => Err(TaskFault::Full(i)),
-        RehearseFault::NoLook(i) => Err(TaskFault::NoLook(i)),
-        RehearseFault::TooMany(i) => Err(TaskFault::StepTrials(i)),
-        RehearseFault::OutOfMemory => Err(TaskFault::Shortage(Shortage::OutOfMemory)),
+        RehearseFault::Full(i) => TaskFault::Full(i),
+        RehearseFault::NoLook(i) => TaskFault::NoLook(i),
+        RehearseFault::TooMany(i) => TaskFault::StepTrials(i),
+        RehearseFault::OutOfMemory => TaskFault::Shortage(Shortage::OutOfMemory),
     }
 }
 

@@ -54,10 +54,7 @@ where
         Ok(table) => table,
         Err(fault) => return Err(fault),
     };
-    match answer_on(rt, &table, task, sources) {
-        Ok(text) => Ok(text),
-        Err(fault) => Err(fault),
-    }
+    answer_on(rt, &table, task, sources)
 }
 
 /// The answer to a task on its table.

@@ -50,40 +50,23 @@ lines-preserved c =
     c.names-names.ensures.value c.in-Some.ensures.steps c.in-Ok.ensures.step
     (ap not c.if-is_none.ensures) c.lines.invariant
 
-pub returns-in_default-clause-printed : goal.returns-in_default-clause-printed
-returns-in_default-clause-printed c =
+pub returns-in-None-stopped-clause-printed : goal.returns-in-None-stopped-clause-printed
+returns-in-None-stopped-clause-printed c =
     all_played c.args.table.now.start c.args.table.now.names (lines c.args.steps.now)
     (lines c.lines.bytes-iterator.rest.now) c.lines.line c.lines.rehearsal
-    c.lines.text.items c.lines.stopped c.in-None.ensures.steps.0 c.in_default.is c.lines.invariant
+    c.lines.text.items c.lines.stopped c.in-None.ensures.steps.0 c.in-None-stopped.is c.lines.invariant
 
-pub unreachable-requires : goal.unreachable-requires
-unreachable-requires c =
-    never_unseated c.args.table.now.start.graph.size c.args.table.now.names (lines c.args.steps.now) c.in-Seat.field-0
-    (rw c.in-Seat.is at (first_fault c.args.table.now.start c.args.table.now.names (lines c.args.steps.now)
+pub task_fault-requires : goal.task_fault-requires
+task_fault-requires c i is =
+    never_unseated c.args.table.now.start.graph.size c.args.table.now.names (lines c.args.steps.now) i
+    (rw is at (first_fault c.args.table.now.start c.args.table.now.names (lines c.args.steps.now)
     (lines c.lines.bytes-iterator.rest.now)
     c.lines.line c.lines.rehearsal c.lines.text.items c.lines.stopped c.in-Some-stopped.fault c.in-None.ensures.steps.0
-    c.in-Some-stopped.is
-    c.lines.invariant))
+    c.in-Some-stopped.is c.lines.invariant))
 
-pub returns-in-Full-clause-refused : goal.returns-in-Full-clause-refused
-returns-in-Full-clause-refused c =
-    rw c.in-Full.is at (first_fault c.args.table.now.start c.args.table.now.names (lines c.args.steps.now)
-    (lines c.lines.bytes-iterator.rest.now)
-    c.lines.line c.lines.rehearsal c.lines.text.items c.lines.stopped c.in-Some-stopped.fault c.in-None.ensures.steps.0
-    c.in-Some-stopped.is c.lines.invariant)
-
-pub returns-in-NoLook-clause-refused : goal.returns-in-NoLook-clause-refused
-returns-in-NoLook-clause-refused c =
-    rw c.in-NoLook.is at
-    (first_fault c.args.table.now.start c.args.table.now.names (lines c.args.steps.now)
-    (lines c.lines.bytes-iterator.rest.now)
-    c.lines.line c.lines.rehearsal c.lines.text.items c.lines.stopped c.in-Some-stopped.fault c.in-None.ensures.steps.0
-    c.in-Some-stopped.is c.lines.invariant)
-
-pub returns-in-TooMany-clause-refused : goal.returns-in-TooMany-clause-refused
-returns-in-TooMany-clause-refused c =
-    rw c.in-TooMany.is at
-    (first_fault c.args.table.now.start c.args.table.now.names (lines c.args.steps.now)
+pub returns-in-Some-stopped-clause-refused : goal.returns-in-Some-stopped-clause-refused
+returns-in-Some-stopped-clause-refused c =
+    c.task_fault.ensures _ _ _ (first_fault c.args.table.now.start c.args.table.now.names (lines c.args.steps.now)
     (lines c.lines.bytes-iterator.rest.now)
     c.lines.line c.lines.rehearsal c.lines.text.items c.lines.stopped c.in-Some-stopped.fault c.in-None.ensures.steps.0
     c.in-Some-stopped.is c.lines.invariant)
