@@ -1,5 +1,6 @@
 -- Why sessions are not told, with one seat more.
 --   none_begun     where the seats are as they were, none has begun
+--   one_more       the session of a first seat before those of the others is one of all
 --   more_begun     the session of a first seat, and what became of those after it
 --   all_begun      the session of a first seat, and those of all others
 --   alone_all      the one session of one seat is that of all
@@ -17,14 +18,22 @@ unfolding HaveBegun
 none_begun table names scripts left script xs rest ys x y lack d e f h told =
     rw told (0, rw d (omega arith), ap (λ z. z ∷ ys) f ∙ ap (λ zs. x ∷ zs) h ∙ sym e)
 
+pub one_more : (table : TableData) (names : List (List ℕ)) (scripts left : List (Vec ℕ)) (script : Vec ℕ)
+    (xs rest ys : List SeatView) (x y : SeatView) (end : Result ℕ SessionEnd) (ends all : List (Result ℕ SessionEnd))
+    → scripts ≡ script ∷ left → xs ≡ x ∷ rest → all ≡ end ∷ ends → IsSessionOver table names script.items x y end
+    → AreSessions table names (contents left) rest ys ends → AreSessions table names (contents scripts) xs (y ∷ ys) all
+unfolding AreSessions
+one_more table names scripts left script xs rest ys x y end ends all e f told session are =
+    rw (e, f, told) (session, are)
+
 pub more_begun : (table : TableData) (names : List (List ℕ)) (scripts left : List (Vec ℕ)) (script : Vec ℕ)
     (xs rest ys : List SeatView) (x y : SeatView) (end : Result ℕ SessionEnd) (lack : Shortage)
     → scripts ≡ script ∷ left → xs ≡ x ∷ rest → IsSessionOver table names script.items x y end
     → RefusesSessions table names (contents left) rest ys lack
     → RefusesSessions table names (contents scripts) xs (y ∷ ys) lack
-unfolding AreSessions HaveBegun
+unfolding HaveBegun
 more_begun table names scripts left script xs rest ys x y end OutOfMemory e f session (ends, are) =
-    (end ∷ ends, rw (e, f) (session, are))
+    (end ∷ ends, one_more table names scripts left script xs rest ys x y end ends (end ∷ ends) e f refl session are)
 more_begun table names scripts left script xs rest ys x y end Spawn e f session (k, some, begun) =
     (suc k, rw e (omega (arith, some)), rw (e, f) ((end, session), begun))
 

@@ -49,10 +49,7 @@ pub fn party<R: Threads + Wait + Sync, G: Gate>(
         Err(LogFault::Capacity) => unreachable!(),
         Err(LogFault::OutOfMemory) => return Err(PartyRefusal::Shortage(Shortage::OutOfMemory)),
     };
-    match party_of::<Brand, R, G>(rt, alloc, row, start, names, scripts, gate) {
-        Ok(played) => Ok(played),
-        Err(refusal) => Err(refusal),
-    }
+    party_of::<Brand, R, G>(rt, alloc, row, start, names, scripts, gate)
 }
 
 // The same at a table with a name. The conditions are that N names the row, the start and the number of scripts.

@@ -65,14 +65,10 @@ pub fn sessions<N: Name + Send + Sync, R: Threads + Wait + Sync, G: Gate>(
         names,
         gate,
     };
-    let played = if scripts.len() == 1 {
+    if scripts.len() == 1 {
         play_alone(&context, scripts, seats)
     } else {
         play(&context, scripts, seats)
-    };
-    match played {
-        Ok(ends) => Ok(ends),
-        Err(shortage) => Err(shortage),
     }
 }
 
@@ -100,10 +96,7 @@ fn play_alone<'a, N: Name, R: Threads + Wait, G: Gate>(
         unreachable!()
     };
     let end = hold(context, script.as_slice(), seat);
-    match with_first(end, Vec::new(context.alloc)) {
-        Ok(ends) => Ok(ends),
-        Err(shortage) => Err(shortage),
-    }
+    with_first(end, Vec::new(context.alloc))
 }
 
 // The same in a room. The first seat has a thread of its own, and the others are played beside it.
@@ -145,10 +138,7 @@ fn play<'a, N: Name + Send + Sync, R: Threads + Wait + Sync, G: Gate>(
             (contents left.entry.now) rest.entry.now rest.exit.now) }
     { play(context, left, rest) };
     match in_parallel(context.rt, &mut first, &mut others) {
-        Ok((end, Ok(ends))) => match with_first(end, ends) {
-            Ok(all) => Ok(all),
-            Err(shortage) => Err(shortage),
-        },
+        Ok((end, Ok(ends))) => with_first(end, ends),
         Ok((_, Err(shortage))) => Err(shortage),
         Err(shortage) => Err(shortage),
     }
@@ -167,7 +157,7 @@ fn hold<'a, N: Name, R: Threads + Wait, G: Gate>(
     context.gate.enter(u32::from(seat.number()));
     ask_ahead(context.alloc, script.len());
     let mut input = Input::new(script);
-    match serve_unheard(
+    serve_unheard(
         context.rt,
         context.alloc,
         context.table,
@@ -175,10 +165,7 @@ fn hold<'a, N: Name, R: Threads + Wait, G: Gate>(
         context.names,
         &mut input,
         1,
-    ) {
-        Ok(count) => Ok(count),
-        Err(end) => Err(end),
-    }
+    )
 }
 
 // The bytes of a piece of memory. The C library maps one of 128 KB or more by itself, and unmaps it if it is given back.
