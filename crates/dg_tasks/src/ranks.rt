@@ -14,7 +14,7 @@ use dg_rank::{OpenGate, RankFault, RankVerdict, both_ranks_in_limits, rank_at_le
 use dg_system::Shortage;
 use dg_tokens::Names;
 use itoa::Buffer;
-use std::alloc::{AllocError, Allocator, Global};
+use std::alloc::{AllocError, Global};
 use std::sync::Wait;
 use std::thread::Threads;
 
@@ -119,11 +119,7 @@ fn riemann_roch_lines(
 }
 
 /// A label, a number and a newline.
-fn push_answer_line<A: Allocator>(
-    text: &mut Vec<u8, A>,
-    label: &str,
-    number: i64,
-) -> Result<(), AllocError>
+fn push_answer_line(text: &mut Vec<u8>, label: &str, number: i64) -> Result<(), AllocError>
     ensures { OnOk result (text.new.items ≡ text.old.items ++ answer_line label.now number) }
 {
     text.extend_from_slice(label.as_bytes())?;
