@@ -59,21 +59,20 @@ pub fn push_reply<A: Allocator>(
     ensures { OnOk result (text.new.items ≡ text.old.items ++ text_of names.now reply.now) }
 {
     match reply {
-        Reply::Moved(divisor) => push_moved(text, names, divisor)?,
-        Reply::Given(gifts, divisor) => push_counted(text, b"given ", *gifts, names, divisor)?,
-        Reply::Joined(gifts, divisor) => push_counted(text, b"joined ", *gifts, names, divisor)?,
-        Reply::Looked(gifts, divisor, _) => push_counted(text, b"looked ", *gifts, names, divisor)?,
-        Reply::Verdict(verdict) => push_verdict(text, names, verdict)?,
-        Reply::Rank(verdict) => push_rank(text, names, verdict)?,
+        Reply::Moved(divisor) => push_moved(text, names, divisor),
+        Reply::Given(gifts, divisor) => push_counted(text, b"given ", *gifts, names, divisor),
+        Reply::Joined(gifts, divisor) => push_counted(text, b"joined ", *gifts, names, divisor),
+        Reply::Looked(gifts, divisor, _) => push_counted(text, b"looked ", *gifts, names, divisor),
+        Reply::Verdict(verdict) => push_verdict(text, names, verdict),
+        Reply::Rank(verdict) => push_rank(text, names, verdict),
         Reply::Stale(gifts) => {
             text.extend_from_slice(b"stale ")?;
-            push_number(text, *gifts)?;
+            push_number(text, *gifts)
         }
-        Reply::Won => text.extend_from_slice(b"won")?,
-        Reply::NotWon => text.extend_from_slice(b"not won")?,
-        Reply::Refused(refusal) => push_refusal(text, *refusal)?,
+        Reply::Won => text.extend_from_slice(b"won"),
+        Reply::NotWon => text.extend_from_slice(b"not won"),
+        Reply::Refused(refusal) => push_refusal(text, *refusal),
     }
-    Ok(())
 }
 
 /// The amounts of a divisor as `name=amount`, in vertex order, with one space between two, after the text.
@@ -85,25 +84,21 @@ pub fn push_amounts<A: Allocator>(
     requires { length names.now ≡ divisor.now.size }
     ensures { OnOk result (text.new.items ≡ text.old.items ++ pairs names.now (at divisor.now)) }
 {
-    match push_pairs(text, names, divisor) {
-        Ok(()) => Ok(()),
-        Err(error) => Err(error),
-    }
+    push_pairs(text, names, divisor)
 }
 
 /// That a move was played, and the pairs.
 fn push_moved<A: Allocator>(
     text: &mut Vec<u8, A>,
     names: &Names,
-    divisor: &Divisor,
+    amounts: &Divisor,
 ) -> Result<(), AllocError>
-    requires { length names.now ≡ divisor.now.size }
+    requires { length names.now ≡ amounts.now.size }
     ensures { OnOk result (text.new.items ≡
-        text.old.items ++ (codes "moved " ++ pairs names.now (at divisor.now))) }
+        text.old.items ++ (codes "moved " ++ pairs names.now (at amounts.now))) }
 {
     text.extend_from_slice(b"moved ")?;
-    push_pairs(text, names, divisor)?;
-    Ok(())
+    push_pairs(text, names, amounts)
 }
 
 /// A word, the number of gifts, a space and the pairs.
@@ -112,17 +107,16 @@ fn push_counted<A: Allocator>(
     word: &[u8],
     gifts: u32,
     names: &Names,
-    divisor: &Divisor,
+    amounts: &Divisor,
 ) -> Result<(), AllocError>
-    requires { length names.now ≡ divisor.now.size }
+    requires { length names.now ≡ amounts.now.size }
     ensures { OnOk result (text.new.items ≡ text.old.items ++
-        (word.now ++ decimal gifts ++ codes " " ++ pairs names.now (at divisor.now))) }
+        (word.now ++ decimal gifts ++ codes " " ++ pairs names.now (at amounts.now))) }
 {
     text.extend_from_slice(word)?;
     push_number(text, gifts)?;
     text.push(b' ')?;
-    push_pairs(text, names, divisor)?;
-    Ok(())
+    push_pairs(text, names, amounts)
 }
 
 /// The text of a verdict, after the text: its word, the pairs of its script and those of its reduced divisor.
@@ -138,8 +132,7 @@ pub(crate) fn push_verdict<A: Allocator>(
     push_word(text, verdict.winnable)?;
     push_pairs(text, names, &verdict.script)?;
     text.extend_from_slice(b" to ")?;
-    push_pairs(text, names, &verdict.reduced)?;
-    Ok(())
+    push_pairs(text, names, &verdict.reduced)
 }
 
 /// That the rank is at least a degree, or below it, and then the pairs of the first loss.
@@ -154,16 +147,15 @@ fn push_rank<A: Allocator>(
     match verdict {
         RankVerdict::AtLeast(k) => {
             text.extend_from_slice(b"rank at least ")?;
-            text.extend_from_slice(Buffer::new().format(*k).as_bytes())?;
+            text.extend_from_slice(Buffer::new().format(*k).as_bytes())
         }
         RankVerdict::Below(k, loss) => {
             text.extend_from_slice(b"rank below ")?;
             text.extend_from_slice(Buffer::new().format(*k).as_bytes())?;
             text.extend_from_slice(b" at ")?;
-            push_pairs(text, names, loss)?;
+            push_pairs(text, names, loss)
         }
     }
-    Ok(())
 }
 
 /// The digits of a number. A single digit is written at once.
@@ -174,34 +166,31 @@ fn push_number<A: Allocator>(text: &mut Vec<u8, A>, number: u32) -> Result<(), A
         text.push(b'0' + number as u8)?;
         return Ok(());
     }
-    text.extend_from_slice(Buffer::new().format(number).as_bytes())?;
-    Ok(())
+    text.extend_from_slice(Buffer::new().format(number).as_bytes())
 }
 
 fn push_word<A: Allocator>(text: &mut Vec<u8, A>, winnable: bool) -> Result<(), AllocError>
     ensures { OnOk result (text.new.items ≡ text.old.items ++ verdict_word winnable) }
 {
     if winnable {
-        text.extend_from_slice(b"winnable by ")?;
+        text.extend_from_slice(b"winnable by ")
     } else {
-        text.extend_from_slice(b"unwinnable by ")?;
+        text.extend_from_slice(b"unwinnable by ")
     }
-    Ok(())
 }
 
 fn push_refusal<A: Allocator>(text: &mut Vec<u8, A>, refusal: Refusal) -> Result<(), AllocError>
     ensures { OnOk result (text.new.items ≡ text.old.items ++ refusal_text refusal) }
 {
     match refusal {
-        Refusal::NoVertex => text.extend_from_slice(b"refused vertex")?,
-        Refusal::Empty => text.extend_from_slice(b"refused empty")?,
-        Refusal::Script => text.extend_from_slice(b"refused script")?,
-        Refusal::Gift => text.extend_from_slice(b"refused gift")?,
-        Refusal::Range => text.extend_from_slice(b"refused range")?,
-        Refusal::Loop => text.extend_from_slice(b"refused loop")?,
-        Refusal::Valence => text.extend_from_slice(b"refused valence")?,
+        Refusal::NoVertex => text.extend_from_slice(b"refused vertex"),
+        Refusal::Empty => text.extend_from_slice(b"refused empty"),
+        Refusal::Script => text.extend_from_slice(b"refused script"),
+        Refusal::Gift => text.extend_from_slice(b"refused gift"),
+        Refusal::Range => text.extend_from_slice(b"refused range"),
+        Refusal::Loop => text.extend_from_slice(b"refused loop"),
+        Refusal::Valence => text.extend_from_slice(b"refused valence"),
     }
-    Ok(())
 }
 
 /// The most bytes of all pairs, and of the space before the first.
