@@ -4,6 +4,7 @@
 --   shape_fault_for fault    == the same as a fault of the file
 --   RefusesShape value fault == that is the fault of the value's shape
 --   RefusesValue value fault == that is the fault of the value's shape, or of the content that it says
+--   RefusesContent content fault == that is the first fault of the content
 --   RefusesNames names fault == the number of names is at fault, or else that is the first name at
 --                               fault
 use Rattle.std.specs.Prelude.{ℕ, List, length, ⊤}
@@ -41,6 +42,10 @@ RefusesNames names (file.Name v) = IsNameFault names v
 RefusesNames names (file.Twice v) = IsTwiceFault names v
 RefusesNames names file.OutOfMemory = ⊤
 RefusesNames names fault = ⊥
+
+abbrev pub RefusesContent : Content → FileFault → Type 0
+RefusesContent content file.OutOfMemory = ⊤
+RefusesContent content fault = RefusesTable content fault
 
 abbrev pub RefusesValue : Data → FileFault → Type 0
 RefusesValue value file.Json = ⊥

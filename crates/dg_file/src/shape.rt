@@ -81,16 +81,6 @@ pub enum ShapeFault {
     OutOfMemory,
 }
 
-impl From<Shape> for ShapeFault {
-    ghost use Rattle.dg_file.specs.declared.shape.ShapeFault.{ShapeFault};
-
-    ghost from_gives = { λ shape fault. fault ≡ ShapeFault.Shape shape };
-
-    fn from(shape: Shape) -> ShapeFault {
-        ShapeFault::Shape(shape)
-    }
-}
-
 impl From<AllocError> for ShapeFault {
     ghost use Rattle.dg_file.specs.declared.shape.ShapeFault.{ShapeFault};
 
@@ -119,12 +109,25 @@ pub fn content_of<'v>(alloc: Global, value: &'v Value) -> Result<Content<'v>, Sh
     ensures says { IfOk result (IsContent (view value.now)) }
     ensures refused { IfErr result (RefusesShape (view value.now)) }
 {
-    let members = members_of(value).ok_or(Shape::Top)?;
-    let vertices = vertices_of(alloc, members.vertices)?.ok_or(Shape::Vertices)?;
-    let items = members.edges.as_array().ok_or(Shape::Edges)?;
-    let edges = edges_of(alloc, items)?.map_err(Shape::Edge)?;
-    let amounts = amounts_of(alloc, members.amounts)?.ok_or(Shape::Amounts)?;
-    let q = members.q.as_str().ok_or(Shape::Q)?;
+    let Some(members) = members_of(value) else {
+        return Err(ShapeFault::Shape(Shape::Top));
+    };
+    let Some(vertices) = vertices_of(alloc, members.vertices)? else {
+        return Err(ShapeFault::Shape(Shape::Vertices));
+    };
+    let Some(items) = members.edges.as_array() else {
+        return Err(ShapeFault::Shape(Shape::Edges));
+    };
+    let edges = match edges_of(alloc, items)? {
+        Ok(edges) => edges,
+        Err(i) => return Err(ShapeFault::Shape(Shape::Edge(i))),
+    };
+    let Some(amounts) = amounts_of(alloc, members.amounts)? else {
+        return Err(ShapeFault::Shape(Shape::Amounts));
+    };
+    let Some(q) = members.q.as_str() else {
+        return Err(ShapeFault::Shape(Shape::Q));
+    };
     Ok(Content {
         vertices,
         edges,

@@ -1,9 +1,10 @@
 //! Table files: the start of a game, and the names of its vertices.
-ghost use Rattle.std.specs.Prelude.{◌≡◌, length, map, IfOk, IfErr};
+ghost use Rattle.std.specs.Prelude.{◌≡◌, [], length, map, IfOk, IfErr, OnOk};
+ghost use Rattle.dg_graph.specs.Faults.{IsSize};
 ghost use Rattle.dg_tokens.specs.Names.{AreNames};
 ghost use Rattle.dg_file.specs.TableFiles.{IsTable, IsTableFile, vertex_of, items_of};
 ghost use Rattle.dg_file.specs.FileFaults.{RefusesTable, RefusesFile};
-ghost use Rattle.dg_file.specs.Reading.{RefusesNames, RefusesValue};
+ghost use Rattle.dg_file.specs.Reading.{RefusesNames, RefusesContent, RefusesValue};
 ghost use Rattle.dg_file.specs.Content.{Content, IsContent};
 ghost use Rattle.serde_json.specs.View.{view};
 
@@ -60,9 +61,17 @@ fn table_of(alloc: Global, value: &Value) -> Result<TableFile, FileFault>
     ensures refused { IfErr result (RefusesValue (view value.now)) }
 {
     let content = content_of(alloc, value)?;
+    table_in(alloc, &content)
+}
+
+/// The table that a content describes.
+fn table_in(alloc: Global, content: &Content<'_>) -> Result<TableFile, FileFault>
+    ensures table { IfOk result (λ table. IsTable content.now table.start table.names) }
+    ensures refused { IfErr result (RefusesContent content.now) }
+{
     let names = names_of(alloc, content.vertices.as_slice())?;
-    let items = items_of(alloc, &content, &names)?;
-    let start = start_of(&content, &names, items.as_slice())?;
+    let items = items_of(alloc, content, &names)?;
+    let start = start_of(content, &names, items.as_slice())?;
     Ok(TableFile { start, names })
 }
 
@@ -76,6 +85,18 @@ fn names_of(alloc: Global, vertices: &[&str]) -> Result<Names, FileFault>
         return Err(FileFault::Graph(GraphFault::Size));
     }
     let mut names = Names::new(alloc);
+    add_names(alloc, vertices, &mut names)?;
+    Ok(names)
+}
+
+/// Puts the texts, of which there are enough and not too many, into no names.
+fn add_names(alloc: Global, vertices: &[&str], names: &mut Names) -> Result<(), FileFault>
+    requires size { IsSize (length vertices.now) }
+    requires empty { names.old ≡ [] }
+    ensures names { OnOk result (names.new ≡ map (λ vertex. vertex.now) vertices.now) }
+    ensures are_names { OnOk result (AreNames names.new) }
+    ensures refused { IfErr result (RefusesNames (map (λ vertex. vertex.now) vertices.now)) }
+{
     for (v, vertex) in vertices.iter().enumerate() {
         if !is_name(vertex.as_bytes()) {
             return Err(FileFault::Name(v));
@@ -84,7 +105,7 @@ fn names_of(alloc: Global, vertices: &[&str]) -> Result<Names, FileFault>
             return Err(FileFault::Twice(v));
         }
     }
-    Ok(names)
+    Ok(())
 }
 
 /// The edges as items of a graph.

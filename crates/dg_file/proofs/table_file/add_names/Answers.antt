@@ -1,12 +1,12 @@
 -- The names so far are the first of the texts.
 use Rattle.dg_file.proofs.Common.{◌≡◌, ap, false, not, ◌∙◌, arith, rules, iff_false, IsName, has, AreNames-nil, AreNames-added}
 use Rattle.dg_file.proofs.NamesRead.{text_at, names-added, names-all, names-few, name-fault, twice-fault, stood}
-use Rattle.dg_file.proofs.table_file.names_of.Goals as goal
+use Rattle.dg_file.proofs.table_file.add_names.Goals as goal
 
 pub loop-v-init : goal.loop-v-init
 loop-v-init c = record {
-  so_far = c.new-names.ensures;
-  are = rw c.new-names.ensures AreNames-nil;
+  so_far = c.requires.empty;
+  are = rw c.requires.empty AreNames-nil;
 }
 
 pub add-requires-clause-name : goal.add-requires-clause-name
