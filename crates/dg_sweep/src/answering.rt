@@ -64,7 +64,7 @@ pub(crate) fn answer_of_kind<K: LineKind>(
 {
     answer.clear();
     if line.len() > MAX_LINE {
-        return Ok(answer.extend_from_slice(b"refused file too long\n")?);
+        return answer.extend_from_slice(b"refused file too long\n");
     }
     kind.answer(alloc, line, answer)
 }

@@ -13,66 +13,50 @@ pub(crate) fn push_file_fault_words(text: &mut Vec<u8>, fault: &FileFault) -> Re
     ensures { OnOk result (text.new.items ≡ text.old.items ++ file_fault_words fault.now) }
 {
     match fault {
-        FileFault::Json => text.extend_from_slice(b"not JSON")?,
-        FileFault::Shape(shape) => push_shape_fault_words(text, *shape)?,
-        FileFault::Graph(fault) => push_graph_fault_words(text, *fault)?,
-        FileFault::Name(v) => push_labelled(text, b"name of vertex ", *v)?,
-        FileFault::Twice(v) => {
-            push_labelled(text, b"vertex ", *v)?;
-            text.extend_from_slice(b" named twice")?;
-        }
-        FileFault::Chip(fault) => push_chip_fault_words(text, *fault)?,
-        FileFault::NoQ => text.extend_from_slice(b"no vertex q")?,
-        FileFault::OutOfMemory => text.extend_from_slice(b"out of memory")?,
+        FileFault::Json => text.extend_from_slice(b"not JSON"),
+        FileFault::Shape(shape) => push_shape_fault_words(text, *shape),
+        FileFault::Graph(fault) => push_graph_fault_words(text, *fault),
+        FileFault::Name(v) => push_labelled(text, b"name of vertex ", *v),
+        FileFault::Twice(v) => push_numbered(text, b"vertex ", *v, b" named twice"),
+        FileFault::Chip(fault) => push_chip_fault_words(text, *fault),
+        FileFault::NoQ => text.extend_from_slice(b"no vertex q"),
+        FileFault::OutOfMemory => text.extend_from_slice(b"out of memory"),
     }
-    Ok(())
 }
 
 fn push_shape_fault_words(text: &mut Vec<u8>, shape: Shape) -> Result<(), AllocError>
     ensures { OnOk result (text.new.items ≡ text.old.items ++ shape_fault_words shape) }
 {
     match shape {
-        Shape::Top => text.extend_from_slice(b"shape of top")?,
-        Shape::Vertices => text.extend_from_slice(b"shape of vertices")?,
-        Shape::Edges => text.extend_from_slice(b"shape of edges")?,
-        Shape::Edge(i) => push_labelled(text, b"shape of edge ", i)?,
-        Shape::Amounts => text.extend_from_slice(b"shape of amounts")?,
-        Shape::Q => text.extend_from_slice(b"shape of q")?,
+        Shape::Top => text.extend_from_slice(b"shape of top"),
+        Shape::Vertices => text.extend_from_slice(b"shape of vertices"),
+        Shape::Edges => text.extend_from_slice(b"shape of edges"),
+        Shape::Edge(i) => push_labelled(text, b"shape of edge ", i),
+        Shape::Amounts => text.extend_from_slice(b"shape of amounts"),
+        Shape::Q => text.extend_from_slice(b"shape of q"),
     }
-    Ok(())
 }
 
 fn push_graph_fault_words(text: &mut Vec<u8>, fault: GraphFault) -> Result<(), AllocError>
     ensures { OnOk result (text.new.items ≡ text.old.items ++ graph_fault_words fault) }
 {
     match fault {
-        GraphFault::Size => text.extend_from_slice(b"number of vertices")?,
-        GraphFault::NoVertex(i) => {
-            push_labelled(text, b"edge ", i)?;
-            text.extend_from_slice(b" has no vertex")?;
-        }
-        GraphFault::Loop(i) => {
-            push_labelled(text, b"edge ", i)?;
-            text.extend_from_slice(b" is a loop")?;
-        }
-        GraphFault::Multiplicity(i) => {
-            push_labelled(text, b"edge ", i)?;
-            text.extend_from_slice(b" is empty")?;
-        }
-        GraphFault::Valence(v) => push_labelled(text, b"valence of vertex ", v)?,
-        GraphFault::NotConnected => text.extend_from_slice(b"not connected")?,
+        GraphFault::Size => text.extend_from_slice(b"number of vertices"),
+        GraphFault::NoVertex(i) => push_numbered(text, b"edge ", i, b" has no vertex"),
+        GraphFault::Loop(i) => push_numbered(text, b"edge ", i, b" is a loop"),
+        GraphFault::Multiplicity(i) => push_numbered(text, b"edge ", i, b" is empty"),
+        GraphFault::Valence(v) => push_labelled(text, b"valence of vertex ", v),
+        GraphFault::NotConnected => text.extend_from_slice(b"not connected"),
     }
-    Ok(())
 }
 
 fn push_chip_fault_words(text: &mut Vec<u8>, fault: ChipFault) -> Result<(), AllocError>
     ensures { OnOk result (text.new.items ≡ text.old.items ++ chip_fault_words fault) }
 {
     match fault {
-        ChipFault::Length => text.extend_from_slice(b"number of amounts")?,
-        ChipFault::Range(v) => push_labelled(text, b"amount of vertex ", v)?,
+        ChipFault::Length => text.extend_from_slice(b"number of amounts"),
+        ChipFault::Range(v) => push_labelled(text, b"amount of vertex ", v),
     }
-    Ok(())
 }
 
 /// A label and a number, after the text.
@@ -80,6 +64,18 @@ fn push_labelled(text: &mut Vec<u8>, label: &[u8], number: usize) -> Result<(), 
     ensures { OnOk result (text.new.items ≡ text.old.items ++ (label.now ++ decimal number)) }
 {
     text.extend_from_slice(label)?;
-    text.extend_from_slice(Buffer::new().format(number).as_bytes())?;
-    Ok(())
+    text.extend_from_slice(Buffer::new().format(number).as_bytes())
+}
+
+/// A label, a number and words, after the text.
+fn push_numbered(
+    text: &mut Vec<u8>,
+    label: &[u8],
+    number: usize,
+    words: &[u8],
+) -> Result<(), AllocError>
+    ensures { OnOk result (text.new.items ≡ text.old.items ++ (label.now ++ decimal number ++ words.now)) }
+{
+    push_labelled(text, label, number)?;
+    text.extend_from_slice(words)
 }

@@ -95,8 +95,7 @@ fn push_below(k: u32, answer: &mut Vec<u8>) -> Result<(), AllocError>
 {
     answer.extend_from_slice(b"rank below ")?;
     answer.extend_from_slice(Buffer::new().format(k).as_bytes())?;
-    answer.extend_from_slice(b" at ?\n")?;
-    Ok(())
+    answer.extend_from_slice(b" at ?\n")
 }
 
 /// The degree, the genus and the two ranks of a subject, into an empty buffer; with marks in place of ranks that no test
@@ -148,8 +147,7 @@ fn push_untold_answer(subject: &Subject<'_>, answer: &mut Vec<u8>) -> Result<(),
         ≡ degree_and_genus_words (start_of subject.now) ++ codes " rank ? dual ?\n") }
 {
     push_numbers(subject, answer)?;
-    answer.extend_from_slice(b" rank ? dual ?\n")?;
-    Ok(())
+    answer.extend_from_slice(b" rank ? dual ?\n")
 }
 
 /// The degree and the genus of a subject, into an empty buffer.
@@ -159,8 +157,7 @@ fn push_numbers(subject: &Subject<'_>, answer: &mut Vec<u8>) -> Result<(), Alloc
     ensures { OnOk result (answer.new.items ≡ degree_and_genus_words (start_of subject.now)) }
 {
     push_answer_number(answer, "degree ", subject.divisor.degree())?;
-    push_answer_number(answer, " genus ", i64::from(subject.graph.genus()))?;
-    Ok(())
+    push_answer_number(answer, " genus ", i64::from(subject.graph.genus()))
 }
 
 /// A label and a number, after the text.
@@ -168,6 +165,5 @@ fn push_answer_number(text: &mut Vec<u8>, label: &str, number: i64) -> Result<()
     ensures { OnOk result (text.new.items ≡ text.old.items ++ answer_number label.now number) }
 {
     text.extend_from_slice(label.as_bytes())?;
-    text.extend_from_slice(Buffer::new().format(number).as_bytes())?;
-    Ok(())
+    text.extend_from_slice(Buffer::new().format(number).as_bytes())
 }

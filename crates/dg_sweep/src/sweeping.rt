@@ -39,10 +39,7 @@ pub fn sweep<R: Threads + Wait + Sync, I: Read, O: Write>(
     ensures write { result ≡ Err SweepEnd.Write → writer.new.has_failed ≡ true }
     ensures spawn { result ≡ Err (SweepEnd.Shortage Spawn) → 2 ≤ workers }
 {
-    match sweep_kind(rt, alloc, &Tables { question }, workers, reader, writer) {
-        Ok(()) => Ok(()),
-        Err(end) => Err(end),
-    }
+    sweep_kind(rt, alloc, &Tables { question }, workers, reader, writer)
 }
 
 /// Answers the lines that the reader gives, each of which has amounts for the vertices of a table, as numbers with one space
@@ -64,10 +61,7 @@ pub fn sweep_divisors<R: Threads + Wait + Sync, I: Read, O: Write>(
     ensures spawn { result ≡ Err (SweepEnd.Shortage Spawn) → 2 ≤ workers }
 {
     let kind = Divisors::new(question, table);
-    match sweep_kind(rt, alloc, &kind, workers, reader, writer) {
-        Ok(()) => Ok(()),
-        Err(end) => Err(end),
-    }
+    sweep_kind(rt, alloc, &kind, workers, reader, writer)
 }
 
 /// The same for lines of any kind.
