@@ -1,8 +1,9 @@
 //! Sweeping a stream of tables.
-ghost use Rattle.std.specs.Prelude.{◌≡◌, ◌≤◌, Err, true};
+ghost use Rattle.std.specs.Prelude.{◌≡◌, ◌≤◌, [], length, Err, true};
 ghost use Rattle.dg_sweep.specs.Answers.{AnswersTableWithin};
 ghost use Rattle.dg_sweep.specs.Divisors.{AnswersAmounts};
 ghost use Rattle.dg_sweep.specs.Sweeps.{IsSweep};
+ghost use Rattle.dg_sweep.specs.declared.ends.TheConstants.{READ_SIZE};
 ghost use Rattle.dg_system.specs.declared.shortage.Shortage.TheVariants.{Spawn};
 
 use crate::answering::LineKind;
@@ -89,17 +90,36 @@ fn sweep_kind<R: Threads + Wait + Sync, K: LineKind + Sync, I: Read, O: Write>(
         workers: workers as usize,
     };
     let mut progress = SweepProgress::new(alloc);
+    sweep_reads(&context, &mut buffer, &mut progress, reader, writer)
+}
+
+/// The same with a buffer for what is read, by the progress of a sweep that has read nothing.
+fn sweep_reads<R: Threads + Wait + Sync, K: LineKind + Sync, I: Read, O: Write>(
+    context: &SweepContext<'_, R, K>,
+    buffer: &mut Vec<u8>,
+    progress: &mut SweepProgress,
+    reader: &mut Input<I>,
+    writer: &mut Output<O>,
+) -> Result<(), SweepEnd>
+    requires size { length buffer.old.items ≡ READ_SIZE }
+    requires pending { progress.old.pending.items ≡ [] }
+    ensures swept { IsSweep (K.answers context.now.kind.now) reader.old.remaining reader.new.remaining
+        writer.old.contents writer.new.contents result }
+    ensures read { result ≡ Err SweepEnd.Read → reader.new.has_failed ≡ true }
+    ensures write { result ≡ Err SweepEnd.Write → writer.new.has_failed ≡ true }
+    ensures spawn { result ≡ Err (SweepEnd.Shortage Spawn) → 2 ≤ context.now.workers }
+{
     'reads: for _ in 0..u64::MAX {
-        let Some(size) = reader.read_some(&mut buffer) else {
+        let Some(size) = reader.read_some(buffer) else {
             return Err(SweepEnd::Read);
         };
         if size == 0 {
-            match progress.pass_end(alloc, kind, writer) {
+            match progress.pass_end(context.alloc, context.kind, writer) {
                 Ok(()) => return Ok(()),
                 Err(end) => return Err(end),
             }
         }
-        match progress.pass_bytes(&context, writer, &buffer[..size]) {
+        match progress.pass_bytes(context, writer, &buffer[..size]) {
             Ok(()) => {}
             Err(end) => return Err(end),
         }
