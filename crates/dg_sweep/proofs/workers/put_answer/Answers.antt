@@ -1,4 +1,5 @@
-use Rattle.dg_sweep.proofs.Common.{[], ◌++◌, map, get_or, ap, subst, ◌∙◌, All-contains, AnswersPiece, IsAnswered}
+use Rattle.dg_sweep.proofs.Common.{[], ◌++◌, refl, map, get_or, ap, subst, ◌∙◌, All-contains, AnswersPiece, IsAnswered}
+use Rattle.dg_sweep.proofs.Pieces.{piece_at}
 use Rattle.dg_sweep.proofs.workers.put_answer.Goals as goal
 
 pub returns-in-Some : goal.returns-in-Some
@@ -10,4 +11,12 @@ returns-in-Some g c =
       subst (λ place. AnswersPiece right (get_or pieces place []) answered.text.items) here
           (All-contains (IsAnswered right pieces) c.args.done.now answered c.requires.done done),
       c.in_ok-extend_from_slice.ensures.items ∙ ap (λ l. c.args.text.now.items ++ l) text,
+    )
+
+pub returns : goal.returns
+returns g c =
+    let (said, front, same) = c.in_ok-answer_lines.ensures in (
+      said,
+      piece_at _ c.args.pieces.now c.args.place c.args.place _ said c.requires.place refl (_, front),
+      same,
     )
