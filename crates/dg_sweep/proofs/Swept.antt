@@ -6,9 +6,9 @@
 --   is_sweep         a sweep is over, by the lines that came last
 --   unwritten, over_last   so it is where nothing is written of them, and by the last line
 --   sweep_reads      the sweep ends where a read fails
---   sweep_ends       it ends where its input does
 --   sweep_unsaid     it ends before it reads, for want of memory
---   sweep_halts, sweep_halts_last   it ends early in what was read, or at the last line
+--   sweep_halts      it ends early in what was read
+--   sweep_over       it ends where its input does, or early at the last line
 use Rattle.dg_sweep.proofs.Common.{◌≡◌, ◌≢◌, ℕ, ◌≤◌, inl, List, [], ◌∷◌, ◌++◌, length, take, Option, Result, Ok, Err, sym, subst, arith, append-nil, All-nil, Appends, Consumes, Keeps, IsAtEnd, lines, HasNoNewline, Begins, LinesHaveCome, last_line, begins_none, begins_more, begins_then, one_cutting, come_then, come_last, AppendsFront, appends_none, appends_more, consumes_none, consumes_more, consumes_kept, IsSweep, EndsAfter, WritesAnswers, StandsFor, TakesBytes, AnswersLast, PassesAnswers, READ_SIZE, SweepEnd, Read, Write, Shortage, OutOfMemory}
 use Rattle.dg_sweep.specs.Answers.{AnswersLines}
 use Rattle.dg_sweep.proofs.Taken.{answers_none, answers_more}
@@ -124,12 +124,6 @@ module _ {right : List ℕ → List ℕ → Type 0} {input rest old mid : Option
       (subst (Begins HasNoNewline (far.stream ++ []) far.ls) (append-nil far.part) (begins_more [] far.cut))
       far.stands.no_newline
 
-  pub sweep_ends : {rest' new : Option (List ℕ)} → Consumes rest rest' [] → IsAtEnd rest'
-      → (text : List ℕ) × AnswersLast right pending text × Appends mid new text
-      → IsSweep right input rest' old new (Ok tt)
-  sweep_ends {new = new} read over passed =
-      over_last (Ok tt) passed.0 read over passed.1 (grown new passed.0 passed.2) (over, sym all_lines)
-
   -- what was written, where a front is written of what came last
   front : (new : Option (List ℕ)) (text : List ℕ) → AppendsFront mid new [] text → AppendsFront old new far.text text
   front new text passed = (passed.0, passed.1, grown new (take passed.0 text) passed.2)
@@ -145,10 +139,12 @@ module _ {right : List ℕ → List ℕ → Type 0} {input rest old mid : Option
   sweep_halts {new = new} bytes pending' (Shortage lack) read small passed =
       unwritten (Shortage lack) bytes read (grown new [] passed) tt
 
-  pub sweep_halts_last : {rest' new : Option (List ℕ)} (end : SweepEnd) → Consumes rest rest' [] → IsAtEnd rest'
-      → PassesAnswers (AnswersLast right pending) mid new (Err end) → IsSweep right input rest' old new (Err end)
-  sweep_halts_last Read read over passed = absurd passed
-  sweep_halts_last {new = new} Write read over passed =
+  pub sweep_over : {rest' new : Option (List ℕ)} (result : Result (Unit {0}) SweepEnd) → Consumes rest rest' []
+      → IsAtEnd rest' → PassesAnswers (AnswersLast right pending) mid new result → IsSweep right input rest' old new result
+  sweep_over {new = new} (Ok done) read over passed =
+      over_last (Ok tt) passed.0 read over passed.1 (grown new passed.0 passed.2) (over, sym all_lines)
+  sweep_over (Err Read) read over passed = absurd passed
+  sweep_over {new = new} (Err Write) read over passed =
       over_last (Err Write) passed.0 read over passed.1 (front new passed.0 passed.2) tt
-  sweep_halts_last {new = new} (Shortage lack) read over passed =
+  sweep_over {new = new} (Err (Shortage lack)) read over passed =
       unwritten (Shortage lack) [] read (grown new [] passed) tt

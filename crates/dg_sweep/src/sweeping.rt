@@ -114,10 +114,7 @@ fn sweep_reads<R: Threads + Wait + Sync, K: LineKind + Sync, I: Read, O: Write>(
             return Err(SweepEnd::Read);
         };
         if size == 0 {
-            match progress.pass_end(context.alloc, context.kind, writer) {
-                Ok(()) => return Ok(()),
-                Err(end) => return Err(end),
-            }
+            return progress.pass_end(context.alloc, context.kind, writer);
         }
         match progress.pass_bytes(context, writer, &buffer[..size]) {
             Ok(()) => {}

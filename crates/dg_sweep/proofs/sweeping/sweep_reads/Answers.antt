@@ -1,5 +1,5 @@
 use Rattle.dg_sweep.proofs.Common.{◌≡◌, ◌<◌, ◌∙◌, length, take, refl, arith, chunk_size, read_chunk, read_nothing, READ_SIZE}
-use Rattle.dg_sweep.proofs.Swept.{swept_none, swept_more, sweep_reads, sweep_ends, sweep_unsaid, sweep_halts, sweep_halts_last}
+use Rattle.dg_sweep.proofs.Swept.{swept_none, swept_more, sweep_reads, sweep_unsaid, sweep_halts, sweep_over}
 use Rattle.dg_sweep.proofs.sweeping.sweep_reads.Goals as goal
 
 pub reads-init : goal.reads-init
@@ -13,38 +13,31 @@ pub returns-in_default-clause-swept : goal.returns-in_default-clause-swept
 returns-in_default-clause-swept g c =
     sweep_reads c.reads.invariant.0 (c.in_default.ensures.kept refl)
 
-pub returns-in-Ok-clause-swept : goal.returns-in-Ok-clause-swept
-returns-in-Ok-clause-swept g c =
-    let zero = c.if-size-eq0.true in
+pub returns-then-size-eq0-clause-swept : goal.returns-then-size-eq0-clause-swept
+returns-then-size-eq0-clause-swept g c =
     let room : 0 < length c.reads.buffer.items = omega (arith, c.reads.invariant.1) in
-    sweep_ends c.reads.invariant.0 (read_nothing _ _ _ _ zero c.in-Some.ensures.bytes)
-    (c.in-Some.ensures.end zero room) c.in-Ok.ensures.passed
-
-pub returns-in-Err-clause-swept : goal.returns-in-Err-clause-swept
-returns-in-Err-clause-swept g c =
-    let zero = c.if-size-eq0.true in
-    let room : 0 < length c.reads.buffer.items = omega (arith, c.reads.invariant.1) in
-    sweep_halts_last c.reads.invariant.0 c.in-Err.end (read_nothing _ _ _ _ zero c.in-Some.ensures.bytes)
-    (c.in-Some.ensures.end zero room) c.in-Err.ensures.passed
+    sweep_over c.reads.invariant.0 c.pass_end.result
+    (read_nothing _ _ _ _ c.if-size-eq0.true c.in-Some.ensures.bytes)
+    (c.in-Some.ensures.end c.if-size-eq0.true room) c.pass_end.ensures.passed
 
 pub reads-preserved : goal.reads-preserved
 reads-preserved g c = (
   swept_more c.reads.invariant.0 (take c.in-Some.size c.deref.result.now)
       c.pass_bytes.new.self.pending.items
-      (read_chunk _ _ _ _ _ c.deref.ensures.value c.in-Some.ensures.bytes) c.in-Ok-pass_bytes.ensures.passed,
+      (read_chunk _ _ _ _ _ c.deref.ensures.value c.in-Some.ensures.bytes) c.in-Ok.ensures.passed,
   c.in-Some.ensures.size ∙ c.reads.invariant.1,
 )
 
-pub returns-in-Err-pass_bytes-clause-swept : goal.returns-in-Err-pass_bytes-clause-swept
-returns-in-Err-pass_bytes-clause-swept g c =
+pub returns-in-Err-clause-swept : goal.returns-in-Err-clause-swept
+returns-in-Err-clause-swept g c =
     let room : length c.read_some.new.buffer.items ≡ READ_SIZE =
     c.in-Some.ensures.size ∙ c.reads.invariant.1 in
     let size = chunk_size c.in-Some.size c.deref.result.now c.read_some.new.buffer.items c.deref.ensures.value
     c.in-Some.ensures.bound in
     sweep_halts c.reads.invariant.0 (take c.in-Some.size c.deref.result.now)
-    c.pass_bytes.new.self.pending.items c.in-Err-pass_bytes.end
+    c.pass_bytes.new.self.pending.items c.in-Err.end
     (read_chunk _ _ _ _ _ c.deref.ensures.value c.in-Some.ensures.bytes)
-    (omega (arith, size, c.in-Some.ensures.bound, room)) c.in-Err-pass_bytes.ensures.passed
+    (omega (arith, size, c.in-Some.ensures.bound, room)) c.in-Err.ensures.passed
 
 pub returns-clause-swept : goal.returns-clause-swept
 returns-clause-swept g c = sweep_unsaid c.reads.invariant.0
