@@ -61,11 +61,11 @@ fn table_of(alloc: Global, value: &Value) -> Result<TableFile, FileFault>
     ensures refused { IfErr result (RefusesValue (view value.now)) }
 {
     let content = content_of(alloc, value)?;
-    table_in(alloc, &content)
+    table_of_content(alloc, &content)
 }
 
-/// The table that a content describes.
-fn table_in(alloc: Global, content: &Content<'_>) -> Result<TableFile, FileFault>
+/// The table of what a table file says.
+fn table_of_content(alloc: Global, content: &Content<'_>) -> Result<TableFile, FileFault>
     ensures table { IfOk result (λ table. IsTable content.now table.start table.names) }
     ensures refused { IfErr result (RefusesContent content.now) }
 {
@@ -89,7 +89,7 @@ fn names_of(alloc: Global, vertices: &[&str]) -> Result<Names, FileFault>
     Ok(names)
 }
 
-/// Puts the texts, of which there are enough and not too many, into no names.
+/// Puts the texts, whose number is within the limits, into names of which there are none yet.
 fn add_names(alloc: Global, vertices: &[&str], names: &mut Names) -> Result<(), FileFault>
     requires size { IsSize (length vertices.now) }
     requires empty { names.old ≡ [] }
