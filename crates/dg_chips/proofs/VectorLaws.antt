@@ -11,7 +11,7 @@
 --   one_more      numbers of which one is replaced by so much more are so much more at that place
 --   one_written   a vector with another number within the limit at one place is within the limit
 --   within_all    past the size too, the numbers of a vector are within its limit
-use Rattle.dg_chips.proofs.Common.{if◌then◌else◌, ◌≡◌, ◌≢◌, ℕ, ◌+◌, ◌<◌, ◌≤◌, List, length, length-set, slice_set, arith, inl, inr, get_or-set_same, get_or-set_other, below_more, sym, ◌∙◌, lit≤, unsigned_abs, replicate, slice_index_or, ℤ, pos, ◌+ℤ◌, +ℤ_idr, cases_lt, cases_eq, ints, get_or-replicate, get_or_past, length-replicate, only_at, only_at-here, only_at-other, Vector, IsVector, at}
+use Rattle.dg_chips.proofs.Common.{◌≡◌, ◌≢◌, ℕ, ◌+◌, ◌<◌, ◌≤◌, List, length, length-set, slice_set, arith, inl, inr, get_or-set_same, get_or-set_other, below_more, sym, ◌∙◌, unsigned_abs, replicate, slice_index_or, ℤ, pos, ◌+ℤ◌, +ℤ_idr, cases_lt, cases_eq, ints, get_or-replicate, get_or_past, length-replicate, only_at, only_at-here, only_at-other, Vector, IsVector, at}
 
 pub at_same : {X : Type 0} (n v : ℕ) (x : X) → slice_index_or (replicate n x) v x ≡ x
 at_same n v x = elim (cases_lt v n) [

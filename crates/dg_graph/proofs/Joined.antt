@@ -5,7 +5,7 @@
 --   edges_few_back    also in the table with one more edge from the other vertex
 --   joined_is         the table after both steps is that of the graph with one more edge,
 --   joined_graph      which is within the limits
-use Rattle.dg_graph.proofs.Common.{◌≡◌, ℕ, zero, suc, ◌+◌, ◌<◌, ◌≤◌, List, [], ◌∷◌, length, set, ◌≢◌, arith, refl, sym, ap, subst, ◌∙◌, slice_index, slice_index_or, nat_tests, Multigraph, edges_between, valence, one_edge_more, edge_entry_more, at_either, edge_entry_more-row, size_stays, joined_is_multigraph, valence_grows, total_below-term, IsGraph, IsJoinable}
+use Rattle.dg_graph.proofs.Common.{◌≡◌, ℕ, zero, suc, ◌+◌, ◌<◌, ◌≤◌, List, [], ◌∷◌, length, set, arith, refl, sym, ap, subst, ◌∙◌, slice_index, slice_index_or, nat_tests, Multigraph, edges_between, valence, one_edge_more, edge_entry_more, at_either, edge_entry_more-row, size_stays, joined_is_multigraph, valence_grows, total_below-term, IsGraph, IsJoinable}
 use Rattle.dg_theory.specs.Multigraph.{entry}
 use Rattle.dg_theory.specs.Joins.{with_edge}
 

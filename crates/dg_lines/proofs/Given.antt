@@ -10,7 +10,7 @@
 --   one_member       with one name more the set has one vertex more
 --   HasTaken names given left set == `left` are the last of the names given, and the set has those before them
 -- What a loop over the names does: none taken, one more, all, and where the next name refuses them.
-use Rattle.dg_lines.proofs.Common.{◌⊎◌, ◌≡◌, ◌≢◌, ℕ, ◌+◌, ◌*◌, ◌/◌, ◌<◌, ◌==◌, ◌||◌, ◌&&◌, not, cond, Bool, true, false, List, [], ◌∷◌, ◌++◌, length, Some, None, refl, ap, sym, ◌∙◌, subst, arith, Decides, append_assoc, bytes_eq, IsTrue, All, IsEquivalence, both_ways, bit_at, AllByRecursion, position_or_len, eqb-true, nat_tests, append-nil, All-nil, All-cons, All-head, All-tail, All-push, list_any-append, list_any_at, position-Some, IsDistinct-push, apart_from_distinct, bit_at-zero, bit_at-lt, same_from_bits, bytes_eq-Decides, has, name_at, AreGiven, IsSetOf}
+use Rattle.dg_lines.proofs.Common.{◌≡◌, ◌≢◌, ℕ, ◌+◌, ◌*◌, ◌<◌, ◌==◌, ◌||◌, not, cond, Bool, true, false, List, [], ◌∷◌, ◌++◌, length, Some, None, refl, ap, sym, ◌∙◌, subst, arith, Decides, append_assoc, bytes_eq, IsTrue, All, IsEquivalence, both_ways, bit_at, AllByRecursion, position_or_len, eqb-true, nat_tests, append-nil, All-nil, All-cons, All-head, All-tail, All-push, list_any-append, list_any_at, position-Some, IsDistinct-push, apart_from_distinct, bit_at-zero, bit_at-lt, same_from_bits, bytes_eq-Decides, has, name_at, AreGiven, IsSetOf}
 use Rattle.std.specs.List.{IsDistinct}
 use Rattle.dg_graph.specs.Sets.{in_set}
 use Rattle.dg_tokens.specs.Names.{place_of}

@@ -2,7 +2,7 @@
 --   fits_within, within_fits   numbers within the limits of 64 bits fit, and no others
 --   large_entry      the decimal of a number past the limit is not that of an entry of a script
 --   other_degree     that of a number that is no degree is not that of a degree
-use Rattle.dg_lines.proofs.Common.{◌<◌, ◌^◌, ◌-◌, unsigned_abs, ◌≡◌, ℕ, ◌==◌, ℤ, pos, negsuc, neg_ℤ, List, [], ◌∷◌, sym, ◌∙◌, subst, arith, FitsSigned, w64, signed_decimal, signed_decimal_injective, ints, FitsUnsignedBits, ◌≤ℤ◌, MAX_ENTRY, IsNumberWithin}
+use Rattle.dg_lines.proofs.Common.{◌<◌, ◌^◌, ◌-◌, unsigned_abs, ◌≡◌, ℕ, ℤ, pos, negsuc, neg_ℤ, List, sym, ◌∙◌, subst, arith, FitsSigned, w64, signed_decimal, signed_decimal_injective, ints, FitsUnsignedBits, ◌≤ℤ◌, MAX_ENTRY, IsNumberWithin}
 
 pub fits_within : (z : ℤ) → neg_ℤ (pos (2 ^ 63)) ≤ℤ z → z ≤ℤ pos (2 ^ 63 - 1) → FitsSigned w64 z
 fits_within (pos n) low high = record { sfits = omega (arith, ints) }

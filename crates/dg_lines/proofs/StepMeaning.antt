@@ -1,8 +1,8 @@
 -- A line spells no two steps, has no two faults, and never both.
 --   steps_have_one_meaning
-use Rattle.dg_lines.proofs.Common.{◌≡◌, ℕ, ◌≤◌, ◌⊎◌, inl, inr, List, Some, refl, sym, ◌∙◌, subst, Step, LineFault, Seat, Word, Form, Name, Number, IsCommandLine, IsLineFault, AreAlike, StepsHaveOneMeaning, IsSeated, IsStepLine, IsTextFault, IsStepFault}
+use Rattle.dg_lines.proofs.Common.{◌≡◌, ℕ, ◌⊎◌, inl, inr, List, Some, refl, sym, ◌∙◌, subst, Step, LineFault, Seat, Word, Form, Name, Number, IsCommandLine, IsLineFault, AreAlike, StepsHaveOneMeaning, IsSeated, IsStepLine, IsTextFault, IsStepFault}
 use Rattle.dg_lines.proofs.Meaning.{lines_have_one_meaning}
-use Rattle.dg_lines.proofs.Stepping.{IsUnseated, seated, seated_parts}
+use Rattle.dg_lines.proofs.Stepping.{IsUnseated, seated_parts}
 
 module _ (names : List (List ℕ)) (line : List ℕ) where
   -- a line is that of one seat and one text

@@ -2,8 +2,7 @@
 --   seated         such a line is that of the seat and the text
 --   seated_parts   a line of a seat and a text has the seat before its first space and the text after it
 --   no_seat_before, no_space_after   where there is no such seat, or no space, the line is that of no seat
-use Rattle.dg_lines.proofs.Common.{◌≡◌, ℕ, ◌<◌, ◌≤◌, ◌^◌, ◌⊎◌, List, ◌∷◌, ◌++◌, Some, None, ap, sym, ◌∙◌, arith, codes, decimal, append_assoc, digits_value, decimal_is_IsNumeral, IsSeated}
-use Rattle.std.proofs.Common.{◌≤ℤ◌}
+use Rattle.dg_lines.proofs.Common.{◌≡◌, ℕ, ◌<◌, ◌≤◌, ◌^◌, List, ◌∷◌, ◌++◌, Some, None, ap, sym, ◌∙◌, arith, codes, decimal, append_assoc, digits_value, decimal_is_IsNumeral, IsSeated}
 use Rattle.dg_lines.specs.Cuts.{before, after}
 use Rattle.dg_lines.proofs.Joining.{cut_joined, before_joined, after_joined, no_space_in_digits}
 

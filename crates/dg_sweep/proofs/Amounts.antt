@@ -2,7 +2,7 @@
 --   IsReadTo line left xs     the words of the line are the decimals of the numbers xs, and then those that are left
 --   read_none, read_one, read_all   none are read; one more; all are
 --   none_read                 where a word is no decimal, the line spells no numbers
-use Rattle.dg_sweep.proofs.Common.{◌≡◌, ◌≢◌, ℕ, suc, ◌-◌, ◌≤◌, ℤ, pos, negsuc, List, [], ◌∷◌, ◌++◌, map, All, FitsSigned, w64, refl, sym, ap, ◌∙◌, ◌+◌, append-nil, arith, length, signed_decimal, All-nil, All-push, All-head, All-tail, words, SpellsAmounts, SpellsNoAmounts}
+use Rattle.dg_sweep.proofs.Common.{◌≡◌, ◌≢◌, ℕ, ℤ, List, [], ◌∷◌, ◌++◌, map, All, FitsSigned, w64, refl, sym, ap, ◌∙◌, append-nil, arith, length, signed_decimal, All-nil, All-push, All-head, All-tail, words, SpellsAmounts, SpellsNoAmounts}
 
 pub record IsReadTo (line : List ℕ) (left : List (List ℕ)) (xs : List ℤ) : Type 0 where
   pub spelled : words line ≡ map signed_decimal xs ++ left

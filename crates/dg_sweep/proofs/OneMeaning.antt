@@ -1,7 +1,7 @@
 -- A line of amounts has one meaning.
 --   spelled_once      numbers are spelled in one way
 --   amount_lines_have_one_meaning
-use Rattle.dg_sweep.proofs.Common.{◌≡◌, ◌≢◌, ℕ, ◌<◌, ◌≤◌, ◌⊎◌, inl, inr, ℤ, pos, List, [], ◌∷◌, length, map, All, FitsSigned, w64, refl, sym, ap, ◌∙◌, arith, subst, ⊎_elim, ◌^◌, ◌-◌, neg_ℤ, signed_decimal, cases_lt, cases_order, signed_decimal_injective, All-head, All-tail, edges_between, StartData, Vector, at, HoldsNumbers, IsDivisor, IsFirstPast, IsFirstChipFault, ChipFault, Length, Range, IsNumberWithin, fits_within, AreSameOpenings, FileFault, AmountLinesHaveOneMeaning, SpellsAmounts, SpellsNoAmounts, HasAmountsOf, RefusesAmounts}
+use Rattle.dg_sweep.proofs.Common.{◌≡◌, ◌≢◌, ℕ, ◌<◌, inl, inr, ℤ, pos, List, [], ◌∷◌, length, map, All, FitsSigned, w64, refl, sym, ap, ◌∙◌, arith, subst, ◌^◌, ◌-◌, neg_ℤ, signed_decimal, cases_lt, cases_order, signed_decimal_injective, All-head, All-tail, edges_between, StartData, Vector, at, HoldsNumbers, IsDivisor, IsFirstPast, IsFirstChipFault, ChipFault, Length, Range, IsNumberWithin, fits_within, AreSameOpenings, FileFault, AmountLinesHaveOneMeaning, SpellsAmounts, SpellsNoAmounts, HasAmountsOf, RefusesAmounts}
 use Rattle.dg_file.specs.declared.fault.FileFault.TheVariants as fault
 use Rattle.dg_file.specs.declared.fault.Shape.TheVariants as shape
 

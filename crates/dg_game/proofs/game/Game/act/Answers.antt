@@ -1,4 +1,4 @@
-use Rattle.dg_game.proofs.Common.{◌≡◌, ℕ}
+use Rattle.dg_game.proofs.Common.{ℕ}
 use Rattle.dg_game.proofs.LegalLaws.{legal_more, back_asked}
 use Rattle.dg_game.proofs.StateLaws.{leads_more}
 use Rattle.dg_game.proofs.game.Game.act.Goals as goal
