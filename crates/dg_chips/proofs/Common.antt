@@ -24,7 +24,7 @@ pub use Rattle.dg_theory.specs.Multigraph.{IsMultigraph, Multigraph, edges_betwe
 pub use Rattle.dg_theory.specs.Rank.{canonical}
 pub use Rattle.dg_theory.specs.Reduced.{edges_out}
 pub use Rattle.dg_theory.specs.Sums.{sum_below, total_below}
-pub use Rattle.std.proofs.Common.{Bool, FitsSigned, List, MatchBool, add-one, ap, arith, below_more, ext_get_or, false, get_or-set_other, get_or-set_same, inl, inr, length, length-set, lit≤, mul-one, refl, slice_set, subst, suc, sym, take, true, w32, w64, zero, ℕ, ⊎_elim, ◌%◌, ◌&&◌, ◌*◌, ◌+◌, ◌-◌, ◌<◌, ◌^◌, ◌∙◌, ◌≡◌, ◌≢◌, ◌≤◌}
+pub use Rattle.std.proofs.Common.{Bool, FitsSigned, List, MatchBool, add-one, ap, arith, below_more, ext_get_or, false, get_or-set_other, get_or-set_same, inl, inr, length, length-set, mul-one, refl, slice_set, subst, suc, sym, take, true, w32, w64, zero, ℕ, ⊎_elim, ◌%◌, ◌&&◌, ◌*◌, ◌+◌, ◌-◌, ◌<◌, ◌^◌, ◌∙◌, ◌≡◌, ◌≢◌, ◌≤◌}
 pub use Rattle.std.proofs.Math.IntN.{*ℤ-zero, *ℤ_comm, +ℤ_idr, pos, zero-*ℤ, ℤ, ◌*ℤ◌, ◌+ℤ◌, ◌-ℤ◌}
 pub use Rattle.std.proofs.Math.Nat.{mul-le-mul}
 pub use Rattle.std.proofs.lemmas.Bool.{cases_Bool, cases_eq, cases_lt, leb-false, leb-true}

@@ -12,7 +12,7 @@ pub use Rattle.dg_game.specs.declared.entry.Plain.TheVariants.{Claim, Gift, Join
 pub use Rattle.dg_game.specs.declared.step.Command.{Command}
 pub use Rattle.dg_game.specs.declared.step.Command.TheVariants.{Call, Commit, Rank}
 pub use Rattle.dg_game.specs.declared.step.Step.{Step}
-pub use Rattle.dg_lines.specs.CommandWords.{AreGiven, WordsAreNamed, AreNumbers, IsNumberFor, IsNumberWithin, IsScriptOf, IsScriptWord, IsSetOf, Kind, degree, dollars, name_part, number_part, script, vertex, vertices}
+pub use Rattle.dg_lines.specs.CommandWords.{AreGiven, WordsAreNamed, AreNumbers, IsNumberFor, IsNumberWithin, IsScriptOf, IsScriptWord, IsSetOf, Kind, degree, dollars, name_part, number_part, vertex, vertices}
 pub use Rattle.dg_lines.specs.Commands.{IsCommandLine, IsWellFormed, Means, kinds_of, kinds_wanted, words_wanted}
 pub use Rattle.dg_lines.specs.Cuts.{items, onto_first, pieces_after, words, words_after}
 pub use Rattle.dg_lines.specs.Judgements.{HasNamesIn, burning_text}

@@ -29,7 +29,7 @@ pub use Rattle.dg_rank.specs.Ranks.{IsUntold, IsWithin, NeedsPastTests}
 pub use Rattle.dg_sweep.specs.AnswerLaws.{AmountsHaveOneAnswer, AmountLinesHaveOneMeaning, HasOneAnswer}
 pub use Rattle.dg_sweep.specs.Answers.{AnswersLine, AnswersRankLine, AnswersTable, AnswersTableWithin, AreRanks, AreUntested, IsBelow, IsRefused, IsTested, answer_number, degree_and_genus_words, refusal_line}
 pub use Rattle.dg_sweep.specs.DivisorLaws.{with_amounts_of_line}
-pub use Rattle.dg_sweep.specs.Divisors.{AnswersAmounts, HasAmountsOf, IsDivisorOf, RefusesAmounts, SpellsAmounts, SpellsNoAmounts}
+pub use Rattle.dg_sweep.specs.Divisors.{AnswersAmounts, HasAmountsOf, RefusesAmounts, SpellsAmounts, SpellsNoAmounts}
 pub use Rattle.dg_sweep.specs.FaultTexts.{file_fault_words}
 pub use Rattle.dg_sweep.specs.Pieces.{AnswersPiece, IsAnswered, Leads}
 pub use Rattle.dg_sweep.specs.Steps.{AnswersFront, AnswersLast, EndsPiece, KeepsPartOfPiece, PassesAnswers, StandsFor, TakesBytes}
@@ -61,12 +61,12 @@ pub use Rattle.dg_verdict.specs.Right.{IsRight, IsVerdictOn}
 pub use Rattle.dg_verdict.specs.declared.rank_verdict.RankVerdict.TheVariants.{AtLeast, Below}
 pub use Rattle.dg_verdict.specs.declared.rank_verdict.RankVerdict.{RankVerdict}
 pub use Rattle.dg_verdict.specs.declared.verdict.Verdict.{Verdict}
-pub use Rattle.std.proofs.Common.{All, Bool, Bor, Err, FitsSigned, List, None, Ok, Option, Result, [], ap, append-nil, append_assoc, arith, codes, cond, drop, false, flat_map, get_or, if◌then◌else◌, inl, inr, length, map, neg_ℤ, negsuc, of_z, pos, refl, rules, subst, suc, sym, take, tests, to_z, to_z-of_z, true, w64, zero, ℕ, ℤ, ⊎_elim, ◌*◌, ◌++◌, ◌+◌, ◌-◌, ◌<◌, ◌==◌, ◌^◌, ◌∙◌, ◌∷◌, ◌≡◌, ◌≢◌, ◌≤◌, ◌⊎◌}
+pub use Rattle.std.proofs.Common.{All, Bool, Bor, Err, FitsSigned, List, None, Ok, Option, Result, [], ap, append-nil, append_assoc, arith, codes, drop, false, flat_map, get_or, if◌then◌else◌, inl, inr, length, map, neg_ℤ, negsuc, of_z, pos, refl, rules, subst, suc, sym, take, tests, to_z, to_z-of_z, true, w64, zero, ℕ, ℤ, ◌*◌, ◌++◌, ◌+◌, ◌-◌, ◌<◌, ◌==◌, ◌^◌, ◌∙◌, ◌∷◌, ◌≡◌, ◌≢◌, ◌≤◌, ◌⊎◌}
 pub use Rattle.std.proofs.Math.IntN.{◌*ℤ◌, ◌+ℤ◌, ◌-ℤ◌}
 pub use Rattle.std.proofs.Math.Path.{fun_ext}
 pub use Rattle.std.proofs.Math.Seq.{take-append_seam}
 pub use Rattle.std.proofs.lemmas.Bool.{cases_eq, cases_lt, cases_order, eqb-true, false≢true, ne_eqb}
-pub use Rattle.std.proofs.lemmas.Fmt.{decimal_digit, decimal_is_IsNumeral, signed_decimal_injective}
+pub use Rattle.std.proofs.lemmas.Fmt.{decimal_is_IsNumeral, signed_decimal_injective}
 pub use Rattle.std.proofs.lemmas.Grind.{common_steps, flat_map-append}
 pub use Rattle.std.proofs.lemmas.Int.{ints}
 pub use Rattle.std.proofs.lemmas.List.Elements.{All-append, All-cons, All-contains, All-get_or, All-head, All-nil, All-push, All-tail}
@@ -75,7 +75,6 @@ pub use Rattle.std.proofs.lemmas.Option.{get_or_from_slice_get, slice_get-get_or
 pub use Rattle.std.proofs.lemmas.Str.Parse.{digit_from_value}
 pub use Rattle.std.specs.Fmt.{signed_decimal}
 pub use Rattle.std.specs.Io.KnownBytes.{Appends, Consumes, IsAtEnd, Keeps}
-pub use Rattle.std.specs.List.{slice_index_or}
 pub use Rattle.std.specs.Option.{option_copied}
 pub use Rattle.std.specs.Prelude.{Some, decimal, slice_get, ◌<ℤ◌, ◌↔◌}
 pub use Rattle.std.specs.Str.Parse.{AllDigits}

@@ -6,12 +6,12 @@ pub use Rattle.dg_tokens.specs.Names.{AreNames, IsName, added, has, is_byte_betw
 unfoldable pub use Rattle.dg_tokens.specs.Names.{place_of}
 pub use Rattle.dg_tokens.specs.declared.label.Label.{Label}
 pub use Rattle.indexmap.specs.IndexSet.{insert_key}
-pub use Rattle.std.proofs.Common.{Bool, Err, FitsSigned, IsTrue, List, MatchOption, None, Ok, Option, Result, Some, [], ap, append-nil, append_assoc, arith, below_more, cond, decimal, drop, eq-eqb, false, get_or, inl, inr, length, length-append, length-drop, length-take-le, map, min, negsuc, not, of_z, option_map, pos, refl, rules, set, string_bytes, subst, suc, sym, take, take-add, to_z, to_z-of_z, true, w64, zero, ℕ, ℤ, ◌&&◌, ◌*◌, ◌++◌, ◌+◌, ◌-◌, ◌<◌, ◌^◌, ◌||◌, ◌∙◌, ◌∷◌, ◌≡◌, ◌≢◌, ◌≤◌, ◌⊎◌}
+pub use Rattle.std.proofs.Common.{Bool, Err, FitsSigned, IsTrue, List, MatchOption, None, Ok, Option, Result, Some, [], ap, append-nil, append_assoc, arith, below_more, cond, decimal, drop, false, get_or, inl, inr, length, length-append, length-drop, length-take-le, map, negsuc, not, option_map, pos, refl, rules, set, string_bytes, subst, suc, sym, take, take-add, to_z-of_z, true, w64, zero, ℕ, ℤ, ◌&&◌, ◌*◌, ◌++◌, ◌+◌, ◌-◌, ◌<◌, ◌^◌, ◌||◌, ◌∙◌, ◌∷◌, ◌≡◌, ◌≢◌, ◌≤◌}
 pub use Rattle.std.proofs.Math.Seq.{take-length}
 pub use Rattle.std.proofs.lemmas.Bool.{and_parts, cases_lt, cases_order, cond_both, eqb-true, false_from_ne_true, false≢true, leb-true, lt-ltb, or_cases}
 pub use Rattle.std.proofs.lemmas.Bool.Decides.{nat_tests}
-pub use Rattle.std.proofs.lemmas.Fmt.{IsAscii-decimal, IsAscii-signed, decimal-digits_value, decimal_digit, decimal_injective, decimal_is_IsNumeral, decimal_nonempty, first_decimal, length-decimal-le, parse-decimal, parse-signed_decimal}
-pub use Rattle.std.proofs.lemmas.List.{drop-append-le, drop-drop, drop-set, drop_all, drop_at, get_or-set_other, get_or-set_same, get_or-take, get_or_append_left, get_or_at, length-map, length-take, map-append, take-append-drop, take-take, take_all, take_at, take_more, take_rest}
+pub use Rattle.std.proofs.lemmas.Fmt.{IsAscii-decimal, decimal-digits_value, decimal_digit, decimal_injective, decimal_is_IsNumeral, decimal_nonempty, first_decimal, length-decimal-le, parse-decimal}
+pub use Rattle.std.proofs.lemmas.List.{drop-append-le, drop-drop, drop-set, drop_at, get_or-set_other, get_or-set_same, get_or-take, get_or_append_left, get_or_at, length-map, length-take, map-append, take-append-drop, take_at, take_more, take_rest}
 pub use Rattle.std.proofs.lemmas.List.Elements.{All-cons, All-head, All-nil, All-push, All-tail}
 pub use Rattle.std.proofs.lemmas.List.Quantifiers.{position-Some}
 pub use Rattle.std.proofs.lemmas.Option.{get_or_from_slice_get, slice_get-map}
@@ -23,7 +23,7 @@ pub use Rattle.std.specs.Fmt.{signed_decimal}
 pub use Rattle.std.specs.List.{AllByRecursion, list_all, list_any, prefix_len, slice_index_or}
 pub use Rattle.std.specs.Prelude.{All, String, bytes_eq, is_some, leb, nat_lt, position, string_eq, ◌==◌}
 pub use Rattle.std.specs.Str.{IsUtf8}
-pub use Rattle.std.specs.Str.Parse.{ParsesSigned, ParsesUnsigned, digits_value, digits_value_after}
+pub use Rattle.std.specs.Str.Parse.{ParsesUnsigned, digits_value, digits_value_after}
 pub use Rattle.std.specs.declared.alloc.Global.{Global}
 pub use borrow.Rule.Slice.PartMut.{put_mid}
 pub use lib.Lanes.{put_chunk}
