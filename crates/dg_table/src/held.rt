@@ -150,15 +150,12 @@ impl<N: Name> Held<N> {
             RefusesStep N.table self.old self.new seat.old f) }
     {
         match self.ready(log, seat) {
-            Ok(()) => {}
+            Ok(()) => self.answer_ready(log, seat, slot, plain),
             Err(fault) => {
                 self.meet(seat);
-                return Err(fault);
+                Err(fault)
             }
         }
-        let mut slot = slot;
-        self.game.answer_call(seat.number(), plain, &mut *slot);
-        self.enter(log, seat, slot)
     }
 
     /// Asks for a call at the position found, once: a move, or none, which claims. Answers it, enters it as the last of the
@@ -186,15 +183,36 @@ impl<N: Name> Held<N> {
             (IsAskedToEnter F.FnMut N.table self.old.entries seat.old (asking_at_table choose.old choose.new)) }
     {
         match self.ready(log, seat) {
-            Ok(()) => {}
+            Ok(()) => {
+                let chosen = Plain::of(choose(self.game.graph(), self.game.position()));
+                self.answer_ready(log, seat, slot, &chosen)
+            }
             Err(fault) => {
                 self.meet(seat);
-                return Err(fault);
+                Err(fault)
             }
         }
-        let chosen = Plain::of(choose(self.game.graph(), self.game.position()));
+    }
+
+    /// Answers a call of a seat that is ready, and enters it as the last of the history.
+    fn answer_ready(
+        &mut self,
+        log: &Log<N>,
+        seat: &mut Seat<N>,
+        slot: Box<Entry>,
+        plain: &Plain,
+    ) -> Result<Receipt<N>, Fault>
+        requires space { seat.old.space ≡ true }
+        requires ready { IsReady N.table.capacity self.old.entries seat.old }
+        ensures entered { IfOk result
+            (λ r. IsAnsweredAfter N.table (asked plain.now) (entering self.old.entries r seat.old seat.new) ×
+            (self.new ≡ with_entry self.old r.1)) }
+        ensures refused { IfErr result
+            (λ f. (self.new ≡ after_refusal self.old) × Meets self.old.entries seat.old seat.new ×
+            RefusesStep N.table self.old self.new seat.old f) }
+    {
         let mut slot = slot;
-        self.game.answer_call(seat.number(), &chosen, &mut *slot);
+        self.game.answer_call(seat.number(), plain, &mut *slot);
         self.enter(log, seat, slot)
     }
 
@@ -321,7 +339,7 @@ impl<N: Name> Held<N> {
             RefusesStep N.table self.old self.new seat.old f) }
     {
         let Ok(receipt) = self.pen.put(log, slot) else {
-            seat.meet(&self.pen.prefix());
+            self.meet(seat);
             return Err(Fault::Log);
         };
         let place = usize::from(seat.number - 1);

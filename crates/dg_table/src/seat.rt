@@ -1,6 +1,6 @@
 //! Seats: who calls a table, and what they know of its history.
 ghost use Rattle.std.specs.Prelude.{◌≡◌, ◌-◌, ◌<◌, ◌≤◌, [], ◌∷◌, ◌++◌, length, slice_get, true, None, Some, IfOk, IfSome, MatchBool, MatchOption, MatchResult};
-ghost use Rattle.std.specs.Vec.{vec_capacity};
+ghost use Rattle.std.specs.Vec.{vec_capacity, vec_len};
 ghost use Rattle.dg_table.specs.Faults.{StandsFull};
 ghost use Rattle.dg_table.specs.Histories.{HasPrefix, IsHistoryOf};
 ghost use Rattle.dg_table.specs.Looks.{KeptLookHasVertices, IsLastLook};
@@ -204,10 +204,23 @@ impl<N: Name> Seat<N> {
         ensures met { self.new.met ≡ self.old.met }
         ensures space { IfOk result (λ _. self.new.space ≡ true) }
     {
-        self.mine.reserve(1)?;
-        self.told.reserve(1)?;
+        reserve_each(&mut self.mine, &mut self.told)?;
         blank_entry(alloc)
     }
+}
+
+/// Makes space for one more receipt in each list.
+fn reserve_each<N: Name>(
+    mine: &mut Vec<Receipt<N>>,
+    told: &mut Vec<Receipt<N>>,
+) -> Result<(), AllocError>
+    ensures mine { mine.new.items ≡ mine.old.items }
+    ensures told { told.new.items ≡ told.old.items }
+    ensures space { IfOk result (λ _. (vec_len mine.new < vec_capacity mine.new) ×
+        (vec_len told.new < vec_capacity told.new)) }
+{
+    mine.reserve(1)?;
+    told.reserve(1)
 }
 
 /// A box for an entry; what is in it means nothing.

@@ -1,6 +1,5 @@
-use Rattle.dg_table.proofs.Common.{◌≡◌, ℕ, [], ◌∷◌, ◌++◌, length, arith, refl, sym, ap, subst, ◌∙◌, Replies, LeadsTo, Entry, right_in, Written, IsHistoryOf, IsKeptLook}
+use Rattle.dg_table.proofs.Common.{◌≡◌, ℕ, [], ◌∷◌, ◌++◌, length, arith, refl, sym, ap, subst, ◌∙◌, Replies, LeadsTo, Entry, right_in, Written, IsKeptLook}
 use Rattle.dg_table.proofs.Steps.{held_more, history_more, kept_more, answered}
-use Rattle.dg_table.proofs.Totals.{history_of}
 use Rattle.dg_table.proofs.held.Held.enter.Goals as goal
 
 pub follow-requires-clause-right : goal.follow-requires-clause-right
@@ -76,12 +75,3 @@ returns-clause-entered g c =
           (c.prefix-seat-inside-2.ensures ∙ history),
       c.in-Ok.ensures.1,
     )
-
-pub meet-requires : goal.meet-requires
-meet-requires g c =
-    let cap = g.N.Name.table.capacity in
-    let entries : c.put.new.self.entries ≡ c.self.inside.pen.entries =
-    ap (λ (w : Written). w.entries) c.in_default.ensures.1 in
-    let room = rw (← c.self.view_is) at c.requires.ready.room in
-    subst (IsHistoryOf g.N.Name.table) (sym (c.prefix.ensures ∙ entries))
-    (history_of c.self.invariant.0 (omega (arith, room)))
