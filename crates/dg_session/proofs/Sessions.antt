@@ -13,12 +13,12 @@
 --   session_ends, session_closes   it ends with its input, or at the last line
 --   not_read, write_failed   what ended was no read; and where the writer took no more it has failed
 --   numbers_of       each seat has its number at the end
---   number_alone     so has the seat that is alone
+--   session_alone    a session of the seat that is alone
 --   one_more         what holds of each seat so far, and of the next
 --   fewer_left       fewer bytes can still be read
-use Rattle.dg_session.proofs.Common.{◌≡◌, ◌≢◌, ℕ, zero, suc, ◌+◌, ◌-◌, ◌*◌, ◌<◌, ◌≤◌, inl, inr, List, [], ◌∷◌, ◌++◌, length, take, map, Option, None, Result, Ok, Err, OnOk, IfErr, true, refl, sym, ap, subst, ◌∙◌, arith, append-nil, length-append, All, flat_map, ⊤, All-nil, All-head, All-tail, All-push, length-map, slice_index_or, Appends, Consumes, IsAtEnd, Entry, SeatView, Begins, with_newline, last_line, begins_then, begins_more, one_cutting, StreamWriting, AppendsFront, appends_none, appends_more, consumes_none, consumes_more, consumes_kept, Setup, IsLine, AreSessionLines, Passage, passage, Speakers, newcomers, SessionReading, reading, StopsAt, EndsBy, Writes, IsOver, SoFar, beginning, IsReady, Goes, StopsIn, round, Halts, Takes, TakesEnd, IsWritten, MAX_LINE, MAX_LINES, READ_SIZE, SessionEnd, Read, Write, LongLine, Turns, Table, Memory, Spawn}
+use Rattle.dg_session.proofs.Common.{◌≡◌, ◌≢◌, ℕ, zero, suc, ◌+◌, ◌-◌, ◌*◌, ◌<◌, ◌≤◌, inl, inr, List, [], ◌∷◌, ◌++◌, length, take, map, Option, None, Result, Ok, Err, OnOk, IfErr, true, refl, sym, ap, subst, ◌∙◌, arith, append-nil, length-append, All, flat_map, ⊤, All-nil, All-head, All-tail, All-push, length-map, slice_index_or, Appends, Consumes, IsAtEnd, SeatView, Begins, with_newline, last_line, begins_then, begins_more, one_cutting, StreamWriting, AppendsFront, appends_none, appends_more, consumes_none, consumes_more, consumes_kept, Setup, IsLine, AreSessionLines, Passage, passage, Speakers, newcomers, SessionReading, reading, StopsAt, EndsBy, Writes, IsOver, SoFar, beginning, IsReady, Goes, StopsIn, round, Halts, Takes, TakesEnd, IsWritten, MAX_LINE, MAX_LINES, READ_SIZE, SessionEnd, Read, Write, LongLine, Turns, Table, Memory, Spawn}
 use Rattle.std.specs.Io.KnownBytes.{Keeps}
-use Rattle.dg_session.specs.Ends.{Answers}
+use Rattle.dg_session.specs.Ends.{Answers, IsSession}
 use Rattle.dg_session.proofs.Cutting.{plain, lines_then, lines_end}
 use Rattle.dg_session.proofs.Going.{answers_none, goes_none, goes_more, empty_line}
 use Rattle.dg_session.proofs.InOrder.{fits_all}
@@ -31,33 +31,24 @@ pub record IsSoFar (t : Setup) (input rest old new : Option (List ℕ)) (xs : Li
   pub goes : Goes t (beginning xs) stream [] at text
   pub written : Appends old new text
 
-pub so_far_new : {t : Setup} {input old : Option (List ℕ)} {xs : List SeatView} (kept : List (Option ℕ))
-    (H : List Entry) (ps : List (ℕ × Entry)) (p : List ℕ) (c : ℕ) → H ≡ [] → ps ≡ [] → p ≡ [] → c ≡ 0
-    → kept ≡ map (λ x. None) xs → 1 ≤ length xs
-    → IsSoFar t input input old old xs
-    (record { pending = p; count = c; who = record { seats = xs; kept = kept; latest = H; entered = ps } })
-so_far_new {t} {input} {old} {xs} kept H ps p c unmet unmade none begun unkept some =
+pub so_far_new : {t : Setup} {input old : Option (List ℕ)} {xs : List SeatView} → 1 ≤ length xs
+    → IsSoFar t input input old old xs (beginning xs)
+so_far_new {t} {input} {old} {xs} some =
     let none_of : SeatView → Option ℕ = λ x. None in record {
       stream = [];
       read = consumes_none input;
       text = [];
       goes = record {
         ls = [];
-        came = record { whole = sym (append-nil p ∙ none); each = All-nil IsLine };
-        counted = omega (arith, begun);
-        answered = subst (λ (k : List (Option ℕ)). Answers t (newcomers xs) []
-            (record { seats = xs; kept = k; latest = H; entered = ps }) []) (sym unkept)
-            (subst (λ (K : List Entry). Answers t (newcomers xs) []
-            (record { seats = xs; kept = map (λ x. None) xs; latest = K; entered = ps }) []) (sym unmet)
-            (subst (λ (qs : List (ℕ × Entry)). Answers t (newcomers xs) []
-            (record { seats = xs; kept = map (λ x. None) xs; latest = []; entered = qs }) []) (sym unmade)
-            (answers_none t (newcomers xs))));
+        came = record { whole = refl; each = All-nil IsLine };
+        counted = refl;
+        answered = answers_none t (newcomers xs);
         ready = record {
-          line = empty_line p none;
-          few = omega (arith, begun);
-          full = λ full. none;
+          line = empty_line [] refl;
+          few = omega arith;
+          full = λ full. refl;
           some = some;
-          each = ap length unkept ∙ length-map xs none_of;
+          each = length-map xs none_of;
         };
       };
       written = appends_none old;
@@ -357,15 +348,16 @@ numbers_of {t} {input = input} {xs = xs} {result = result} h =
     ∙ numbers_answered t h.last h.middle h.after h.text h.second
     ∙ numbers_answered t h.told (newcomers xs) h.middle h.said h.first
 
-pub number_alone : (xs ys : List SeatView) (x d : SeatView) → xs ≡ x ∷ []
-    → map (λ (x : SeatView). x.number) ys ≡ map (λ (x : SeatView). x.number) xs
-    → (slice_index_or ys 0 d).number ≡ x.number
-number_alone xs ys x d alone same = here ys (same ∙ ap (map (λ (x : SeatView). x.number)) alone)
+pub session_alone : {t : Setup} {input output : Passage} {xs ys : List SeatView} {result : Result ℕ SessionEnd}
+    {x : SeatView} (d : SeatView) → xs ≡ x ∷ [] → IsSession t input output xs ys result
+    → IsSession t input output (x ∷ []) (slice_index_or ys 0 d ∷ []) result
+session_alone {t} {input} {output} {ys = ys} {result} {x} d alone h =
+    let one = rw alone at h in subst (λ zs. IsSession t input output (x ∷ []) zs result) (here ys one.numbers) one
   where
-    here : (ys : List SeatView) → map (λ (x : SeatView). x.number) ys ≡ x.number ∷ []
-        → (slice_index_or ys 0 d).number ≡ x.number
+    here : (ys : List SeatView) → map (λ (x : SeatView). x.number) ys ≡ x.number ∷ [] → ys ≡ slice_index_or ys 0 d ∷ []
     here [] p = absurd cc
-    here (y ∷ ys) p = let first : y.number ≡ x.number = cc in first
+    here (y ∷ []) p = refl
+    here (y ∷ z ∷ ys) p = absurd cc
 
 -- each seat, one after another
 taken_get : {X : Type 0} (xs : List X) (i : ℕ) (d : X) → i < length xs

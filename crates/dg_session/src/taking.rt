@@ -1,9 +1,10 @@
 //! Taking what was read: bytes that are cut into lines, and the end.
-ghost use Rattle.std.specs.Prelude.{◌≡◌, ◌≢◌, ◌+◌, ◌++◌, ◌<◌, ◌≤◌, [], length, map, None, OnOk, IfErr, IfSome};
+ghost use Rattle.std.specs.Prelude.{◌≡◌, ◌≢◌, ◌+◌, ◌++◌, ◌<◌, ◌≤◌, [], length, map, None, OnOk, IfErr, IfSome, MatchResult};
 ghost use Rattle.dg_session.specs.Speakers.{kept_number};
 ghost use Rattle.dg_session.specs.Setup.{setup};
 ghost use Rattle.dg_session.specs.Streams.{passage};
-ghost use Rattle.dg_session.specs.SoFar.{heard, talk, so_far, Handles, IsReady, RefusesPart, Takes, TakesEnd};
+ghost use Rattle.dg_session.specs.declared.ends.SessionEnd.TheVariants.{Memory};
+ghost use Rattle.dg_session.specs.SoFar.{beginning, heard, talk, so_far, Handles, IsReady, RefusesPart, Takes, TakesEnd};
 
 use crate::answering::{AnswerBuffer, Shared};
 use crate::ends::{MAX_LINE, MAX_LINES, SessionEnd};
@@ -41,12 +42,7 @@ impl<N: Name> SessionProgress<N> {
         text: Option<Vec<u8>>,
         inverse: &InverseLaplacian,
     ) -> Option<SessionProgress<N>>
-        ensures pending { IfSome result (λ p. p.pending.items ≡ []) }
-        ensures count { IfSome result (λ p. p.count ≡ 0) }
-        ensures kept { IfSome result (λ p.
-            map kept_number p.kept.items ≡ map (λ x. None) seats.now) }
-        ensures latest { IfSome result (λ p. p.entries_so_far.latest ≡ []) }
-        ensures entered { IfSome result (λ p. p.entries_so_far.entered ≡ []) }
+        ensures begins { IfSome result (λ p. so_far p seats.now ≡ beginning seats.now) }
         ensures said { IfSome result (λ p. p.said.text ≡ text) }
     {
         let kept = match no_looks(alloc, seats) {
@@ -97,7 +93,21 @@ fn may_take(pending: &[u8], count: u32, part: &[u8]) -> Result<(), SessionEnd>
     Ok(())
 }
 
-/// Answers the line that is pending, with the part that ends it. If nothing is pending, the part is answered without a copy.
+/// The line that is pending, with the part that ends it. If nothing is pending, that is the part, without a copy.
+#[inline(always)]
+fn whole_line<'a>(pending: &'a mut Vec<u8>, part: &'a [u8]) -> Result<&'a [u8], SessionEnd>
+    ensures { MatchResult result (λ line. line.now ≡ pending.old.items ++ part.now) (λ end. end ≡ Memory) }
+{
+    if pending.is_empty() {
+        return Ok(part);
+    }
+    match pending.extend_from_slice(part) {
+        Ok(()) => Ok(pending),
+        Err(_) => Err(SessionEnd::Memory),
+    }
+}
+
+/// Answers the line that is pending, with the part that ends it.
 #[inline(always)]
 fn answer_pending<N: Name, R: Threads + Wait>(
     shared: &Shared<N, R>,
@@ -113,26 +123,16 @@ fn answer_pending<N: Name, R: Threads + Wait>(
         (talk seats.new progress.new.kept.items progress.new.entries_so_far progress.new.said) result }
     ensures count { progress.new.count ≡ progress.old.count }
 {
-    if progress.pending.is_empty() {
-        return answer_line(
+    match whole_line(&mut progress.pending, part) {
+        Ok(line) => answer_line(
             shared,
             progress.kept.as_mut_slice(),
             &mut progress.entries_so_far,
             &mut progress.said,
             seats,
-            part,
-        );
-    }
-    match progress.pending.extend_from_slice(part) {
-        Ok(()) => answer_line(
-            shared,
-            progress.kept.as_mut_slice(),
-            &mut progress.entries_so_far,
-            &mut progress.said,
-            seats,
-            &progress.pending,
+            line,
         ),
-        Err(_) => Err(SessionEnd::Memory),
+        Err(end) => Err(end),
     }
 }
 

@@ -1,22 +1,17 @@
-use Rattle.dg_session.proofs.Common.{◌<◌, ◌∙◌, [], length, refl, ap, arith, map, None, chunk_size, read_chunk, read_nothing, kept_number, heard}
+use Rattle.dg_session.proofs.Common.{◌<◌, ◌∙◌, length, refl, ap, arith, chunk_size, read_chunk, read_nothing, heard}
 use Rattle.dg_session.proofs.Sessions.{so_far_new, so_far_more, session_unsaid, session_reads, session_ends, session_closes, session_halts, written_ok, not_read, write_failed, halts_by, fewer_left}
 use Rattle.dg_session.proofs.Spoken.{said_whole, cleared_whole, unheard, silent}
 use Rattle.dg_session.proofs.serving.serve_lines.Goals as goal
 
 pub returns-in_default-clause-session : goal.returns-in_default-clause-session
-returns-in_default-clause-session g c =
-    session_unsaid (so_far_new (map (λ x. None) c.args.seats.now) [] [] [] 0 refl refl refl refl refl c.requires.some)
+returns-in_default-clause-session g c = session_unsaid (so_far_new c.requires.some)
 
 pub returns-in_default-new-clause-session : goal.returns-in_default-new-clause-session
-returns-in_default-new-clause-session g c =
-    session_unsaid (so_far_new (map (λ x. None) c.args.seats.now) [] [] [] 0 refl refl refl refl refl c.requires.some)
+returns-in_default-new-clause-session g c = session_unsaid (so_far_new c.requires.some)
 
 pub reads-init : goal.reads-init
 reads-init g c = (
-  so_far_new (map kept_number c.in-Some.progress.kept.items) c.in-Some.progress.entries_so_far.latest
-      c.in-Some.progress.entries_so_far.entered c.in-Some.progress.pending.items c.in-Some.progress.count
-      c.in-Some.ensures.latest c.in-Some.ensures.entered c.in-Some.ensures.pending c.in-Some.ensures.count
-      c.in-Some.ensures.kept c.requires.some,
+  rw c.in-Some.ensures.begins (so_far_new c.requires.some),
   ap heard c.in-Some.ensures.said,
   λ none. refl,
   omega (arith, c.in-Ok.ensures.len, c.in-Ok.buffer.ok.0),

@@ -1,5 +1,5 @@
 -- All but the rest is taken at each turn.
-use Rattle.dg_session.proofs.Common.{◌<◌, ◌≤◌, ◌+◌, ◌∙◌, ◌++◌, List, [], ℕ, length, refl, subst, append-nil, rules, tests, RefusesPart, MAX_LINE, MAX_LINES, part_plain, part_front, part_whole, part_line, line_shorter}
+use Rattle.dg_session.proofs.Common.{◌<◌, ◌≤◌, ◌+◌, ◌∙◌, ◌++◌, List, [], ℕ, length, refl, subst, append-nil, nil_from_length, rules, tests, RefusesPart, MAX_LINE, MAX_LINES, part_plain, part_front, part_whole, part_line, line_shorter}
 use Rattle.dg_session.proofs.Going.{goes_none, goes_part, goes_line, halts_part, halts_line, line_with}
 use Rattle.dg_session.proofs.Spoken.{said_none, said_more}
 use Rattle.dg_session.proofs.taking.take_bytes.Goals as goal
@@ -73,3 +73,11 @@ parts-preserved g c =
       goes = goes_line c.parts.invariant.goes part cut is few done.holds c.in-Ok-end_line.ensures.pending
           c.in-Ok-end_line.ensures.count;
     }
+
+pub returns : goal.returns
+returns g c = record {
+  text = c.parts.invariant.text;
+  grown = c.parts.invariant.said;
+  taken = rw (nil_from_length c.parts.rest.now (search (rules, tests))) at c.parts.invariant.goes;
+  halted = tt;
+}
