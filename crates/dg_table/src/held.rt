@@ -208,7 +208,7 @@ impl<N: Name> Held<N> {
             (λ r. IsAnsweredAfter N.table (asked plain.now) (entering self.old.entries r seat.old seat.new) ×
             (self.new ≡ with_entry self.old r.1)) }
         ensures refused { IfErr result
-            (λ f. (self.new ≡ after_refusal self.old) × Meets self.old.entries seat.old seat.new ×
+            (λ f. (self.new.entries ≡ self.old.entries) × Meets self.old.entries seat.old seat.new ×
             RefusesStep N.table self.old self.new seat.old f) }
     {
         let mut slot = slot;

@@ -178,8 +178,8 @@ impl<N: Name> Seat<N> {
         ensures prefix { self.new.prefix ≡ self.old.prefix }
         ensures met { self.new.met ≡ self.old.met }
     {
-        self.told.push(receipt.again())?;
-        self.told_receipt_set = self.told_receipt_set.and(receipt);
+        self.told.reserve(1)?;
+        self.hear(receipt);
         Ok(())
     }
 
