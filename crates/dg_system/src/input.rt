@@ -72,9 +72,6 @@ impl<I: Read> Input<I> {
         ensures kept { result ≡ None → Keeps self.old.remaining self.new.remaining }
         ensures failed { result ≡ None → self.new.has_failed ≡ true }
     {
-        match self.read(buffer) {
-            Ok(size) => Some(size),
-            Err(_) => None,
-        }
+        self.read(buffer).ok()
     }
 }

@@ -65,28 +65,31 @@ impl<O: Write> Output<O> {
         ensures failed { OnErr result (self.new.has_failed ≡ true) }
         ensures kept { OnOk result (self.new.has_failed ≡ self.old.has_failed) }
     {
-        let mut at = 0;
-        'writes: while at < text.len() {
-            match retry_write(&mut self.inner, &text[at..]) {
-                Ok(size) => {
-                    if size == 0 {
-                        self.has_failed = true;
-                        return Err(WriteFailed);
-                    }
-                    at += size;
-                }
-                Err(_) => {
-                    self.has_failed = true;
-                    return Err(WriteFailed);
-                }
-            }
-        }
-        match retry_flush(&mut self.inner) {
+        match write_and_flush(&mut self.inner, text) {
             Ok(()) => Ok(()),
-            Err(_) => {
+            Err(failed) => {
                 self.has_failed = true;
-                Err(WriteFailed)
+                Err(failed)
             }
         }
+    }
+}
+
+/// Writes and flushes the whole text; or a front of it, and then the writer takes no more.
+fn write_and_flush<O: Write>(writer: &mut O, text: &[u8]) -> Result<(), WriteFailed>
+    ensures written { OnOk result (Appends (O.contents writer.old) (O.contents writer.new) text.now) }
+    ensures front { OnErr result
+        (AppendsFront (O.contents writer.old) (O.contents writer.new) [] text.now) }
+{
+    let mut at = 0;
+    'writes: while at < text.len() {
+        match retry_write(writer, &text[at..]) {
+            Ok(size) if size > 0 => at += size,
+            _ => return Err(WriteFailed),
+        }
+    }
+    match retry_flush(writer) {
+        Ok(()) => Ok(()),
+        Err(_) => Err(WriteFailed),
     }
 }
