@@ -1,4 +1,4 @@
-use Rattle.dg_system.proofs.Common.{take_more}
+use Rattle.dg_system.proofs.Common.{arith, take_all, take_more}
 use Rattle.dg_system.proofs.OneByOne.{held_pushed, unread_taken, short_of}
 use Rattle.dg_system.proofs.reading.read_all.Goals as goal
 
@@ -18,3 +18,7 @@ names-preserved g c =
     c.in-Ok.file
     c.in-Ok-push.ensures.items (take_more c.args.names.now c.names.name-index _ c.names-test.true) c.names.invariant
     c.in-Ok.ensures.read
+
+pub returns-clause-read : goal.returns-clause-read
+returns-clause-read g c =
+    rw (take_all c.names.name-index c.args.names.now (omega (arith, c.names-test.false))) at c.names.invariant
