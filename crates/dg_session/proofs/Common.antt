@@ -12,6 +12,7 @@ pub use Rattle.dg_game.specs.declared.entry.Request.{Request}
 pub use Rattle.dg_game.specs.declared.finding.Finding.{Finding}
 pub use Rattle.dg_game.specs.declared.finding.Finding.TheVariants.{Ranked}
 pub use Rattle.dg_game.specs.declared.finding.Question.{Question}
+pub use Rattle.dg_game.specs.declared.finding.Question.TheVariants.{Judge as JudgeQuestion, Rank as RankQuestion}
 pub use Rattle.dg_game.specs.declared.step.Command.{Command}
 pub use Rattle.dg_game.specs.declared.step.Command.TheVariants.{Call, Commit, Rank}
 pub use Rattle.dg_lines.proofs.Stepping.{seated_parts}
@@ -27,8 +28,9 @@ pub use Rattle.dg_log.specs.Tables.{TableData}
 pub use Rattle.dg_rank.proofs.Numbering.{past_within}
 pub use Rattle.dg_rank.specs.Limits.{ArePastTrialLimits}
 pub use Rattle.dg_rank.specs.Ranks.{IsRankFault, IsWithin}
+unfoldable pub use Rattle.dg_session.specs.Ends.{Answers}
 pub use Rattle.dg_session.specs.EntriesSoFar.{EntriesSoFarView}
-pub use Rattle.dg_session.specs.Ends.{AreInOrder, EndsBy, IsOver, SessionReading, StopsAt, Writes, reading}
+pub use Rattle.dg_session.specs.Ends.{AreInOrder, EndsBy, IsOver, IsSession, SessionReading, StopsAt, Writes, reading}
 pub use Rattle.dg_session.specs.Order.{AnswersAscendFrom, ComeAfter}
 pub use Rattle.dg_session.specs.Refusing.{CallsTable, RefusesCommand, RefusesLine}
 pub use Rattle.dg_session.specs.Saying.{AnswersCommand, AnswersLine, Enters, Gains, speakers_kept_after, speakers_look_after}
@@ -58,7 +60,6 @@ pub use Rattle.dg_table.specs.declared.fault.Fault.TheVariants.{Full}
 pub use Rattle.dg_verdict.specs.declared.rank_verdict.RankVerdict.{RankVerdict}
 pub use Rattle.dg_verdict.specs.declared.rank_verdict.RankVerdict.TheVariants.{AtLeast, Below}
 pub use Rattle.std.proofs.Common.{All, Err, IfErr, List, None, Ok, OnOk, Option, Result, Some, [], ap, append-nil, append_assoc, arith, codes, drop, flat_map, get_or, inl, inr, length, length-append, length-set, map, refl, rules, slice_get, subst, suc, sum, sym, take, take-append-drop, tests, true, zero, ℕ, ◌*◌, ◌++◌, ◌+◌, ◌-◌, ◌<◌, ◌∙◌, ◌∷◌, ◌≡◌, ◌≢◌, ◌≤◌}
-pub use Rattle.std.proofs.lemmas.Grind.{common_steps}
 pub use Rattle.std.proofs.lemmas.List.{length-map, length-take-le, map-set, nil_from_length, take_all}
 pub use Rattle.std.proofs.lemmas.List.Elements.{All-append, All-head, All-nil, All-push, All-tail, All-take}
 pub use Rattle.std.proofs.lemmas.List.Sums.{sum_by-cons}

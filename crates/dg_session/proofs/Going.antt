@@ -7,8 +7,7 @@
 --   halts_part, halts_line       the session ends at a part that is not taken, and at a line that is refused
 --   last_none, last_one, last_halts   what is pending as the last line: none, one that is answered, and one that is
 --       refused
-use Rattle.dg_session.proofs.Common.{◌≡◌, ◌≢◌, ℕ, ◌+◌, ◌<◌, ◌≤◌, inl, inr, List, [], ◌∷◌, ◌++◌, length, take, drop, refl, sym, ap, subst, ◌∙◌, arith, append_assoc, append-nil, length-append, take-append-drop, All-append, All-nil, All-take, length-take-le, HasNoNewline, Begins, last_line, begins_none, begins_one, begins_then, begins_more, one_line, Setup, IsLine, AreSessionLines, Speakers, AnswersLineOf, RefusesLineOf, SoFar, IsReady, Goes, round, Halts, RefusesPart, StaysAt, MAX_LINE, MAX_LINES, SessionEnd, LongLine, Turns}
-use Rattle.dg_session.specs.Ends.{Answers}
+use Rattle.dg_session.proofs.Common.{◌≡◌, ◌≢◌, ℕ, ◌+◌, ◌<◌, ◌≤◌, inl, inr, List, [], ◌∷◌, ◌++◌, length, take, drop, refl, sym, ap, subst, ◌∙◌, arith, append_assoc, append-nil, length-append, take-append-drop, All-append, All-nil, All-take, length-take-le, HasNoNewline, Begins, last_line, begins_none, begins_one, begins_then, begins_more, one_line, Setup, IsLine, AreSessionLines, Speakers, AnswersLineOf, RefusesLineOf, SoFar, IsReady, Goes, round, Halts, RefusesPart, StaysAt, MAX_LINE, MAX_LINES, SessionEnd, LongLine, Turns, Answers}
 use Rattle.dg_session.proofs.Cutting.{lines_end}
 use Rattle.dg_session.proofs.Seated.{sizes_kept}
 

@@ -3,8 +3,7 @@
 --   Fits n s      what the lines entered is in order, and the seats, which had n calls, made no others
 --   fits_begun    so it is before the first line
 --   fits_all      and after all, however the session ends
-use Rattle.dg_session.proofs.Common.{◌≡◌, ℕ, zero, suc, ◌+◌, inl, inr, List, [], ◌∷◌, ◌++◌, length, length-append, Some, slice_get, Result, Ok, Err, refl, sym, ap, subst, ◌∙◌, arith, slice_set, Entry, StandIn, SeatView, get_set, Setup, AnswersAscendFrom, Gains, Speakers, newcomers, Replaces, GoesOn, AnswersLineOf, RefusesLineOf, SessionReading, StopsAt, EndsBy, AreInOrder, SessionEnd, Read, Write, LongLine, Turns, Table, Memory, Spawn}
-use Rattle.dg_session.specs.Ends.{Answers}
+use Rattle.dg_session.proofs.Common.{◌≡◌, ℕ, zero, suc, ◌+◌, inl, inr, List, [], ◌∷◌, ◌++◌, length, length-append, Some, slice_get, Result, Ok, Err, refl, sym, ap, subst, ◌∙◌, arith, slice_set, Entry, StandIn, SeatView, get_set, Setup, AnswersAscendFrom, Gains, Speakers, newcomers, Replaces, GoesOn, AnswersLineOf, RefusesLineOf, SessionReading, StopsAt, EndsBy, AreInOrder, SessionEnd, Read, Write, LongLine, Turns, Table, Memory, Spawn, Answers}
 use Rattle.dg_session.proofs.Coming.{ascend_more, below_stand, stand_on, stand_both}
 
 abbrev pub calls_of : List SeatView → ℕ

@@ -16,9 +16,8 @@
 --   session_alone    a session of the seat that is alone
 --   one_more         what holds of each seat so far, and of the next
 --   fewer_left       fewer bytes can still be read
-use Rattle.dg_session.proofs.Common.{◌≡◌, ◌≢◌, ℕ, zero, suc, ◌+◌, ◌-◌, ◌*◌, ◌<◌, ◌≤◌, inl, inr, List, [], ◌∷◌, ◌++◌, length, take, map, Option, None, Result, Ok, Err, OnOk, IfErr, true, refl, sym, ap, subst, ◌∙◌, arith, append-nil, length-append, All, flat_map, ⊤, All-nil, All-head, All-tail, All-push, length-map, slice_index_or, Appends, Consumes, IsAtEnd, SeatView, Begins, with_newline, last_line, begins_then, begins_more, one_cutting, StreamWriting, AppendsFront, appends_none, appends_more, consumes_none, consumes_more, consumes_kept, Setup, IsLine, AreSessionLines, Passage, passage, Speakers, newcomers, SessionReading, reading, StopsAt, EndsBy, Writes, IsOver, SoFar, beginning, IsReady, Goes, StopsIn, round, Halts, Takes, TakesEnd, IsWritten, MAX_LINE, MAX_LINES, READ_SIZE, SessionEnd, Read, Write, LongLine, Turns, Table, Memory, Spawn}
+use Rattle.dg_session.proofs.Common.{◌≡◌, ◌≢◌, ℕ, zero, suc, ◌+◌, ◌-◌, ◌*◌, ◌<◌, ◌≤◌, inl, inr, List, [], ◌∷◌, ◌++◌, length, take, map, Option, None, Result, Ok, Err, OnOk, IfErr, true, refl, sym, ap, subst, ◌∙◌, arith, append-nil, length-append, All, flat_map, ⊤, All-nil, All-head, All-tail, All-push, length-map, slice_index_or, Appends, Consumes, IsAtEnd, SeatView, Begins, with_newline, last_line, begins_then, begins_more, one_cutting, StreamWriting, AppendsFront, appends_none, appends_more, consumes_none, consumes_more, consumes_kept, Setup, IsLine, AreSessionLines, Passage, passage, Speakers, newcomers, SessionReading, reading, StopsAt, EndsBy, Writes, IsOver, SoFar, beginning, IsReady, Goes, StopsIn, round, Halts, Takes, TakesEnd, IsWritten, MAX_LINE, MAX_LINES, READ_SIZE, SessionEnd, Read, Write, LongLine, Turns, Table, Memory, Spawn, Answers, IsSession}
 use Rattle.std.specs.Io.KnownBytes.{Keeps}
-use Rattle.dg_session.specs.Ends.{Answers, IsSession}
 use Rattle.dg_session.proofs.Cutting.{plain, lines_then, lines_end}
 use Rattle.dg_session.proofs.Going.{answers_none, goes_none, goes_more, empty_line}
 use Rattle.dg_session.proofs.InOrder.{fits_all}

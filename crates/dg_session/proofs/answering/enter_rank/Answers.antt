@@ -1,5 +1,4 @@
-use Rattle.dg_session.proofs.Common.{refl, inr, IsWithin}
-use Rattle.dg_game.specs.declared.finding.Question.TheVariants as question
+use Rattle.dg_session.proofs.Common.{refl, inr, IsWithin, RankQuestion}
 use Rattle.dg_session.proofs.Made.{stale_made, rank_within, entered, any_ok, call_refused, obeys_after, with_look}
 use Rattle.dg_session.proofs.answering.enter_rank.Goals as goal
 
@@ -8,7 +7,7 @@ returns-in-Ok-Some g c =
     let within : IsWithin c.in-Some.look.shown.graph.size c.args.k =
     (_, rw (c.size.ensures.size, c.graph.ensures) at c.in-Some-trials.ensures) in
     with_look c.in-Some.is
-    (entered (stale_made (question.Rank c.args.k)
+    (entered (stale_made (RankQuestion c.args.k)
     (rw c.in-Ok-Some.field-0-is at c.in-Ok-Some.ensures.settled))
     (λ made after text enters. inr (rank_within c.receipt-receipt.ensures.taken within, enters))
     (any_ok _ refl) c.say_entry.ensures)

@@ -1,12 +1,11 @@
-use Rattle.dg_session.proofs.Common.{refl}
-use Rattle.dg_game.specs.declared.finding.Question.TheVariants as question
+use Rattle.dg_session.proofs.Common.{refl, JudgeQuestion}
 use Rattle.dg_session.proofs.Made.{stale_made, entered, any_ok, call_refused, obeys_after, with_look}
 use Rattle.dg_session.proofs.answering.enter_verdict.Goals as goal
 
 pub returns-in-Ok-Some : goal.returns-in-Ok-Some
 returns-in-Ok-Some g c =
     with_look c.in-Some.is
-    (entered (stale_made question.Judge
+    (entered (stale_made JudgeQuestion
     (rw c.in-Ok-Some.field-0-is at c.in-Ok-Some.ensures.settled))
     (λ made after text enters. enters) (any_ok _ refl) c.say_entry.ensures)
 

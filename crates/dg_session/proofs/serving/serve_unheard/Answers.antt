@@ -1,11 +1,10 @@
-use Rattle.dg_session.proofs.Common.{arith, common_steps}
 use Rattle.dg_session.proofs.Sessions.{numbers_of, session_alone}
 use Rattle.dg_session.proofs.serving.serve_unheard.Goals as goal
 
 pub returns-clause-session : goal.returns-clause-session
 returns-clause-session g c =
     session_alone _ c.from_mut-seats.ensures.value (record {
-      over = grind (arith, common_steps);
+      over = rw (c.serve_lines-ended.ensures.still cc, c.new-writer.ensures.contents) at c.serve_lines-ended.ensures.session;
       found = c.seats_have_prefixes.ensures;
       numbers = numbers_of c.serve_lines-ended.ensures.session;
     })
