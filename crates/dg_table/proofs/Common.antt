@@ -14,7 +14,7 @@ pub use Rattle.dg_game.specs.Replies.{Replies}
 pub use Rattle.dg_game.specs.State.{LeadsTo, GameState}
 pub use Rattle.dg_game.specs.declared.entry.Entry.{Entry}
 pub use Rattle.dg_game.specs.declared.entry.Reply.{Reply}
-pub use Rattle.dg_game.specs.declared.entry.Reply.TheVariants.{Looked, Stale, Verdict}
+pub use Rattle.dg_game.specs.declared.entry.Reply.TheVariants.{Looked, Rank as RankReply, Stale, Verdict}
 pub use Rattle.dg_game.specs.declared.entry.Request.{Request}
 pub use Rattle.dg_game.specs.declared.entry.Request.TheVariants.{Look}
 pub use Rattle.dg_game.specs.declared.entry.TheConstants.{MAX_SEATS}
@@ -44,7 +44,7 @@ pub use Rattle.dg_theory.specs.Multigraph.{Multigraph}
 pub use Rattle.std.proofs.Common.{Bool, List, None, Option, Some, [], ap, append_assoc, arith, cond, drop, eq-eqb, false, get_or, inl, inr, length, length-append, map, refl, rules, set, slice_get, subst, suc, sum, sym, take, true, zero, ℕ, ◌++◌, ◌+◌, ◌-◌, ◌<◌, ◌==◌, ◌↔◌, ◌∙◌, ◌∷◌, ◌≡◌, ◌≢◌, ◌≤◌}
 pub use Rattle.std.proofs.Math.Seq.{take-append_seam}
 pub use Rattle.std.proofs.lemmas.Bool.{cases_eq, cases_lt, ne_eqb}
-pub use Rattle.std.proofs.lemmas.List.{append-nil, get_or-replicate, get_or-set_other, get_or-set_same, get_or_past, length-replicate, length-set, length_push, nil_from_length, take_more}
+pub use Rattle.std.proofs.lemmas.List.{append-nil, get_or-replicate, get_or-set_other, get_or-set_same, get_or_past, length-replicate, length-set, length_push, nil_from_length, take_all, take_more}
 pub use Rattle.std.proofs.lemmas.List.Elements.{filter-append}
 pub use Rattle.std.proofs.lemmas.List.Sums.{sum_by-cons}
 pub use Rattle.std.proofs.lemmas.Option.{get_or_from_slice_get, same_Some, slice_get_read, slice_get_within}

@@ -9,8 +9,7 @@
 --   stale_both       the reply to a finding on an entry is stale just where a gift was accepted after it
 --   carried_over     where none was, the finding is carried to the position now
 --   look_stands      what is kept of an entry of a legal history that is a look, is of a look of it
-use Rattle.dg_table.proofs.Common.{◌≡◌, ◌≢◌, ◌↔◌, ℕ, Bool, true, false, cond, List, [], ◌∷◌, ◌++◌, take, slice_get, Option, Some, None, refl, sym, ap, subst, ◌∙◌, filter, last_or, append-nil, same_Some, filter-append, Multigraph, StartData, Vector, position_after, gifts_in, IsLegal, IsLookAt, asked_for, KeepsFinding, Replies, Entry, Request, Look, Reply, Looked, Verdict, Stale, Finding, Judged, Ranked, LookData, legal_looks, vertices_stay, IsKeptLook, SeatKeepsLastLook, KeptLookHasVertices, IsLastLook, IsLookOf, is_look, last_look, asks_for_kept_look, IsSettledFor}
-use Rattle.dg_game.specs.declared.entry.Reply.TheVariants.{Rank as RankReply}
+use Rattle.dg_table.proofs.Common.{◌≡◌, ◌≢◌, ◌↔◌, ℕ, Bool, true, false, cond, List, [], ◌∷◌, ◌++◌, take, slice_get, Option, Some, None, refl, sym, ap, subst, ◌∙◌, filter, last_or, append-nil, same_Some, filter-append, Multigraph, StartData, Vector, position_after, gifts_in, IsLegal, IsLookAt, asked_for, KeepsFinding, Replies, Entry, Request, Look, Reply, Looked, Verdict, Stale, Finding, Judged, Ranked, LookData, legal_looks, vertices_stay, IsKeptLook, SeatKeepsLastLook, KeptLookHasVertices, IsLastLook, IsLookOf, is_look, last_look, asks_for_kept_look, IsSettledFor, RankReply}
 
 last_or-snoc : {A : Type 0} (o : Option A) (xs : List A) (x : A) → last_or o (xs ++ x ∷ []) ≡ Some x
 last_or-snoc o [] x = refl
