@@ -27,9 +27,19 @@ pub struct Log<N: Name> {
 }
 
 impl<N: Name> Log<N> {
-    /// The log of an empty history, the one pen that writes it, and the leave to make its seats. The conditions are
-    /// that N names the row, and that as many entries may be in the history as the row has cells.
-    pub fn new(row: Row) -> (Log<N>, Pen<N>, Seating<N>)
+    /// The log of an empty history, and the one pen that writes it. The conditions are that N names the row, and that as many
+    /// entries may be in the history as the row has cells. No seat can be made for it: that takes the leave of `with_seating`.
+    pub fn new(row: Row) -> (Log<N>, Pen<N>)
+        requires row { row ≡ N.cells }
+        requires capacity { length row ≡ N.table.capacity }
+        ensures { result.1 ≡ blank }
+    {
+        let (log, pen, _) = Log::with_seating(row);
+        (log, pen)
+    }
+
+    /// The log and the pen of `new`, and the leave to make the seats of its table. The conditions are those of `new`.
+    pub fn with_seating(row: Row) -> (Log<N>, Pen<N>, Seating<N>)
         requires row { row ≡ N.cells }
         requires capacity { length row ≡ N.table.capacity }
         ensures { result.1 ≡ blank }

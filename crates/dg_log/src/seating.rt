@@ -3,8 +3,8 @@
 use crate::name::Name;
 use std::marker::PhantomData;
 
-/// The leave to make the seats of the table N. `Log::new` gives it, once for a row of cells, and it can't be copied: who uses it
-/// up for the seats makes each of them once.
+/// The leave to make the seats of the table N. `Log::with_seating` gives it, once for a row of cells, and it can't be copied:
+/// who uses it up for the seats makes each of them once.
 #[derive(Drop)]
 pub struct Seating<N: Name> {
     of: PhantomData<N>,
