@@ -137,20 +137,20 @@ impl<N: Name> Held<N> {
     pub fn call(
         &mut self,
         log: &Log<N>,
-        seat: &mut Seat<N>,
         slot: Box<Entry>,
-        plain: &Plain,
+        seat: &mut Seat<N>,
+        plain: Plain,
     ) -> Result<Receipt<N>, Fault>
         requires { seat.old.space ≡ true }
         ensures entered { IfOk result
-            (λ r. IsAnsweredAfter N.table (asked plain.now) (entering self.old.entries r seat.old seat.new) ×
+            (λ r. IsAnsweredAfter N.table (asked plain) (entering self.old.entries r seat.old seat.new) ×
             (self.new ≡ with_entry self.old r.1)) }
         ensures refused { IfErr result
             (λ f. (self.new.entries ≡ self.old.entries) × Meets self.old.entries seat.old seat.new ×
             RefusesStep N.table self.old self.new seat.old f) }
     {
         match self.ready(log, seat) {
-            Ok(()) => self.answer_ready(log, seat, slot, plain),
+            Ok(()) => self.answer_ready(log, slot, seat, &plain),
             Err(fault) => {
                 self.meet(seat);
                 Err(fault)
@@ -166,8 +166,8 @@ impl<N: Name> Held<N> {
     pub fn turn<F: FnMut(&Graph, &Divisor) -> Option<Move>>(
         &mut self,
         log: &Log<N>,
-        seat: &mut Seat<N>,
         slot: Box<Entry>,
+        seat: &mut Seat<N>,
         choose: &mut F,
     ) -> Result<Receipt<N>, Fault>
         requires space { seat.old.space ≡ true }
@@ -185,7 +185,7 @@ impl<N: Name> Held<N> {
         match self.ready(log, seat) {
             Ok(()) => {
                 let chosen = Plain::of(choose(self.game.graph(), self.game.position()));
-                self.answer_ready(log, seat, slot, &chosen)
+                self.answer_ready(log, slot, seat, &chosen)
             }
             Err(fault) => {
                 self.meet(seat);
@@ -198,8 +198,8 @@ impl<N: Name> Held<N> {
     fn answer_ready(
         &mut self,
         log: &Log<N>,
-        seat: &mut Seat<N>,
         slot: Box<Entry>,
+        seat: &mut Seat<N>,
         plain: &Plain,
     ) -> Result<Receipt<N>, Fault>
         requires space { seat.old.space ≡ true }
@@ -213,7 +213,7 @@ impl<N: Name> Held<N> {
     {
         let mut slot = slot;
         self.game.answer_call(seat.number(), plain, &mut *slot);
-        self.enter(log, seat, slot)
+        self.enter(log, slot, seat)
     }
 
     /// Enters a finding on a look as the last of the history, gives the seat its receipt, and tells the seat of the
@@ -224,8 +224,8 @@ impl<N: Name> Held<N> {
     pub fn settle(
         &mut self,
         log: &Log<N>,
-        seat: &mut Seat<N>,
         slot: Box<Entry>,
+        seat: &mut Seat<N>,
         look: &Receipt<N>,
         shown: &LookData,
         finding: &Finding,
@@ -250,7 +250,7 @@ impl<N: Name> Held<N> {
         let mut slot = slot;
         self.game
             .answer_finding(seat.number(), shown, finding, &mut *slot);
-        let receipt = self.enter(log, seat, slot)?;
+        let receipt = self.enter(log, slot, seat)?;
         seat.hear(look);
         Ok(receipt)
     }
@@ -263,8 +263,8 @@ impl<N: Name> Held<N> {
     pub fn settle_stale(
         &mut self,
         log: &Log<N>,
-        seat: &mut Seat<N>,
         slot: Box<Entry>,
+        seat: &mut Seat<N>,
         taken: &Receipt<N>,
         shown: &LookData,
         asks: &Question,
@@ -293,7 +293,7 @@ impl<N: Name> Held<N> {
         let mut slot = slot;
         self.game
             .answer_stale(seat.number(), shown, asks, &mut *slot);
-        let receipt = self.enter(log, seat, slot)?;
+        let receipt = self.enter(log, slot, seat)?;
         seat.hear(taken);
         Ok(Some(receipt))
     }
@@ -320,8 +320,8 @@ impl<N: Name> Held<N> {
     fn enter(
         &mut self,
         log: &Log<N>,
-        seat: &mut Seat<N>,
         slot: Box<Entry>,
+        seat: &mut Seat<N>,
     ) -> Result<Receipt<N>, Fault>
         requires space { seat.old.space ≡ true }
         requires ready { IsReady N.table.capacity self.old.entries seat.old }

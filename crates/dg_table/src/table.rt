@@ -78,14 +78,14 @@ impl<N: Name> Table<N> {
         let Ok(space) = Vec::with_capacity(alloc, usize::from(seats)) else {
             return Err((row, TableFault::OutOfMemory));
         };
-        let (log, pen, seating) = Log::new(row);
+        let (log, pen, seating) = Log::with_seating(row);
         let all = Seat::all(alloc, space, seats, seating);
         let held = Mutex::new(Held::new(pen, start, seats));
         let table = Table {
             held,
             log,
             start: *start,
-            inverse: InverseLaplacian::new(start.graph(), usize::from(start.q())),
+            inverse: InverseLaplacian::new(start.graph(), start.q()),
         };
         Ok((table, all))
     }
@@ -129,7 +129,7 @@ impl<N: Name> Table<N> {
             RefusesCall N.table seat.new f) }
     {
         let slot = self.room(alloc, seat)?;
-        self.held.lock(rt).call(&self.log, seat, slot, &plain)
+        self.held.lock(rt).call(&self.log, slot, seat, plain)
     }
 
     /// A call of the seat that is chosen at the position which it finds: `choose` is asked once, under the lock, for a move, or
@@ -151,7 +151,7 @@ impl<N: Name> Table<N> {
             RefusesTurn F.FnMut N.table seat.new (asking_at_table choose.old choose.new) f) }
     {
         let slot = self.room(alloc, seat)?;
-        self.held.lock(rt).turn(&self.log, seat, slot, choose)
+        self.held.lock(rt).turn(&self.log, slot, seat, choose)
     }
 
     /// Enters what was computed on the look of a receipt: as stale if gifts, levies or joins were accepted since; otherwise
@@ -180,7 +180,7 @@ impl<N: Name> Table<N> {
         let slot = self.room(alloc, seat)?;
         self.held
             .lock(rt)
-            .settle(&self.log, seat, slot, look, shown, finding)
+            .settle(&self.log, slot, seat, look, shown, finding)
     }
 
     /// Enters a question on the look of a receipt as stale, as `settle` enters each finding on it, if gifts, levies or joins were
@@ -208,7 +208,7 @@ impl<N: Name> Table<N> {
         let slot = self.room(alloc, seat)?;
         self.held
             .lock(rt)
-            .settle_stale(&self.log, seat, slot, look, shown, asks)
+            .settle_stale(&self.log, slot, seat, look, shown, asks)
     }
 
     /// The start of the game.

@@ -12,7 +12,7 @@ pub(crate) fn writes<N: Name>(rt: &impl Abort, alloc: Global, row: Row) -> Resul
     requires row { row ≡ N.cells }
     requires capacity { length row ≡ N.table.capacity }
 {
-    let (log, mut pen, _) = Log::<N>::new(row);
+    let (log, mut pen) = Log::<N>::new(row);
     assert!(rt; pen.len() == 0 && !pen.stuck());
     let claim = Entry {
         seat: 1,
