@@ -8,7 +8,6 @@ mod acts;
 #[cfg(test)]
 mod alone;
 #[cfg(test)]
-mod lends;
 #[cfg(test)]
 mod outcomes;
 #[cfg(test)]

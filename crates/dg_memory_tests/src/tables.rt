@@ -3,17 +3,15 @@ ghost use Rattle.std.specs.Prelude.{◌≡◌, length};
 ghost use Rattle.dg_log.specs.Tables.{table_data_of};
 
 use crate::acts::act_in_turn;
-use crate::lends::LendFirst;
 use crate::outcomes::{Outcome, done_if, refused, tell, tell_spared};
-use dg_chips::{Divisor, Script, Wide};
+use dg_chips::{Divisor, Move, Script, Wide};
 use dg_file::{FileFault, Names, TableFile, read_table};
 use dg_graph::Graph;
 use dg_log::{Log, LogFault, Name, Row};
-use dg_observer::{Gifts, Observer, ObserverFault};
+use dg_observer::{Gifts, Observer, ObserverFault, count_gift};
 use dg_rules::{Entry, Reply, Request};
 use dg_session::{SessionEnd, serve};
-use dg_strategy::{Strategy, greedy_settler, play, settle_out};
-use dg_system::{Input, Output};
+use dg_strategy::{Settler, Strategy, greedy_choice, play, settle_out};
 use dg_table::{Audit, Seat, Table, TableFault};
 use dg_verdict::{RankVerdict, Verdict};
 use std::alloc::Global;
@@ -163,7 +161,7 @@ fn writes<N: Name, R: Abort + Print>(rt: &R, alloc: Global, row: Row) -> Result<
     requires row { row ≡ N.cells }
     requires capacity { length row ≡ N.table.capacity }
 {
-    let (log, mut pen, _) = Log::<N>::new(row);
+    let (log, mut pen) = Log::<N>::new(row);
     let claim = Entry {
         seat: 1,
         request: Request::Claim,
@@ -188,7 +186,7 @@ fn writes<N: Name, R: Abort + Print>(rt: &R, alloc: Global, row: Row) -> Result<
 
 // An observer reads the seven entries, of which one is a gift. If memory was refused, it goes on from what it has read.
 fn watches<N: Name, R: Abort + Print>(rt: &R, alloc: Global, table: &Table<N>) -> Result<(), Fail> {
-    let mut observer = Observer::<N, Gifts>::new(alloc, Gifts, 0);
+    let mut observer = Observer::<N, Gifts, _>::new(alloc, 0, count_gift);
     match observer.catch_up(table.log()) {
         Ok(_) => tell(rt, "Observer::catch_up", Outcome::Done)?,
         Err(ObserverFault::OutOfMemory) => {
@@ -276,7 +274,8 @@ pub(crate) fn nothing_to_do(graph: &Graph) -> Result<Verdict, Fail> {
 
 // Two turns in which a lends. Entries that were made before a refusal stay.
 fn plays<N: Name>(rt: &impl Wait, alloc: Global, table: &Table<N>, seat: &mut Seat<N>) -> Outcome {
-    match play(rt, alloc, table, seat, &Strategy::new(LendFirst), 2) {
+    let lender = Strategy::new(|_: &Graph, _: &Divisor| Some(Move::Lend(0)));
+    match play(rt, alloc, table, seat, &lender, 2) {
         Ok(ended) => done_if(!ended.is_settled() && seat.calls() == 2),
         Err(fault) if seat.calls() < 2 => refused(fault),
         Err(_) => Outcome::Wrong,
@@ -290,7 +289,8 @@ fn settles<N: Name>(
     table: &Table<N>,
     seat: &mut Seat<N>,
 ) -> Outcome {
-    match settle_out(rt, alloc, table, seat, &greedy_settler(), 5) {
+    let settler = Settler::new(|_: &Graph, position: &Divisor| greedy_choice(position));
+    match settle_out(rt, alloc, table, seat, &settler, 5) {
         Ok(ended) => done_if(ended.is_settled() && seat.calls() == 3),
         Err(fault) if seat.calls() < 3 => refused(fault),
         Err(_) => Outcome::Wrong,
@@ -307,13 +307,10 @@ fn serves<N: Name, R: Threads + Wait>(
 ) -> Outcome
     requires { length names.now ≡ N.table.start.graph.size }
 {
-    let Ok(written) = Vec::with_capacity(alloc, 1_000) else {
+    let Ok(mut written) = Vec::with_capacity(alloc, 1_000) else {
         return Outcome::Memory;
     };
-    let mut reader = Input::new(TEXT);
-    let mut writer = Output::new(written);
-    let ended = serve(rt, alloc, table, seat, names, &mut reader, &mut writer, 1);
-    let written = writer.into_inner();
+    let ended = serve(rt, alloc, table, seat, names, TEXT, &mut written, 1);
     match ended {
         Ok(count) => done_if(count == 7 && written.as_slice() == ANSWER),
         Err(_) if !are_lines(written.as_slice()) => Outcome::Wrong,

@@ -1,13 +1,13 @@
 //! Observers: what they have read, and what they keep of it.
 ghost use Rattle.std.specs.Prelude.{◌≡◌, ◌<◌, ◌≤◌, ◌++◌, ℕ, List, [], ◌∷◌, length, slice_get, Some, IfOk, OnOk, OnErr};
 ghost use Rattle.dg_rules.specs.declared.entry.Entry.{Entry as EntryData};
-ghost use Rattle.dg_observer.specs.Folds.{Folds, Observed};
+ghost use Rattle.dg_observer.specs.Folds.{Folds, GoesOn, IsAskedAtAll, Observed};
 
 use crate::watch::Watch;
 use dg_log::{Log, Name, Receipt};
 use dg_rules::{Entry, MAX_ENTRIES};
 use std::alloc::{AllocError, Global};
-use std::marker::Model;
+use std::marker::{Model, PhantomData};
 use thiserror::Error;
 
 /// Why an observer reads no further.
@@ -18,39 +18,49 @@ pub enum ObserverFault {
     OutOfMemory,
 }
 
-/// Reads the history of the table N from its first entry on, each entry once, in order, and keeps what W says. A contract
-/// sees the state and the entries that were read.
+/// Reads the history of the table N from its first entry on, each entry once, in order, and keeps what W says, by the steps of
+/// a closure. A contract sees the state, the entries that were read, and the closure.
 #[derive(Drop)]
-pub struct Observer<N: Name, W: Watch + Drop> {
-    watch: W,
+pub struct Observer<N: Name, W: Watch, F> {
+    step: F,
     state: W::State,
     receipts: Vec<Receipt<N>>,
+    of: PhantomData<W>,
 }
 
-impl<N: Name, W: Watch + Drop> Model for Observer<N, W> {
+impl<N: Name, W: Watch, F> Model for Observer<N, W, F> {
     ghost use Rattle.std.specs.Prelude.{◌≤◌, map, length};
     ghost use Rattle.dg_rules.specs.declared.game.TheConstants.{MAX_ENTRIES};
     ghost use Rattle.dg_observer.specs.Folds.{Observed, Folds, AreReadInOrder};
 
-    ghost Value = { Observed W.State };
+    ghost Value = { Observed W.State F };
 
-    ghost view = { λ o. record { state = o.state; entries = map (λ r. r.1) o.receipts.items } };
+    ghost view = { λ o. record { state = o.state; entries = map (λ r. r.1) o.receipts.items; step = o.step } };
 
     ghost invariant = { λ o. Folds W.begins W.goes_on (map (λ r. r.1) o.receipts.items) o.state
         × AreReadInOrder o.receipts.items
         × (length o.receipts.items ≤ length N.cells) × (length o.receipts.items ≤ MAX_ENTRIES) };
 }
 
-impl<N: Name, W: Watch + Drop> Observer<N, W> {
-    /// An observer that has read nothing, and keeps what the watch says. The condition is that it may begin with `first`.
-    pub fn new(alloc: Global, watch: W, first: W::State) -> Observer<N, W>
-        requires { W.begins first }
-        ensures { result ≡ record { state = first; entries = [] } }
+impl<N, W, F> Observer<N, W, F>
+where
+    N: Name,
+    W: Watch,
+    F: Fn(&W::State, &Entry) -> Result<W::State, AllocError>,
+{
+    /// An observer that has read nothing, and goes on as the closure says. The conditions are that it may begin with `first`,
+    /// that the closure may be called at every state and entry, and that it goes on as W says.
+    pub fn new(alloc: Global, first: W::State, step: F) -> Observer<N, W, F>
+        requires first { W.begins first }
+        requires asked { IsAskedAtAll (F.pre step) }
+        requires keeps { GoesOn (F.post step) W.goes_on }
+        ensures { result ≡ record { state = first; entries = []; step = step } }
     {
         Observer {
-            watch,
+            step,
             state: first,
             receipts: Vec::new(alloc),
+            of: PhantomData,
         }
     }
 
@@ -79,11 +89,15 @@ impl<N: Name, W: Watch + Drop> Observer<N, W> {
         &self.receipts[number as usize]
     }
 
-    /// Reads on until an entry is not found, and gives how many were read. It takes no lock.
+    /// Reads on until an entry is not found, and gives how many were read. It takes no lock. The conditions are those of `new` on
+    /// the closure.
     ///
     /// Refused with `OutOfMemory` if memory for a receipt is, or if the step answers so; what was read before
     /// stands.
     pub fn catch_up(&mut self, log: &Log<N>) -> Result<u32, ObserverFault>
+        requires asked { IsAskedAtAll (F.pre self.old.step) }
+        requires keeps { GoesOn (F.post self.old.step) W.goes_on }
+        ensures step { self.new.step ≡ self.old.step }
         ensures more { (es : List EntryData) × (self.new.entries ≡ self.old.entries ++ es)
             × IfOk result (λ n. n ≡ length es) }
     {
@@ -104,10 +118,13 @@ impl<N: Name, W: Watch + Drop> Observer<N, W> {
         requires entry { receipt.1 ≡ entry.now }
         requires cell { length self.old.entries < length N.cells }
         requires few { length N.cells ≤ MAX_ENTRIES }
+        requires asked { IsAskedAtAll (F.pre self.old.step) }
+        requires keeps { GoesOn (F.post self.old.step) W.goes_on }
+        ensures step { self.new.step ≡ self.old.step }
         ensures ok { OnOk result (self.new.entries ≡ self.old.entries ++ entry.now ∷ []) }
         ensures err { OnErr result (self.new ≡ self.old) }
     {
-        let next = self.watch.step(&self.state, entry)?;
+        let next = (self.step)(&self.state, entry)?;
         self.receipts.push(receipt)?;
         self.state = next;
         Ok(())

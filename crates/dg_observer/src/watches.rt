@@ -1,6 +1,7 @@
-//! Three watches: the gift count, the position, and the refused moves of each seat.
-ghost use Rattle.std.specs.Prelude.{◌≡◌};
-ghost use Rattle.dg_observer.specs.Watched.{WatchCountsGifts, WatchShowsPositions, is_watched_refusal};
+//! Three watches with their steps: the gift count, the position, and the refused moves of each seat.
+ghost use Rattle.std.specs.Prelude.{◌≡◌, IfOk};
+ghost use Rattle.dg_rules.specs.State.{amounts_after};
+ghost use Rattle.dg_observer.specs.Watched.{WatchCountsGifts, WatchShowsPositions, gifts_after_entry, is_watched_refusal, refusal_counted};
 
 use crate::watch::Watch;
 use dg_chips::Divisor;
@@ -23,19 +24,22 @@ impl Watch for Gifts {
     ghost begins = { λ n. n ≡ 0 };
 
     ghost goes_on = { λ n e m. m ≡ gifts_after_entry n e };
+}
 
-    fn step(&self, count: &u64, entry: &Entry) -> Result<u64, AllocError> {
-        match entry.reply {
-            Reply::Given(..) | Reply::Joined(..) => Ok(count.saturating_add(1)),
-            Reply::Moved(_)
-            | Reply::Looked(..)
-            | Reply::Verdict(_)
-            | Reply::Rank(_)
-            | Reply::Stale(_)
-            | Reply::Won
-            | Reply::NotWon
-            | Reply::Refused(_) => Ok(*count),
-        }
+/// The step of `Gifts`.
+pub fn count_gift(count: &u64, entry: &Entry) -> Result<u64, AllocError>
+    ensures { IfOk result (λ next. next ≡ gifts_after_entry count.now entry.now) }
+{
+    match entry.reply {
+        Reply::Given(..) | Reply::Joined(..) => Ok(count.saturating_add(1)),
+        Reply::Moved(_)
+        | Reply::Looked(..)
+        | Reply::Verdict(_)
+        | Reply::Rank(_)
+        | Reply::Stale(_)
+        | Reply::Won
+        | Reply::NotWon
+        | Reply::Refused(_) => Ok(*count),
     }
 }
 
@@ -55,27 +59,22 @@ impl<N: Name> Watch for Positions<N> {
     ghost begins = { λ d. d ≡ N.table.start.divisor };
 
     ghost goes_on = { λ old e next. next ≡ amounts_after old e.reply };
-
-    /// A move or a gift that was accepted shows the amounts after it. A join leaves them.
-    fn step(&self, position: &Divisor, entry: &Entry) -> Result<Divisor, AllocError> {
-        match entry.reply {
-            Reply::Moved(divisor) | Reply::Given(_, divisor) => Ok(divisor),
-            Reply::Joined(..)
-            | Reply::Looked(..)
-            | Reply::Verdict(_)
-            | Reply::Rank(_)
-            | Reply::Stale(_)
-            | Reply::Won
-            | Reply::NotWon
-            | Reply::Refused(_) => Ok(*position),
-        }
-    }
 }
 
-impl<N> Positions<N> {
-    /// The watch of the table N.
-    pub fn new() -> Positions<N> {
-        Positions { of: PhantomData }
+/// The step of `Positions`. A move or a gift that was accepted shows the amounts after it. A join leaves them.
+pub fn keep_position(position: &Divisor, entry: &Entry) -> Result<Divisor, AllocError>
+    ensures { IfOk result (λ next. next ≡ amounts_after position.now entry.now.reply) }
+{
+    match entry.reply {
+        Reply::Moved(divisor) | Reply::Given(_, divisor) => Ok(divisor),
+        Reply::Joined(..)
+        | Reply::Looked(..)
+        | Reply::Verdict(_)
+        | Reply::Rank(_)
+        | Reply::Stale(_)
+        | Reply::Won
+        | Reply::NotWon
+        | Reply::Refused(_) => Ok(*position),
     }
 }
 
@@ -92,15 +91,18 @@ impl Watch for RefusedMoves {
     ghost begins = { λ counts. counts ≡ replicate 64 0 };
 
     ghost goes_on = { λ counts e next. next ≡ refusal_counted counts e };
+}
 
-    fn step(&self, counts: &[u32; 64], entry: &Entry) -> Result<[u32; 64], AllocError> {
-        let mut next = *counts;
-        if is_refused_move(entry) && entry.seat >= 1 && entry.seat <= MAX_SEATS {
-            let place = usize::from(entry.seat) - 1;
-            next[place] = next[place].saturating_add(1);
-        }
-        Ok(next)
+/// The step of `RefusedMoves`.
+pub fn count_refusal(counts: &[u32; 64], entry: &Entry) -> Result<[u32; 64], AllocError>
+    ensures { IfOk result (λ next. next ≡ refusal_counted counts.now entry.now) }
+{
+    let mut next = *counts;
+    if is_refused_move(entry) && entry.seat >= 1 && entry.seat <= MAX_SEATS {
+        let place = usize::from(entry.seat) - 1;
+        next[place] = next[place].saturating_add(1);
     }
+    Ok(next)
 }
 
 fn is_refused_move(entry: &Entry) -> bool

@@ -25,9 +25,9 @@ pub use Rattle.dg_rules.specs.declared.entry.Request.{Request}
 pub use Rattle.dg_rules.specs.declared.entry.Request.TheVariants.{Claim}
 pub use Rattle.dg_graph.specs.Graph.{IsGraph}
 pub use Rattle.dg_log.specs.Tables.{TableData}
-pub use Rattle.dg_strategy.specs.Choices.{BorrowsAtLeast, BorrowsInDebt, Choosing, GivesMoves, IsLeastInDebt, SettlesDebts}
+pub use Rattle.dg_strategy.specs.Choices.{BorrowsAtLeast, BorrowsInDebt, Choosing, IsLeastInDebt}
 pub use Rattle.dg_strategy.specs.Greedy.{AllChosenMoves, AreGreedy, EndsSo, EndsTurn, IsGreedyCall, IsGreedyGame, IsGreedyTurn}
-pub use Rattle.dg_strategy.specs.GreedyLaws.{AreSameGreedyGame, GreedyGameIsOne, StrategyIsAloneAt, LeastDebtors, SettlingOutIsGreedy, GreedyShowTheSame}
+pub use Rattle.dg_strategy.specs.GreedyLaws.{AreSameGreedyGame, GreedyGameIsOne, IsGreedyChoice, StrategyIsAloneAt, SettlingOutIsGreedy, GreedyShowTheSame}
 pub use Rattle.dg_strategy.specs.Plays.{AreMoves, Gains, IsClaimed, ChoiceIsMadeOrPastRange, IsChosenMove, IsPlayed, IsPlayedOut, IsSettlerTurn, IsStopped, IsStrategyTurn, IsTurnBy}
 pub use Rattle.dg_strategy.specs.declared.playing.Ended.{Ended}
 pub use Rattle.dg_strategy.specs.declared.playing.Ended.TheVariants.{Settled, Turns}

@@ -1,4 +1,6 @@
 -- What the greedy settler comes to, alone at a new table.
+--   LeastDebtors    the greedy choice: the least vertex in debt borrows, and there is a claim if
+--                   nobody is in debt
 --   bare            entries without their numbers
 --   bare_more       those of one more entry
 --   bare_count      they are as many
@@ -9,9 +11,15 @@
 --   turns_after     turns of the greedy settler after its calls K make a legal and greedy history
 --   last_asked      how the last entry of a greedy history is asked for
 --   claim_at_end    the claim at the end of a legal and greedy history is won
---   settling_out_is_greedy   a greedy game is made
-use Rattle.dg_strategy.proofs.Common.{◌≡◌, ℕ, ◌+◌, ◌<◌, List, [], ◌∷◌, ◌++◌, length, map, Some, Option, None, arith, refl, sym, ap, subst, ◌∙◌, append_assoc, append-nil, FoldsTo, enumerate_from, take-append_seam, slice_get_within, IsEffective, StartData, Move, position_after, IsLegal, Position, Replies, Entry, Request, Claim, Won, legal_none, slice_get-append, slice_get-seam, TableData, SeatView, AreOfTableSeats, entries_of, request_for, enumerate_from-more, entries_enumerated, own_alone, BorrowsAtLeast, IsGreedyCall, AreGreedy, AllChosenMoves, LeastDebtors, StrategyIsAloneAt, SettlingOutIsGreedy, AreMoves, IsTurnBy, IsSettlerTurn, Gains, Settled, Turns}
+--   least_settling_out   a greedy game is made
+--   least_turn       a turn of a settler whose choices are greedy is one of the greedy settler
+--   settling_out_is_greedy   a greedy game is made by each such settler
+use Rattle.dg_strategy.proofs.Common.{◌≡◌, ℕ, ◌+◌, ◌<◌, List, [], ◌∷◌, ◌++◌, length, map, Some, Option, None, arith, refl, sym, ap, subst, ◌∙◌, append_assoc, append-nil, FoldsTo, enumerate_from, take-append_seam, slice_get_within, IsEffective, StartData, Move, position_after, IsLegal, Position, Replies, Entry, Request, Claim, Won, legal_none, slice_get-append, slice_get-seam, TableData, SeatView, AreOfTableSeats, entries_of, request_for, enumerate_from-more, entries_enumerated, own_alone, BorrowsAtLeast, Choosing, IsGreedyChoice, IsGreedyCall, AreGreedy, AllChosenMoves, StrategyIsAloneAt, SettlingOutIsGreedy, AreMoves, IsTurnBy, IsSettlerTurn, Gains, Settled, Turns}
+use Rattle.dg_strategy.proofs.Gained.{played_as}
 use Rattle.dg_strategy.proofs.Turned.{claim_won}
+
+LeastDebtors : Choosing
+LeastDebtors g d answer = BorrowsAtLeast d answer
 
 pub bare : List (ℕ × Entry) → List Entry
 bare es = map (λ (p : ℕ × Entry). p.1) es
@@ -125,8 +133,8 @@ gained table x es y (alone, none) gains =
     let (greedy, legal, mine) = turns_after table alone [] x es gains.last none (legal_none table.start) gains.steps in
     (greedy, legal, gains.kept.mine ∙ mine)
 
-pub settling_out_is_greedy : (N : Type 0) (table : TableData) → SettlingOutIsGreedy N table
-settling_out_is_greedy N table n x y Turns new played =
+least_settling_out : (N : Type 0) (table : TableData) → SettlingOutIsGreedy N LeastDebtors table
+least_settling_out N table n x y Turns greedy new played =
     let (greedy, legal, mine) = gained table x played.entries y new played.gained in (
       bare played.entries,
       mine,
@@ -136,7 +144,7 @@ settling_out_is_greedy N table n x y Turns new played =
         ends = (bare_moves played.entries played.moves, bare_count played.entries ∙ played.count);
       },
     )
-settling_out_is_greedy N table n x y (Settled r) new played =
+least_settling_out N table n x y (Settled r) greedy new played =
     let es = played.entries in
     let (greedy, legal, mine) = gained table x (es ++ r ∷ []) y new played.gained in
     let same = bare_more es r in
@@ -158,3 +166,29 @@ settling_out_is_greedy N table n x y (Settled r) new played =
         );
       },
     )
+
+least_turn : (A : Choosing) (table : TableData) → IsGreedyChoice A → (x : SeatView) (r : ℕ × Entry) (y : SeatView) →
+    IsSettlerTurn A table x r y → IsSettlerTurn LeastDebtors table x r y
+least_turn A table greedy x r y settles =
+    let turn = settles.strategy.turn in
+    record {
+      strategy = record {
+        turn = record {
+          history = turn.history;
+          amounts = turn.amounts;
+          answer = turn.answer;
+          shown = turn.shown;
+          chosen = greedy (position_after table.start turn.history).graph turn.amounts turn.answer turn.shown.size turn.chosen;
+          answered = turn.answered;
+        };
+        gifts = settles.strategy.gifts;
+        moved = settles.strategy.moved;
+      };
+      borrows = settles.borrows;
+      won = settles.won;
+    }
+
+pub settling_out_is_greedy : (N : Type 0) (A : Choosing) (table : TableData) → SettlingOutIsGreedy N A table
+settling_out_is_greedy N A table n x y ended greedy new played =
+    least_settling_out N table n x y ended (λ g d m size least. least) new
+    (played_as (IsSettlerTurn A table) (IsSettlerTurn LeastDebtors table) (least_turn A table greedy) n x y ended played)

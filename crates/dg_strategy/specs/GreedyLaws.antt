@@ -1,28 +1,28 @@
 -- The laws of the greedy game: to settle out by the greedy settler, alone at a new table, makes it,
 -- and there is only one.
---   LeastDebtors         == the choice of the greedy settler: the least vertex in debt borrows, and
+--   IsGreedyChoice A     == each choice that A has is greedy: the least vertex in debt borrows, and
 --                           there is a claim if nobody is in debt
 --   StrategyIsAloneAt table x == the table has one seat, and the seat x has made no call
 --   HasGreedyGame table n y ended == the calls of the seat y are the history of a greedy game of n
 --                           turns, numbered from 0 on, which ended so
---   SettlingOutIsGreedy N table == so it is after every play of the greedy settler that is not
---                           refused, by a seat that is alone at the new table N
+--   SettlingOutIsGreedy N A table == if A is a greedy choice, so it is after every play of a settler
+--                           with A that is not refused, by a seat that is alone at the new table N
 --   GreedyShowTheSame a b == the replies are the same, but that an accepted move may hold its amounts
 --                           in another way
 --   AreSameGreedyGame H K == the histories are as long, and in each place of the same seat and request,
 --                           with replies that show the same
 --   GreedyGameIsOne      == from one start, and with one number of turns, greedy games have the same
 --                           history, and end in the same way
-use Rattle.std.specs.Prelude.{◌≡◌, ℕ, Bool, List, [], ◌∷◌, Ok, ⊤, ◌⊎◌}
+use Rattle.std.specs.Prelude.{◌≡◌, ℕ, Bool, List, [], ◌∷◌, Option, Ok, ⊤, ◌⊎◌}
 use Rattle.std.specs.List.{enumerate_from}
-use Rattle.dg_strategy.specs.Common.{AgreeOn, StartData, Vector, at, Entry, Reply, Moved, TableData, SeatView}
+use Rattle.dg_strategy.specs.Common.{Multigraph, AgreeOn, StartData, Vector, at, Move, Entry, Reply, Moved, TableData, SeatView}
 use Rattle.dg_strategy.specs.Choices.{Choosing, BorrowsAtLeast}
 use Rattle.dg_strategy.specs.Greedy.{IsGreedyGame}
 use Rattle.dg_strategy.specs.Plays.{IsSettlerTurn, Plays, is_settled}
 use Rattle.dg_strategy.specs.declared.playing.Ended.{Ended}
 
-abbrev pub LeastDebtors : Choosing
-LeastDebtors g d answer = BorrowsAtLeast d answer
+abbrev pub IsGreedyChoice : Choosing → Type 0
+IsGreedyChoice A = (g : Multigraph) (d : Vector) (m : Option Move) → d.size ≡ g.size → A g d m → BorrowsAtLeast d m
 
 abbrev pub StrategyIsAloneAt : TableData → SeatView → Type 0
 StrategyIsAloneAt table x = (table.seats ≡ 1) × (x.mine ≡ [])
@@ -31,9 +31,9 @@ abbrev pub HasGreedyGame : {N : Type 0} → TableData → ℕ → SeatView → E
 HasGreedyGame table n y ended = (H : List Entry) × (y.mine ≡ enumerate_from 0 H) ×
     IsGreedyGame table.start n H (is_settled ended)
 
-abbrev pub SettlingOutIsGreedy : Type 0 → TableData → Type 0
-SettlingOutIsGreedy N table = (n : ℕ) (x y : SeatView) (ended : Ended N) → StrategyIsAloneAt table x →
-    Plays (IsSettlerTurn LeastDebtors table) table n x y (Ok ended) → HasGreedyGame table n y ended
+abbrev pub SettlingOutIsGreedy : Type 0 → Choosing → TableData → Type 0
+SettlingOutIsGreedy N A table = (n : ℕ) (x y : SeatView) (ended : Ended N) → IsGreedyChoice A →
+    StrategyIsAloneAt table x → Plays (IsSettlerTurn A table) table n x y (Ok ended) → HasGreedyGame table n y ended
 
 abbrev pub GreedyShowTheSame : Reply → Reply → Type 0
 GreedyShowTheSame a b = (a ≡ b) ⊎ ((d e : Vector) × (a ≡ Moved d) × (b ≡ Moved e) × (d.size ≡ e.size)

@@ -6,8 +6,7 @@ ghost use Rattle.dg_rules.specs.declared.entry.Entry.{Entry as EntryData};
 ghost use Rattle.dg_rules.specs.declared.game.TheConstants.{MAX_ENTRIES};
 ghost use Rattle.dg_strategy.specs.Greedy.{IsGreedyTurn};
 
-use crate::choice::Choose;
-use crate::least_debtor::LeastDebtor;
+use crate::least_debtor::greedy_choice;
 use dg_rules::{Entry, Game, Plain};
 
 /// Plays the next turn of a greedy game, and writes its entry: seat 1 lets the least vertex in debt borrow, or claims if nobody
@@ -19,7 +18,7 @@ pub fn greedy_turn(game: &mut Game, entry: &mut Entry) -> bool
     ensures leads { (o : StartData) (H : List EntryData) → LeadsTo o H game.old →
         LeadsTo o (H ++ entry.new ∷ []) game.new }
 {
-    let choice = LeastDebtor.choose(game.graph(), game.position());
+    let choice = greedy_choice(game.position());
     let settled = choice.is_none();
     game.answer_call(1, &Plain::of(choice), entry);
     game.follow(entry);

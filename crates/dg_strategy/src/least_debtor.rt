@@ -1,34 +1,19 @@
-//! The greedy settler.
+//! The greedy choice.
 ghost use Rattle.std.specs.Prelude.{MatchOption};
 ghost use Rattle.dg_theory.specs.Firing.{IsEffective};
 ghost use Rattle.dg_chips.specs.Vector.{at};
-ghost use Rattle.dg_strategy.specs.Choices.{IsLeastInDebt};
+ghost use Rattle.dg_strategy.specs.Choices.{BorrowsAtLeast, IsLeastInDebt};
 
-use crate::choice::Choose;
-use crate::settler::Settler;
 use dg_chips::{Divisor, Move};
-use dg_graph::Graph;
 
-/// Lets the least vertex in debt borrow.
-#[derive(Clone, Copy)]
-pub struct LeastDebtor;
-
-impl Choose for LeastDebtor {
-    ghost use Rattle.dg_strategy.specs.Choices.{BorrowsAtLeast};
-
-    ghost may_answer = { λ s g d m. BorrowsAtLeast d m };
-
-    fn choose(&self, _graph: &Graph, position: &Divisor) -> Option<Move> {
-        match least_debtor(position) {
-            Some(v) => Some(Move::Borrow(v)),
-            None => None,
-        }
+/// What the greedy settler chooses: the least vertex in debt borrows, and there is a claim if nobody is in debt.
+pub fn greedy_choice(position: &Divisor) -> Option<Move>
+    ensures { BorrowsAtLeast position.now result }
+{
+    match least_debtor(position) {
+        Some(v) => Some(Move::Borrow(v)),
+        None => None,
     }
-}
-
-/// The settler that lets the least vertex in debt borrow.
-pub fn greedy_settler() -> Settler<LeastDebtor> {
-    Settler::new(LeastDebtor)
 }
 
 /// The least vertex in debt.

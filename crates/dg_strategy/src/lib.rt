@@ -1,7 +1,6 @@
 //! Strategies: what chooses a seat's calls, kept with what is known of it.
 #![tactic(auto)]
 
-mod choice;
 mod games;
 mod laws;
 mod least_debtor;
@@ -9,10 +8,9 @@ mod playing;
 mod settler;
 mod strategy;
 
-pub use choice::Choose;
 pub use games::greedy_turn;
 pub use laws::greedy_is_settling_out;
-pub use least_debtor::{LeastDebtor, greedy_settler};
+pub use least_debtor::greedy_choice;
 pub use playing::{Ended, play, settle_out};
 pub use settler::Settler;
 pub use strategy::Strategy;

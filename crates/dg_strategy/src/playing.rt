@@ -3,12 +3,12 @@ ghost use Rattle.std.specs.Prelude.{◌≡◌, length, IfOk, IfErr, true, IsTrue
 ghost use Rattle.dg_table.specs.Faults.{RefusesCall};
 ghost use Rattle.dg_table.specs.Seats.{Keeps};
 ghost use Rattle.dg_rules.specs.declared.entry.Request.TheVariants.{Claim as ClaimRequest};
+ghost use Rattle.dg_strategy.specs.Choices.{Chooses, IsAskedAnywhere, GivesPlayable, GivesBorrowings, GivesClaims};
 ghost use Rattle.dg_strategy.specs.Plays.{IsTurnBy, IsStrategyTurn, IsSettlerTurn, Plays};
 
-use crate::choice::Choose;
 use crate::settler::Settler;
 use crate::strategy::Strategy;
-use dg_chips::Divisor;
+use dg_chips::{Divisor, Move};
 use dg_graph::Graph;
 use dg_log::{Name, Receipt};
 use dg_rules::{Entry, Request};
@@ -42,15 +42,17 @@ impl<N: Name> Ended<N> {
 /// may add edges meanwhile: the choice is asked at the graph found, too.
 ///
 /// It waits for the lock. Refused as a turn is; the entries made before stay.
-pub fn play<N: Name, C: Choose + Drop>(
+pub fn play<N: Name, F: Fn(&Graph, &Divisor) -> Option<Move>>(
     rt: &impl Wait,
     alloc: Global,
     table: &Table<N>,
     seat: &mut Seat<N>,
-    strategy: &Strategy<C>,
+    strategy: &Strategy<F>,
     turns: u32,
 ) -> Result<Ended<N>, Fault>
-    ensures { Plays (IsStrategyTurn (C.may_answer strategy.now) N.table)
+    requires asked { IsAskedAnywhere (F.pre strategy.now.choice) }
+    requires moves { GivesPlayable (F.post strategy.now.choice) }
+    ensures { Plays (IsStrategyTurn (Chooses (F.post strategy.now.choice)) N.table)
         N.table turns seat.old seat.new result }
 {
     let _graph = table.start().graph();
@@ -64,15 +66,18 @@ pub fn play<N: Name, C: Choose + Drop>(
 /// won.
 ///
 /// It waits for the lock. Refused as a turn is; the entries made before stay.
-pub fn settle_out<N: Name, C: Choose + Drop>(
+pub fn settle_out<N: Name, F: Fn(&Graph, &Divisor) -> Option<Move>>(
     rt: &impl Wait,
     alloc: Global,
     table: &Table<N>,
     seat: &mut Seat<N>,
-    settler: &Settler<C>,
+    settler: &Settler<F>,
     turns: u32,
 ) -> Result<Ended<N>, Fault>
-    ensures { Plays (IsSettlerTurn (C.may_answer settler.now) N.table)
+    requires asked { IsAskedAnywhere (F.pre settler.now.choice) }
+    requires moves { GivesBorrowings (F.post settler.now.choice) }
+    requires claims { GivesClaims (F.post settler.now.choice) }
+    ensures { Plays (IsSettlerTurn (Chooses (F.post settler.now.choice)) N.table)
         N.table turns seat.old seat.new result }
 {
     let _graph = table.start().graph();
@@ -83,15 +88,16 @@ pub fn settle_out<N: Name, C: Choose + Drop>(
 }
 
 /// So many turns as the choice says, or until it claims.
-fn turns_by<N: Name, C: Choose>(
+fn turns_by<N: Name, F: Fn(&Graph, &Divisor) -> Option<Move>>(
     rt: &impl Wait,
     alloc: Global,
     table: &Table<N>,
     seat: &mut Seat<N>,
-    choice: &C,
+    choice: &F,
     turns: u32,
 ) -> Result<Ended<N>, Fault>
-    ensures { Plays (IsTurnBy (C.may_answer choice.now) N.table) N.table turns seat.old seat.new result }
+    requires { IsAskedAnywhere (F.pre choice.now) }
+    ensures { Plays (IsTurnBy (Chooses (F.post choice.now)) N.table) N.table turns seat.old seat.new result }
 {
     for _ in 0..turns {
         let receipt = turn_by(rt, alloc, table, seat, choice)?;
@@ -103,19 +109,23 @@ fn turns_by<N: Name, C: Choose>(
 }
 
 /// One turn, as the choice says.
-fn turn_by<N: Name, C: Choose>(
+fn turn_by<N: Name, F: Fn(&Graph, &Divisor) -> Option<Move>>(
     rt: &impl Wait,
     alloc: Global,
     table: &Table<N>,
     seat: &mut Seat<N>,
-    choice: &C,
+    choice: &F,
 ) -> Result<Receipt<N>, Fault>
+    requires { IsAskedAnywhere (F.pre choice.now) }
     ensures turn { IfOk result
-        (λ r. IsTurnBy (C.may_answer choice.now) N.table seat.old r seat.new) }
+        (λ r. IsTurnBy (Chooses (F.post choice.now)) N.table seat.old r seat.new) }
     ensures fault { IfErr result
         (λ f. Keeps seat.old seat.new × RefusesCall N.table seat.new f) }
 {
-    let mut choose = |graph: &Graph, position: &Divisor| choice.choose(graph, position);
+    let mut choose = |graph: &Graph, position: &Divisor| -> Option<Move>
+        requires { F.pre choice.now graph position }
+        ensures { F.post choice.entry.now graph.entry position.entry result }
+    { choice(graph, position) };
     table.turn(rt, alloc, seat, &mut choose)
 }
 

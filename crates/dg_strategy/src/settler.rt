@@ -1,33 +1,30 @@
 //! Settlers, which borrow until nobody is in debt.
 ghost use Rattle.std.specs.Prelude.{◌≡◌};
-ghost use Rattle.dg_strategy.specs.Choices.{SettlesDebts};
+ghost use Rattle.dg_strategy.specs.Choices.{IsAskedAnywhere, GivesBorrowings, GivesClaims};
 
-use crate::choice::Choose;
-use std::marker::Model;
+use dg_chips::{Divisor, Move};
+use dg_graph::Graph;
 
-/// A choice that is kept with what is known of it: it lets a vertex in debt borrow, and claims only if nobody is in debt. A
-/// contract sees the choice.
+/// A closure that chooses, kept with what is known of it: it may be asked at every graph and amounts of as many vertices, it
+/// lets a vertex in debt borrow, and claims only if nobody is in debt.
 #[derive(Drop)]
-pub struct Settler<C: Choose + Drop> {
-    pub(crate) choice: C,
+pub struct Settler<F> {
+    /// The closure.
+    pub choice: F,
 }
 
-impl<C: Choose + Drop> Model for Settler<C> {
-    ghost use Rattle.dg_strategy.specs.Choices.{SettlesDebts};
-
-    ghost Value = { C };
-
-    ghost view = { λ s. s.choice };
-
-    ghost invariant = { λ s. SettlesDebts (C.may_answer s.choice) };
-}
-
-impl<C: Choose + Drop> Settler<C> {
-    /// The settler that plays as the choice says. The condition is that each move that it may answer, at any position, is a
-    /// borrowing by a vertex in debt, and that it answers none only if nobody is in debt.
-    pub fn new(choice: C) -> Settler<C>
-        requires { SettlesDebts (C.may_answer choice) }
-        ensures { result ≡ choice }
+impl<F> Settler<F>
+where
+    F: Fn(&Graph, &Divisor) -> Option<Move>,
+{
+    /// The settler that plays as the closure says. The conditions are that it may be asked at every graph and amounts of as
+    /// many vertices, that each move that it gives is a borrowing by a vertex in debt, and that it gives none only if nobody is
+    /// in debt.
+    pub fn new(choice: F) -> Settler<F>
+        requires asked { IsAskedAnywhere (F.pre choice) }
+        requires moves { GivesBorrowings (F.post choice) }
+        requires claims { GivesClaims (F.post choice) }
+        ensures { result.choice ≡ choice }
     {
         Settler { choice }
     }

@@ -1,32 +1,28 @@
 //! Strategies, each move of which can be made.
 ghost use Rattle.std.specs.Prelude.{◌≡◌};
-ghost use Rattle.dg_strategy.specs.Choices.{GivesMoves};
+ghost use Rattle.dg_strategy.specs.Choices.{IsAskedAnywhere, GivesPlayable};
 
-use crate::choice::Choose;
-use std::marker::Model;
+use dg_chips::{Divisor, Move};
+use dg_graph::Graph;
 
-/// A choice that is kept with what is known of it: each move that it may answer can be made. A contract sees the choice.
+/// A closure that chooses, kept with what is known of it: it may be asked at every graph and amounts of as many vertices, and
+/// each move that it gives can be made.
 #[derive(Drop)]
-pub struct Strategy<C: Choose + Drop> {
-    pub(crate) choice: C,
+pub struct Strategy<F> {
+    /// The closure.
+    pub choice: F,
 }
 
-impl<C: Choose + Drop> Model for Strategy<C> {
-    ghost use Rattle.dg_strategy.specs.Choices.{GivesMoves};
-
-    ghost Value = { C };
-
-    ghost view = { λ s. s.choice };
-
-    ghost invariant = { λ s. GivesMoves (C.may_answer s.choice) };
-}
-
-impl<C: Choose + Drop> Strategy<C> {
-    /// The strategy that plays as the choice says. The condition is that each move that it may answer, at any position, names
-    /// vertices that exist, is no empty set and has the right size.
-    pub fn new(choice: C) -> Strategy<C>
-        requires { GivesMoves (C.may_answer choice) }
-        ensures { result ≡ choice }
+impl<F> Strategy<F>
+where
+    F: Fn(&Graph, &Divisor) -> Option<Move>,
+{
+    /// The strategy that plays as the closure says. The conditions are that it may be asked at every graph and amounts of as
+    /// many vertices, and that each move that it gives names vertices that exist, is no empty set and has the right size.
+    pub fn new(choice: F) -> Strategy<F>
+        requires asked { IsAskedAnywhere (F.pre choice) }
+        requires moves { GivesPlayable (F.post choice) }
+        ensures { result.choice ≡ choice }
     {
         Strategy { choice }
     }

@@ -1,11 +1,14 @@
 //! Observers of a triangle.
-ghost use Rattle.std.specs.Prelude.{◌≡◌};
+ghost use Rattle.std.specs.Prelude.{◌≡◌, ◌+◌, IfOk};
 
 use crate::table_tests::{TableTest, on_a_table};
 use crate::tables::{amounts, triangle};
 use dg_chips::{Divisor, Move};
 use dg_log::{Log, Name};
-use dg_observer::{Gifts, Observer, ObserverFault, Positions, RefusedMoves, Watch};
+use dg_observer::{
+    Gifts, Observer, ObserverFault, Positions, RefusedMoves, Watch, count_gift, count_refusal,
+    keep_position,
+};
 use dg_rules::{Entry, Plain};
 use dg_table::{Seat, Table};
 use std::alloc::{AllocError, Global};
@@ -26,10 +29,6 @@ impl Watch for Entries {
     ghost begins = { λ n. n ≡ 0 };
 
     ghost goes_on = { λ n e m. m ≡ min (n + 1) (2 ^ 64 - 1) };
-
-    fn step(&self, count: &u64, _entry: &Entry) -> Result<u64, AllocError> {
-        Ok(count.saturating_add(1))
-    }
 }
 
 // Counts two entries, and has no memory for a third.
@@ -44,21 +43,23 @@ impl Watch for FirstTwo {
     ghost begins = { λ n. n ≡ 0 };
 
     ghost goes_on = { λ n e m. m ≡ n + 1 };
+}
 
-    fn step(&self, count: &u64, _entry: &Entry) -> Result<u64, AllocError> {
-        if *count < 2 {
-            Ok(*count + 1)
-        } else {
-            Err(AllocError)
-        }
+fn count_to_two(count: &u64, _entry: &Entry) -> Result<u64, AllocError>
+    ensures { IfOk result (λ next. next ≡ count.now + 1) }
+{
+    if *count < 2 {
+        Ok(*count + 1)
+    } else {
+        Err(AllocError)
     }
 }
 
-// Counts in a cell how often it is asked for a step.
+// Keeps a number, whichever.
 #[derive(Clone, Copy)]
-struct Invocation<'a>(&'a Cell<u64>);
+struct Any;
 
-impl<'a> Watch for Invocation<'a> {
+impl Watch for Any {
     ghost use Rattle.std.specs.Prelude.{⊤};
 
     type State = u64;
@@ -66,11 +67,6 @@ impl<'a> Watch for Invocation<'a> {
     ghost begins = { λ n. ⊤ };
 
     ghost goes_on = { λ n e m. ⊤ };
-
-    fn step(&self, state: &u64, _entry: &Entry) -> Result<u64, AllocError> {
-        self.0.set(self.0.get().wrapping_add(1));
-        Ok(*state)
-    }
 }
 
 #[test]
@@ -107,15 +103,7 @@ pub(crate) fn watched<N: Name, R: Wait + Abort>(
 
 // Of two entries the second is a gift.
 fn counts_gifts<N: Name>(rt: &impl Abort, alloc: Global, log: &Log<N>) -> Result<(), Fail> {
-    let mut gifts = Observer::<N, Gifts>::new(alloc, Gifts, 0);
-    reads_two(rt, log, &mut gifts)
-}
-
-fn reads_two<N: Name>(
-    rt: &impl Abort,
-    log: &Log<N>,
-    gifts: &mut Observer<N, Gifts>,
-) -> Result<(), Fail> {
+    let mut gifts = Observer::<N, Gifts, _>::new(alloc, 0, count_gift);
     let read = gifts.catch_up(log)?;
     assert!(rt; read == 2 && *gifts.state() == 1);
     let more = gifts.catch_up(log)?;
@@ -125,7 +113,9 @@ fn reads_two<N: Name>(
 }
 
 fn counts_entries<N: Name>(rt: &impl Abort, alloc: Global, log: &Log<N>) -> Result<(), Fail> {
-    let mut entries = Observer::<N, Entries>::new(alloc, Entries, 0);
+    let mut entries = Observer::<N, Entries, _>::new(alloc, 0, |count: &u64, _: &Entry| {
+        Ok(count.saturating_add(1))
+    });
     let read = entries.catch_up(log)?;
     assert!(rt; read == 3 && *entries.state() == 3);
     Ok(())
@@ -137,7 +127,10 @@ fn is_asked_once_for_each<N: Name>(
     log: &Log<N>,
 ) -> Result<(), Fail> {
     let steps = Cell::new(0);
-    let mut asked = Observer::<N, Invocation<'_>>::new(alloc, Invocation(&steps), 0);
+    let mut asked = Observer::<N, Any, _>::new(alloc, 0, |state: &u64, _: &Entry| {
+        steps.set(steps.get().wrapping_add(1));
+        Ok(*state)
+    });
     let read = asked.catch_up(log)?;
     assert!(rt; read == 3 && steps.get() == 3);
     Ok(())
@@ -145,7 +138,7 @@ fn is_asked_once_for_each<N: Name>(
 
 // The third entry is the only refused move, of seat 2.
 fn counts_refused_moves<N: Name>(rt: &impl Abort, alloc: Global, log: &Log<N>) -> Result<(), Fail> {
-    let mut refused = Observer::<N, RefusedMoves>::new(alloc, RefusedMoves, [0; 64]);
+    let mut refused = Observer::<N, RefusedMoves, _>::new(alloc, [0; 64], count_refusal);
     let read = refused.catch_up(log)?;
     assert!(rt; read == 3);
     assert!(rt; refused.state()[0] == 0 && refused.state()[1] == 1);
@@ -154,15 +147,11 @@ fn counts_refused_moves<N: Name>(rt: &impl Abort, alloc: Global, log: &Log<N>) -
 
 // If there is no memory for the third entry, what was read before stands.
 fn has_no_memory<N: Name>(rt: &impl Abort, alloc: Global, log: &Log<N>) {
-    let mut two = Observer::<N, FirstTwo>::new(alloc, FirstTwo, 0);
+    let mut two = Observer::<N, FirstTwo, _>::new(alloc, 0, count_to_two);
     for _ in 0..2 {
-        stays_at_two(rt, log, &mut two);
+        assert!(rt; two.catch_up(log) == Err(ObserverFault::OutOfMemory));
+        assert!(rt; two.count() == 2 && *two.state() == 2);
     }
-}
-
-fn stays_at_two<N: Name>(rt: &impl Abort, log: &Log<N>, two: &mut Observer<N, FirstTwo>) {
-    assert!(rt; two.catch_up(log) == Err(ObserverFault::OutOfMemory));
-    assert!(rt; two.count() == 2 && *two.state() == 2);
 }
 
 fn follows_the_position<N: Name>(
@@ -173,7 +162,7 @@ fn follows_the_position<N: Name>(
 ) -> Result<(), Fail>
     requires { start.now ≡ N.table.start.divisor }
 {
-    let mut position = Observer::<N, Positions<N>>::new(alloc, Positions::new(), *start);
+    let mut position = Observer::<N, Positions<N>, _>::new(alloc, *start, keep_position);
     let read = position.catch_up(log)?;
     assert!(rt; read == 3);
     assert!(rt; *position.state() == amounts(&[-2, 2, 1])?);

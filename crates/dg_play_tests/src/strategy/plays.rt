@@ -1,9 +1,9 @@
 //! Plays of one seat.
 
-use crate::strategy::choices::{LendFirst, LendRichest};
+use crate::strategy::choices::richest_lends;
 use crate::table_tests::{TableTest, on_a_table};
 use crate::tables::{amounts, triangle};
-use dg_chips::Divisor;
+use dg_chips::{Divisor, Move};
 use dg_graph::Graph;
 use dg_log::{Log, Name};
 use dg_rules::Reply;
@@ -33,7 +33,8 @@ pub(crate) fn played<N: Name, R: Wait + Abort>(
     lends_in_turns(rt, alloc, table, seat, 0)?;
     lends_in_turns(rt, alloc, table, seat, 2)?;
     table.turn(rt, alloc, seat, &mut |_: &Graph, _: &Divisor| None)?;
-    let richest = play(rt, alloc, table, seat, &Strategy::new(LendRichest), 2)?;
+    let lender = Strategy::new(|graph: &Graph, position: &Divisor| richest_lends(graph, position));
+    let richest = play(rt, alloc, table, seat, &lender, 2)?;
     assert!(rt; matches!(&richest, Ended::Turns) && seat.calls() == 5);
     are_answered(rt, table.log())
 }
@@ -46,7 +47,8 @@ fn lends_in_turns<N: Name, R: Wait + Abort>(
     seat: &mut Seat<N>,
     turns: u32,
 ) -> Result<(), Fail> {
-    let ended = play(rt, alloc, table, seat, &Strategy::new(LendFirst), turns)?;
+    let lender = Strategy::new(|_: &Graph, _: &Divisor| Some(Move::Lend(0)));
+    let ended = play(rt, alloc, table, seat, &lender, turns)?;
     assert!(rt; matches!(&ended, Ended::Turns) && seat.calls() == u64::from(turns));
     Ok(())
 }

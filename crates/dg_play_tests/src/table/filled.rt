@@ -1,13 +1,12 @@
 //! A table that is filled to its last cell, and what is refused once it is full.
 
-use crate::strategy::choices::LendFirst;
 use crate::table_tests::{TableTest, on_a_table};
 use crate::tables::{amounts, triangle};
 use dg_analyst::{Reckoned, Tried, commit, commit_rank, look, reckon, try_rank};
-use dg_chips::Divisor;
+use dg_chips::{Divisor, Move};
 use dg_graph::Graph;
 use dg_log::{Log, Name};
-use dg_observer::{Observer, Positions};
+use dg_observer::{Observer, Positions, keep_position};
 use dg_rank::OpenGate;
 use dg_rules::Plain;
 use dg_strategy::{Strategy, play};
@@ -121,7 +120,8 @@ fn is_full<N: Name, R: Wait + Abort>(
         let called = table.call(rt, alloc, seat, Plain::Claim).err();
         assert!(rt; called == Some(Fault::Full));
         refuses_turn(rt, alloc, table, seat);
-        let played = play(rt, alloc, table, seat, &Strategy::new(LendFirst), 1).err();
+        let lender = Strategy::new(|_: &Graph, _: &Divisor| Some(Move::Lend(0)));
+        let played = play(rt, alloc, table, seat, &lender, 1).err();
         assert!(rt; played == Some(Fault::Full) && seat.calls() == CALLS);
     }
 }
@@ -225,7 +225,7 @@ fn hears<N: Name>(
 // An observer reads all entries, after which the amounts are as they were.
 fn is_watched<N: Name>(rt: &impl Abort, alloc: Global, table: &Table<N>) -> Result<(), Fail> {
     let start = *table.start().divisor();
-    let mut observer = Observer::<N, Positions<N>>::new(alloc, Positions::new(), start);
+    let mut observer = Observer::<N, Positions<N>, _>::new(alloc, start, keep_position);
     let read = observer.catch_up(table.log())?;
     assert!(rt; read == CELLS && observer.count() == CELLS);
     assert!(rt; *observer.state() == start);

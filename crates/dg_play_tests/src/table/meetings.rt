@@ -1,18 +1,19 @@
 //! Many seats in threads of their own on one table, and an observer beside them.
 ghost use Rattle.std.specs.Prelude.{◌≡◌};
+ghost use Rattle.dg_observer.specs.Folds.{GoesOn, IsAskedAtAll};
 
-use crate::strategy::choices::{BorrowFirst, LendFirst};
 use crate::table_tests::{TableTest, on_a_table};
 use crate::tables::{amounts, petersen, triangle};
 use dg_analyst::{commit, look, reckon};
 use dg_chips::{Divisor, Move, Start};
-use dg_log::{Log, Name};
-use dg_observer::{Observer, ObserverFault, Positions};
+use dg_graph::Graph;
+use dg_log::Name;
+use dg_observer::{Observer, ObserverFault, Positions, Watch, keep_position};
 use dg_rules::{Entry, Game, Plain, Reply, Request};
-use dg_strategy::{Strategy, greedy_settler, play, settle_out};
+use dg_strategy::{Settler, Strategy, greedy_choice, play, settle_out};
 use dg_table::{Audit, Seat, Table};
 use dg_verdict::check;
-use std::alloc::Global;
+use std::alloc::{AllocError, Global};
 use std::process::Abort;
 use std::sync::Wait;
 use std::test::Fail;
@@ -198,7 +199,9 @@ pub(crate) fn meet<N: Name + Send + Sync, R: Threads + Wait + Abort + Sync>(
     meeting: &Meeting<'_>,
 ) -> Result<(), Fail> {
     let mut seats = seats;
+    let start = *table.start();
     let (shared, players) = (&table, meeting.players);
+    let mut observer = Observer::<N, Positions<N>, _>::new(alloc, *start.divisor(), keep_position);
     let (_, watched) = join(
         rt,
         || thread::for_each_mut(
@@ -207,23 +210,14 @@ pub(crate) fn meet<N: Name + Send + Sync, R: Threads + Wait + Abort + Sync>(
             64,
             &|i, seat| take_part(rt, alloc, shared, seat, players, i),
         ),
-        || read_a_hundred_times(alloc, shared),
+        || read_a_hundred_times(shared, &mut observer),
     );
-    let (entries, position) = all_read(watched?, table.log())?;
-    let start = *table.start();
+    watched?;
+    observer.catch_up(table.log())?;
+    let (entries, position) = (observer.count(), *observer.state());
     let audit = table.close(seats).ok().ok_or("an audit")?;
     assert!(rt; entries == audit.entries && position == audit.position);
     is_told(rt, alloc, &start, &audit, meeting)
-}
-
-// How many entries the observer has read in the end, and the position that it finds.
-fn all_read<N: Name>(
-    observer: Observer<N, Positions<N>>,
-    log: &Log<N>,
-) -> Result<(u32, Divisor), ObserverFault> {
-    let mut observer = observer;
-    observer.catch_up(log)?;
-    Ok((observer.count(), *observer.state()))
 }
 
 // The history is that of a game, and leads to the end of the meeting.
@@ -246,16 +240,17 @@ fn is_told<N: Name>(
 }
 
 // Keeps the position while others play.
-fn read_a_hundred_times<N: Name>(
-    alloc: Global,
+fn read_a_hundred_times<N: Name, F: Fn(&Divisor, &Entry) -> Result<Divisor, AllocError>>(
     table: &Table<N>,
-) -> Result<Observer<N, Positions<N>>, ObserverFault> {
-    let start = *table.start().divisor();
-    let mut observer = Observer::<N, Positions<N>>::new(alloc, Positions::new(), start);
+    observer: &mut Observer<N, Positions<N>, F>,
+) -> Result<(), ObserverFault>
+    requires asked { IsAskedAtAll (F.pre observer.old.step) }
+    requires keeps { GoesOn (F.post observer.old.step) ⟦<Positions<N> as Watch>⟧.goes_on }
+{
     for _ in 0..100 {
         observer.catch_up(table.log())?;
     }
-    Ok(observer)
+    Ok(())
 }
 
 // What the player at a place does; it stops if a call is refused.
@@ -276,13 +271,16 @@ fn take_part<N: Name>(
         }
         Player::Analyses => analyse(rt, alloc, table, seat, times),
         Player::LendsFirst => {
-            let _ = play(rt, alloc, table, seat, &Strategy::new(LendFirst), times);
+            let lender = Strategy::new(|_: &Graph, _: &Divisor| Some(Move::Lend(0)));
+            let _ = play(rt, alloc, table, seat, &lender, times);
         }
         Player::BorrowsFirst => {
-            let _ = play(rt, alloc, table, seat, &Strategy::new(BorrowFirst), times);
+            let borrower = Strategy::new(|_: &Graph, _: &Divisor| Some(Move::Borrow(0)));
+            let _ = play(rt, alloc, table, seat, &borrower, times);
         }
         Player::Settles => {
-            let _ = settle_out(rt, alloc, table, seat, &greedy_settler(), times);
+            let settler = Settler::new(|_: &Graph, position: &Divisor| greedy_choice(position));
+            let _ = settle_out(rt, alloc, table, seat, &settler, times);
         }
     }
 }

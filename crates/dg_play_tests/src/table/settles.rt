@@ -82,6 +82,6 @@ fn settle<N: Name>(
     requires size { shown.now.position.size ≡ shown.now.graph.size }
     requires vertex { N.table.start.q < shown.now.graph.size }
 {
-    let finding = judge_look(usize::from(table.start().q()), shown);
+    let finding = judge_look(table.start().q(), shown);
     table.settle(rt, alloc, seat, look, shown, &finding)
 }

@@ -9,8 +9,8 @@ follow-requires-clause-right c =
 
 pub returns-clause-turn : goal.returns-clause-turn
 returns-clause-turn c = λ o H leads.
-    turn_made o H c.args.game.now c.choose-choice.result _ c.is_none-settled.result leads
-    (rw c.position.ensures.amounts at c.choose-choice.ensures) c.answer_call.ensures.seat
+    turn_made o H c.args.game.now c.greedy_choice-choice.result _ c.is_none-settled.result leads
+    (rw c.position.ensures.amounts at c.greedy_choice-choice.ensures) c.answer_call.ensures.seat
     (c.answer_call.ensures.request ∙ c.of.ensures) (c.answer_call.ensures.replies o H leads) c.is_none-settled.ensures
 
 pub returns-clause-leads : goal.returns-clause-leads

@@ -1,9 +1,10 @@
+use Rattle.dg_strategy.specs.Choices.{Chooses}
 use Rattle.dg_strategy.proofs.Common.{◌≡◌, ℕ, List, length, FoldsTo, Entry, IsTurnBy, AreMoves}
 use Rattle.dg_strategy.proofs.playing.turns_by.Given as goal
 
 abbrev pub invariant-loop : goal.invariant-loop
 invariant-loop g l =
     (es : List (ℕ × Entry)) ×
-    FoldsTo (IsTurnBy (g.C.Choose.may_answer l.choice) g.N.Name.table) l.fn.seat
+    FoldsTo (IsTurnBy (Chooses (λ p q m. g.F.Fn.post l.choice (p, (q, tt)) m)) g.N.Name.table) l.fn.seat
     es l.seat
     × AreMoves es × (length es ≡ l.counter)

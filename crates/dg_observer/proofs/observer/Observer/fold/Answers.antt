@@ -9,7 +9,8 @@ invariant_of-self-2 g c =
     let (folds, numbered, cells, few) = c.self.invariant in
     let longer : c.push.new.self.items ≡ ps ++ p ∷ [] = c.in_ok-push.ensures.items in
     let entries : map (λ (x : ℕ × Entry). x.1) ps ≡ c.args.self.now.entries =
-    ap (λ (o : Observed _). o.entries) c.self.view_is in
+    ap (λ (o : Observed _ _). o.entries) c.self.view_is in
+    let step : c.self.inside.step ≡ c.args.self.now.step = ap (λ (o : Observed _ _). o.step) c.self.view_is in
     let counted : length (map (λ (x : ℕ × Entry). x.1) ps) ≡ length ps = length-map ps (λ (x : ℕ × Entry). x.1) in
     let number : p.0 ≡ length ps = c.requires.number ∙ ap length (sym entries) ∙ counted in
     let room : length ps < length g.N.Name.cells =
@@ -20,7 +21,7 @@ invariant_of-self-2 g c =
     rw (longer, last) (
       folds_more g.W.Watch.begins g.W.Watch.goes_on
           (map (λ (x : ℕ × Entry). x.1) ps) c.self.inside.state p.1 c.in_ok-next.next folds
-          (rw c.requires.entry c.in_ok-next.ensures),
+          (rw c.requires.entry (c.requires.keeps _ _ c.in_ok-next.next (rw step at c.in_ok-next.ensures))),
       numbered_more ps p numbered number,
       (omega (arith, count, room)),
       (omega (arith, count, room, c.requires.few)),
