@@ -81,7 +81,7 @@ pub fn commit_look<N: Name>(
     ensures fault { IfErr result (RefusesCommit N.table seat.old seat.new) }
 {
     let shown = &look.shown;
-    let q = usize::from(look.q);
+    let q = look.q;
     renew_looks_inverse(inverse, q, shown);
     let verdict = judge_with_inverse(&shown.graph, inverse, q, &shown.position);
     let finding = Finding::Judged(verdict);

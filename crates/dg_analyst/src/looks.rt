@@ -14,7 +14,7 @@ use std::marker::Model;
 pub struct Look<N: Name> {
     pub(crate) receipt: Receipt<N>,
     pub(crate) shown: LookData,
-    pub(crate) q: u8,
+    pub(crate) q: usize,
 }
 
 impl<N: Name> Model for Look<N> {

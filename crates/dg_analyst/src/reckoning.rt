@@ -94,7 +94,7 @@ impl<N: Name> Tried<N> {
 pub fn reckon<N: Name>(look: Look<N>) -> Reckoned<N>
     ensures { IsReckoned N.table.start.q look result }
 {
-    let inverse = InverseLaplacian::new(&look.shown.graph, usize::from(look.q));
+    let inverse = InverseLaplacian::new(&look.shown.graph, look.q);
     reckon_with_inverse(look, &inverse)
 }
 
@@ -103,7 +103,7 @@ pub fn reckon<N: Name>(look: Look<N>) -> Reckoned<N>
 pub fn reckon_with_inverse<N: Name>(look: Look<N>, inverse: &InverseLaplacian) -> Reckoned<N>
     ensures { IsReckoned N.table.start.q look result }
 {
-    let q = usize::from(look.q);
+    let q = look.q;
     let verdict = judge_with_inverse(&look.shown.graph, inverse, q, &look.shown.position);
     Reckoned { look, verdict }
 }
@@ -125,15 +125,7 @@ pub fn try_rank<N: Name, R: Threads + Wait, G: Gate>(
         (λ e. (e.0 ≡ look) × IsRankFault look.shown.graph.size k workers e.1) }
 {
     let position = &look.shown.position;
-    match rank_with(
-        rt,
-        &look.shown.graph,
-        usize::from(look.q),
-        position,
-        k,
-        workers,
-        gate,
-    ) {
+    match rank_with(rt, &look.shown.graph, look.q, position, k, workers, gate) {
         Ok(verdict) => Ok(Tried { look, verdict }),
         Err(fault) => Err((look, fault)),
     }
@@ -150,7 +142,7 @@ pub fn try_rank_alone<N: Name>(look: Look<N>, k: u32) -> Result<Tried<N>, (Look<
     ensures too_many { IfErr result (λ e. e.1 ≡ RankFault.TooMany) }
 {
     let position = &look.shown.position;
-    match rank_at_least(&look.shown.graph, usize::from(look.q), position, k) {
+    match rank_at_least(&look.shown.graph, look.q, position, k) {
         Ok(verdict) => Ok(Tried { look, verdict }),
         Err(_) => Err((look, RankFault::TooMany)),
     }

@@ -19,7 +19,7 @@ use std::marker::Model;
 
 /// How often each vertex has lent by some moves together, from -100,000,000,000,000 to 100,000,000,000,000; a negative
 /// number is so many borrowings.
-#[derive(Clone, Copy)]
+#[derive(Clone, Copy, PartialEq, Eq)]
 pub struct Drift {
     size: usize,
     entries: [i64; 16],

@@ -21,7 +21,7 @@ pub enum StartFault {
 }
 
 /// The start of a game: a graph, a divisor on it, and the vertex q from which verdicts are computed.
-#[derive(Clone, Copy)]
+#[derive(Clone, Copy, PartialEq, Eq)]
 pub struct Start {
     graph: Graph,
     divisor: Divisor,
@@ -76,9 +76,9 @@ impl Start {
     }
 
     /// The vertex from which verdicts are computed.
-    pub fn q(&self) -> u8
+    pub fn q(&self) -> usize
         ensures { result ≡ self.now.q }
     {
-        self.q
+        usize::from(self.q)
     }
 }

@@ -88,7 +88,7 @@ impl Rehearsal {
     pub fn new(start: &Start) -> Rehearsal
         ensures { (steps : List Step) → IsPlaying start.now steps [] result }
     {
-        let q = usize::from(start.q());
+        let q = start.q();
         Rehearsal {
             game: Game::new(start),
             q,

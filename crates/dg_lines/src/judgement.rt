@@ -40,7 +40,7 @@ fn push_burning<A: Allocator>(
     text.extend_from_slice(b" burning")?;
     'vertices: for v in order {
         text.push(b' ')?;
-        text.extend_from_slice(names.name(usize::from(*v)).as_bytes())?;
+        text.extend_from_slice(names.name(*v).as_bytes())?;
     }
     Ok(())
 }

@@ -31,7 +31,7 @@ impl Question {
 }
 
 /// What was computed on a look.
-#[derive(Clone, Copy)]
+#[derive(Clone, Copy, PartialEq, Eq)]
 pub enum Finding {
     /// Whether the position is winnable, with what shows it.
     Judged(Verdict),

@@ -35,7 +35,7 @@ pub const MAX_ENTRIES: usize = 65_536;
 #[derive(Clone, Copy)]
 pub struct Game {
     graph: Graph,
-    q: u8,
+    q: usize,
     amounts: Divisor,
     drift: Drift,
     gifts: u32,
@@ -102,7 +102,7 @@ impl Game {
         ensures q { result ≡ self.now.q }
         ensures vertex { result < self.now.graph.size }
     {
-        usize::from(self.q)
+        self.q
     }
 
     /// The amounts now.

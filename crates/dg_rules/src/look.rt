@@ -3,7 +3,7 @@ use dg_chips::{Divisor, Drift};
 use dg_graph::Graph;
 
 /// What a seat keeps of a look, so that what it computes on it can be entered later.
-#[derive(Clone, Copy)]
+#[derive(Clone, Copy, PartialEq, Eq)]
 pub struct LookData {
     /// The number of the look's entry.
     pub number: u32,

@@ -85,7 +85,7 @@ pub(crate) fn push_refusal(fault: &FileFault, answer: &mut Vec<u8>) -> Result<()
 pub(crate) struct Subject<'a> {
     pub(crate) graph: &'a Graph,
     pub(crate) divisor: &'a Divisor,
-    pub(crate) q: u8,
+    pub(crate) q: usize,
 }
 
 /// The answer for a subject whose vertices have these names, into an empty buffer. An inverse that `inverse_for` made of its
@@ -131,7 +131,7 @@ fn verdict_on(subject: &Subject<'_>, inverse: Option<&InverseLaplacian>) -> Verd
     requires { IsStart (start_of subject.now) }
     ensures { IsVerdictOn subject.now.graph.now subject.now.q (at subject.now.divisor.now) result }
 {
-    let q = usize::from(subject.q);
+    let q = subject.q;
     match inverse {
         Some(inverse) => judge_with_inverse(subject.graph, inverse, q, subject.divisor),
         None => judge(subject.graph, q, subject.divisor),

@@ -41,7 +41,7 @@ impl<'a> Divisors<'a> {
 /// The inverse by which a question for a start is answered soonest: verdicts are computed from q, ranks from the first vertex.
 fn inverse_for(question: Question, start: &Start) -> InverseLaplacian {
     let vertex = match question {
-        Question::Judge { .. } => usize::from(start.q()),
+        Question::Judge { .. } => start.q(),
         Question::Rank(_) | Question::RiemannRoch => 0,
     };
     InverseLaplacian::new(start.graph(), vertex)

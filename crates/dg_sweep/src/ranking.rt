@@ -32,7 +32,7 @@ pub(crate) fn push_rank(
     requires empty { answer.old.items ≡ [] }
     ensures { OnOk result (AnswersRankLine (start_of subject.now) k names.now answer.new.items) }
 {
-    let q = usize::from(subject.q);
+    let q = subject.q;
     let (graph, divisor) = (subject.graph, subject.divisor);
     if let Ok(verdict) = rank_on(graph, inverse, q, divisor, k) {
         push_verdict_line(answer, &Reply::Rank(verdict), names)?;
@@ -110,7 +110,7 @@ pub(crate) fn push_ranks(
     ensures { OnOk result (AreRanks (start_of subject.now) answer.new.items
         ⊎ AreUntested (start_of subject.now) answer.new.items) }
 {
-    let q = usize::from(subject.q);
+    let q = subject.q;
     let Some((rank, dual_rank)) = ranks_on(subject.graph, inverse, q, subject.divisor) else {
         push_untold_answer(subject, answer)?;
         return Ok(());

@@ -22,7 +22,7 @@ pub fn judgement(alloc: Global, table: &TableFile, ordered: bool) -> Result<Vec<
     ensures refused { IfErr result (λ fault. fault ≡ TaskFault.Shortage Shortage.OutOfMemory) }
 {
     let start = table.start();
-    let verdict = judge(start.graph(), usize::from(start.q()), start.divisor());
+    let verdict = judge(start.graph(), start.q(), start.divisor());
     let mut text = Vec::new(alloc);
     match push_judgement(&mut text, table.names(), &verdict, ordered) {
         Ok(()) => Ok(text),

@@ -39,7 +39,7 @@ pub fn rank_answer<R: Threads + Wait>(
         return rank_alone(alloc, table, k);
     }
     let start = table.start();
-    let (graph, q, divisor) = (start.graph(), usize::from(start.q()), start.divisor());
+    let (graph, q, divisor) = (start.graph(), start.q(), start.divisor());
     match rank_with(rt, graph, q, divisor, k, workers, &OpenGate) {
         Ok(verdict) => rank_line(alloc, verdict, table.names()),
         Err(RankFault::TooMany) => Err(TaskFault::TooMany),
@@ -56,7 +56,7 @@ pub fn rank_alone(alloc: Global, table: &TableFile, k: u32) -> Result<Vec<u8>, T
     ensures refused { IfErr result (RefusesRank table.now.start.graph.size k 1) }
 {
     let start = table.start();
-    let (graph, q, divisor) = (start.graph(), usize::from(start.q()), start.divisor());
+    let (graph, q, divisor) = (start.graph(), start.q(), start.divisor());
     match rank_at_least(graph, q, divisor, k) {
         Ok(verdict) => rank_line(alloc, verdict, table.names()),
         Err(_) => Err(TaskFault::TooMany),
@@ -88,7 +88,7 @@ pub fn riemann_roch(alloc: Global, table: &TableFile) -> Result<Vec<u8>, TaskFau
     let start = table.start();
     let graph = start.graph();
     let divisor = start.divisor();
-    let q = usize::from(start.q());
+    let q = start.q();
     if let Err(fault) = dual(graph, divisor) {
         return Err(TaskFault::Chip(fault));
     }

@@ -111,12 +111,12 @@ impl Names {
     }
 
     /// The name of a vertex.
-    pub fn name(&self, v: usize) -> &str
+    pub fn name(&self, v: u8) -> &str
         requires { v < length self.now }
         ensures name { result.now ≡ name_at self.now v }
         ensures placed { place_of self.now result.now ≡ Some v }
     {
-        self.set[v].as_str()
+        self.set[usize::from(v)].as_str()
     }
 
     /// Writes the label of a vertex, ` name=`, so that it ends at `end`, and says where it starts. The bytes before it are

@@ -72,7 +72,7 @@ fn settled(start: &Start, call: Plain, drift: &Drift, verdict: &Verdict) -> Opti
     };
     game.act(Plain::Look);
     game.act(call);
-    let q = usize::from(start.q());
+    let q = start.q();
     if !check(&look.graph, q, &look.position, verdict) {
         return None;
     }
