@@ -20,8 +20,8 @@ pub use Rattle.dg_cli.specs.declared.reading.NumberArgument.{NumberArgument}
 pub use Rattle.dg_cli.specs.declared.reading.NumberArgument.TheVariants.{Capacity, Degree, Seats, Turns, Workers}
 pub use Rattle.dg_cli.specs.declared.reading.Refusal.{Refusal}
 pub use Rattle.dg_invocation.specs.declared.invocation.Invocation.{Invocation}
-pub use Rattle.dg_invocation.specs.declared.parse_args.ArgsFault.{ArgsFault}
-pub use Rattle.dg_invocation.specs.declared.parse_args.ArgsFault.TheVariants.{CommandLine, NotText, OutOfMemory}
+pub use Rattle.dg_invocation.specs.declared.args_fault.ArgsFault.{ArgsFault}
+pub use Rattle.dg_invocation.specs.declared.args_fault.ArgsFault.TheVariants.{CommandLine, NotText, OutOfMemory}
 pub use Rattle.std.proofs.Common.{Err, IfErr, IsErrAnd, IsSomeAnd, List, None, Ok, Option, Result, Some, [], ap, append-nil, append_assoc, ap₂, arith, decimal, false, get_or, inl, inr, is_some, length, map, refl, subst, sym, take, true, true≢false, ℕ, ◌++◌, ◌+◌, ◌<◌, ◌^◌, ◌||◌, ◌∙◌, ◌∷◌, ◌≡◌, ◌≢◌, ◌≤◌, ◌⊎◌}
 pub use Rattle.std.proofs.lemmas.Fmt.{decimal_injective}
 pub use Rattle.std.proofs.lemmas.List.{map-append, take_all, take_more}

@@ -10,8 +10,8 @@ use Rattle.clap.specs.Words.{IsAmong, Text, fault_of}
 use Rattle.clap.specs.declared.error.kind.ErrorKind.{ErrorKind}
 use Rattle.clap.specs.declared.error.kind.ErrorKind.TheVariants.{DisplayHelp, DisplayVersion}
 use Rattle.dg_invocation.specs.declared.invocation.Invocation.{Invocation}
-use Rattle.dg_invocation.specs.declared.parse_args.ArgsFault.{ArgsFault}
-use Rattle.dg_invocation.specs.declared.parse_args.ArgsFault.TheVariants.{CommandLine, NotText, OutOfMemory}
+use Rattle.dg_invocation.specs.declared.args_fault.ArgsFault.{ArgsFault}
+use Rattle.dg_invocation.specs.declared.args_fault.ArgsFault.TheVariants.{CommandLine, NotText, OutOfMemory}
 use Rattle.dg_cli.specs.Commands.{dollar}
 use Rattle.dg_cli.specs.Asks.{Asks}
 

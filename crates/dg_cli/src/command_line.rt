@@ -10,7 +10,7 @@ use crate::commands::{SUBCOMMANDS, dollar};
 use crate::reading::{Refusal, asked_by};
 use clap::Command;
 use clap::error::ErrorKind;
-use dg_invocation::{ArgsFault, Invocation, ParseArgs};
+use dg_invocation::{ArgsFault, Invocation};
 use std::alloc::{AllocError, Global};
 use std::rt::Env;
 use std::{env, io};
@@ -29,23 +29,16 @@ pub fn words_of<R: Env + AllocGlobal>(rt: &R) -> Result<Vec<String>, ArgsFault> 
     }
 }
 
-/// The command line of the program, as `dollar --help` describes it.
-#[derive(Clone, Copy)]
-pub struct CommandLine;
-
-impl ParseArgs for CommandLine {
-    ghost use Rattle.dg_cli.specs.Asks.{Asks};
-    ghost use Rattle.dg_cli.specs.Refusals.{Refuses};
-
-    ghost asks = { λ _ words asked. Asks words asked };
-
-    ghost refuses = { λ _ words fault. Refuses words fault };
-
-    fn parse<'a>(&self, alloc: Global, words: &'a [String]) -> Result<Invocation<'a>, ArgsFault> {
-        match command_of(alloc, words) {
-            Ok(asked) => Ok(asked),
-            Err(error) => help_or_error(alloc, &error),
-        }
+/// What the words of a command line ask for, as `dollar --help` describes them; the first of them is the program's name.
+///
+/// Refused with `CommandLine` if they ask for nothing, with all that is said of them, and with `OutOfMemory`.
+pub fn invocation_of<'a>(alloc: Global, words: &'a [String]) -> Result<Invocation<'a>, ArgsFault>
+    ensures asked { IfOk result (Asks (map string_bytes words.entry.now)) }
+    ensures refused { IfErr result (Refuses (map string_bytes words.entry.now)) }
+{
+    match command_of(alloc, words) {
+        Ok(asked) => Ok(asked),
+        Err(error) => help_or_error(alloc, &error),
     }
 }
 

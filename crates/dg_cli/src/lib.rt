@@ -7,4 +7,4 @@ mod commands;
 mod help_texts;
 mod reading;
 
-pub use command_line::{CommandLine, words_of};
+pub use command_line::{invocation_of, words_of};

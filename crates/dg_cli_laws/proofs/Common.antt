@@ -21,8 +21,8 @@ pub use Rattle.dg_cli_laws.specs.CommandLines.{CommandLinesAsk, LineHasFault, Li
 pub use Rattle.dg_cli_laws.specs.OneMeaning.{CommandLinesHaveOneMeaning, lines_words, order_words, question_words, seats_words, written}
 pub use Rattle.dg_invocation.specs.declared.invocation.Invocation.{Invocation}
 pub use Rattle.dg_invocation.specs.declared.limits.TheConstants.{MAX_CAPACITY}
-pub use Rattle.dg_invocation.specs.declared.parse_args.ArgsFault.{ArgsFault}
-pub use Rattle.dg_invocation.specs.declared.parse_args.ArgsFault.TheVariants.{CommandLine, NotText, OutOfMemory}
+pub use Rattle.dg_invocation.specs.declared.args_fault.ArgsFault.{ArgsFault}
+pub use Rattle.dg_invocation.specs.declared.args_fault.ArgsFault.TheVariants.{CommandLine, NotText, OutOfMemory}
 pub use Rattle.dg_invocation.specs.declared.question.Question.{Question}
 pub use Rattle.dg_invocation.specs.declared.question.Question.TheVariants.{Judge, Rank, RiemannRoch}
 pub use Rattle.std.proofs.Common.{Bool, IsSomeAnd, List, None, Option, Some, [], ap, arith, codes, cond, decimal, false, inl, inr, length, map, not, refl, subst, suc, sym, true, true≢false, zero, ℕ, ◌&&◌, ◌*◌, ◌++◌, ◌+◌, ◌∙◌, ◌∷◌, ◌≡◌, ◌≤◌, ◌⊎◌}

@@ -12,8 +12,8 @@ use Rattle.clap.specs.Words.{Text}
 use Rattle.dg_cli.specs.Asks.{Asks}
 use Rattle.dg_cli.specs.Refusals.{Refuses}
 use Rattle.dg_invocation.specs.declared.invocation.Invocation.{Invocation}
-use Rattle.dg_invocation.specs.declared.parse_args.ArgsFault.{ArgsFault}
-use Rattle.dg_invocation.specs.declared.parse_args.ArgsFault.TheVariants.{OutOfMemory}
+use Rattle.dg_invocation.specs.declared.args_fault.ArgsFault.{ArgsFault}
+use Rattle.dg_invocation.specs.declared.args_fault.ArgsFault.TheVariants.{OutOfMemory}
 use Rattle.dg_invocation.specs.declared.question.Question.{Question}
 use Rattle.dg_invocation.specs.declared.question.Question.TheVariants.{Judge, Rank, RiemannRoch}
 use Rattle.dg_invocation.specs.declared.invocation.Invocation.TheVariants as asked

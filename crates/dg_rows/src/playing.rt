@@ -3,9 +3,8 @@
 use crate::matching::is_wanted;
 use crate::rows::{Named, Row};
 use anyhow::Result;
-use dg_cli::CommandLine;
 use dg_server::run;
-use dg_system::{Input, MemoryFiles, Output};
+use dg_system::MemoryFiles;
 use std::alloc::{AllocError, Global};
 use std::rt::Files;
 use std::str;
@@ -24,20 +23,17 @@ where
     let shelf = MemoryFiles {
         files: shelf.as_slice(),
     };
-    let mut output = Output::new(Vec::new(rt.alloc()));
+    let mut output = Vec::new(rt.alloc());
     let mut faults = Vec::new(rt.alloc());
     let words = row.words.as_slice();
-    let mut input = Input::new(row.input.as_slice());
     let status = run(
         rt,
-        &CommandLine,
         words,
         &shelf,
-        &mut input,
+        row.input.as_slice(),
         &mut output,
         &mut faults,
     );
-    let output = output.into_inner();
     let has_output = is_told(rt, name, row, &row.output, &output)?;
     let has_fault = is_told(rt, name, row, &row.fault, &faults)?;
     if status != row.status {

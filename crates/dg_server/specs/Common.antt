@@ -8,7 +8,7 @@ pub use Rattle.dg_invocation.specs.declared.invocation.Invocation.{Invocation}
 pub use Rattle.dg_invocation.specs.declared.invocation.Invocation.TheVariants.{Party, Serve, Sweep, Task, Text}
 pub use Rattle.dg_invocation.specs.declared.invocation.PartyTask.{PartyTask}
 pub use Rattle.dg_invocation.specs.declared.invocation.ServeTask.{ServeTask}
-pub use Rattle.dg_invocation.specs.declared.parse_args.ArgsFault.{ArgsFault}
+pub use Rattle.dg_invocation.specs.declared.args_fault.ArgsFault.{ArgsFault}
 pub use Rattle.dg_invocation.specs.declared.question.Question.{Question}
 pub use Rattle.dg_invocation.specs.declared.question.SweepTask.{SweepTask}
 pub use Rattle.dg_log.specs.Tables.{table_data_of}

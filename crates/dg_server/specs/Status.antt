@@ -11,7 +11,7 @@
 --                         memory, 5 for reading and writing
 use Rattle.std.specs.Prelude.{◌≡◌, ℕ, ◌≤◌, ◌⊎◌}
 use Rattle.dg_server.specs.Common.{ArgsFault, TaskFault, SessionEnd, SweepEnd, Log, SourceFault, Unreadable, TooLong, FileFault}
-use Rattle.dg_invocation.specs.declared.parse_args.ArgsFault.TheVariants.{OutOfMemory as NoMemoryForWords}
+use Rattle.dg_invocation.specs.declared.args_fault.ArgsFault.TheVariants.{OutOfMemory as NoMemoryForWords}
 use Rattle.dg_server.specs.declared.fault.Fault.{Fault}
 use Rattle.dg_server.specs.declared.fault.Fault.TheVariants.{Words, Task, Shortage, Session, Sessions, Sweep, Seats, History, Write}
 use Rattle.dg_tasks.specs.declared.fault.TaskFault.TheVariants as task

@@ -12,4 +12,4 @@ pub use dg_party::{PartyFault, sessions};
 pub use dg_system::{SourceFault, Sources};
 pub use fault::{Fault, report, status_of};
 pub use program::perform;
-pub use running::run;
+pub use running::{run, run_streams};

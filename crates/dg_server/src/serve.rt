@@ -1,11 +1,9 @@
 //! Sessions over the input of the program.
-ghost use Rattle.std.specs.Prelude.{◌≡◌, ◌≤◌, ℕ, length, Ok, Err, true, IfErr, OnOk};
+ghost use Rattle.std.specs.Prelude.{◌≡◌, ℕ, length, Ok, true, IfErr, OnOk};
 ghost use Rattle.dg_invocation.specs.Seats.{seats_asked_for};
 ghost use Rattle.dg_log.specs.Tables.{table_data_of};
-ghost use Rattle.dg_session.specs.Ends.{IsSession};
 ghost use Rattle.dg_session.specs.Setup.{setup};
 ghost use Rattle.dg_session.specs.Streams.{passage};
-ghost use Rattle.dg_session.specs.declared.line_format.LineFormat.TheVariants.{OneSeat};
 ghost use Rattle.dg_rank.specs.Ranks.{MayHaveWorkers};
 ghost use Rattle.dg_table.specs.Opened.{MayHaveSeats};
 ghost use Rattle.dg_server.specs.Sessions.{line_format, session_of, Serves, EndsEarly, IsServed, RefusesServing};
@@ -15,9 +13,9 @@ use crate::fault::Fault;
 use dg_file::TableFile;
 use dg_invocation::ServeTask;
 use dg_log::{LogFault, Name, Row};
-use dg_session::{LineFormat, SessionEnd, serve, serve_seats};
+use dg_session::{LineFormat, serve_seats};
 use dg_system::{Input, Output, Shortage, Sources};
-use dg_table::{Seat, Table};
+use dg_table::Table;
 use dg_tasks::table_in;
 use std::io::{Read, Write};
 use std::marker::Brand;
@@ -115,7 +113,6 @@ where
     requires row { row ≡ N.cells }
     requires table { N.table ≡ table_data_of table.now.start seats (length row) }
     requires some { MayHaveSeats seats }
-    requires alone { how ≡ OneSeat → seats ≡ 1 }
     requires workers { MayHaveWorkers workers }
     ensures done { OnOk result ((count : ℕ)
         × IsServed (setup how (table_data_of table.now.start seats (length row)) table.now.names workers)
@@ -131,7 +128,10 @@ where
         Ok(opened) => opened,
         Err(_) => return Err(Fault::Shortage(Shortage::OutOfMemory)),
     };
-    let ended = serve_opened(rt, &opened, &mut all, table, input, output, workers, how);
+    let names = table.names();
+    let ended = serve_seats(
+        rt, alloc, &opened, &mut all, names, input, output, workers, how,
+    );
     match opened.close(all) {
         Ok(history) => {
             // The program ends here, and its memory with it: to free each entry first would only take time.
@@ -142,44 +142,5 @@ where
             }
         }
         Err(_) => Err(Fault::History),
-    }
-}
-
-/// Answers the lines of the input at the table of a file: by `serve` if they name no seat, because there is only one.
-fn serve_opened<N, R, I, O>(
-    rt: &R,
-    opened: &Table<N>,
-    seats: &mut [Seat<N>],
-    table: &TableFile,
-    input: &mut Input<I>,
-    output: &mut Output<O>,
-    workers: u32,
-    how: LineFormat,
-) -> Result<u32, SessionEnd>
-where
-    N: Name,
-    R: AllocGlobal + Threads + Wait,
-    I: Read,
-    O: Write,
-    requires table { N.table.start ≡ table.now.start }
-    requires workers { MayHaveWorkers workers }
-    requires some { 1 ≤ length seats.old }
-    requires alone { how ≡ OneSeat → length seats.old ≡ 1 }
-    ensures session { IsSession (setup how N.table table.now.names workers)
-        (passage input.old.remaining input.new.remaining)
-        (passage output.old.contents output.new.contents) seats.old seats.new result }
-    ensures read { result ≡ Err SessionEnd.Read → input.new.has_failed ≡ true }
-    ensures write { result ≡ Err SessionEnd.Write → output.new.has_failed ≡ true }
-{
-    let alloc = rt.alloc();
-    let names = table.names();
-    match how {
-        LineFormat::OneSeat => {
-            let seat = &mut seats[0];
-            serve(rt, alloc, opened, seat, names, input, output, workers)
-        }
-        LineFormat::BySeat => serve_seats(
-            rt, alloc, opened, seats, names, input, output, workers, how,
-        ),
     }
 }

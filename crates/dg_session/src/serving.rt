@@ -1,5 +1,5 @@
 //! Serving a stream of lines.
-ghost use Rattle.std.specs.Prelude.{◌≡◌, ◌≢◌, ◌≤◌, List, ℕ, [], ◌∷◌, length, None, Err, OnOk, All, true};
+ghost use Rattle.std.specs.Prelude.{◌≡◌, ◌≢◌, ◌≤◌, List, ℕ, [], ◌∷◌, length, Option, None, Err, OnOk, All, true};
 ghost use Rattle.dg_rank.specs.Ranks.{MayHaveWorkers};
 ghost use Rattle.dg_table.specs.Histories.{HasPrefix};
 ghost use Rattle.dg_session.specs.Ends.{IsOver, IsSession};
@@ -23,47 +23,47 @@ use std::sync::Wait;
 use std::thread::Threads;
 
 /// Answers the lines that the reader gives, one after another, by the calls that they make for the seat, until there are no
-/// more; and returns how many there were. The answers are written and flushed before more is read. The conditions are one name
-/// per vertex, and 1 to 16 workers.
+/// more; and returns how many there were. The answers are written and flushed before more is read. The reader and the writer are
+/// used up: `serve_seats` promises more of them. The conditions are one name per vertex, and 1 to 16 workers.
 ///
 /// It waits for the table's lock. It ends before the input does with `Turns` if a byte follows the millionth line, `LongLine`
 /// if a line has more than 1,024 bytes, `Read` if the reader fails, `Write` if the writer fails or takes no byte, `Table` if
 /// the table refuses a call, `Memory` if memory is refused, and `Spawn` if a thread of a rank test could not be started, which
 /// one worker never asks for. What was entered before stays.
-pub fn serve<N: Name, R: Threads + Wait, I: Read, O: Write>(
+pub fn serve<N: Name, R: Threads + Wait, I: Read + Drop, O: Write + Drop>(
     rt: &R,
     alloc: Global,
     table: &Table<N>,
     seat: &mut Seat<N>,
     names: &Names,
-    reader: &mut Input<I>,
-    writer: &mut Output<O>,
+    reader: I,
+    writer: O,
     workers: u32,
 ) -> Result<u32, SessionEnd>
     requires names { length names.now ≡ N.table.start.graph.size }
     requires workers { MayHaveWorkers workers }
-    ensures session { IsSession (setup OneSeat N.table names.now workers)
-        (passage reader.old.remaining reader.new.remaining)
-        (passage writer.old.contents writer.new.contents) (seat.old ∷ []) (seat.new ∷ []) result }
-    ensures read { result ≡ Err SessionEnd.Read → reader.new.has_failed ≡ true }
-    ensures write { result ≡ Err SessionEnd.Write → writer.new.has_failed ≡ true }
+    ensures session { (left said : Option (List ℕ)) × IsSession (setup OneSeat N.table names.now workers)
+        (passage (I.remaining reader) left) (passage (O.contents writer) said)
+        (seat.old ∷ []) (seat.new ∷ []) result }
 {
+    let mut reader = Input::new(reader);
+    let mut writer = Output::new(writer);
     serve_seats(
         rt,
         alloc,
         table,
         slice::from_mut(seat),
         names,
-        reader,
-        writer,
+        &mut reader,
+        &mut writer,
         workers,
         LineFormat::OneSeat,
     )
 }
 
-/// The same for one or more seats. If the lines name seats, by their places from 1, each line makes a call of the seat that
-/// it names. Each seat keeps a look of its own. A line for no seat is answered with `bad seat`. The conditions are the same,
-/// and at least one seat.
+/// The same for one or more seats, over streams that the caller keeps. If the lines name seats, by their places from 1, each
+/// line makes a call of the seat that it names. Each seat keeps a look of its own. A line for no seat is answered with
+/// `bad seat`. The conditions are the same, and at least one seat.
 pub fn serve_seats<N: Name, R: Threads + Wait, I: Read, O: Write>(
     rt: &R,
     alloc: Global,

@@ -1,6 +1,6 @@
 //! Where the bytes of files come from.
 ghost use Rattle.std.specs.Prelude.{◌≡◌, ◌≢◌, ◌<◌, ◌≤◌, ℕ, List, length, map, vec_len, IfOk, IfErr, IfSome};
-ghost use Rattle.dg_system.specs.Held.{Held, MayHold, RefusesHeld, held_among, held_by};
+ghost use Rattle.dg_system.specs.Held.{Held, MayHold, RefusesHeld, held_among, held_by, unknown};
 ghost use Rattle.dg_system.specs.Streams.{MayGive, RefusesStream, stream_remaining};
 ghost use Rattle.std.specs.Option.{option_copied};
 
@@ -43,9 +43,9 @@ impl From<io::Error> for SourceFault {
     }
 }
 
-/// Where a file's bytes come from.
+/// Where a file's bytes come from. Of a source that does not say what it holds nothing is known.
 pub trait Sources {
-    ghost held: { Self → List ℕ → Held };
+    ghost held: { Self → List ℕ → Held } = { λ _ name. unknown };
 
     /// The bytes of the file with this name, at most 1,048,576.
     ///

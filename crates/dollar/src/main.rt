@@ -1,26 +1,22 @@
 //! The program `dollar`: plays the dollar game on a graph. `dollar --help` says how it is called.
 #![tactic(auto)]
 
-use dg_cli::{CommandLine, words_of};
+use dg_cli::words_of;
 use dg_server::{Fault, report, run};
-use dg_system::{DiskFiles, Input, Output};
+use dg_system::DiskFiles;
 use std::process::ExitCode;
 
 fn main(rt: HostRuntime) -> ExitCode {
-    let mut input = Input::new(rt.reader());
-    let mut output = Output::new(rt.stdout());
-    let mut faults = rt.stderr();
     let status = match words_of(&rt) {
         Ok(words) => run(
             &rt,
-            &CommandLine,
             words.as_slice(),
             &DiskFiles,
-            &mut input,
-            &mut output,
-            &mut faults,
+            rt.reader(),
+            rt.stdout(),
+            rt.stderr(),
         ),
-        Err(fault) => report(&Fault::Words(fault), &mut faults),
+        Err(fault) => report(&Fault::Words(fault), &mut rt.stderr()),
     };
     ExitCode::from(status)
 }

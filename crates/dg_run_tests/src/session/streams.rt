@@ -5,17 +5,17 @@ use crate::tables::{TRIANGLE, triangle};
 use dg_chips::Start;
 use dg_file::{Names, read_table};
 use dg_log::Name;
-use dg_session::{SessionEnd, serve, sessions_cut_one_way};
+use dg_session::{LineFormat, SessionEnd, serve_seats, sessions_cut_one_way};
 use dg_system::{Input, Output};
 use dg_table::{Seat, Table};
 use std::alloc::Global;
 use std::cell::Cell;
-use std::io;
 use std::io::{ErrorKind, Read, Write};
 use std::process::Abort;
 use std::sync::Wait;
 use std::test::Fail;
 use std::thread::Threads;
+use std::{io, slice};
 
 const TEXT: &[u8] = b"look\nlend a\ncommit\ncommit\nlend z\ngift a 0\nclaim\n";
 
@@ -247,7 +247,9 @@ fn ends_so<N: Name, R: Threads + Wait + Abort>(
 ) {
     assert!(rt; names.len() == table.start().graph().size());
     let mut reader = Input::new(reader);
-    let result = serve(rt, alloc, table, seat, names, &mut reader, writer, 1);
+    let seats = slice::from_mut(seat);
+    let how = LineFormat::OneSeat;
+    let result = serve_seats(rt, alloc, table, seats, names, &mut reader, writer, 1, how);
     assert!(rt; result == end);
     assert!(rt; reader.has_failed() == (end == Err(SessionEnd::Read)));
     assert!(rt; writer.has_failed() == (end == Err(SessionEnd::Write)));
