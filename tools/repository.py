@@ -51,13 +51,23 @@ def without_comments(path):
 
 
 def exports():
-    """Names that a crate of the program exports."""
+    """Names that a crate of the program exports, also those of its public modules."""
     for crate in crates():
         root = f"crates/{crate}/src/lib.rt"
         if not is_of_tests(crate) and os.path.exists(os.path.join(TOP, root)):
-            for several, one in re.findall(r"^pub use [a-z_:]+::(?:\{([^}]*)\}|(\w+));", without_comments(root), re.M):
+            text = without_comments(root)
+            text += "".join(without_comments(f"crates/{crate}/src/{name}.rt") for name in re.findall(r"^pub mod (\w+);", text, re.M))
+            for several, one in re.findall(r"^pub use [a-z_:]+::(?:\{([^}]*)\}|(\w+));", text, re.M):
                 for name in re.findall(r"[A-Za-z_]\w*", several or one):
                     yield crate, name
+
+
+def body(text):
+    """Where the body of a function begins, whose text this is: at the brace on a line of its own after a contract, or at the end of
+    the signature."""
+    indent = re.match(r" *", text)[0]
+    found = re.search(rf"^{indent}\{{", text, re.M) or re.search(r"\{$", text, re.M)
+    return found.start() if found else 0
 
 
 def functions(text):
