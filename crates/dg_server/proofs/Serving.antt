@@ -8,6 +8,9 @@
 --   refused_on     so is one that is refused
 --   refused_lent   so is it where the start and the names were lent
 --   as_it_was      what nobody writes to is as it was
+--   reader_anew, writer_anew   a reader, and a writer, to which nothing has happened
+use Rattle.dg_system.specs.Growth.{StreamReading, StreamWriting, reading_anew, writing_anew}
+use Rattle.std.specs.Prelude.{false}
 use Rattle.dg_server.proofs.Common.{◌≡◌, ℕ, suc, ◌≤◌, List, [], ◌∷◌, ◌++◌, length, take, map, Option, None, Some, refl, sym, ap, subst, ◌∙◌, Bor, Vec, Global, length-map, take-append_seam, MAX_SEATS, MayHaveSeats, SeatView, Held, StartData, Entry, IsClosed, IsCloseRefused, all_there, none_missing, entered_all, full_at_close, Setup, Passage, IsHeard, IsServed, IsUnclosed, SessionEnd, contents, IsParty, IsPartyRefused, contents_count, PartyRefusal, PartyTask, DescribesTable, MayHoldAll, Keeps, names_in, IsPartyOn, IsRefusedOn, table_data_of, Result}
 
 pub seats_back : (len : ℕ) (xs ys rest : List SeatView) → length xs ≡ len
@@ -113,3 +116,9 @@ refused_lent held task {o} {o'} {names} {names'} all refusal opened named table 
 pub as_it_was : (held : Option (List ℕ)) → Keeps held held
 as_it_was None = tt
 as_it_was (Some bytes) = refl
+
+pub reader_anew : {r : StreamReading} {left : Option (List ℕ)} → r.remaining ≡ left → r.has_failed ≡ false → r ≡ reading_anew left
+reader_anew left none = rw (← left, ← none) refl
+
+pub writer_anew : {w : StreamWriting} {held : Option (List ℕ)} → w.contents ≡ held → w.has_failed ≡ false → w ≡ writing_anew held
+writer_anew held none = rw (← held, ← none) refl

@@ -1,17 +1,25 @@
--- Words that are refused leave the output as it was.
-use Rattle.dg_server.proofs.Common.{refl, sym, inl, Words}
-use Rattle.dg_server.proofs.Serving.{as_it_was}
+-- What the streams that are used up were left as.
+use Rattle.dg_server.proofs.Serving.{reader_anew, writer_anew}
 use Rattle.dg_server.proofs.running.run.Goals as goal
 
-pub returns-in-Err-clause-failed : goal.returns-in-Err-clause-failed
-returns-in-Err-clause-failed g c differ = record {
-  fault = Words c.in-Err.fault;
-  tells = sym c.report-in-Err.ensures;
-  cause = inl (record {
-    why = c.in-Err.fault;
-    tells = refl;
-    refused = c.in-Err.ensures.refused;
-    left = refl;
-    kept = as_it_was c.args.output.now.contents;
-  });
-}
+pub returns-clause-done : goal.returns-clause-done
+returns-clause-done g c well = (
+  c.run_streams.new.input,
+  c.run_streams.new.output,
+  rw (
+    reader_anew c.new-input.ensures.remaining c.new-input.ensures.has_failed,
+    writer_anew c.new-output.ensures.contents c.new-output.ensures.has_failed,
+  )
+      at (c.run_streams.ensures.done well),
+)
+
+pub returns-clause-failed : goal.returns-clause-failed
+returns-clause-failed g c ill = (
+  c.run_streams.new.input,
+  c.run_streams.new.output,
+  rw (
+    reader_anew c.new-input.ensures.remaining c.new-input.ensures.has_failed,
+    writer_anew c.new-output.ensures.contents c.new-output.ensures.has_failed,
+  )
+      at (c.run_streams.ensures.failed ill),
+)

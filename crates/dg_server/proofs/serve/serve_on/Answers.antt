@@ -9,7 +9,7 @@ returns-in-Ok-ended-clause-done g c = (
     seats = c.deref_mut.result.now;
     fresh = subst (AreFresh c.args.seats) (sym c.deref_mut.ensures.value) c.in-Ok.ensures;
     after = c.serve_seats-ended.new.seats;
-    session = rw (← c.requires.table) c.in-Ok-ended.ensures.session;
+    session = rw (← c.requires.table, ← c.names-names.ensures.value) c.in-Ok-ended.ensures.session;
   }) c.in-Ok-close.history.pen.entries c.serve_seats-ended.ensures.session.numbers
       (rw (← c.requires.table)
       (subst (λ ys. IsClosed g.N.Name.table ys
@@ -24,7 +24,7 @@ returns-in-Ok-close-clause-early g c =
       seats = c.deref_mut.result.now;
       fresh = subst (AreFresh c.args.seats) (sym c.deref_mut.ensures.value) c.in-Ok.ensures;
       after = c.serve_seats-ended.new.seats;
-      session = rw (← c.requires.table) c.in-Err-ended.ensures.session;
+      session = rw (← c.requires.table, ← c.names-names.ensures.value) c.in-Err-ended.ensures.session;
     }) c.in-Ok-close.history.pen.entries c.serve_seats-ended.ensures.session.numbers
     (rw (← c.requires.table)
     (subst (λ ys. IsClosed g.N.Name.table ys
@@ -38,7 +38,7 @@ returns-clause-early g c =
       seats = c.deref_mut.result.now;
       fresh = subst (AreFresh c.args.seats) (sym c.deref_mut.ensures.value) c.in-Ok.ensures;
       after = c.serve_seats-ended.new.seats;
-      session = rw (← c.requires.table) c.serve_seats-ended.ensures.session;
+      session = rw (← c.requires.table, ← c.names-names.ensures.value) c.serve_seats-ended.ensures.session;
     }) c.in-Err-close.field-0.seats.items c.in-Err-close.field-0.missing c.serve_seats-ended.ensures.session.numbers
     (rw (← c.requires.table)
     (subst (λ ys. IsCloseRefused g.N.Name.table ys
