@@ -1,5 +1,6 @@
 //! Looks, and what is entered on them.
 
+use crate::gates::Meeting;
 use dg_analyst::{Look, Reckoned, Tried, commit, commit_rank, look, reckon, try_rank};
 use dg_chips::{Divisor, Move, Script, Wide};
 use dg_game::{Plain, Reply};
@@ -12,6 +13,7 @@ use std::process::Abort;
 use std::sync::Wait;
 use std::test::Fail;
 use std::thread::Threads;
+use std::time::Clock;
 
 const LEND: Plain = Plain::Move(Move::Lend(0));
 
@@ -82,8 +84,8 @@ fn committed<N: Name, R: Wait + Abort>(
     }
 }
 
-// The same with a rank test by two workers; the move between leaves its answer as it was.
-pub(crate) fn tries<N: Name, R: Threads + Wait + Abort>(
+// The same with a rank test by two workers, who meet at a gate; the move between leaves its answer as it was.
+pub(crate) fn tries<N: Name, R: Threads + Wait + Clock + Abort + Sync>(
     rt: &R,
     alloc: Global,
     table: &Table<N>,
@@ -92,10 +94,12 @@ pub(crate) fn tries<N: Name, R: Threads + Wait + Abort>(
 ) -> Result<(), Fail> {
     let taken = look(table, rt, alloc, first)?;
     table.call(rt, alloc, second, LEND)?;
-    let tried: Tried<N> = match try_rank(rt, taken, 1, 2, &OpenGate) {
+    let meeting = Meeting::of_two(rt);
+    let tried: Tried<N> = match try_rank(rt, taken, 1, 2, &meeting) {
         Ok(tried) => tried,
         Err((_, fault)) => return Err(Fail::from(fault)),
     };
+    assert!(rt; meeting.has_met());
     let below = RankVerdict::Below(1, Divisor::sized(&[0, 0, 1]));
     match commit_rank(table, rt, alloc, first, tried) {
         Ok(receipt) => {

@@ -11,7 +11,7 @@ use std::process::Abort;
 use std::sync::Wait;
 use std::test::Fail;
 
-// No turn, two turns of lending at a, and a turn that claims.
+// Two turns of lending at a, no turn, and a turn that claims.
 pub(crate) fn plays<N: Name, R: Wait + Abort>(
     rt: &R,
     alloc: Global,
@@ -19,9 +19,9 @@ pub(crate) fn plays<N: Name, R: Wait + Abort>(
     seat: &mut Seat<N>,
 ) -> Result<(), Fail> {
     let lend = Strategy::new(|_, _| Some(Move::Lend(0)));
-    let ended: Ended<N> = play(rt, alloc, table, seat, &lend, 0)?;
-    assert!(rt; matches!(ended, Ended::Turns) && seat.calls() == 0);
     let ended = play(rt, alloc, table, seat, &lend, 2)?;
+    assert!(rt; matches!(ended, Ended::Turns) && seat.calls() == 2);
+    let ended: Ended<N> = play(rt, alloc, table, seat, &lend, 0)?;
     assert!(rt; matches!(ended, Ended::Turns) && seat.calls() == 2);
     let claimed = table.turn(rt, alloc, seat, &mut |_: &Graph, _: &Divisor| None)?;
     assert!(rt; claimed.number() == 2);

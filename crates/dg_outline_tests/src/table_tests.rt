@@ -160,7 +160,7 @@ fn shown_to_one<N: Name, R: Threads + Wait + Abort>(
     }
 }
 
-fn shown_to_two<N: Name, R: Threads + Wait + Abort>(
+fn shown_to_two<N: Name, R: Threads + Wait + Clock + Abort + Sync>(
     rt: &R,
     alloc: Global,
     table: &Table<N>,
