@@ -6,7 +6,7 @@ use dg_game::{
     Command, Entry, Finding, Game, LookData, Plain, Refusal, RehearseFault, Reply, Request, Step,
     rehearse,
 };
-use dg_rank::{RankVerdict, rank_at_least};
+use dg_rank::{RankFault, RankVerdict, rank_at_least};
 use dg_verdict::{Verdict, judge};
 use std::process::Abort;
 use std::test::Fail;
@@ -90,41 +90,41 @@ fn answers(rt: &impl Abort, game: &mut Game, number: u32, plain: Plain, reply: R
     assert!(rt; game.act(plain) == reply, "call {number}");
 }
 
-// A look is followed by a call, and then by the verdict and the rank test on it.
-fn settled(start: &Start, plain: Plain, drift: &Drift, rank: &RankVerdict) -> [Reply; 2] {
+// The replies to the verdict and to a rank test on a look, which is followed by a call.
+fn settled(start: &Start, plain: Plain, drift: &Drift) -> Result<[Reply; 2], RankFault> {
     let mut game = Game::new(start);
     let look = LookData {
         drift: *drift,
         ..game.look_data()
     };
+    let verdict = judge(&look.graph, start.q(), &look.position);
+    let rank = rank_at_least(&look.graph, start.q(), &look.position, 0)?;
     game.act(Plain::Look);
     game.act(plain);
-    let verdict = judge(&look.graph, start.q(), &look.position);
-    [
+    Ok([
         game.settle(&look, &Finding::Judged(verdict)),
-        game.settle(&look, &Finding::Ranked(*rank)),
-    ]
+        game.settle(&look, &Finding::Ranked(rank)),
+    ])
 }
 
+// With two dollars at a the verdict is that b and c borrow; after a has lent there is nothing to do, also if the drift that is
+// told says that b has.
 #[test]
 fn findings_are_carried_along(rt: HostRuntime) -> Result<(), Fail> {
     let start = triangle(&[2, -1, -1])?;
-    let graph = start.graph();
-    let zero = Drift::zero(graph);
-    let verdict = judge(graph, start.q(), start.divisor());
-    let rank = rank_at_least(graph, start.q(), start.divisor(), 0)?;
+    let zero = Drift::zero(start.graph());
+    let other = Drift::between(&Script::sized(&[0, 1, 0]), &Script::sized(&[0, 0, 0]));
     let script = Script::sized(&[0, 0, 0]);
+    let verdict = judge(start.graph(), start.q(), start.divisor());
     let carried = [
         Reply::Verdict(Verdict { script, ..verdict }),
-        Reply::Rank(rank),
+        Reply::Rank(RankVerdict::AtLeast(0)),
     ];
     let lend = Plain::Move(Move::Lend(0));
-    assert!(rt; settled(&start, lend, &zero, &rank) == carried);
-    let elsewhere = zero.plus(graph, &Move::Lend(1));
-    assert!(rt; settled(&start, lend, &elsewhere, &rank) == carried);
-    let stale = [Reply::Stale(1); 2];
-    assert!(rt; settled(&start, Plain::Gift(1, 1), &zero, &rank) == stale);
-    assert!(rt; settled(&start, Plain::Join(0, 1), &zero, &rank) == stale);
+    assert!(rt; settled(&start, lend, &zero)? == carried);
+    assert!(rt; settled(&start, lend, &other)? == carried);
+    assert!(rt; settled(&start, Plain::Gift(1, 1), &zero)? == [Reply::Stale(1); 2]);
+    assert!(rt; settled(&start, Plain::Join(0, 1), &zero)? == [Reply::Stale(1); 2]);
     Ok(())
 }
 
