@@ -25,6 +25,7 @@ pub(crate) fn settles<N: Name, R: Wait + Abort>(
     assert!(rt; data.number == 0 && data.gifts == 0 && data.graph == *table.start().graph());
     assert!(rt; data.position == *table.start().divisor() && data.graph.size() == 3);
     assert!(rt; data.drift == Drift::zero(&data.graph));
+    assert!(rt; data.drift.get(1) == 0);
     table.call(rt, alloc, second, Plain::Move(Move::Lend(0)))?;
     let drift = data.drift.plus(&data.graph, &Move::Lend(1));
     let verdict = judge(&data.graph, table.start().q(), &data.position);

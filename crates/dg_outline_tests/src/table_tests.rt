@@ -222,6 +222,7 @@ fn closes<N: Name, R: Wait + Abort>(
     seats: Vec<Seat<N>>,
 ) -> Result<(), Fail> {
     let mut seats = seats;
+    assert!(rt; seats.len() > 1);
     let second = seats.remove(1);
     let fault = table.close(seats).err().ok_or("a seat that is missing")?;
     let CloseFault {
