@@ -6,9 +6,10 @@ use crate::fault::FileFault;
 use crate::table_file::read_table;
 use std::alloc::{AllocError, Global};
 
-/// Bytes describe one table, or have one fault for which they are refused, and never both; want of memory aside.
+/// No bytes describe two tables, or have two faults for which they are refused, or both a table and a fault; want of memory
+/// aside. That these have one of them is shown by `read_table`, which finds it.
 ///
-/// Refused if there is not enough memory to read them.
+/// Refused if there is not enough memory to read them; no bytes have two all the same.
 pub fn files_have_one_meaning(alloc: Global, bytes: &[u8]) -> Result<(), AllocError>
     ensures some { OnOk result (HasMeaning bytes.now) }
     ensures one { FilesHaveOneMeaning }

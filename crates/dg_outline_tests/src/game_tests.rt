@@ -179,9 +179,13 @@ fn what_is_not_rehearsed(rt: HostRuntime) -> Result<(), Fail> {
         seat: 1,
         command: Command::Call(Plain::Look),
     };
-    for (seat, command, fault) in NO_STEPS {
-        let rehearsed = rehearse(rt.alloc(), &start, &[look, Step { seat, command }]);
-        assert!(rt; rehearsed.err() == Some(fault), "{fault}");
+    for (seat, command, fault) in &NO_STEPS {
+        let step = Step {
+            seat: *seat,
+            command: *command,
+        };
+        let rehearsed = rehearse(rt.alloc(), &start, &[look, step]);
+        assert!(rt; rehearsed.err() == Some(*fault), "{fault}");
     }
     Ok(())
 }

@@ -11,7 +11,7 @@
 --   IsPartyRefused table names scripts refusal == the party is refused so: memory is wanting; or a
 --                        thread was not started, of two scripts or more, and some first scripts had
 --                        sessions, not all; or all had, and then the table was not closed with all
---                        its seats
+--                        its seats, of which no clause tells why: every party may end so
 use Rattle.std.specs.Prelude.{◌≡◌, ℕ, ◌+◌, ◌≤◌, List, [], ◌++◌, length, slice_get, Some, ⊤, Result}
 use Rattle.dg_chips.specs.Vector.{Vector}
 use Rattle.dg_rules.specs.History.{position_after}

@@ -19,7 +19,7 @@ pub enum PartyRefusal {
     /// There is not enough memory, or a thread could not be started.
     #[error(transparent)]
     Shortage(Shortage),
-    /// The table was not closed.
+    /// The table was not closed; no clause says why.
     #[error("{}", Fault::Log)]
     Log,
 }

@@ -13,7 +13,8 @@
 --   Serves held input task old new == such a session came to the end of the input, on the table of
 --                         the file that is named
 --   IsUnclosed t input output == such a session came to some end, and the table was not closed after
---                         it, though all its seats were handed in
+--                         it, though all its seats were handed in. Of which history refused them
+--                         nothing is said, so no clause tells why: every session may end so
 --   EndsEarly t input fault output == such a session ended early, for that fault;
 --                            or the table was not closed after it; or memory was refused before it
 --                            began, and the input and the output are as they were

@@ -40,7 +40,7 @@ pub enum Fault {
     /// A party has more than 64 scripts.
     #[error("too many seats")]
     Seats,
-    /// The table was not closed.
+    /// The table was not closed; no clause says why.
     #[error("{}", dg_table::Fault::Log)]
     History,
     /// The output takes no more bytes.

@@ -18,7 +18,7 @@ use Rattle.dg_strategy.proofs.Common.{◌≡◌, ℕ, ◌+◌, ◌<◌, List, []
 use Rattle.dg_strategy.proofs.Gained.{played_as}
 use Rattle.dg_strategy.proofs.Turned.{claim_won}
 
-LeastDebtors : Choosing
+abbrev LeastDebtors : Choosing
 LeastDebtors g d answer = BorrowsAtLeast d answer
 
 pub bare : List (ℕ × Entry) → List Entry

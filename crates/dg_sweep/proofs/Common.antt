@@ -26,7 +26,7 @@ pub use Rattle.dg_lines.specs.Texts.{pair, rank_text, verdict_text, verdict_word
 pub use Rattle.dg_rank.proofs.Numbering.{past_within}
 pub use Rattle.dg_rank.specs.Limits.{ArePastTrialLimits}
 pub use Rattle.dg_rank.specs.Ranks.{IsUntold, IsWithin, NeedsPastTests}
-pub use Rattle.dg_sweep.specs.AnswerLaws.{AmountsHaveOneAnswer, AmountLinesHaveOneMeaning, HasOneAnswer}
+pub use Rattle.dg_sweep.specs.AnswerLaws.{AmountsHaveOneAnswer, AmountLinesHaveOneMeaning, TablesHaveOneAnswer}
 pub use Rattle.dg_sweep.specs.Answers.{AnswersLine, AnswersRankLine, AnswersTable, AnswersTableWithin, AreRanks, AreUntested, IsBelow, IsRefused, IsTested, answer_number, degree_and_genus_words, refusal_line}
 pub use Rattle.dg_sweep.specs.DivisorLaws.{with_amounts_of_line}
 pub use Rattle.dg_sweep.specs.Divisors.{AnswersAmounts, HasAmountsOf, RefusesAmounts, SpellsAmounts, SpellsNoAmounts}

@@ -2,8 +2,8 @@
 --   answer_moves   what answers a table answers the same table, however it is written
 --   answer_once    a table has one answer
 --   table_once, amounts_once   so has a line of a table, and one of amounts
---   just_one       a line that is answered, and by no other text, has just one answer
-use Rattle.dg_sweep.proofs.Common.{◌≡◌, ℕ, Bool, ◌<◌, ◌⊎◌, inl, inr, List, ◌++◌, length, codes, sym, ap, ◌∙◌, arith, subst, fun_ext, Multigraph, IsMultigraph, Amounts, degree, less, canonical, HasRankAtLeast, IsRank, rank_once, StartData, IsStart, at, IsVerdictOn, IsJudgement, IsRankTest, RankVerdict, ArePastTrialLimits, IsWithin, IsUntold, NeedsPastTests, past_within, AreSameOpenings, FilesHaveOneMeaning, RefusesFile, FileFault, Question, Judge, Rank, RiemannRoch, HasOneAnswer, AmountsHaveOneAnswer, IsTested, IsBelow, AnswersRankLine, answer_number, degree_and_genus_words, AreRanks, AreUntested, AnswersTable, refusal_line, IsRefused, AnswersTableWithin, AnswersLine, RefusesAmounts, AnswersAmounts, file_fault_words}
+--   tables_have_one_answer, amounts_have_one_answer   the laws of dg_sweep
+use Rattle.dg_sweep.proofs.Common.{◌≡◌, ℕ, Bool, ◌<◌, ◌⊎◌, inl, inr, List, ◌++◌, length, codes, sym, ap, ◌∙◌, arith, subst, fun_ext, Multigraph, IsMultigraph, Amounts, degree, less, canonical, HasRankAtLeast, IsRank, rank_once, StartData, IsStart, at, IsVerdictOn, IsJudgement, IsRankTest, RankVerdict, ArePastTrialLimits, IsWithin, IsUntold, NeedsPastTests, past_within, AreSameOpenings, FilesHaveOneMeaning, RefusesFile, FileFault, Question, Judge, Rank, RiemannRoch, TablesHaveOneAnswer, AmountsHaveOneAnswer, IsTested, IsBelow, AnswersRankLine, answer_number, degree_and_genus_words, AreRanks, AreUntested, AnswersTable, refusal_line, IsRefused, AnswersTableWithin, AnswersLine, RefusesAmounts, AnswersAmounts, file_fault_words}
 use Rattle.std.proofs.Math.IntN.{ℤ}
 use Rattle.dg_lines.proofs.Given.{vertex_named}
 use Rattle.dg_sweep.proofs.OneMeaning.{amount_lines_have_one_meaning}
@@ -171,7 +171,7 @@ line_once right line once text other (inr (short, a)) (inl (long, b)) = absurd (
 line_once right line once text other (inr (short, a)) (inr (short', b)) = once text other a b
 
 module _ (question : Question) where
-  pub table_once : FilesHaveOneMeaning → (line text other : List ℕ) → AnswersTableWithin question line text
+  table_once : FilesHaveOneMeaning → (line text other : List ℕ) → AnswersTableWithin question line text
       → AnswersTableWithin question line other → text ≡ other
   table_once files line text other (inl a) (inl b) =
       refused_once (RefusesFile line) text other a b
@@ -208,9 +208,9 @@ module _ (question : Question) where
       (omega (arith, q, size, start.vertex)) (fit ∙ sym size) question text other a.answer
       (answer_moves b.start a.start alike question names other b.answer)
 
-pub just_one : (right : List ℕ → List ℕ → Type 0) (line text : List ℕ) → AnswersLine right line text
-    → ((text other : List ℕ) → right line text → right line other → text ≡ other) → HasOneAnswer right line
-just_one right line text answers once = (text, answers, λ other also. line_once right line once other text also answers)
+pub tables_have_one_answer : FilesHaveOneMeaning → TablesHaveOneAnswer
+tables_have_one_answer files question line text other =
+    line_once (AnswersTableWithin question) line (table_once question files line) text other
 
 pub amounts_have_one_answer : AmountsHaveOneAnswer
 amounts_have_one_answer question o names line text other start fit =

@@ -1,18 +1,18 @@
 -- Laws of answers and of amounts.
---   HasOneAnswer right line == just one text answers the line
+--   TablesHaveOneAnswer == no two texts answer a line of a table
 --   AmountsHaveOneAnswer == no two texts answer a line of amounts for a start and its names
 --   AmountLinesHaveOneMeaning == a line of amounts that stands for a start has no such fault and stands
 --                          for no other start, and no line has two such faults
 use Rattle.std.specs.Prelude.{◌≡◌, ◌≢◌, ℕ, List, length}
 use Rattle.dg_chips.specs.Starts.{IsStart}
 use Rattle.dg_sweep.specs.Common.{StartData, AreSameOpenings, FileFault, OutOfMemory, Question}
-use Rattle.dg_sweep.specs.Answers.{AnswersLine}
+use Rattle.dg_sweep.specs.Answers.{AnswersLine, AnswersTableLine}
 use Rattle.dg_sweep.specs.Divisors.{HasAmountsOf, RefusesAmounts, AnswersAmounts}
 
-abbrev pub HasOneAnswer : (List ℕ → List ℕ → Type 0) → List ℕ → Type 0
-HasOneAnswer right line =
-    (text : List ℕ) × AnswersLine right line text
-    × ((other : List ℕ) → AnswersLine right line other → other ≡ text)
+abbrev pub TablesHaveOneAnswer : Type 0
+TablesHaveOneAnswer =
+    (question : Question) (line text other : List ℕ)
+    → AnswersTableLine question line text → AnswersTableLine question line other → text ≡ other
 
 abbrev pub AmountsHaveOneAnswer : Type 0
 AmountsHaveOneAnswer =

@@ -1,7 +1,7 @@
 //! Laws of the lines of a sweep, each the contract of a function that no other needs.
-ghost use Rattle.std.specs.Prelude.{OnOk};
-ghost use Rattle.dg_sweep.specs.AnswerLaws.{AmountsHaveOneAnswer, AmountLinesHaveOneMeaning, HasOneAnswer};
-ghost use Rattle.dg_sweep.specs.Answers.{AnswersTableWithin};
+ghost use Rattle.std.specs.Prelude.{ℕ, List, OnOk};
+ghost use Rattle.dg_sweep.specs.AnswerLaws.{AmountsHaveOneAnswer, AmountLinesHaveOneMeaning, TablesHaveOneAnswer};
+ghost use Rattle.dg_sweep.specs.Answers.{AnswersTableLine};
 ghost use Rattle.dg_sweep.specs.DivisorLaws.{LinesStandForTables};
 
 use crate::answering::answer_line;
@@ -9,16 +9,17 @@ use dg_file::files_have_one_meaning;
 use dg_invocation::Question;
 use std::alloc::{AllocError, Global};
 
-/// A line of a table has just one answer: the one that `answer_line` gives. So the number of workers changes no answer, and no
-/// line is both answered and refused.
+/// No two texts answer a line of a table. So the number of workers changes no answer, and no line is both answered and refused.
+/// That the line has an answer is shown by `answer_line`, which gives it.
 ///
-/// Refused if there is not enough memory to answer it.
+/// Refused if there is not enough memory to answer it; no two texts answer it all the same.
 pub fn lines_have_one_answer(
     alloc: Global,
     question: Question,
     line: &[u8],
 ) -> Result<(), AllocError>
-    ensures { OnOk result (HasOneAnswer (AnswersTableWithin question) line.now) }
+    ensures some { OnOk result ((text : List ℕ) × AnswersTableLine question line.now text) }
+    ensures one { TablesHaveOneAnswer }
 {
     files_have_one_meaning(alloc, line)?;
     let mut answer = Vec::new(alloc);

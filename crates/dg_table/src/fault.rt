@@ -2,7 +2,7 @@
 
 use thiserror::Error;
 
-/// Why a call of a seat is refused; it is then no entry, and the seat is as it was.
+/// Why a call of a seat is refused; it is then no entry, and the seat knows what it knew.
 #[derive(Clone, Copy, Debug, PartialEq, Eq, Error)]
 pub enum Fault {
     /// There is not enough memory.

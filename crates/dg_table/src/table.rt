@@ -41,7 +41,8 @@ pub struct Table<N: Name> {
 #[derive(Drop, Error)]
 #[error("the table is not closed (missing seat: {missing}, 0 for none)")]
 pub struct CloseFault<N: Name> {
-    /// The least seat that was not handed in, or 0 if all were. Then one of them is not admitted by the history under the lock.
+    /// The least seat that was not handed in, or 0 if all were. Then a history does not admit one of them. It is the one under
+    /// the lock, but no clause says so, and so none says why.
     pub missing: u8,
     /// The table.
     pub table: Table<N>,
@@ -232,7 +233,8 @@ impl<N: Name> Table<N> {
     /// no memory.
     ///
     /// Refused if a seat is missing, or one is not admitted: it knows what the history does not hold, or the history has
-    /// calls of it that it did not make. Then each seat has met the history.
+    /// calls of it that it did not make. Then each seat has met the history. That it is the one under the lock no clause says
+    /// here (`Held::missing` does), so none says why a table with all its seats is refused.
     pub fn close(self, seats: Vec<Seat<N>>) -> Result<Audit<N>, CloseFault<N>>
         ensures { MatchResult result
             (λ a. IsClosed N.table seats.items a.pen.entries × AreTotals N.table seats.items a)

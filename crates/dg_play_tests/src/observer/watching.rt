@@ -113,7 +113,7 @@ fn is_asked_once_for_each<N: Name>(
     alloc: Global,
     log: &Log<N>,
 ) -> Result<(), Fail> {
-    let steps = Cell::new(0);
+    let steps = Cell::new(0u64);
     let mut asked = Observer::<N, Any, _>::new(alloc, 0, |state: &u64, _: &Entry| {
         steps.set(steps.get().wrapping_add(1));
         Ok(*state)

@@ -205,6 +205,30 @@ fn ends_where_a_write_fails<R: Threads + Wait + Abort + Sync>(
     )
 }
 
+// All lines come in one read, and their answers are longer than it.
+#[test]
+fn a_read_may_have_many_answers(rt: HostRuntime) -> Result<(), Fail> {
+    let alloc = rt.alloc();
+    let mut text = Vec::new(alloc);
+    let mut answer = Vec::new(alloc);
+    for _ in 0..4_000 {
+        text.extend_from_slice(b"x\n")?;
+        answer.extend_from_slice(b"bad word\n")?;
+    }
+    let is_held_back = Cell::new(false);
+    let mut reader = new_flow(text.as_slice(), None, &is_held_back);
+    reader.most = text.len();
+    let writer = new_sip(alloc, usize::MAX, false, &is_held_back);
+    on_a_table(
+        &rt,
+        alloc,
+        9,
+        &triangle(&[2, -1, -1])?,
+        1,
+        TableTest::Session(reader, writer, answer.as_slice(), Ok(4_000)),
+    )
+}
+
 // The session over the reader leaves the writer with the answer, all of it flushed unless a write failed, and ends so.
 pub(crate) fn serves<N: Name, R: Threads + Wait + Abort>(
     rt: &R,

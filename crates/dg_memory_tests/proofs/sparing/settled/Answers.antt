@@ -32,7 +32,7 @@ pub settle-requires-clause-found : goal.settle-requires-clause-found
 settle-requires-clause-found c =
     let second = c.act-2.ensures.leads c.args.start.now _ 1
     (c.act.ensures.leads c.args.start.now [] 1 c.new-game.ensures) in
-    let q : c.from-q.result ≡ c.act-2.new.self.q = c.from-q.ensures ∙ c.q.ensures ∙ sym second.q in
+    let q : c.q-q.result ≡ c.act-2.new.self.q = c.q-q.ensures ∙ sym second.q in
     rw (← q) c.if-not-check.ensures
 
 pub check-requires-clause-size : goal.check-requires-clause-size

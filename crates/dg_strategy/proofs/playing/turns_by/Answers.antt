@@ -1,11 +1,14 @@
+use Rattle.std.specs.Borrow.{Bor}
+use Rattle.dg_theory.specs.Multigraph.{Multigraph}
 use Rattle.dg_strategy.specs.Choices.{Chooses}
-use Rattle.dg_strategy.proofs.Common.{rules, ◌≡◌, ◌<◌, arith, refl, sym, ap, ◌∙◌, both_ways, Entry, Claim}
+use Rattle.dg_strategy.proofs.Common.{Option, Vector, Move, rules, ◌≡◌, ◌<◌, arith, refl, sym, ap, ◌∙◌, both_ways, Entry, Claim}
 use Rattle.dg_strategy.proofs.Gained.{one_more, claimed_by, stopped_by, played_out}
 use Rattle.dg_strategy.proofs.playing.turns_by.Goals as goal
 
 pub returns-in_err-receipt : goal.returns-in_err-receipt
 returns-in_err-receipt g c =
-    let post = λ p q m. g.F.Fn.post c.args.choice.now (p, (q, tt)) m in
+    let post = λ (p : Bor Multigraph) (q : Bor Vector) (m : Option Move).
+    g.F.Fn.post c.args.choice.now (p, (q, tt)) m in
     let few : c.loop.counter < c.args.turns = omega (arith, c.loop-test.true) in
     let refused = c.in_err-receipt.ensures.fault in
     let stopped = stopped_by (Chooses post) g.N.Name.table c.loop.counter c.args.turns
@@ -15,7 +18,8 @@ returns-in_err-receipt g c =
 
 pub returns-then-is_claim_of_strategy : goal.returns-then-is_claim_of_strategy
 returns-then-is_claim_of_strategy g c =
-    let post = λ p q m. g.F.Fn.post c.args.choice.now (p, (q, tt)) m in
+    let post = λ (p : Bor Multigraph) (q : Bor Vector) (m : Option Move).
+    g.F.Fn.post c.args.choice.now (p, (q, tt)) m in
     let few : c.loop.counter < c.args.turns = omega (arith, c.loop-test.true) in
     let claim : c.in_ok-receipt.receipt.1.request ≡ Claim =
     ap (λ (e : Entry). e.request) (sym c.entry.ensures) ∙ c.if-is_claim_of_strategy.ensures.0 refl in
@@ -24,7 +28,8 @@ returns-then-is_claim_of_strategy g c =
 
 pub loop-preserved : goal.loop-preserved
 loop-preserved g c =
-    let post = λ p q m. g.F.Fn.post c.args.choice.now (p, (q, tt)) m in
+    let post = λ (p : Bor Multigraph) (q : Bor Vector) (m : Option Move).
+    g.F.Fn.post c.args.choice.now (p, (q, tt)) m in
     let other : ¬ (c.in_ok-receipt.receipt.1.request ≡ Claim) = λ claim.
     both_ways _ c.if-is_claim_of_strategy.false (c.is_claim_of_strategy.ensures.1 (ap (λ (e : Entry). e.request)
     c.entry.ensures ∙ claim)) in
@@ -33,7 +38,8 @@ loop-preserved g c =
 
 pub returns : goal.returns
 returns g c =
-    let post = λ p q m. g.F.Fn.post c.args.choice.now (p, (q, tt)) m in
+    let post = λ (p : Bor Multigraph) (q : Bor Vector) (m : Option Move).
+    g.F.Fn.post c.args.choice.now (p, (q, tt)) m in
     let all : c.loop.counter ≡ c.args.turns = omega (arith, c.loop-test.false, c.loop.auto.counter-end) in
     played_out (Chooses post) g.N.Name.table c.args.turns c.args.seat.now c.loop.seat
     (rw all at c.loop.invariant)
