@@ -175,19 +175,22 @@ const NO_STEPS: [(u8, Command, RehearseFault); 4] = [
 #[test]
 fn what_is_not_rehearsed(rt: HostRuntime) -> Result<(), Fail> {
     let start = triangle(&[2, -1, -1])?;
-    let look = Step {
-        seat: 1,
-        command: Command::Call(Plain::Look),
-    };
     for (seat, command, fault) in &NO_STEPS {
-        let step = Step {
-            seat: *seat,
-            command: *command,
-        };
-        let rehearsed = rehearse(rt.alloc(), &start, &[look, step]);
+        let rehearsed = rehearse(rt.alloc(), &start, &after_a_look(*seat, *command));
         assert!(rt; rehearsed.err() == Some(*fault), "{fault}");
     }
     Ok(())
+}
+
+fn after_a_look(seat: u8, command: Command) -> [Step; 2] {
+    let look = Command::Call(Plain::Look);
+    [
+        Step {
+            seat: 1,
+            command: look,
+        },
+        Step { seat, command },
+    ]
 }
 
 // A history has room for 65,536 entries. If it is full, the seat of the next step is judged first.
