@@ -1,5 +1,4 @@
-//! Trials and rank tests, computed by hand.
+//! Rank tests, computed by hand.
 mod ranks;
 mod references;
-mod trials;
 mod workers;

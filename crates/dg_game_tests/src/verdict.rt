@@ -1,4 +1,2 @@
 //! Verdicts.
-mod checked;
 mod judged;
-mod rebased;

@@ -4,8 +4,6 @@
 #[cfg(test)]
 mod analyst;
 #[cfg(test)]
-mod gates;
-#[cfg(test)]
 mod observer;
 #[cfg(test)]
 mod strategy;

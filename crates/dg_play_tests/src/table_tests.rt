@@ -2,19 +2,15 @@
 ghost use Rattle.std.specs.Prelude.{◌≡◌, length};
 ghost use Rattle.dg_log.specs.Tables.{table_data_of};
 
-use crate::analyst::looks::{asks_too_much, judged, ranked};
+use crate::analyst::looks::enters_in_less_time;
 use crate::observer::watching::watched;
 use crate::strategy::plays::played;
 use crate::table::filled::fills;
 use crate::table::meetings::{Meeting, meet};
-use crate::table::pens::writes;
-use crate::table::seats::{Calls, calls_are_entries};
-use crate::table::settles::settles;
 use crate::table::turns::turns;
 use dg_chips::Start;
 use dg_log::{Name, Row};
-use dg_rules::{Plain, Reply};
-use dg_table::{Seat, Table, TableFault};
+use dg_table::{Seat, Table};
 use std::alloc::Global;
 use std::marker::Brand;
 use std::process::Abort;
@@ -25,24 +21,12 @@ use std::thread::Threads;
 // What is done at a table.
 #[derive(Drop)]
 pub(crate) enum TableTest<'a> {
-    // A pen writes the row's log, and no table is opened.
-    Pen,
-    // No table is opened, since there can't be so many seats.
-    NoSeats,
-    // Calls are made until the row is full.
-    Calls(&'a Calls<'a>),
     // As many seats as there may be fill the longest history that there may be.
     Filled,
     // Calls are chosen at the position that they find.
     Turns,
-    // A finding is entered with a drift that leads nowhere.
-    Drift,
-    // A verdict is entered, with this call between the look and it, and this reply.
-    Judged(Plain, Reply),
-    // A rank test is entered.
-    Ranked,
-    // A rank test is past the limits.
-    TooMuch,
+    // Findings are entered by calls that save time.
+    Looks,
     // Observers read what two seats have entered.
     Watched,
     // Strategies are played.
@@ -75,19 +59,10 @@ fn opened<N: Name + Send + Sync, R: Threads + Wait + Abort + Sync>(
     requires row { row ≡ N.cells }
     requires table { N.table ≡ table_data_of start.now count (length row) }
 {
-    if let TableTest::Pen = test {
-        return writes::<N>(rt, alloc, row);
-    }
-    let cells = row.len();
-    match Table::<N>::open(alloc, row, start, count) {
-        Ok((table, seats)) => shown(rt, alloc, table, seats, test),
-        Err((row, fault)) => {
-            assert!(rt; matches!(&test, TableTest::NoSeats));
-            assert_eq!(rt; fault, TableFault::Seats);
-            assert_eq!(rt; row.len(), cells);
-            Ok(())
-        }
-    }
+    let (table, seats) = Table::<N>::open(alloc, row, start, count)
+        .ok()
+        .ok_or("a table")?;
+    shown(rt, alloc, table, seats, test)
 }
 
 fn shown<N: Name + Send + Sync, R: Threads + Wait + Abort + Sync>(
@@ -99,8 +74,6 @@ fn shown<N: Name + Send + Sync, R: Threads + Wait + Abort + Sync>(
 ) -> Result<(), Fail> {
     let mut seats = seats;
     match test {
-        TableTest::Pen | TableTest::NoSeats => Err(Fail::from("a table that is not wanted")),
-        TableTest::Calls(calls) => calls_are_entries(rt, alloc, table, seats, calls),
         TableTest::Filled => fills(rt, alloc, table, seats),
         TableTest::Meeting(meeting) => meet(rt, alloc, table, seats, &*meeting),
         test => match seats.as_mut_slice() {
@@ -134,12 +107,7 @@ fn shown_to_two<N: Name, R: Threads + Wait + Abort>(
     test: TableTest<'_>,
 ) -> Result<(), Fail> {
     match &test {
-        TableTest::Drift => settles(rt, alloc, table, first, second),
-        TableTest::Judged(between, reply) => judged(
-            rt, alloc, table, first, second, *between, *reply,
-        ),
-        TableTest::Ranked => ranked(rt, alloc, table, first, second),
-        TableTest::TooMuch => asks_too_much(rt, alloc, table, first, second),
+        TableTest::Looks => enters_in_less_time(rt, alloc, table, first, second),
         TableTest::Watched => watched(rt, alloc, table, first, second),
         _ => Err(Fail::from("a test for one seat")),
     }

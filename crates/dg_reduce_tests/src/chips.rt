@@ -1,8 +1,5 @@
-//! Divisors, scripts, moves and drifts.
-mod divisors;
+//! Scripts, wide amounts, drifts and K - D.
 mod drifts;
 mod duals;
-mod moves;
 mod scripts;
-mod starts;
 mod wide;

@@ -1,4 +1,3 @@
-//! Graphs, edges that are added, and sets of vertices.
+//! Graphs, and sets of vertices.
 mod graphs;
-mod joins;
 mod sets;

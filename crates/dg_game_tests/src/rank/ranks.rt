@@ -5,53 +5,10 @@ use crate::edges::{FOUR, PAIR, SQUARE, TRIANGLE};
 use crate::rank::references::plainly;
 use dg_chips::{Divisor, dual};
 use dg_graph::Graph;
-use dg_rank::{Gate, RankFault, both_ranks, both_ranks_in_limits, has_rank, rank, rank_with};
+use dg_rank::{RankFault, both_ranks, both_ranks_in_limits, has_rank, rank};
 use dg_verdict::RankVerdict;
 use std::process::Abort;
-use std::sync::Wait;
-use std::sync::atomic::{AtomicU32, Ordering};
 use std::test::Fail;
-use std::thread::Threads;
-
-// A gate that counts how often it is entered.
-#[derive(Drop)]
-struct Counter {
-    entered: AtomicU32,
-}
-
-impl Gate for Counter {
-    fn enter(&self, _piece: u32) {
-        self.entered.fetch_add(1, Ordering::SeqCst);
-    }
-}
-
-#[test]
-fn too_many_workers(rt: HostRuntime) -> Result<(), Fail> {
-    refuses(&rt, 1, 0, RankFault::Workers)?;
-    refuses(&rt, 1, 17, RankFault::Workers)?;
-    refuses(&rt, 631, 17, RankFault::TooMany)
-}
-
-// Whether so many workers refuse the triangle with 1 0 0 so, and none of them enters the gate.
-fn refuses<R: Threads + Wait + Abort>(
-    rt: &R,
-    degree: u32,
-    workers: u32,
-    fault: RankFault,
-) -> Result<(), Fail> {
-    let triangle = Graph::new(3, TRIANGLE)?;
-    let divisor = Divisor::new(&triangle, &[1, 0, 0])?;
-    let gate = Counter {
-        entered: AtomicU32::new(0),
-    };
-    let found = rank_with(rt, &triangle, 0, &divisor, degree, workers, &gate);
-    assert!(rt; found == Err(fault), "{workers} workers");
-    assert!(rt;
-        gate.entered.load(Ordering::SeqCst) == 0,
-        "{workers} workers"
-    );
-    Ok(())
-}
 
 // The rank, by the plain way: the trials of degree 0, 1 and so on.
 fn plain_rank(graph: &Graph, divisor: &Divisor) -> Option<i64>

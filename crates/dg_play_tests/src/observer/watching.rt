@@ -6,8 +6,7 @@ use crate::tables::{amounts, triangle};
 use dg_chips::{Divisor, Move};
 use dg_log::{Log, Name};
 use dg_observer::{
-    Gifts, Observer, ObserverFault, Positions, RefusedMoves, Watch, count_gift, count_refusal,
-    keep_position,
+    Observer, ObserverFault, Positions, RefusedMoves, Watch, count_refusal, keep_position,
 };
 use dg_rules::{Entry, Plain};
 use dg_table::{Seat, Table};
@@ -92,24 +91,12 @@ pub(crate) fn watched<N: Name, R: Wait + Abort>(
     let log = table.log();
     table.call(rt, alloc, first, Plain::Move(Move::Lend(0)))?;
     table.call(rt, alloc, second, Plain::Gift(1, 1))?;
-    counts_gifts(rt, alloc, log)?;
     table.call(rt, alloc, second, Plain::Move(Move::Lend(3)))?;
     counts_entries(rt, alloc, log)?;
     is_asked_once_for_each(rt, alloc, log)?;
     counts_refused_moves(rt, alloc, log)?;
     has_no_memory(rt, alloc, log);
     follows_the_position(rt, alloc, log, table.start().divisor())
-}
-
-// Of two entries the second is a gift.
-fn counts_gifts<N: Name>(rt: &impl Abort, alloc: Global, log: &Log<N>) -> Result<(), Fail> {
-    let mut gifts = Observer::<N, Gifts, _>::new(alloc, 0, count_gift);
-    let read = gifts.catch_up(log)?;
-    assert!(rt; read == 2 && *gifts.state() == 1);
-    let more = gifts.catch_up(log)?;
-    assert!(rt; more == 0 && gifts.count() == 2);
-    assert!(rt; gifts.receipt(1).number() == 1);
-    Ok(())
 }
 
 fn counts_entries<N: Name>(rt: &impl Abort, alloc: Global, log: &Log<N>) -> Result<(), Fail> {

@@ -3,7 +3,7 @@
 use crate::strategy::choices::richest_lends;
 use crate::table_tests::{TableTest, on_a_table};
 use crate::tables::{amounts, triangle};
-use dg_chips::{Divisor, Move};
+use dg_chips::Divisor;
 use dg_graph::Graph;
 use dg_log::{Log, Name};
 use dg_rules::Reply;
@@ -23,41 +23,23 @@ fn one_seat_plays(rt: HostRuntime) -> Result<(), Fail> {
     Ok(())
 }
 
-// No turn, two turns of lending at a, a claim, and two turns of lending at the richest vertex.
+// Four turns of lending at the richest vertex.
 pub(crate) fn played<N: Name, R: Wait + Abort>(
     rt: &R,
     alloc: Global,
     table: &Table<N>,
     seat: &mut Seat<N>,
 ) -> Result<(), Fail> {
-    lends_in_turns(rt, alloc, table, seat, 0)?;
-    lends_in_turns(rt, alloc, table, seat, 2)?;
-    table.turn(rt, alloc, seat, &mut |_: &Graph, _: &Divisor| None)?;
     let lender = Strategy::new(|graph: &Graph, position: &Divisor| richest_lends(graph, position));
-    let richest = play(rt, alloc, table, seat, &lender, 2)?;
-    assert!(rt; matches!(&richest, Ended::Turns) && seat.calls() == 5);
+    let richest = play(rt, alloc, table, seat, &lender, 4)?;
+    assert!(rt; matches!(&richest, Ended::Turns) && seat.calls() == 4);
     are_answered(rt, table.log())
-}
-
-// The seat, which has made no call, lends at a in so many turns.
-fn lends_in_turns<N: Name, R: Wait + Abort>(
-    rt: &R,
-    alloc: Global,
-    table: &Table<N>,
-    seat: &mut Seat<N>,
-    turns: u32,
-) -> Result<(), Fail> {
-    let lender = Strategy::new(|_: &Graph, _: &Divisor| Some(Move::Lend(0)));
-    let ended = play(rt, alloc, table, seat, &lender, turns)?;
-    assert!(rt; matches!(&ended, Ended::Turns) && seat.calls() == u64::from(turns));
-    Ok(())
 }
 
 fn are_answered<N: Name>(rt: &impl Abort, log: &Log<N>) -> Result<(), Fail> {
     let replies = [
         Reply::Moved(amounts(&[0, 0, 0])?),
         Reply::Moved(amounts(&[-2, 1, 1])?),
-        Reply::NotWon,
         Reply::Moved(amounts(&[-1, -1, 2])?),
         Reply::Moved(amounts(&[0, 0, 0])?),
     ];

@@ -34,10 +34,7 @@ type Case = (
 // By hand, square from 2 with 0 1 -3 0: 3 burns (1 edge, 0 dollars), then 0 (1 edge, from 3), then 1 (2 edges, 1 dollar).
 // With 2 0 -1 1: 1 burns, and 0 has 1 edge for 2 dollars, 3 has 1 edge for 1. With 1 1 0 2 nobody does. Path from 3 with
 // 0 1 0 5: 2 burns, and 1 has 1 edge for 1 dollar. From 1, all burn from the least on.
-static CASES: [Case; 10] = [
-    (SQUARE, 0, &[-2, 0, 3, 0], &[0, 1, 3], 4),
-    (SQUARE, 0, &[-2, 1, 1, 1], &[0], 14),
-    (SQUARE, 0, &[0, 0, 1, 0], &[0, 1, 3, 2], 0),
+static CASES: [Case; 7] = [
     (TRIANGLE, 2, &[0, 0, -5], &[2, 0, 1], 0),
     (&[], 0, &[-1], &[0], 0),
     (SQUARE, 2, &[0, 1, -3, 0], &[2, 3, 0, 1], 0),

@@ -62,27 +62,6 @@ fn leads_to(triangle: &Graph, script: Script, amounts: &[i64]) -> Result<(bool, 
     ))
 }
 
-// Two scripts, and the first less the second.
-static BETWEEN: [([i64; 3], [i64; 3], [i64; 3]); 3] = [
-    ([3, -4, 0], [0, 0, 0], [3, -4, 0]),
-    ([3, -4, 1], [5, 5, -6], [-2, -9, 7]),
-    (
-        [0, 1_000_000_000, -1_000_000_000],
-        [0, -1_000_000_000, 1_000_000_000],
-        [0, 2_000_000_000, -2_000_000_000],
-    ),
-];
-
-#[test]
-fn how_drifts_differ(rt: HostRuntime) -> Result<(), Fail> {
-    let triangle = Graph::new(3, TRIANGLE)?;
-    for (first, second, entries) in &BETWEEN {
-        let between = between(&triangle, first, second)?;
-        assert!(rt; holds(&between, entries), "{entries:?}");
-    }
-    Ok(())
-}
-
 /// A script's entries less those of another.
 fn between(graph: &Graph, first: &[i64], second: &[i64]) -> Result<Drift, Fail> {
     let first = Script::new(graph, first)?;

@@ -1,38 +1,10 @@
 //! Wide amounts.
 
 use crate::edges::TRIANGLE;
-use dg_chips::{ChipFault, Divisor, Script, Wide};
+use dg_chips::{Divisor, Script, Wide};
 use dg_graph::Graph;
 use std::process::Abort;
 use std::test::Fail;
-
-// Numbers for the triangle, and why they are refused.
-static NUMBERS: [(&[i128], Option<ChipFault>); 5] = [
-    (&[0, 0], Some(ChipFault::Length)),
-    (&[0, 0, 0, 0], Some(ChipFault::Length)),
-    (&[], Some(ChipFault::Length)),
-    (&[1_000_001, -1_000_001, 0], None),
-    (&[i128::MIN, 0, i128::MAX], None),
-];
-
-#[test]
-fn which_wide_amounts_are_taken(rt: HostRuntime) -> Result<(), Fail> {
-    let triangle = Graph::new(3, TRIANGLE)?;
-    for (numbers, fault) in &NUMBERS {
-        assert!(rt; Wide::new(&triangle, numbers).err() == *fault, "wide");
-    }
-    Ok(())
-}
-
-#[test]
-fn what_wide_amounts_hold(rt: HostRuntime) -> Result<(), Fail> {
-    let triangle = Graph::new(3, TRIANGLE)?;
-    let most = Wide::new(&triangle, &[i128::MIN, -7, i128::MAX])?;
-    assert!(rt; most.size() == 3);
-    assert!(rt; most.get(0) == i128::MIN && most.get(1) == -7 && most.get(2) == i128::MAX);
-    assert!(rt; are_held(&triangle, &Wide::zero(&triangle), &[0, 0, 0]));
-    Ok(())
-}
 
 /// Whether these are the amounts.
 fn are_held(graph: &Graph, chips: &Wide, amounts: &[i128]) -> bool {

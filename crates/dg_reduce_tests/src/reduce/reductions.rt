@@ -1,34 +1,13 @@
-//! Reduced divisors: at twice the limits, and as single firings have them.
+//! Reduced divisors, as single firings have them.
 
 ghost use Rattle.std.specs.Prelude.{◌≡◌, ◌≤◌};
 
 use crate::edges::{SQUARE, TRIANGLE};
 use crate::reduce::reference::{Single, reduce_singly};
-use dg_chips::{Divisor, Script, Wide};
+use dg_chips::Divisor;
 use dg_graph::Graph;
-use dg_reduce::{Reduced, is_within_reduction_limit, reduce, reduce_wide};
-use std::process::Abort;
+use dg_reduce::{Reduced, reduce};
 use std::test::Fail;
-
-const PAIR: &[(u8, u8, u8)] = &[(0, 1, 3)];
-
-fn is_reduced(rt: &impl Abort, graph: &Graph, reduced: &Reduced, chips: &[i128], script: &[i64]) {
-    assert!(rt; Wide::new(graph, chips) == Ok(reduced.divisor), "{chips:?}");
-    assert!(rt;
-        Script::new(graph, script) == Ok(reduced.script),
-        "{script:?}"
-    );
-}
-
-#[test]
-fn twice_the_range(rt: HostRuntime) -> Result<(), Fail> {
-    let pair = Graph::new(2, PAIR)?;
-    let chips = Wide::new(&pair, &[-2_000_000, 2_000_000])?;
-    assert!(rt; is_within_reduction_limit(&chips));
-    let reduced = reduce_wide(&pair, 0, &chips);
-    is_reduced(&rt, &pair, &reduced, &[-2, 2], &[0, 666_666]);
-    Ok(())
-}
 
 /// Whether two reductions of so many vertices are the same.
 fn agrees(size: usize, reduced: &Reduced, single: &Single) -> bool
