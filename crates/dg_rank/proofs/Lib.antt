@@ -10,7 +10,6 @@ pub mod TrialLists
 -- What the search over all trials finds.
 pub mod FirstLosses
 pub mod PieceLosses
-pub mod Gated
 pub mod Elsewhere
 pub mod Blocks
 -- The reduced divisor in place of the one given.

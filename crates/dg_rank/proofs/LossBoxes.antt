@@ -175,8 +175,8 @@ box_told (Some E) g A B r j (s, leads) loss = record {
       (s, λ u below. omega (arith, ints, leads u below))).0 win);
 }
 
-pub result_told : {X : Type 0} (o : Result (Option (List ℕ)) X) (P : Type 0) (g : Multigraph) (A B : Amounts) (r : List ℕ) (j : ℕ) →
-    AreEquivalent g A B →
+pub result_told : {X : Type 0} (o : Result (Option (List ℕ)) X) (P : Type 0) (g : Multigraph) (A B : Amounts) (r : List ℕ)
+    (j : ℕ) → AreEquivalent g A B →
     MatchResult o (λ found. MatchOption found (BoxWins g B r j) (IsBoxLoss g B r j)) (λ _. P) →
     MatchResult o (λ found. MatchOption found (BoxWins g A r j) (IsBoxLoss g A r j)) (λ _. P)
 result_told (Ok found) P g A B r j same told = box_told found g A B r j same told

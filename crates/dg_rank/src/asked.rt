@@ -1,5 +1,5 @@
-//! The vertices that rank tests ask: it is enough to lose dollars at these. A determining set of vertices takes as long to make as
-//! some dozens of boxes to search, so it is made once a search is longer than that.
+//! The vertices that rank tests ask: it is enough to lose dollars at these. A determining set of vertices takes as long to make
+//! as some dozens of boxes to search, so it is made once a search is longer than that.
 ghost use Rattle.std.specs.Prelude.{◌≡◌, ℕ, ◌<◌, ◌≤◌, ⊤, true, MatchBool, MatchOption, slice_index, if◌then◌else◌};
 ghost use Rattle.dg_theory.specs.Firing.{IsEffective};
 ghost use Rattle.dg_graph.specs.Sets.{in_set};

@@ -22,7 +22,8 @@ find_without-find_in_box-requires t c =
 
 pub find_without-returns-in-Some : goal.find_without-returns-in-Some
 find_without-returns-in-Some t c =
-    result_told c.find_in_box.result (c.args.stops ≡ true) c.args.graph.now (less (at c.args.left.now) (only_at c.args.v (pos c.args.taken)))
+    result_told c.find_in_box.result (c.args.stops ≡ true) c.args.graph.now
+    (less (at c.args.left.now) (only_at c.args.v (pos c.args.taken)))
     (at c.in-Some.other) c.args.room.now c.args.dollars c.in-Some.ensures.led c.find_in_box.ensures
 
 pub find_without-returns-in-None : goal.find_without-returns-in-None
@@ -74,7 +75,8 @@ find_in_box-loop-v-preserved t c =
         fewer = λ u. rw w.open-is
             (closed_few open' c.args.room.now v held placed (omega arith) c.loop-v.invariant.fewer u);
         closed = λ wins. c.loop-v.invariant.closed
-            (box_split g A open' c.args.dollars v held below placed (rw w.in-Ok-None.field-0-is at w.in-Ok-None.ensures) (rw w.open-is at wins));
+            (box_split g A open' c.args.dollars v held below placed
+            (rw w.in-Ok-None.field-0-is at w.in-Ok-None.ensures) (rw w.open-is at wins));
         rich = λ u low. rw w.open-is
             (closed_rich open' A c.args.dollars v held placed (omega (arith, ints, c.held_at-held.ensures))
             c.loop-v.invariant.rich u low);

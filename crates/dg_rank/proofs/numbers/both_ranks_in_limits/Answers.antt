@@ -37,5 +37,5 @@ returns c =
 
 pub returns-in_err-fails : goal.returns-in_err-fails
 returns-in_err-fails c =
-    rw c.from_residual.ensures (inl (past_tests c.args.graph.now (at c.args.divisor.now) c.size-size.ensures.graph.multigraph (omega arith)
-    c.in_err-fails.ensures))
+    rw c.from_residual.ensures (inl (past_tests c.args.graph.now (at c.args.divisor.now)
+    c.size-size.ensures.graph.multigraph (omega arith) c.in_err-fails.ensures))

@@ -6,7 +6,13 @@ use Rattle.dg_rank.proofs.ranks.tested.Goals as goal
 pub dual_wins-requires : goal.dual_wins-requires
 dual_wins-requires c =
     let (count, within) = c.requires.limits in
-    record { size = c.requires.size; some = within.some; unsettled = c.requires.unsettled; few = within.small; made = none_made c.args.graph.now within.few }
+    record {
+      size = c.requires.size;
+      some = within.some;
+      unsettled = c.requires.unsettled;
+      few = within.small;
+      made = none_made c.args.graph.now within.few;
+    }
 
 pub first_loss_by_boxes-requires : goal.first_loss_by_boxes-requires
 first_loss_by_boxes-requires c =
