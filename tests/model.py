@@ -6,7 +6,7 @@ import re
 from dollar.grammar import GRAMMAR, limit
 
 COMMANDS, KINDS = GRAMMAR["commands"], GRAMMAR["kinds"]
-MOST_EDGES, MOST_AMOUNT, MOST_GIFT = limit("dg_graph::MAX_VALENCE"), limit("dg_chips::MAX_AMOUNT"), limit("dg_game::MAX_GIFT")
+MOST_EDGES, MOST_AMOUNT, MOST_GIFT = limit("dg_graph::MAX_VALENCE"), limit("dg_chips::MAX_AMOUNT"), limit("dg_rules::MAX_GIFT")
 MOST_DEGREE, MOST_TRIALS = limit("dg_rank::MAX_DEGREE"), limit("dg_rank::MAX_TRIALS")
 
 

@@ -160,7 +160,7 @@ def faults():
 
 
 # Constants that are one limit: of crates that do not know each other, or of other types.
-SAME = [("dg_sweep::MAX_LINE", "dg_system::MAX_FILE"), ("dg_game::MAX_GIFT", "dg_chips::MAX_AMOUNT")]
+SAME = [("dg_sweep::MAX_LINE", "dg_system::MAX_FILE"), ("dg_rules::MAX_GIFT", "dg_chips::MAX_AMOUNT")]
 
 
 def limits():

@@ -11,7 +11,7 @@ from dollar.grammar import limit
 
 DRAW = random.Random(SEED)
 print(f"SEED={SEED}")
-SEATS, ENTRIES, WORKERS = limit("dg_game::MAX_SEATS"), limit("dg_game::MAX_ENTRIES"), limit("dg_rank::MAX_WORKERS")
+SEATS, ENTRIES, WORKERS = limit("dg_rules::MAX_SEATS"), limit("dg_rules::MAX_ENTRIES"), limit("dg_rank::MAX_WORKERS")
 FULL = b"the history is full"
 START = b"a=2 b=-1 c=-1"
 NAMES = [f"v{i}" for i in range(16)]

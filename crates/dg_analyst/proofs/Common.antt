@@ -1,17 +1,17 @@
 -- The names that the proofs of this crate cite, passed on from one place. Declares nothing.
 pub use Rattle.dg_analyst.specs.Commits.{StaleIsCommitted, StaleTriedIsCommitted}
 pub use Rattle.dg_analyst.specs.Views.{LookView}
-pub use Rattle.dg_game.specs.History.{gifts_in}
-pub use Rattle.dg_game.specs.Look.{KeepsFinding, asked_for, asked_on, degree_found}
-pub use Rattle.dg_game.specs.declared.entry.Entry.{Entry}
-pub use Rattle.dg_game.specs.declared.entry.Reply.TheVariants.{Stale}
-pub use Rattle.dg_game.specs.declared.entry.Request.{Request}
-pub use Rattle.dg_game.specs.declared.entry.Request.TheVariants.{Look}
-pub use Rattle.dg_game.specs.declared.finding.Finding.{Finding}
-pub use Rattle.dg_game.specs.declared.finding.Finding.TheVariants.{Judged, Ranked}
-pub use Rattle.dg_game.specs.declared.finding.Question.{Question}
-pub use Rattle.dg_game.specs.declared.finding.Question.TheVariants.{Judge, Rank}
-pub use Rattle.dg_game.specs.declared.look.LookData.{LookData}
+pub use Rattle.dg_rules.specs.History.{gifts_in}
+pub use Rattle.dg_rules.specs.Look.{KeepsFinding, asked_for, asked_on, degree_found}
+pub use Rattle.dg_rules.specs.declared.entry.Entry.{Entry}
+pub use Rattle.dg_rules.specs.declared.entry.Reply.TheVariants.{Stale}
+pub use Rattle.dg_rules.specs.declared.entry.Request.{Request}
+pub use Rattle.dg_rules.specs.declared.entry.Request.TheVariants.{Look}
+pub use Rattle.dg_rules.specs.declared.finding.Finding.{Finding}
+pub use Rattle.dg_rules.specs.declared.finding.Finding.TheVariants.{Judged, Ranked}
+pub use Rattle.dg_rules.specs.declared.finding.Question.{Question}
+pub use Rattle.dg_rules.specs.declared.finding.Question.TheVariants.{Judge, Rank}
+pub use Rattle.dg_rules.specs.declared.look.LookData.{LookData}
 pub use Rattle.dg_log.specs.Tables.{TableData}
 pub use Rattle.dg_table.proofs.Findings.{last_after}
 pub use Rattle.dg_table.specs.Answered.{IsEnteredAfter, entering}

@@ -9,10 +9,10 @@
 --                              of each verdict on the look
 --   StaleTriedIsCommitted   == and of each answer of the rank test that was asked for
 use Rattle.std.specs.Prelude.{◌≡◌, ℕ}
-use Rattle.dg_game.specs.Look.{degree_found}
-use Rattle.dg_game.specs.declared.entry.Entry.{Entry}
-use Rattle.dg_game.specs.declared.finding.Finding.TheVariants.{Judged, Ranked}
-use Rattle.dg_game.specs.declared.finding.Question.TheVariants.{Judge, Rank}
+use Rattle.dg_rules.specs.Look.{degree_found}
+use Rattle.dg_rules.specs.declared.entry.Entry.{Entry}
+use Rattle.dg_rules.specs.declared.finding.Finding.TheVariants.{Judged, Ranked}
+use Rattle.dg_rules.specs.declared.finding.Question.TheVariants.{Judge, Rank}
 use Rattle.dg_log.specs.Tables.{TableData}
 use Rattle.dg_table.specs.Faults.{RefusesCall}
 use Rattle.dg_table.specs.Seats.{SeatView, Keeps}

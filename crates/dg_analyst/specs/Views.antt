@@ -11,8 +11,8 @@
 use Rattle.std.specs.Prelude.{ℕ}
 use Rattle.dg_chips.specs.Starts.{StartData}
 use Rattle.dg_chips.specs.Vector.{at}
-use Rattle.dg_game.specs.declared.entry.Entry.{Entry}
-use Rattle.dg_game.specs.declared.look.LookData.{LookData}
+use Rattle.dg_rules.specs.declared.entry.Entry.{Entry}
+use Rattle.dg_rules.specs.declared.look.LookData.{LookData}
 use Rattle.dg_rank.specs.Ranks.{IsWithin, MayHaveWorkers}
 use Rattle.dg_table.specs.Looks.{KeptLookHasVertices, IsLookOf}
 use Rattle.dg_verdict.specs.RankTests.{IsRankTest}

@@ -7,9 +7,9 @@ ghost use Rattle.dg_table.specs.Settled.{IsStale, IsNotStale};
 
 use crate::looks::Look;
 use crate::reckoning::{Reckoned, Tried};
-use dg_game::{Finding, Question, renew_looks_inverse};
 use dg_log::{Name, Receipt};
 use dg_reduce::InverseLaplacian;
+use dg_rules::{Finding, Question, renew_looks_inverse};
 use dg_table::{Fault, Seat, Table};
 use dg_verdict::judge_with_inverse;
 use std::alloc::Global;

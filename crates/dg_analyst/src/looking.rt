@@ -1,13 +1,13 @@
 //! Taking looks at a table.
 ghost use Rattle.std.specs.Prelude.{◌≡◌, length, IfOk, IfErr};
-ghost use Rattle.dg_game.specs.declared.entry.Request.TheVariants.{Look as LookRequest};
+ghost use Rattle.dg_rules.specs.declared.entry.Request.TheVariants.{Look as LookRequest};
 ghost use Rattle.dg_table.specs.Answered.{IsAnswered};
 ghost use Rattle.dg_table.specs.Faults.{RefusesCall};
 ghost use Rattle.dg_table.specs.Seats.{Keeps};
 
 use crate::looks::Look;
-use dg_game::Plain;
 use dg_log::Name;
+use dg_rules::Plain;
 use dg_table::{Fault, Seat, Table};
 use std::alloc::Global;
 use std::sync::Wait;

@@ -3,9 +3,9 @@ ghost use Rattle.std.specs.Prelude.{◌≡◌};
 ghost use Rattle.dg_analyst.specs.Views.{IsTaken};
 
 use dg_chips::Divisor;
-use dg_game::LookData;
 use dg_graph::Graph;
 use dg_log::{Name, Receipt};
+use dg_rules::LookData;
 use std::marker::Model;
 
 /// A look at the table N, with what is needed to compute on it while others play. A contract sees the look's entry, with

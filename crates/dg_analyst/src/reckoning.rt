@@ -3,13 +3,13 @@ ghost use Rattle.std.specs.Prelude.{◌≡◌, ◌≤◌, MatchResult, IfErr};
 ghost use Rattle.dg_analyst.specs.Commits.{IsReckoned};
 ghost use Rattle.dg_analyst.specs.Views.{IsTried};
 ghost use Rattle.dg_rank.specs.Ranks.{IsRankFault};
-ghost use Rattle.dg_game.specs.Look.{IsFoundFor};
+ghost use Rattle.dg_rules.specs.Look.{IsFoundFor};
 
 use crate::looks::Look;
-use dg_game::Finding;
 use dg_log::Name;
 use dg_rank::{Gate, OpenGate, RankFault, rank_at_least, rank_with};
 use dg_reduce::InverseLaplacian;
+use dg_rules::Finding;
 use dg_verdict::{RankVerdict, Verdict, judge_with_inverse};
 use std::marker::Model;
 use std::sync::Wait;
@@ -24,8 +24,8 @@ pub struct Reckoned<N: Name> {
 
 impl<N: Name> Model for Reckoned<N> {
     ghost use Rattle.dg_analyst.specs.Views.{Found};
-    ghost use Rattle.dg_game.specs.declared.finding.Finding.TheVariants.{Judged};
-    ghost use Rattle.dg_game.specs.Look.{IsFoundFor};
+    ghost use Rattle.dg_rules.specs.declared.finding.Finding.TheVariants.{Judged};
+    ghost use Rattle.dg_rules.specs.Look.{IsFoundFor};
     ghost use Rattle.dg_verdict.specs.declared.verdict.Verdict.{Verdict as VerdictData};
 
     ghost Value = { Found VerdictData };
@@ -61,9 +61,9 @@ pub struct Tried<N: Name> {
 
 impl<N: Name> Model for Tried<N> {
     ghost use Rattle.dg_analyst.specs.Views.{Found};
-    ghost use Rattle.dg_game.specs.declared.finding.Finding.TheVariants.{Ranked};
+    ghost use Rattle.dg_rules.specs.declared.finding.Finding.TheVariants.{Ranked};
     ghost use Rattle.dg_verdict.specs.declared.rank_verdict.RankVerdict.{RankVerdict as RankData};
-    ghost use Rattle.dg_game.specs.Look.{IsFoundFor};
+    ghost use Rattle.dg_rules.specs.Look.{IsFoundFor};
 
     ghost Value = { Found RankData };
 

@@ -1,10 +1,3 @@
-pub mod ListLaws
-pub mod HistoryLaws
-pub mod StepLaw
-pub mod RankTests
-pub mod ReplyLaws
-pub mod StateLaws
-pub mod LegalLaws
-pub mod GraphLaws
-pub mod LookLaws
+pub mod KeptLaws
+pub mod RehearsalLaws
 pub mod Common

@@ -1,16 +1,9 @@
-//! The dollar game of one table, played by one hand: requests, replies and the history that they make. No call takes memory.
+//! The dollar game of one table, and schedules that are played on it: their steps one after another, on one game and the looks
+//! that its seats keep. No call takes memory but `rehearse`.
 #![tactic(auto)]
 
-mod entry;
-mod finding;
-mod game;
-mod laws;
-mod look;
-mod step;
+mod ranking;
+mod schedule;
 
-pub use entry::{BLANK, Entry, MAX_GIFT, MAX_SEATS, Plain, Refusal, Reply, Request};
-pub use finding::{Finding, Question, judge_look, judge_look_with_inverse, renew_looks_inverse};
-pub use game::{Game, MAX_ENTRIES};
-pub use laws::{law_of_histories, law_of_legal_histories};
-pub use look::LookData;
-pub use step::{Command, Step};
+pub use dg_rules::{Command, Entry, Finding, Game, LookData, Plain, Refusal, Reply, Request, Step};
+pub use schedule::{Rehearsal, RehearseFault, rehearse};

@@ -2,8 +2,8 @@
 mod verdicts;
 
 use dg_chips::{Divisor, Move, Start};
-use dg_game::{Game, MAX_ENTRIES, Plain, Refusal, Reply};
 use dg_graph::Graph;
+use dg_rules::{Game, MAX_ENTRIES, Plain, Refusal, Reply};
 use std::process::Abort;
 use std::test::Fail;
 

@@ -1,8 +1,8 @@
 //! Schedules: what no row in tests/rows shows of them.
 use crate::game::{start, triangle};
 use dg_chips::{Move, Start};
-use dg_game::{BLANK, Command, MAX_ENTRIES, Plain, Request, Step};
-use dg_rehearsal::{Rehearsal, RehearseFault, rehearse};
+use dg_game::{Rehearsal, RehearseFault, rehearse};
+use dg_rules::{BLANK, Command, MAX_ENTRIES, Plain, Request, Step};
 use std::alloc::Global;
 use std::process::Abort;
 use std::test::Fail;

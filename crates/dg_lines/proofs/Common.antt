@@ -4,14 +4,14 @@ pub use Rattle.dg_chips.specs.Vector.{HoldsNumbers, IsScript, Vector, at}
 pub use Rattle.dg_chips.specs.declared.limits.TheConstants.{MAX_ENTRY}
 pub use Rattle.dg_chips.specs.declared.moves.Move.{Move}
 pub use Rattle.dg_chips.specs.declared.moves.Move.TheVariants.{Borrow, Fire, Script}
-pub use Rattle.dg_game.proofs.LegalLaws.{legal_sized}
-pub use Rattle.dg_game.specs.Legal.{IsLegal}
-pub use Rattle.dg_game.specs.LegalLaws.{HasSize}
-pub use Rattle.dg_game.specs.declared.entry.Entry.{Entry}
-pub use Rattle.dg_game.specs.declared.entry.Plain.TheVariants.{Claim, Gift, Join, Look}
-pub use Rattle.dg_game.specs.declared.step.Command.{Command}
-pub use Rattle.dg_game.specs.declared.step.Command.TheVariants.{Call, Commit, Rank}
-pub use Rattle.dg_game.specs.declared.step.Step.{Step}
+pub use Rattle.dg_rules.proofs.LegalLaws.{legal_sized}
+pub use Rattle.dg_rules.specs.Legal.{IsLegal}
+pub use Rattle.dg_rules.specs.LegalLaws.{HasSize}
+pub use Rattle.dg_rules.specs.declared.entry.Entry.{Entry}
+pub use Rattle.dg_rules.specs.declared.entry.Plain.TheVariants.{Claim, Gift, Join, Look}
+pub use Rattle.dg_rules.specs.declared.step.Command.{Command}
+pub use Rattle.dg_rules.specs.declared.step.Command.TheVariants.{Call, Commit, Rank}
+pub use Rattle.dg_rules.specs.declared.step.Step.{Step}
 pub use Rattle.dg_lines.specs.CommandWords.{AreGiven, WordsAreNamed, AreNumbers, IsNumberFor, IsNumberWithin, IsScriptOf, IsScriptWord, IsSetOf, Kind, degree, dollars, name_part, number_part, vertex, vertices}
 pub use Rattle.dg_lines.specs.Commands.{IsCommandLine, IsWellFormed, Means, kinds_of, kinds_wanted, words_wanted}
 pub use Rattle.dg_lines.specs.Cuts.{items, onto_first, pieces_after, words, words_after}

@@ -4,7 +4,7 @@
 use Rattle.dg_lines.proofs.Common.{◌≡◌, ℕ, ◌<◌, ◌≤◌, ◌^◌, cond, Bool, true, false, ℤ, pos, List, [], ◌∷◌, length, map, Some, None, Result, Ok, Err, refl, ap, sym, ◌∙◌, subst, arith, codes, FitsSigned, w64, decimal, MatchResult, IfOk, IfErr, All, IsSome, is_some, bytes_eq, option_map, signed_decimal, nat_tests, decimal_injective, signed_decimal_injective, ints, All-nil, All-cons, Vector, at, Move, Borrow, Fire, Script, Command, Call, Commit, Rank, Gift, Join, Look, Claim, name_at, LineFault, Seat, Word, Form, Name, Number, words, items, Kind, vertex, vertices, degree, dollars, name_part, number_part, IsNumberFor, WordsAreNamed, AreNumbers, IsScriptWord, IsSetOf, kinds_wanted, kinds_of, IsWellFormed, Means, IsCommandLine, AreRefused, IsLineFault, AreAlike, LinesHaveOneMeaning}
 use Rattle.std.proofs.Common.{◌≤ℤ◌}
 use Rattle.dg_chips.specs.declared.moves.Move.TheVariants.{Lend}
-use Rattle.dg_game.specs.declared.entry.Plain.TheVariants.{Move as Play}
+use Rattle.dg_rules.specs.declared.entry.Plain.TheVariants.{Move as Play}
 use Rattle.dg_tokens.specs.Names.{place_of}
 use Rattle.dg_lines.specs.CommandWords.{number_in_script}
 use Rattle.dg_lines.specs.Commands.{kinds_beside}

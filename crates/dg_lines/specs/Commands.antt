@@ -22,10 +22,10 @@ use Rattle.std.specs.Fmt.{signed_decimal}
 use Rattle.std.specs.Int.{w64}
 use Rattle.dg_chips.specs.declared.moves.Move.{Move}
 use Rattle.dg_chips.specs.declared.moves.Move.TheVariants.{Lend, Borrow, Fire, Script}
-use Rattle.dg_game.specs.declared.step.Command.{Command}
-use Rattle.dg_game.specs.declared.step.Command.TheVariants.{Call, Commit, Rank}
+use Rattle.dg_rules.specs.declared.step.Command.{Command}
+use Rattle.dg_rules.specs.declared.step.Command.TheVariants.{Call, Commit, Rank}
 use Rattle.dg_tokens.specs.Names.{place_of}
-use Rattle.dg_game.specs.declared.entry.Plain.TheVariants.{Gift, Join, Look, Claim, Move as Play}
+use Rattle.dg_rules.specs.declared.entry.Plain.TheVariants.{Gift, Join, Look, Claim, Move as Play}
 use Rattle.dg_lines.specs.Cuts.{words, items}
 use Rattle.dg_lines.specs.CommandWords.{Kind, vertex, vertices, script, degree, dollars, IsSetOf, IsScriptWord}
 use Rattle.dg_lines.specs.declared.command.Keyword.{Keyword}

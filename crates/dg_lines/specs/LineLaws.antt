@@ -19,10 +19,10 @@ use Rattle.std.specs.Fmt.{signed_decimal}
 use Rattle.std.specs.Int.RustNames.{unsigned_abs}
 use Rattle.dg_chips.specs.Vector.{at}
 use Rattle.dg_chips.specs.declared.moves.Move.TheVariants.{Script}
-use Rattle.dg_game.specs.declared.step.Command.{Command}
-use Rattle.dg_game.specs.declared.step.Command.TheVariants.{Call}
-use Rattle.dg_game.specs.declared.step.Step.{Step}
-use Rattle.dg_game.specs.declared.entry.Plain.TheVariants.{Move as Play}
+use Rattle.dg_rules.specs.declared.step.Command.{Command}
+use Rattle.dg_rules.specs.declared.step.Command.TheVariants.{Call}
+use Rattle.dg_rules.specs.declared.step.Step.{Step}
+use Rattle.dg_rules.specs.declared.entry.Plain.TheVariants.{Move as Play}
 use Rattle.dg_lines.specs.Commands.{IsCommandLine}
 use Rattle.dg_lines.specs.LineFaults.{IsLineFault}
 use Rattle.dg_lines.specs.Steps.{IsStepLine, IsStepFault}

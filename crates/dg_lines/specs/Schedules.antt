@@ -6,8 +6,8 @@
 --   IsStepsFault names lines fault        == the fault is the first line that is refused; of want
 --                                            of memory it says nothing
 use Rattle.std.specs.Prelude.{◌≡◌, ℕ, ◌+◌, List, ◌∷◌, ◌++◌, length, slice_get, Some}
-use Rattle.dg_game.specs.Legal.{IsSeat}
-use Rattle.dg_game.specs.declared.step.Step.{Step}
+use Rattle.dg_rules.specs.Legal.{IsSeat}
+use Rattle.dg_rules.specs.declared.step.Step.{Step}
 use Rattle.dg_lines.specs.declared.line.LineFault.{LineFault}
 use Rattle.dg_lines.specs.declared.steps_file.StepsFault.{StepsFault}
 use Rattle.dg_lines.specs.declared.steps_file.StepsFault.TheVariants.{Line, OutOfMemory}

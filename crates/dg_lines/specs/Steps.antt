@@ -6,8 +6,8 @@
 --                                     the fault
 --   IsStepFault names fault line   == the line has no seat, or the text after it is refused so
 use Rattle.std.specs.Prelude.{◌≡◌, ℕ, ◌≤◌, List, ◌++◌, codes, decimal}
-use Rattle.dg_game.specs.declared.entry.TheConstants.{MAX_SEATS}
-use Rattle.dg_game.specs.declared.step.Step.{Step}
+use Rattle.dg_rules.specs.declared.entry.TheConstants.{MAX_SEATS}
+use Rattle.dg_rules.specs.declared.step.Step.{Step}
 use Rattle.dg_lines.specs.Commands.{IsCommandLine}
 use Rattle.dg_lines.specs.LineFaults.{IsLineFault}
 use Rattle.dg_lines.specs.declared.line.LineFault.{LineFault}

@@ -18,14 +18,14 @@
 use Rattle.std.specs.Prelude.{◌≡◌, ℕ, ◌+◌, ℤ, Bool, true, false, List, [], ◌∷◌, ◌++◌, length, slice_get, Some, codes, decimal}
 use Rattle.std.specs.Fmt.{signed_decimal}
 use Rattle.dg_chips.specs.Vector.{at}
-use Rattle.dg_game.specs.LegalLaws.{HasSize}
-use Rattle.dg_game.specs.declared.entry.Entry.{Entry}
-use Rattle.dg_game.specs.declared.entry.Refusal.{Refusal}
-use Rattle.dg_game.specs.declared.entry.Reply.{Reply}
+use Rattle.dg_rules.specs.LegalLaws.{HasSize}
+use Rattle.dg_rules.specs.declared.entry.Entry.{Entry}
+use Rattle.dg_rules.specs.declared.entry.Refusal.{Refusal}
+use Rattle.dg_rules.specs.declared.entry.Reply.{Reply}
 use Rattle.dg_verdict.specs.declared.rank_verdict.RankVerdict.{RankVerdict}
 use Rattle.dg_verdict.specs.declared.rank_verdict.RankVerdict.TheVariants.{AtLeast, Below}
-use Rattle.dg_game.specs.declared.entry.Reply.TheVariants.{Moved, Given, Joined, Looked, Stale, Won, NotWon, Refused, Verdict, Rank}
-use Rattle.dg_game.specs.declared.entry.Refusal.TheVariants.{NoVertex, Empty, Range, Loop, Valence, Script, Gift}
+use Rattle.dg_rules.specs.declared.entry.Reply.TheVariants.{Moved, Given, Joined, Looked, Stale, Won, NotWon, Refused, Verdict, Rank}
+use Rattle.dg_rules.specs.declared.entry.Refusal.TheVariants.{NoVertex, Empty, Range, Loop, Valence, Script, Gift}
 use Rattle.dg_verdict.specs.declared.verdict.Verdict.{Verdict as VerdictFound}
 
 abbrev pub HasNames : List (List ℕ) → Reply → Type 0

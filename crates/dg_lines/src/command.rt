@@ -7,7 +7,7 @@ ghost use Rattle.dg_lines.specs.Keywords.{spelling, kinds, first_words};
 use crate::line::LineFault;
 use crate::word::{degree_of, dollars_of, script_of, set_of, vertex_of};
 use dg_chips::Move;
-use dg_game::{Command, Plain};
+use dg_rules::{Command, Plain};
 use dg_tokens::Names;
 
 /// A command word.

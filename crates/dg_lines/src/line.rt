@@ -10,7 +10,7 @@ ghost use Rattle.dg_lines.specs.Keywords.{first_words, AreWords};
 use crate::command::{command_of, keyword_of};
 use crate::cuts::cut;
 use crate::number::seat;
-use dg_game::{Command, Step};
+use dg_rules::{Command, Step};
 use dg_tokens::Names;
 use thiserror::Error;
 

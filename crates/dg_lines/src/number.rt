@@ -3,11 +3,11 @@ ghost use Rattle.std.specs.Prelude.{◌≡◌, ◌≢◌, ℕ, ◌≤◌, ◌<�
 ghost use Rattle.std.specs.Fmt.{signed_decimal};
 ghost use Rattle.std.specs.Int.RustNames.{unsigned_abs};
 ghost use Rattle.dg_chips.specs.declared.limits.TheConstants.{MAX_ENTRY};
-ghost use Rattle.dg_game.specs.declared.entry.TheConstants.{MAX_SEATS};
+ghost use Rattle.dg_rules.specs.declared.entry.TheConstants.{MAX_SEATS};
 ghost use Rattle.dg_lines.specs.CommandWords.{IsNumberWithin};
 
 use dg_chips::MAX_ENTRY;
-use dg_game::MAX_SEATS;
+use dg_rules::MAX_SEATS;
 use dg_tokens::integer;
 
 /// The entry of a script, within 1,000,000,000, whose decimal the text is.

@@ -5,7 +5,7 @@ ghost use Rattle.dg_lines.specs.Schedules.{AreStepsOf, StepLinesHaveSeats, IsSte
 
 use crate::line::{LineFault, parse_step};
 use crate::lines::Lines;
-use dg_game::Step;
+use dg_rules::Step;
 use dg_tokens::Names;
 use std::alloc::Allocator;
 use thiserror::Error;

@@ -3,13 +3,13 @@ ghost use Rattle.std.specs.Prelude.{◌≡◌, ◌<◌, ◌++◌, length, codes,
 ghost use Rattle.std.specs.Fmt.{signed_decimal};
 ghost use Rattle.dg_chips.specs.Vector.{at};
 ghost use Rattle.dg_lines.specs.Texts.{HasNames, pair, pairs, refusal_text, verdict_word, verdict_text, rank_text, text_of, entry_text};
-ghost use Rattle.dg_game.specs.declared.entry.Reply.TheVariants.{Rank};
+ghost use Rattle.dg_rules.specs.declared.entry.Reply.TheVariants.{Rank};
 
 use crate::amounts::Amounts;
 use crate::digits::MAX_DIGITS;
 use dg_chips::Divisor;
-use dg_game::{Refusal, Reply};
 use dg_graph::MAX_VERTICES;
+use dg_rules::{Refusal, Reply};
 use dg_tokens::{MAX_LABEL, Names};
 use dg_verdict::{RankVerdict, Verdict};
 use itoa::Buffer;

@@ -4,7 +4,7 @@
 --   IsPrefixOf K H  == the history H begins with the entries K
 --   IsLonger K H M  == M is the longer of the histories K and H, and begins with both
 use Rattle.std.specs.Prelude.{◌≡◌, ℕ, ◌<◌, ◌≤◌, List, [], ◌∷◌, ◌++◌, length, slice_get, Some, ⊤}
-use Rattle.dg_game.specs.declared.entry.Entry.{Entry}
+use Rattle.dg_rules.specs.declared.entry.Entry.{Entry}
 
 abbrev pub ReceiptsAreBelow : ℕ → List (ℕ × Entry) → Type 0
 ReceiptsAreBelow n [] = ⊤

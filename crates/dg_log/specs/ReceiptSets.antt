@@ -3,7 +3,7 @@
 --   AreReceiptsNamed row items == the cell of each item is that of its number
 --   IsReceiptSetEnd end ps == end is the least number that those of the entries ps are less than
 use Rattle.std.specs.Prelude.{◌≡◌, ℕ, ◌≤◌, List, [], ◌∷◌, map, slice_get, Some, ⊤}
-use Rattle.dg_game.specs.declared.entry.Entry.{Entry}
+use Rattle.dg_rules.specs.declared.entry.Entry.{Entry}
 use Rattle.dg_log.specs.Numbered.{ReceiptsAreBelow}
 
 abbrev pub entries_of_receipts : List (ℕ × ℕ × Entry) → List (ℕ × Entry)

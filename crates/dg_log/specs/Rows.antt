@@ -2,7 +2,7 @@
 --   IsCapacity n         == a row may have n cells
 --   RefusesRow n fault   == a row of n cells is refused with the fault
 use Rattle.std.specs.Prelude.{ℕ, ◌≤◌}
-use Rattle.dg_game.specs.declared.game.TheConstants.{MAX_ENTRIES}
+use Rattle.dg_rules.specs.declared.game.TheConstants.{MAX_ENTRIES}
 use Rattle.dg_log.specs.declared.row.LogFault.{LogFault}
 use Rattle.dg_log.specs.declared.row.LogFault.TheVariants.{Capacity, OutOfMemory}
 

@@ -4,7 +4,7 @@
 --   with_entry p e  == after p the entry e is written
 --   after_refusal p == after p an entry was refused
 use Rattle.std.specs.Prelude.{List, [], ◌∷◌, ◌++◌, Bool, true, false}
-use Rattle.dg_game.specs.declared.entry.Entry.{Entry}
+use Rattle.dg_rules.specs.declared.entry.Entry.{Entry}
 
 pub record Written : Type 0 where
   pub entries : List Entry

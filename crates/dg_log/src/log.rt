@@ -2,7 +2,7 @@
 ghost use Rattle.std.specs.Prelude.{◌≡◌, ◌<◌, ◌≤◌, List, length, map, MatchOption, ⊤};
 ghost use Rattle.std.specs.Vec.{vec_len};
 ghost use Rattle.once_cell.specs.Once.{cell_name};
-ghost use Rattle.dg_game.specs.declared.game.TheConstants.{MAX_ENTRIES};
+ghost use Rattle.dg_rules.specs.declared.game.TheConstants.{MAX_ENTRIES};
 ghost use Rattle.dg_log.specs.Written.{blank};
 
 use crate::name::Name;
@@ -12,7 +12,7 @@ use crate::row::Row;
 use crate::seating::Seating;
 use crate::witness::Witness;
 use crate::witnesses::Witnesses;
-use dg_game::Entry;
+use dg_rules::Entry;
 use once_cell::race::OnceBox;
 use std::marker::PhantomData;
 

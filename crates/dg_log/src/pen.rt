@@ -2,7 +2,7 @@
 ghost use Rattle.std.specs.Prelude.{◌≡◌, ◌<◌, ◌≤◌, [], ◌∷◌, ◌++◌, length, map, take, MatchResult, true, false};
 ghost use Rattle.std.specs.List.{slice_get};
 ghost use Rattle.std.specs.declared.option.Option.TheVariants.{Some};
-ghost use Rattle.dg_game.specs.declared.game.TheConstants.{MAX_ENTRIES};
+ghost use Rattle.dg_rules.specs.declared.game.TheConstants.{MAX_ENTRIES};
 ghost use Rattle.dg_log.specs.Numbered.{ReceiptsAreBelow, StandIn, IsPrefixOf};
 ghost use Rattle.dg_log.specs.Written.{blank, with_entry, after_refusal};
 
@@ -13,7 +13,7 @@ use crate::receipt::Receipt;
 use crate::receipt_set::ReceiptSet;
 use crate::witness::Witness;
 use crate::witnesses::Witnesses;
-use dg_game::Entry;
+use dg_rules::Entry;
 use std::marker::{Model, PhantomData};
 
 /// The one pen of the table N. A contract sees the history that it wrote, and whether the last entry was refused.
@@ -27,7 +27,7 @@ pub struct Pen<N: Name> {
 
 impl<N: Name> Model for Pen<N> {
     ghost use Rattle.std.specs.Prelude.{◌≡◌, ◌≤◌, length, map, take};
-    ghost use Rattle.dg_game.specs.declared.game.TheConstants.{MAX_ENTRIES};
+    ghost use Rattle.dg_rules.specs.declared.game.TheConstants.{MAX_ENTRIES};
     ghost use Rattle.dg_log.specs.Written.{Written};
 
     ghost Value = { Written };

@@ -5,7 +5,7 @@ ghost use Rattle.dg_log.specs.Numbered.{ReceiptsAreBelow, StandIn, IsPrefixOf, I
 use crate::name::Name;
 use crate::receipt_set::ReceiptSet;
 use crate::witnesses::Witnesses;
-use dg_game::Entry;
+use dg_rules::Entry;
 use std::marker::{Model, PhantomData};
 
 /// The history of the table N as its pen had written it once. A contract sees these entries; in memory there is only their
@@ -19,7 +19,7 @@ pub struct Prefix<N: Name> {
 
 impl<N: Name> Model for Prefix<N> {
     ghost use Rattle.std.specs.Prelude.{◌≡◌, List, length, map, take};
-    ghost use Rattle.dg_game.specs.declared.entry.Entry.{Entry as EntryData};
+    ghost use Rattle.dg_rules.specs.declared.entry.Entry.{Entry as EntryData};
 
     ghost Value = { List EntryData };
 

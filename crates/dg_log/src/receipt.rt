@@ -2,11 +2,11 @@
 ghost use Rattle.std.specs.Prelude.{◌≡◌, ℕ, ◌<◌, length};
 ghost use Rattle.std.specs.List.{slice_get};
 ghost use Rattle.std.specs.declared.option.Option.TheVariants.{Some};
-ghost use Rattle.dg_game.specs.declared.entry.Entry.{Entry as EntryData};
+ghost use Rattle.dg_rules.specs.declared.entry.Entry.{Entry as EntryData};
 
 use crate::name::Name;
 use crate::witness::Witness;
-use dg_game::Entry;
+use dg_rules::Entry;
 use std::marker::{Model, PhantomData};
 
 /// A receipt for an entry of the table N. A contract sees the entry's number and the entry. It takes four bytes, and can be

@@ -1,13 +1,13 @@
 //! What many receipts say, in a few bytes.
 ghost use Rattle.std.specs.Prelude.{◌≡◌, ℕ, ◌<◌, ◌≤◌, List, [], ◌∷◌, ◌++◌, length, IsTrue, ◌↔◌};
-ghost use Rattle.dg_game.specs.declared.entry.Entry.{Entry as EntryData};
+ghost use Rattle.dg_rules.specs.declared.entry.Entry.{Entry as EntryData};
 ghost use Rattle.dg_log.specs.Numbered.{ReceiptsAreBelow};
 ghost use Rattle.dg_log.specs.ReceiptSets.{entries_of_receipts, AreReceiptsNamed, IsReceiptSetEnd};
 
 use crate::name::Name;
 use crate::receipt::Receipt;
 use crate::witnesses::Witnesses;
-use dg_game::Entry;
+use dg_rules::Entry;
 use std::marker::{Model, PhantomData};
 
 /// What a list of receipts says. A contract sees the list; in memory there is only the least number that is greater than

@@ -3,9 +3,9 @@ ghost use Rattle.std.specs.Prelude.{◌≡◌, ℕ, ◌≤◌, List, length, map
 ghost use Rattle.std.specs.Vec.{vec_len};
 ghost use Rattle.once_cell.specs.Once.{cell_name};
 ghost use Rattle.dg_log.specs.Rows.{IsCapacity, RefusesRow};
-ghost use Rattle.dg_game.specs.declared.game.TheConstants.{MAX_ENTRIES};
+ghost use Rattle.dg_rules.specs.declared.game.TheConstants.{MAX_ENTRIES};
 
-use dg_game::{Entry, MAX_ENTRIES};
+use dg_rules::{Entry, MAX_ENTRIES};
 use once_cell::race::OnceBox;
 use std::alloc::{AllocError, Global};
 use std::marker::Model;

@@ -3,10 +3,10 @@
 use crate::outcomes::{Outcome, done_if, refused, tell, tell_spared};
 use dg_analyst::{Look, Reckoned, Tried, commit, commit_rank, look, reckon, try_rank};
 use dg_chips::{Divisor, Move};
-use dg_game::Plain;
 use dg_graph::Graph;
 use dg_log::{Name, Receipt};
 use dg_rank::{OpenGate, RankFault};
+use dg_rules::Plain;
 use dg_table::{Fault, Seat, Table};
 use std::alloc::Global;
 use std::process::Abort;

@@ -5,7 +5,7 @@
 --   AreReadInOrder ps                 == the entries ps are numbered from 0 on
 use Rattle.std.specs.Prelude.{◌≡◌, ℕ, List, slice_get, Some}
 use Rattle.std.specs.List.{FoldsTo}
-use Rattle.dg_game.specs.declared.entry.Entry.{Entry}
+use Rattle.dg_rules.specs.declared.entry.Entry.{Entry}
 
 pub record Observed (S : Type 0) : Type 0 where
   pub state : S

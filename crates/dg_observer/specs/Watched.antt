@@ -17,15 +17,15 @@ use Rattle.std.specs.Prelude.{if◌then◌else◌, ◌≡◌, ℕ, ◌+◌, ◌-
 use Rattle.std.specs.List.{slice_index_or}
 use Rattle.dg_chips.specs.Starts.{StartData, IsStart}
 use Rattle.dg_chips.specs.Vector.{Vector}
-use Rattle.dg_game.specs.History.{is_change, gifts_in, position_after}
-use Rattle.dg_game.specs.Legal.{IsLegal}
-use Rattle.dg_game.specs.Position.{Shows}
-use Rattle.dg_game.specs.State.{amounts_after}
-use Rattle.dg_game.specs.declared.entry.Entry.{Entry}
-use Rattle.dg_game.specs.declared.entry.Reply.{Reply}
-use Rattle.dg_game.specs.declared.entry.Reply.TheVariants.{Refused}
-use Rattle.dg_game.specs.declared.entry.Request.{Request}
-use Rattle.dg_game.specs.declared.entry.Request.TheVariants.{Move}
+use Rattle.dg_rules.specs.History.{is_change, gifts_in, position_after}
+use Rattle.dg_rules.specs.Legal.{IsLegal}
+use Rattle.dg_rules.specs.Position.{Shows}
+use Rattle.dg_rules.specs.State.{amounts_after}
+use Rattle.dg_rules.specs.declared.entry.Entry.{Entry}
+use Rattle.dg_rules.specs.declared.entry.Reply.{Reply}
+use Rattle.dg_rules.specs.declared.entry.Reply.TheVariants.{Refused}
+use Rattle.dg_rules.specs.declared.entry.Request.{Request}
+use Rattle.dg_rules.specs.declared.entry.Request.TheVariants.{Move}
 use Rattle.dg_observer.specs.Folds.{Folds}
 
 abbrev pub counted : ℕ → ℕ

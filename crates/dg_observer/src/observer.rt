@@ -1,11 +1,11 @@
 //! Observers: what they have read, and what they keep of it.
 ghost use Rattle.std.specs.Prelude.{◌≡◌, ◌<◌, ◌≤◌, ◌++◌, ℕ, List, [], ◌∷◌, length, slice_get, Some, IfOk, OnOk, OnErr};
-ghost use Rattle.dg_game.specs.declared.entry.Entry.{Entry as EntryData};
+ghost use Rattle.dg_rules.specs.declared.entry.Entry.{Entry as EntryData};
 ghost use Rattle.dg_observer.specs.Folds.{Folds, Observed};
 
 use crate::watch::Watch;
-use dg_game::{Entry, MAX_ENTRIES};
 use dg_log::{Log, Name, Receipt};
+use dg_rules::{Entry, MAX_ENTRIES};
 use std::alloc::{AllocError, Global};
 use std::marker::Model;
 use thiserror::Error;
@@ -29,7 +29,7 @@ pub struct Observer<N: Name, W: Watch + Drop> {
 
 impl<N: Name, W: Watch + Drop> Model for Observer<N, W> {
     ghost use Rattle.std.specs.Prelude.{◌≤◌, map, length};
-    ghost use Rattle.dg_game.specs.declared.game.TheConstants.{MAX_ENTRIES};
+    ghost use Rattle.dg_rules.specs.declared.game.TheConstants.{MAX_ENTRIES};
     ghost use Rattle.dg_observer.specs.Folds.{Observed, Folds, AreReadInOrder};
 
     ghost Value = { Observed W.State };

@@ -1,8 +1,8 @@
 //! What an observer keeps, and what goes on from one state to the next.
 ghost use Rattle.std.specs.Prelude.{IfOk};
-ghost use Rattle.dg_game.specs.declared.entry.Entry.{Entry as EntryData};
+ghost use Rattle.dg_rules.specs.declared.entry.Entry.{Entry as EntryData};
 
-use dg_game::Entry;
+use dg_rules::Entry;
 use std::alloc::AllocError;
 
 /// What is kept while a history is read: a state, how it may begin, and how it goes on with an entry.

@@ -4,8 +4,8 @@ ghost use Rattle.dg_observer.specs.Watched.{WatchCountsGifts, WatchShowsPosition
 
 use crate::watch::Watch;
 use dg_chips::Divisor;
-use dg_game::{Entry, MAX_SEATS, Reply, Request};
 use dg_log::Name;
+use dg_rules::{Entry, MAX_SEATS, Reply, Request};
 use std::alloc::AllocError;
 use std::marker::PhantomData;
 
@@ -48,7 +48,7 @@ pub struct Positions<N> {
 
 impl<N: Name> Watch for Positions<N> {
     ghost use Rattle.std.specs.Prelude.{◌≡◌};
-    ghost use Rattle.dg_game.specs.State.{amounts_after};
+    ghost use Rattle.dg_rules.specs.State.{amounts_after};
 
     type State = Divisor;
 

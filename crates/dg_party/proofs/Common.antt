@@ -1,10 +1,10 @@
 -- The names that the proofs of this crate cite, passed on from one place. Declares nothing.
 pub use Rattle.dg_chips.specs.Starts.{StartData}
 pub use Rattle.dg_chips.specs.Vector.{Vector, at}
-pub use Rattle.dg_game.proofs.StepLaw.{vertices_stay}
-pub use Rattle.dg_game.specs.History.{gifts_in, position_after}
-pub use Rattle.dg_game.specs.Position.{Shows}
-pub use Rattle.dg_game.specs.declared.entry.Entry.{Entry}
+pub use Rattle.dg_rules.proofs.StepLaw.{vertices_stay}
+pub use Rattle.dg_rules.specs.History.{gifts_in, position_after}
+pub use Rattle.dg_rules.specs.Position.{Shows}
+pub use Rattle.dg_rules.specs.declared.entry.Entry.{Entry}
 pub use Rattle.dg_lines.proofs.Printing.{legal_named}
 pub use Rattle.dg_lines.specs.Texts.{pairs}
 pub use Rattle.dg_log.specs.Tables.{TableData, table_data_of}

@@ -5,7 +5,7 @@
 --   calls_step       so do texts that go on with these lines
 use Rattle.std.proofs.Common.{◌≡◌, ℕ, ◌+◌, ◌<◌, List, [], ◌∷◌, ◌++◌, length, take, arith, sym, ap, ◌∙◌, append_assoc, append-nil}
 use Rattle.std.proofs.lemmas.List.{length-take-le}
-use Rattle.dg_game.specs.declared.entry.Entry.{Entry}
+use Rattle.dg_rules.specs.declared.entry.Entry.{Entry}
 use Rattle.dg_party.specs.Printed.{seat_entry_text, entries_text, seat_text, calls_text}
 
 pub entries_more : (names : List (List ℕ)) (n : ℕ) (H : List Entry) (e : Entry) →

@@ -14,9 +14,9 @@
 --                        its seats
 use Rattle.std.specs.Prelude.{◌≡◌, ℕ, ◌+◌, ◌≤◌, List, [], ◌++◌, length, slice_get, Some, ⊤, Result}
 use Rattle.dg_chips.specs.Vector.{Vector}
-use Rattle.dg_game.specs.History.{position_after}
-use Rattle.dg_game.specs.Position.{Shows}
-use Rattle.dg_game.specs.declared.entry.Entry.{Entry}
+use Rattle.dg_rules.specs.History.{position_after}
+use Rattle.dg_rules.specs.Position.{Shows}
+use Rattle.dg_rules.specs.declared.entry.Entry.{Entry}
 use Rattle.dg_log.specs.Numbered.{IsPrefixOf}
 use Rattle.dg_log.specs.Tables.{TableData}
 use Rattle.dg_session.specs.declared.ends.SessionEnd.{SessionEnd}

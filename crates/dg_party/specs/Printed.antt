@@ -12,8 +12,8 @@
 --                               amounts, and the calls of each of n seats
 use Rattle.std.specs.Prelude.{ℕ, zero, suc, ◌+◌, List, [], ◌∷◌, ◌++◌, length, codes, decimal}
 use Rattle.dg_chips.specs.Vector.{Vector, at}
-use Rattle.dg_game.specs.History.{gifts_in}
-use Rattle.dg_game.specs.declared.entry.Entry.{Entry}
+use Rattle.dg_rules.specs.History.{gifts_in}
+use Rattle.dg_rules.specs.declared.entry.Entry.{Entry}
 use Rattle.dg_table.specs.Seats.{entries_of}
 use Rattle.dg_lines.specs.Texts.{text_of, pairs}
 

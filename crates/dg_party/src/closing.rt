@@ -4,9 +4,9 @@ ghost use Rattle.dg_lines.specs.Texts.{HasNames, RepliesHaveNames};
 ghost use Rattle.dg_party.specs.Printed.{seat_entry_text, entries_text, seat_text, calls_text, totals_text};
 
 use dg_chips::Divisor;
-use dg_game::Entry;
 use dg_lines::{push_amounts, push_reply};
 use dg_log::Name;
+use dg_rules::Entry;
 use dg_table::Audit;
 use dg_tokens::Names;
 use itoa::Buffer;

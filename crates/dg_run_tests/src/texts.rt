@@ -2,6 +2,7 @@
 
 use dg_chips::{MoveFault, ScriptFault, StartFault};
 use dg_file::read_table;
+use dg_game::RehearseFault;
 use dg_graph::JoinFault;
 use dg_invocation::Question;
 use dg_lines::{LineFault, StepsFault};
@@ -9,7 +10,6 @@ use dg_log::LogFault;
 use dg_observer::ObserverFault;
 use dg_party::PartyRefusal;
 use dg_rank::RankFault;
-use dg_rehearsal::RehearseFault;
 use dg_sweep::{SweepEnd, answer_line};
 use dg_system::{Shortage, SourceFault, WriteFailed};
 use dg_table::TableFault;

@@ -3,9 +3,9 @@ ghost use Rattle.dg_lines.specs.Texts.{HasNames};
 
 use dg_chips::{Divisor, Script, Wide};
 use dg_file::Names;
-use dg_game::{Refusal, Reply};
 use dg_graph::Graph;
 use dg_lines::reply_text;
+use dg_rules::{Refusal, Reply};
 use dg_tokens::is_name;
 use dg_verdict::{RankVerdict, Verdict};
 use std::alloc::Global;

@@ -1,7 +1,7 @@
 -- The names that the proofs of this crate cite, passed on from one place. Declares nothing.
 pub use Rattle.dg_chips.specs.Starts.{StartData}
-pub use Rattle.dg_game.specs.declared.entry.Entry.{Entry}
-pub use Rattle.dg_game.specs.declared.entry.TheConstants.{MAX_SEATS}
+pub use Rattle.dg_rules.specs.declared.entry.Entry.{Entry}
+pub use Rattle.dg_rules.specs.declared.entry.TheConstants.{MAX_SEATS}
 pub use Rattle.dg_invocation.specs.declared.invocation.PartyTask.{PartyTask}
 pub use Rattle.dg_log.specs.Tables.{table_data_of}
 pub use Rattle.dg_party.proofs.Whole.{contents_count}

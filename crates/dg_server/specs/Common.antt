@@ -1,8 +1,8 @@
 -- The names that the specs of this crate cite, passed on from one place. Declares nothing.
 pub use Rattle.dg_chips.specs.Starts.{StartData}
 pub use Rattle.dg_file.specs.declared.fault.FileFault.{FileFault}
-pub use Rattle.dg_game.specs.declared.entry.Entry.{Entry}
-pub use Rattle.dg_game.specs.declared.entry.TheConstants.{MAX_SEATS}
+pub use Rattle.dg_rules.specs.declared.entry.Entry.{Entry}
+pub use Rattle.dg_rules.specs.declared.entry.TheConstants.{MAX_SEATS}
 pub use Rattle.dg_invocation.specs.Seats.{seats_asked_for}
 pub use Rattle.dg_invocation.specs.declared.invocation.Invocation.{Invocation}
 pub use Rattle.dg_invocation.specs.declared.invocation.Invocation.TheVariants.{Party, Serve, Sweep, Task, Text}

@@ -9,10 +9,10 @@ ghost use Rattle.dg_server.specs.Streams.{IsOfInput, IsOfOutput};
 
 use crate::fault::Fault;
 use dg_file::{TableFile, read_table};
-use dg_game::MAX_SEATS;
 use dg_invocation::PartyTask;
 use dg_party::{PartyRefusal, Played, party};
 use dg_rank::OpenGate;
+use dg_rules::MAX_SEATS;
 use dg_session::SessionEnd;
 use dg_system::{Output, Shortage, Sources, read_all};
 use dg_tasks::TaskFault;

@@ -1,20 +1,20 @@
 -- The names that the proofs of this crate cite, passed on from one place. Declares nothing.
 pub use Rattle.dg_analyst.specs.Views.{IsTaken, IsTried, LookView}
 pub use Rattle.dg_chips.specs.Starts.{StartData}
-pub use Rattle.dg_game.proofs.LegalLaws.{legal_none, legal_sized}
-pub use Rattle.dg_game.proofs.ListLaws.{slice_get-seam}
-pub use Rattle.dg_game.specs.LegalLaws.{HasSize}
-pub use Rattle.dg_game.specs.Look.{asked_for, asked_on, degree_found}
-pub use Rattle.dg_game.specs.Requests.{asked}
-pub use Rattle.dg_game.specs.declared.entry.Entry.{Entry}
-pub use Rattle.dg_game.specs.declared.entry.Plain.{Plain}
-pub use Rattle.dg_game.specs.declared.entry.Request.{Request}
-pub use Rattle.dg_game.specs.declared.finding.Finding.{Finding}
-pub use Rattle.dg_game.specs.declared.finding.Finding.TheVariants.{Ranked}
-pub use Rattle.dg_game.specs.declared.finding.Question.{Question}
-pub use Rattle.dg_game.specs.declared.finding.Question.TheVariants.{Judge as JudgeQuestion, Rank as RankQuestion}
-pub use Rattle.dg_game.specs.declared.step.Command.{Command}
-pub use Rattle.dg_game.specs.declared.step.Command.TheVariants.{Call, Commit, Rank}
+pub use Rattle.dg_rules.proofs.LegalLaws.{legal_none, legal_sized}
+pub use Rattle.dg_rules.proofs.ListLaws.{slice_get-seam}
+pub use Rattle.dg_rules.specs.LegalLaws.{HasSize}
+pub use Rattle.dg_rules.specs.Look.{asked_for, asked_on, degree_found}
+pub use Rattle.dg_rules.specs.Requests.{asked}
+pub use Rattle.dg_rules.specs.declared.entry.Entry.{Entry}
+pub use Rattle.dg_rules.specs.declared.entry.Plain.{Plain}
+pub use Rattle.dg_rules.specs.declared.entry.Request.{Request}
+pub use Rattle.dg_rules.specs.declared.finding.Finding.{Finding}
+pub use Rattle.dg_rules.specs.declared.finding.Finding.TheVariants.{Ranked}
+pub use Rattle.dg_rules.specs.declared.finding.Question.{Question}
+pub use Rattle.dg_rules.specs.declared.finding.Question.TheVariants.{Judge as JudgeQuestion, Rank as RankQuestion}
+pub use Rattle.dg_rules.specs.declared.step.Command.{Command}
+pub use Rattle.dg_rules.specs.declared.step.Command.TheVariants.{Call, Commit, Rank}
 pub use Rattle.dg_lines.proofs.Stepping.{seated_parts}
 pub use Rattle.dg_lines.proofs.Streams.{begins_more, begins_none, begins_one, begins_then, come_last, come_then, line_shorter, one_cutting, one_line, part_front, part_line, part_plain, part_whole}
 pub use Rattle.dg_lines.specs.Commands.{IsCommandLine}

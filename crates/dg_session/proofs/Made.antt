@@ -15,8 +15,8 @@
 --   with_look, with_none   so it is with the look that is kept, and with none
 --   call_keeps      a call that is no look keeps the look
 use Rattle.dg_session.proofs.Common.{◌≡◌, ◌≢◌, ℕ, inl, inr, List, [], ◌∷◌, ◌++◌, length, Option, Some, None, slice_get, Result, Ok, Err, OnOk, refl, sym, ap, subst, ◌∙◌, append-nil, codes, arith, StartData, IsWithin, ArePastTrialLimits, past_within, RankVerdict, AtLeast, Below, degree_found, asked_for, asked_on, asked, Entry, Plain, Request, Ranked, Finding, Question, Command, LookView, IsTaken, IsTried, HasNames, entry_text, HasSize, legal_sized, slice_get-seam, begins_on, begins_length, SeatView, Keeps, RefusesCall, Fault, entering, IsEnteredAfter, IsAnswered, IsSettled, IsStale, Gains, Enters, speakers_kept_after, speakers_look_after, AnswersCommand, SessionEnd, Table, kept_number, CallsTable, RefusesCommand, Setup, Speaker, TellsSpeaker, Obeys, TableData}
-use Rattle.dg_game.specs.declared.entry.Plain.TheVariants as plain
-use Rattle.dg_game.specs.declared.entry.Request.TheVariants.{Rank as RankRequest}
+use Rattle.dg_rules.specs.declared.entry.Plain.TheVariants as plain
+use Rattle.dg_rules.specs.declared.entry.Request.TheVariants.{Rank as RankRequest}
 use Rattle.dg_session.proofs.Coming.{gained_met, command_met}
 
 pub gains_none : (x y : SeatView) → Keeps x y → Gains x y []

@@ -1,11 +1,11 @@
 -- The names that the specs of this crate cite, passed on from one place. Declares nothing.
 pub use Rattle.dg_analyst.specs.Views.{LookView}
-pub use Rattle.dg_game.specs.Requests.{asked}
-pub use Rattle.dg_game.specs.declared.entry.Entry.{Entry}
-pub use Rattle.dg_game.specs.declared.entry.Request.{Request}
-pub use Rattle.dg_game.specs.declared.entry.Request.TheVariants.{Judge, Look}
-pub use Rattle.dg_game.specs.declared.step.Command.{Command}
-pub use Rattle.dg_game.specs.declared.step.Command.TheVariants.{Call, Commit, Rank}
+pub use Rattle.dg_rules.specs.Requests.{asked}
+pub use Rattle.dg_rules.specs.declared.entry.Entry.{Entry}
+pub use Rattle.dg_rules.specs.declared.entry.Request.{Request}
+pub use Rattle.dg_rules.specs.declared.entry.Request.TheVariants.{Judge, Look}
+pub use Rattle.dg_rules.specs.declared.step.Command.{Command}
+pub use Rattle.dg_rules.specs.declared.step.Command.TheVariants.{Call, Commit, Rank}
 pub use Rattle.dg_lines.specs.Commands.{IsCommandLine}
 pub use Rattle.dg_lines.specs.Cuts.{lines}
 pub use Rattle.dg_lines.specs.LineFaults.{IsLineFault, fault_text}

@@ -19,7 +19,7 @@
 --                           entry, and found no history
 use Rattle.std.specs.Prelude.{◌≡◌, ℕ, ◌⊎◌, List, [], ◌∷◌, ◌++◌, Option, Some, None, codes}
 use Rattle.dg_session.specs.Common.{IsWithin, asked, Entry, Request, Look, Judge, Command, Call, Commit, Rank, IsPrefixOf, SeatView, IsCommandLine, IsLineFault, fault_text, entry_text, LineFault}
-use Rattle.dg_game.specs.declared.entry.Request.TheVariants.{Rank as RankRequest}
+use Rattle.dg_rules.specs.declared.entry.Request.TheVariants.{Rank as RankRequest}
 use Rattle.dg_session.specs.Setup.{Setup}
 use Rattle.dg_session.specs.Order.{ComeAfter}
 

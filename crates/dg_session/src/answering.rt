@@ -1,7 +1,7 @@
 //! Answering one line of a seat.
 ghost use Rattle.std.specs.Prelude.{◌≡◌, ◌≢◌, length, codes};
 ghost use Rattle.dg_rank.specs.Ranks.{MayHaveWorkers};
-ghost use Rattle.dg_game.specs.declared.step.Command.TheVariants.{Call, Commit, Rank};
+ghost use Rattle.dg_rules.specs.declared.step.Command.TheVariants.{Call, Commit, Rank};
 ghost use Rattle.dg_lines.specs.Texts.{HasNames, entry_text};
 ghost use Rattle.dg_session.specs.Setup.{setup};
 ghost use Rattle.dg_session.specs.SoFar.{heard, speaker, TellsSpeaker, Hears, Obeys};
@@ -9,11 +9,11 @@ ghost use Rattle.dg_session.specs.SoFar.{heard, speaker, TellsSpeaker, Hears, Ob
 use crate::ends::SessionEnd;
 use crate::line_format::LineFormat;
 use dg_analyst::{Look, commit_look, commit_rank, commit_stale, look, try_rank_by};
-use dg_game::{Command, Plain, Question};
 use dg_lines::{parse_line, push_entry};
 use dg_log::{Name, Receipt};
 use dg_rank::{RankFault, trials};
 use dg_reduce::InverseLaplacian;
+use dg_rules::{Command, Plain, Question};
 use dg_table::{Seat, Table};
 use dg_tokens::Names;
 use std::alloc::Global;

@@ -1,6 +1,6 @@
 //! What the lines of a session have come to.
 ghost use Rattle.std.specs.Prelude.{◌≡◌, ◌≤◌, ℕ, List, [], ◌++◌, length};
-ghost use Rattle.dg_game.specs.declared.entry.Entry.{Entry as EntryData};
+ghost use Rattle.dg_rules.specs.declared.entry.Entry.{Entry as EntryData};
 ghost use Rattle.dg_table.specs.Seats.{Meets};
 
 use dg_log::{Name, Prefix, ReceiptSet};

@@ -5,24 +5,24 @@ pub use Rattle.dg_chips.specs.Starts.{IsStart, StartData}
 pub use Rattle.dg_chips.specs.Vector.{Vector, at}
 pub use Rattle.dg_chips.specs.declared.moves.Move.{Move}
 pub use Rattle.dg_chips.specs.declared.moves.Move.TheVariants.{Borrow, Fire, Lend, Script}
-pub use Rattle.dg_game.proofs.GraphLaws.{graphs_hold}
-pub use Rattle.dg_game.proofs.HistoryLaws.{gifts_in-more}
-pub use Rattle.dg_game.proofs.LegalLaws.{legal_more, legal_none, legal_part}
-pub use Rattle.dg_game.proofs.ListLaws.{slice_get-append, slice_get-seam}
-pub use Rattle.dg_game.proofs.StepLaw.{one_more_entry}
-pub use Rattle.dg_game.specs.History.{gifts_by_reply, gifts_in, position_after}
-pub use Rattle.dg_game.specs.Legal.{IsLegal, LooksBack}
-pub use Rattle.dg_game.specs.MoveReplies.{RepliesToMove}
-pub use Rattle.dg_game.specs.Position.{Position, Shows}
-pub use Rattle.dg_game.specs.Replies.{Replies, RepliesAt, RepliesToClaim}
-pub use Rattle.dg_game.specs.State.{LeadsTo, GameState}
-pub use Rattle.dg_game.specs.Step.{after_reply}
-pub use Rattle.dg_game.specs.declared.entry.Entry.{Entry}
-pub use Rattle.dg_game.specs.declared.entry.Refusal.TheVariants.{Empty, NoVertex, Range}
-pub use Rattle.dg_game.specs.declared.entry.Reply.{Reply}
-pub use Rattle.dg_game.specs.declared.entry.Reply.TheVariants.{Moved, NotWon, Refused, Won}
-pub use Rattle.dg_game.specs.declared.entry.Request.{Request}
-pub use Rattle.dg_game.specs.declared.entry.Request.TheVariants.{Claim}
+pub use Rattle.dg_rules.proofs.GraphLaws.{graphs_hold}
+pub use Rattle.dg_rules.proofs.HistoryLaws.{gifts_in-more}
+pub use Rattle.dg_rules.proofs.LegalLaws.{legal_more, legal_none, legal_part}
+pub use Rattle.dg_rules.proofs.ListLaws.{slice_get-append, slice_get-seam}
+pub use Rattle.dg_rules.proofs.StepLaw.{one_more_entry}
+pub use Rattle.dg_rules.specs.History.{gifts_by_reply, gifts_in, position_after}
+pub use Rattle.dg_rules.specs.Legal.{IsLegal, LooksBack}
+pub use Rattle.dg_rules.specs.MoveReplies.{RepliesToMove}
+pub use Rattle.dg_rules.specs.Position.{Position, Shows}
+pub use Rattle.dg_rules.specs.Replies.{Replies, RepliesAt, RepliesToClaim}
+pub use Rattle.dg_rules.specs.State.{LeadsTo, GameState}
+pub use Rattle.dg_rules.specs.Step.{after_reply}
+pub use Rattle.dg_rules.specs.declared.entry.Entry.{Entry}
+pub use Rattle.dg_rules.specs.declared.entry.Refusal.TheVariants.{Empty, NoVertex, Range}
+pub use Rattle.dg_rules.specs.declared.entry.Reply.{Reply}
+pub use Rattle.dg_rules.specs.declared.entry.Reply.TheVariants.{Moved, NotWon, Refused, Won}
+pub use Rattle.dg_rules.specs.declared.entry.Request.{Request}
+pub use Rattle.dg_rules.specs.declared.entry.Request.TheVariants.{Claim}
 pub use Rattle.dg_graph.specs.Graph.{IsGraph}
 pub use Rattle.dg_log.specs.Tables.{TableData}
 pub use Rattle.dg_strategy.specs.Choices.{BorrowsAtLeast, BorrowsInDebt, Choosing, GivesMoves, IsLeastInDebt, SettlesDebts}
@@ -34,7 +34,7 @@ pub use Rattle.dg_strategy.specs.declared.playing.Ended.TheVariants.{Settled, Tu
 pub use Rattle.dg_table.proofs.Entries.{entries_enumerated, enumerate_from-more, own_alone}
 pub use Rattle.dg_table.specs.Faults.{RefusesCall}
 pub use Rattle.dg_table.specs.Seats.{AreOfTableSeats, Keeps, SeatView, entries_of}
-pub use Rattle.dg_game.specs.Requests.{request_for}
+pub use Rattle.dg_rules.specs.Requests.{request_for}
 pub use Rattle.dg_table.specs.declared.fault.Fault.{Fault}
 pub use Rattle.dg_theory.specs.Firing.{AgreeOn, IsEffective}
 pub use Rattle.std.proofs.Common.{Bool, List, None, Option, Some, [], ap, append-nil, append_assoc, arith, false, inl, inr, is_some, length, length-append, map, not, refl, rules, subst, sym, take, true, ℕ, ⊎_elim, ◌++◌, ◌+◌, ◌-◌, ◌<◌, ◌∙◌, ◌∷◌, ◌≡◌, ◌≤◌, ◌⊎◌}

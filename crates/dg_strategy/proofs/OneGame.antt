@@ -12,7 +12,7 @@
 --   one_game_on     greedy games that go on from one position are the same
 --   greedy_game_is_one   so are those from one start
 use Rattle.dg_strategy.proofs.Common.{◌≡◌, ℕ, ◌-◌, ◌<◌, ◌≤◌, Bool, true, false, List, [], ◌∷◌, ◌++◌, length, take, Option, Some, None, ◌⊎◌, inl, inr, arith, refl, sym, ap, subst, ◌∙◌, append_assoc, ⊎_elim, take-append_seam, cases_lt, ints, AgreeOn, StartData, Vector, at, IsAfterMove, Move, Borrow, position_after, gifts_in, IsLegal, RepliesToMove, Position, Shows, Replies, RepliesAt, after_reply, Entry, Range, Request, Reply, Moved, Refused, Won, slice_get-seam, one_more_entry, request_for, IsLeastInDebt, BorrowsAtLeast, IsGreedyCall, AreGreedy, AllChosenMoves, EndsSo, GreedyShowTheSame, AreSameGreedyGame, GreedyGameIsOne, IsChosenMove, ChoiceIsMadeOrPastRange}
-use Rattle.dg_game.specs.declared.entry.Request.TheVariants as request
+use Rattle.dg_rules.specs.declared.entry.Request.TheVariants as request
 use Rattle.dg_strategy.proofs.Turned.{move_answered}
 
 least_of : (d : Vector) (m : Move) → BorrowsAtLeast d (Some m) → (v : ℕ) × (m ≡ Borrow v) × IsLeastInDebt d v

@@ -5,8 +5,8 @@
 --   strategy_turn    a turn by a choice whose moves can be made
 --   settler_turn     a turn by a choice that settles debts
 use Rattle.dg_strategy.proofs.Common.{◌≡◌, ℕ, ◌<◌, [], ◌∷◌, Option, Some, None, arith, refl, ap, subst, ◌∙◌, IsEffective, IsGraph, at, IsPlayable, Move, Lend, Borrow, Fire, Script, position_after, gifts_by_reply, Position, RepliesToMove, Replies, RepliesToClaim, Entry, NoVertex, Empty, Range, Reply, Moved, Refused, Won, NotWon, gifts_in-more, legal_part, graphs_hold, SeatView, request_for, Choosing, GivesMoves, SettlesDebts, BorrowsInDebt, IsTurnBy, IsChosenMove, ChoiceIsMadeOrPastRange, IsStrategyTurn, IsSettlerTurn, TableData}
-use Rattle.dg_game.specs.declared.entry.Refusal.TheVariants.{Script as OtherScript}
-use Rattle.dg_game.specs.declared.entry.Request.TheVariants as request
+use Rattle.dg_rules.specs.declared.entry.Refusal.TheVariants.{Script as OtherScript}
+use Rattle.dg_rules.specs.declared.entry.Request.TheVariants as request
 
 pub move_answered : (p : Position) (m : Move) (reply : Reply) → IsPlayable p.graph.size m → RepliesToMove p m reply →
     ChoiceIsMadeOrPastRange reply × (gifts_by_reply reply ≡ 0)

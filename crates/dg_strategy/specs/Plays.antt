@@ -22,7 +22,7 @@
 use Rattle.std.specs.Prelude.{◌≡◌, ℕ, ◌<◌, Bool, true, false, List, [], ◌∷◌, ◌++◌, length, Option, Some, None, ⊤, Result, Ok, Err}
 use Rattle.std.specs.List.{FoldsTo}
 use Rattle.dg_strategy.specs.Common.{Vector, Move, Shows, position_after, gifts_in, Entry, Range, Request, Reply, Moved, Refused, Won, entering, IsAnsweredAfter, RefusesCall, SeatView, Keeps, request_for, Fault, TableData}
-use Rattle.dg_game.specs.declared.entry.Request.TheVariants as request
+use Rattle.dg_rules.specs.declared.entry.Request.TheVariants as request
 use Rattle.dg_strategy.specs.Choices.{Choosing, BorrowsInDebt}
 use Rattle.dg_strategy.specs.declared.playing.Ended.{Ended}
 use Rattle.dg_strategy.specs.declared.playing.Ended.TheVariants.{Settled, Turns}

@@ -1,14 +1,14 @@
 //! The greedy game, turn by turn on a game alone.
 ghost use Rattle.std.specs.Prelude.{◌<◌, ◌++◌, [], ◌∷◌, List};
 ghost use Rattle.dg_chips.specs.Starts.{StartData};
-ghost use Rattle.dg_game.specs.State.{LeadsTo};
-ghost use Rattle.dg_game.specs.declared.entry.Entry.{Entry as EntryData};
-ghost use Rattle.dg_game.specs.declared.game.TheConstants.{MAX_ENTRIES};
+ghost use Rattle.dg_rules.specs.State.{LeadsTo};
+ghost use Rattle.dg_rules.specs.declared.entry.Entry.{Entry as EntryData};
+ghost use Rattle.dg_rules.specs.declared.game.TheConstants.{MAX_ENTRIES};
 ghost use Rattle.dg_strategy.specs.Greedy.{IsGreedyTurn};
 
 use crate::choice::Choose;
 use crate::least_debtor::LeastDebtor;
-use dg_game::{Entry, Game, Plain};
+use dg_rules::{Entry, Game, Plain};
 
 /// Plays the next turn of a greedy game, and writes its entry: seat 1 lets the least vertex in debt borrow, or claims if nobody
 /// is in debt. The answer is whether it claims; the claim is won. So turns make what `settle_out` makes of the greedy settler,

@@ -2,16 +2,16 @@
 ghost use Rattle.std.specs.Prelude.{◌≡◌, length, IfOk, IfErr, true, IsTrue, ◌↔◌};
 ghost use Rattle.dg_table.specs.Faults.{RefusesCall};
 ghost use Rattle.dg_table.specs.Seats.{Keeps};
-ghost use Rattle.dg_game.specs.declared.entry.Request.TheVariants.{Claim as ClaimRequest};
+ghost use Rattle.dg_rules.specs.declared.entry.Request.TheVariants.{Claim as ClaimRequest};
 ghost use Rattle.dg_strategy.specs.Plays.{IsTurnBy, IsStrategyTurn, IsSettlerTurn, Plays};
 
 use crate::choice::Choose;
 use crate::settler::Settler;
 use crate::strategy::Strategy;
 use dg_chips::Divisor;
-use dg_game::{Entry, Request};
 use dg_graph::Graph;
 use dg_log::{Name, Receipt};
+use dg_rules::{Entry, Request};
 use dg_table::{Fault, Seat, Table};
 use std::alloc::Global;
 use std::sync::Wait;

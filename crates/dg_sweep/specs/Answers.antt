@@ -27,7 +27,7 @@
 use Rattle.std.specs.Prelude.{◌≡◌, ◌≢◌, ℕ, ◌<◌, ◌≤◌, ◌⊎◌, ℤ, List, [], ◌∷◌, ◌++◌, length, codes, decimal}
 use Rattle.std.specs.Fmt.{signed_decimal}
 use Rattle.dg_sweep.specs.Common.{genus, degree, less, canonical, HasRankAtLeast, IsRank, StartData, at, ArePastTrialLimits, IsRankTest, IsWithin, IsUntold, NeedsPastTests, RankVerdict, AtLeast, IsJudgement, text_of, IsTableFile, RefusesFile, FileFault, OutOfMemory, Question, Judge, Rank, RiemannRoch}
-use Rattle.dg_game.specs.declared.entry.Reply.TheVariants.{Rank as Tested}
+use Rattle.dg_rules.specs.declared.entry.Reply.TheVariants.{Rank as Tested}
 use Rattle.dg_sweep.specs.FaultTexts.{file_fault_words}
 use Rattle.dg_sweep.specs.declared.ends.TheConstants.{MAX_LINE}
 

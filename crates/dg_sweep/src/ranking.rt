@@ -9,10 +9,10 @@ ghost use Rattle.dg_sweep.specs.Subjects.{start_of};
 
 use crate::answering::{Subject, push_verdict_line};
 use dg_chips::Divisor;
-use dg_game::Reply;
 use dg_graph::Graph;
 use dg_rank::{RankFault, both_ranks, both_ranks_by, has_rank, rank_at_least, rank_at_least_by};
 use dg_reduce::InverseLaplacian;
+use dg_rules::Reply;
 use dg_tokens::Names;
 use dg_verdict::RankVerdict;
 use itoa::Buffer;

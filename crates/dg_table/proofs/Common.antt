@@ -2,26 +2,26 @@
 pub use Rattle.dg_chips.specs.Starts.{StartData}
 pub use Rattle.dg_chips.specs.Vector.{Vector}
 pub use Rattle.dg_chips.specs.declared.moves.Move.{Move}
-pub use Rattle.dg_game.proofs.LegalLaws.{legal_looks, legal_none}
-pub use Rattle.dg_game.proofs.ListLaws.{more_holds, slice_get-append}
-pub use Rattle.dg_game.proofs.StateLaws.{right_in}
-pub use Rattle.dg_game.proofs.StepLaw.{vertices_stay}
-pub use Rattle.dg_game.specs.History.{gifts_in, position_after}
-pub use Rattle.dg_game.specs.Legal.{IsLegal}
-pub use Rattle.dg_game.specs.Look.{IsLookAt, KeepsFinding, asked_for, asked_on}
-pub use Rattle.dg_game.specs.Position.{Shows}
-pub use Rattle.dg_game.specs.Replies.{Replies}
-pub use Rattle.dg_game.specs.State.{LeadsTo, GameState}
-pub use Rattle.dg_game.specs.declared.entry.Entry.{Entry}
-pub use Rattle.dg_game.specs.declared.entry.Reply.{Reply}
-pub use Rattle.dg_game.specs.declared.entry.Reply.TheVariants.{Looked, Rank as RankReply, Stale, Verdict}
-pub use Rattle.dg_game.specs.declared.entry.Request.{Request}
-pub use Rattle.dg_game.specs.declared.entry.Request.TheVariants.{Look}
-pub use Rattle.dg_game.specs.declared.entry.TheConstants.{MAX_SEATS}
-pub use Rattle.dg_game.specs.declared.finding.Finding.{Finding}
-pub use Rattle.dg_game.specs.declared.finding.Finding.TheVariants.{Judged, Ranked}
-pub use Rattle.dg_game.specs.declared.finding.Question.{Question}
-pub use Rattle.dg_game.specs.declared.look.LookData.{LookData}
+pub use Rattle.dg_rules.proofs.LegalLaws.{legal_looks, legal_none}
+pub use Rattle.dg_rules.proofs.ListLaws.{more_holds, slice_get-append}
+pub use Rattle.dg_rules.proofs.StateLaws.{right_in}
+pub use Rattle.dg_rules.proofs.StepLaw.{vertices_stay}
+pub use Rattle.dg_rules.specs.History.{gifts_in, position_after}
+pub use Rattle.dg_rules.specs.Legal.{IsLegal}
+pub use Rattle.dg_rules.specs.Look.{IsLookAt, KeepsFinding, asked_for, asked_on}
+pub use Rattle.dg_rules.specs.Position.{Shows}
+pub use Rattle.dg_rules.specs.Replies.{Replies}
+pub use Rattle.dg_rules.specs.State.{LeadsTo, GameState}
+pub use Rattle.dg_rules.specs.declared.entry.Entry.{Entry}
+pub use Rattle.dg_rules.specs.declared.entry.Reply.{Reply}
+pub use Rattle.dg_rules.specs.declared.entry.Reply.TheVariants.{Looked, Rank as RankReply, Stale, Verdict}
+pub use Rattle.dg_rules.specs.declared.entry.Request.{Request}
+pub use Rattle.dg_rules.specs.declared.entry.Request.TheVariants.{Look}
+pub use Rattle.dg_rules.specs.declared.entry.TheConstants.{MAX_SEATS}
+pub use Rattle.dg_rules.specs.declared.finding.Finding.{Finding}
+pub use Rattle.dg_rules.specs.declared.finding.Finding.TheVariants.{Judged, Ranked}
+pub use Rattle.dg_rules.specs.declared.finding.Question.{Question}
+pub use Rattle.dg_rules.specs.declared.look.LookData.{LookData}
 pub use Rattle.dg_log.specs.Numbered.{IsPrefixOf, IsLonger, StandIn}
 pub use Rattle.dg_log.specs.Tables.{TableData}
 pub use Rattle.dg_log.specs.Written.{Written}

@@ -2,24 +2,24 @@
 pub use Rattle.dg_chips.specs.Starts.{StartData}
 pub use Rattle.dg_chips.specs.Vector.{Vector, at}
 pub use Rattle.dg_chips.specs.declared.moves.Move.{Move}
-pub use Rattle.dg_game.specs.History.{gifts_in, position_after}
-pub use Rattle.dg_game.specs.Legal.{IsLegal, IsSeat}
-pub use Rattle.dg_game.specs.Look.{KeepsFinding, asked_for, asked_on, degree_found}
-pub use Rattle.dg_game.specs.Position.{Position, Shows}
-pub use Rattle.dg_game.specs.Replies.{Replies}
-pub use Rattle.dg_game.specs.Requests.{request_for}
-pub use Rattle.dg_game.specs.State.{LeadsTo, GameState}
-pub use Rattle.dg_game.specs.declared.entry.Entry.{Entry}
-pub use Rattle.dg_game.specs.declared.entry.Reply.{Reply}
-pub use Rattle.dg_game.specs.declared.entry.Reply.TheVariants.{Looked, Rank, Stale, Verdict}
-pub use Rattle.dg_game.specs.declared.entry.Request.{Request}
-pub use Rattle.dg_game.specs.declared.entry.Request.TheVariants.{Look}
-pub use Rattle.dg_game.specs.declared.entry.TheConstants.{MAX_SEATS}
-pub use Rattle.dg_game.specs.declared.finding.Finding.{Finding}
-pub use Rattle.dg_game.specs.declared.finding.Finding.TheVariants.{Judged, Ranked}
-pub use Rattle.dg_game.specs.declared.finding.Question.{Question}
-pub use Rattle.dg_game.specs.declared.game.TheConstants.{MAX_ENTRIES}
-pub use Rattle.dg_game.specs.declared.look.LookData.{LookData}
+pub use Rattle.dg_rules.specs.History.{gifts_in, position_after}
+pub use Rattle.dg_rules.specs.Legal.{IsLegal, IsSeat}
+pub use Rattle.dg_rules.specs.Look.{KeepsFinding, asked_for, asked_on, degree_found}
+pub use Rattle.dg_rules.specs.Position.{Position, Shows}
+pub use Rattle.dg_rules.specs.Replies.{Replies}
+pub use Rattle.dg_rules.specs.Requests.{request_for}
+pub use Rattle.dg_rules.specs.State.{LeadsTo, GameState}
+pub use Rattle.dg_rules.specs.declared.entry.Entry.{Entry}
+pub use Rattle.dg_rules.specs.declared.entry.Reply.{Reply}
+pub use Rattle.dg_rules.specs.declared.entry.Reply.TheVariants.{Looked, Rank, Stale, Verdict}
+pub use Rattle.dg_rules.specs.declared.entry.Request.{Request}
+pub use Rattle.dg_rules.specs.declared.entry.Request.TheVariants.{Look}
+pub use Rattle.dg_rules.specs.declared.entry.TheConstants.{MAX_SEATS}
+pub use Rattle.dg_rules.specs.declared.finding.Finding.{Finding}
+pub use Rattle.dg_rules.specs.declared.finding.Finding.TheVariants.{Judged, Ranked}
+pub use Rattle.dg_rules.specs.declared.finding.Question.{Question}
+pub use Rattle.dg_rules.specs.declared.game.TheConstants.{MAX_ENTRIES}
+pub use Rattle.dg_rules.specs.declared.look.LookData.{LookData}
 pub use Rattle.dg_log.specs.Numbered.{ReceiptsAreBelow, IsPrefixOf, IsLonger, StandIn}
 pub use Rattle.dg_log.specs.Tables.{TableData}
 pub use Rattle.dg_log.specs.Written.{Written}

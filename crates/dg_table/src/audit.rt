@@ -2,9 +2,9 @@
 ghost use Rattle.std.specs.Prelude.{◌≡◌, ◌<◌, length, slice_get, Some, IfOk};
 
 use dg_chips::Divisor;
-use dg_game::Entry;
 use dg_graph::Graph;
 use dg_log::{Log, Name, Pen};
+use dg_rules::Entry;
 use std::alloc::{AllocError, Global};
 
 /// The history of a table that was closed, and what was counted in it.

@@ -1,17 +1,17 @@
 //! What the lock of a table holds.
 ghost use Rattle.std.specs.Prelude.{ℕ, List, Some, slice_get, ◌≡◌, ◌<◌, ◌≤◌, ◌↔◌, [], ◌∷◌, ◌++◌, true, false, length, IsTrue, IfOk, IfSome, IfErr, MatchOption, MatchResult, MatchBool, OnErr};
 ghost use Rattle.dg_chips.specs.Starts.{StartData};
-ghost use Rattle.dg_game.specs.Legal.{IsSeat, IsLegal};
-ghost use Rattle.dg_game.specs.Look.{IsFoundFor};
-ghost use Rattle.dg_game.specs.Replies.{Replies};
-ghost use Rattle.dg_game.specs.Requests.{asked};
-ghost use Rattle.dg_game.specs.State.{LeadsTo};
+ghost use Rattle.dg_rules.specs.Legal.{IsSeat, IsLegal};
+ghost use Rattle.dg_rules.specs.Look.{IsFoundFor};
+ghost use Rattle.dg_rules.specs.Replies.{Replies};
+ghost use Rattle.dg_rules.specs.Requests.{asked};
+ghost use Rattle.dg_rules.specs.State.{LeadsTo};
 ghost use Rattle.dg_log.specs.Written.{blank, with_entry, after_refusal};
 ghost use Rattle.dg_table.specs.Answered.{entering, IsAnsweredAfter};
 ghost use Rattle.dg_table.specs.Closing.{TableHasSeat, IsComplete, AllHeld, AreTotals, IsMissing, SomeKeepsMore, RefusesClose, HaveMet};
 ghost use Rattle.dg_table.specs.Faults.{RefusesStep, RefusesSettling};
 ghost use Rattle.dg_table.specs.declared.fault.Fault.TheVariants.{Log as LogFault};
-ghost use Rattle.dg_game.specs.declared.entry.Entry.{Entry as EntryData};
+ghost use Rattle.dg_rules.specs.declared.entry.Entry.{Entry as EntryData};
 ghost use Rattle.dg_table.specs.Histories.{IsHistoryOf};
 ghost use Rattle.dg_table.specs.Lock.{IsReady, IsKeptLook};
 ghost use Rattle.dg_table.specs.Looks.{IsLookOf};
@@ -24,9 +24,9 @@ use crate::audit::Audit;
 use crate::fault::Fault;
 use crate::seat::Seat;
 use dg_chips::{Divisor, Move, Start};
-use dg_game::{Entry, Finding, Game, LookData, Plain, Question, Reply};
 use dg_graph::Graph;
 use dg_log::{Log, Name, Pen, Receipt};
+use dg_rules::{Entry, Finding, Game, LookData, Plain, Question, Reply};
 use std::marker::Model;
 
 /// The game of the table N, the pen that writes its history, and how many entries each seat has. A contract sees what

@@ -7,8 +7,8 @@ ghost use Rattle.dg_table.specs.Looks.{KeptLookHasVertices, IsLastLook};
 ghost use Rattle.dg_table.specs.Opened.{MayHaveSeats, AreFresh};
 ghost use Rattle.dg_table.specs.Seats.{Keeps, Meets};
 
-use dg_game::{BLANK, Entry, LookData};
 use dg_log::{Log, Name, Prefix, Receipt, ReceiptSet, Seating};
+use dg_rules::{BLANK, Entry, LookData};
 use std::alloc::{AllocError, Global};
 use std::marker::{Model, PhantomData};
 

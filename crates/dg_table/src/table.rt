@@ -1,7 +1,7 @@
 //! The table that seats call.
 ghost use Rattle.std.specs.Prelude.{◌≡◌, ◌≢◌, ◌<◌, length, true, IfOk, IfErr, MatchOption, MatchResult};
-ghost use Rattle.dg_game.specs.Look.{IsFoundFor};
-ghost use Rattle.dg_game.specs.Requests.{asked};
+ghost use Rattle.dg_rules.specs.Look.{IsFoundFor};
+ghost use Rattle.dg_rules.specs.Requests.{asked};
 ghost use Rattle.dg_log.specs.Tables.{table_data_of};
 ghost use Rattle.dg_table.specs.Answered.{IsAnswered};
 ghost use Rattle.dg_table.specs.Closing.{IsClosed, AreTotals, IsCloseRefused};
@@ -18,10 +18,10 @@ use crate::fault::{Fault, TableFault};
 use crate::held::Held;
 use crate::seat::Seat;
 use dg_chips::{Divisor, Move, Start};
-use dg_game::{Entry, Finding, LookData, MAX_SEATS, Plain, Question};
 use dg_graph::Graph;
 use dg_log::{Log, Name, Receipt, Row};
 use dg_reduce::InverseLaplacian;
+use dg_rules::{Entry, Finding, LookData, MAX_SEATS, Plain, Question};
 use std::alloc::Global;
 use std::fmt;
 use std::sync::{Mutex, Wait};

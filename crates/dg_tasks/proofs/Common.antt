@@ -5,28 +5,28 @@ pub use Rattle.dg_chips.specs.Starts.{IsStart, StartData}
 pub use Rattle.dg_chips.specs.Vector.{IsInRange, Vector, at}
 pub use Rattle.dg_chips.specs.declared.moves.Move.{Move}
 pub use Rattle.dg_chips.specs.declared.moves.Move.TheVariants.{Borrow, Fire, Lend, Script}
-pub use Rattle.dg_game.proofs.GraphLaws.{graphs_hold}
-pub use Rattle.dg_game.proofs.LegalLaws.{legal_part}
-pub use Rattle.dg_game.proofs.ListLaws.{slice_get-seam}
-pub use Rattle.dg_game.proofs.StepLaw.{one_more_entry, vertices_stay}
-pub use Rattle.dg_game.specs.GiftReplies.{IsGivenTo, RefusesGift, RepliesToGift}
-pub use Rattle.dg_game.specs.History.{gifts_by_reply, gifts_in, position_after}
-pub use Rattle.dg_game.specs.JoinReplies.{IsJoinedTo, RefusesToJoin, RepliesToJoin}
-pub use Rattle.dg_game.specs.Legal.{IsLegal}
-pub use Rattle.dg_game.specs.MoveReplies.{RefusesMove, RepliesToMove}
-pub use Rattle.dg_game.specs.Position.{Position, Shows}
-pub use Rattle.dg_game.specs.Replies.{Replies, RepliesAt, RepliesToClaim, RepliesToJudge, RepliesToLook, RepliesToRank}
-pub use Rattle.dg_game.specs.State.{LeadsTo, GameState}
-pub use Rattle.dg_game.specs.Step.{after_reply}
-pub use Rattle.dg_game.specs.declared.entry.Entry.{Entry}
-pub use Rattle.dg_game.specs.declared.entry.Refusal.{Refusal}
-pub use Rattle.dg_game.specs.declared.entry.Reply.{Reply}
-pub use Rattle.dg_game.specs.declared.entry.Reply.TheVariants.{Given, Joined, Looked, Moved, NotWon, Rank, Refused, Stale, Verdict, Won}
-pub use Rattle.dg_game.specs.declared.entry.Request.{Request}
-pub use Rattle.dg_game.specs.declared.game.TheConstants.{MAX_ENTRIES}
-pub use Rattle.dg_game.specs.declared.step.Command.{Command}
-pub use Rattle.dg_game.specs.declared.step.Command.TheVariants.{Call, Commit}
-pub use Rattle.dg_game.specs.declared.step.Step.{Step}
+pub use Rattle.dg_rules.proofs.GraphLaws.{graphs_hold}
+pub use Rattle.dg_rules.proofs.LegalLaws.{legal_part}
+pub use Rattle.dg_rules.proofs.ListLaws.{slice_get-seam}
+pub use Rattle.dg_rules.proofs.StepLaw.{one_more_entry, vertices_stay}
+pub use Rattle.dg_rules.specs.GiftReplies.{IsGivenTo, RefusesGift, RepliesToGift}
+pub use Rattle.dg_rules.specs.History.{gifts_by_reply, gifts_in, position_after}
+pub use Rattle.dg_rules.specs.JoinReplies.{IsJoinedTo, RefusesToJoin, RepliesToJoin}
+pub use Rattle.dg_rules.specs.Legal.{IsLegal}
+pub use Rattle.dg_rules.specs.MoveReplies.{RefusesMove, RepliesToMove}
+pub use Rattle.dg_rules.specs.Position.{Position, Shows}
+pub use Rattle.dg_rules.specs.Replies.{Replies, RepliesAt, RepliesToClaim, RepliesToJudge, RepliesToLook, RepliesToRank}
+pub use Rattle.dg_rules.specs.State.{LeadsTo, GameState}
+pub use Rattle.dg_rules.specs.Step.{after_reply}
+pub use Rattle.dg_rules.specs.declared.entry.Entry.{Entry}
+pub use Rattle.dg_rules.specs.declared.entry.Refusal.{Refusal}
+pub use Rattle.dg_rules.specs.declared.entry.Reply.{Reply}
+pub use Rattle.dg_rules.specs.declared.entry.Reply.TheVariants.{Given, Joined, Looked, Moved, NotWon, Rank, Refused, Stale, Verdict, Won}
+pub use Rattle.dg_rules.specs.declared.entry.Request.{Request}
+pub use Rattle.dg_rules.specs.declared.game.TheConstants.{MAX_ENTRIES}
+pub use Rattle.dg_rules.specs.declared.step.Command.{Command}
+pub use Rattle.dg_rules.specs.declared.step.Command.TheVariants.{Call, Commit}
+pub use Rattle.dg_rules.specs.declared.step.Step.{Step}
 pub use Rattle.dg_graph.proofs.SetLaws.{in_set-none}
 pub use Rattle.dg_graph.specs.Graph.{IsGraph}
 pub use Rattle.dg_graph.specs.Sets.{in_set}
@@ -38,12 +38,12 @@ pub use Rattle.dg_lines.specs.Steps.{IsStepLine}
 pub use Rattle.dg_lines.specs.Texts.{HasNames, entry_text, pair, rank_text, text_of, verdict_text, verdict_word}
 pub use Rattle.dg_lines.specs.declared.lines.Lines.{Lines}
 pub use Rattle.dg_rank.specs.Ranks.{RefusesBothRanks, IsRankInLimits}
-pub use Rattle.dg_rehearsal.specs.Rehearsal.{IsPlaying, PlaysOn, StopsPlay}
-pub use Rattle.dg_rehearsal.specs.Schedule.{IsAsked, IsEntryOf, IsKept}
-pub use Rattle.dg_rehearsal.specs.ScheduleFaults.{IsFirstFault}
-pub use Rattle.dg_rehearsal.specs.declared.schedule.Rehearsal.{Rehearsal}
-pub use Rattle.dg_rehearsal.specs.declared.schedule.RehearseFault.{RehearseFault}
-pub use Rattle.dg_rehearsal.specs.declared.schedule.RehearseFault.TheVariants.{Seat}
+pub use Rattle.dg_game.specs.Rehearsal.{IsPlaying, PlaysOn, StopsPlay}
+pub use Rattle.dg_game.specs.Schedule.{IsAsked, IsEntryOf, IsKept}
+pub use Rattle.dg_game.specs.ScheduleFaults.{IsFirstFault}
+pub use Rattle.dg_game.specs.declared.schedule.Rehearsal.{Rehearsal}
+pub use Rattle.dg_game.specs.declared.schedule.RehearseFault.{RehearseFault}
+pub use Rattle.dg_game.specs.declared.schedule.RehearseFault.TheVariants.{Seat}
 pub use Rattle.dg_strategy.proofs.Greedily.{IsUnderWay, begun, legal_turn, settled_game, used_up, went_on}
 pub use Rattle.dg_strategy.proofs.OneGame.{greedy_game_is_one}
 pub use Rattle.dg_strategy.specs.Greedy.{IsGreedyTurn}

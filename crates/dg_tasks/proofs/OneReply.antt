@@ -5,8 +5,8 @@
 --   reply_once      and to any
 use Rattle.dg_tasks.proofs.Common.{◌≡◌, ◌≢◌, ℕ, ◌+◌, ◌<◌, ◌≤◌, ◌⊎◌, inl, inr, Bool, true, false, List, [], ◌∷◌, ◌++◌, length, codes, arith, refl, sym, ap, ◌∙◌, ◌↔◌, decimal, false≢true, ints, ℤ, Multigraph, Amounts, AgreeOn, IsEffective, IsWinnable, same_by_constant, equivalent-sym, equivalent-trans, loss_once, loss_bounds_rank, reduced_once, IsGraph, in_set-none, in_set, Vector, at, NamesNoVertex, IsEmptySet, HasOtherSize, IsPlayable, IsAfterMove, Move, Lend, Borrow, Fire, Script, IsRight, IsRankTest, RankVerdict, AtLeast, Below, gifts_by_reply, IsGivenTo, RefusesGift, RepliesToGift, IsJoinedTo, RefusesToJoin, RepliesToJoin, RefusesMove, RepliesToMove, Position, Shows, RepliesAt, RepliesToLook, RepliesToClaim, RepliesToJudge, RepliesToRank, after_reply, Refusal, Request, Reply, Moved, Given, Joined, Looked, Verdict, Rank, Stale, Won, NotWon, Refused, pair, verdict_word, verdict_text, rank_text, text_of}
 use Rattle.dg_verdict.specs.declared.verdict.Verdict.{Verdict as VerdictFound}
-use Rattle.dg_game.specs.declared.entry.Refusal.TheVariants as refusal
-use Rattle.dg_game.specs.declared.entry.Request.TheVariants as request
+use Rattle.dg_rules.specs.declared.entry.Refusal.TheVariants as refusal
+use Rattle.dg_rules.specs.declared.entry.Request.TheVariants as request
 use Rattle.dg_lines.specs.Texts.{more_pairs, pairs}
 
 pub record Alike (names : List (List ℕ)) (p : Position) (r : Request) (a b : Reply) : Type 0 where

@@ -13,8 +13,8 @@
 --   same_asks         greedy games that are the same ask for the same
 --   greedy_has_one_text   what is printed of a greedy game
 use Rattle.dg_tasks.proofs.Common.{◌≡◌, ℕ, zero, suc, ◌+◌, ◌<◌, ◌≤◌, Bool, List, [], ◌∷◌, ◌++◌, length, take, slice_get, Some, arith, refl, sym, ap, subst, ◌∙◌, append_assoc, ⊎_elim, codes, take-append_seam, decimal, slice_get_within, cases_lt, StartData, IsStart, position_after, gifts_in, gifts_by_reply, IsLegal, Position, Replies, RepliesAt, after_reply, Entry, Request, Reply, Command, Call, Commit, Step, graphs_hold, legal_part, slice_get-seam, one_more_entry, vertices_stay, IsKept, IsAsked, IsEntryOf, AreSameGreedyGame, greedy_game_is_one, entry_text, turns_text, printed_requests, LegalAnswersAreOneText, RehearsalsHaveOneText, GreedyHasOneText}
-use Rattle.dg_game.specs.declared.entry.Request.TheVariants as request
-use Rattle.dg_game.specs.declared.step.Command.TheVariants.{Rank}
+use Rattle.dg_rules.specs.declared.entry.Request.TheVariants as request
+use Rattle.dg_rules.specs.declared.step.Command.TheVariants.{Rank}
 use Rattle.dg_lines.specs.Texts.{history_text}
 use Rattle.dg_tasks.proofs.OneReply.{Alike, reply_once}
 

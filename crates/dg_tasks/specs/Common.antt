@@ -5,12 +5,12 @@ pub use Rattle.dg_chips.specs.Vector.{IsInRange, at}
 pub use Rattle.dg_file.specs.FileFaults.{RefusesFile}
 pub use Rattle.dg_file.specs.TableFiles.{IsTableFile}
 pub use Rattle.dg_file.specs.declared.fault.FileFault.{FileFault}
-pub use Rattle.dg_game.specs.Legal.{IsLegal}
-pub use Rattle.dg_game.specs.declared.entry.Entry.{Entry}
-pub use Rattle.dg_game.specs.declared.entry.Reply.TheVariants.{Rank}
-pub use Rattle.dg_game.specs.declared.entry.Request.{Request}
-pub use Rattle.dg_game.specs.declared.game.TheConstants.{MAX_ENTRIES}
-pub use Rattle.dg_game.specs.declared.step.Step.{Step}
+pub use Rattle.dg_rules.specs.Legal.{IsLegal}
+pub use Rattle.dg_rules.specs.declared.entry.Entry.{Entry}
+pub use Rattle.dg_rules.specs.declared.entry.Reply.TheVariants.{Rank}
+pub use Rattle.dg_rules.specs.declared.entry.Request.{Request}
+pub use Rattle.dg_rules.specs.declared.game.TheConstants.{MAX_ENTRIES}
+pub use Rattle.dg_rules.specs.declared.step.Step.{Step}
 pub use Rattle.dg_invocation.specs.Files.{file_of}
 pub use Rattle.dg_invocation.specs.declared.invocation.Task.{Task}
 pub use Rattle.dg_invocation.specs.declared.invocation.Task.TheVariants.{Greedy, Judge, Rehearse, RiemannRoch}
@@ -20,11 +20,11 @@ pub use Rattle.dg_lines.specs.Schedules.{AreStepsOf, IsFirstRefused}
 pub use Rattle.dg_lines.specs.Texts.{history_text, text_of}
 pub use Rattle.dg_rank.specs.Limits.{ArePastTrialLimits}
 pub use Rattle.dg_rank.specs.Ranks.{RefusesBothRanks, IsRankInLimits, IsWithin}
-pub use Rattle.dg_rehearsal.specs.Rehearsal.{IsPlaying}
-pub use Rattle.dg_rehearsal.specs.Schedule.{IsRehearsal}
-pub use Rattle.dg_rehearsal.specs.ScheduleFaults.{IsFirstFault}
-pub use Rattle.dg_rehearsal.specs.declared.schedule.Rehearsal.{Rehearsal}
-pub use Rattle.dg_rehearsal.specs.declared.schedule.RehearseFault.{RehearseFault}
+pub use Rattle.dg_game.specs.Rehearsal.{IsPlaying}
+pub use Rattle.dg_game.specs.Schedule.{IsRehearsal}
+pub use Rattle.dg_game.specs.ScheduleFaults.{IsFirstFault}
+pub use Rattle.dg_game.specs.declared.schedule.Rehearsal.{Rehearsal}
+pub use Rattle.dg_game.specs.declared.schedule.RehearseFault.{RehearseFault}
 pub use Rattle.dg_strategy.specs.Greedy.{IsGreedyGame}
 pub use Rattle.dg_system.specs.Held.{Held, MayHold, RefusesHeld}
 pub use Rattle.dg_system.specs.declared.shortage.Shortage.TheVariants.{OutOfMemory, Spawn}

@@ -8,7 +8,7 @@
 --                                          said, and no other fault comes
 use Rattle.std.specs.Prelude.{ℕ, List, ⊤}
 use Rattle.dg_tasks.specs.Common.{IsFirstFault, RehearseFault, Step, AreStepsOf, IsFirstRefused, OutOfMemory}
-use Rattle.dg_rehearsal.specs.declared.schedule.RehearseFault.TheVariants as schedule
+use Rattle.dg_game.specs.declared.schedule.RehearseFault.TheVariants as schedule
 use Rattle.dg_tasks.specs.declared.fault.TaskFault.{TaskFault}
 use Rattle.dg_tasks.specs.declared.fault.TaskFault.TheVariants.{Line, Full, NoLook, StepTrials, Shortage}
 

@@ -2,9 +2,9 @@
 
 use dg_chips::ChipFault;
 use dg_file::FileFault;
+use dg_game::RehearseFault;
 use dg_lines::{LineFault, StepsFault};
 use dg_rank::RankFault;
-use dg_rehearsal::RehearseFault;
 use dg_system::{Shortage, SourceFault};
 use thiserror::Error;
 

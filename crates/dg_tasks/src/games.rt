@@ -1,12 +1,12 @@
 //! Greedy games that are played and printed turn by turn: the history is not kept.
 ghost use Rattle.std.specs.Prelude.{◌≤◌, IfOk, IfErr};
-ghost use Rattle.dg_game.specs.declared.game.TheConstants.{MAX_ENTRIES};
+ghost use Rattle.dg_rules.specs.declared.game.TheConstants.{MAX_ENTRIES};
 ghost use Rattle.dg_tasks.specs.Games.{IsGreedyAnswer, RefusesTurns};
 
 use crate::fault::TaskFault;
 use dg_file::TableFile;
-use dg_game::{BLANK, Game};
 use dg_lines::push_entry;
+use dg_rules::{BLANK, Game};
 use dg_strategy::greedy_turn;
 use dg_system::Shortage;
 use std::alloc::{AllocError, Global};

@@ -5,8 +5,8 @@ ghost use Rattle.dg_lines.specs.Texts.{HasNames, text_of};
 
 use crate::fault::TaskFault;
 use dg_file::TableFile;
-use dg_game::Reply;
 use dg_lines::{push_judgement, reply_text};
+use dg_rules::Reply;
 use dg_system::Shortage;
 use dg_tokens::Names;
 use dg_verdict::judge;

@@ -2,15 +2,15 @@
 ghost use Rattle.std.specs.Prelude.{◌≡◌, ℤ, ◌++◌, codes, IfOk, IfErr, OnOk};
 ghost use Rattle.dg_rank.specs.Ranks.{MayHaveWorkers};
 ghost use Rattle.dg_lines.specs.Texts.{HasNames, text_of};
-ghost use Rattle.dg_game.specs.declared.entry.Reply.TheVariants.{Rank};
+ghost use Rattle.dg_rules.specs.declared.entry.Reply.TheVariants.{Rank};
 ghost use Rattle.dg_tasks.specs.RankTests.{IsRankAnswer, RefusesRank, answer_line, riemann_roch_text, IsRiemannRoch, RefusesRiemannRoch};
 
 use crate::fault::TaskFault;
 use crate::printed::printed_reply;
 use dg_chips::{Start, dual};
 use dg_file::TableFile;
-use dg_game::Reply;
 use dg_rank::{OpenGate, RankFault, RankVerdict, both_ranks_in_limits, rank_at_least, rank_with};
+use dg_rules::Reply;
 use dg_system::Shortage;
 use dg_tokens::Names;
 use itoa::Buffer;

@@ -6,15 +6,15 @@ ghost use Rattle.dg_tasks.specs.Refusals.{IsFaultOf, RefusesSchedule};
 
 use crate::fault::TaskFault;
 use dg_file::TableFile;
-use dg_game::{BLANK, Entry, Step};
+use dg_game::{Rehearsal, RehearseFault};
 use dg_lines::{Lines, parse_step, push_entry};
-use dg_rehearsal::{Rehearsal, RehearseFault};
+use dg_rules::{BLANK, Entry, Step};
 use dg_system::Shortage;
 use dg_tokens::Names;
 use std::alloc::Global;
 
 /// The history of a schedule as text: a line for each entry, with its number, from 0 on, and the text of its reply. The
-/// history is the legal one that the steps make from the table's start, as `rehearse` of `dg_rehearsal` does: it promises
+/// history is the legal one that the steps make from the table's start, as `rehearse` of `dg_game` does: it promises
 /// `IsRehearsal`, too, and `IsFirstFault` of a step that is refused.
 ///
 /// Refused with `Line` for the first line that spells no step; then for the first step that is refused, with `Full` if

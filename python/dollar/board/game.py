@@ -7,7 +7,7 @@ from dollar.drawing import USUAL, layout
 from dollar.grammar import limit
 from dollar.program import PATIENCE, command_line, fault_of
 
-MOST_SEATS, MOST_LINE = limit("dg_game::MAX_SEATS"), limit("dg_session::MAX_LINE")
+MOST_SEATS, MOST_LINE = limit("dg_rules::MAX_SEATS"), limit("dg_session::MAX_LINE")
 PIECE = 1 << 16
 
 

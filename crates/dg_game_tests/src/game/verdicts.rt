@@ -1,8 +1,8 @@
 //! Verdicts that are entered after a call, with drifts that lead there and drifts that don't.
 use crate::game::{start, triangle};
 use dg_chips::{Drift, Move, Script, Start, Wide};
-use dg_game::{BLANK, Finding, Game, LookData, Plain, Reply};
 use dg_graph::Graph;
+use dg_rules::{BLANK, Finding, Game, LookData, Plain, Reply};
 use dg_verdict::{Verdict, check};
 use std::process::Abort;
 use std::test::Fail;

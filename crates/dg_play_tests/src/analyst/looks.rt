@@ -8,9 +8,9 @@ use dg_analyst::{
     reckon_with_inverse, try_rank,
 };
 use dg_chips::{Divisor, Move, Start};
-use dg_game::{Plain, Question, Reply, Request};
 use dg_log::{Log, Name, Receipt};
 use dg_rank::{OpenGate, RankFault};
+use dg_rules::{Plain, Question, Reply, Request};
 use dg_table::{Seat, Table};
 use dg_verdict::RankVerdict;
 use std::alloc::Global;

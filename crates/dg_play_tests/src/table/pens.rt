@@ -1,8 +1,8 @@
 //! A log that its pen alone writes.
 ghost use Rattle.std.specs.Prelude.{◌≡◌, length};
 
-use dg_game::{Entry, Reply, Request};
 use dg_log::{Log, Name, ReceiptSet, Row};
+use dg_rules::{Entry, Reply, Request};
 use std::alloc::Global;
 use std::process::Abort;
 use std::test::Fail;

@@ -3,8 +3,8 @@
 use crate::table_tests::{TableTest, on_a_table};
 use crate::tables::{amounts, triangle};
 use dg_chips::{Divisor, Move, Start};
-use dg_game::{Plain, Reply};
 use dg_log::{Log, LogFault, Name, Receipt, Row};
+use dg_rules::{Plain, Reply};
 use dg_table::{Audit, Fault, Seat, Table};
 use std::alloc::Global;
 use std::process::Abort;

@@ -4,8 +4,8 @@ ghost use Rattle.dg_table.specs.Looks.{IsLookOf};
 
 use crate::tables::winnable;
 use dg_chips::Move;
-use dg_game::{LookData, Plain, Reply, judge_look};
 use dg_log::{Name, Receipt};
+use dg_rules::{LookData, Plain, Reply, judge_look};
 use dg_table::{Fault, Seat, Table};
 use std::alloc::Global;
 use std::process::Abort;

@@ -2,9 +2,9 @@
 
 use crate::tables::amounts;
 use dg_chips::{Divisor, Move};
-use dg_game::Reply;
 use dg_graph::Graph;
 use dg_log::Name;
+use dg_rules::Reply;
 use dg_table::{Fault, Seat, Table};
 use std::alloc::Global;
 use std::process::Abort;

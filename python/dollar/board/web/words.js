@@ -277,7 +277,7 @@ export const FAULTS = {
   "bad number": "A number in it is missing, badly written or out of range.",
   "bad look": "This seat has not looked since its last verdict. It looks first.",
   "bad trials": "That rank test is too large.",
-  "the history is full": `The history is full: it has ${limits["dg_game::MAX_ENTRIES"]} entries.`,
+  "the history is full": `The history is full: it has ${limits["dg_rules::MAX_ENTRIES"]} entries.`,
   "long line": "The line is too long.",
   "file too long": "The file has more than a megabyte.",
   "too many trials": "That rank test is too large.",

@@ -1,7 +1,7 @@
 use Rattle.std.proofs.Common.{◌≡◌, [], refl, arith, sym, ap, ◌∙◌}
 use Rattle.dg_theory.specs.Multigraph.{Multigraph}
-use Rattle.dg_game.specs.declared.look.LookData.{LookData}
-use Rattle.dg_game.proofs.LookLaws.{look_new, look_kept}
+use Rattle.dg_rules.specs.declared.look.LookData.{LookData}
+use Rattle.dg_rules.proofs.LookLaws.{look_new, look_kept}
 use Rattle.dg_memory_tests.proofs.sparing.settled.Goals as goal
 
 pub act-requires-2 : goal.act-requires-2

@@ -1,5 +1,5 @@
 use Rattle.dg_observer.proofs.Common.{◌≡◌, ◌++◌, ◌-◌, List, length}
-use Rattle.dg_game.specs.declared.entry.Entry.{Entry as EntryData}
+use Rattle.dg_rules.specs.declared.entry.Entry.{Entry as EntryData}
 use Rattle.dg_observer.proofs.observer.Observer.catch_up.Given as goal
 
 abbrev pub invariant-entries : goal.invariant-entries

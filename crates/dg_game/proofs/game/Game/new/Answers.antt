@@ -1,6 +1,0 @@
-use Rattle.dg_game.proofs.StateLaws.{start_leads}
-use Rattle.dg_game.proofs.game.Game.new.Goals as goal
-
-pub returns : goal.returns
-returns c = rw (c.graph.ensures.graph, c.q.ensures, c.divisor.ensures)
-    (start_leads c.args.start.now c.zero.result c.graph.ensures.start.size c.zero.ensures.entries)

@@ -1,6 +1,0 @@
-use Rattle.dg_rehearsal.proofs.Common.{refl, ◌∙◌}
-use Rattle.dg_rehearsal.proofs.RehearsalLaws.{playing_none}
-use Rattle.dg_rehearsal.proofs.schedule.Rehearsal.new.Goals as goal
-
-pub returns : goal.returns
-returns c = λ steps. playing_none c.args.start.now steps _ c.new.ensures (c.from-q.ensures ∙ c.q.ensures) refl

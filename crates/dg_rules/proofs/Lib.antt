@@ -1,0 +1,10 @@
+pub mod ListLaws
+pub mod HistoryLaws
+pub mod StepLaw
+pub mod RankTests
+pub mod ReplyLaws
+pub mod StateLaws
+pub mod LegalLaws
+pub mod GraphLaws
+pub mod LookLaws
+pub mod Common

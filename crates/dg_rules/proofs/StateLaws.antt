@@ -1,0 +1,131 @@
+-- States and histories go on together.
+--   start_leads      the empty history leads to the state at the start
+--   shows_joined     what shows a position shows it on the graph with one more edge
+--   shows_after      what shows the position shows it after the entry, with the amounts after the reply
+--   replies_after    a reply that is right in a state is right after a history that leads to it
+--   right_in         and the other way round
+--   leads_more       a reply that is right after the history leads with its entry to the next state
+use Rattle.dg_rules.proofs.Common.{◌≡◌, ℕ, ◌+◌, ◌<◌, List, [], ◌∷◌, ◌++◌, take, arith, refl, sym, ap, subst, ◌∙◌, length-append, ints, pos, Multigraph, size_stays, Vector, at, StartData, Position, Shows, joined_at, gifts_in, gifts_by_reply, scripts_played, after_reply, Replies, RepliesAt, GameState, LeadsTo, IsRightIn, IsNext, position_of, amounts_after, gifts_after, graph_after, Entry, Request, Move, Gift, Join, Look, Claim, Judge, Reply, Moved, Given, Joined, Looked, Verdict, Stale, Won, NotWon, Refused}
+use Rattle.dg_rules.specs.History.{position_after}
+use Rattle.dg_rules.specs.declared.entry.Request.TheVariants.{Rank as RankRequest}
+use Rattle.dg_rules.specs.declared.entry.Reply.TheVariants.{Rank as RankReply}
+use Rattle.dg_rules.proofs.HistoryLaws.{gifts_in-more, scripts_played-more}
+use Rattle.dg_rules.proofs.StepLaw.{no_entry, one_more_entry}
+use Rattle.dg_rules.proofs.ReplyLaws.{replies-cong}
+
+pub replies_after : (o : StartData) (H : List Entry) (s : GameState) (request : Request) (reply : Reply) → LeadsTo o H s →
+    RepliesAt (position_of s) s.q (λ i. gifts_in (take i H)) s.gifts request reply → Replies o H request reply
+replies_after o H s request reply leads right =
+    let p : Position = position_after o H in
+    let before : ℕ → ℕ = λ i. gifts_in (take i H) in
+    let on_graph : RepliesAt (record { graph = p.graph; amounts = at s.amounts }) s.q before s.gifts request reply =
+    subst (λ (g : Multigraph).
+    RepliesAt (record { graph = g; amounts = at s.amounts }) s.q before s.gifts request reply) leads.graph right in
+    let on_amounts : RepliesAt p s.q before s.gifts request reply =
+    replies-cong p.graph (at s.amounts) p.amounts s.q before s.gifts request reply leads.amounts.amounts on_graph in
+    subst (λ (n : ℕ). RepliesAt p o.q before n request reply) leads.gifts
+    (subst (λ (q : ℕ). RepliesAt p q before s.gifts request reply) leads.q on_amounts)
+
+pub right_in : (o : StartData) (H : List Entry) (s : GameState) (request : Request) (reply : Reply) → LeadsTo o H s →
+    Replies o H request reply → IsRightIn s request reply
+right_in o H s request reply leads right =
+    let p : Position = position_after o H in
+    let before : ℕ → ℕ = λ i. gifts_in (take i H) in
+    let from_q : RepliesAt p s.q before s.gifts request reply =
+    subst (λ (q : ℕ). RepliesAt p q before s.gifts request reply) (sym leads.q)
+    (subst (λ (n : ℕ). RepliesAt p o.q before n request reply) (sym leads.gifts) right) in
+    let on_amounts : RepliesAt (record { graph = p.graph; amounts = at s.amounts }) s.q before s.gifts request reply =
+    replies-cong p.graph p.amounts (at s.amounts) s.q before s.gifts request reply
+    (λ v below. sym (leads.amounts.amounts v below)) from_q in (
+      before,
+      subst (λ (g : Multigraph).
+          RepliesAt (record { graph = g; amounts = at s.amounts }) s.q before s.gifts request reply)
+          (sym leads.graph) on_amounts,
+    )
+
+pub shows_joined : (p : Position) (u v : ℕ) (d : Vector) → Shows p d → Shows (joined_at p u v) d
+shows_joined p u v d shows = record {
+  size = shows.size ∙ sym (size_stays p.graph u v);
+  amounts = λ w below. shows.amounts w (subst (λ (n : ℕ). w < n) (size_stays p.graph u v) below);
+}
+
+pub shows_after : (o : StartData) (H : List Entry) (d : Vector) (request : Request) (reply : Reply) →
+    Shows (position_after o H) d →
+    Replies o H request reply → Shows (after_reply (position_after o H) request reply) (amounts_after d reply)
+shows_after o H d (Move m) (Moved e) shows right = record { size = right.size; amounts = right.amounts }
+shows_after o H d (Move m) (Refused refusal) shows right = shows
+shows_after o H d (Gift v x) (Given count e) shows right = record { size = right.size; amounts = right.amounts }
+shows_after o H d (Gift v x) (Refused refusal) shows right = shows
+shows_after o H d (Join u v) (Joined count e) shows right = shows_joined (position_after o H) u v d shows
+shows_after o H d (Join u v) (Refused refusal) shows right = shows
+shows_after o H d Look (Looked count e graph) shows right = shows
+shows_after o H d Claim Won shows right = shows
+shows_after o H d Claim NotWon shows right = shows
+shows_after o H d (Judge i) (Verdict x) shows right = shows
+shows_after o H d (Judge i) (Stale count) shows right = shows
+shows_after o H d (RankRequest i k) (RankReply x) shows right = shows
+shows_after o H d (RankRequest i k) (Stale count) shows right = shows
+shows_after o H d request reply shows right = absurd right
+
+graph_led : (p : Position) (request : Request) (reply : Reply) →
+    (after_reply p request reply).graph ≡ graph_after p.graph request reply
+graph_led p (Move m) (Moved d) = refl
+graph_led p (Gift v x) (Given count d) = refl
+graph_led p (Join u v) (Joined count d) = refl
+graph_led p request reply = refl
+
+size_after : (g : Multigraph) (request : Request) (reply : Reply) → (graph_after g request reply).size ≡ g.size
+size_after g (Join u v) (Joined count d) = size_stays g u v
+size_after g request reply = refl
+
+gifts_counted : (o : StartData) (H : List Entry) (request : Request) (reply : Reply) → Replies o H request reply →
+    gifts_after (gifts_in H) reply ≡ gifts_in H + gifts_by_reply reply
+gifts_counted o H (Move m) (Moved d) right = omega arith
+gifts_counted o H (Move m) (Refused refusal) right = omega arith
+gifts_counted o H (Gift v x) (Given count d) right = right.count'
+gifts_counted o H (Gift v x) (Refused refusal) right = omega arith
+gifts_counted o H (Join u v) (Joined count d) right = right.count'
+gifts_counted o H (Join u v) (Refused refusal) right = omega arith
+gifts_counted o H Look (Looked count d graph) right = omega arith
+gifts_counted o H Claim Won right = omega arith
+gifts_counted o H Claim NotWon right = omega arith
+gifts_counted o H (Judge i) (Verdict x) right = omega arith
+gifts_counted o H (Judge i) (Stale count) right = omega arith
+gifts_counted o H (RankRequest i k) (RankReply x) right = omega arith
+gifts_counted o H (RankRequest i k) (Stale count) right = omega arith
+gifts_counted o H request reply right = absurd right
+
+pub leads_more : (o : StartData) (H : List Entry) (s t : GameState) (e : Entry) → LeadsTo o H s →
+    Replies o H e.request e.reply →
+    IsNext s e.request e.reply t → LeadsTo o (H ++ e ∷ []) t
+leads_more o H s t e leads right next =
+    let p : Position = position_after o H in
+    let shown : Shows (after_reply p e.request e.reply) t.amounts =
+    rw next.amounts (shows_after o H s.amounts e.request e.reply leads.amounts right) in
+    record {
+      graph = next.graph ∙ ap (λ (g : Multigraph). graph_after g e.request e.reply) leads.graph
+          ∙ sym (graph_led p e.request e.reply)
+          ∙ ap (λ (r : Position). r.graph) (sym (one_more_entry o H e));
+      q = next.q ∙ leads.q;
+      amounts = rw (one_more_entry o H e) shown;
+      drift = λ v below.
+          let after : v < (graph_after s.graph e.request e.reply).size =
+          subst (λ (g : Multigraph). v < g.size) next.graph below in
+          let inside : v < s.graph.size = subst (λ (n : ℕ). v < n) (size_after s.graph e.request e.reply) after in
+          let before : at s.drift v ≡ scripts_played H v = leads.drift v inside in
+          next.drift v inside ∙ omega (arith, ints, before, scripts_played-more H e v);
+      gifts = next.gifts ∙ ap (λ (n : ℕ). gifts_after n e.reply) leads.gifts ∙ gifts_counted o H e.request e.reply right
+          ∙ sym (gifts_in-more H e);
+      entries = next.entries ∙ omega (arith, leads.entries, length-append H (e ∷ []));
+    }
+
+pub start_leads : (o : StartData) (d : Vector) → o.divisor.size ≡ o.graph.size → ((v : ℕ) → at d v ≡ pos 0) →
+    LeadsTo o [] (record { graph = o.graph; q = o.q; amounts = o.divisor; drift = d; gifts = 0; entries = 0 })
+start_leads o d size still = record {
+  graph = ap (λ (p : Position). p.graph) (sym (no_entry o));
+  q = refl;
+  amounts = rw (no_entry o) (record { size = size; amounts = λ v below. refl });
+  drift = λ v below. still v;
+  gifts = refl;
+  entries = refl;
+}
