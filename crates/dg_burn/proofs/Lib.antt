@@ -6,4 +6,5 @@ pub mod Fires
 pub mod Capped
 pub mod Lanes
 pub mod Bits
+pub mod Tried
 pub mod Common

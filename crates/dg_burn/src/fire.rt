@@ -51,7 +51,7 @@ impl Fire {
             heat self.new w ≡ heat self.old w + edges_between graph.now v w }
     {
         let _size = graph.size();
-        self.left = without_burning(self.left, v);
+        self.left = without_vertex(self.left, v);
         self.heat = with_heat_of_row(self.heat, u8x16::from_array(*graph.row(v)));
     }
 }
@@ -97,7 +97,7 @@ fn hot_and_left(set: u16, other: u16) -> u16
 }
 
 /// The set without one of its vertices.
-fn without_burning(set: u16, v: usize) -> u16
+pub(crate) fn without_vertex(set: u16, v: usize) -> u16
     requires few { v < MAX_VERTICES }
     requires member { in_set set v ≡ true }
     ensures { IsWithout (in_set set) v (in_set result) }

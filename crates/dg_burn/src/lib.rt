@@ -3,5 +3,7 @@
 
 mod burning;
 mod fire;
+mod special;
 
 pub use burning::{Burnt, Counted, burn, burn_counted, capped_at};
+pub use special::{determining_set, determining_sets_are_one};

@@ -4,9 +4,6 @@
 --   listed_before     an effective divisor before one that holds a trial is a list that comes before the trial
 --   wins_listed       if all trials win, a divisor can lose each effective divisor of their degree
 --   found_rank        if all trials win, the rank is at least their degree
---   all_trials_win    and the other way round
---   lost_rank         if one loses, the rank is less
---   found_decides     so what is found among all trials tells whether the rank is at least their degree
 --   nth-trial         each number below the number of all trials has a trial
 --   loss-trial        the first of all trials to lose is a trial
 --   found_trial       what was found among all trials, if it is one, is a trial
@@ -15,8 +12,7 @@
 --   some_number       there is a trial with the number 0
 --   poor_loses        if the degree is too low, each trial loses
 --   poor_loss         so trial number 0 is the first loss
-use Rattle.dg_rank.proofs.Common.{◌≡◌, ℕ, ◌<◌, List, length, arith, refl, sym, subst, ◌∙◌, ◌≤ℤ◌, ◌<ℤ◌, not, Option, Some, None, is_some, MatchBool, MatchOption, ⊤, both_ways, ints, pos, Multigraph, IsMultigraph, Amounts, degree, IsEffective, IsWinnable, less, HasRankAtLeast, IsBefore, IsFirstLoss, sum_below-cong, win_more, degree-less, degree-winnable, Vector, at, IsTrial, ComesBefore, IsNumbering, AnyTrial, IsWithinLimits, amounts_of, HoldsTrial, WinsWithout, AllWin, IsFirstLossIn}
-use Rattle.std.specs.Prelude.{Bool, true, false}
+use Rattle.dg_rank.proofs.Common.{◌≡◌, ℕ, ◌<◌, List, length, arith, refl, sym, subst, ◌∙◌, ◌≤ℤ◌, ◌<ℤ◌, Option, Some, None, MatchOption, ⊤, ints, pos, Multigraph, IsMultigraph, Amounts, degree, IsEffective, IsWinnable, less, HasRankAtLeast, IsBefore, IsFirstLoss, sum_below-cong, win_more, degree-less, degree-winnable, Vector, at, IsTrial, ComesBefore, IsNumbering, AnyTrial, IsWithinLimits, amounts_of, HoldsTrial, WinsWithout, AllWin, IsFirstLossIn}
 use Rattle.dg_rank.specs.Numbering.{trial_count, nth_trial}
 use Rattle.dg_rank.proofs.Numbering.{numbered, limits_count, some_trial}
 use Rattle.dg_rank.proofs.CountedOnce.{lower_number}
@@ -61,29 +57,6 @@ found_rank g D k c within wins E effective of_degree =
 
 pub nth-trial : (n k c i : ℕ) → IsWithinLimits n k c → i < c → IsTrial n k (nth_trial n k i)
 nth-trial n k c i within below = ((numbered n k).each i (omega (arith, limits_count n k c within))).0
-
-pub all_trials_win : (g : Multigraph) (D : Amounts) (k c : ℕ) → IsWithinLimits g.size k c → HasRankAtLeast g D k →
-    AllWin g D k 0 c
-all_trials_win g D k c within rank i from below =
-    let trial : IsTrial g.size k (nth_trial g.size k i) = nth-trial g.size k c i within below in
-    rank (amounts_of (nth_trial g.size k i)) (λ v inside. omega (arith, ints))
-    (degree-trial g.size k (nth_trial g.size k i) trial)
-
-pub lost_rank : (g : Multigraph) (D : Amounts) (k c : ℕ) (E : List ℕ) → IsWithinLimits g.size k c →
-    IsFirstLossIn g D k 0 c E →
-    ¬ HasRankAtLeast g D k
-lost_rank g D k c E within loss rank =
-    loss.loses (subst (λ (L : List ℕ). WinsWithout g D L) (sym loss.trial)
-    (all_trials_win g D k c within rank loss.number loss.from loss.to))
-
-pub found_decides : (g : Multigraph) (D : Amounts) (k c : ℕ) (found : Option (List ℕ)) (b : Bool) →
-    IsWithinLimits g.size k c →
-    MatchOption found (AllWin g D k 0 c) (IsFirstLossIn g D k 0 c) → is_some found ≡ not b →
-    MatchBool b (HasRankAtLeast g D k) (¬ HasRankAtLeast g D k)
-found_decides g D k c (Some E) true within loss none = absurd (both_ways true none refl)
-found_decides g D k c (Some E) false within loss none = lost_rank g D k c E within loss
-found_decides g D k c None true within wins none = found_rank g D k c within wins
-found_decides g D k c None false within wins none = absurd (both_ways false refl none)
 
 pub loss-trial : (g : Multigraph) (D : Amounts) (k c : ℕ) (E : List ℕ) → IsWithinLimits g.size k c →
     IsFirstLossIn g D k 0 c E →

@@ -2,9 +2,7 @@
 --   IsBlock P n r m k base i   == the trial of degree k on m places that begins with the amounts P, and holds after
 --                                 those, at n places, what the trial number i of degree r does, has the number base + i
 --   block_of                   there is such a base for all that begin with P and hold r in all after it
---   first_empty                the trial with the number 0 holds nothing before its last place
 --   first_held                 where all is held at the last place, the number is 0
---   all_first                  where all is held at the first place, it is the greatest
 --   IsSplit n k c i d r E      == E is the trial number i of c, and from place d on holds r at its last place and
 --                                 nothing else
 --   IsAmong n k c i d r j E    == the trial number i + j of c holds before place d what E does, and from there on what
@@ -15,7 +13,7 @@ use Rattle.dg_rank.specs.Numbering.{trial_count, raised, nth_trial}
 use Rattle.dg_rank.proofs.Lists.{sum_cons}
 use Rattle.dg_rank.proofs.Numbering.{numbered, some_trial, limits_count, limits_trial}
 use Rattle.dg_rank.proofs.CountedOnce.{no_lower}
-use Rattle.dg_rank.proofs.Pascal.{count_more, count_one_more, no_dollar}
+use Rattle.dg_rank.proofs.Pascal.{count_more, count_one_more}
 use Rattle.dg_rank.proofs.Unranking.{nth_low, nth_high, nth_broke, count_broke, one_amount}
 
 -- those with an amount at the first place
@@ -91,12 +89,6 @@ none_first : (m s : ℕ) → nth_trial (suc (suc m)) s 0 ≡ 0 ∷ nth_trial (su
 none_first m zero = nth_broke (suc m) 0
 none_first m (suc s) = nth_low (suc m) s 0 (some_trial (suc m) (suc s) (omega arith))
 
-pub first_empty : (n k u : ℕ) → u < n → slice_index (nth_trial (suc n) k 0) u ≡ 0
-first_empty zero k u low = absurd (omega arith)
-first_empty (suc n) k zero low = ap (λ (T : List ℕ). slice_index T 0) (none_first n k)
-first_empty (suc n) k (suc u) low =
-    ap (λ (T : List ℕ). slice_index T (suc u)) (none_first n k) ∙ first_empty n k u (omega arith)
-
 pub first_held : (n r : ℕ) (T : List ℕ) → length T ≡ suc n → ((u : ℕ) → u < n → slice_index T u ≡ 0) →
     slice_index T n ≡ r →
     T ≡ nth_trial (suc n) r 0
@@ -107,35 +99,6 @@ first_held zero r (a ∷ b ∷ T) places empty held = absurd (omega arith)
 first_held (suc n) r (a ∷ T) places empty held =
     let rest : T ≡ nth_trial (suc n) r 0 = first_held n r T (omega arith) (λ u low. empty (suc u) (omega arith)) held in
     ap (λ (x : ℕ). x ∷ T) (empty 0 (omega arith)) ∙ ap (λ (L : List ℕ). 0 ∷ L) rest ∙ sym (none_first n r)
-
-pub all_first : (n r : ℕ) (T : List ℕ) → length T ≡ suc n → slice_index T 0 ≡ r →
-    ((u : ℕ) → 0 < u → slice_index T u ≡ 0) →
-    T ≡ nth_trial (suc n) r (trial_count (suc n) r - 1)
-unfolding raised
-all_first n zero T places held empty =
-    let one : trial_count (suc n) 0 - 1 ≡ 0 = omega (arith, no_dollar (suc n)) in
-    rw one (first_held n 0 T places (λ u low. none u) (none n))
-  where
-    none : (u : ℕ) → slice_index T u ≡ 0
-    none zero = held
-    none (suc u) = empty (suc u) (omega arith)
-all_first n (suc r) [] places held empty = absurd (omega arith)
-all_first n (suc r) (a ∷ T) places held empty =
-    let before : ℕ = trial_count n (suc r) in
-    let some : 0 < trial_count (suc n) r = some_trial (suc n) r (omega arith) in
-    let less : r ∷ T ≡ nth_trial (suc n) r (trial_count (suc n) r - 1) =
-    all_first n r (r ∷ T) places refl (shifted empty) in
-    let number : trial_count (suc n) (suc r) - 1 ≡ before + (trial_count (suc n) r - 1) =
-    omega (arith, count_more n r) in
-    let back : before + (trial_count (suc n) r - 1) - before ≡ trial_count (suc n) r - 1 = omega arith in
-    ap (λ (x : ℕ). x ∷ T) held ∙ ap raised less
-    ∙ sym (ap (λ (j : ℕ). raised (nth_trial (suc n) r j)) back)
-    ∙ sym (nth_high n r (before + (trial_count (suc n) r - 1)) (omega arith))
-    ∙ ap (nth_trial (suc n) (suc r)) (sym number)
-  where
-    shifted : ((u : ℕ) → 0 < u → slice_index (a ∷ T) u ≡ 0) → (u : ℕ) → 0 < u → slice_index (r ∷ T) u ≡ 0
-    shifted none zero past = absurd (omega arith)
-    shifted none (suc u) past = none (suc u) past
 
 -- the trial number i, which from place d on holds r at its last place alone
 pub record IsSplit (n k c i d r : ℕ) (E : List ℕ) : Type 0 where

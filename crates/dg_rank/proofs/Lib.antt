@@ -3,25 +3,23 @@ pub mod Lists
 pub mod Numbering
 pub mod CountedOnce
 pub mod Pascal
-pub mod NextTrial
 pub mod Unranking
-pub mod Walk
 pub mod Leaps
 -- Trials and effective divisors.
 pub mod TrialLists
 -- What the search over all trials finds.
 pub mod FirstLosses
-pub mod Search
 pub mod PieceLosses
-pub mod Gated
 pub mod Elsewhere
-pub mod LeapForms
+pub mod Blocks
 -- The reduced divisor in place of the one given.
 pub mod SmallAmounts
--- Trials that are reduced for the last vertex.
-pub mod ReducedTrials
--- The first loss, found by a walk from place to place.
-pub mod LateLosses
+-- Boxes of losses.
+pub mod LossBoxes
+pub mod FirstFrom
+pub mod FixedBeginnings
+-- The vertices that are asked.
+pub mod AskedVertices
 -- Ranks and rank tests by the residual.
 pub mod DualTests
 pub mod TestDegrees

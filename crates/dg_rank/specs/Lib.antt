@@ -6,7 +6,7 @@ pub mod Ranks
 pub mod Ladders
 -- Words of private functions: how trials are numbered, and what the search for a loss finds.
 pub mod Numbering
-pub mod Moves
 pub mod Losses
-pub mod LateLosses
+pub mod Boxes
+pub mod Asked
 pub mod Pieces

@@ -8,20 +8,12 @@
 --                                D unwinnable
 --   IsPartial g D k i j x     == what x tells of the piece is true: its first loss, or that all
 --                                win, or that those before some number win
---   IsLeft g D k i E x        == E is the trial with number i, and x is what is left of D without
---                                it, fired until there are no debts
---   ReducedWin g D k d E      == D less each effective divisor of degree k is winnable that is
---                                reduced for the last vertex, holds before place d what E holds,
---                                and there as much or more, unless it is the last
-use Rattle.std.specs.Prelude.{◌≡◌, ℕ, ◌+◌, ◌-◌, ◌<◌, ◌≤◌, pos, ◌≤ℤ◌, List}
+use Rattle.std.specs.Prelude.{◌≡◌, ℕ, ◌<◌, ◌≤◌, pos, ◌≤ℤ◌, List}
 use Rattle.std.specs.Int.RustNames.{unsigned_abs}
-use Rattle.dg_chips.specs.Vector.{Vector}
-use Rattle.dg_reduce.specs.Effective.{IsEffectiveDivisor}
-use Rattle.dg_theory.specs.Firing.{Amounts, degree, IsEffective}
+use Rattle.dg_theory.specs.Firing.{Amounts, degree}
 use Rattle.dg_theory.specs.Multigraph.{Multigraph}
 use Rattle.dg_theory.specs.Play.{IsWinnable}
 use Rattle.dg_theory.specs.Rank.{less}
-use Rattle.dg_theory.specs.Reduced.{IsReduced}
 use Rattle.dg_rank.specs.Divisors.{amounts_of}
 use Rattle.dg_rank.specs.Numbering.{nth_trial}
 use Rattle.dg_rank.specs.declared.search_state.SearchState.{SearchState}
@@ -51,12 +43,3 @@ abbrev pub IsPartial : Multigraph → Amounts → ℕ → ℕ → ℕ → Search
 IsPartial g D k i j (Lost E) = IsFirstLossIn g D k i j E
 IsPartial g D k i j Won = AllWin g D k i j
 IsPartial g D k i j (Open m) = (m ≤ j) × AllWin g D k i m
-
-pub record IsLeft (g : Multigraph) (D : Amounts) (k i : ℕ) (E : List ℕ) (x : Vector) : Type 0 where
-  pub trial : E ≡ nth_trial g.size k i
-  pub form : IsEffectiveDivisor g (less D (amounts_of E)) x
-
-abbrev pub ReducedWin : Multigraph → Amounts → ℕ → ℕ → Amounts → Type 0
-ReducedWin g D k d E = (F : Amounts) → IsEffective g.size F → degree g.size F ≡ pos k →
-    IsReduced g (g.size - 1) F → ((v : ℕ) → v < d → F v ≡ E v) → (d + 1 < g.size → E d ≤ℤ F d) →
-    IsWinnable g (less D F)

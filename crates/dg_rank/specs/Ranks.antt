@@ -9,10 +9,17 @@
 --                             limits, since D passes all that come before one past them
 --   EitherNeedsTooMany g D == D or its residual needs too many rank tests
 --   RefusesBothRanks g D   == the residual of D is in range, and D or the residual needs too many rank tests
---   BothArePast g D k      == the rank test of degree k is past the limits, and so is that of the
---                             residual which passes if it passes
---   IsUntold g D k         == nothing tells whether the rank of D is at least k: its degree leaves
---                             that open, k is below the genus, and both tests are past the limits
+--   how_many n S           == how many of n vertices are in the set S
+--   IsAskedSet g A         == A is the determining set of g: what is left of all vertices if each, from the
+--                             first on, is left out where that can be
+--   IsPastAsked g k        == the trials of degree k that hold nothing outside this set are past the
+--                             limits
+--   IsOpen g D k           == no law of the degree tells whether the rank of D is at least k: k is at
+--                             most half the degree, and D less k dollars holds less than the genus
+--   BothArePast g D k      == the rank test of degree k is past the limits on this set, and so is that
+--                             of the residual which passes if it passes
+--   IsUntold g D k         == nothing tells whether the rank of D is at least k: that is open, and both
+--                             tests are past the limits
 --   TellsRankTest g D k result == the result is whether the rank of D is at least k; or it is
 --                             `TooMany`, exactly if nothing tells that
 --   NeedsPastTests g D     == D passes all rank tests before one that nothing tells
@@ -22,11 +29,13 @@
 --   IsRankFault n k w e    == a rank test with w workers is refused for this cause, and for no
 --                             earlier one, and never for want of memory; whether a thread really
 --                             did not start, no definition can say
-use Rattle.std.specs.Prelude.{◌≡◌, ℕ, ◌<◌, ◌≤◌, ◌⊎◌, ℤ, pos, ◌+ℤ◌, ◌-ℤ◌, ◌≤ℤ◌, ◌<ℤ◌, Bool, MatchBool, Result, Ok, Err}
+use Rattle.std.specs.Prelude.{if◌then◌else◌, nat_lt, ◌≡◌, ℕ, ◌<◌, ◌≤◌, ◌⊎◌, ℤ, pos, ◌+ℤ◌, ◌-ℤ◌, ◌≤ℤ◌, ◌<ℤ◌, Bool, MatchBool, Result, Ok, Err}
 use Rattle.dg_chips.specs.Vector.{IsInRange}
 use Rattle.dg_theory.specs.Firing.{Amounts, degree}
 use Rattle.dg_theory.specs.Multigraph.{Multigraph, genus}
+use Rattle.dg_theory.specs.Sums.{total_below}
 use Rattle.dg_theory.specs.Rank.{less, canonical, HasRankAtLeast, IsRank}
+use Rattle.dg_burn.specs.Special.{IsGreedy}
 use Rattle.dg_rank.specs.Limits.{IsWithinLimits, ArePastTrialLimits}
 use Rattle.dg_rank.specs.declared.rank_fault.RankFault.{RankFault}
 use Rattle.dg_rank.specs.declared.rank_fault.RankFault.TheVariants.{TooMany, Workers, OutOfMemory, Spawn}
@@ -61,15 +70,29 @@ pub record RefusesBothRanks (g : Multigraph) (D : Amounts) : Type 0 where
   pub in_range : IsInRange g.size (less (canonical g) D)
   pub either : EitherNeedsTooMany g D
 
+abbrev pub how_many : ℕ → (ℕ → Bool) → ℕ
+how_many n S = total_below n (λ v. if S v then 1 else 0)
+
+abbrev pub IsAskedSet : Multigraph → (ℕ → Bool) → Type 0
+IsAskedSet g A = IsGreedy g (λ v. nat_lt v g.size) A
+
+pub record IsPastAsked (g : Multigraph) (k : ℕ) : Type 0 where
+  pub set : ℕ → Bool
+  pub asked : IsAskedSet g set
+  pub past : ArePastTrialLimits (how_many g.size set) k
+
+pub record IsOpen (g : Multigraph) (D : Amounts) (k : ℕ) : Type 0 where
+  pub half : (pos k +ℤ pos k) ≤ℤ degree g.size D
+  pub most : degree g.size D <ℤ (genus g +ℤ pos k)
+
 pub record BothArePast (g : Multigraph) (D : Amounts) (k : ℕ) : Type 0 where
   pub other : ℕ
   pub dual : pos k -ℤ pos other ≡ (degree g.size D +ℤ pos 1) -ℤ genus g
-  pub past : ArePastTrialLimits g.size k
-  pub dual_past : ArePastTrialLimits g.size other
+  pub past : IsPastAsked g k
+  pub dual_past : IsPastAsked g other
 
 pub record IsUntold (g : Multigraph) (D : Amounts) (k : ℕ) : Type 0 where
-  pub unsettled : IsUnsettled g D k
-  pub below_genus : pos k <ℤ genus g
+  pub is_open : IsOpen g D k
   pub past : BothArePast g D k
 
 abbrev pub TellsRankTest : Multigraph → Amounts → ℕ → Result Bool RankFault → Type 0

@@ -4,21 +4,11 @@ ghost use Rattle.dg_rank.specs.Limits.{IsWithinLimits};
 ghost use Rattle.dg_rank.specs.Numbering.{trial_count, nth_trial};
 ghost use Rattle.dg_rank.specs.Trials.{IsTrial};
 ghost use Rattle.dg_rank.specs.Divisors.{HoldsTrial};
-ghost use Rattle.dg_rank.specs.Moves.{IsMoved};
 
 use crate::counting::{MAX_DEGREE, MAX_TRIALS, count};
 use dg_chips::Divisor;
 use dg_graph::MAX_VERTICES;
 use std::marker::Model;
-
-/// What is moved from a trial to the next one.
-#[derive(Clone, Copy)]
-pub struct Moved {
-    /// The place from which one dollar goes to the place before it.
-    pub place: usize,
-    /// How many dollars go from there to the last place.
-    pub others: u32,
-}
 
 /// A trial: an amount for each place, none of them a debt.
 #[derive(Drop)]
@@ -65,14 +55,15 @@ impl Trial {
         amounts[v] = amount;
     }
 
-    /// The same trial with a dollar more at a place.
-    pub(crate) fn with_more(self, v: usize) -> Trial
+    /// The same trial with so many dollars more at a place.
+    pub(crate) fn with_more(self, v: usize, dollars: u32) -> Trial
         requires place { v < length self }
         requires few { slice_index self v ≤ MAX_DEGREE }
-        ensures { result ≡ slice_set self v (slice_index self v + 1) }
+        requires dollars { dollars ≤ MAX_DEGREE }
+        ensures { result ≡ slice_set self v (slice_index self v + dollars) }
     {
         let mut more = self;
-        let amount = more.get(v) + 1;
+        let amount = more.get(v) + dollars;
         more.set(v, amount);
         more
     }
@@ -114,39 +105,18 @@ impl Trial {
         trial
     }
 
-    /// Goes from a trial to the next one, in place: of what lies at the last place that holds something, one dollar goes to
-    /// the place before it, and the others go to the last place. The condition is that there is a next one.
-    pub fn advance(&mut self) -> Moved
-        requires { (n : ℕ) × (k : ℕ) × (c : ℕ) × (i : ℕ) × IsWithinLimits n k c ×
-            (i + 1 < c) × (self.old ≡ nth_trial n k i) }
-        ensures next { (n k c i : ℕ) → IsWithinLimits n k c → i + 1 < c →
-            self.old ≡ nth_trial n k i → self.new ≡ nth_trial n k (i + 1) }
-        ensures moved { IsMoved self.old self.new result }
+    /// The trial that holds before a place what this one does, and from there on what another does.
+    pub(crate) fn then(self, place: usize, later: &Trial) -> Trial
+        requires sizes { length later.now ≡ length self }
+        ensures places { length result ≡ length self }
+        ensures before { (v : ℕ) → v < place → slice_index result v ≡ slice_index self v }
+        ensures after { (v : ℕ) → place ≤ v → v < length self → slice_index result v ≡ slice_index later.now v }
     {
-        let last = self.size() - 1;
-        let place = self.last_held();
-        let before = place - 1;
-        let others = self.get(place) - 1;
-        let more = self.get(before) + 1;
-        self.set(place, 0);
-        self.set(before, more);
-        self.set(last, others);
-        Moved { place, others }
-    }
-
-    /// The last place that holds something, or the first place where no other does.
-    fn last_held(&self) -> usize
-        requires { 0 < length self.now }
-        ensures within { result < length self.now }
-        ensures held { 0 < result → 0 < slice_index self.now result }
-        ensures after { (u : ℕ) → result < u → slice_index self.now u ≡ 0 }
-    {
-        for place in (1..self.size()).rev() {
-            if self.get(place) > 0 {
-                return place;
-            }
+        let mut whole = self;
+        for v in place..later.size() {
+            whole.set(v, later.get(v));
         }
-        0
+        whole
     }
 
     /// A trial as a divisor.

@@ -2,18 +2,18 @@
 //! threads of `rank_with`.
 #![tactic(auto)]
 
+mod asked;
+mod beginnings;
+mod boxes;
 mod counting;
 mod duals;
 mod enumeration;
 mod first_loss;
-mod late_losses;
 mod laws;
 mod numbers;
-mod passed;
 mod pieces;
 mod rank_fault;
 mod ranks;
-mod reduced_trials;
 mod search_state;
 mod workers;
 

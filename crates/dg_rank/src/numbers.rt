@@ -21,8 +21,9 @@ pub fn rank(graph: &Graph, q: usize, divisor: &Divisor) -> Option<i64>
         (NeedsTooMany graph.now (at divisor.now))
         (IsRankInLimits graph.now (at divisor.now)) }
 {
+    let size = graph.size();
     let fails = first_failing(graph, &InverseLaplacian::new(graph, 0), divisor)?;
-    trials(graph.size(), fails)?;
+    trials(size, fails)?;
     Some(i64::from(fails) - 1)
 }
 
@@ -67,10 +68,11 @@ pub fn both_ranks_in_limits(graph: &Graph, q: usize, divisor: &Divisor) -> Optio
         (EitherNeedsTooMany graph.now (at divisor.now))
         (AreRanksInLimits graph.now (at divisor.now)) }
 {
+    let size = graph.size();
     let fails = first_failing(graph, &InverseLaplacian::new(graph, 0), divisor)?;
     let dual_fails = first_failing_of_dual(graph, divisor, fails);
-    trials(graph.size(), fails)?;
-    trials(graph.size(), dual_fails)?;
+    trials(size, fails)?;
+    trials(size, dual_fails)?;
     Some((i64::from(fails) - 1, i64::from(dual_fails) - 1))
 }
 
@@ -84,11 +86,12 @@ fn first_failing(graph: &Graph, inverse: &InverseLaplacian, divisor: &Divisor) -
         (λ k. FailsFirstAt graph.now (at divisor.now) k × (¬ NeedsPastTests graph.now (at divisor.now))) }
 {
     let _size = graph.size();
-    // A divisor passes all tests for which it is rich, and from the genus on no others.
+    // A divisor passes all tests for which it is rich. It fails the first other one past half its degree, at the genus at last.
     let first = ranks_apart(graph, divisor).max(0);
     let end = first.max(i64::from(graph.genus())) + 1;
+    let mut made = [0; 16];
     for k in first as u32..end as u32 {
-        match passes(graph, inverse, divisor, k) {
+        match passes(graph, inverse, &mut made, divisor, k) {
             Ok(true) => {}
             Ok(false) => return Some(k),
             Err(_) => return None,

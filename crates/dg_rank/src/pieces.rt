@@ -60,6 +60,7 @@ pub(crate) fn first_loss_among<R: Threads + Wait, G: Gate>(
         Ok(SearchState::Open(from)) => Ok(first_loss(
             &search.graph,
             &InverseLaplacian::new(&search.graph, 0),
+            &mut [0; 16],
             &search.chips,
             search.k,
             from,
@@ -156,13 +157,22 @@ fn search_trials(search: &Search, lost: &AtomicU32, piece: u32) -> SearchState
         return SearchState::Won;
     }
     let inverse = InverseLaplacian::new(&search.graph, 0);
+    let mut made = [0; 16];
     let mut from = start;
     while from < end {
         if lost.load(Ordering::SeqCst) < piece {
             return SearchState::Open(from);
         }
         let to = end.min(from + FIRST_LOOK.max(from - start));
-        let loss = first_loss(&search.graph, &inverse, &search.chips, search.k, from, to);
+        let loss = first_loss(
+            &search.graph,
+            &inverse,
+            &mut made,
+            &search.chips,
+            search.k,
+            from,
+            to,
+        );
         if let Some(trial) = loss {
             lost.fetch_min(piece, Ordering::SeqCst);
             return SearchState::Lost(trial);

@@ -2,6 +2,7 @@
 ghost use Rattle.std.specs.Prelude.{◌≡◌, ℕ, ◌<◌, ◌≤◌, ⊤, MatchOption};
 ghost use Rattle.dg_theory.specs.Multigraph.{Multigraph};
 ghost use Rattle.dg_theory.specs.Firing.{Amounts, AreEquivalent};
+ghost use Rattle.dg_theory.specs.Reduced.{IsReduced};
 ghost use Rattle.dg_chips.specs.Vector.{at};
 ghost use Rattle.dg_rank.specs.Limits.{IsWithinLimits};
 ghost use Rattle.dg_rank.specs.Trials.{IsTrial};
@@ -10,8 +11,9 @@ ghost use Rattle.dg_verdict.specs.RankTests.{IsRankTest};
 ghost use Rattle.dg_rank.specs.Ladders.{AnswersRankTest};
 ghost use Rattle.dg_rank.specs.Ranks.{IsWithin, IsUnsettled};
 
+use crate::beginnings::first_loss_by_boxes;
 use crate::counting::trials;
-use crate::duals::{degree_left, loss_after, search_cheaply};
+use crate::duals::{degree_left, dual_wins};
 use crate::enumeration::Trial;
 use crate::rank_fault::RankFault;
 use dg_chips::{Divisor, Wide};
@@ -35,14 +37,14 @@ pub fn rank_at_least(
     ensures { AnswersRankTest graph.now (at divisor.now) k result }
 {
     let size = graph.size();
-    let Some(count) = trials(size, k) else {
+    let Some(_count) = trials(size, k) else {
         return Err(RankFault::TooMany);
     };
     if let Some(verdict) = settled(graph, divisor, k) {
         return Ok(verdict);
     }
     let inverse = InverseLaplacian::new(graph, 0);
-    Ok(tested(graph, &inverse, divisor, k, count))
+    Ok(tested(graph, &inverse, divisor, k))
 }
 
 /// The rank test as `rank_at_least` makes it, by an inverse of the graph's Laplacian that many tests share. The answer is
@@ -60,33 +62,32 @@ pub fn rank_at_least_by(
     ensures { AnswersRankTest graph.now (at divisor.now) k result }
 {
     let size = graph.size();
-    let Some(count) = trials(size, k) else {
+    let Some(_count) = trials(size, k) else {
         return Err(RankFault::TooMany);
     };
     if let Some(verdict) = settled(graph, divisor, k) {
         return Ok(verdict);
     }
-    Ok(tested(graph, inverse, divisor, k, count))
+    Ok(tested(graph, inverse, divisor, k))
 }
 
-/// The answer of a rank test that the degree does not settle, by its trials, of which there are `count`.
-fn tested(
-    graph: &Graph,
-    inverse: &InverseLaplacian,
-    divisor: &Divisor,
-    k: u32,
-    count: u32,
-) -> RankVerdict
+/// The answer of a rank test that the degree does not settle.
+fn tested(graph: &Graph, inverse: &InverseLaplacian, divisor: &Divisor, k: u32) -> RankVerdict
     requires size { divisor.now.size ≡ graph.now.size }
-    requires limits { IsWithinLimits graph.now.size k count }
+    requires limits { IsWithin graph.now.size k }
     requires unsettled { IsUnsettled graph.now (at divisor.now) k }
     ensures { IsRankTest graph.now (at divisor.now) k result }
 {
     let _size = graph.size();
+    let mut made = [0; 16];
+    if dual_wins(graph, inverse, &mut made, divisor, k) {
+        return RankVerdict::AtLeast(k);
+    }
     let chips = small_amounts(graph, inverse, divisor, k);
-    let told = search_cheaply(graph, inverse, divisor, &chips, k, count, count / 2);
-    let loss = loss_after(graph, inverse, &chips, k, count, told);
-    verdict_on(k, loss)
+    match first_loss_by_boxes(graph, &mut made, &chips, k) {
+        Some(loss) => RankVerdict::Below(k, loss.to_divisor()),
+        None => RankVerdict::AtLeast(k),
+    }
 }
 
 /// The amounts that are reduced for the first vertex and that a divisor can be fired to, if the degree does not settle its
@@ -103,6 +104,7 @@ pub(crate) fn small_amounts(
     ensures size { result.size ≡ graph.now.size }
     ensures fired { AreEquivalent graph.now (at divisor.now) (at result) }
     ensures small { AreSmallForTrials graph.now.size (at result) }
+    ensures reduced { IsReduced graph.now 0 (at result) }
 {
     let _size = graph.size();
     // The clause of `size` says that the amounts are within their limit.

@@ -6,11 +6,9 @@ ghost use Rattle.dg_rank.specs.Ranks.{IsWithin, IsRankFault, MayHaveWorkers};
 ghost use Rattle.dg_rank.specs.declared.rank_fault.RankFault.TheVariants.{Spawn};
 
 use crate::counting::trials;
-use crate::duals::search_cheaply;
 use crate::pieces::{Search, first_loss_among};
 use crate::rank_fault::RankFault;
 use crate::ranks::{settled, small_amounts, verdict_on};
-use crate::search_state::SearchState;
 use dg_chips::{Divisor, Wide};
 use dg_graph::Graph;
 use dg_reduce::InverseLaplacian;
@@ -43,7 +41,7 @@ impl Gate for OpenGate {
 ///
 /// What no clause says, and only tests show: the trials are shared in as many pieces as there are workers. Each piece has a
 /// thread of its own, which enters the gate once, with the piece's number, from 0 on, before its first trial, also if it has
-/// none to make: the degree, or a few trials and those of the residual, made before any thread starts, may have told the answer.
+/// none to make: the degree may have told the answer before any thread starts.
 /// After `TooMany` and `Workers` no gate was entered, and after `Spawn` the threads that were started have ended.
 pub fn rank_with<R: Threads + Wait, G: Gate>(
     rt: &R,
@@ -73,27 +71,16 @@ pub fn rank_with<R: Threads + Wait, G: Gate>(
     }
     let inverse = InverseLaplacian::new(graph, 0);
     let chips = small_amounts(graph, &inverse, divisor, k);
-    // The first trials and the dual's are made before there are threads to share the rest.
-    let most = count / (2 * workers);
-    match search_cheaply(graph, &inverse, divisor, &chips, k, count, most) {
-        SearchState::Lost(trial) => {
-            let verdict = verdict_on(k, Some(trial));
-            after_the_gate(rt, graph, k, workers, gate, verdict)
-        }
-        SearchState::Won => after_the_gate(rt, graph, k, workers, gate, RankVerdict::AtLeast(k)),
-        SearchState::Open(_) => {
-            let search = Search {
-                graph: *graph,
-                chips,
-                k,
-                count,
-                workers,
-            };
-            match first_loss_among(rt, &search, gate) {
-                Ok(loss) => Ok(verdict_on(k, loss)),
-                Err(fault) => Err(fault),
-            }
-        }
+    let search = Search {
+        graph: *graph,
+        chips,
+        k,
+        count,
+        workers,
+    };
+    match first_loss_among(rt, &search, gate) {
+        Ok(loss) => Ok(verdict_on(k, loss)),
+        Err(fault) => Err(fault),
     }
 }
 

@@ -1,4 +1,5 @@
 -- The names that the proofs of this crate cite, passed on from one place. Declares nothing.
+pub use Rattle.dg_burn.specs.Special.{AllHang, IsSpecialFrom, only}
 pub use Rattle.dg_chips.specs.DivisorFaults.{IsFirstChipFault}
 pub use Rattle.dg_chips.specs.Starts.{IsStart, StartData}
 pub use Rattle.dg_chips.specs.Vector.{HoldsNumbers, IsDivisor, Vector, at}
@@ -23,9 +24,10 @@ unfoldable pub use Rattle.dg_lines.specs.Cuts.{after, before}
 pub use Rattle.dg_lines.specs.Judgements.{IsJudgement, burning_text, judgement_text}
 pub use Rattle.dg_lines.specs.Streams.{Begins, HasNoNewline, LinesHaveCome, last_line, with_newline}
 pub use Rattle.dg_lines.specs.Texts.{pair, rank_text, verdict_text, verdict_word}
+pub use Rattle.dg_rank.proofs.AskedVertices.{asked_within}
 pub use Rattle.dg_rank.proofs.Numbering.{past_within}
 pub use Rattle.dg_rank.specs.Limits.{ArePastTrialLimits}
-pub use Rattle.dg_rank.specs.Ranks.{IsUntold, IsWithin, NeedsPastTests}
+pub use Rattle.dg_rank.specs.Ranks.{IsPastAsked, IsUntold, IsWithin, NeedsPastTests}
 pub use Rattle.dg_sweep.specs.AnswerLaws.{AmountsHaveOneAnswer, AmountLinesHaveOneMeaning, TablesHaveOneAnswer}
 pub use Rattle.dg_sweep.specs.Answers.{AnswersLine, AnswersRankLine, AnswersTable, AnswersTableWithin, AreRanks, AreUntested, IsBelow, IsRefused, IsTested, answer_number, degree_and_genus_words, refusal_line}
 pub use Rattle.dg_sweep.specs.DivisorLaws.{with_amounts_of_line}
@@ -48,8 +50,9 @@ pub use Rattle.dg_theory.proofs.RankNumbers.{rank_once}
 pub use Rattle.dg_theory.proofs.ReducedLaws.{reduced_once}
 pub use Rattle.dg_theory.proofs.Winning.{winnable_by_script}
 pub use Rattle.dg_theory.specs.Burning.{BurnsAll, BurnsInOrder, BurnsNext, MayBurn, among, edges_into}
+pub use Rattle.dg_theory.specs.Determining.{HangsLoosely, IsConnectedSet, beside}
 pub use Rattle.dg_theory.specs.Firing.{AgreeOn, Amounts, FiresTo, IsEffective, degree, fired}
-pub use Rattle.dg_theory.specs.Multigraph.{IsMultigraph, Multigraph, edges_between, entry, genus}
+pub use Rattle.dg_theory.specs.Multigraph.{IsMultigraph, JoinedIn, Multigraph, edges_between, entry, genus}
 pub use Rattle.dg_theory.specs.Play.{IsWinnable}
 pub use Rattle.dg_theory.specs.Rank.{HasRankAtLeast, IsRank, canonical, less}
 pub use Rattle.dg_theory.specs.Reduced.{IsReduced}
@@ -76,5 +79,5 @@ pub use Rattle.std.proofs.lemmas.Str.Parse.{digit_from_value}
 pub use Rattle.std.specs.Fmt.{signed_decimal}
 pub use Rattle.std.specs.Io.KnownBytes.{Appends, Consumes, IsAtEnd, Keeps}
 pub use Rattle.std.specs.Option.{option_copied}
-pub use Rattle.std.specs.Prelude.{Some, decimal, slice_get, ◌<ℤ◌, ◌↔◌}
+pub use Rattle.std.specs.Prelude.{Some, min, ◌&&◌, decimal, slice_get, ◌<ℤ◌, ◌↔◌}
 pub use Rattle.std.specs.Str.Parse.{AllDigits}

@@ -6,7 +6,7 @@
 --   tested_on       a right rank test
 --   rank_on, is_rank_on   the rank
 --   untold_on, needs_on   what nothing tells
-use Rattle.dg_sweep.proofs.Common.{if◌then◌else◌, ◌≡◌, ℕ, suc, ◌+◌, List, subst, sym, ap, ◌∙◌, Bool, fun_ext, ◌+ℤ◌, ◌-ℤ◌, ◌*ℤ◌, ◌<ℤ◌, sum_below, total_below, Multigraph, entry, edges_between, genus, Amounts, IsEffective, FiresTo, fired, degree, IsWinnable, IsReduced, among, MayBurn, BurnsAll, BurnsInOrder, less, canonical, HasRankAtLeast, IsRank, winnable_by_script, at, IsRight, IsVerdictOn, IsRankTest, Verdict, RankVerdict, AtLeast, Below, IsUntold, NeedsPastTests}
+use Rattle.dg_sweep.proofs.Common.{if◌then◌else◌, ◌≡◌, ℕ, suc, ◌+◌, ◌≤◌, ◌&&◌, min, List, subst, sym, ap, ◌∙◌, Bool, fun_ext, ◌+ℤ◌, ◌-ℤ◌, ◌*ℤ◌, ◌<ℤ◌, sum_below, total_below, Multigraph, entry, edges_between, genus, Amounts, IsEffective, FiresTo, fired, degree, IsWinnable, IsReduced, among, MayBurn, BurnsAll, BurnsInOrder, less, canonical, HasRankAtLeast, IsRank, winnable_by_script, at, IsRight, IsVerdictOn, IsRankTest, Verdict, RankVerdict, AtLeast, Below, IsUntold, NeedsPastTests, IsPastAsked, JoinedIn, IsConnectedSet, HangsLoosely, beside, AllHang, IsSpecialFrom, only}
 use Rattle.std.proofs.Math.IntN.{ℤ, pos, negsuc}
 use Rattle.std.specs.Prelude.{take}
 
@@ -73,6 +73,28 @@ module _ (n : ℕ) (t u : List (List ℕ)) (same : (v w : ℕ) → entry t v w �
     all = all.all;
   }
 
+  connected : (S : ℕ → Bool) → IsConnectedSet one S → IsConnectedSet other S
+  connected S is = record {
+    vertices = is.vertices;
+    joined = λ v w from to.
+        subst (λ (e : ℕ → ℕ → ℕ). JoinedIn n (λ x y. if S x && S y then e x y else 0) v w) edges (is.joined v w from to);
+  }
+
+  hangs : (S X : ℕ → Bool) → HangsLoosely one S X → HangsLoosely other S X
+  hangs S X is = record {
+    vertices = is.vertices;
+    some = is.some;
+    apart = is.apart;
+    closed = λ v w inside outside off. sym (same v w) ∙ is.closed v w inside outside off;
+    loose = λ v inside.
+        subst (λ (e : ℕ → ℕ → ℕ). total_below n (λ w. if S w then e v w else 0) ≤ 1) edges (is.loose v inside);
+  }
+
+  beside_same : (S : ℕ → Bool) → beside one S ≡ beside other S
+  beside_same S =
+      ap {B = Amounts} (λ (e : ℕ → ℕ → ℕ) (v : ℕ).
+      if S v then pos 0 else pos (min 1 (total_below n (λ w. if S w then e v w else 0)))) edges
+
   rank : (D : Amounts) (k : ℕ) → HasRankAtLeast one D k → HasRankAtLeast other D k
   rank D k passes E effective of_degree = win (less D E) (passes E effective of_degree)
 
@@ -131,20 +153,45 @@ module _ (n : ℕ) (t u : List (List ℕ)) (same : (v w : ℕ) → entry t v w �
   is_rank D (pos k) (passes, fails) = (rank n t u same D k passes, λ more. fails (rank n u t back D (k + 1) more))
   is_rank D (negsuc k) (least, fails) = (least, λ more. fails (rank n u t back D 0 more))
 
+  all_hang : (S E : ℕ → Bool) → AllHang (one n t u same) S E → AllHang (other n t u same) S E
+  all_hang S E all T is part off =
+      let (X, loose) = all T (connected n u t back T is) part off in
+      (X, hangs n t u same T X loose)
+
+  special : (q : ℕ) (S E : ℕ → Bool) → IsSpecialFrom (one n t u same) q S E → IsSpecialFrom (other n t u same) q S E
+  special q S E is = record {
+    set = is.set;
+    connected = connected n t u same is.set is.connected;
+    part = is.part;
+    off = is.off;
+    reduced = subst (λ (D : Amounts). IsReduced (other n t u same) q D) (beside_same n t u same is.set)
+        (reduced n t u same q (beside (one n t u same) is.set) is.reduced);
+  }
+
+  past_asked : (k : ℕ) → IsPastAsked (one n t u same) k → IsPastAsked (other n t u same) k
+  past_asked k is = record {
+    set = is.set;
+    asked = record {
+      part = is.asked.part;
+      left_out = λ v member off. all_hang (only v) _ (is.asked.left_out v member off);
+      kept = λ v member. special v (only v) _ (is.asked.kept v member);
+    };
+    past = is.past;
+  }
+
   untold : (D : Amounts) (k : ℕ) → IsUntold (one n t u same) D k → IsUntold (other n t u same) D k
   untold D k is =
       let alike = genus_same n t u same in
       record {
-        unsettled = record {
-          least = is.unsettled.least;
-          most = subst (λ (z : ℤ). degree n D <ℤ (z +ℤ pos k)) alike is.unsettled.most;
+        is_open = record {
+          half = is.is_open.half;
+          most = subst (λ (z : ℤ). degree n D <ℤ (z +ℤ pos k)) alike is.is_open.most;
         };
-        below_genus = subst (λ (z : ℤ). pos k <ℤ z) alike is.below_genus;
         past = record {
           other = is.past.other;
           dual = is.past.dual ∙ ap (λ (z : ℤ). (degree n D +ℤ pos 1) -ℤ z) alike;
-          past = is.past.past;
-          dual_past = is.past.dual_past;
+          past = past_asked k is.past.past;
+          dual_past = past_asked is.past.other is.past.dual_past;
         };
       }
 

@@ -1,8 +1,10 @@
 -- The names that the proofs of this crate cite, passed on from one place. Declares nothing.
 pub use Rattle.dg_theory.specs.Burning.{BurnsInOrder, FiresFreely, MayBurn, among, edges_into}
 pub use Rattle.dg_theory.specs.BurningLaws.{BurnsToReduced, BurntIsReduced, GreatestIsOne, UnburntFires, unburnt_by}
+pub use Rattle.dg_theory.specs.Determining.{Bears, HangsLoosely, IsConnectedSet, IsNoneOff, MeetsSpecialSets, beside, edges_within}
+pub use Rattle.dg_theory.specs.DeterminingLaws.{ConnectedGrows, DeterminesLosses, DeterminesRank, SpecialIsReduced}
 pub use Rattle.dg_theory.specs.Distances.{IsDistance}
-pub use Rattle.dg_theory.specs.DualityLaws.{Clifford, DualTests, HighRank, LossOfDual, RankExists, RankOfDual, RankOfSum, RankOnce, RiemannRoch}
+pub use Rattle.dg_theory.specs.DualityLaws.{Clifford, DualTests, HalfOfDegree, HighRank, LossOfDual, RankExists, RankOfDual, RankOfSum, RankOnce, RiemannRoch}
 pub use Rattle.dg_theory.specs.EquivalenceLaws.{EquivalenceIsReflexive, EquivalenceIsSymmetric, EquivalenceIsTransitive, EquivalentByPlays, EquivalentDegrees}
 pub use Rattle.dg_theory.specs.ExistenceLaws.{ReducedExists, RichIsWinnable}
 pub use Rattle.dg_theory.specs.Firing.{AgreeOn, Amounts, AreEquivalent, FiresTo, HasNoDebtOff, IsEffective, degree, fired, gain, indicator, multiple, only_at}

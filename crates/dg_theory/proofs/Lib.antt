@@ -64,4 +64,9 @@ pub mod DualityLaws
 pub mod RankNumbers
 pub mod RankSums
 pub mod RankExists
+-- Sets of vertices that determine a rank.
+pub mod Components
+pub mod Special
+pub mod Spreading
+pub mod Determining
 pub mod Common

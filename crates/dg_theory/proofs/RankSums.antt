@@ -5,7 +5,9 @@
 --   rank_of_sum       the rank of a sum is at least the sum of the ranks, where neither is -1
 --   canonical_below   the rank of the canonical divisor is less than the genus
 --   clifford          where the residual is winnable, the rank is at most half of the degree
-use Rattle.dg_theory.proofs.Common.{◌≡◌, ℕ, zero, suc, ◌+◌, ◌<◌, true, false, arith, refl, ⊎_elim, ◌≤ℤ◌, ◌<ℤ◌, cases_eq, ints, by_lt_z, ℤ, pos, ◌+ℤ◌, ◌-ℤ◌, Multigraph, IsMultigraph, genus, Amounts, degree, only_at, IsEffective, IsWinnable, less, canonical, HasRankAtLeast, RankOfSum, Clifford}
+--   rank_down         a rank of at least k is one of at least 0
+--   half_of_degree    so a rank test of more than half of the degree passes for rich divisors only
+use Rattle.dg_theory.proofs.Common.{◌≡◌, ℕ, zero, suc, ◌+◌, ◌<◌, inl, inr, true, false, arith, refl, subst, ⊎_elim, ◌≤ℤ◌, ◌<ℤ◌, cases_eq, ints, by_lt_z, ℤ, pos, ◌+ℤ◌, ◌-ℤ◌, Multigraph, IsMultigraph, genus, Amounts, degree, only_at, IsEffective, IsWinnable, less, canonical, HasRankAtLeast, RankOfSum, Clifford, HalfOfDegree}
 use Rattle.dg_theory.proofs.SumLaws.{sum_below-add, sum_below-zero}
 use Rattle.dg_theory.proofs.SumBounds.{sum_below-nonpos}
 use Rattle.dg_theory.proofs.FiringLaws.{fired-fired}
@@ -15,7 +17,7 @@ use Rattle.dg_theory.proofs.Levels.{level, level_in, level_off}
 use Rattle.dg_theory.proofs.Counting.{member_or_none}
 use Rattle.dg_theory.proofs.Giving.{win_more, degree-less, degree-only_at, effective-only_at}
 use Rattle.dg_theory.proofs.Equivalence.{equivalent-refl}
-use Rattle.dg_theory.proofs.RankLaws.{equivalent-rank}
+use Rattle.dg_theory.proofs.RankLaws.{equivalent-rank, rank_below}
 use Rattle.dg_theory.proofs.OrderDegrees.{canonical-degree}
 use Rattle.dg_theory.proofs.DualityLaws.{IsDual, dual_tests, natural, high_rank}
 
@@ -103,3 +105,19 @@ clifford g D k graph some rank special =
     let (l, same) = natural apart above in
     let dual : IsDual g D k l = omega (arith, ints) in
     omega (arith, ints, shared g D k l graph some rank ((dual_tests g D k l graph some dual).0 rank)))
+
+rank_down : (g : Multigraph) (D : Amounts) (k : ℕ) → HasRankAtLeast g D k → HasRankAtLeast g D 0
+rank_down g D zero rank = rank
+rank_down g D (suc k) rank =
+    let more : suc k ≡ k + 1 = omega arith in
+    rank_down g D k (rank_below g D k (subst (HasRankAtLeast g D) more rank))
+
+pub half_of_degree : HalfOfDegree
+half_of_degree g D k graph some rank =
+    by_lt_z (degree g.size D) (genus g +ℤ pos k)
+    (λ (poor : degree g.size D <ℤ (genus g +ℤ pos k)).
+    let (l, same) = natural (((pos k +ℤ genus g) -ℤ pos 1) -ℤ degree g.size D) (omega (arith, ints)) in
+    let dual : IsDual g D k l = omega (arith, ints) in
+    inl (clifford g D k graph some rank
+    (rank_down g (less (canonical g) D) l ((dual_tests g D k l graph some dual).0 rank))))
+    (λ (rich : (genus g +ℤ pos k) ≤ℤ degree g.size D). inr rich)

@@ -16,7 +16,9 @@
 --                   2.1)
 --   Clifford     == if the ranks of D and of its residual are at least 0, that of D is at most half of
 --                   its degree (Clifford's theorem, corollary 3.5)
-use Rattle.std.specs.Prelude.{◌≡◌, ℕ, ◌+◌, ◌<◌, ◌↔◌, ℤ, pos, ◌+ℤ◌, ◌-ℤ◌, ◌≤ℤ◌}
+--   HalfOfDegree == a divisor with a rank of at least k has a degree of at least 2 k, or one of at
+--                   least the genus and k more
+use Rattle.std.specs.Prelude.{◌≡◌, ℕ, ◌+◌, ◌<◌, ◌↔◌, ◌⊎◌, ℤ, pos, ◌+ℤ◌, ◌-ℤ◌, ◌≤ℤ◌}
 use Rattle.dg_theory.specs.Multigraph.{Multigraph, IsMultigraph, genus}
 use Rattle.dg_theory.specs.Firing.{Amounts, degree, IsEffective}
 use Rattle.dg_theory.specs.Play.{IsWinnable}
@@ -62,3 +64,8 @@ abbrev pub Clifford : Type 0
 Clifford = (g : Multigraph) (D : Amounts) (k : ℕ) → IsMultigraph g → 0 < g.size →
     HasRankAtLeast g D k →
     HasRankAtLeast g (less (canonical g) D) 0 → (pos k +ℤ pos k) ≤ℤ degree g.size D
+
+abbrev pub HalfOfDegree : Type 0
+HalfOfDegree = (g : Multigraph) (D : Amounts) (k : ℕ) → IsMultigraph g → 0 < g.size →
+    HasRankAtLeast g D k →
+    ((pos k +ℤ pos k) ≤ℤ degree g.size D) ⊎ ((genus g +ℤ pos k) ≤ℤ degree g.size D)

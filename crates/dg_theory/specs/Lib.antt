@@ -6,6 +6,7 @@ pub mod Play
 pub mod Reduced
 pub mod Burning
 pub mod Rank
+pub mod Determining
 pub mod Joins
 -- The laws, which are proved.
 pub mod FiringLaws
@@ -17,5 +18,6 @@ pub mod ExistenceLaws
 pub mod RankLaws
 pub mod JoinLaws
 pub mod DualityLaws
+pub mod DeterminingLaws
 -- For the proofs of other crates.
 pub mod Distances

@@ -8,7 +8,8 @@ ghost use Rattle.dg_theory.specs.BurningLaws.{UnburntFires, GreatestIsOne, Burnt
 ghost use Rattle.dg_theory.specs.ExistenceLaws.{ReducedExists, RichIsWinnable};
 ghost use Rattle.dg_theory.specs.JoinLaws.{EdgeIsAdded, JoinedIsMultigraph, ValenceGrows, EdgeKeepsSize};
 ghost use Rattle.dg_theory.specs.RankLaws.{EquivalentRank, EquivalentLoss, RankBelow, RankZero, RichRank, PoorRank, LossOnce, LossBoundsRank};
-ghost use Rattle.dg_theory.specs.DualityLaws.{RiemannRoch, RankOfDual, DualTests, LossOfDual, HighRank, RankExists, RankOnce, RankOfSum, Clifford};
+ghost use Rattle.dg_theory.specs.DualityLaws.{RiemannRoch, RankOfDual, DualTests, LossOfDual, HighRank, RankExists, RankOnce, RankOfSum, Clifford, HalfOfDegree};
+ghost use Rattle.dg_theory.specs.DeterminingLaws.{DeterminesLosses, DeterminesRank, SpecialIsReduced, ConnectedGrows};
 
 /// Firing by one script and then by another is firing by their sum, and keeps the degree. A constant script changes
 /// nothing; two scripts do the same exactly if they differ by a constant.
@@ -95,7 +96,7 @@ pub fn laws_of_joining()
 /// other does, at degrees that differ by as much; and a loss that one can't bear shows that the other can't bear all. From
 /// the genus on, only rich divisors pass. Every divisor has a rank, and just one; that of a sum is at least the sum of the
 /// ranks, if neither is -1; and by Clifford's theorem it is at most half of the degree, if neither it nor the rank of the
-/// residual is -1.
+/// residual is -1. So no test of more than half of the degree passes but of a rich divisor.
 pub fn laws_of_duality()
     ensures ranks { RiemannRoch }
     ensures dual { RankOfDual }
@@ -106,4 +107,17 @@ pub fn laws_of_duality()
     ensures once { RankOnce }
     ensures sum { RankOfSum }
     ensures clifford { Clifford }
+    ensures half { HalfOfDegree }
+{}
+
+/// Where it is enough to try a rank test. A connected set of vertices is special if nothing hangs loosely on it, and a set
+/// that meets each special set is rank-determining: a divisor that can bear each loss of k dollars within it has a rank of at
+/// least k. The same for the losses within any set, and so for the first loss: only the special sets that this one meets
+/// count. Burning tells whether a set is special: a dollar at each vertex beside it is then reduced. From a part of a
+/// connected set an edge leads to what else is in the set, and so all connected sets can be tried.
+pub fn laws_of_determining_sets()
+    ensures losses { DeterminesLosses }
+    ensures rank { DeterminesRank }
+    ensures special { SpecialIsReduced }
+    ensures grows { ConnectedGrows }
 {}

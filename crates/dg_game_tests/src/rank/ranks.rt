@@ -75,14 +75,14 @@ fn ranks_on_four_are_those_of_the_plain_way(rt: HostRuntime) -> Result<(), Fail>
     Ok(())
 }
 
-// The complete graph of eight vertices.
-fn complete() -> Result<Graph, Fail> {
+// Eight vertices with so many edges between each two.
+fn complete(between: u8) -> Result<Graph, Fail> {
     let mut edges = [(0, 0, 1); 28];
     let mut count = 0;
     for v in 0..8 {
         for u in 0..v {
             if count < 28 {
-                edges[count] = (u, v, 1);
+                edges[count] = (u, v, between);
                 count += 1;
             }
         }
@@ -95,7 +95,7 @@ fn complete() -> Result<Graph, Fail> {
 // tests within the limits of these divisors themselves tell that.
 #[test]
 fn ranks_past_the_limits(rt: HostRuntime) -> Result<(), Fail> {
-    let eight = complete()?;
+    let eight = complete(1)?;
     is_past_the_limits(&rt, &eight, &Divisor::canonical(&eight), 20, 0)?;
     let triangle = Graph::new(3, TRIANGLE)?;
     let rich = Divisor::new(&triangle, &[999_999, 0, 0])?;
@@ -119,11 +119,12 @@ fn is_past_the_limits(
     Ok(())
 }
 
-// Of degree g - 1 both tests have the same degree: 16 has 245,157 trials on eight vertices.
+// Of degree g - 1 both tests have the same degree. With two edges between each two of eight vertices all are asked: no vertex
+// has just one edge to another. So 16, a third of the degree, has 245,157 trials.
 #[test]
 fn too_many_trials_of_both(rt: HostRuntime) -> Result<(), Fail> {
-    let eight = complete()?;
-    let middle = Divisor::new(&eight, &[20, 0, 0, 0, 0, 0, 0, 0])?;
+    let eight = complete(2)?;
+    let middle = Divisor::new(&eight, &[48, 0, 0, 0, 0, 0, 0, 0])?;
     assert!(rt; has_rank(&eight, 0, &middle, 16) == Err(RankFault::TooMany));
     Ok(())
 }

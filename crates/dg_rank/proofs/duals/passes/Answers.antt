@@ -1,11 +1,10 @@
-use Rattle.dg_rank.proofs.Common.{◌≡◌, ◌<◌, arith, refl, ◌≤ℤ◌, ◌<ℤ◌, min, ints, pos, ◌-ℤ◌, genus, degree, equivalent-refl, rich_rank, poor_rank, equivalent-rank, high_rank, at, ArePastTrialLimits, IsWithin}
+use Rattle.dg_rank.proofs.Common.{◌≡◌, ◌<◌, arith, refl, ◌≤ℤ◌, ◌<ℤ◌, min, ints, pos, ◌-ℤ◌, genus, degree, equivalent-refl, rich_rank, equivalent-rank, at, IsPastAsked}
 use Rattle.std.proofs.Math.IntN.{◌+ℤ◌}
-use Rattle.dg_rank.proofs.DualTests.{decided, unsettled-cong, unsettled_dual, dual_passes, both_past, told_rich, told_poor, told_high, told_within}
-use Rattle.dg_rank.proofs.duals.passes.Goals.{then-rest-lt0-via-then-rest-lt0, then-rest-lt0-via-else-rest-lt0+then-from-genus}
+use Rattle.dg_rank.proofs.DualTests.{decided, unsettled-cong, unsettled_dual, dual_passes, both_past, told_rich, told_past_half, told_within, fails_past_half}
 use Rattle.dg_rank.proofs.duals.passes.Goals as goal
 
-pub returns-then-rest-genus : goal.returns-then-rest-genus
-returns-then-rest-genus c =
+pub returns-then-rest-from-clause-tells : goal.returns-then-rest-from-clause-tells
+returns-then-rest-from-clause-tells c =
     let g = c.args.graph.now in
     let rest : c.degree_left-rest.result ≡ degree g.size (at c.args.divisor.now) -ℤ pos c.args.k =
     rw c.requires.size at c.degree_left-rest.ensures in
@@ -14,42 +13,30 @@ returns-then-rest-genus c =
       told_rich g (at c.args.divisor.now) c.args.k rich,
     )
 
-pub returns-then-rest-lt0 : goal.returns-then-rest-lt0
-returns-then-rest-lt0 c =
+pub returns-then-rest-from-2-clause-tells : goal.returns-then-rest-from-2-clause-tells
+returns-then-rest-from-2-clause-tells c =
     let g = c.args.graph.now in
     let D = at c.args.divisor.now in
     let rest : c.degree_left-rest.result ≡ degree g.size D -ℤ pos c.args.k =
     rw c.requires.size at c.degree_left-rest.ensures in
-    elim c.then-rest-lt0.branch [
-      | then-rest-lt0-via-then-rest-lt0 w ↦
-          let poor : degree g.size D <ℤ pos c.args.k = omega (arith, ints, w.if-rest-lt0.true) in (
-            poor_rank g D c.args.k c.size-size.ensures.graph.multigraph (omega arith) poor,
-            told_poor g D c.args.k poor,
-          )
-      | then-rest-lt0-via-else-rest-lt0+then-from-genus w ↦
-          let high : genus g ≤ℤ pos c.args.k = omega (arith, ints, w.if-from-genus.true) in (
-            λ rank. omega (
-              arith,
-              ints,
-              high_rank g D c.args.k c.size-size.ensures.graph.multigraph (omega arith) high rank,
-            ),
-            told_high g D c.args.k high,
-          )
-    ]
+    let poor : degree g.size D <ℤ (genus g +ℤ pos c.args.k) = omega (arith, ints) in
+    let past : degree g.size D <ℤ (pos c.args.k +ℤ pos c.args.k) = omega (arith, ints) in (
+      fails_past_half g D c.args.k c.size-size.ensures.graph.multigraph c.requires.some poor past,
+      told_past_half g D c.args.k past,
+    )
 
-pub returns-in_default : goal.returns-in_default
-returns-in_default c =
+pub returns-then-not-may_ask-clause-tells : goal.returns-then-not-may_ask-clause-tells
+returns-then-not-may_ask-clause-tells c =
     let g = c.args.graph.now in
     let rest : c.degree_left-rest.result ≡ degree g.size (at c.args.divisor.now) -ℤ pos c.args.k =
     rw c.requires.size at c.degree_left-rest.ensures in
-    let past : ArePastTrialLimits g.size (min c.args.k c.degree_of_dual-other.result) =
-    rw (c.size-size.ensures.size, c.min.ensures) at c.in_default.ensures in (
+    let past : IsPastAsked g (min c.args.k c.degree_of_dual-other.result) =
+    rw c.min.ensures at c.if-not-may_ask.ensures.asked in (
       refl,
       record {
-        unsettled = record { least = omega (arith, ints, rest); most = omega (arith, ints, rest) };
-        below_genus = omega (arith, ints);
-        past = both_past g (at c.args.divisor.now) c.args.k c.degree_of_dual-other.result (omega arith)
-            c.degree_of_dual-other.ensures past;
+        is_open = record { half = omega (arith, ints, rest); most = omega (arith, ints, rest) };
+        past = both_past g (at c.args.divisor.now) c.args.k c.degree_of_dual-other.result
+            c.size-size.ensures.graph.multigraph c.requires.some c.degree_of_dual-other.ensures past;
       },
     )
 
@@ -72,27 +59,27 @@ all_win-requires-else-k-other-clause-unsettled c =
     unsettled_dual c.args.graph.now (at c.args.divisor.now) (at c.dual_of.result) c.args.k c.degree_of_dual-other.result
     c.size-size.ensures.graph.multigraph (omega (arith, ints)) c.degree_of_dual-other.ensures c.dual_of.ensures.amounts
 
-pub returns-then-k-other : goal.returns-then-k-other
-returns-then-k-other c =
+pub returns-then-k-other-clause-tells : goal.returns-then-k-other-clause-tells
+returns-then-k-other-clause-tells c =
     let g = c.args.graph.now in
-    let within : IsWithin g.size (min c.args.k c.degree_of_dual-other.result) =
-    (c.in-Some.count, rw (c.size-size.ensures.size, c.min.ensures) at c.in-Some.ensures) in (
+    let within : ¬ IsPastAsked g (min c.args.k c.degree_of_dual-other.result) =
+    rw c.min.ensures at c.if-not-may_ask.ensures.asked in (
       decided c.all_win.result
           (equivalent-rank g (at c.of.result) (at c.args.divisor.now) c.args.k
           (equivalent-refl g (at c.of.result) (at c.args.divisor.now)
           (λ v inside. c.of.ensures.amounts v (omega (arith, c.requires.size)))))
-          c.all_win.ensures,
+          c.all_win.ensures.told,
       told_within g (at c.args.divisor.now) c.args.k c.degree_of_dual-other.result c.degree_of_dual-other.ensures within,
     )
 
-pub returns-else-k-other : goal.returns-else-k-other
-returns-else-k-other c =
+pub returns-else-k-other-clause-tells : goal.returns-else-k-other-clause-tells
+returns-else-k-other-clause-tells c =
     let g = c.args.graph.now in
-    let within : IsWithin g.size (min c.args.k c.degree_of_dual-other.result) =
-    (c.in-Some.count, rw (c.size-size.ensures.size, c.min.ensures) at c.in-Some.ensures) in (
+    let within : ¬ IsPastAsked g (min c.args.k c.degree_of_dual-other.result) =
+    rw c.min.ensures at c.if-not-may_ask.ensures.asked in (
       decided c.all_win-else-k-other.result
           (dual_passes g (at c.args.divisor.now) (at c.dual_of.result) c.args.k c.degree_of_dual-other.result
           c.size-size.ensures.graph.multigraph (omega arith) c.degree_of_dual-other.ensures c.dual_of.ensures.amounts)
-          c.all_win-else-k-other.ensures,
+          c.all_win-else-k-other.ensures.told,
       told_within g (at c.args.divisor.now) c.args.k c.degree_of_dual-other.result c.degree_of_dual-other.ensures within,
     )

@@ -1,9 +1,12 @@
-use Rattle.dg_rank.proofs.Common.{◌-◌, at}
-use Rattle.dg_rank.proofs.Search.{IsReached}
+use Rattle.dg_rank.proofs.Common.{◌-◌, ◌≤◌, AllWin, AreMade, at}
 use Rattle.dg_rank.proofs.first_loss.first_loss.Given as goal
 
-abbrev pub invariant-trials : goal.invariant-trials
-invariant-trials l = IsReached l.graph (at l.chips) l.k l.from l.number l.trial l.left
+abbrev pub invariant-parts : goal.invariant-parts
+invariant-parts l = record {
+  start : l.from ≤ l.number;
+  made : AreMade l.graph l.made;
+  wins : AllWin l.graph (at l.chips) l.k l.from l.number;
+}
 
-abbrev pub decreases-trials : goal.decreases-trials
-decreases-trials l = l.to - l.number
+abbrev pub decreases-parts : goal.decreases-parts
+decreases-parts l = l.to - l.number

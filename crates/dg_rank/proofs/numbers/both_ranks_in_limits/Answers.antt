@@ -1,12 +1,12 @@
 use Rattle.dg_rank.proofs.Common.{arith, inl, inr, ints, less, canonical, at}
-use Rattle.dg_rank.proofs.RankByTests.{rank_before, rank_of_dual_before, in_limits, needs_too_many}
+use Rattle.dg_rank.proofs.RankByTests.{rank_before, rank_of_dual_before, in_limits, needs_too_many, past_tests}
 use Rattle.dg_rank.proofs.numbers.both_ranks_in_limits.Goals as goal
 
 pub returns-in_err-trials : goal.returns-in_err-trials
 returns-in_err-trials c =
     rw c.from_residual-in_err-trials.ensures (inl (record {
       degree = c.in_ok-fails.fails;
-      past = rw c.size.ensures.size at c.in_err-trials.ensures;
+      past = rw c.size-size.ensures.size at c.in_err-trials.ensures;
       passed = c.in_ok-fails.ensures.0.passed;
     }))
 
@@ -17,9 +17,9 @@ returns-in_err-trials-2 c =
     rw c.from_residual-in_err-trials-2.ensures
     (inr (needs_too_many g (less (canonical g) D) c.first_failing_of_dual-dual_fails.result
     (rank_of_dual_before g D c.in_ok-fails.fails c.first_failing_of_dual-dual_fails.result
-    c.size.ensures.graph.multigraph
+    c.size-size.ensures.graph.multigraph
     (omega arith) c.in_ok-fails.ensures.0 c.first_failing_of_dual-dual_fails.ensures)
-    (rw c.size-2.ensures.size at c.in_err-trials-2.ensures)))
+    (rw c.size-size.ensures.size at c.in_err-trials-2.ensures)))
 
 pub returns : goal.returns
 returns c =
@@ -27,10 +27,15 @@ returns c =
     let D = at c.args.divisor.now in (
       in_limits g D c.in_ok-fails.fails c.in_ok-trials.field-0 _
           (rank_before g D c.in_ok-fails.fails c.in_ok-fails.ensures.0)
-          (omega (arith, ints, c.from.ensures)) (rw c.size.ensures.size at c.in_ok-trials.ensures),
+          (omega (arith, ints, c.from.ensures)) (rw c.size-size.ensures.size at c.in_ok-trials.ensures),
       in_limits g (less (canonical g) D) c.first_failing_of_dual-dual_fails.result c.in_ok-trials-2.field-0 _
           (rank_of_dual_before g D c.in_ok-fails.fails c.first_failing_of_dual-dual_fails.result
-          c.size.ensures.graph.multigraph
+          c.size-size.ensures.graph.multigraph
           (omega arith) c.in_ok-fails.ensures.0 c.first_failing_of_dual-dual_fails.ensures)
-          (omega (arith, ints, c.from-2.ensures)) (rw c.size-2.ensures.size at c.in_ok-trials-2.ensures),
+          (omega (arith, ints, c.from-2.ensures)) (rw c.size-size.ensures.size at c.in_ok-trials-2.ensures),
     )
+
+pub returns-in_err-fails : goal.returns-in_err-fails
+returns-in_err-fails c =
+    rw c.from_residual.ensures (inl (past_tests c.args.graph.now (at c.args.divisor.now)
+    c.size-size.ensures.graph.multigraph (omega arith) c.in_err-fails.ensures))

@@ -8,4 +8,4 @@ returns-in-Ok-Open g c =
     let told : (c.in-Ok-Open.from ≤ s.count) × AllWin s.graph (at s.chips) s.k (piece_start s 0) c.in-Ok-Open.from =
     rw c.in-Ok-Open.field-0-is at c.in-Ok-Open.ensures in
     found_after s.graph (at s.chips) s.k 0 c.in-Ok-Open.from s.count c.first_loss.result (omega arith)
-    (λ m low high. told.1 m (omega arith) high) c.first_loss.ensures
+    (λ m low high. told.1 m (omega arith) high) c.first_loss.ensures.first

@@ -17,7 +17,7 @@ returns-in-Some c =
     let loss : IsFirstLossIn s.graph (at s.chips) s.k start c.min-to.result c.in-Some.trial =
     loss_after s.graph (at s.chips) s.k start c.loop-from.from c.min-to.result c.in-Some.trial
     c.loop-from.invariant.start
-    c.loop-from.invariant.wins c.in-Some.ensures in
+    c.loop-from.invariant.wins c.in-Some.ensures.first in
     loss_before s.graph (at s.chips) s.k start c.min-to.result
     (piece_start s (c.args.piece + 1)) c.in-Some.trial
     (omega arith) loss
@@ -31,5 +31,6 @@ loop-from-preserved c =
       end = omega arith;
       wins =
           wins_both s.graph (at s.chips) s.k start c.loop-from.from c.min-to.result c.loop-from.invariant.wins
-          c.in_default.ensures;
+          c.in_default.ensures.first;
+      made = c.in_default.ensures.made;
     }

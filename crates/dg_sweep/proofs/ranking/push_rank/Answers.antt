@@ -1,4 +1,4 @@
-use Rattle.dg_sweep.proofs.Common.{inl, inr, refl, AtLeast, past_within}
+use Rattle.dg_sweep.proofs.Common.{inl, inr, refl, AtLeast, asked_within}
 use Rattle.dg_sweep.proofs.ranking.push_rank.Goals as goal
 
 pub returns-in-Ok : goal.returns-in-Ok
@@ -7,7 +7,7 @@ returns-in-Ok c =
     inl (record {
       verdict = c.in-Ok.verdict;
       right = told.1;
-      told = λ untold. past_within _ _ untold.past.past told.0;
+      told = λ untold. asked_within _ _ c.requires.start.graph.multigraph told.0 untold.past.past;
       named = inl told.0;
       printed = c.in_ok-push_verdict_line.ensures;
     })

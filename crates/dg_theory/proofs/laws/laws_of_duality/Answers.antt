@@ -1,7 +1,7 @@
 use Rattle.dg_theory.proofs.DualityLaws.{dual_tests, loss_of_dual, high_rank}
 use Rattle.dg_theory.proofs.RankNumbers.{rank_once, rank_of_dual, riemann_roch}
 use Rattle.dg_theory.proofs.RankExists.{rank_exists}
-use Rattle.dg_theory.proofs.RankSums.{rank_of_sum, clifford}
+use Rattle.dg_theory.proofs.RankSums.{rank_of_sum, clifford, half_of_degree}
 use Rattle.dg_theory.proofs.laws.laws_of_duality.Goals as goal
 
 pub returns-clause-ranks : goal.returns-clause-ranks
@@ -30,3 +30,6 @@ returns-clause-sum c = rank_of_sum
 
 pub returns-clause-clifford : goal.returns-clause-clifford
 returns-clause-clifford c = clifford
+
+pub returns-clause-half : goal.returns-clause-half
+returns-clause-half c = half_of_degree

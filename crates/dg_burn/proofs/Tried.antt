@@ -1,0 +1,501 @@
+-- How connected sets are tried.
+--   joined_by        an edge into a set counts
+--   none_joined      where none leads from a vertex into a set, none is counted
+--   rest_hangs       what burning leaves of the dollars beside a connected set hangs loosely on it
+--   reduced_of_none  and if it leaves nothing they are reduced
+--   beyond_wall      behind a wall at a set, burning from a vertex of what hangs on it leaves all else
+--   part_hangs       so what burns there hangs on the set
+--   hangs-larger     what hangs on a set hangs on a larger one that has nothing of it
+--   Found g S L best seen w  the best component so far hangs on S, and if there is none, L has no vertex below w
+--   Passed g S E X P v  all connected sets that have S, none of E, and some vertex of P, are tried; P has each vertex
+--                    of X below v that is next to S
+--   passed-skip      a vertex that is not in X, or in P, or is not next to S, need not be tried
+--   passed-more      after a vertex is tried
+--   passed-all       after all vertices are
+--   growing-more     a set with a vertex next to it
+--   greedy-once      there is only one such set
+--   Turned g U A n   each vertex below n has had its turn, and A is what is left of U
+--   turned-skip      a vertex that is not in U needs no turn
+--   turned-kept      a vertex is kept, and turned-out: left out
+--   turned-all       after all turns
+use Rattle.dg_burn.proofs.Common.{zero, suc, if◌then◌else◌, ◌≡◌, ◌≢◌, ℕ, ◌+◌, ◌<◌, ◌≤◌, ◌&&◌, ◌⊎◌, inl, inr, ⊎_elim, Bool, true, false, not, nat_lt, List, arith, refl, sym, ap, subst, ◌∙◌, pos, ◌≤ℤ◌, cases_Bool, cases_eq, cases_lt, both_ways, and_parts, ints, eq-eqb, le-ltb, lt-ltb, ltb-true, ne_eqb, true_from_ne_false, Multigraph, IsMultigraph, IsGraph, valence, edges_between, edges_into, edges_out, total_below-term, member_or_none, IsReduced, BurnsInOrder, IsGreatestFree, unburnt_by, IsWith, IsWithout, in_set, in_set-none, no_set, dollars}
+use Rattle.std.proofs.lemmas.Bool.{and_from, false_from_ne_true, not-true, not_from_false}
+use Rattle.dg_theory.specs.Burning.{FiresFreely}
+use Rattle.dg_theory.specs.Determining.{HangsLoosely, IsConnectedSet, MeetsSpecialSets, beside}
+use Rattle.dg_theory.proofs.Agreement.{reduced-cong}
+use Rattle.dg_theory.proofs.Components.{connected-alone, connected-more, connected_grows}
+use Rattle.dg_theory.proofs.SetFiring.{fired-inside, inside-fired, outside-fired}
+use Rattle.dg_theory.proofs.Special.{fires_hangs, hangs_not_reduced, total_some}
+use Rattle.dg_theory.proofs.TotalLaws.{total_below-le}
+use Rattle.dg_burn.specs.Special.{AllHang, Hangs, IsGreedy, IsGrowing, IsOff, IsPartOf, IsSpecialFrom, only, others, wall}
+use Rattle.dg_burn.proofs.Told.{none_reduced}
+
+into-parts : (b : Bool) (e : ℕ) → 0 < (if b then e else 0) → (b ≡ true) × (0 < e)
+into-parts true e some = (refl, some)
+into-parts false e some = absurd (omega arith)
+
+-- from a count above 0, an edge
+edge_into : (g : Multigraph) (S : ℕ → Bool) (v : ℕ) → 0 < edges_into g S v →
+    (w : ℕ) × (w < g.size) × (S w ≡ true) × (0 < edges_between g v w)
+edge_into g S v some =
+    let (w, below, counted) = total_some g.size (λ u. if S u then edges_between g v u else 0) some in
+    let (member, edge) = into-parts (S w) (edges_between g v w) counted in
+    (w, below, member, edge)
+
+pub joined_by : (g : Multigraph) (S : ℕ → Bool) (v w : ℕ) → w < g.size → S w ≡ true → 0 < edges_between g v w →
+    0 < edges_into g S v
+joined_by g S v w below member edge =
+    let term : (if S w then edges_between g v w else 0) ≤ edges_into g S v =
+    total_below-term g.size (λ u. if S u then edges_between g v u else 0) w below in
+    let counted : edges_between g v w ≤ edges_into g S v = rw member at term in
+    omega arith
+
+pub none_joined : (g : Multigraph) (S : ℕ → Bool) (v : ℕ) →
+    ((w : ℕ) → w < g.size → S w ≡ true → edges_between g v w ≡ 0) → edges_into g S v ≡ 0
+none_joined g S v none =
+    ⊎_elim
+    (λ (some : 0 < edges_into g S v).
+    let (w, below, member, edge) = edge_into g S v some in
+    absurd (omega (arith, none w below member)))
+    (λ (few : edges_into g S v ≤ 0). omega arith)
+    (cases_lt 0 (edges_into g S v))
+
+-- what burning leaves of the dollars beside a connected set
+pub rest_hangs : (g : Multigraph) (S : ℕ → Bool) (q : ℕ) (held : List ℕ) (R : ℕ → Bool) → IsMultigraph g →
+    IsConnectedSet g S → S q ≡ true → ((v : ℕ) → v < g.size → dollars held v ≡ beside g S v) →
+    IsGreatestFree g q (dollars held) R → (w : ℕ) → R w ≡ true → HangsLoosely g S R
+rest_hangs g S q held R graph connected start same rest w member =
+    fires_hangs g S R q graph connected start
+    (record {
+      vertices = rest.free.vertices;
+      without = rest.free.without;
+      no_debt = λ v below other. omega (arith, ints, same v below, rest.free.no_debt v below other);
+    })
+    (w, member)
+
+pub reduced_of_none : (g : Multigraph) (S : ℕ → Bool) (q : ℕ) (held l : List ℕ) (m : ℕ) →
+    ((v : ℕ) → v < g.size → dollars held v ≡ beside g S v) →
+    BurnsInOrder g q (dollars held) l → ((v : ℕ) → in_set m v ≡ unburnt_by g l v) → ((v : ℕ) → in_set m v ≡ false) →
+    IsReduced g q (beside g S)
+reduced_of_none g S q held l m same order rest none =
+    reduced-cong g q (dollars held) (beside g S) same
+    (none_reduced g q (dollars held) l m (λ v _ _. omega (arith, ints)) order rest (no_set m none))
+
+wall-inside : (S : ℕ → Bool) (v : ℕ) → S v ≡ true → wall S v ≡ pos 64
+wall-inside S v inside = rw inside refl
+
+wall-outside : (S : ℕ → Bool) (v : ℕ) → S v ≡ false → wall S v ≡ pos 0
+wall-outside S v outside = rw outside refl
+
+-- all vertices but those of X
+abbrev but : Multigraph → (ℕ → Bool) → ℕ → Bool
+but g X v = nat_lt v g.size && not (X v)
+
+but-below : (g : Multigraph) (X : ℕ → Bool) (v : ℕ) → but g X v ≡ true → (v < g.size) × (X v ≡ false)
+but-below g X v member =
+    let (below, off) = and_parts (nat_lt v g.size) (not (X v)) member in
+    (ltb-true v g.size below, not-true (X v) off)
+
+but-from : (g : Multigraph) (X : ℕ → Bool) (v : ℕ) → v < g.size → X v ≡ false → but g X v ≡ true
+but-from g X v below off = and_from _ _ (lt-ltb v g.size below) (not_from_false (X v) off)
+
+out-once : (b : Bool) (e : ℕ) → (if b then 0 else e) ≤ e
+out-once true e = omega arith
+out-once false e = omega arith
+
+out-few : (g : Multigraph) (R : ℕ → Bool) (v : ℕ) → IsGraph g → v < g.size → edges_out g R v ≤ 63
+out-few g R v graph below =
+    let few : edges_out g R v ≤ valence g v =
+    total_below-le g.size _ _ (λ w _. out-once (R w) (edges_between g v w)) in
+    omega (arith, graph.valences v below)
+
+out-none : (g : Multigraph) (R : ℕ → Bool) (v : ℕ) →
+    ((w : ℕ) → w < g.size → R w ≡ false → edges_between g v w ≡ 0) → edges_out g R v ≡ 0
+out-none g R v none =
+    ⊎_elim
+    (λ (some : 0 < edges_out g R v).
+    let (w, below, counted) = total_some g.size (λ u. if R u then 0 else edges_between g v u) some in
+    absurd (out_parts (R w) (edges_between g v w) counted (none w below)))
+    (λ (few : edges_out g R v ≤ 0). omega arith)
+    (cases_lt 0 (edges_out g R v))
+  where
+    out_parts : (b : Bool) (e : ℕ) → 0 < (if b then 0 else e) → (b ≡ false → e ≡ 0) → ⊥
+    out_parts true e some none = omega arith
+    out_parts false e some none = omega (arith, none refl)
+
+-- behind a wall at S only what hangs together with w burns
+beyond_wall : (g : Multigraph) (S X : ℕ → Bool) (held : List ℕ) (w : ℕ) → IsGraph g → HangsLoosely g S X →
+    X w ≡ true → ((v : ℕ) → v < g.size → dollars held v ≡ wall S v) → FiresFreely g w (dollars held) (but g X)
+beyond_wall g S X held w graph hangs member same = record {
+  vertices = λ v in_v. (but-below g X v in_v).0;
+  without = false_from_ne_true (but g X w) (λ in_w. both_ways _ (but-below g X w in_w).1 member);
+  no_debt = λ v below other. ⊎_elim
+      (λ (inside : but g X v ≡ true).
+      let (_, off_X) = but-below g X v inside in
+      inside-fired g (dollars held) (but g X) v inside
+      (⊎_elim
+      (λ (in_S : S v ≡ true).
+      omega (arith, ints, same v below, wall-inside S v in_S, out-few g (but g X) v graph below))
+      (λ (off_S : S v ≡ false).
+      let none : edges_out g (but g X) v ≡ 0 = out-none g (but g X) v (λ u u_below out.
+      let in_X : X u ≡ true = true_from_ne_false (X u) (λ off_u. both_ways _ out (but-from g X u u_below off_u)) in
+      graph.multigraph.symmetric v u ∙ hangs.closed u v in_X off_X off_S) in
+      omega (arith, ints))
+      (cases_Bool (S v))))
+      (λ (outside : but g X v ≡ false). outside-fired g (dollars held) (but g X) v outside (omega (arith, ints)))
+      (cases_Bool (but g X v));
+}
+
+pub part_hangs : (g : Multigraph) (S X R : ℕ → Bool) (held : List ℕ) (w : ℕ) → IsGraph g → HangsLoosely g S X →
+    X w ≡ true → ((v : ℕ) → v < g.size → dollars held v ≡ wall S v) → IsGreatestFree g w (dollars held) R →
+    HangsLoosely g S (but g R)
+part_hangs g S X R held w graph hangs member same rest =
+    let part : (v : ℕ) → but g R v ≡ true → X v ≡ true = λ v in_v.
+    let (below, off_R) = but-below g R v in_v in
+    true_from_ne_false (X v) (λ off_X. both_ways _ off_R
+    (rest.greatest (but g X) (beyond_wall g S X held w graph hangs member same) v (but-from g X v below off_X))) in
+    record {
+      vertices = λ v in_v. (but-below g R v in_v).0;
+      some = (w, but-from g R w (hangs.vertices w member) rest.free.without);
+      apart = λ v in_v. hangs.apart v (part v in_v);
+      closed = λ v u in_v off_u off_S.
+          let (below, off_R) = but-below g R v in_v in
+          ⊎_elim
+          (λ (inside : u < g.size).
+          let in_R : R u ≡ true = true_from_ne_false (R u) (λ out. both_ways _ off_u (but-from g R u inside out)) in
+          let other : u ≢ w = λ at. both_ways _ rest.free.without (ap R (sym at) ∙ in_R) in
+          let stands : pos (edges_out g R u) ≤ℤ dollars held u =
+          fired-inside g (dollars held) R u in_R (rest.free.no_debt u inside other) in
+          let term : (if R v then 0 else edges_between g u v) ≤ edges_out g R u =
+          total_below-term g.size (λ x. if R x then 0 else edges_between g u x) v below in
+          let counted : edges_between g u v ≤ edges_out g R u = rw off_R at term in
+          omega (arith, ints, same u inside, wall-outside S u off_S, graph.multigraph.symmetric u v))
+          (λ (past : g.size ≤ u). graph.multigraph.inside v u past)
+          (cases_lt u g.size);
+      loose = λ v in_v. hangs.loose v (part v in_v);
+    }
+
+pub record Found (g : Multigraph) (S L : ℕ → Bool) (best seen w : ℕ) : Type 0 where
+  pub hangs : best ≢ 0 → HangsLoosely g S (in_set best)
+  pub none : best ≡ 0 → (u : ℕ) → u < w → L u ≡ false
+  pub unseen : best ≡ 0 → seen ≡ 0
+
+pub found-skip : (g : Multigraph) (S L : ℕ → Bool) (best seen w : ℕ) → Found g S L best seen w →
+    (L w ≡ false) ⊎ (in_set seen w ≡ true) → Found g S L best seen (w + 1)
+found-skip g S L best seen w found skipped = record {
+  hangs = found.hangs;
+  none = λ empty u below. ⊎_elim
+      (λ (same : u ≡ w). ⊎_elim
+      (λ (off : L w ≡ false). rw same off)
+      (λ (met : in_set seen w ≡ true).
+      absurd (both_ways _ (in_set-none w) (sym (ap (λ m. in_set m w) (found.unseen empty)) ∙ met)))
+      skipped)
+      (λ (other : u ≡ w → ⊥). found.none empty u (omega arith))
+      (cases_eq u w);
+  unseen = found.unseen;
+}
+
+pub found-some : (g : Multigraph) (S L : ℕ → Bool) (best seen w : ℕ) → best ≢ 0 → HangsLoosely g S (in_set best) →
+    Found g S L best seen w
+found-some g S L best seen w some hangs = record {
+  hangs = λ _. hangs;
+  none = λ empty. absurd (some empty);
+  unseen = λ empty. absurd (some empty);
+}
+
+pub record Passed (g : Multigraph) (S E X P : ℕ → Bool) (v : ℕ) : Type 0 where
+  pub more : IsPartOf E P
+  pub off : IsOff S P
+  pub reached : (w : ℕ) → w < v → X w ≡ true → 0 < edges_into g S w → P w ≡ true
+  pub hang : (T : ℕ → Bool) → IsConnectedSet g T → IsPartOf S T → IsOff T E →
+      (w : ℕ) → T w ≡ true → P w ≡ true → Hangs g T
+
+pub passed-skip : (g : Multigraph) (S E X P : ℕ → Bool) (v : ℕ) → Passed g S E X P v →
+    (X v ≡ true → 0 < edges_into g S v → P v ≡ true) → Passed g S E X P (v + 1)
+passed-skip g S E X P v passed skipped = record {
+  more = passed.more;
+  off = passed.off;
+  reached = λ w below out next. ⊎_elim
+      (λ (same : w ≡ v). subst (λ u. X u ≡ true → 0 < edges_into g S u → P u ≡ true) (sym same) skipped out next)
+      (λ (other : w ≡ v → ⊥). passed.reached w (omega arith) out next)
+      (cases_eq w v);
+  hang = passed.hang;
+}
+
+-- a set meets another, or has none of it
+meets_or_off : (g : Multigraph) (T P : ℕ → Bool) → IsConnectedSet g T →
+    ((w : ℕ) × (T w ≡ true) × (P w ≡ true)) ⊎ IsOff T P
+meets_or_off g T P connected =
+    ⊎_elim
+    (λ (some : (w : ℕ) × (w < g.size) × ((T w && P w) ≡ true)).
+    let (in_T, in_P) = and_parts (T some.0) (P some.0) some.2 in inl (some.0, in_T, in_P))
+    (λ (none : (w : ℕ) → w < g.size → (T w && P w) ≡ false). inr (λ w in_T.
+    false_from_ne_true (P w) (λ in_P.
+    both_ways _ (none w (connected.vertices w in_T)) (and_from _ _ in_T in_P))))
+    (member_or_none g.size (λ w. T w && P w))
+
+with-part : (S T : ℕ → Bool) (v : ℕ) → IsWith S v T → IsPartOf S T
+with-part S T v is w member =
+    ⊎_elim
+    (λ (same : w ≡ v). rw same is.here)
+    (λ (other : w ≡ v → ⊥). is.others w other ∙ member)
+    (cases_eq w v)
+
+pub passed-more : (g : Multigraph) (S S' E X P P' : ℕ → Bool) (v : ℕ) → Passed g S E X P v → S v ≡ false →
+    IsWith S v S' → IsWith P v P' → AllHang g S' P → Passed g S E X P' (v + 1)
+passed-more g S S' E X P P' v passed out with_v passed_v all =
+    let more : IsPartOf P P' = with-part P P' v passed_v in
+    record {
+      more = λ w member. more w (passed.more w member);
+      off = λ w member.
+          let other : w ≢ v = λ same. both_ways _ out (ap S (sym same) ∙ member) in
+          passed_v.others w other ∙ passed.off w member;
+      reached = λ w below off next. ⊎_elim
+          (λ (same : w ≡ v). rw same passed_v.here)
+          (λ (other : w ≡ v → ⊥). more w (passed.reached w (omega arith) off next))
+          (cases_eq w v);
+      hang = λ T connected part apart w in_T in_P'. ⊎_elim
+          (λ (met : (u : ℕ) × (T u ≡ true) × (P u ≡ true)).
+          passed.hang T connected part apart met.0 met.1 met.2)
+          (λ (off : IsOff T P). ⊎_elim
+          (λ (same : w ≡ v). all T connected
+          (λ u member. ⊎_elim
+          (λ (at : u ≡ v). rw (at ∙ sym same) in_T)
+          (λ (other : u ≡ v → ⊥). part u (sym (with_v.others u other) ∙ member))
+          (cases_eq u v))
+          off)
+          (λ (other : w ≡ v → ⊥).
+          absurd (both_ways _ (off w in_T) (sym (passed_v.others w other) ∙ in_P')))
+          (cases_eq w v))
+          (meets_or_off g T P connected);
+    }
+
+into-le-once : (b c : Bool) (e : ℕ) → (b ≡ true → c ≡ false → e ≡ 0) → (if b then e else 0) ≤ (if c then e else 0)
+into-le-once false c e none = omega arith
+into-le-once true true e none = omega arith
+into-le-once true false e none = omega (arith, none refl refl)
+
+-- what hangs on a set hangs on a larger one that has nothing of it
+hangs-larger : (g : Multigraph) (S T X : ℕ → Bool) → HangsLoosely g S X → IsPartOf S T → IsOff T X → HangsLoosely g T X
+hangs-larger g S T X hangs part off = record {
+  vertices = hangs.vertices;
+  some = hangs.some;
+  apart = λ v member. false_from_ne_true (T v) (λ in_T. both_ways _ (off v in_T) member);
+  closed = λ v w member off_X off_T.
+      hangs.closed v w member off_X (false_from_ne_true (S w) (λ in_S. both_ways _ off_T (part w in_S)));
+  loose = λ v member.
+      let fewer : edges_into g T v ≤ edges_into g S v = total_below-le g.size _ _ (λ w below.
+      into-le-once (T w) (S w) (edges_between g v w) (λ in_T off_S. hangs.closed v w member (off w in_T) off_S)) in
+      omega (arith, hangs.loose v member);
+}
+
+pub passed-all : (g : Multigraph) (S E X P : ℕ → Bool) (q n : ℕ) → IsMultigraph g → n ≡ g.size → IsGrowing g S q E →
+    HangsLoosely g S X → Passed g S E X P n → AllHang g S E
+passed-all g S E X P q n graph size growing hangs passed T connected part apart =
+    ⊎_elim
+    (λ (met : (u : ℕ) × (T u ≡ true) × (P u ≡ true)). passed.hang T connected part apart met.0 met.1 met.2)
+    (λ (off : IsOff T P). ⊎_elim
+    (λ (met : (u : ℕ) × (T u ≡ true) × (X u ≡ true)).
+    let B : ℕ → Bool = λ v. T v && not (X v) in
+    let clear : X q ≡ false = false_from_ne_true (X q) (λ in_X. both_ways _ (hangs.apart q in_X) growing.start) in
+    let in_q : B q ≡ true = and_from _ _ (part q growing.start) (not_from_false (X q) clear) in
+    let out_u : B met.0 ≡ false =
+    false_from_ne_true (B met.0) (λ in_u. both_ways _ (not-true _ (and_parts (T met.0) _ in_u).1) met.2) in
+    let (a, b, in_a, in_b, out_b, edge) = connected_grows g T B q met.0 connected
+    (λ v in_v. (and_parts (T v) (not (X v)) in_v).0) in_q met.1 out_u in
+    let (a_in_T, a_off) = and_parts (T a) (not (X a)) in_a in
+    let b_in_X : X b ≡ true =
+    true_from_ne_false (X b) (λ b_off. both_ways _ out_b (and_from _ _ in_b (not_from_false (X b) b_off))) in
+    let a_in_S : S a ≡ true = true_from_ne_false (S a) (λ off_S.
+    absurd (omega (arith, hangs.closed b a b_in_X (not-true (X a) a_off) off_S, graph.symmetric a b))) in
+    let next : 0 < edges_into g S b =
+    joined_by g S b a (connected.vertices a a_in_T) a_in_S (omega (arith, graph.symmetric a b)) in
+    absurd (both_ways _ (off b in_b)
+    (passed.reached b (omega (arith, connected.vertices b in_b)) b_in_X next)))
+    (λ (off_X : IsOff T X). (X, hangs-larger g S T X hangs part off_X))
+    (meets_or_off g T X connected))
+    (meets_or_off g T P connected)
+
+pub growing-more : (g : Multigraph) (S S' E X P : ℕ → Bool) (q v : ℕ) → IsMultigraph g → v < g.size →
+    IsGrowing g S q E → Passed g S E X P v → S v ≡ false → P v ≡ false → 0 < edges_into g S v → IsWith S v S' →
+    IsGrowing g S' q P
+growing-more g S S' E X P q v graph inside growing passed out free next with_v =
+    let (a, below, in_a, edge) = edge_into g S v next in
+    record {
+      connected = connected-more g S S' a v graph growing.connected in_a inside (omega (arith, graph.symmetric a v))
+          with_v.here (with-part S S' v with_v) (λ w other member. sym (with_v.others w other) ∙ member);
+      start = with-part S S' v with_v q growing.start;
+      off = λ w member. ⊎_elim
+          (λ (same : w ≡ v). rw same free)
+          (λ (other : w ≡ v → ⊥). passed.off w (sym (with_v.others w other) ∙ member))
+          (cases_eq w v);
+    }
+
+-- a vertex alone
+pub growing-alone : (g : Multigraph) (S T E : ℕ → Bool) (v : ℕ) → v < g.size → ((w : ℕ) → S w ≡ false) →
+    IsWith S v T → E v ≡ false → IsGrowing g T v E
+growing-alone g S T E v inside none with_v free =
+    let only : (w : ℕ) → T w ≡ true → w ≡ v = λ w member. ⊎_elim
+    (λ (same : w ≡ v). same)
+    (λ (other : w ≡ v → ⊥). absurd (both_ways _ (none w) (sym (with_v.others w other) ∙ member)))
+    (cases_eq w v) in
+    record {
+      connected = connected-alone g T v inside only;
+      start = with_v.here;
+      off = λ w member. rw (only w member) free;
+    }
+
+meets-fewer : (g : Multigraph) (A B U S T : ℕ → Bool) (v : ℕ) → MeetsSpecialSets g A U → IsWithout A v B →
+    ((w : ℕ) → S w ≡ false) → IsWith S v T → AllHang g T B → MeetsSpecialSets g B U
+meets-fewer g A B U S T v meets without none with_v all R u connected in_R in_U off =
+    ⊎_elim
+    (λ (here : R v ≡ true). all R connected
+    (λ w member. ⊎_elim
+    (λ (same : w ≡ v). rw same here)
+    (λ (other : w ≡ v → ⊥). absurd (both_ways _ (none w) (sym (with_v.others w other) ∙ member)))
+    (cases_eq w v))
+    off)
+    (λ (gone : R v ≡ false). meets R u connected in_R in_U (λ w member.
+    let other : w ≢ v = λ same. both_ways _ gone (ap R (sym same) ∙ member) in
+    without.others w other ∙ off w member))
+    (cases_Bool (R v))
+
+part-fewer : (A B U : ℕ → Bool) (v : ℕ) → IsPartOf A U → IsWithout A v B → IsPartOf B U
+part-fewer A B U v part without w member =
+    ⊎_elim
+    (λ (same : w ≡ v). absurd (both_ways _ without.here (ap B (sym same) ∙ member)))
+    (λ (other : w ≡ v → ⊥). part w (without.others w other ∙ member))
+    (cases_eq w v)
+
+others-same : (A B U : ℕ → Bool) (v : ℕ) → ((w : ℕ) → w < v → A w ≡ B w) → (w : ℕ) → others A U v w ≡ others B U v w
+others-same A B U v same w =
+    ⊎_elim
+    (λ (before : w < v). rw (lt-ltb w v before) (same w before))
+    (λ (after : v ≤ w). rw (le-ltb w v after) refl)
+    (cases_lt w v)
+
+others-at : (A B U : ℕ → Bool) (v : ℕ) → IsWithout A v B → ((w : ℕ) → v ≤ w → A w ≡ U w) →
+    (w : ℕ) → B w ≡ others A U v w
+others-at A B U v without rest w =
+    ⊎_elim
+    (λ (before : w < v). rw (lt-ltb w v before) (sym (without.others w (omega arith))))
+    (λ (after : v ≤ w). ⊎_elim
+    (λ (same : w ≡ v). rw (le-ltb w v after, eq-eqb w v same) (ap B same ∙ without.here))
+    (λ (other : w ≡ v → ⊥). rw (le-ltb w v after, ne_eqb w v other) (sym (without.others w other) ∙ rest w after))
+    (cases_eq w v))
+    (cases_lt w v)
+
+only-at : (S T : ℕ → Bool) (v : ℕ) → ((w : ℕ) → S w ≡ false) → IsWith S v T → (w : ℕ) → T w ≡ only v w
+only-at S T v none with_v w =
+    ⊎_elim
+    (λ (same : w ≡ v). rw (eq-eqb w v same) (ap T same ∙ with_v.here))
+    (λ (other : w ≡ v → ⊥). rw (ne_eqb w v other) (with_v.others w other ∙ none w))
+    (cases_eq w v)
+
+pub record Turned (g : Multigraph) (U A : ℕ → Bool) (n : ℕ) : Type 0 where
+  pub part : IsPartOf A U
+  pub meets : MeetsSpecialSets g A U
+  pub rest : (w : ℕ) → n ≤ w → A w ≡ U w
+  pub left_out : (v : ℕ) → v < n → U v ≡ true → A v ≡ false → AllHang g (only v) (others A U v)
+  pub kept : (v : ℕ) → v < n → A v ≡ true → IsSpecialFrom g v (only v) (others A U v)
+
+pub turned-start : (g : Multigraph) (U : ℕ → Bool) → Turned g U U 0
+turned-start g U = record {
+  part = λ v member. member;
+  meets = λ S u connected in_S in_U off. absurd (both_ways _ (off u in_S) in_U);
+  rest = λ w _. refl;
+  left_out = λ v below _ _. absurd (omega arith);
+  kept = λ v below _. absurd (omega arith);
+}
+
+pub turned-skip : (g : Multigraph) (U A : ℕ → Bool) (n : ℕ) → Turned g U A n → A n ≡ false → Turned g U A (n + 1)
+turned-skip g U A n turned off = record {
+  part = turned.part;
+  meets = turned.meets;
+  rest = λ w past. turned.rest w (omega arith);
+  left_out = λ v below in_U off_v. ⊎_elim
+      (λ (same : v ≡ n). absurd (both_ways _ off (turned.rest n (omega arith) ∙ ap U (sym same) ∙ in_U)))
+      (λ (other : v ≡ n → ⊥). turned.left_out v (omega arith) in_U off_v)
+      (cases_eq v n);
+  kept = λ v below in_A. ⊎_elim
+      (λ (same : v ≡ n). absurd (both_ways _ off (ap A (sym same) ∙ in_A)))
+      (λ (other : v ≡ n → ⊥). turned.kept v (omega arith) in_A)
+      (cases_eq v n);
+}
+
+pub turned-kept : (g : Multigraph) (U A B S T : ℕ → Bool) (n : ℕ) → Turned g U A n → A n ≡ true → IsWithout A n B →
+    ((w : ℕ) → S w ≡ false) → IsWith S n T → IsSpecialFrom g n T B → Turned g U A (n + 1)
+turned-kept g U A B S T n turned member without none with_n special = record {
+  part = turned.part;
+  meets = turned.meets;
+  rest = λ w past. turned.rest w (omega arith);
+  left_out = λ v below in_U off_v. ⊎_elim
+      (λ (same : v ≡ n). absurd (both_ways _ off_v (ap A same ∙ member)))
+      (λ (other : v ≡ n → ⊥). turned.left_out v (omega arith) in_U off_v)
+      (cases_eq v n);
+  kept = λ v below in_A. ⊎_elim
+      (λ (same : v ≡ n). subst (λ u. IsSpecialFrom g u (only u) (others A U u)) (sym same)
+      (subst (IsSpecialFrom g n (only n)) (λ i w. others-at A B U n without turned.rest w i)
+      (subst (λ R. IsSpecialFrom g n R B) (λ i w. only-at S T n none with_n w i) special)))
+      (λ (other : v ≡ n → ⊥). turned.kept v (omega arith) in_A)
+      (cases_eq v n);
+}
+
+pub turned-out : (g : Multigraph) (U A B S T : ℕ → Bool) (n : ℕ) → Turned g U A n → IsWithout A n B →
+    ((w : ℕ) → S w ≡ false) → IsWith S n T → AllHang g T B → Turned g U B (n + 1)
+turned-out g U A B S T n turned without none with_n all =
+    let same_others : (v : ℕ) → v ≤ n → (w : ℕ) → others A U v w ≡ others B U v w =
+    λ v early. others-same A B U v (λ w below. without.others w (omega arith)) in
+    record {
+      part = part-fewer A B U n turned.part without;
+      meets = meets-fewer g A B U S T n turned.meets without none with_n all;
+      rest = λ w past. sym (without.others w (omega arith)) ∙ turned.rest w (omega arith);
+      left_out = λ v below in_U off_v. ⊎_elim
+          (λ (same : v ≡ n). subst (λ u. AllHang g (only u) (others B U u)) (sym same)
+          (subst (AllHang g (only n))
+          (λ i w. (others-at A B U n without turned.rest w ∙ same_others n (omega arith) w) i)
+          (subst (λ R. AllHang g R B) (λ i w. only-at S T n none with_n w i) all)))
+          (λ (other : v ≡ n → ⊥). subst (AllHang g (only v)) (λ i w. same_others v (omega arith) w i)
+          (turned.left_out v (omega arith) in_U (without.others v other ∙ off_v)))
+          (cases_eq v n);
+      kept = λ v below in_B. ⊎_elim
+          (λ (same : v ≡ n). absurd (both_ways _ without.here (ap B (sym same) ∙ in_B)))
+          (λ (other : v ≡ n → ⊥). subst (IsSpecialFrom g v (only v)) (λ i w. same_others v (omega arith) w i)
+          (turned.kept v (omega arith) (without.others v other ∙ in_B)))
+          (cases_eq v n);
+    }
+
+pub turned-all : (g : Multigraph) (U A : ℕ → Bool) (n : ℕ) → ((v : ℕ) → U v ≡ true → v < n) → Turned g U A n →
+    IsGreedy g U A
+turned-all g U A n inside turned = record {
+  part = turned.part;
+  left_out = λ v in_U off. turned.left_out v (inside v in_U) in_U off;
+  kept = λ v in_A. turned.kept v (inside v (turned.part v in_A)) in_A;
+}
+
+-- one set keeps n and the other leaves it out
+greedy-clash : (g : Multigraph) (U A B : ℕ → Bool) (n : ℕ) → IsMultigraph g → IsGreedy g U A → IsGreedy g U B →
+    ((w : ℕ) → w < n → A w ≡ B w) → A n ≡ true → B n ≡ false → ⊥
+greedy-clash g U A B n graph a b same in_A off_B =
+    let special : IsSpecialFrom g n (only n) (others A U n) = a.kept n in_A in
+    let in_set_n : special.set n ≡ true = special.part n (eq-eqb n n refl) in
+    let hangs : Hangs g special.set = b.left_out n (a.part n in_A) off_B special.set special.connected special.part
+    (λ w member. sym (others-same A B U n same w) ∙ special.off w member) in
+    hangs_not_reduced g special.set hangs.0 n in_set_n hangs.1 special.reduced
+
+pub greedy-once : (g : Multigraph) (U A B : ℕ → Bool) (n : ℕ) → IsMultigraph g → IsGreedy g U A → IsGreedy g U B →
+    (v : ℕ) → v < n → A v ≡ B v
+greedy-once g U A B zero graph a b v below = absurd (omega arith)
+greedy-once g U A B (suc n) graph a b v below =
+    let before : (w : ℕ) → w < n → A w ≡ B w = greedy-once g U A B n graph a b in
+    let back : (w : ℕ) → w < n → B w ≡ A w = λ w under. sym (before w under) in
+    let here : A n ≡ B n = ⊎_elim
+    (λ (in_A : A n ≡ true).
+    in_A ∙ sym (true_from_ne_false (B n) (λ off_B. greedy-clash g U A B n graph a b before in_A off_B)))
+    (λ (off_A : A n ≡ false).
+    off_A ∙ sym (false_from_ne_true (B n) (λ in_B. greedy-clash g U B A n graph b a back in_B off_A)))
+    (cases_Bool (A n)) in
+    ⊎_elim
+    (λ (same : v ≡ n). rw same here)
+    (λ (other : v ≡ n → ⊥). before v (omega arith))
+    (cases_eq v n)

@@ -1,0 +1,107 @@
+//! The first loss of all trials, by boxes with a fixed beginning.
+ghost use Rattle.std.specs.Prelude.{◌≡◌, ◌<◌, ◌≤◌, MatchBool, MatchOption};
+ghost use Rattle.dg_theory.specs.Firing.{IsEffective};
+ghost use Rattle.dg_theory.specs.Rank.{HasRankAtLeast};
+ghost use Rattle.dg_theory.specs.Reduced.{IsReduced};
+ghost use Rattle.dg_chips.specs.Vector.{at};
+ghost use Rattle.dg_rank.specs.Losses.{AreSmallForTrials, AddUpToFewForTrials};
+ghost use Rattle.dg_rank.specs.Asked.{AreMade};
+ghost use Rattle.dg_rank.specs.Boxes.{IsLossFrom, IsFirstFrom};
+
+use crate::asked::find_from;
+use crate::boxes::left_after;
+use crate::enumeration::Trial;
+use dg_chips::Wide;
+use dg_graph::Graph;
+use dg_reduce::EffectiveDivisor;
+
+/// The first loss of the trials of degree k; `None` if all win. The amounts are reduced for the first vertex.
+pub(crate) fn first_loss_by_boxes(
+    graph: &Graph,
+    made: &mut [u16; 16],
+    chips: &Wide,
+    k: u32,
+) -> Option<Trial>
+    requires some { 0 < graph.now.size }
+    requires size { chips.now.size ≡ graph.now.size }
+    requires reduced { IsReduced graph.now 0 (at chips.now) }
+    requires range { AreSmallForTrials graph.now.size (at chips.now) }
+    requires few { k ≤ 1000 }
+    requires made { AreMade graph.now made.old }
+    ensures { MatchOption result
+        (HasRankAtLeast graph.now (at chips.now) k)
+        (IsFirstFrom graph.now (at chips.now) k 0) }
+{
+    let size = graph.size();
+    if chips.get(0) < 0 {
+        return Some(Trial::at_last(size, k));
+    }
+    let left = EffectiveDivisor::of(chips);
+    match find_from(graph, &left, made, k, 0) {
+        Some(known) => Some(first_from(graph, made, &left, k, 0, known)),
+        None => None,
+    }
+}
+
+/// Whether all trials of degree k win. The amounts are reduced for the first vertex.
+pub(crate) fn wins_all(graph: &Graph, made: &mut [u16; 16], chips: &Wide, k: u32) -> bool
+    requires some { 0 < graph.now.size }
+    requires size { chips.now.size ≡ graph.now.size }
+    requires reduced { IsReduced graph.now 0 (at chips.now) }
+    requires range { AreSmallForTrials graph.now.size (at chips.now) }
+    requires few { k ≤ 1000 }
+    requires made { AreMade graph.now made.old }
+    ensures made { AreMade graph.now made.new }
+    ensures told { MatchBool result
+        (HasRankAtLeast graph.now (at chips.now) k)
+        (¬ HasRankAtLeast graph.now (at chips.now) k) }
+{
+    let _size = graph.size();
+    if chips.get(0) < 0 {
+        return false;
+    }
+    let left = EffectiveDivisor::of(chips);
+    match find_from(graph, &left, made, k, 0) {
+        Some(_) => false,
+        None => true,
+    }
+}
+
+/// The first loss of the trials of a degree that hold nothing before a place, if a loss of at most that degree is known
+/// among these: the amounts are fixed from the first on, at each place the least with which there is a loss of the later ones.
+pub(crate) fn first_from(
+    graph: &Graph,
+    made: &mut [u16; 16],
+    left: &EffectiveDivisor,
+    dollars: u32,
+    place: usize,
+    known: Trial,
+) -> Trial
+    requires size { left.now.size ≡ graph.now.size }
+    requires effective { IsEffective graph.now.size (at left.now) }
+    requires small { AddUpToFewForTrials graph.now.size (at left.now) }
+    requires few { dollars ≤ 1000 }
+    requires place { place < graph.now.size }
+    requires made { AreMade graph.now made.old }
+    requires known { IsLossFrom graph.now (at left.now) dollars place known }
+    ensures made { AreMade graph.now made.new }
+    ensures first { IsFirstFrom graph.now (at left.now) dollars place result }
+{
+    let size = graph.size();
+    if place + 1 == size {
+        return Trial::at_last(size, dollars);
+    }
+    let held = known.get(place);
+    if held == 0 {
+        return first_from(graph, made, left, dollars, place + 1, known);
+    }
+    if let Some(later) = find_from(graph, left, made, dollars, place + 1) {
+        return first_from(graph, made, left, dollars, place + 1, later);
+    }
+    let Some(other) = left_after(graph, left, place, 1) else {
+        return Trial::at_last(size, dollars - 1).with_more(place, 1);
+    };
+    let mut fewer = known;
+    fewer.set(place, held - 1);
+    first_from(graph, made, &other, dollars - 1, place, fewer).with_more(place, 1)
+}

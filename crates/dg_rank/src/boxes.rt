@@ -1,0 +1,134 @@
+//! A search for a loss by boxes: at each vertex so much may be taken, and in all so many dollars.
+ghost use Rattle.std.specs.Prelude.{◌≡◌, ◌<◌, ◌≤◌, true, pos, MatchOption, MatchResult};
+ghost use Rattle.dg_theory.specs.Firing.{only_at, IsEffective};
+ghost use Rattle.dg_theory.specs.Play.{IsWinnable};
+ghost use Rattle.dg_theory.specs.Rank.{less};
+ghost use Rattle.dg_chips.specs.Vector.{at};
+ghost use Rattle.dg_reduce.specs.Effective.{IsEffectiveDivisor};
+ghost use Rattle.dg_rank.specs.Losses.{AddUpToFewForTrials};
+ghost use Rattle.dg_rank.specs.Boxes.{BoxWins, IsBoxLoss};
+
+use crate::enumeration::Trial;
+use dg_graph::Graph;
+use dg_reduce::EffectiveDivisor;
+
+/// That a search has ended before it told anything.
+#[derive(Clone, Copy)]
+pub(crate) struct Stopped;
+
+/// A loss in a box: at most so many dollars in all, and at each vertex at most what there is room for, without which what is
+/// left can't be won. `None` if all of the box can be lost. Where each vertex has as much left as may be taken there, they
+/// can. At any other a loss takes more than is left, or no more: the former are searched, and then the box is closed there.
+///
+/// A search that stops does so after so many more boxes; the number is counted down.
+#[cycle(box_search)]
+pub(crate) fn find_in_box(
+    graph: &Graph,
+    left: &EffectiveDivisor,
+    room: &[u32; 16],
+    dollars: u32,
+    stops: bool,
+    boxes: &mut u32,
+) -> Result<Option<Trial>, Stopped>
+    requires size { left.now.size ≡ graph.now.size }
+    requires effective { IsEffective graph.now.size (at left.now) }
+    requires small { AddUpToFewForTrials graph.now.size (at left.now) }
+    requires few { dollars ≤ 1000 }
+    ensures { MatchResult result
+        (λ found. MatchOption found
+        (BoxWins graph.now (at left.now) room.now dollars)
+        (IsBoxLoss graph.now (at left.now) room.now dollars))
+        (λ _. stops ≡ true) }
+{
+    let size = graph.size();
+    if dollars == 0 {
+        return Ok(None);
+    }
+    let mut open = *room;
+    for v in 0..size {
+        let held = held_at(left, v);
+        if held < open[v].min(dollars) {
+            let taken = held + 1;
+            let mut beyond = open;
+            beyond[v] -= taken;
+            let fewer = dollars - taken;
+            match find_without(graph, left, v, taken, &beyond, fewer, stops, boxes) {
+                Ok(Some(trial)) => return Ok(Some(trial.with_more(v, taken))),
+                Ok(None) => open[v] = held,
+                Err(stopped) => return Err(stopped),
+            }
+        }
+    }
+    Ok(None)
+}
+
+/// A loss in a box once so many dollars are taken at a vertex.
+#[cycle(box_search)]
+fn find_without(
+    graph: &Graph,
+    left: &EffectiveDivisor,
+    v: usize,
+    taken: u32,
+    room: &[u32; 16],
+    dollars: u32,
+    stops: bool,
+    boxes: &mut u32,
+) -> Result<Option<Trial>, Stopped>
+    requires size { left.now.size ≡ graph.now.size }
+    requires effective { IsEffective graph.now.size (at left.now) }
+    requires small { AddUpToFewForTrials graph.now.size (at left.now) }
+    requires vertex { v < graph.now.size }
+    requires taken { taken ≤ 1000 }
+    requires few { dollars ≤ 1000 }
+    ensures { MatchResult result
+        (λ found. MatchOption found
+        (BoxWins graph.now (less (at left.now) (only_at v (pos taken))) room.now dollars)
+        (IsBoxLoss graph.now (less (at left.now) (only_at v (pos taken))) room.now dollars))
+        (λ _. stops ≡ true) }
+{
+    let size = graph.size();
+    if stops {
+        if *boxes == 0 {
+            return Err(Stopped);
+        }
+        *boxes -= 1;
+    }
+    match left_after(graph, left, v, taken) {
+        Some(other) => find_in_box(graph, &other, room, dollars, stops, boxes),
+        None => Ok(Some(Trial::at_last(size, 0))),
+    }
+}
+
+/// What is left once so many dollars are taken at a vertex and paid back; `None` if that can't be won.
+pub(crate) fn left_after(
+    graph: &Graph,
+    left: &EffectiveDivisor,
+    v: usize,
+    taken: u32,
+) -> Option<EffectiveDivisor>
+    requires size { left.now.size ≡ graph.now.size }
+    requires effective { IsEffective graph.now.size (at left.now) }
+    requires small { AddUpToFewForTrials graph.now.size (at left.now) }
+    requires vertex { v < graph.now.size }
+    requires taken { taken ≤ 1000 }
+    ensures { MatchOption result
+        (¬ IsWinnable graph.now (less (at left.now) (only_at v (pos taken))))
+        (IsEffectiveDivisor graph.now (less (at left.now) (only_at v (pos taken)))) }
+{
+    let mut other = *left;
+    other.take(v, taken);
+    if other.repay(graph, v) {
+        Some(other)
+    } else {
+        None
+    }
+}
+
+/// The dollars that a vertex has left.
+fn held_at(left: &EffectiveDivisor, v: usize) -> u32
+    requires vertex { v < left.now.size }
+    requires effective { IsEffective left.now.size (at left.now) }
+    ensures { pos result ≡ at left.now v }
+{
+    left.get(v) as u32
+}
