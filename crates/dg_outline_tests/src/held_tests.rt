@@ -38,12 +38,12 @@ pub fn settles_under_the_lock<N: Name>(
     log: &Log<N>,
     seat: &mut Seat<N>,
     look: &Receipt<N>,
-    data: &LookData,
+    shown: &LookData,
     finding: &Finding,
 ) -> Result<Receipt<N>, Fail>
-    requires look { IsLookOf look.now data.now }
-    requires found { IsFoundFor N.table.start.q data.now finding.now }
+    requires look { IsLookOf look.now shown.now }
+    requires found { IsFoundFor N.table.start.q shown.now finding.now }
 {
     let slot = seat.room(alloc)?;
-    Ok(held.settle(log, slot, seat, look, data, finding)?)
+    Ok(held.settle(log, slot, seat, look, shown, finding)?)
 }
