@@ -8,7 +8,7 @@ from runs import TRIANGLE, Run, checked
 from dollar import answer, flaw
 from model import Game
 
-LIMIT, VALENCE, VERTICES, STACK = 1000000, 63, 16, 256 << 10
+LIMIT, VALENCE, VERTICES, STACK = 1000000, 63, 16, 1 << 20
 
 
 def table(size, edges, amounts, q=0):
@@ -173,20 +173,21 @@ def small_stacks(checks):
     steps, script = checks.put("steps", b"1 look\n1 commit\n1 look\n1 rank 1\n"), checks.put("script", b"look\ncommit\nlook\nrank 1\n")
     for what, text in (*deep.items(), ("sixteen vertices", full), ("a triangle", TRIANGLE)):
         board = checks.put("board", text)
-        for words in (("judge", board), ("rank", board, "1"), ("rank", board, "1", "--workers", "16"), ("rr", board), ("greedy", board, "3"),
+        for words in (("judge", board), ("rank", board, "1"), ("rank", board, "630"), ("rank", board, "1", "--workers", "16"),
+                      ("rr", board), ("greedy", board, "3"),
                       ("rehearse", board, steps), ("party", board, script), ("judge", "--lines", board), ("rr", "--lines", "--workers", "16", board)):
-            checks.same("%s of %s with a stack of 256 KiB" % (words[0], what), checks.run(*words), checks.run(*words, before=limited))
-        checks.same("serve of %s with a stack of 256 KiB" % what, checks.run("serve", board, typed=b"look\ncommit\nlook\nrank 1\n"),
+            checks.same("%s of %s with a stack of 1 MiB" % (words[0], what), checks.run(*words), checks.run(*words, before=limited))
+        checks.same("serve of %s with a stack of 1 MiB" % what, checks.run("serve", board, typed=b"look\ncommit\nlook\nrank 1\n"),
                     checks.run("serve", board, typed=b"look\ncommit\nlook\nrank 1\n", before=limited))
     # These tests of many dollars walk deep, or would if they might.
     for edges, amounts, degree in (([(0, 1, 1), (1, 2, 40), (2, 3, 1)], [9, 118, 3, 0], "96"),
                                    ([(0, 1, 11), (0, 2, 1), (2, 3, 1), (2, 4, 1)], [9, 0, 32, 2, 0], "42"),
                                    ([(0, 1, 1), (1, 2, 40)], [3, 560, 0], "491"), ([(0, 1, 1), (0, 2, 30)], [2, 700, 0], "630")):
         board = checks.put("board", json.dumps(table(len(amounts), edges, amounts)).encode())
-        checks.same("rank %s of %s with a stack of 256 KiB" % (degree, edges), checks.run("rank", board, degree),
+        checks.same("rank %s of %s with a stack of 1 MiB" % (degree, edges), checks.run("rank", board, degree),
                     checks.run("rank", board, degree, before=limited))
     for words in (("--help",), ("--version",), ("help", "serve"), ("judge",), ("nothing",)):
-        checks.same("%s with a stack of 256 KiB" % " ".join(words), checks.run(*words), checks.run(*words, before=limited))
+        checks.same("%s with a stack of 1 MiB" % " ".join(words), checks.run(*words), checks.run(*words, before=limited))
 
 
 load_tests = checked(small_stacks, by_hand, verdicts, ranks)
