@@ -186,7 +186,11 @@ fn writes<N: Name, R: Abort + Print>(rt: &R, alloc: Global, row: Row) -> Result<
 
 // An observer reads the seven entries, of which one is a gift. If memory was refused, it goes on from what it has read.
 fn watches<N: Name, R: Abort + Print>(rt: &R, alloc: Global, table: &Table<N>) -> Result<(), Fail> {
-    let mut observer = Observer::<N, Gifts, _>::new(alloc, 0, count_gift);
+    let mut observer = Observer::<N, Gifts, _>::new(
+        alloc,
+        0,
+        |count: &u64, entry: &Entry| count_gift(count, entry),
+    );
     match observer.catch_up(table.log()) {
         Ok(_) => tell(rt, "Observer::catch_up", Outcome::Done)?,
         Err(ObserverFault::OutOfMemory) => {

@@ -125,7 +125,11 @@ fn is_asked_once_for_each<N: Name>(
 
 // The third entry is the only refused move, of seat 2.
 fn counts_refused_moves<N: Name>(rt: &impl Abort, alloc: Global, log: &Log<N>) -> Result<(), Fail> {
-    let mut refused = Observer::<N, RefusedMoves, _>::new(alloc, [0; 64], count_refusal);
+    let mut refused = Observer::<N, RefusedMoves, _>::new(
+        alloc,
+        [0; 64],
+        |counts: &[u32; 64], entry: &Entry| count_refusal(counts, entry),
+    );
     let read = refused.catch_up(log)?;
     assert!(rt; read == 3);
     assert!(rt; refused.state()[0] == 0 && refused.state()[1] == 1);
@@ -134,11 +138,15 @@ fn counts_refused_moves<N: Name>(rt: &impl Abort, alloc: Global, log: &Log<N>) -
 
 // If there is no memory for the third entry, what was read before stands.
 fn has_no_memory<N: Name>(rt: &impl Abort, alloc: Global, log: &Log<N>) {
-    let mut two = Observer::<N, FirstTwo, _>::new(alloc, 0, count_to_two);
-    for _ in 0..2 {
-        assert!(rt; two.catch_up(log) == Err(ObserverFault::OutOfMemory));
-        assert!(rt; two.count() == 2 && *two.state() == 2);
-    }
+    let mut two = Observer::<N, FirstTwo, _>::new(
+        alloc,
+        0,
+        |count: &u64, entry: &Entry| count_to_two(count, entry),
+    );
+    assert!(rt; two.catch_up(log) == Err(ObserverFault::OutOfMemory));
+    assert!(rt; two.count() == 2 && *two.state() == 2);
+    assert!(rt; two.catch_up(log) == Err(ObserverFault::OutOfMemory));
+    assert!(rt; two.count() == 2 && *two.state() == 2);
 }
 
 fn follows_the_position<N: Name>(
@@ -149,7 +157,11 @@ fn follows_the_position<N: Name>(
 ) -> Result<(), Fail>
     requires { start.now ≡ N.table.start.divisor }
 {
-    let mut position = Observer::<N, Positions<N>, _>::new(alloc, *start, keep_position);
+    let mut position = Observer::<N, Positions<N>, _>::new(
+        alloc,
+        *start,
+        |position: &Divisor, entry: &Entry| keep_position(position, entry),
+    );
     let read = position.catch_up(log)?;
     assert!(rt; read == 3);
     assert!(rt; *position.state() == amounts(&[-2, 2, 1])?);

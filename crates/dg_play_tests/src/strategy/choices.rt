@@ -1,5 +1,5 @@
 //! A choice that is played in the tests.
-ghost use Rattle.std.specs.Prelude.{MatchOption};
+ghost use Rattle.std.specs.Prelude.{◌≡◌, MatchOption};
 ghost use Rattle.dg_chips.specs.Moves.{IsPlayable};
 
 use dg_chips::{Divisor, Move};

@@ -1,9 +1,10 @@
 //! Plays of one seat.
+ghost use Rattle.std.specs.Prelude.{◌≡◌};
 
 use crate::strategy::choices::richest_lends;
 use crate::table_tests::{TableTest, on_a_table};
 use crate::tables::{amounts, triangle};
-use dg_chips::Divisor;
+use dg_chips::{Divisor, Move};
 use dg_graph::Graph;
 use dg_log::{Log, Name};
 use dg_rules::Reply;
@@ -30,7 +31,11 @@ pub(crate) fn played<N: Name, R: Wait + Abort>(
     table: &Table<N>,
     seat: &mut Seat<N>,
 ) -> Result<(), Fail> {
-    let lender = Strategy::new(|graph: &Graph, position: &Divisor| richest_lends(graph, position));
+    let lender = Strategy::new(
+        |graph: &Graph, position: &Divisor| -> Option<Move>
+            requires { position.now.size ≡ graph.now.size }
+        { richest_lends(graph, position) },
+    );
     let richest = play(rt, alloc, table, seat, &lender, 4)?;
     assert!(rt; matches!(&richest, Ended::Turns) && seat.calls() == 4);
     are_answered(rt, table.log())

@@ -8,7 +8,7 @@ use dg_graph::Graph;
 use dg_log::{Log, Name};
 use dg_observer::{Observer, Positions, keep_position};
 use dg_rank::OpenGate;
-use dg_rules::Plain;
+use dg_rules::{Entry, Plain};
 use dg_strategy::{Strategy, play};
 use dg_table::{Audit, Fault, Seat, Table};
 use std::alloc::Global;
@@ -225,7 +225,11 @@ fn hears<N: Name>(
 // An observer reads all entries, after which the amounts are as they were.
 fn is_watched<N: Name>(rt: &impl Abort, alloc: Global, table: &Table<N>) -> Result<(), Fail> {
     let start = *table.start().divisor();
-    let mut observer = Observer::<N, Positions<N>, _>::new(alloc, start, keep_position);
+    let mut observer = Observer::<N, Positions<N>, _>::new(
+        alloc,
+        start,
+        |position: &Divisor, entry: &Entry| keep_position(position, entry),
+    );
     let read = observer.catch_up(table.log())?;
     assert!(rt; read == CELLS && observer.count() == CELLS);
     assert!(rt; *observer.state() == start);

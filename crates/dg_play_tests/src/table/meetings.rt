@@ -1,6 +1,5 @@
 //! Many seats in threads of their own on one table, and an observer beside them.
 ghost use Rattle.std.specs.Prelude.{◌≡◌};
-ghost use Rattle.dg_observer.specs.Folds.{GoesOn, IsAskedAtAll};
 
 use crate::table_tests::{TableTest, on_a_table};
 use crate::tables::{amounts, petersen, triangle};
@@ -8,17 +7,21 @@ use dg_analyst::{commit, look, reckon};
 use dg_chips::{Divisor, Move, Start};
 use dg_graph::Graph;
 use dg_log::Name;
-use dg_observer::{Observer, ObserverFault, Positions, Watch, keep_position};
+use dg_observer::{Observer, ObserverFault, Positions, keep_position};
 use dg_rules::{Entry, Game, Plain, Reply, Request};
 use dg_strategy::{Settler, Strategy, greedy_choice, play, settle_out};
 use dg_table::{Audit, Seat, Table};
 use dg_verdict::check;
-use std::alloc::{AllocError, Global};
+use std::alloc::Global;
 use std::process::Abort;
 use std::sync::Wait;
+use std::sync::atomic::{AtomicBool, Ordering};
 use std::test::Fail;
 use std::thread;
 use std::thread::{Threads, join};
+
+// An observer reads so often at most while others play.
+const MOST_READS: u64 = 1_000_000_000_000;
 
 // What a seat does, so many times.
 #[derive(Clone, Copy)]
@@ -199,22 +202,22 @@ pub(crate) fn meet<N: Name + Send + Sync, R: Threads + Wait + Abort + Sync>(
     meeting: &Meeting<'_>,
 ) -> Result<(), Fail> {
     let mut seats = seats;
-    let start = *table.start();
-    let (shared, players) = (&table, meeting.players);
-    let mut observer = Observer::<N, Positions<N>, _>::new(alloc, *start.divisor(), keep_position);
+    let (shared, players, ended) = (&table, meeting.players, &AtomicBool::new(false));
     let (_, watched) = join(
         rt,
-        || thread::for_each_mut(
-            rt,
-            seats.as_mut_slice(),
-            64,
-            &|i, seat| take_part(rt, alloc, shared, seat, players, i),
-        ),
-        || read_a_hundred_times(shared, &mut observer),
+        || {
+            thread::for_each_mut(
+                rt,
+                seats.as_mut_slice(),
+                64,
+                &|i, seat| take_part(rt, alloc, shared, seat, players, i),
+            );
+            ended.store(true, Ordering::SeqCst);
+        },
+        || read_to_the_end(alloc, shared, ended),
     );
-    watched?;
-    observer.catch_up(table.log())?;
-    let (entries, position) = (observer.count(), *observer.state());
+    let (entries, position) = watched?;
+    let start = *table.start();
     let audit = table.close(seats).ok().ok_or("an audit")?;
     assert!(rt; entries == audit.entries && position == audit.position);
     is_told(rt, alloc, &start, &audit, meeting)
@@ -239,18 +242,27 @@ fn is_told<N: Name>(
     )
 }
 
-// Keeps the position while others play.
-fn read_a_hundred_times<N: Name, F: Fn(&Divisor, &Entry) -> Result<Divisor, AllocError>>(
+// Keeps the position while others play, and reads once more when they have ended. How many entries were read, and the position
+// that they lead to.
+fn read_to_the_end<N: Name>(
+    alloc: Global,
     table: &Table<N>,
-    observer: &mut Observer<N, Positions<N>, F>,
-) -> Result<(), ObserverFault>
-    requires asked { IsAskedAtAll (F.pre observer.old.step) }
-    requires keeps { GoesOn (F.post observer.old.step) ⟦<Positions<N> as Watch>⟧.goes_on }
-{
-    for _ in 0..100 {
+    ended: &AtomicBool,
+) -> Result<(u32, Divisor), ObserverFault> {
+    let start = *table.start().divisor();
+    let mut observer = Observer::<N, Positions<N>, _>::new(
+        alloc,
+        start,
+        |position: &Divisor, entry: &Entry| keep_position(position, entry),
+    );
+    'reads: for _ in 0..MOST_READS {
+        if ended.load(Ordering::SeqCst) {
+            break 'reads;
+        }
         observer.catch_up(table.log())?;
     }
-    Ok(())
+    observer.catch_up(table.log())?;
+    Ok((observer.count(), *observer.state()))
 }
 
 // What the player at a place does; it stops if a call is refused.
