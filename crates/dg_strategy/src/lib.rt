@@ -1,4 +1,4 @@
-//! Strategies: what chooses a seat's calls, kept with what is known of it.
+//! Strategies and settlers: closures that choose a seat's calls, turn by turn.
 #![tactic(auto)]
 
 mod games;

@@ -39,7 +39,7 @@ impl<N: Name> Ended<N> {
 
 /// Plays so many turns as the strategy says, or until it claims. Each turn asks at the position found, and is an entry of the
 /// seat; its moves are made, or refused if an amount would leave the range, and never change the gift count. Other seats
-/// may add edges meanwhile: the choice is asked at the graph found, too.
+/// may add edges meanwhile: the choice is asked at the graph found, too. The conditions are those of `Strategy::new`.
 ///
 /// It waits for the lock. Refused as a turn is; the entries made before stay.
 pub fn play<N: Name, F: Fn(&Graph, &Divisor) -> Option<Move>>(
@@ -63,7 +63,7 @@ pub fn play<N: Name, F: Fn(&Graph, &Divisor) -> Option<Move>>(
 }
 
 /// Plays so many turns as the settler says, or until it claims: each move is a borrowing by a vertex in debt, and the claim is
-/// won.
+/// won. The conditions are those of `Settler::new`.
 ///
 /// It waits for the lock. Refused as a turn is; the entries made before stay.
 pub fn settle_out<N: Name, F: Fn(&Graph, &Divisor) -> Option<Move>>(

@@ -5,8 +5,8 @@ ghost use Rattle.dg_strategy.specs.Choices.{IsAskedAnywhere, GivesBorrowings, Gi
 use dg_chips::{Divisor, Move};
 use dg_graph::Graph;
 
-/// A closure that chooses, kept with what is known of it: it may be asked at every graph and amounts of as many vertices, it
-/// lets a vertex in debt borrow, and claims only if nobody is in debt.
+/// A closure that lets vertices in debt borrow. What is known of it are conditions of `new`, and of `settle_out` again: a type
+/// can't keep them.
 #[derive(Drop)]
 pub struct Settler<F> {
     /// The closure.

@@ -5,8 +5,8 @@ ghost use Rattle.dg_strategy.specs.Choices.{IsAskedAnywhere, GivesPlayable};
 use dg_chips::{Divisor, Move};
 use dg_graph::Graph;
 
-/// A closure that chooses, kept with what is known of it: it may be asked at every graph and amounts of as many vertices, and
-/// each move that it gives can be made.
+/// A closure that chooses a seat's moves. What is known of it are conditions of `new`, and of `play` again: a type can't keep
+/// them.
 #[derive(Drop)]
 pub struct Strategy<F> {
     /// The closure.
