@@ -4,7 +4,7 @@ from __future__ import annotations
 
 from typing import Any, Dict, Hashable, Iterable, List, Mapping, NamedTuple, Optional, Sequence, Tuple
 
-from dollar.vertices import Pairs, Vertex
+from dollar.vertices import Dollars, Pairs, Vertex, Vertices
 
 Near = Dict[Hashable, Dict[Hashable, int]]
 
@@ -25,10 +25,10 @@ def parts(table: Mapping[str, Any]) -> Parts:
     return Parts(table["vertices"], table["edges"], table["amounts"], table["q"])
 
 
-def by_vertices(table: Mapping[str, Any], amounts: Mapping[Any, int]) -> Mapping[Any, int]:
-    """Numbers of some vertices, by the vertices of the table; a Table knows them by their texts too."""
-    place = getattr(table, "place", None)
-    return amounts if place is None else {table.vertices[place(v)]: amount for v, amount in amounts.items()}  # type: ignore[attr-defined]
+def by_vertices(table: Mapping[str, Any], given: Any, what: str = "amount") -> Dict[Any, int]:
+    """Numbers as a table takes its amounts, a list or a dict, by the vertices of the table."""
+    vertices = table._vertices if hasattr(table, "_vertices") else Vertices(table["vertices"])
+    return dict(zip(vertices.given, vertices.amounts(given, what)))
 
 
 def joined(table: Mapping[str, Any], u: Vertex, v: Vertex) -> Dict[str, Any]:
@@ -61,19 +61,20 @@ def near_of(its: Parts) -> Near:
     return near
 
 
-def fired(table: Mapping[str, Any], script: Mapping[Any, int]) -> Pairs:
-    """The amounts after each vertex has lent as often as the script says.
+def fired(table: Mapping[str, Any], script: Dollars) -> Pairs:
+    """The amounts after each vertex has lent as often as the script says, which is a list, or a dict with 0 for a missing vertex. Of a
+    `Table` there is `fire` too, which gives another table.
 
     >>> from dollar import Table
-    >>> fired(Table([[0, 1], [1, 0]], [2, -1]), {0: 1, 1: 0})
+    >>> fired(Table([[0, 1], [1, 0]], [2, -1]), {0: 1})
     {0: 1, 1: 0}
     """
-    its, lent = parts(table), by_vertices(table, script)
+    its, lent = parts(table), by_vertices(table, script, "lending")
     held = dict(zip(its.vertices, its.amounts))
     return {v: held[v] + sum(count * (lent[w] - lent[v]) for w, count in near.items()) for v, near in near_of(its).items()}
 
 
-def burnt(table: Mapping[str, Any], amounts: Mapping[Any, int]) -> List[Any]:
+def burnt(table: Mapping[str, Any], amounts: Dollars) -> List[Any]:
     """The vertices in the order in which they burn from q: each the first of those that more edges join to burnt ones than they have
     dollars.
 
@@ -91,7 +92,7 @@ def burnt(table: Mapping[str, Any], amounts: Mapping[Any, int]) -> List[Any]:
         order.append(burning[0])
 
 
-def misplaced(table: Mapping[str, Any], amounts: Mapping[Any, int], order: Sequence[Vertex]) -> Optional[Vertex]:
+def misplaced(table: Mapping[str, Any], amounts: Dollars, order: Sequence[Vertex]) -> Optional[Vertex]:
     """The first vertex of an order that may not burn after those before it, or None: q comes first, and more edges join each other
     vertex to those before it than it has dollars.
 
@@ -122,10 +123,11 @@ def flaw(table: Mapping[str, Any], verdict: Iterable[Any]) -> Optional[str]:
     its = parts(table)
     q, names = its.q, list(its.vertices)
     try:
+        is_whole = len(script) == len(reduced) == len(names)
         script, reduced = by_vertices(table, script), by_vertices(table, reduced)
-    except ValueError:
-        return "the vertices are others, or the script is not 0 at q"
-    if list(script) != names or list(reduced) != names or script[q] != 0:
+    except (TypeError, ValueError):
+        is_whole = False
+    if not is_whole or script[q] != 0:
         return "the vertices are others, or the script is not 0 at q"
     if fired(table, script) != reduced:
         return "the script leads elsewhere"

@@ -37,9 +37,8 @@ import zlib
 from concurrent.futures import Future, ThreadPoolExecutor
 from typing import Any, Callable, Deque, Dict, Iterable, Iterator, List, NamedTuple, Optional, Sequence, Tuple, Union
 
-from dollar.answers import no_answer, parts_of
-from dollar.program import command_line, find_program
-from dollar.readers import RIEMANN_ROCH
+from dollar.answers import RIEMANN_ROCH, no_answer, parts_of
+from dollar.program import command_line, find_program, typed
 from dollar.sweeps import Progress
 from dollar.table import members
 
@@ -225,7 +224,7 @@ def degree(word: str) -> str:
 
 def words_of(arguments: List[str]) -> argparse.Namespace:
     text = (__doc__ or "").partition("\n    >>>")[0].split("\n\n", 2)
-    parser = argparse.ArgumentParser(prog="dollar sweep", description=text[0], epilog=text[2], usage=text[1].strip().replace("\n", "\n   "),
+    parser = argparse.ArgumentParser(prog=typed("sweep"), description=text[0], epilog=text[2], usage=text[1].strip().replace("\n", "\n   "),
                                      formatter_class=argparse.RawDescriptionHelpFormatter)
     where = parser.add_mutually_exclusive_group()
     where.add_argument("--scheduler", metavar="ADDRESS", help="the cluster to use")
@@ -233,7 +232,7 @@ def words_of(arguments: List[str]) -> argparse.Namespace:
     parser.add_argument("--program", help="the path of the program")
     commands = parser.add_subparsers(dest="command", required=True, metavar="judge|rank|rr")
     for command in FOUND:
-        of = commands.add_parser(command, prog="dollar sweep " + command)
+        of = commands.add_parser(command, prog=typed("sweep") + " " + command)
         of.add_argument("file", metavar="FILE", help="the tables, one on each line; or with --divisors one table")
         if command == "rank":
             of.add_argument("degree", metavar="K", type=degree, help="how many dollars are lost")

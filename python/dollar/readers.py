@@ -38,9 +38,6 @@ def rank_test_form(names: Tuple[str, ...]) -> Pattern[str]:
     return re.compile("rank (?:at least|below) (0|[1-9][0-9]*)(?: at %s)?" % amounts_form(names), re.ASCII)
 
 
-RIEMANN_ROCH = re.compile(r"degree (-?\d+) genus (-?\d+) rank (-?\d+|\?) dual (-?\d+|\?)", re.ASCII)
-
-
 def vertices_of(kept: Any) -> Optional[Vertices]:
     """The vertices that an answer is about, by what was kept of the table; None if they are but their names."""
     table = kept[0] if isinstance(kept, tuple) else kept
@@ -192,7 +189,7 @@ def batches_of(table: Table, divisors: Any) -> Iterator[Sequence[Any]]:
 def row_of(table: Table, row: Any, number: int) -> Tuple[int, ...]:
     """The amounts of the divisor with this number."""
     try:
-        return table._vertices.amounts(row)
+        return table._like(row)
     except (TypeError, ValueError) as error:
         raise type(error)("divisor %d: %s" % (number, error)) from None
 
