@@ -47,7 +47,7 @@ def placed(table, degree):
 def gonality(table):
     """The least degree of an effective divisor of rank at least 1: at most a dollar for each vertex."""
     return next(degree for degree in itertools.count(1)
-                if any(dollar.rank_all(table, 1, divisors=placed(table, degree), errors="raise")))
+                if any(dollar.rank_test_all(table, 1, divisors=placed(table, degree), errors="raise")))
 
 
 if __name__ == "__main__":

@@ -13,7 +13,7 @@ from dollar.answers import (
 from dollar.grammar import limit
 from dollar.program import Fault, Place, call, fault_of, find_program, printed
 from dollar.table import MOST_AMOUNT, MOST_BYTES, Asked, Table, file_and_table, made_of, members
-from dollar.vertices import whole, within
+from dollar.vertices import within
 
 Lines = Iterable[str]
 Got = TypeVar("Got")

@@ -194,7 +194,7 @@ class OfJson(Test):
             child.stdin.flush()
             self.assertEqual(json.loads(child.stdout.readline()), wanted)
         said = child.communicate("nothing\n")[1]
-        self.assertEqual((child.returncode, said), (1, "dollar json: line 3: no answer of the program: 'nothing'\n"))
+        self.assertEqual((child.returncode, said), (1, "python3 -m dollar json: line 3: no answer of the program: 'nothing'\n"))
 
     def test_all_that_commands_print(self):
         cube, lines = EXAMPLES / "cube.json", EXAMPLES / "both_sides_cube.out"
