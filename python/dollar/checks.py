@@ -2,6 +2,7 @@
 
 from __future__ import annotations
 
+from collections.abc import Mapping as AbstractMapping
 from typing import Any, Dict, Hashable, Iterable, List, Mapping, NamedTuple, Optional, Sequence, Tuple
 
 from dollar.vertices import Dollars, Pairs, Vertex, Vertices
@@ -20,6 +21,8 @@ class Parts(NamedTuple):
 
 def parts(table: Mapping[str, Any]) -> Parts:
     """The parts of a Table, or of the members of a table file."""
+    if not isinstance(table, AbstractMapping):
+        raise TypeError("a table is a Table or a dict, and not %r" % (table,))
     if hasattr(table, "place"):
         return Parts(table.vertices, table.edges, table.amounts, table.q)  # type: ignore[attr-defined]
     return Parts(table["vertices"], table["edges"], table["amounts"], table["q"])
@@ -38,6 +41,7 @@ def joined(table: Mapping[str, Any], u: Vertex, v: Vertex) -> Dict[str, Any]:
     >>> joined(Table([[0, 1], [1, 0]]), 0, 1)["edges"]
     [['0', '1', 1], ['0', '1', 1]]
     """
+    parts(table)
     place = getattr(table, "place", None)
     ends = [u, v] if place is None else [table["vertices"][place(each)] for each in (u, v)]
     return dict(table, edges=[*table["edges"], [*ends, 1]])

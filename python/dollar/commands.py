@@ -98,8 +98,8 @@ def asked(table: Asked, ask: Callable[[bytes], str], read: Callable[[str, Any], 
     except Fault as fault:
         line = re.match(r"(?:line|step) (\d+): ", fault.text)
         more = repr(lines.split(b"\n")[int(line[1]) - 1].decode()) if line else beside(fault.text, kept)
-        place = os.fspath(table) if isinstance(table, (str, os.PathLike)) else ""
-        raise Fault(fault.text, fault.status, None, ": ".join(filter(None, [place, more]))) from None
+        place = "in %s" % os.fspath(table) if isinstance(table, (str, os.PathLike)) else ""
+        raise Fault(fault.text, fault.status, None, ", ".join(filter(None, [more, place]))) from None
     try:
         return read(out, kept)
     except ValueError as flaw:

@@ -66,13 +66,13 @@ def one_line(line: str) -> bytes:
     if not isinstance(line, str):
         raise TypeError("a line is a text, and not %r" % (line,))
     if "\n" in line:
-        raise ValueError("a line has a newline in it")
+        raise ValueError("a line has a newline in it: %r" % line)
     try:
         sent = line.encode()
     except UnicodeEncodeError:
         raise ValueError("a line has half a character in it") from None
     if len(sent) > LONGEST_LINE:
-        raise ValueError("a line has more than %d bytes" % LONGEST_LINE)
+        raise ValueError("a line has %d bytes, and only %d are possible" % (len(sent), LONGEST_LINE))
     return sent
 
 
@@ -164,7 +164,7 @@ class Session:
     >>> session.ask("look\\nclaim")
     Traceback (most recent call last):
         ...
-    ValueError: a line has a newline in it
+    ValueError: a line has a newline in it: 'look\\nclaim'
 
     If the session ends instead of giving an answer, that is an `Ended`, and so is each later line:
 
@@ -249,7 +249,7 @@ class Session:
     def ask_bytes(self, line: bytes) -> str:
         """The text of the answer to a line as bytes, any but a newline."""
         if b"\n" in line:
-            raise ValueError("a line has a newline in it")
+            raise ValueError("a line has a newline in it: %r" % line)
         if os.getpid() != self.process:
             raise ValueError("the session belongs to the process %d, which began it" % self.process)
         with self.turn:

@@ -171,8 +171,9 @@ def of_matrix(matrix: Any) -> Multigraph:
     elif hasattr(matrix, "tolist"):
         of = matrix.tolist()
     rows = [list(row) for row in of]
-    if any(len(row) != len(rows) for row in rows):
-        raise ValueError("an adjacency matrix has as many columns as rows")
+    for at, row in enumerate(rows):
+        if len(row) != len(rows):
+            raise ValueError("an adjacency matrix has as many columns as rows: row %d has %d, and there are %d rows" % (at, len(row), len(rows)))
     vertices = labels_of(matrix) if hasattr(matrix, "to_numpy") else list(range(len(rows)))
     counts = {(u, v): whole(count, "the number of edges from %s to %s" % (u, v))
               for u, row in zip(vertices, rows) for v, count in zip(vertices, row)}
@@ -500,7 +501,7 @@ class Table(AbstractMapping[str, Any]):
         """
         script = self._script_to(other, program)
         if script is None:
-            raise ValueError("the divisors are not equivalent, so no script leads from one to the other")
+            raise ValueError("the divisors are not equivalent, so no script leads to %r" % (other,))
         return self._vertices.keyed(script)
 
     def _script_to(self, other: Union[Table, Dollars], program: Optional[Place]) -> Optional[List[int]]:
