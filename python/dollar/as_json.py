@@ -54,7 +54,7 @@ def read(line: str) -> Dict[str, object]:
 
 def main(arguments: List[str]) -> int:
     text = (__doc__ or "").partition("\n    >>>")[0].split("\n\n", 2)
-    argparse.ArgumentParser(prog=typed("json"), description=text[0], epilog=text[2], usage=text[1].strip(),
+    argparse.ArgumentParser(prog=typed("json"), description=text[0], epilog=text[2], usage=text[1].strip().replace("python3 -m dollar json", typed("json")),
                             formatter_class=argparse.RawDescriptionHelpFormatter).parse_args(arguments)
     for number, line in enumerate(sys.stdin.buffer, 1):
         try:

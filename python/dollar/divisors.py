@@ -117,7 +117,7 @@ def superstable(near: Sequence[Sequence[int]], q: int, most: float) -> Iterator[
         yield from walk(0, rows[high[q]] + sum(lane << wide * v for v in range(size)), most)
 
 
-class ReducedDivisors(EffectiveDivisors):
+class ReducedDivisors:
     """The divisors of a degree that are reduced at q, one of each class, as tables on one graph, in the order of lists off q. `count` is the
     number of classes. Those that can be won, which are fewer, are found without the others.
 
@@ -130,15 +130,21 @@ class ReducedDivisors(EffectiveDivisors):
 
     def __init__(self, table: Table, degree: int, winnable: bool = False) -> None:
         self.table, self.degree, self.winnable = table, degree, winnable
-        self.count = solved(table._near(), table._q, [0] * len(table.amounts))[0]
+
+    @property
+    def count(self) -> int:
+        """How many classes there are."""
+        return solved(self.table._near(), self.table._q, [0] * len(self.table.amounts))[0]
 
     def amounts(self) -> Iterator[Tuple[int, ...]]:
         q = self.table._q
         for held in superstable(self.table._near(), q, self.degree if self.winnable else math.inf):
             amounts = held[:]
             amounts[q] = self.degree - sum(held)
-            if not self.winnable or amounts[q] >= 0:
-                yield tuple(amounts)
+            yield tuple(amounts)
+
+    def __iter__(self) -> Iterator[Table]:
+        return map(self.table._with, self.amounts())
 
 
 class LinearSystem:
