@@ -110,7 +110,7 @@ def superstable(near: Sequence[Sequence[int]], q: int, most: float) -> Iterator[
                 yield from walk(at + 1, fire - (amount << wide * v), left - amount)
         held[v] = 0
 
-    if not others:
+    if not others and most >= 0:
         yield held
     elif most >= 0:
         # Each lane is one short of its highest bit, and a vertex without dollars burns by its first edge to q.
