@@ -174,14 +174,14 @@ def easy_gonalities():
         gonality(networkx.cycle_graph(n)) for n in range(3, 17)} | {gonality(Table([[0, n], [n, 0]])) for n in range(2, 8)} == {2}
 
 
-@fact("Baker 2008", "gonality of complete graphs n - 1, to K9")
+@fact("Baker 2008", "gonality of complete graphs n - 1, to K10")
 def complete_graphs():
-    return [gonality(networkx.complete_graph(n)) for n in range(2, 10)] == list(range(1, 9))
+    return [gonality(networkx.complete_graph(n)) for n in range(2, 11)] == list(range(1, 10))
 
 
-@fact("van Dobben de Bruyn 2012", "gonality of complete bipartite graphs: the lesser part, to K5,5")
+@fact("van Dobben de Bruyn 2012", "gonality of complete bipartite graphs: the lesser part, to K6,6")
 def bipartite():
-    return all(gonality(networkx.complete_bipartite_graph(m, n)) == min(m, n) for m in range(1, 6) for n in range(m, 6))
+    return all(gonality(networkx.complete_bipartite_graph(m, n)) == min(m, n) for m in range(1, 7) for n in range(m, 7))
 
 
 @fact("van Dobben de Bruyn 2012", "gonality of complete multipartite graphs: n minus the largest part")
@@ -199,17 +199,18 @@ def grids():
         gonality(graph) <= len(graph) - independent(graph) for graph in SMALL[1:] if len(graph) <= 5)
 
 
-@fact("Speeter 2022", "gonality of rook's graphs: 2 x 4 has 4, 3 x 3 has 6")
+@fact("Speeter 2022", "gonality of rook's graphs: 2 x 4 has 4, 3 x 3 has 6, 3 x 4 has 8")
 def rooks():
     def rook(m, n):
         return networkx.cartesian_product(networkx.complete_graph(m), networkx.complete_graph(n))
 
-    return (gonality(rook(2, 4)), gonality(rook(3, 3))) == (4, 6)
+    return [gonality(rook(m, n)) for m, n in ((2, 4), (3, 3), (3, 4))] == [4, 6, 8]
 
 
-@fact("Beougher and others 2023", "gonality of the tetrahedron 3, the cube 4, the octahedron 4")
+@fact("Beougher and others 2023", "gonality of the tetrahedron 3, the cube 4, the octahedron 4, the icosahedron 9")
 def platonic():
-    return [gonality(graph) for graph in (networkx.tetrahedral_graph(), networkx.cubical_graph(), networkx.octahedral_graph())] == [3, 4, 4]
+    return [gonality(graph) for graph in (networkx.tetrahedral_graph(), networkx.cubical_graph(), networkx.octahedral_graph(),
+                                          networkx.icosahedral_graph())] == [3, 4, 4, 9]
 
 
 @fact("Cools, Panizzut and others", "gonality of cages: Petersen's graph 4, Heawood's 5, of Moebius and Kantor 6")
