@@ -291,6 +291,10 @@ class Entry(Answer):
     ('moved', {0: 1, 1: 0}, True)
     >>> moved == ("moved", {0: 1, 1: 0}), moved
     (True, Moved(word='moved', amounts={0: 1, 1: 0}, number=1))
+    >>> [type(entry(text)).__name__ for text in ("given 1 a=2", "joined 1 a=2", "looked 0 a=2", "winnable by a=0 to a=2", "rank at least 1")]
+    ['Given', 'Joined', 'Looked', 'Judged', 'Tested']
+    >>> [type(entry(text)).__name__ for text in ("stale 1", "not won", "refused gift", "bad name", "turns")]
+    ['Stale', 'Claimed', 'Declined', 'Bad', 'Turns']
     """
 
     word: str = ""
@@ -328,64 +332,64 @@ class Entry(Answer):
 
 
 class Moved(Entry):
-    """A move was made, and led to these amounts."""
+    """A move was made, and led to these amounts. `help(dollar.Entry)` has an example."""
 
     amounts: Pairs
 
 
 class Given(Entry):
-    """A gift or a levy was made."""
+    """A gift or a levy was made. `help(dollar.Entry)` has an example."""
 
     gifts: int
     amounts: Pairs
 
 
 class Joined(Entry):
-    """An edge was added."""
+    """An edge was added. `help(dollar.Entry)` has an example."""
 
     gifts: int
     amounts: Pairs
 
 
 class Looked(Entry):
-    """A seat has looked."""
+    """A seat has looked. `help(dollar.Entry)` has an example."""
 
     gifts: int
     amounts: Pairs
 
 
 class Judged(Entry):
-    """The verdict on a look was entered."""
+    """The verdict on a look was entered. `help(dollar.Entry)` has an example."""
 
     found: Verdict
 
 
 class Tested(Entry):
-    """The rank test on a look was entered."""
+    """The rank test on a look was entered. `help(dollar.Entry)` has an example."""
 
     found: RankTest
 
 
 class Stale(Entry):
-    """A gift, a levy or a join was made since the look."""
+    """A gift, a levy or a join was made since the look. `help(dollar.Entry)` has an example."""
 
     gifts: int
 
 
 class Claimed(Entry):
-    """A seat has claimed that nobody is in debt: `won`, or `not won`."""
+    """A seat has claimed that nobody is in debt: `won`, or `not won`. `help(dollar.Entry)` has an example."""
 
 
 class Declined(Entry):
-    """A call that the game refused: `refused` and why."""
+    """A call that the game refused: `refused` and why. `help(dollar.Entry)` has an example."""
 
 
 class Bad(Entry):
-    """A line that made no entry: `bad` and why."""
+    """A line that made no entry: `bad` and why. `help(dollar.Entry)` has an example."""
 
 
 class Turns(Entry):
-    """The end of a greedy game whose turns were used up."""
+    """The end of a greedy game whose turns were used up. `help(dollar.Entry)` has an example."""
 
 
 ENTRIES: Dict[str, Type[Entry]] = {
@@ -571,7 +575,11 @@ def entry(text: str, vertices: Optional[Vertices] = None, **more: Any) -> Entry:
 
 
 def answer(text: str) -> Union[Verdict, RankTest, Entry]:
-    """The answer with this text, which has no number before it."""
+    """The answer with this text, which has no number before it.
+
+    >>> answer("rank below 2 at a=0 b=2"), answer("stale 1")
+    (RankTest(holds=False, degree=2, loss={'a': 0, 'b': 2}), Stale(word='stale', gifts=1))
+    """
     read = entry(text)
     return read if read.found is None else read.found
 
@@ -590,9 +598,13 @@ def numbered(text: str, with_seat: bool = False, vertices: Optional[Vertices] = 
     return found
 
 
-def history(lines: Iterable[str], with_seat: bool = False, table: Optional[Mapping[str, object]] = None) -> History:
+def history(lines: Iterable[str], *, with_seat: bool = False, table: Optional[Mapping[str, object]] = None) -> History:
     """The entries of these lines, or of a file with them, which have their numbers before them, from 0 on. Amounts are by the vertices of
-    the table."""
+    the table.
+
+    >>> [entry.word for entry in history(["0 looked 0 a=2 b=-1", "1 not won"])]
+    ['looked', 'not won']
+    """
     entries = History(numbered(line.rstrip("\n"), with_seat, vertices_of(table)) for line in lines)
     if [each.number for each in entries] != list(range(len(entries))):
         raise ValueError("no history: %r" % [str(each) for each in entries])

@@ -51,7 +51,7 @@ class Fault(Exception):
 
 
 class ProgramNotFound(FileNotFoundError):
-    """There is no program `dollar` in any of the places that `find_program` tries."""
+    """There is no program `dollar` in any of the places that it may be in. `help(find_program)` has an example."""
 
 
 def fault_of(said: bytes, status: int, otherwise: str = "") -> Fault:

@@ -237,17 +237,17 @@ class Session:
 
     def ask(self, line: str) -> Entry:
         """The answer to a line, which is given without its newline. A ValueError if it is not a line, or has more than 1,024 bytes; then
-        nothing is sent. `Ended` if the session ends instead."""
+        nothing is sent. `Ended` if the session ends instead. `help(Session)` has an example."""
         sent = one_line(line)
         with self.turn:
             return self._entry(line, self.ask_bytes(sent))
 
     def ask_seat(self, seat: int, line: str) -> Entry:
-        """The answer to a line of the seat, a number from 1 on."""
+        """The answer to a line of the seat, a number from 1 on. `help(Table.serve)` has an example."""
         return self.ask("%d %s" % (whole(seat, "a seat"), line))
 
     def ask_bytes(self, line: bytes) -> str:
-        """The text of the answer to a line as bytes, any but a newline."""
+        """The text of the answer to a line as bytes, any but a newline. `help(Session)` has an example of `ask`."""
         if b"\n" in line:
             raise ValueError("a line has a newline in it: %r" % line)
         if os.getpid() != self.process:
@@ -267,7 +267,7 @@ class Session:
         return Ended(end, self.answers, beside(ended.text, self.kept_table))
 
     def close(self) -> End:
-        """Ends the input, which ends the session. Returns how it has ended, the same at each call."""
+        """Ends the input, which ends the session. Returns how it has ended, the same at each call. `help(Session)` has an example."""
         with self.turn:
             return self.ended or self._in_time(self._end)
 
@@ -344,7 +344,7 @@ class AsyncSession:
 
     @property
     def session(self) -> Session:
-        """The session that is played, once it has begun; its `kept` are the entries that it began with."""
+        """The session that is played, once it has begun; its `kept` are the entries that it began with. `help(Session)` has an example."""
         if self._begun is None:
             self._begun = self._begin()
         return self._begun
@@ -374,13 +374,13 @@ class AsyncSession:
         await self._in_thread(lambda: self.session.__exit__(kind, error, trace))
 
     async def ask(self, line: str) -> Entry:
-        """The answer to a line."""
+        """The answer to a line. `help(AsyncSession)` has an example."""
         return await self._in_thread(lambda: self.session.ask(line))
 
     async def ask_seat(self, seat: int, line: str) -> Entry:
-        """The answer to a line of the seat, a number from 1 on."""
+        """The answer to a line of the seat, a number from 1 on. `help(Table.serve)` has an example."""
         return await self._in_thread(lambda: self.session.ask_seat(seat, line))
 
     async def close(self) -> End:
-        """Ends the session, and returns how it has ended."""
+        """Ends the session, and returns how it has ended. `help(AsyncSession)` has an example."""
         return await self._in_thread(lambda: self.session.close())

@@ -283,7 +283,7 @@ class Answers(Generic[Found, Told, OfNumpy, OfArray], Iterator[Found]):
     def columns(self, kind: Optional[str] = None) -> Any:
         """All answers at once, as columns: arrays of numpy if it is installed, and else of the module `array`; or of the kind that is asked
         for. Columns have no place for a missing answer: a divisor that is refused, or a rank past the limits, is raised as a Fault, whose
-        `table` is its number. `help(VerdictColumns)` has an example.
+        `table` is its number. `help(dollar.columns)` has an example.
         """
         if self._found is not None or self._skipped:
             raise ValueError("the sweep has begun: ask again for columns")

@@ -771,7 +771,11 @@ def shown_name(file: Place) -> str:
 
 
 def example(name: str) -> Table:
-    """The table of an example, by the name of its file in the folder `examples`."""
+    """The table of an example, by the name of its file in the folder `examples`.
+
+    >>> example("triangle").amounts
+    (2, -1, -1)
+    """
     file = EXAMPLES / (name + ".json")
     if not file.is_file():
         raise FileNotFoundError("there is no example %s beside this package: %s" % (name, file))

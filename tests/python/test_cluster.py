@@ -48,7 +48,7 @@ def csv_of(kind, answers):
     """A CSV file of the package for these answers of the program."""
     file = io.StringIO()
     read = {"judge": dollar.answers.verdict_of, "rank": dollar.answers.rank_test_of, "rr": dollar.answers.riemann_roch_of}[kind]
-    refused = {"judge": dollar.RefusedVerdict, "rank": dollar.RefusedRankTest, "rr": dollar.RefusedRiemannRoch}[kind]
+    refused = {"judge": dollar.answers.RefusedVerdict, "rank": dollar.answers.RefusedRankTest, "rr": dollar.answers.RefusedRiemannRoch}[kind]
     dollar.to_csv((refused(refused=text[8:]) if text.startswith("refused ") else read(text) for text in answers.splitlines()), file)
     return file.getvalue()
 
