@@ -36,9 +36,9 @@ def pairs_of(text: str, vertices: Optional[Vertices] = None) -> Pairs:
     return found if vertices is None else vertices.read(found)
 
 
-def vertices_of(table: Any) -> Optional[Vertices]:
-    """The vertices of a Table; those of a dict or a file are their names."""
-    return getattr(table, "_vertices", None)
+def vertices_of(kept: Any) -> Optional[Vertices]:
+    """The vertices of a Table, by what was kept of it; those of a dict or a file are their names."""
+    return getattr(kept[0] if isinstance(kept, tuple) else kept, "_vertices", None)
 
 
 class Answer:
@@ -124,11 +124,6 @@ class Verdict(OfTable):
     True
     >>> "can be won" if verdict else "can't be won"
     'can be won'
-
-    The divisor to which the script leads can be the amounts of a table, unless q then owes more than a table allows:
-
-    >>> print(judge(Table(table, verdict.reduced)))
-    winnable by a=0 b=0 to a=1 b=0
     """
 
     winnable: bool

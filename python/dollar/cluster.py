@@ -229,18 +229,14 @@ def swept(client: Any, sweep: Sweep, place: str) -> Pace:
     return pace
 
 
-def count(word: str) -> int:
-    """A number of processes."""
-    if not word.isdecimal() or int(word) == 0:
-        raise argparse.ArgumentTypeError("a whole number from 1 on")
-    return int(word)
+def number_from(least: int) -> Callable[[str], int]:
+    """What reads a number of processes, or the degree of a rank test."""
+    def read(word: str) -> int:
+        if not word.isdecimal() or int(word) < least:
+            raise argparse.ArgumentTypeError("%r, and only a whole number from %d on is possible" % (word, least))
+        return int(word)
 
-
-def degree(word: str) -> str:
-    """The degree of a rank test."""
-    if not word.isdecimal():
-        raise argparse.ArgumentTypeError("a whole number from 0 on")
-    return word
+    return read
 
 
 def words_of(arguments: List[str]) -> argparse.Namespace:
@@ -249,14 +245,14 @@ def words_of(arguments: List[str]) -> argparse.Namespace:
                                      formatter_class=argparse.RawDescriptionHelpFormatter)
     where = parser.add_mutually_exclusive_group()
     where.add_argument("--scheduler", metavar="ADDRESS", help="the cluster to use")
-    where.add_argument("--processes", metavar="N", type=count, default=os.cpu_count(), help="the number of runs at once on this machine")
+    where.add_argument("--processes", metavar="N", type=number_from(1), default=os.cpu_count(), help="the number of runs at once on this machine")
     parser.add_argument("--program", help="the path of the program")
     commands = parser.add_subparsers(dest="command", required=True, metavar="judge|rank|rr")
     for command in FOUND:
         of = commands.add_parser(command, prog=typed("sweep") + " " + command)
         of.add_argument("file", metavar="FILE", help="the tables, one on each line; or with --divisors one table")
         if command == "rank":
-            of.add_argument("degree", metavar="K", type=degree, help="how many dollars are lost")
+            of.add_argument("degree", metavar="K", type=number_from(0), help="how many dollars are lost")
         of.add_argument("--divisors", metavar="LINES", help="a file with amounts for the table on each line")
         of.add_argument("csv", metavar="CSV", help="the file that is written, or gone on with")
     return parser.parse_args(arguments)
@@ -264,7 +260,7 @@ def words_of(arguments: List[str]) -> argparse.Namespace:
 
 def sweep_of(given: argparse.Namespace, program: str) -> Sweep:
     """The sweep that some words ask for."""
-    more = [given.degree] if given.command == "rank" else []
+    more = [str(given.degree)] if given.command == "rank" else []
     if given.divisors is None:
         return Sweep(given.command, [given.command, "--lines", "/dev/stdin", *more], program, given.file, 0)
     table = members(given.file)

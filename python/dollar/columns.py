@@ -161,28 +161,17 @@ class VerdictColumns(Columns, Generic[Ints, Truths]):
     def _join(self) -> None:
         columns, numpy = self._numbers.columns(), self._numbers.numpy
         self.winnable = numpy.concatenate(self._words) if numpy and self._words else truths(numpy, self._words)
-        self.script = by_vertex(self._vertices, columns[:self._size])
-        self.reduced = by_vertex(self._vertices, columns[self._size:])
+        self.script = self._vertices.keyed(columns[:self._size])  # type: ignore[assignment]
+        self.reduced = self._vertices.keyed(columns[self._size:])  # type: ignore[assignment]
         self["winnable"] = self.winnable
         self.update(("%s_%s" % (of, name), column) for of, some in (("script", columns), ("reduced", columns[self._size:]))
                     for name, column in zip(self._vertices.names, some))
         self._words, self._numbers.parts = [], []
 
 
-def by_vertex(vertices: Vertices, columns: Any) -> Any:
-    """Columns by vertices, which are kept as numbers are."""
-    return vertices.keyed(columns)
-
-
 class RankTestColumns(Columns, Generic[Ints, Truths]):
     """The rank tests of many divisors of one graph: `holds` is a column, and `loss` has one for each vertex, with 0 if the test holds. By
-    their names they are `holds`, and `loss_a` and so on.
-
-    >>> from dollar import Table, rank_test_all
-    >>> found = rank_test_all(Table([[0, 2], [2, 0]]), 1, divisors=[[1, 1], [1, 0]]).columns()
-    >>> list(map(bool, found.holds)), list(map(int, found.loss[1])), list(found)
-    ([True, False], [0, 1], ['holds', 'loss_0', 'loss_1'])
-    """
+    their names they are `holds`, and `loss_a` and so on."""
 
     holds: Truths
     loss: Mapping[Hashable, Ints]
@@ -229,18 +218,13 @@ class RankTestColumns(Columns, Generic[Ints, Truths]):
 
     def _join(self) -> None:
         columns = self._numbers.columns()
-        self.holds, self.loss = truths(self._numbers.numpy, self._words), by_vertex(self._vertices, columns)
+        self.holds = truths(self._numbers.numpy, self._words)
+        self.loss = self._vertices.keyed(columns)  # type: ignore[assignment]
         self.update({"holds": self.holds}, **{"loss_" + name: column for name, column in zip(self._vertices.names, columns)})
 
 
 class RiemannRochColumns(Columns, Generic[Ints]):
-    """The four numbers of many tables, each a column: `degree`, `genus`, `rank` and `dual`.
-
-    >>> from dollar import Table, rr_all
-    >>> found = rr_all(Table([[0, 3], [3, 0]]), divisors=[[1, 1], [2, 2]]).columns()
-    >>> list(map(int, found.rank)), list(map(int, found["dual"])), found.count
-    ([1, 2], [0, -1], 2)
-    """
+    """The four numbers of many tables, each a column: `degree`, `genus`, `rank` and `dual`."""
 
     degree: Ints
     genus: Ints

@@ -72,11 +72,7 @@ BESIDE: List[Tuple[str, Callable[[Any, int], Any], str]] = [
 
 
 def beside(text: str, kept: Any) -> str:
-    """What is said beside a fault: the value, by what was kept of the table, and the limit.
-
-    >>> beside("valence of vertex 1", Table([[0, 70], [70, 0]])), beside("amount of vertex 1", None), beside("not JSON", b"{")
-    ('70 edges, and only 0 to 63 is possible', 'only -1000000 to 1000000 is possible', '')
-    """
+    """What is said beside a fault: the value, by what was kept of the table, and the limit."""
     found = re.search(r"\d+", text)
     for begins, value_of, most in BESIDE:
         if text.replace(found[0] if found else "#", "#").startswith(begins):
@@ -189,7 +185,7 @@ def rehearse(table: Asked, steps: Lines, *, program: Optional[Place] = None) -> 
     played = lines_text(steps)
 
     def read(text: str, kept: Any) -> History:
-        found = history(text.splitlines(), table=kept_table(kept))
+        found = history(text.splitlines(), table=kept)
         if len(found) != played.count(b"\n"):
             raise ValueError("no history of the program: it has %d entries for %d steps" % (len(found), played.count(b"\n")))
         return found
@@ -210,7 +206,7 @@ def greedy(table: Asked, turns: int, *, program: Optional[Place] = None) -> Hist
     def read(text: str, kept: Any) -> History:
         lines = text.splitlines()
         used_up = lines[-1:] == ["turns"]
-        played = history(lines[:-1] if used_up else lines, table=kept_table(kept))
+        played = history(lines[:-1] if used_up else lines, table=kept)
         if not used_up and not played:
             raise ValueError("no history of the program: it has no end")
         return History([*played, Entry("turns")]) if used_up else played
@@ -242,16 +238,11 @@ def party(table: Asked, *scripts: Lines, cap: Optional[int] = None, program: Opt
         if first is None:
             raise ValueError("no answer of the program: %r" % lines[-1])
         gifts, position, *calls = lines[first + 1:]
-        return Party(history(lines[:first], with_seat=True, table=kept_table(kept)), int(gifts.split(" ")[1]),
+        return Party(history(lines[:first], with_seat=True, table=kept), int(gifts.split(" ")[1]),
                      pairs_of(position.partition(" ")[2], vertices_of(kept)), [int(line.split(" ")[3]) for line in calls],
                      dict(map(seat_fault, said.decode().splitlines())))
 
     return asked(table, ask, read, program)
-
-
-def kept_table(kept: Union[Table, bytes]) -> Optional[Table]:
-    """The table if one was given, and not a dict or the place of a file."""
-    return kept if isinstance(kept, Table) else None
 
 
 def seat_fault(line: str) -> Tuple[int, str]:

@@ -25,12 +25,7 @@ def losses(size: int, degree: int) -> Iterator[Tuple[int, ...]]:
 
 
 class EffectiveDivisors:
-    """The effective divisors of a degree, in the order of lists, as tables on one graph. `count` is their number.
-
-    >>> found = Table([[0, 1], [1, 0]]).effective_divisors(2)
-    >>> found.count, [table.amounts for table in found]
-    (3, [(0, 2), (1, 1), (2, 0)])
-    """
+    """The effective divisors of a degree, in the order of lists, as tables on one graph. `count` is their number."""
 
     def __init__(self, table: Table, degree: int) -> None:
         self.table, self.degree = table, degree
@@ -69,12 +64,7 @@ def solved(near: Sequence[Sequence[int]], q: int, amounts: Sequence[Any]) -> Tup
 
 def level(table: Table) -> Tuple[Table, Sequence[int]]:
     """The table itself if its amounts are within the limits, or else an equivalent one that has at each vertex about as many dollars, and
-    the script that leads there.
-
-    >>> [found, script] = level(Table([[0, 1], [1, 0]], [1_200_000, -3]))
-    >>> found.amounts, script
-    ((599998, 599999), [0, -600002])
-    """
+    the script that leads there."""
     amounts, script = table.amounts, [0] * len(table.amounts)
     if any(abs(amount) > MOST_AMOUNT for amount in amounts):
         mean = Fraction(table.degree, len(amounts))
@@ -119,14 +109,7 @@ def superstable(near: Sequence[Sequence[int]], q: int, most: float) -> Iterator[
 
 class ReducedDivisors:
     """The divisors of a degree that are reduced at q, one of each class, as tables on one graph, in the order of lists off q. `count` is the
-    number of classes. Those that can be won, which are fewer, are found without the others.
-
-    >>> square = Table([[0, 1, 0, 1], [1, 0, 1, 0], [0, 1, 0, 1], [1, 0, 1, 0]])
-    >>> square.reduced_divisors(0).count, list(square.reduced_divisors(0).amounts())
-    (4, [(0, 0, 0, 0), (-1, 0, 0, 1), (-1, 0, 1, 0), (-1, 1, 0, 0)])
-    >>> [table.amounts for table in square.reduced_divisors(1, winnable=True)]
-    [(1, 0, 0, 0), (0, 0, 0, 1), (0, 0, 1, 0), (0, 1, 0, 0)]
-    """
+    number of classes. Those that can be won, which are fewer, are found without the others."""
 
     def __init__(self, table: Table, degree: int, winnable: bool = False) -> None:
         self.table, self.degree, self.winnable = table, degree, winnable
@@ -149,12 +132,7 @@ class ReducedDivisors:
 
 class LinearSystem:
     """The complete linear system of a divisor: the effective divisors that are equivalent to it, as tables on its graph. `candidates` is
-    the number of effective divisors of its degree: so many verdicts are taken.
-
-    >>> found = Table([[0, 1, 1], [1, 0, 1], [1, 1, 0]], [2, 0, 0]).linear_system()
-    >>> found.candidates, [table.amounts for table in found]
-    (6, [(0, 1, 1), (2, 0, 0)])
-    """
+    the number of effective divisors of its degree: so many verdicts are taken."""
 
     def __init__(self, table: Table, program: Optional[Place] = None) -> None:
         self.table, self.effective, self.program = table, EffectiveDivisors(table, table.degree), program

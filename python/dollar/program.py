@@ -20,6 +20,8 @@ Place = Union[str, "os.PathLike[str]"]
 # The folder in which this package lies, and the folder of the clone that has it in `python`, if it is in one.
 HOME = Path(__file__).resolve().parents[1]
 CLONE = HOME.parent
+# Whether it is in a clone, or unpacked from the tarball: what else is beside its folder is somebody else's.
+IS_IN_CLONE = (HOME / "backend.py").is_file()
 # How many seconds a page waits for an answer.
 PATIENCE = 120.0
 # Whether the program of a clone is built if it has to be.
@@ -61,16 +63,9 @@ def fault_of(said: bytes, status: int, otherwise: str = "") -> Fault:
 
 
 def ended_by(status: int, answers: int) -> str:
-    """How a program has ended that said nothing.
-
-    >>> ended_by(-9, 3), ended_by(0, 1)
-    ('it was ended by SIGKILL after 3 answers', 'it ended after 1 answer')
-    """
-    if status >= 0:
-        end = "ended"
-    else:
-        names = {each.value: each.name for each in signal.Signals}
-        end = "was ended by %s" % names.get(-status, "signal %d" % -status)
+    """How a program has ended that said nothing."""
+    names = {each.value: each.name for each in signal.Signals}
+    end = "ended" if status >= 0 else "was ended by %s" % names.get(-status, "signal %d" % -status)
     return "it %s after %d answer%s" % (end, answers, "" if answers == 1 else "s")
 
 
@@ -103,13 +98,8 @@ def beside() -> Iterator[Path]:
             yield Path(paths["scripts"])
     yield HOME / "bin"
     yield from HOME.glob("dollar-*.data/scripts")
-    if is_in_clone():
+    if IS_IN_CLONE:
         yield CLONE
-
-
-def is_in_clone() -> bool:
-    """Whether this package is in a clone, or unpacked from the tarball: what else may be beside its folder is somebody else's."""
-    return (HOME / "backend.py").is_file()
 
 
 def find_program(program: Optional[Place] = None) -> str:
@@ -127,7 +117,7 @@ def find_program(program: Optional[Place] = None) -> str:
             if not found:
                 raise ProgramNotFound("%s names %s, and no program is there" % (whence, os.fspath(given)))
             return os.path.abspath(found)
-    if is_in_clone() and (CLONE / "crates.txt").is_file():
+    if IS_IN_CLONE and (CLONE / "crates.txt").is_file():
         return built()
     found = shutil.which("dollar", path=os.pathsep.join(map(str, beside()))) or shutil.which("dollar")
     if not found:

@@ -30,12 +30,7 @@ Got = TypeVar("Got")
 
 
 class End(NamedTuple):
-    """How a session has ended: its status, which is less than 0 if a signal ended it, and what the program said on standard error.
-
-    >>> from dollar import Table
-    >>> Table([[0, 1], [1, 0]]).serve().close()
-    End(status=0, fault='')
-    """
+    """How a session has ended: its status, which is less than 0 if a signal ended it, and what the program said on standard error."""
 
     status: int
     fault: str
@@ -43,15 +38,7 @@ class End(NamedTuple):
 
 class Ended(Fault):
     """The session has ended instead of giving an answer, or had ended before. `text` says why, `fault` is the whole line that the program
-    said, and `answers` the number of lines that were answered.
-
-    >>> from dollar import Table
-    >>> try:
-    ...     Table([[0, 70], [70, 0]]).serve().ask("look")
-    ... except Ended as ended:
-    ...     print(ended)
-    the session has ended with status 3: valence of vertex 0: 70 edges, and only 0 to 63 is possible
-    """
+    said, and `answers` the number of lines that were answered. `help(dollar.Session)` has an example."""
 
     def __init__(self, end: End, answers: int = 0, more: str = "") -> None:
         super().__init__(fault_of(end.fault.encode(), end.status, ended_by(end.status, answers)).text, end.status, None, more)
@@ -329,10 +316,11 @@ class AsyncSession:
     >>> import asyncio
     >>> from dollar import Table
     >>> async def play():
-    ...     async with AsyncSession(Table([[0, 1], [1, 0]], [2, -1])) as session:
-    ...         return [str(await session.ask(line)) for line in ("look", "commit")]
+    ...     async with AsyncSession(Table([[0, 1], [1, 0]], [2, -1])) as one:
+    ...         other = await AsyncSession.open(Table([[0, 1], [1, 0]], [2, -1]), seats=2)
+    ...         return str(await one.ask("look")), str(await other.ask_seat(2, "lend 0")), await other.close()
     >>> asyncio.run(play())
-    ['0 looked 0 0=2 1=-1', '1 winnable by 0=0 1=-1 to 0=1 1=0']
+    ('0 looked 0 0=2 1=-1', '0 moved 0=1 1=0', End(status=0, fault=''))
     """
 
     def __init__(self, table: Asked, *, seats: Optional[int] = None, cap: Optional[int] = None, workers: Optional[int] = None,
@@ -351,15 +339,7 @@ class AsyncSession:
 
     @classmethod
     async def open(cls, table: Asked, **options: Any) -> AsyncSession:
-        """A session that has begun, with the options of the class.
-
-        >>> import asyncio
-        >>> async def play():
-        ...     session = await AsyncSession.open({"vertices": ["a"], "edges": [], "amounts": [1], "q": "a"}, cap=1)
-        ...     return str(await session.ask("claim")), await session.close()
-        >>> asyncio.run(play())
-        ('0 won', End(status=0, fault=''))
-        """
+        """A session that has begun, with the options of the class; `help(AsyncSession)` has an example."""
         return await cls(table, **options).__aenter__()
 
     async def _in_thread(self, do: Callable[[], Got]) -> Got:

@@ -229,12 +229,7 @@ def answers_one_by_one(job: Job, number: int, over: List[bool]) -> Iterator[Any]
 
 
 class Answers(Generic[Found, Told, OfNumpy, OfArray], Iterator[Found]):
-    """The answers of a sweep, in order, as they come. The sweep begins when the first is asked for, and they can be taken once.
-
-    >>> answers = rr_all(Table([[0, 1], [1, 0]]), divisors=[[2, 0], [-1, 0]])
-    >>> next(answers).rank, [numbers.rank for numbers in answers]
-    (2, [-1])
-    """
+    """The answers of a sweep, in order, as they come. The sweep begins when the first is asked for, and they can be taken once."""
 
     def __init__(self, job: Job, columns: Callable[[Any, Any], Columns]) -> None:
         if job.ahead is not None:
@@ -321,16 +316,15 @@ def tables_one_by_one(tables: Any) -> Iterator[Kept]:
     """What is kept of each table, and its line."""
     if isinstance(tables, (AbstractMapping, str, bytes, os.PathLike)) or hasattr(tables, "edges") or not hasattr(tables, "__iter__"):
         raise TypeError("many tables are asked about, as a list of them, or as `divisors` of one table; and not %.80r" % (tables,))
-    return kept_and_lines(tables)
 
-
-def kept_and_lines(tables: Iterable[Any]) -> Iterator[Kept]:
-    for number, table in enumerate(tables):
+    def kept_and_line(number: int, table: Any) -> Kept:
         try:
             line, kept = one_line(table)
         except (TypeError, ValueError) as error:
             raise type(error)("table %d: %s" % (number, error)) from None
-        yield kept, line + b"\n"
+        return kept, line + b"\n"
+
+    return itertools.starmap(kept_and_line, enumerate(tables))
 
 
 def asked(command: str, given: Sequence[str], tables: Any, divisors: Optional[Divisors], workers: Optional[int],

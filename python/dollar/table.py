@@ -31,34 +31,15 @@ EXAMPLES = next(filter(Path.is_dir, [Path(__file__).with_name("examples")]), CLO
 Edge = Tuple[Hashable, Hashable, int]
 
 
-class OfNetworkx(Protocol):
-    """A graph of networkx, or what has its `nodes` and `edges`."""
+class OfGraph(Protocol):
+    """A graph of networkx or of Sage, or what has its `edges`."""
 
     @property
-    def nodes(self) -> Iterable[Any]: ...
-
-    @property
-    def edges(self) -> Iterable[Any]: ...
-
-
-class OfSage(Protocol):
-    """A Graph of Sage, or what has its `vertices` and `edges`."""
-
-    def vertices(self) -> Iterable[Any]: ...
-
-    def edges(self, labels: bool) -> Iterable[Any]: ...
-
-
-class OfSandpile(Protocol):
-    """A Sandpile of Sage."""
-
-    def vertices(self) -> Iterable[Any]: ...
-
-    def sink(self) -> Any: ...
+    def edges(self) -> Any: ...
 
 
 # What a table can be made of: the members of a table, a graph, or an adjacency matrix.
-Graph = Union[Mapping[str, object], OfNetworkx, OfSage, OfSandpile, Iterable[Iterable[SupportsIndex]]]
+Graph = Union[Mapping[str, object], OfGraph, Iterable[Iterable[SupportsIndex]]]
 # What a command takes as a table: a Table, the members of one, or the place of a file.
 Asked = Union[Mapping[str, object], Place]
 
@@ -266,10 +247,6 @@ class Table(AbstractMapping[str, Any]):
 
     Nothing is dropped or rounded: a number that isn't whole is a TypeError, anything else that doesn't fit a ValueError.
 
-    >>> Table(table, {"c": 5})
-    Traceback (most recent call last):
-        ...
-    ValueError: there is no vertex 'c': the vertices are a, b
     >>> Table(table, {"a": 1.7})
     Traceback (most recent call last):
         ...

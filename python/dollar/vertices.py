@@ -34,13 +34,7 @@ def whole(number: object, what: str) -> int:
 
 
 def within(number: object, what: str, least: int, most: int) -> int:
-    """A whole number that is within limits. Another one is a ValueError that has it and the limits.
-
-    >>> within(65, "seats", 1, 64)
-    Traceback (most recent call last):
-        ...
-    ValueError: seats: 65, and only 1 to 64 is possible
-    """
+    """A whole number that is within limits. Another one is a ValueError that has it and the limits."""
     found = whole(number, what)
     if not least <= found <= most:
         raise ValueError("%s: %d, and only %d to %d is possible" % (what, found, least, most))
@@ -216,11 +210,6 @@ def by_name(amounts: Mapping[Any, int]) -> Dict[str, int]:
     return {vertices.names[vertices.places[vertex]]: amount for vertex, amount in amounts.items()}
 
 
-def is_name(name: object) -> bool:
-    """Whether the program takes this for the name of a vertex."""
-    return isinstance(name, str) and NAME.fullmatch(name) is not None
-
-
 def named(vertices: Sequence[Vertex], names: Optional[Callable[[Any], str]] = None) -> List[str]:
     """The names of the vertices, which are all different: their texts, or v0, v1 and so on if these can't be names; or those that
     `names` gives.
@@ -230,9 +219,9 @@ def named(vertices: Sequence[Vertex], names: Optional[Callable[[Any], str]] = No
     """
     found = [(names or str)(vertex) for vertex in vertices]
     if names is None:
-        return found if all(map(is_name, found)) and len({*found}) == len(found) else ["v%d" % place for place in range(len(found))]
+        return found if all(map(NAME.fullmatch, found)) and len({*found}) == len(found) else ["v%d" % place for place in range(len(found))]
     for place, name in enumerate(found):
-        if not is_name(name):
+        if not isinstance(name, str) or not NAME.fullmatch(name):
             raise ValueError("the parameter `names` gives vertex %s the name %r: a name has 1 to 16 letters from a to z or A to Z, digits or _"
                              % (vertices[place], name))
         if name in found[:place]:
