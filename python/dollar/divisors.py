@@ -2,7 +2,6 @@
 
 from __future__ import annotations
 
-import itertools
 import math
 from fractions import Fraction
 from typing import Any, Iterator, List, Mapping, Optional, Sequence, Tuple
@@ -19,9 +18,16 @@ def losses(size: int, degree: int) -> Iterator[Tuple[int, ...]]:
     >>> list(losses(3, 2))
     [(0, 0, 2), (0, 1, 1), (0, 2, 0), (1, 0, 1), (1, 1, 0), (2, 0, 0)]
     """
-    for bars in itertools.combinations(range(degree + size - 1), size - 1):
-        ends = (-1, *bars, degree + size - 1)
-        yield tuple(right - left - 1 for left, right in zip(ends, ends[1:]))
+    held, last = [0] * (size - 1) + [degree], size - 1
+    while True:
+        yield tuple(held)
+        # A dollar goes to the place before the last that has some, and the others there to the end.
+        at = next((place for place in range(last, 0, -1) if held[place]), 0)
+        if at == 0:
+            return
+        rest, held[at] = held[at] - 1, 0
+        held[at - 1] += 1
+        held[last] = rest
 
 
 class EffectiveDivisors:
