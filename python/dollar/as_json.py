@@ -54,7 +54,8 @@ def read(line: str) -> Dict[str, object]:
 
 def main(arguments: List[str]) -> int:
     text = (__doc__ or "").partition("\n    >>>")[0].split("\n\n", 2)
-    argparse.ArgumentParser(prog=typed("json"), description=text[0], epilog=text[2], usage=text[1].strip().replace("python3 -m dollar json", typed("json")),
+    usage = text[1].strip().replace("python3 -m dollar json", typed("json"))
+    argparse.ArgumentParser(prog=typed("json"), description=text[0], epilog=text[2], usage=usage,
                             formatter_class=argparse.RawDescriptionHelpFormatter).parse_args(arguments)
     for number, line in enumerate(sys.stdin.buffer, 1):
         try:

@@ -241,7 +241,8 @@ def number_from(least: int) -> Callable[[str], int]:
 
 def words_of(arguments: List[str]) -> argparse.Namespace:
     text = (__doc__ or "").partition("\n    >>>")[0].split("\n\n", 2)
-    parser = argparse.ArgumentParser(prog=typed("sweep"), description=text[0], epilog=text[2], usage=text[1].strip().replace("python3 -m dollar sweep", typed("sweep")).replace("\n", "\n   "),
+    usage = text[1].strip().replace("python3 -m dollar sweep", typed("sweep")).replace("\n", "\n   ")
+    parser = argparse.ArgumentParser(prog=typed("sweep"), description=text[0], epilog=text[2], usage=usage,
                                      formatter_class=argparse.RawDescriptionHelpFormatter)
     where = parser.add_mutually_exclusive_group()
     where.add_argument("--scheduler", metavar="ADDRESS", help="the cluster to use")

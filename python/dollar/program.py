@@ -49,7 +49,8 @@ class Fault(Exception):
         self.text, self.status, self.table, self.more = text, status, table, more
 
     def __str__(self) -> str:
-        return "%s%s%s (status %d)" % ("" if self.table is None else "table %d: " % self.table, self.text, self.more and ": " + self.more, self.status)
+        place = "" if self.table is None else "table %d: " % self.table
+        return "%s%s%s (status %d)" % (place, self.text, self.more and ": " + self.more, self.status)
 
 
 class ProgramNotFound(FileNotFoundError):

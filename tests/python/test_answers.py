@@ -149,6 +149,26 @@ class OfAnswers(Test):
             self.assertEqual(len(frame), len(order))
             self.assertEqual(frame.refused.dropna().tolist(), ["edge 0 is a loop"])
             self.assertEqual(sorted(frame["rank"].dropna()), sorted([0, -1][:len(order) - 1]))
+            # Numbers stay whole beside what is refused.
+            whole = frame.convert_dtypes()
+            self.assertEqual({str(whole[name].dtype) for name in ("degree", "genus", "rank", "dual")}, {"Int64"})
+        # If both ranks are past the limits, the degree and the genus are there, and the reason.
+        complete = dollar.Table([[int(u != v) for v in range(16)] for u in range(16)], [7] * 15 + [6])
+        row, = dollar.rr_all([complete])
+        self.assertEqual((row.degree, row.genus, row.rank, row.refused, row.as_dict()),
+                         (111, 105, None, "too many trials", {"degree": 111, "genus": 105, "refused": "too many trials"}))
+        with self.assertRaisesRegex(Fault, "table 0: too many trials: only the degree 1000 and 200000 trials are possible"):
+            list(dollar.rr_all([complete], errors="raise"))
+        place = self.folder() / "rows.csv"
+        dollar.to_csv(dollar.rr_all([complete]), place)
+        self.assertEqual(place.read_text(), "table,degree,genus,rank,dual,refused\n0,111,105,,,too many trials\n")
+        columns = dollar.rr_all([TRIANGLE] * 3).columns()
+        frame = pandas.DataFrame(columns)
+        self.assertEqual((list(frame.columns), len(frame), str(frame["rank"].dtype), list(columns), columns.count),
+                         (["degree", "genus", "rank", "dual"], 3, "int64", ["degree", "genus", "rank", "dual"], 3))
+        # From 0 0 -1 first c borrows, which leaves -1 -1 1, and then b, which leaves -2 1 0.
+        verdicts = pandas.DataFrame(dollar.judge_all(dollar.Table(TRIANGLE), divisors=[[2, -1, -1], [0, 0, -1]]).columns())
+        self.assertEqual((verdicts.winnable.tolist(), verdicts.script_b.tolist(), len(verdicts.columns)), ([True, False], [-1, -1], 7))
         self.assertEqual(list(pandas.DataFrame(dollar.judge_all(tables[:1])).columns), ["winnable", "script", "reduced"])
         self.assertEqual(pandas.DataFrame(dollar.rank_test_all(tables[:1], 1)).loss.tolist(), [{"a": 0, "b": 0, "c": 1}])
 

@@ -170,8 +170,8 @@ class OfAClusterOfTwo(Test):
     def test_each_end_of_a_cluster_is_told_in_a_line(self):
         scheduler = self.begun("dask_scheduler", "--port", "0")
         address = next(found[0] for found in (re.search(r"tcp://\S+:\d+", line) for line in scheduler.stderr) if found)
-        words = [sys.executable, "-c", "import sys; from dollar import cluster, __main__; cluster.PATIENCE = 1.0; sys.exit(__main__.main(sys.argv[1:]))",
-                 "sweep", "--scheduler", address, "judge", self.file, self.place / "ends.csv"]
+        impatient = "import sys; from dollar import cluster, __main__; cluster.PATIENCE = 1.0; sys.exit(__main__.main(sys.argv[1:]))"
+        words = [sys.executable, "-c", impatient, "sweep", "--scheduler", address, "judge", self.file, self.place / "ends.csv"]
 
         def swept(then):
             child = subprocess.Popen(words, stderr=subprocess.PIPE, text=True, env=dict(os.environ, DOLLAR=program()))

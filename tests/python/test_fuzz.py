@@ -210,15 +210,18 @@ class OfFuzz(Test):
                 self.assertEqual(len(found), 3)
 
 
-NUMBERS = [0, 1, 2, -1, 3, 17, 63, 64, 65, 1000, 65536, 65537, 2 ** 32, 10 ** 6, 10 ** 6 + 1, -10 ** 6, 10 ** 9, 10 ** 30, True, 1.0, 0.5, "1", None, [1], b"1"]
+NUMBERS = [0, 1, 2, -1, 3, 17, 63, 64, 65, 1000, 65536, 65537, 2 ** 32, 10 ** 6, 10 ** 6 + 1, -10 ** 6, 10 ** 9, 10 ** 30, True, 1.0, 0.5, "1",
+           None, [1], b"1"]
 THINGS = ["a", "b", 0, 1, 2, None, "z", "", (0, 1), 5.5, object(), [], {}, set(), frozenset("ab"), [1, 2, 3], [0, 0], {"a": 1}, {0: 1}, {"z": 1},
-          {"a", "b"}, {7}, "abc", b"abc", range(3), iter([1, 2, 3]), [10 ** 7, 0, 0], ["look"], ["1 look", "1 commit"], ["1 rank 2"], [None], "1 look"]
+          {"a", "b"}, {7}, "abc", b"abc", range(3), iter([1, 2, 3]), [10 ** 7, 0, 0], ["look"], ["1 look", "1 commit"], ["1 rank 2"], [None],
+          "1 look"]
 # What is asked of two tables: a call by its name, and how many things it is given beside.
 METHODS = [("fire", 1), ("lend", 1), ("lend", 2), ("borrow", 1), ("borrow", 2), ("reduced", 1), ("place", 1), ("is_equivalent", 1), ("script_to", 1),
            ("__add__", 1), ("__sub__", 1), ("__radd__", 1), ("__mul__", 1), ("effective_divisors", 1), ("reduced_divisors", 1), ("is_reduced", 0),
            ("canonical", 0), ("residual", 0), ("burning_order", 0), ("linear_system", 0), ("rank", 0), ("rank", 1), ("serve", 1), ("to_json", 0)]
-FUNCTIONS = [("judge", 0), ("judge", 1), ("rank", 0), ("rank", 1), ("rank_test", 1), ("rr", 0), ("rehearse", 1), ("greedy", 1), ("party", 1), ("party", 2),
-             ("fired", 1), ("burnt", 1), ("edges", 0), ("joined", 2), ("flaw", 1), ("picture", 0), ("judge_all", 0), ("rr_all", 0), ("rank_test_all", 1)]
+FUNCTIONS = [("judge", 0), ("judge", 1), ("rank", 0), ("rank", 1), ("rank_test", 1), ("rr", 0), ("rehearse", 1), ("greedy", 1), ("party", 1),
+             ("party", 2), ("fired", 1), ("burnt", 1), ("edges", 0), ("joined", 2), ("flaw", 1), ("picture", 0), ("judge_all", 0), ("rr_all", 0),
+             ("rank_test_all", 1)]
 OPTIONS = ["seats", "cap", "workers", "patience", "degree", "divisors", "errors", "ahead", "winnable", "program", "names", "no_such"]
 # What a call may end with. An AttributeError or a LookupError would be a slip of the package, and so would an error from its depths.
 FINE = (TypeError, ValueError, Fault, FileNotFoundError)

@@ -213,7 +213,8 @@ class OfAsyncSessions(Test):
             async with dollar.AsyncSession(TABLE, **options):
                 pass
 
-        for options, error, said in (({"seats": 65}, ValueError, "seats: 65, and only 1 to 64"), ({"keep": "/nowhere/game"}, OSError, "/nowhere/game"),
+        for options, error, said in (({"seats": 65}, ValueError, "seats: 65, and only 1 to 64"),
+                                     ({"keep": "/nowhere/game"}, OSError, "/nowhere/game"),
                                      ({"program": "/nowhere/dollar"}, dollar.ProgramNotFound, "names /nowhere/dollar")):
             with self.assertRaisesRegex(error, said):
                 asyncio.run(play(**options))

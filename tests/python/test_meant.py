@@ -194,7 +194,8 @@ class OfMeanings(Test):
     @each(["/usr/bin/true", "/bin/cat", "/bin/echo"])
     def test_a_program_that_is_not_ours_is_noticed(self, program):
         table = Table(TRIANGLE)
-        calls = [lambda: dollar.judge(table, program=program), lambda: dollar.rank_test(table, 1, program=program), lambda: dollar.rr(table, program=program),
+        calls = [lambda: dollar.judge(table, program=program), lambda: dollar.rank_test(table, 1, program=program),
+                 lambda: dollar.rr(table, program=program), lambda: dollar.rank(table, program=program),
                  lambda: list(dollar.judge_all([table], program=program)), lambda: list(dollar.judge_all([table] * 20_000, program=program)),
                  lambda: list(dollar.judge_all(table, program=program, divisors=[[0, 0, 0]])),
                  lambda: dollar.judge_all(table, program=program, divisors=[[0, 0, 0]]).columns(), lambda: dollar.greedy(table, 0, program=program),

@@ -132,7 +132,7 @@ Table(dict(N, edges=[["a", "b", 0]]))
 Table(dict(N, q="z"))
     ValueError: there is no vertex 'z': the vertices are a, b, c
 Table(N, names=lambda v: "x y")
-    ValueError: the parameter `names` gives vertex a the name 'x y': a name has 1 to 16 letters from a to z or A to Z, digits 
+    ValueError: the parameter `names` gives vertex a the name 'x y': a name has 1 to 16 letters from a to z or A to Z, digits
 Table(N, names=lambda v: "x")
     ValueError: the vertices 'a' and 'b' have the same name, x
 Table.graph6("zz")

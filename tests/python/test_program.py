@@ -30,7 +30,8 @@ class OfFindingIt(Test):
 
     def found(self, folder, words=FOUND, path="/usr/bin:/bin", **more):
         environment = {"PYTHONPATH": str(folder), "PATH": path, "HOME": str(self.folder()), **more}
-        return subprocess.run([sys.executable, "-B", "-c", words], stdout=subprocess.PIPE, stderr=subprocess.PIPE, text=True, env=environment, cwd="/")
+        return subprocess.run([sys.executable, "-B", "-c", words], stdout=subprocess.PIPE, stderr=subprocess.PIPE, text=True, env=environment,
+                              cwd="/")
 
     def test_a_target_of_pip(self):
         folder = self.package(self.folder() / "target")

@@ -16,8 +16,8 @@ With --keep FOLDER the class is kept in that folder while it goes on, with its a
 goes on with it, no matter what ended the first.
 
 With --places PLACES each line 'name x y' of a file is the place of a vertex; x goes to the right, and y down. With --no-browser no
-browser is opened, and with --port PORT the address has that port. `board/play` is the command in a clone, and `dollar-board` that of an
-installed package."""
+browser is opened, and with --port PORT the address has that port. In a clone the command is `board/play`, and once installed it is
+`dollar-board`."""
 import argparse
 import asyncio
 import os
