@@ -460,8 +460,6 @@ class Refused(Fault):
     RefusedRiemannRoch(degree=None, genus=None, rank=None, dual=None, refused='shape of top')
     >>> row.rank is None, row.table, bool(row), row.as_dict()
     (True, 0, False, {'refused': 'shape of top'})
-    >>> print(row)
-    refused shape of top
     """
 
     refused: str

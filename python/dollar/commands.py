@@ -49,18 +49,19 @@ def run(command: str, *given: object, program: Optional[Place] = None) -> List[s
     >>> run("rank", Table([[0, 1], [1, 0]], [2, -1]), 1, "--workers", 2)
     ['rank at least 1']
     """
-    return printed(command, *map(word_of, given), program=program).splitlines()
-
-
-def edges_at(table: Any, place: int) -> str:
-    return "%d edges" % sum(edge[2] for edge in table["edges"] if table["vertices"][place] in edge[:2])
+    try:
+        return printed(command, *map(word_of, given), program=program).splitlines()
+    except Fault as fault:
+        first = given[0] if given else None
+        raise Fault(fault.text, fault.status, None, more_of(fault.text, first, first)) from None
 
 
 # What can be said of a fault: its text, the value by the members of the table and the number in the text, and the limit.
 BESIDE: List[Tuple[str, Callable[[Any, int], Any], str]] = [
     ("number of vertices", lambda table, _: len(table["vertices"]), "1 to %d is" % limit("dg_graph::MAX_VERTICES")),
     ("amount of vertex", lambda table, place: table["amounts"][place], "%d to %d is" % (-MOST_AMOUNT, MOST_AMOUNT)),
-    ("valence of vertex", edges_at, "0 to %d is" % limit("dg_graph::MAX_VALENCE")),
+    ("valence of vertex", lambda table, place: "%d edges" % sum(edge[2] for edge in table["edges"] if table["vertices"][place] in edge[:2]),
+     "0 to %d is" % limit("dg_graph::MAX_VALENCE")),
     ("name of vertex", lambda table, place: repr(table["vertices"][place]), "1 to %d letters, digits and _ are" % limit("dg_tokens::MAX_NAME")),
     ("vertex # named twice", lambda table, place: repr(table["vertices"][place]), "one vertex with a name is"),
     ("shape of edge", lambda table, place: repr(table["edges"][place]), "two names and a number are"),
@@ -77,12 +78,18 @@ def beside(text: str, kept: Any) -> str:
     for begins, value_of, most in BESIDE:
         if text.replace(found[0] if found else "#", "#").startswith(begins):
             try:
-                table = json.loads(kept) if isinstance(kept, bytes) else made_of(kept)
+                table = json.loads(kept) if isinstance(kept, bytes) else made_of(kept) if isinstance(kept, tuple) else kept
                 value = str(value_of(table, int(found[0]) if found else 0))
             except (LookupError, TypeError, ValueError, RecursionError):
                 value = ""
             return ", and ".join(filter(None, [value, most and "only %s possible" % most]))
     return ""
+
+
+def more_of(text: str, table: Any, kept: Any) -> str:
+    """The same, and the file, if the table is one."""
+    place = "in %s" % os.fspath(table) if isinstance(table, (str, os.PathLike)) else ""
+    return ", ".join(filter(None, [beside(text, kept), place]))
 
 
 def asked(table: Asked, ask: Callable[[bytes], str], read: Callable[[str, Any], Got], program: Optional[Place], lines: bytes = b"") -> Got:
@@ -93,9 +100,8 @@ def asked(table: Asked, ask: Callable[[bytes], str], read: Callable[[str, Any], 
         out = ask(file)
     except Fault as fault:
         line = re.match(r"(?:line|step) (\d+): ", fault.text)
-        more = repr(lines.split(b"\n")[int(line[1]) - 1].decode()) if line else beside(fault.text, kept)
-        place = "in %s" % os.fspath(table) if isinstance(table, (str, os.PathLike)) else ""
-        raise Fault(fault.text, fault.status, None, ", ".join(filter(None, [more, place]))) from None
+        more = repr(lines.split(b"\n")[int(line[1]) - 1].decode()) if line else more_of(fault.text, table, kept)
+        raise Fault(fault.text, fault.status, None, more) from None
     try:
         return read(out, kept)
     except ValueError as flaw:

@@ -39,9 +39,7 @@ class Fault(Exception):
     ...     judge(Table([[0, 1], [1, 0]], [2_000_000, 0]))
     ... except Fault as fault:
     ...     print(fault)
-    ...     print(fault.text, fault.status)
     amount of vertex 0: 2000000, and only -1000000 to 1000000 is possible (status 3)
-    amount of vertex 0 3
     """
 
     def __init__(self, text: str, status: int, table: Optional[int] = None, more: str = "") -> None:

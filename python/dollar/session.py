@@ -17,7 +17,7 @@ from types import TracebackType
 from typing import Any, Callable, List, NamedTuple, Optional, Tuple, Type, TypeVar
 
 from dollar.answers import Entry, History, numbered, vertices_of
-from dollar.commands import beside, option
+from dollar.commands import more_of, option
 from dollar.grammar import limit
 from dollar.program import Fault, Place, command_line, ended_by, fault_of
 from dollar.table import Asked, file_and_table
@@ -251,7 +251,7 @@ class Session:
     def _ended(self, end: End) -> Ended:
         """The error for a line that has no answer any more, with the value and the limit."""
         ended = Ended(end, self.answers)
-        return Ended(end, self.answers, beside(ended.text, self.kept_table))
+        return Ended(end, self.answers, more_of(ended.text, self.table, self.kept_table))
 
     def close(self) -> End:
         """Ends the input, which ends the session. Returns how it has ended, the same at each call. `help(Session)` has an example."""

@@ -514,7 +514,7 @@ class Table(AbstractMapping[str, Any]):
 
     def reduced_divisors(self, degree: int, *, winnable: bool = False) -> ReducedDivisors:
         """The divisors of a degree that are reduced at q, as tables one by one: one of each class. With `winnable` only those that can be
-        won. Their `count` is known before: there are as many classes as spanning trees.
+        won. The `count` of classes is known before: it is the number of spanning trees.
 
         >>> triangle = Table([[0, 1, 1], [1, 0, 1], [1, 1, 0]])
         >>> found = triangle.reduced_divisors(0)

@@ -263,6 +263,14 @@ dollar.answer("lent a")
     ValueError: no answer of the program: 'lent a'
 dollar.run("rank", t, "x")
     Fault: error: invalid value 'x' for '<K>': a whole number from 0 to 4294967295 (status 2)
+dollar.run("judge", "nosuch.json")
+    Fault: read fault: in nosuch.json (status 5)
+dollar.run("judge", "rich.json")
+    Fault: amount of vertex 0: only -1000000 to 1000000 is possible, in rich.json (status 3)
+dollar.run("judge", Table(t, [10000000, 0, 0]))
+    Fault: amount of vertex 0: 10000000, and only -1000000 to 1000000 is possible (status 3)
+dollar.Session("rich.json").ask("look")
+    Ended: the session has ended with status 3: amount of vertex 0: 2000000, and only -1000000 to 1000000 is possible, in rich.json
 dollar.picture(5)
     TypeError: a table is a Table or a dict, and not 5
 (10 * Table(t, [999999, 999999, 999999])).rank()
