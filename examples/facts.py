@@ -1,5 +1,5 @@
 #!/usr/bin/env python3
-"""Published facts about chip-firing, each beside what the program finds. It takes networkx.
+"""Published facts about chip-firing, each beside what the program finds, and one that is known without a source. It takes networkx.
 
     examples/facts.py
 
@@ -179,12 +179,12 @@ def complete_graphs():
     return [gonality(networkx.complete_graph(n)) for n in range(2, 11)] == list(range(1, 10))
 
 
-@fact("van Dobben de Bruyn 2012", "gonality of complete bipartite graphs: the lesser part, to K6,6")
+@fact("van Dobben de Bruyn 2012", "gonality of complete bipartite graphs: the lesser part, to K7,7")
 def bipartite():
-    return all(gonality(networkx.complete_bipartite_graph(m, n)) == min(m, n) for m in range(1, 7) for n in range(m, 7))
+    return all(gonality(networkx.complete_bipartite_graph(m, n)) == min(m, n) for m in range(1, 8) for n in range(m, 8))
 
 
-@fact("van Dobben de Bruyn 2012", "gonality of complete multipartite graphs: n minus the largest part")
+@fact("van Dobben de Bruyn, Gijswijt 2014", "gonality of complete multipartite graphs: n minus the largest part")
 def multipartite():
     return all(gonality(networkx.complete_multipartite_graph(*parts)) == sum(parts) - max(parts)
                for parts in ((1, 1, 2), (1, 2, 2), (2, 2, 2), (1, 2, 3), (1, 1, 4), (2, 2, 3), (1, 1, 1, 2)))
@@ -213,9 +213,10 @@ def platonic():
                                           networkx.icosahedral_graph())] == [3, 4, 4, 9]
 
 
-@fact("Cools, Panizzut and others", "gonality of cages: Petersen's graph 4, Heawood's 5, of Moebius and Kantor 6")
+@fact("Cages and cubes, no source", "gonality of Petersen's graph 4, Heawood's 5, of Moebius and Kantor 6, the cube of 4 dimensions 8")
 def cages():
-    return [gonality(graph) for graph in (networkx.petersen_graph(), networkx.heawood_graph(), networkx.moebius_kantor_graph())] == [4, 5, 6]
+    return [gonality(graph) for graph in (networkx.petersen_graph(), networkx.heawood_graph(), networkx.moebius_kantor_graph(),
+                                          networkx.hypercube_graph(4))] == [4, 5, 6, 8]
 
 
 @fact("Baker, Norine 2009", "genus 2 is hyperelliptic: all thetas with paths of up to 4, and just one class on theta(2, 2, 3)")
