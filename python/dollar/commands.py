@@ -10,7 +10,7 @@ from typing import Any, Callable, Iterable, List, Optional, Tuple, TypeVar, Unio
 
 from dollar.answers import (
     Entry, History, Party, RankTest, RiemannRoch, Verdict, history, pairs_of, rank_test_of, riemann_roch_of, verdict_of, vertices_of)
-from dollar.grammar import limit
+from dollar.grammar import GRAMMAR, limit
 from dollar.program import Fault, Place, call, fault_of, find_program, printed
 from dollar.table import MOST_AMOUNT, MOST_BYTES, Asked, Table, file_and_table, made_of, members
 from dollar.vertices import within
@@ -87,8 +87,9 @@ def beside(text: str, kept: Any) -> str:
 
 
 def more_of(text: str, table: Any, kept: Any) -> str:
-    """The same, and the file, if the table is one."""
-    place = "in %s" % os.fspath(table) if isinstance(table, (str, os.PathLike)) else ""
+    """The same, and the file, if the table is one and the fault is about it."""
+    is_of_file = re.sub(r"\d+", "#", text) in (*GRAMMAR["tables"], "read fault", "file too long", TOO_MANY)
+    place = "in %s" % os.fspath(table) if isinstance(table, (str, os.PathLike)) and is_of_file else ""
     return ", ".join(filter(None, [beside(text, kept), place]))
 
 

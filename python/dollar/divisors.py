@@ -145,8 +145,6 @@ class LinearSystem:
         self.candidates = self.effective.count
 
     def __iter__(self) -> Iterator[Table]:
-        if not self.candidates:
-            return
         differences = (level(each - self.table)[0] for each in self.effective)
         for each, verdict in zip(self.effective, judge_all(self.table, program=self.program, divisors=differences, errors="raise")):
             if not any(verdict.reduced.values()):
