@@ -1,12 +1,9 @@
 //! The first trial whose loss can't be borne.
 ghost use Rattle.std.specs.Prelude.{◌≡◌, ℕ, ◌+◌, ◌-◌, ◌<◌, ◌≤◌, min, length, slice_index, MatchOption};
 ghost use Rattle.std.specs.List.{sum};
-ghost use Rattle.dg_theory.specs.Rank.{less};
 ghost use Rattle.dg_graph.specs.Graph.{IsGraph};
 ghost use Rattle.dg_chips.specs.Vector.{at};
-ghost use Rattle.dg_reduce.specs.Effective.{IsEffectiveDivisor};
 ghost use Rattle.dg_rank.specs.Asked.{AreMade};
-ghost use Rattle.dg_rank.specs.Divisors.{amounts_of};
 ghost use Rattle.dg_rank.specs.Limits.{IsWithinLimits};
 ghost use Rattle.dg_rank.specs.Numbering.{nth_trial, trial_count};
 ghost use Rattle.dg_rank.specs.Losses.{AreSmallForTrials, WinsWithout, AllWin, IsFirstLossIn, IsLeftBeforeLast};
@@ -132,33 +129,14 @@ pub(crate) fn left_before_last(
         (IsLeftBeforeLast graph.now (at chips.now) trial.now) }
 {
     let last = graph.size() - 1;
-    let mut left = left_without(graph, inverse, chips, trial)?;
-    left.give(last, trial.get(last));
-    Some(left)
-}
-
-/// Amounts without debts that amounts without a trial's can be fired to; `None` if those can't be won.
-fn left_without(
-    graph: &Graph,
-    inverse: &InverseLaplacian,
-    chips: &Wide,
-    trial: &Trial,
-) -> Option<EffectiveDivisor>
-    requires graph { IsGraph graph.now }
-    requires size { chips.now.size ≡ graph.now.size }
-    requires range { AreSmallForTrials graph.now.size (at chips.now) }
-    requires places { length trial.now ≡ graph.now.size }
-    requires few { sum trial.now ≤ 1000 }
-    ensures { MatchOption result
-        (¬ WinsWithout graph.now (at chips.now) trial.now)
-        (IsEffectiveDivisor graph.now (less (at chips.now) (amounts_of trial.now))) }
-{
     let lost = trial.to_divisor();
-    let left = reduce_certified(graph, inverse, 0, &chips.less(&lost))
+    let reduced = reduce_certified(graph, inverse, 0, &chips.less(&lost))
         .reduced
         .divisor;
-    if left.get(0) < 0 {
+    if reduced.get(0) < 0 {
         return None;
     }
-    Some(EffectiveDivisor::of(&left))
+    let mut left = EffectiveDivisor::of(&reduced);
+    left.give(last, trial.get(last));
+    Some(left)
 }

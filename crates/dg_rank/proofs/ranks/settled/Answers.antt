@@ -1,7 +1,8 @@
 use Rattle.dg_rank.proofs.Common.{◌≡◌, ◌<◌, arith, refl, ◌≤ℤ◌, ◌<ℤ◌, ints, pos, ◌-ℤ◌, genus, degree, rich_rank, at, IsWithinLimits, IsFirstLossIn}
 use Rattle.std.proofs.Math.IntN.{◌+ℤ◌}
 use Rattle.dg_rank.specs.Numbering.{nth_trial}
-use Rattle.dg_rank.proofs.FirstLosses.{nth-trial, found_loss, some_number, poor_loss}
+use Rattle.dg_rank.proofs.FirstLosses.{found_loss, some_number, poor_loss}
+use Rattle.dg_rank.proofs.Numbering.{limits_trial}
 use Rattle.dg_rank.proofs.ranks.settled.Goals as goal
 
 pub returns-then-rest-from : goal.returns-then-rest-from
@@ -28,7 +29,7 @@ to_divisor-first-requires c =
     let within : IsWithinLimits c.size-size.result c.args.k count = rw (← c.size-size.ensures.size) at given in
     let some : 0 < count = some_number c.size-size.result c.args.k count within in
     rw c.with_number.ensures
-    (omega (arith, (nth-trial c.size-size.result c.args.k count 0 within some).amount, within.small))
+    (omega (arith, (limits_trial c.size-size.result c.args.k count 0 within some).amount, within.small))
 
 pub returns-then-rest-lt0 : goal.returns-then-rest-lt0
 returns-then-rest-lt0 c =
