@@ -1,6 +1,6 @@
 //! Rank tests by the residual of a divisor, which is the canonical divisor less it. By the theorem of Riemann and Roch a divisor
 //! passes a test exactly if its residual passes another, and one of the two may have far fewer trials.
-ghost use Rattle.std.specs.Prelude.{◌≡◌, ℕ, ⊤, ◌<◌, ◌≤◌, pos, ◌+ℤ◌, ◌-ℤ◌, MatchBool};
+ghost use Rattle.std.specs.Prelude.{◌≡◌, ℕ, ⊤, ◌+◌, ◌<◌, ◌≤◌, pos, ◌+ℤ◌, ◌-ℤ◌, ◌<ℤ◌, MatchBool};
 ghost use Rattle.std.specs.Int.RustNames.{unsigned_abs};
 ghost use Rattle.dg_theory.specs.Multigraph.{genus};
 ghost use Rattle.dg_theory.specs.Firing.{degree};
@@ -107,9 +107,10 @@ pub(crate) fn dual_wins(
 }
 
 /// The degree at which the residual passes its test exactly if the divisor passes the test of degree k.
-fn degree_of_dual(graph: &Graph, divisor: &Divisor, k: u32) -> u32
+pub(crate) fn degree_of_dual(graph: &Graph, divisor: &Divisor, k: u32) -> u32
     requires size { divisor.now.size ≡ graph.now.size }
-    requires unsettled { IsUnsettled graph.now (at divisor.now) k }
+    requires low { k ≤ unsigned_abs (degree graph.now.size (at divisor.now)) + 1 }
+    requires poor { degree graph.now.size (at divisor.now) <ℤ (genus graph.now +ℤ pos k) }
     ensures { pos k -ℤ pos result
         ≡ (degree graph.now.size (at divisor.now) +ℤ pos 1) -ℤ genus graph.now }
 {

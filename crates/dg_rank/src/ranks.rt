@@ -104,7 +104,7 @@ pub(crate) fn settled(graph: &Graph, divisor: &Divisor, k: u32) -> Option<RankVe
         return Some(RankVerdict::AtLeast(k));
     }
     if rest < 0 {
-        let first = Trial::with_number(size, k, 0).to_divisor();
+        let first = Trial::at_last(size, k).to_divisor();
         return Some(RankVerdict::Below(k, first));
     }
     None
