@@ -9,7 +9,7 @@ ghost use Rattle.dg_graph.specs.Graph.{IsGraph};
 ghost use Rattle.dg_chips.specs.Vector.{at};
 ghost use Rattle.dg_rank.specs.Asked.{AreMade};
 ghost use Rattle.dg_rank.specs.Losses.{AreSmallForTrials};
-ghost use Rattle.dg_rank.specs.Ranks.{IsUnsettled, TellsRankTest};
+ghost use Rattle.dg_rank.specs.Ranks.{TellsRankTest};
 ghost use Rattle.dg_rank.specs.declared.rank_fault.RankFault.TheVariants.{TooMany};
 
 use crate::asked::{find_from, may_ask};
@@ -81,7 +81,7 @@ pub(crate) fn degree_left(divisor: &Divisor, k: u32) -> i64
     divisor.degree() - i64::from(k)
 }
 
-/// Whether the residual tells that a divisor passes a test that its degree does not settle: if the residual's own test has
+/// Whether the residual tells that a divisor passes a test: if no law of the degree tells it, and the residual's own test has
 /// fewer dollars to take, and passes.
 pub(crate) fn dual_wins(
     graph: &Graph,
@@ -92,14 +92,14 @@ pub(crate) fn dual_wins(
 ) -> bool
     requires size { divisor.now.size ≡ graph.now.size }
     requires some { 0 < graph.now.size }
-    requires unsettled { IsUnsettled graph.now (at divisor.now) k }
     requires few { k ≤ 1000 }
     requires made { AreMade graph.now made.old }
     ensures made { AreMade graph.now made.new }
     ensures told { MatchBool result (HasRankAtLeast graph.now (at divisor.now) k) ⊤ }
 {
     let _size = graph.size();
-    if degree_left(divisor, k) < i64::from(k) {
+    let rest = degree_left(divisor, k);
+    if rest < i64::from(k) || rest >= i64::from(graph.genus()) {
         return false;
     }
     let other = degree_of_dual(graph, divisor, k);

@@ -8,7 +8,7 @@ ghost use Rattle.dg_rank.specs.Limits.{IsWithinLimits};
 ghost use Rattle.dg_rank.specs.Losses.{AllWin, IsFirstLossIn};
 ghost use Rattle.dg_verdict.specs.RankTests.{IsRankTest};
 ghost use Rattle.dg_rank.specs.Ladders.{AnswersRankTest};
-ghost use Rattle.dg_rank.specs.Ranks.{IsWithin, IsUnsettled};
+ghost use Rattle.dg_rank.specs.Ranks.{IsWithin};
 
 use crate::counting::trials;
 use crate::duals::{degree_left, dual_wins};
@@ -75,7 +75,6 @@ pub fn rank_at_least_by(
 fn tested(graph: &Graph, inverse: &InverseLaplacian, divisor: &Divisor, k: u32) -> RankVerdict
     requires size { divisor.now.size ≡ graph.now.size }
     requires limits { IsWithin graph.now.size k }
-    requires unsettled { IsUnsettled graph.now (at divisor.now) k }
     ensures { IsRankTest graph.now (at divisor.now) k result }
 {
     let size = graph.size();
@@ -95,7 +94,7 @@ pub(crate) fn settled(graph: &Graph, divisor: &Divisor, k: u32) -> Option<RankVe
     requires size { divisor.now.size ≡ graph.now.size }
     requires limits { IsWithin graph.now.size k }
     ensures { MatchOption result
-        (IsUnsettled graph.now (at divisor.now) k)
+        ⊤
         (IsRankTest graph.now (at divisor.now) k) }
 {
     let size = graph.size();

@@ -12,7 +12,6 @@ dual_wins-requires c =
     record {
       size = c.requires.size;
       some = within.some;
-      unsettled = c.requires.unsettled;
       few = within.small;
       made = none_made c.args.graph.now within.few;
     }
