@@ -37,7 +37,7 @@ pub use Rattle.dg_theory.proofs.ReducedLaws.{effective_from, reduced_decides}
 pub use Rattle.dg_theory.proofs.SumBounds.{sum_below-at_least}
 pub use Rattle.dg_theory.proofs.SumLaws.{sum_below-add, sum_below-cong, sum_below-zero}
 pub use Rattle.dg_theory.proofs.SumSwap.{sum_below-sub}
-pub use Rattle.dg_theory.proofs.TotalLaws.{total_below-cong, total_below-le}
+pub use Rattle.dg_theory.proofs.TotalLaws.{total_below-cong}
 pub use Rattle.dg_theory.proofs.Winning.{equivalent-winnable}
 pub use Rattle.dg_theory.specs.Determining.{Bears, Determines, IsConnectedSet, edges_within}
 pub use Rattle.dg_theory.specs.Firing.{AgreeOn, Amounts, AreEquivalent, HasNoDebtOff, IsEffective, degree, only_at}

@@ -70,7 +70,7 @@ found_trial g D k c None within wins = tt
 pub found_all : (g : Multigraph) (D : Amounts) (k c : ℕ) (E : List ℕ) (found : Option (List ℕ)) → IsWithinLimits g.size k c →
     slice_index E (g.size - 1) ≡ k →
     MatchOption found (AllWin g D k 0 (0 + trial_count (g.size - 0) (slice_index E (g.size - 1))))
-        (IsFirstLossIn g D k 0 (0 + trial_count (g.size - 0) (slice_index E (g.size - 1)))) →
+    (IsFirstLossIn g D k 0 (0 + trial_count (g.size - 0) (slice_index E (g.size - 1)))) →
     MatchOption found (AllWin g D k 0 c) (IsFirstLossIn g D k 0 c)
 found_all g D k c E found within held told =
     let size : g.size - 0 ≡ g.size = omega arith in

@@ -132,5 +132,5 @@ pub left_at_last : (g : Multigraph) (D : Amounts) (E : List ℕ) (x : Vector) �
     ((u : ℕ) → u + 1 < g.size → slice_index E u ≡ 0) → IsLeftBeforeLast g D E x → AreEquivalent g D (at x)
 left_at_last g D E x empty left =
     let (s, leads) = left.left.led in
-    (s, λ v below. omega (arith, ints, leads v below,
-        held_at_last g.size (slice_index E (g.size - 1)) E refl empty v below))
+    let held = held_at_last g.size (slice_index E (g.size - 1)) E refl empty in
+    (s, λ v below. omega (arith, ints, leads v below, held v below))

@@ -1,5 +1,5 @@
 use Rattle.dg_rank.proofs.Common.{◌≡◌, ℕ, ◌<◌, arith, of_z, to_z, w64, pos, ◌+ℤ◌, ◌-ℤ◌, genus, degree, at}
-use Rattle.dg_rank.proofs.SmallAmounts.{genus_small, genus_least}
+use Rattle.dg_rank.proofs.SmallDegrees.{genus_small, genus_least}
 use Rattle.dg_rank.proofs.TestDegrees.{dual_degree}
 use Rattle.dg_rank.proofs.duals.degree_of_dual.Goals as goal
 use Rattle.dg_rank.proofs.duals.degree_of_dual.Goals.{After-ranks_apart}

@@ -1,6 +1,6 @@
 use Rattle.dg_rank.proofs.Common.{◌≡◌, ◌≤◌, arith, w64, to_z, of_z, unsigned_abs, ints, pos, degree, at}
 use Rattle.std.proofs.Math.IntN.{◌+ℤ◌}
-use Rattle.dg_rank.proofs.SmallAmounts.{degree_small, genus_small}
+use Rattle.dg_rank.proofs.SmallDegrees.{degree_small, genus_small}
 use Rattle.dg_rank.proofs.duals.ranks_apart.Goals as goal
 use Rattle.dg_rank.proofs.duals.ranks_apart.Goals.{After-degree}
 

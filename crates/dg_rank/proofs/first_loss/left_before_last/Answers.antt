@@ -102,12 +102,12 @@ returns c =
     let g = c.args.graph.now in
     let E = c.args.trial.now in
     let rich = good (goal.at.returns c).After-of-left (omega (arith, ints)) in
+    let more = only_at-more (g.size - 1) (slice_index E (g.size - 1)) in
     let given = rw (c.get-2.ensures, c.size-last.ensures.size) at c.give.ensures.amounts in
     record {
       left = record {
         size = c.give.ensures.size ∙ rich.size;
-        effective = λ v below. omega (arith, ints, given v, rich.effective v below,
-            only_at-more (g.size - 1) (slice_index E (g.size - 1)) v);
+        effective = λ v below. omega (arith, ints, given v, rich.effective v below, more v);
         led = block_led g (at c.args.chips.now) (slice_index E (g.size - 1)) E c.of-left.result c.give.new.self
             rich given;
       };

@@ -44,7 +44,7 @@ first_in_block-loss-requires-clause-trial c =
 
 found : (c : After-first_in_block-loss) → (count : ℕ) → IsWithinLimits c.args.graph.now.size c.args.k count →
     MatchOption c.first_in_block-loss.result (AllWin c.args.graph.now (at c.of.result) c.args.k 0 count)
-        (IsFirstLossIn c.args.graph.now (at c.of.result) c.args.k 0 count)
+    (IsFirstLossIn c.args.graph.now (at c.of.result) c.args.k 0 count)
 found c count within =
     let d = (goal.at.After-first_in_block-loss c).After-at_last-first in
     found_all c.args.graph.now (at c.of.result) c.args.k count c.at_last-first.result c.first_in_block-loss.result within

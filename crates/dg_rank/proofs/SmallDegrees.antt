@@ -16,7 +16,7 @@ total_below-part n (suc m) f few =
     omega arith)
     (cases_eq n (suc m))
 
-total_below-times : (n K : ℕ) (f : ℕ → ℕ) → ((w : ℕ) → w < n → f w ≤ K) → total_below n f ≤ n * K
+pub total_below-times : (n K : ℕ) (f : ℕ → ℕ) → ((w : ℕ) → w < n → f w ≤ K) → total_below n f ≤ n * K
 total_below-times zero K f low = omega arith
 total_below-times (suc n) K f low =
     let before : total_below n f ≤ n * K = total_below-times n K f (λ w below. low w (omega arith)) in
