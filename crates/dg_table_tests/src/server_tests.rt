@@ -1,8 +1,7 @@
 //! Runs of the program over sources of a user's own.
 
 use crate::tables::TRIANGLE;
-use dg_server::{SourceFault, Sources, run};
-use dg_system::Stream;
+use dg_server::{SourceFault, Sources, Stream, run};
 use std::rt::Files;
 use std::test::Fail;
 

@@ -1,6 +1,6 @@
 use Rattle.std.proofs.Common.{◌≡◌, [], ◌∷◌, ◌++◌, Some, rules}
 use Rattle.dg_table.proofs.Findings.{look_of}
-use Rattle.dg_outline_tests.proofs.settle_tests.look_at.Goals as goal
+use Rattle.dg_table_tests.proofs.settle_tests.look_at.Goals as goal
 
 pub returns-clause-look : goal.returns-clause-look
 returns-clause-look g c =
