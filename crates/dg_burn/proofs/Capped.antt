@@ -29,7 +29,7 @@ same-may g q D held B v graph solvent same burns = (
         (solvent v below (λ is_q. both_ways _ out (ap B is_q ∙ burns)))
         (into-few g B v graph)
 
-among-first : (l : List ℕ) (q i : ℕ) → slice_get l 0 ≡ Some q → among (take (suc i) l) q ≡ true
+pub among-first : (l : List ℕ) (q i : ℕ) → slice_get l 0 ≡ Some q → among (take (suc i) l) q ≡ true
 among-first [] q i first = let clash : ⊥ = cc in absurd clash
 among-first (x ∷ l) q i first =
     let is_q : x ≡ q = cc in

@@ -3,9 +3,12 @@
 --   numbers_taken   there are enough of them for every vertex
 --   fired_numbers   the first n of the numbers made are the amounts after the script
 --   moved           a divisor that holds them is the one after it
+--   moved_once      there is one divisor after a move
 --   out_of_range    where they are refused as a divisor, the script leaves the range
-use Rattle.dg_chips.proofs.Common.{◌≡◌, ℕ, ◌<◌, ◌≤◌, List, length, take, arith, ◌∙◌, slice_index_or, ℤ, pos, get_or-take, length-take, Multigraph, Amounts, fired, Vector, at, HoldsNumbers, IsVector, IsOutOfRange, IsAfterMove, IsFirstChipFault, ChipFault, Length, Range}
+use Rattle.dg_chips.proofs.Common.{◌≡◌, ℕ, ◌<◌, ◌≤◌, List, length, take, arith, ◌∙◌, slice_index_or, ℤ, pos, get_or-take, length-take, Multigraph, Amounts, fired, Vector, at, HoldsNumbers, IsVector, IsOutOfRange, IsAfterMove, IsFirstChipFault, ChipFault, Length, Range, sym}
+use Rattle.dg_chips.specs.declared.moves.Move.{Move}
 use Rattle.dg_chips.specs.declared.moves.Move.TheVariants.{Script}
+use Rattle.dg_chips.proofs.VectorLaws.{one_vector}
 
 pub record AreFired (g : Multigraph) (D : Amounts) (s : Vector) (n : ℕ) (xs : List ℤ) : Type 0 where
   pub size : n ≡ g.size
@@ -33,6 +36,7 @@ moved g D s n xs d made size holds right =
       playable = made.fits;
       in_range = λ v below. rw (← same v below) (right.within v (omega arith));
       size = size;
+      divisor = right;
       amounts = same;
     }
 
@@ -42,3 +46,10 @@ out_of_range g D s n xs Length made other = absurd (other (numbers_taken g D s n
 out_of_range g D s n xs (Range v) made first =
     let below : v < g.size = omega (arith, numbers_taken g D s n xs made, first.1.place) in
     (v, below, rw (← fired_numbers g D s n xs made v below) first.1.past)
+
+pub moved_once : (g : Multigraph) (D : Amounts) (m : Move) (d e : Vector) → IsAfterMove g D m d → IsAfterMove g D m e →
+    d ≡ e
+moved_once g D m d e first second =
+    one_vector 1000000 d e first.divisor second.divisor (first.size ∙ sym second.size) (λ v below.
+    let here : v < g.size = omega (arith, below, first.size) in
+    first.amounts v here ∙ sym (second.amounts v here))

@@ -3,7 +3,7 @@
 use Rattle.std.specs.Prelude.{◌≡◌, ℕ, ◌<◌}
 use Rattle.dg_theory.specs.Firing.{Amounts, fired}
 use Rattle.dg_theory.specs.Multigraph.{Multigraph}
-use Rattle.dg_chips.specs.Vector.{Vector, at, IsInRange}
+use Rattle.dg_chips.specs.Vector.{Vector, at, IsDivisor, IsInRange}
 use Rattle.dg_chips.specs.Moves.{script_of, IsPlayable}
 use Rattle.dg_chips.specs.declared.moves.Move.{Move}
 
@@ -11,4 +11,5 @@ pub record IsAfterMove (g : Multigraph) (D : Amounts) (m : Move) (d : Vector) : 
   pub playable : IsPlayable g.size m
   pub in_range : IsInRange g.size (fired g D (script_of m))
   pub size : d.size ≡ g.size
+  pub divisor : IsDivisor d
   pub amounts : (v : ℕ) → v < g.size → at d v ≡ fired g D (script_of m) v

@@ -27,6 +27,7 @@ at x v = slice_index_or x.numbers v (pos 0)
 
 pub record IsVector (limit : ℕ) (x : Vector) : Type 0 where
   pub few : x.size ≤ MAX_VERTICES
+  pub places : length x.numbers ≡ MAX_VERTICES
   pub within : (v : ℕ) → v < x.size → unsigned_abs (at x v) ≤ limit
   pub inside : (v : ℕ) → x.size ≤ v → at x v ≡ pos 0
 
@@ -41,6 +42,7 @@ IsDrift x = IsVector MAX_DRIFT x
 
 pub record IsWide (x : Vector) : Type 0 where
   pub few : x.size ≤ MAX_VERTICES
+  pub places : length x.numbers ≡ MAX_VERTICES
   pub inside : (v : ℕ) → x.size ≤ v → at x v ≡ pos 0
 
 pub record HoldsNumbers (xs : List ℤ) (x : Vector) : Type 0 where

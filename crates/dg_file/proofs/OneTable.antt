@@ -1,32 +1,26 @@
 -- A content has one fault at most, and none where it is a table.
---   at-one        the amounts of a divisor are those that were given
+--   chip-one      amounts have one fault
+--   chip-none     and none if they are those of a divisor
 --   table-one     one fault
 --   table-none    no fault where there is a table
-use Rattle.dg_file.proofs.Common.{◌≡◌, ℕ, ◌<◌, ℤ, List, length, inl, inr, refl, sym, ap, ◌∙◌, arith, cases_lt, IsSize, GraphFault, Size, NoVertex, Loop, Multiplicity, Valence, NotConnected, StartData, Vector, at, HoldsNumbers, IsDivisor, IsFirstPast, IsFirstChipFault, ChipFault, Length, Range, Content, AreNames, items_of, IsTable, IsGraphFault, IsNameFault, IsTwiceFault, GivesGraph, GivesDivisor, RefusesTable, FileFault, Json, Graph, Name, Twice, Chip, NoQ, OutOfMemory}
+use Rattle.dg_file.proofs.Common.{◌≡◌, ℕ, ◌<◌, ℤ, List, length, refl, sym, ap, ◌∙◌, arith, IsSize, GraphFault, Size, NoVertex, Loop, Multiplicity, Valence, NotConnected, StartData, Vector, at, HoldsNumbers, IsDivisor, IsFirstPast, IsFirstChipFault, ChipFault, Length, Range, Content, AreNames, items_of, IsTable, IsGraphFault, IsNameFault, IsTwiceFault, GivesGraph, GivesDivisor, RefusesTable, FileFault, Json, Graph, Name, Twice, Chip, NoQ, OutOfMemory}
 use Rattle.dg_file.specs.declared.fault.FileFault.TheVariants.{Shape as OfShape}
 use Rattle.dg_file.proofs.OneContent.{none-found, first-once}
 use Rattle.dg_file.proofs.OneGraph.{graph-one, graph-none}
 use Rattle.dg_file.proofs.OneName.{stops-name, stops-twice, stops-one, name-or-twice}
-
-pub at-one : (xs : List ℤ) (x y : Vector) → HoldsNumbers xs x → HoldsNumbers xs y → IsDivisor x → IsDivisor y → (v : ℕ)
-    → at x v ≡ at y v
-at-one xs x y a b within_x within_y v = elim (cases_lt v (length xs)) [
-  | inl below ↦ a.numbers v below ∙ sym (b.numbers v below)
-  | inr past ↦ within_x.inside v (omega (arith, a.size)) ∙ sym (within_y.inside v (omega (arith, b.size)))
-]
 
 module _ (n : ℕ) (xs : List ℤ) where
   past-one : (limit u v : ℕ) → IsFirstPast limit xs u → IsFirstPast limit xs v → u ≡ v
   past-one limit u v a b = first-once u v (λ less. let h = b.least u less in omega (arith, a.past))
       (λ more. let h = a.least v more in omega (arith, b.past))
 
-  chip-one : (f h : ChipFault) → IsFirstChipFault n xs f → IsFirstChipFault n xs h → f ≡ h
+  pub chip-one : (f h : ChipFault) → IsFirstChipFault n xs f → IsFirstChipFault n xs h → f ≡ h
   chip-one Length Length a b = refl
   chip-one Length (Range v) a b = absurd (a b.0)
   chip-one (Range v) Length a b = absurd (b a.0)
   chip-one (Range u) (Range v) a b = ap Range (past-one _ u v a.1 b.1)
 
-  chip-none : (x : Vector) → x.size ≡ n → HoldsNumbers xs x → IsDivisor x → (f : ChipFault)
+  pub chip-none : (x : Vector) → x.size ≡ n → HoldsNumbers xs x → IsDivisor x → (f : ChipFault)
       → IsFirstChipFault n xs f → ⊥
   chip-none x size holds within Length fault = fault (sym holds.size ∙ size)
   chip-none x size holds within (Range v) fault =

@@ -1,8 +1,9 @@
 -- The names that the proofs of this crate cite, passed on from one place. Declares nothing.
 pub use Rattle.dg_chips.specs.Moves.{script_of}
 pub use Rattle.dg_chips.specs.Starts.{StartData}
+pub use Rattle.dg_chips.proofs.VectorLaws.{one_vector}
 pub use Rattle.dg_chips.specs.Vector.{IsDivisor, IsInRange, IsOutOfRange, Vector, at}
-pub use Rattle.dg_rules.specs.GiftReplies.{RepliesToGift}
+pub use Rattle.dg_rules.specs.GiftReplies.{IsGivenTo, RepliesToGift}
 pub use Rattle.dg_rules.specs.History.{after_change, changed, gifts_by_reply, gifts_in, is_change, no_lendings, script_by, scripts_played, scripts_since}
 pub use Rattle.dg_rules.specs.JoinReplies.{RepliesToJoin}
 pub use Rattle.dg_rules.specs.Legal.{IsLegal, IsSeat, LooksBack}
@@ -24,9 +25,8 @@ pub use Rattle.dg_rules.specs.declared.finding.Finding.{Finding}
 pub use Rattle.dg_rules.specs.declared.finding.Finding.TheVariants.{Judged, Ranked}
 pub use Rattle.dg_rules.specs.declared.finding.Question.{Question}
 pub use Rattle.dg_rules.specs.declared.look.LookData.{LookData}
-pub use Rattle.dg_graph.proofs.Joined.{joined_graph}
+pub use Rattle.dg_graph.proofs.Joined.{with_edge-graph}
 pub use Rattle.dg_graph.specs.Graph.{IsGraph}
-pub use Rattle.dg_graph.specs.Joins.{IsJoinable}
 pub use Rattle.dg_theory.proofs.Agreement.{fired-here}
 pub use Rattle.dg_theory.proofs.Equivalence.{equivalent-refl}
 pub use Rattle.dg_theory.proofs.FiringLaws.{fired-constant, fired-fired}
@@ -34,7 +34,6 @@ pub use Rattle.dg_theory.proofs.JoinLaws.{size_stays}
 pub use Rattle.dg_theory.proofs.LossLaws.{equivalent-loss}
 pub use Rattle.dg_theory.proofs.RankLaws.{equivalent-rank}
 pub use Rattle.dg_theory.specs.Firing.{AgreeOn, Amounts, AreEquivalent, FiresTo, fired}
-pub use Rattle.dg_theory.specs.Joins.{edge_entry_more}
 pub use Rattle.dg_theory.specs.Multigraph.{Multigraph}
 pub use Rattle.dg_verdict.proofs.Agreement.{right-cong}
 pub use Rattle.dg_verdict.proofs.Between.{between_leads}

@@ -22,6 +22,7 @@ moved-cong g D E m (Moved d) same right = record {
   playable = right.playable;
   in_range = in_range-cong g.size _ _ (fired-here g D E (script_of m) same) right.in_range;
   size = right.size;
+  divisor = right.divisor;
   amounts = λ v below. right.amounts v below ∙ fired-here g D E (script_of m) same v below;
 }
 moved-cong g D E m (Refused refusal.NoVertex) same right = right
@@ -45,6 +46,7 @@ given-cong g D E n v x (Given count d) same right = record {
   in_range = in_range-cong g.size _ _ (given-here g D E v same x) right.in_range;
   count' = right.count';
   size = right.size;
+  divisor = right.divisor;
   amounts = λ w below. right.amounts w below ∙ given-here g D E v same x w below;
 }
 given-cong g D E n v x (Refused refusal.NoVertex) same right = right
@@ -55,7 +57,11 @@ given-cong g D E n v x reply same right = absurd right
 
 shows-cong : (g : Multigraph) (D E : Amounts) (d : Vector) → AgreeOn g.size D E →
     Shows (record { graph = g; amounts = D }) d → Shows (record { graph = g; amounts = E }) d
-shows-cong g D E d same shows = record { size = shows.size; amounts = λ v below. shows.amounts v below ∙ same v below }
+shows-cong g D E d same shows = record {
+  size = shows.size;
+  divisor = shows.divisor;
+  amounts = λ v below. shows.amounts v below ∙ same v below;
+}
 
 joined-cong : (g : Multigraph) (D E : Amounts) (n u v : ℕ) (reply : Reply) → AgreeOn g.size D E →
     RepliesToJoin (record { graph = g; amounts = D }) n u v reply →

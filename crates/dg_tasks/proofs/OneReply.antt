@@ -1,35 +1,18 @@
--- At one position a request has one reply, as far as its text shows, and it leads to one position.
+-- At one position a request has one reply, but for the order of a verdict, which no text shows.
 --   Alike           two replies to a request count alike, lead to one position and have one text
---   pairs_same      amounts that agree on the vertices have the same pairs
---   move_once, gift_once, join_once, look_once, claim_once, judge_once, rank_once   so it is of replies to each request
---   reply_once      and to any
-use Rattle.dg_tasks.proofs.Common.{◌≡◌, ◌≢◌, ℕ, ◌+◌, ◌<◌, ◌≤◌, ◌⊎◌, inl, inr, Bool, true, false, List, [], ◌∷◌, ◌++◌, length, codes, arith, refl, sym, ap, ◌∙◌, ◌↔◌, decimal, false≢true, ints, ℤ, Multigraph, Amounts, AgreeOn, IsEffective, IsWinnable, same_by_constant, equivalent-sym, equivalent-trans, loss_once, loss_bounds_rank, reduced_once, IsGraph, in_set-none, in_set, Vector, at, NamesNoVertex, IsEmptySet, HasOtherSize, IsPlayable, IsAfterMove, Move, Lend, Borrow, Fire, Script, IsRight, IsRankTest, RankVerdict, AtLeast, Below, gifts_by_reply, IsGivenTo, RefusesGift, RepliesToGift, IsJoinedTo, RefusesToJoin, RepliesToJoin, RefusesMove, RepliesToMove, Position, Shows, RepliesAt, RepliesToLook, RepliesToClaim, RepliesToJudge, RepliesToRank, after_reply, Refusal, Request, Reply, Moved, Given, Joined, Looked, Verdict, Rank, Stale, Won, NotWon, Refused, pair, verdict_word, verdict_text, rank_text, text_of}
+--   move_once, gift_once, join_once, look_once, claim_once   there is one reply to a call
+--   judge_once, rank_once   replies to what is asked on a look are alike: the order of a verdict is free
+--   reply_once      so replies to any request are alike
+use Rattle.dg_tasks.proofs.Common.{◌≡◌, ◌≢◌, ℕ, ◌<◌, ◌≤◌, ◌⊎◌, inl, inr, true, false, List, length, arith, refl, sym, ap, ◌∙◌, false≢true, ℤ, Multigraph, IsEffective, moved_once, shown_once, given_once, IsGraph, in_set-none, in_set, Vector, NamesNoVertex, IsEmptySet, HasOtherSize, IsPlayable, IsAfterMove, Move, Lend, Borrow, Fire, Script, IsRight, IsRankTest, RankVerdict, gifts_by_reply, IsGivenTo, RefusesGift, RepliesToGift, IsJoinedTo, RefusesToJoin, RepliesToJoin, RefusesMove, RepliesToMove, Position, Shows, RepliesAt, RepliesToLook, RepliesToClaim, RepliesToJudge, RepliesToRank, after_reply, Refusal, Request, Reply, Moved, Given, Joined, Looked, Verdict, Rank, Stale, Won, NotWon, Refused, text_of}
 use Rattle.dg_verdict.specs.declared.verdict.Verdict.{Verdict as VerdictFound}
 use Rattle.dg_rules.specs.declared.entry.Refusal.TheVariants as refusal
 use Rattle.dg_rules.specs.declared.entry.Request.TheVariants as request
-use Rattle.dg_lines.specs.Texts.{more_pairs, pairs}
+use Rattle.dg_lines.proofs.OneText.{verdict_same, test_same}
 
 pub record Alike (names : List (List ℕ)) (p : Position) (r : Request) (a b : Reply) : Type 0 where
   pub counted : gifts_by_reply a ≡ gifts_by_reply b
   pub leads : after_reply p r a ≡ after_reply p r b
   pub text : text_of names a ≡ text_of names b
-
-more_same : (names : List (List ℕ)) (x y : Amounts) (n : ℕ) →
-    ((v : ℕ) → v < n + length names → x v ≡ y v) → more_pairs names x n ≡ more_pairs names y n
-unfolding more_pairs
-more_same [] x y n same = refl
-more_same (name ∷ names) x y n same =
-    ap (λ (z : ℤ). codes " " ++ pair name z ++ more_pairs names x (n + 1)) (same n (omega arith))
-    ∙ ap (λ (rest : List ℕ). codes " " ++ pair name (y n) ++ rest)
-    (more_same names x y (n + 1) (λ v below. same v (omega (arith, below))))
-
-pub pairs_same : (names : List (List ℕ)) (x y : Amounts) → AgreeOn (length names) x y → pairs names x ≡ pairs names y
-unfolding pairs
-pairs_same [] x y same = refl
-pairs_same (name ∷ names) x y same =
-    ap (λ (z : ℤ). pair name z ++ more_pairs names x 1) (same 0 (omega arith))
-    ∙ ap (λ (rest : List ℕ). pair name (y 0) ++ rest)
-    (more_same names x y 1 (λ v below. same v (omega (arith, below))))
 
 module _ (names : List (List ℕ)) (p : Position) (fit : length names ≡ p.graph.size) where
   same_alike : (r : Request) (a b : Reply) → a ≡ b → Alike names p r a b
@@ -38,13 +21,6 @@ module _ (names : List (List ℕ)) (p : Position) (fit : length names ≡ p.grap
     leads = ap (after_reply p r) same;
     text = ap (text_of names) same;
   }
-
-  -- what shows the same amounts has the same pairs
-  shown_same : (d e : Vector) → ((v : ℕ) → v < p.graph.size → at d v ≡ at e v) → pairs names (at d) ≡ pairs names (at e)
-  shown_same d e same = pairs_same names (at d) (at e) (λ v below. same v (omega (arith, below, fit)))
-
-  shows_same : (d e : Vector) → Shows p d → Shows p e → pairs names (at d) ≡ pairs names (at e)
-  shows_same d e first second = shown_same d e (λ v below. first.amounts v below ∙ sym (second.amounts v below))
 
   move_shape : (m : Move) (a : Reply) → RepliesToMove p m a →
       ((d : Vector) × (a ≡ Moved d) × IsAfterMove p.graph p.amounts m d)
@@ -122,26 +98,19 @@ module _ (names : List (List ℕ)) (p : Position) (fit : length names ≡ p.grap
   made_refused m d refusal.Range made (playable, (v, below, beyond)) = omega (arith, made.in_range v below, beyond)
   made_refused m d x made right = absurd right
 
-  move_once : (m : Move) (a b : Reply) → RepliesToMove p m a → RepliesToMove p m b → Alike names p (request.Move m) a b
+  move_once : (m : Move) (a b : Reply) → RepliesToMove p m a → RepliesToMove p m b → a ≡ b
   move_once m a b right right' = by_shapes (move_shape m a right) (move_shape m b right')
     where
       by_shapes : (((d : Vector) × (a ≡ Moved d) × IsAfterMove p.graph p.amounts m d)
           ⊎ ((x : Refusal) × (a ≡ Refused x) × RefusesMove p m x)) →
           (((d : Vector) × (b ≡ Moved d) × IsAfterMove p.graph p.amounts m d)
-          ⊎ ((x : Refusal) × (b ≡ Refused x) × RefusesMove p m x)) → Alike names p (request.Move m) a b
-      by_shapes (inl (d, is, first)) (inl (e, is', second)) = record {
-        counted = ap gifts_by_reply is ∙ sym (ap gifts_by_reply is');
-        leads = ap (after_reply p (request.Move m)) is ∙ sym (ap (after_reply p (request.Move m)) is');
-        text = ap (text_of names) is
-            ∙ ap (λ (ps : List ℕ). codes "moved " ++ ps)
-            (shown_same d e (λ v below. first.amounts v below ∙ sym (second.amounts v below)))
-            ∙ sym (ap (text_of names) is');
-      }
+          ⊎ ((x : Refusal) × (b ≡ Refused x) × RefusesMove p m x)) → a ≡ b
+      by_shapes (inl (d, is, first)) (inl (e, is', second)) =
+          is ∙ ap Moved (moved_once p.graph p.amounts m d e first second) ∙ sym is'
       by_shapes (inl (d, is, first)) (inr (x, is', second)) = absurd (made_refused m d x first second)
       by_shapes (inr (x, is, first)) (inl (d, is', second)) = absurd (made_refused m d x second first)
       by_shapes (inr (x, is, first)) (inr (y, is', second)) =
-          same_alike (request.Move m) a b
-          (is ∙ ap Refused (cause_once m x y (move_cause m x first) (move_cause m y second)) ∙ sym is')
+          is ∙ ap Refused (cause_once m x y (move_cause m x first) (move_cause m y second)) ∙ sym is'
 
   gift_shape : (g v : ℕ) (x : ℤ) (a : Reply) → RepliesToGift p g v x a →
       ((n : ℕ) × (d : Vector) × (a ≡ Given n d) × IsGivenTo p g v x n d)
@@ -172,28 +141,21 @@ module _ (names : List (List ℕ)) (p : Position) (fit : length names ≡ p.grap
   gift_refused_once v x refusal.Range z first second = absurd second
   gift_refused_once v x y z first second = absurd first
 
-  gift_once : (g v : ℕ) (x : ℤ) (a b : Reply) → RepliesToGift p g v x a → RepliesToGift p g v x b →
-      Alike names p (request.Gift v x) a b
+  gift_once : (g v : ℕ) (x : ℤ) (a b : Reply) → RepliesToGift p g v x a → RepliesToGift p g v x b → a ≡ b
   gift_once g v x a b right right' = by_shapes (gift_shape g v x a right) (gift_shape g v x b right')
     where
       by_shapes : (((n : ℕ) × (d : Vector) × (a ≡ Given n d) × IsGivenTo p g v x n d)
           ⊎ ((y : Refusal) × (a ≡ Refused y) × RefusesGift p v x y)) →
           (((n : ℕ) × (d : Vector) × (b ≡ Given n d) × IsGivenTo p g v x n d)
-          ⊎ ((y : Refusal) × (b ≡ Refused y) × RefusesGift p v x y)) → Alike names p (request.Gift v x) a b
-      by_shapes (inl (n, d, is, first)) (inl (l, e, is', second)) = record {
-        counted = ap gifts_by_reply is ∙ sym (ap gifts_by_reply is');
-        leads = ap (after_reply p (request.Gift v x)) is ∙ sym (ap (after_reply p (request.Gift v x)) is');
-        text = ap (text_of names) is
-            ∙ ap (λ (i : ℕ). codes "given " ++ decimal i ++ codes " " ++ pairs names (at d))
-            (first.count' ∙ sym second.count')
-            ∙ ap (λ (ps : List ℕ). codes "given " ++ decimal l ++ codes " " ++ ps)
-            (shown_same d e (λ w below. first.amounts w below ∙ sym (second.amounts w below)))
-            ∙ sym (ap (text_of names) is');
-      }
+          ⊎ ((y : Refusal) × (b ≡ Refused y) × RefusesGift p v x y)) → a ≡ b
+      by_shapes (inl (n, d, is, first)) (inl (l, e, is', second)) =
+          let same : Given n d ≡ Given l e =
+          λ i. Given ((first.count' ∙ sym second.count') i) (given_once p g v x n l d e first second i) in
+          is ∙ same ∙ sym is'
       by_shapes (inl (n, d, is, first)) (inr (y, is', second)) = absurd (given_refused g v x n d y first second)
       by_shapes (inr (y, is, first)) (inl (n, d, is', second)) = absurd (given_refused g v x n d y second first)
       by_shapes (inr (y, is, first)) (inr (z, is', second)) =
-          same_alike (request.Gift v x) a b (is ∙ ap Refused (gift_refused_once v x y z first second) ∙ sym is')
+          is ∙ ap Refused (gift_refused_once v x y z first second) ∙ sym is'
 
   join_shape : (g u v : ℕ) (a : Reply) → RepliesToJoin p g u v a →
       ((n : ℕ) × (d : Vector) × (a ≡ Joined n d) × IsJoinedTo p g u v n d)
@@ -236,46 +198,34 @@ module _ (names : List (List ℕ)) (p : Position) (fit : length names ≡ p.grap
   join_refused_once u v refusal.Valence z first second = absurd second
   join_refused_once u v y z first second = absurd first
 
-  join_once : (g u v : ℕ) (a b : Reply) → RepliesToJoin p g u v a → RepliesToJoin p g u v b →
-      Alike names p (request.Join u v) a b
+  join_once : (g u v : ℕ) (a b : Reply) → RepliesToJoin p g u v a → RepliesToJoin p g u v b → a ≡ b
   join_once g u v a b right right' = by_shapes (join_shape g u v a right) (join_shape g u v b right')
     where
       by_shapes : (((n : ℕ) × (d : Vector) × (a ≡ Joined n d) × IsJoinedTo p g u v n d)
           ⊎ ((y : Refusal) × (a ≡ Refused y) × RefusesToJoin p u v y)) →
           (((n : ℕ) × (d : Vector) × (b ≡ Joined n d) × IsJoinedTo p g u v n d)
-          ⊎ ((y : Refusal) × (b ≡ Refused y) × RefusesToJoin p u v y)) → Alike names p (request.Join u v) a b
-      by_shapes (inl (n, d, is, first)) (inl (l, e, is', second)) = record {
-        counted = ap gifts_by_reply is ∙ sym (ap gifts_by_reply is');
-        leads = ap (after_reply p (request.Join u v)) is ∙ sym (ap (after_reply p (request.Join u v)) is');
-        text = ap (text_of names) is
-            ∙ ap (λ (i : ℕ). codes "joined " ++ decimal i ++ codes " " ++ pairs names (at d))
-            (first.count' ∙ sym second.count')
-            ∙ ap (λ (ps : List ℕ). codes "joined " ++ decimal l ++ codes " " ++ ps)
-            (shows_same d e first.amounts second.amounts)
-            ∙ sym (ap (text_of names) is');
-      }
+          ⊎ ((y : Refusal) × (b ≡ Refused y) × RefusesToJoin p u v y)) → a ≡ b
+      by_shapes (inl (n, d, is, first)) (inl (l, e, is', second)) =
+          let same : Joined n d ≡ Joined l e =
+          λ i. Joined ((first.count' ∙ sym second.count') i) (shown_once p d e first.amounts second.amounts i) in
+          is ∙ same ∙ sym is'
       by_shapes (inl (n, d, is, first)) (inr (y, is', second)) = absurd (joined_refused g u v n d y first second)
       by_shapes (inr (y, is, first)) (inl (n, d, is', second)) = absurd (joined_refused g u v n d y second first)
       by_shapes (inr (y, is, first)) (inr (z, is', second)) =
-          same_alike (request.Join u v) a b (is ∙ ap Refused (join_refused_once u v y z first second) ∙ sym is')
+          is ∙ ap Refused (join_refused_once u v y z first second) ∙ sym is'
 
   look_shape : (g : ℕ) (a : Reply) → RepliesToLook p g a →
-      (n : ℕ) × (d : Vector) × (graph : Multigraph) × (a ≡ Looked n d graph) × (n ≡ g) × Shows p d
-  look_shape g (Looked n d graph) right = (n, d, graph, refl, right.0, right.1)
+      (n : ℕ) × (d : Vector) × (graph : Multigraph) × (a ≡ Looked n d graph) × (n ≡ g) × Shows p d × (graph ≡ p.graph)
+  look_shape g (Looked n d graph) right = (n, d, graph, refl, right.0, right.1, right.2)
   look_shape g a right = absurd right
 
-  look_once : (g : ℕ) (a b : Reply) → RepliesToLook p g a → RepliesToLook p g b → Alike names p request.Look a b
+  look_once : (g : ℕ) (a b : Reply) → RepliesToLook p g a → RepliesToLook p g b → a ≡ b
   look_once g a b right right' =
-      let (n, d, graph, is, count, shown) = look_shape g a right in
-      let (l, e, graph', is', count', shown') = look_shape g b right' in
-      record {
-        counted = ap gifts_by_reply is ∙ sym (ap gifts_by_reply is');
-        leads = ap (after_reply p request.Look) is ∙ sym (ap (after_reply p request.Look) is');
-        text = ap (text_of names) is
-            ∙ ap (λ (i : ℕ). codes "looked " ++ decimal i ++ codes " " ++ pairs names (at d)) (count ∙ sym count')
-            ∙ ap (λ (ps : List ℕ). codes "looked " ++ decimal l ++ codes " " ++ ps) (shows_same d e shown shown')
-            ∙ sym (ap (text_of names) is');
-      }
+      let (n, d, h, is, count, shown, graph) = look_shape g a right in
+      let (l, e, h', is', count', shown', graph') = look_shape g b right' in
+      let same : Looked n d h ≡ Looked l e h' =
+      λ i. Looked ((count ∙ sym count') i) (shown_once p d e shown shown' i) ((graph ∙ sym graph') i) in
+      is ∙ same ∙ sym is'
 
   claim_shape : (a : Reply) → RepliesToClaim p a →
       ((a ≡ Won) × IsEffective p.graph.size p.amounts) ⊎ ((a ≡ NotWon) × (¬ IsEffective p.graph.size p.amounts))
@@ -292,49 +242,16 @@ module _ (names : List (List ℕ)) (p : Position) (fit : length names ≡ p.grap
   claim_same a b (inr (is, lost)) (inl (is', won)) = absurd (lost won)
   claim_same a b (inr (is, lost)) (inr (is', lost')) = is ∙ sym is'
 
-  claim_once : (a b : Reply) → RepliesToClaim p a → RepliesToClaim p b → Alike names p request.Claim a b
-  claim_once a b right right' =
-      same_alike request.Claim a b (claim_same a b (claim_shape a right) (claim_shape b right'))
-
-  win_once : (D : Amounts) (s t : Bool) → (s ≡ true) ↔ IsWinnable p.graph D → (t ≡ true) ↔ IsWinnable p.graph D → s ≡ t
-  win_once D true true first second = refl
-  win_once D true false first second = sym (second.1 (first.0 refl))
-  win_once D false true first second = first.1 (second.0 refl)
-  win_once D false false first second = refl
+  claim_once : (a b : Reply) → RepliesToClaim p a → RepliesToClaim p b → a ≡ b
+  claim_once a b right right' = claim_same a b (claim_shape a right) (claim_shape b right')
 
   module _ (q : ℕ) (graph : IsGraph p.graph) (vertex : q < p.graph.size) where
-    -- right verdicts have one reduced divisor and one script
-    reduced_same : (x y : VerdictFound) → IsRight p.graph q p.amounts x → IsRight p.graph q p.amounts y →
-        AgreeOn p.graph.size (at x.reduced) (at y.reduced)
-    reduced_same x y first second =
-        reduced_once p.graph q (at x.reduced) (at y.reduced) vertex
-        (equivalent-trans p.graph (at x.reduced) p.amounts (at y.reduced)
-        (equivalent-sym p.graph p.amounts (at x.reduced) (at x.script, first.led)) (at y.script, second.led))
-        first.reduced second.reduced
-
-    script_same : (x y : VerdictFound) → IsRight p.graph q p.amounts x → IsRight p.graph q p.amounts y →
-        AgreeOn p.graph.size (at x.script) (at y.script)
-    script_same x y first second =
-        let (z, apart) = (same_by_constant p.graph p.amounts (at x.script) (at y.script) graph.multigraph).0
-        (λ v below. sym (first.led v below) ∙ reduced_same x y first second v below ∙ second.led v below) in
-        λ v below. omega (arith, ints, apart v below, apart q vertex, first.at_q, second.at_q)
-
     judge_shape : (h g : ℕ) (a : Reply) → RepliesToJudge p q h g a →
         ((x : VerdictFound) × (a ≡ Verdict x) × (h ≡ g) × IsRight p.graph q p.amounts x)
         ⊎ ((a ≡ Stale g) × (h ≢ g))
     judge_shape h g (Verdict x) right = inl (x, refl, right.0, right.1)
     judge_shape h g (Stale n) right = inr (ap Stale right.1, right.0)
     judge_shape h g a right = absurd right
-
-    verdict_same : (x y : VerdictFound) → IsRight p.graph q p.amounts x → IsRight p.graph q p.amounts y →
-        verdict_text names x ≡ verdict_text names y
-    verdict_same x y first second =
-        ap (λ (w : Bool). verdict_word w ++ pairs names (at x.script) ++ codes " to " ++ pairs names (at x.reduced))
-        (win_once p.amounts x.winnable y.winnable first.winnable second.winnable)
-        ∙ ap (λ (ps : List ℕ). verdict_word y.winnable ++ ps ++ codes " to " ++ pairs names (at x.reduced))
-        (shown_same x.script y.script (script_same x y first second))
-        ∙ ap (λ (ps : List ℕ). verdict_word y.winnable ++ pairs names (at y.script) ++ codes " to " ++ ps)
-        (shown_same x.reduced y.reduced (reduced_same x y first second))
 
     judge_once : (i h h' g : ℕ) (a b : Reply) → h ≡ h' → RepliesToJudge p q h g a → RepliesToJudge p q h' g b →
         Alike names p (request.Judge i) a b
@@ -347,7 +264,9 @@ module _ (names : List (List ℕ)) (p : Position) (fit : length names ≡ p.grap
         by_shapes (inl (x, is, now, first)) (inl (y, is', now', second)) = record {
           counted = ap gifts_by_reply is ∙ sym (ap gifts_by_reply is');
           leads = ap (after_reply p (request.Judge i)) is ∙ sym (ap (after_reply p (request.Judge i)) is');
-          text = ap (text_of names) is ∙ verdict_same x y first second ∙ sym (ap (text_of names) is');
+          text = ap (text_of names) is
+              ∙ verdict_same names p.graph p.amounts fit q graph.multigraph vertex x y first second
+              ∙ sym (ap (text_of names) is');
         }
         by_shapes (inl (x, is, now, first)) (inr (is', other)) = absurd (other (sym before ∙ now))
         by_shapes (inr (is, other)) (inl (y, is', now, second)) = absurd (other (before ∙ now))
@@ -360,19 +279,6 @@ module _ (names : List (List ℕ)) (p : Position) (fit : length names ≡ p.grap
   rank_shape h g k (Stale n) right = inr (ap Stale right.1, right.0)
   rank_shape h g k a right = absurd right
 
-  test_same : (k : ℕ) (x y : RankVerdict) → IsRankTest p.graph p.amounts k x → IsRankTest p.graph p.amounts k y →
-      rank_text names x ≡ rank_text names y
-  test_same k (AtLeast i) (AtLeast j) first second =
-      ap (λ (n : ℕ). codes "rank at least " ++ decimal n) (first.0 ∙ sym second.0)
-  test_same k (AtLeast i) (Below j e) first second =
-      absurd (loss_bounds_rank p.graph p.amounts k (at e) second.2 first.1)
-  test_same k (Below i d) (AtLeast j) first second =
-      absurd (loss_bounds_rank p.graph p.amounts k (at d) first.2 second.1)
-  test_same k (Below i d) (Below j e) first second =
-      ap (λ (n : ℕ). codes "rank below " ++ decimal n ++ codes " at " ++ pairs names (at d)) (first.0 ∙ sym second.0)
-      ∙ ap (λ (ps : List ℕ). codes "rank below " ++ decimal j ++ codes " at " ++ ps)
-      (shown_same d e (loss_once p.graph p.amounts k (at d) (at e) first.2 second.2))
-
   rank_once : (i h h' g k : ℕ) (a b : Reply) → h ≡ h' → RepliesToRank p h g k a → RepliesToRank p h' g k b →
       Alike names p (request.Rank i k) a b
   rank_once i h h' g k a b before right right' = by_shapes (rank_shape h g k a right) (rank_shape h' g k b right')
@@ -384,7 +290,7 @@ module _ (names : List (List ℕ)) (p : Position) (fit : length names ≡ p.grap
       by_shapes (inl (x, is, now, first)) (inl (y, is', now', second)) = record {
         counted = ap gifts_by_reply is ∙ sym (ap gifts_by_reply is');
         leads = ap (after_reply p (request.Rank i k)) is ∙ sym (ap (after_reply p (request.Rank i k)) is');
-        text = ap (text_of names) is ∙ test_same k x y first second ∙ sym (ap (text_of names) is');
+        text = ap (text_of names) is ∙ test_same names p.graph p.amounts fit k x y first second ∙ sym (ap (text_of names) is');
       }
       by_shapes (inl (x, is, now, first)) (inr (is', other)) = absurd (other (sym before ∙ now))
       by_shapes (inr (is, other)) (inl (y, is', now, second)) = absurd (other (before ∙ now))
@@ -392,11 +298,16 @@ module _ (names : List (List ℕ)) (p : Position) (fit : length names ≡ p.grap
 
   pub reply_once : (q : ℕ) → IsGraph p.graph → q < p.graph.size → (f h : ℕ → ℕ) → ((i : ℕ) → f i ≡ h i) → (g : ℕ)
       (r : Request) (a b : Reply) → RepliesAt p q f g r a → RepliesAt p q h g r b → Alike names p r a b
-  reply_once q graph vertex f h before g (request.Move m) a b right right' = move_once m a b right right'
-  reply_once q graph vertex f h before g (request.Gift v x) a b right right' = gift_once g v x a b right right'
-  reply_once q graph vertex f h before g (request.Join u v) a b right right' = join_once g u v a b right right'
-  reply_once q graph vertex f h before g request.Look a b right right' = look_once g a b right right'
-  reply_once q graph vertex f h before g request.Claim a b right right' = claim_once a b right right'
+  reply_once q graph vertex f h before g (request.Move m) a b right right' =
+      same_alike (request.Move m) a b (move_once m a b right right')
+  reply_once q graph vertex f h before g (request.Gift v x) a b right right' =
+      same_alike (request.Gift v x) a b (gift_once g v x a b right right')
+  reply_once q graph vertex f h before g (request.Join u v) a b right right' =
+      same_alike (request.Join u v) a b (join_once g u v a b right right')
+  reply_once q graph vertex f h before g request.Look a b right right' =
+      same_alike request.Look a b (look_once g a b right right')
+  reply_once q graph vertex f h before g request.Claim a b right right' =
+      same_alike request.Claim a b (claim_once a b right right')
   reply_once q graph vertex f h before g (request.Judge i) a b right right' =
       judge_once q graph vertex i (f i) (h i) g a b (before i) right right'
   reply_once q graph vertex f h before g (request.Rank i k) a b right right' =

@@ -66,6 +66,7 @@ of_row-requires c =
     let near = rw c.if-not-fits.false at c.loop-w.invariant.range in
     record {
       few = omega arith;
+      places = omega arith;
       within = λ u below. rw (c.loop-w.invariant.done u (omega arith)) (near u (omega arith));
       inside = λ u past. elim (cases_lt u 16) [
         | inl below ↦ c.loop-w.invariant.done u (omega arith)
