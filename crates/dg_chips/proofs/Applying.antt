@@ -29,16 +29,13 @@ fired_numbers g D s n xs made v below =
 
 pub moved : (g : Multigraph) (D : Amounts) (s : Vector) (n : ℕ) (xs : List ℤ) (d : Vector) → AreFired g D s n xs →
     d.size ≡ g.size → HoldsNumbers (take n xs) d → IsVector 1000000 d → IsAfterMove g D (Script s) d
-moved g D s n xs d made size holds right =
-    let same : (v : ℕ) → v < g.size → at d v ≡ fired g D (at s) v = λ v below.
-    holds.numbers v (omega (arith, numbers_taken g D s n xs made)) ∙ fired_numbers g D s n xs made v below in
-    record {
-      playable = made.fits;
-      in_range = λ v below. rw (← same v below) (right.within v (omega arith));
-      size = size;
-      divisor = right;
-      amounts = same;
-    }
+moved g D s n xs d made size holds right = record {
+  playable = made.fits;
+  size = size;
+  divisor = right;
+  amounts = λ v below.
+      holds.numbers v (omega (arith, numbers_taken g D s n xs made)) ∙ fired_numbers g D s n xs made v below;
+}
 
 pub out_of_range : (g : Multigraph) (D : Amounts) (s : Vector) (n : ℕ) (xs : List ℤ) (fault : ChipFault) →
     AreFired g D s n xs → IsFirstChipFault g.size (take n xs) fault → IsOutOfRange g.size (fired g D (at s))

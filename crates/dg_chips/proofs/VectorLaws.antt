@@ -12,8 +12,9 @@
 --   one_written   a vector with another number within the limit at one place is within the limit
 --   one_vector    vectors are one if they have as many places and the same numbers
 --   held_once     and so if they hold the numbers of one list
+--   not_past      amounts that a divisor holds are not out of range
 --   within_all    past the size too, the numbers of a vector are within its limit
-use Rattle.dg_chips.proofs.Common.{◌≡◌, ◌≢◌, ℕ, ◌+◌, ◌<◌, ◌≤◌, List, length, length-set, slice_set, arith, inl, inr, get_or-set_same, get_or-set_other, below_more, ext_get_or, sym, ◌∙◌, unsigned_abs, replicate, slice_index_or, ℤ, pos, ◌+ℤ◌, +ℤ_idr, cases_lt, cases_eq, ints, get_or-replicate, get_or_past, length-replicate, only_at, only_at-here, only_at-other, Vector, IsVector, HoldsNumbers, at}
+use Rattle.dg_chips.proofs.Common.{◌≡◌, ◌≢◌, ℕ, ◌+◌, ◌<◌, ◌≤◌, List, length, length-set, slice_set, arith, inl, inr, get_or-set_same, get_or-set_other, below_more, ext_get_or, sym, ◌∙◌, unsigned_abs, replicate, slice_index_or, ℤ, pos, ◌+ℤ◌, +ℤ_idr, cases_lt, cases_eq, ints, get_or-replicate, get_or_past, length-replicate, ap, Amounts, IsOutOfRange, only_at, only_at-here, only_at-other, Vector, IsVector, HoldsNumbers, at}
 
 pub at_same : {X : Type 0} (n v : ℕ) (x : X) → slice_index_or (replicate n x) v x ≡ x
 at_same n v x = elim (cases_lt v n) [
@@ -112,3 +113,8 @@ held_once limit xs x y first second right other =
     one_vector limit x y right other (first.size ∙ sym second.size) (λ v below.
     let here : v < length xs = omega (arith, below, first.size) in
     first.numbers v here ∙ sym (second.numbers v here))
+
+pub not_past : (n : ℕ) (D : Amounts) (d : Vector) → IsVector 1000000 d → d.size ≡ n → ((v : ℕ) → v < n → at d v ≡ D v) →
+    IsOutOfRange n D → ⊥
+not_past n D d right size same (v, below, past) =
+    omega (arith, right.within v (omega arith), ap unsigned_abs (same v below))

@@ -6,7 +6,7 @@ ghost use Rattle.std.specs.Int.RustNames.{unsigned_abs};
 ghost use Rattle.dg_theory.specs.Rank.{canonical};
 ghost use Rattle.dg_theory.specs.Firing.{degree, IsEffective, only_at, indicator, fired};
 ghost use Rattle.dg_graph.specs.Sets.{in_set, IsVertexSet};
-ghost use Rattle.dg_chips.specs.Vector.{at, HoldsNumbers, IsDivisor, IsInRange, IsOutOfRange};
+ghost use Rattle.dg_chips.specs.Vector.{at, HoldsNumbers, IsDivisor, IsOutOfRange};
 ghost use Rattle.dg_chips.specs.DivisorFaults.{IsFirstChipFault, IsFirstMinusFault};
 
 use crate::firing::carried_once;
@@ -198,7 +198,6 @@ impl Divisor {
         ensures { MatchOption result
             (IsOutOfRange graph.now.size (fired graph.now (at self.now) (only_at v times)))
             (λ d. (d.size ≡ graph.now.size)
-            × IsInRange graph.now.size (fired graph.now (at self.now) (only_at v times))
             × ((w : ℕ) → w < graph.now.size →
             at d w ≡ fired graph.now (at self.now) (only_at v times) w)
             × IsDivisor d) }
@@ -225,7 +224,6 @@ impl Divisor {
         ensures { MatchOption result
             (IsOutOfRange graph.now.size (fired graph.now (at self.now) (indicator (in_set set))))
             (λ d. (d.size ≡ graph.now.size)
-            × IsInRange graph.now.size (fired graph.now (at self.now) (indicator (in_set set)))
             × ((w : ℕ) → w < graph.now.size →
             at d w ≡ fired graph.now (at self.now) (indicator (in_set set)) w)
             × IsDivisor d) }

@@ -2,7 +2,7 @@
 pub use Rattle.dg_chips.specs.Moves.{script_of}
 pub use Rattle.dg_chips.specs.Starts.{StartData}
 pub use Rattle.dg_chips.proofs.VectorLaws.{one_vector}
-pub use Rattle.dg_chips.specs.Vector.{IsDivisor, IsInRange, IsOutOfRange, Vector, at}
+pub use Rattle.dg_chips.specs.Vector.{IsDivisor, IsOutOfRange, Vector, at}
 pub use Rattle.dg_rules.specs.GiftReplies.{IsGivenTo, RepliesToGift}
 pub use Rattle.dg_rules.specs.History.{after_change, changed, gifts_by_reply, gifts_in, is_change, no_lendings, script_by, scripts_played, scripts_since}
 pub use Rattle.dg_rules.specs.JoinReplies.{RepliesToJoin}

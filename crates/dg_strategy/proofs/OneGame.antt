@@ -56,7 +56,7 @@ made_or_past a made = absurd made
 -- a move that was made was not refused for the range
 made_not_past : (p : Position) (m : Move) (d : Vector) → RepliesToMove p m (Moved d) →
     RepliesToMove p m (Refused Range) → ⊥
-made_not_past p m d made (playable, (v, below, beyond)) = omega (arith, made.in_range v below, beyond)
+made_not_past p m d made (playable, past) = not_past p.graph.size _ d made.divisor made.size made.amounts past
 
 same_moved : (p : Position) (v : ℕ) (a b : Reply) → v < p.graph.size → RepliesToMove p (Borrow v) a →
     RepliesToMove p (Borrow v) b → a ≡ b

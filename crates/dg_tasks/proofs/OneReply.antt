@@ -95,7 +95,8 @@ module _ (names : List (List ℕ)) (p : Position) (fit : length names ≡ p.grap
   made_refused m d refusal.NoVertex made right = no_vertex_playable m right made.playable
   made_refused m d refusal.Empty made right = empty_playable m right made.playable
   made_refused m d refusal.Script made right = script_playable m right made.playable
-  made_refused m d refusal.Range made (playable, (v, below, beyond)) = omega (arith, made.in_range v below, beyond)
+  made_refused m d refusal.Range made (playable, past) =
+      not_past p.graph.size _ d made.divisor made.size made.amounts past
   made_refused m d x made right = absurd right
 
   move_once : (m : Move) (a b : Reply) → RepliesToMove p m a → RepliesToMove p m b → a ≡ b
@@ -122,8 +123,8 @@ module _ (names : List (List ℕ)) (p : Position) (fit : length names ≡ p.grap
   given_refused : (g v : ℕ) (x : ℤ) (n : ℕ) (d : Vector) (y : Refusal) → IsGivenTo p g v x n d → RefusesGift p v x y → ⊥
   given_refused g v x n d refusal.NoVertex given right = omega (arith, given.vertex, right)
   given_refused g v x n d refusal.Gift given right = right.1 given.gift
-  given_refused g v x n d refusal.Range given (vertex, gift, (w, below, beyond)) =
-      omega (arith, given.in_range w below, beyond)
+  given_refused g v x n d refusal.Range given (vertex, gift, past) =
+      not_past p.graph.size _ d given.divisor given.size given.amounts past
   given_refused g v x n d y given right = absurd right
 
   gift_refused_once : (v : ℕ) (x : ℤ) (y z : Refusal) → RefusesGift p v x y → RefusesGift p v x z → y ≡ z
