@@ -63,7 +63,7 @@ pub use Rattle.std.proofs.lemmas.Slice.Eq.{bytes_eq-Decides}
 pub use Rattle.std.proofs.lemmas.Str.{digit_value_digit}
 pub use Rattle.std.proofs.lemmas.Str.Parse.{digit_from_value, digits_value_short, numerals_by_value, tells_digits}
 pub use Rattle.std.specs.Char.{digit_value}
-pub use Rattle.std.specs.Cmp.{IsEquivalence, both_ways}
+pub use Rattle.std.specs.Cmp.{IsEquivalence}
 pub use Rattle.std.specs.Fmt.{signed_decimal}
 pub use Rattle.std.specs.Int.{FitsUnsignedBits, bit_at}
 pub use Rattle.std.specs.Int.Signed.{◌≤ℤ◌}
