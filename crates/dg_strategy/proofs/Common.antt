@@ -1,5 +1,4 @@
 -- The names that the proofs of this crate cite, passed on from one place. Declares nothing.
-pub use Rattle.dg_chips.proofs.Applying.{moved_once}
 pub use Rattle.dg_chips.specs.Moves.{IsPlayable}
 pub use Rattle.dg_chips.specs.Starts.{IsStart, StartData}
 pub use Rattle.dg_chips.specs.Vector.{Vector, at}
@@ -9,6 +8,7 @@ pub use Rattle.dg_rules.proofs.GraphLaws.{graphs_hold}
 pub use Rattle.dg_rules.proofs.HistoryLaws.{gifts_in-more}
 pub use Rattle.dg_rules.proofs.LegalLaws.{legal_more, legal_none, legal_part, right_here}
 pub use Rattle.dg_rules.proofs.ListLaws.{slice_get-append, slice_get-seam}
+pub use Rattle.dg_rules.proofs.OneReply.{move_once}
 pub use Rattle.dg_rules.proofs.StateLaws.{shown_once}
 pub use Rattle.dg_rules.specs.History.{gifts_by_reply, gifts_in, position_after}
 pub use Rattle.dg_rules.specs.Legal.{IsLegal, LooksBack}

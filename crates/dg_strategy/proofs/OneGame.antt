@@ -3,16 +3,13 @@
 --   least_below     no vertex below the least one is in debt, so there is one least vertex in debt
 --   chosen_once     it chooses one move, or none
 --   asked_once      so at one position one request is asked for
---   made_or_past    a move that was made, or refused for the range
---   same_moved      there is one reply to a borrowing
---   same_reply      and so to a move that the greedy settler asks for
+--   same_reply      and there is one reply to a move
 --   EndsOn n H settled == H ends so, told from its first entry on
 --   ends_on         so does a greedy game
 --   one_game_on     greedy games that go on from one history are the same
 --   greedy_game_is_one   so are those from one start
-use Rattle.dg_strategy.proofs.Common.{◌≡◌, ℕ, ◌-◌, ◌<◌, ◌≤◌, Bool, true, false, List, [], ◌∷◌, ◌++◌, length, take, Option, Some, None, ◌⊎◌, inl, inr, arith, refl, sym, ap, subst, ◌∙◌, append_assoc, ⊎_elim, cases_lt, ints, StartData, Vector, shown_once, moved_once, Move, Borrow, position_after, gifts_in, IsLegal, RepliesToMove, Position, Replies, RepliesAt, Entry, Range, Request, Reply, Moved, Refused, Won, right_here, request_for, IsLeastInDebt, BorrowsAtLeast, IsGreedyCall, AreGreedy, AllChosenMoves, EndsSo, GreedyGameIsOne, IsChosenMove, ChoiceIsMadeOrPastRange}
+use Rattle.dg_strategy.proofs.Common.{◌≡◌, ℕ, ◌-◌, ◌<◌, ◌≤◌, Bool, true, false, List, [], ◌∷◌, ◌++◌, length, take, Option, Some, None, ◌⊎◌, inl, inr, arith, refl, sym, ap, subst, ◌∙◌, append_assoc, ⊎_elim, cases_lt, ints, StartData, Vector, shown_once, move_once, Move, Borrow, position_after, gifts_in, IsLegal, Position, Replies, RepliesAt, Entry, Request, Reply, Won, right_here, request_for, IsLeastInDebt, BorrowsAtLeast, IsGreedyCall, AreGreedy, AllChosenMoves, EndsSo, GreedyGameIsOne, IsChosenMove}
 use Rattle.dg_rules.specs.declared.entry.Request.TheVariants as request
-use Rattle.dg_strategy.proofs.Turned.{move_answered}
 
 least_of : (d : Vector) (m : Move) → BorrowsAtLeast d (Some m) → (v : ℕ) × (m ≡ Borrow v) × IsLeastInDebt d v
 least_of d (Borrow v) least = (v, refl, least)
@@ -47,43 +44,10 @@ asked_once p q r call other =
     (subst (λ (d : Vector). BorrowsAtLeast d other.answer) same other.least))
     ∙ sym other.asked
 
-made_or_past : (a : Reply) → ChoiceIsMadeOrPastRange a → ((d : Vector) × (a ≡ Moved d)) ⊎ (a ≡ Refused Range)
-made_or_past (Moved d) made = inl (d, refl)
-made_or_past (Refused Range) made = inr refl
-made_or_past (Refused refusal) made = absurd made
-made_or_past a made = absurd made
-
--- a move that was made was not refused for the range
-made_not_past : (p : Position) (m : Move) (d : Vector) → RepliesToMove p m (Moved d) →
-    RepliesToMove p m (Refused Range) → ⊥
-made_not_past p m d made (playable, past) = not_past p.graph.size _ d made.divisor made.size made.amounts past
-
-same_moved : (p : Position) (v : ℕ) (a b : Reply) → v < p.graph.size → RepliesToMove p (Borrow v) a →
-    RepliesToMove p (Borrow v) b → a ≡ b
-same_moved p v a b below right right' =
-    by_kinds (made_or_past a (move_answered p (Borrow v) a below right).0)
-    (made_or_past b (move_answered p (Borrow v) b below right').0)
-  where
-    by_kinds : (((d : Vector) × (a ≡ Moved d)) ⊎ (a ≡ Refused Range)) →
-        (((e : Vector) × (b ≡ Moved e)) ⊎ (b ≡ Refused Range)) → a ≡ b
-    by_kinds (inl (d, is)) (inl (e, is')) =
-        is ∙ ap Moved (moved_once p.graph p.amounts (Borrow v) d e (rw is at right) (rw is' at right')) ∙ sym is'
-    by_kinds (inl (d, is)) (inr past) = absurd (made_not_past p (Borrow v) d (rw is at right) (rw past at right'))
-    by_kinds (inr past) (inl (e, is)) = absurd (made_not_past p (Borrow v) e (rw is at right') (rw past at right))
-    by_kinds (inr past) (inr past') = past ∙ sym past'
-
-same_reply : (p : Position) (q : ℕ) (f : ℕ → ℕ) (i : ℕ) (r : Request) (a b : Reply) → IsGreedyCall p r → IsChosenMove r →
+same_reply : (p : Position) (q : ℕ) (f : ℕ → ℕ) (i : ℕ) (r : Request) (a b : Reply) → IsChosenMove r →
     RepliesAt p q f i r a → RepliesAt p q f i r b → a ≡ b
-same_reply p q f i r a b call move right right' = by_answer call.answer call.least call.asked
-  where
-    by_answer : (m : Option Move) → BorrowsAtLeast call.amounts m → r ≡ request_for m → a ≡ b
-    by_answer (Some m) least asked =
-        let (v, is, first) = least_of call.amounts m least in
-        let asks : r ≡ request.Move (Borrow v) = asked ∙ ap request.Move is in
-        let below : v < p.graph.size = omega (arith, first.debt.0, call.shown.size) in
-        same_moved p v a b below (subst (λ (s : Request). RepliesAt p q f i s a) asks right)
-        (subst (λ (s : Request). RepliesAt p q f i s b) asks right')
-    by_answer None least asked = absurd (subst IsChosenMove asked move)
+same_reply p q f i (request.Move m) a b move right right' = move_once p m a b right right'
+same_reply p q f i r a b move right right' = absurd move
 
 abbrev pub EndsOn : ℕ → List Entry → Bool → Type 0
 EndsOn n [] settled = (n ≡ 0) × (settled ≡ false)
@@ -129,7 +93,7 @@ module _ (o : StartData) where
 
       reply' : IsChosenMove d.request → d.reply ≡ e.reply
       reply' move = same_reply (position_after o K) o.q (λ i. gifts_in (take i K)) (gifts_in K) d.request d.reply e.reply
-          call move (right_here o K d H legal) right'
+          move (right_here o K d H legal) right'
 
       entry' : d.reply ≡ e.reply → d ≡ e
       entry' same = λ i. record { seat = (seat ∙ sym seat') i; request = request' i; reply = same i }
