@@ -13,13 +13,11 @@ pub use Rattle.dg_rank.specs.Boxes.{BoxWins, IsBoxLoss, IsFirstFrom, IsFrom, IsI
 pub use Rattle.dg_rank.specs.Divisors.{HoldsTrial, amounts_of}
 pub use Rattle.dg_rank.specs.Ladders.{AnswersRankTest, AreAnswers, FailsAfter, MeetsTooMany, PassesBelow, RankByLadder, RanksByTrialLadders}
 pub use Rattle.dg_rank.specs.Limits.{ArePastTrialLimits, IsWithinLimits}
-pub use Rattle.dg_rank.specs.Losses.{AllWin, IsFirstLossIn, IsPartial, WinsWithout}
+pub use Rattle.dg_rank.specs.Losses.{AllWin, IsFirstLossIn, IsLeftBeforeLast, WinsWithout}
 pub use Rattle.dg_rank.specs.Pieces.{piece_start}
 pub use Rattle.dg_rank.specs.Ranks.{BothArePast, FailsFirstAt, IsAskedSet, IsOpen, IsPastAsked, how_many, IsRankFault, IsRankInLimits, IsUnsettled, IsUntold, IsWithin, MayHaveWorkers, NeedsPastTests, NeedsTooMany}
 pub use Rattle.dg_rank.specs.Trials.{AnyTrial, AreCounted, ComesBefore, IsNumbering, IsTrial}
 pub use Rattle.dg_rank.specs.declared.counting.TheConstants.{MAX_TRIALS}
-pub use Rattle.dg_rank.specs.declared.search_state.SearchState.{SearchState}
-pub use Rattle.dg_rank.specs.declared.search_state.SearchState.TheVariants.{Lost, Open, Won}
 pub use Rattle.dg_rank.specs.declared.pieces.Search.{Search}
 pub use Rattle.dg_rank.specs.declared.rank_fault.RankFault.{RankFault}
 pub use Rattle.dg_rank.specs.declared.rank_fault.RankFault.TheVariants.{Spawn, TooMany}

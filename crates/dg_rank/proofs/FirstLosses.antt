@@ -6,13 +6,14 @@
 --   found_rank        if all trials win, the rank is at least their degree
 --   nth-trial         each number below the number of all trials has a trial
 --   loss-trial        the first of all trials to lose is a trial
---   found_trial       what was found among all trials, if it is one, is a trial
+--   found_trial       what was found among all trials, if it is one, has at most 1,000 dollars
+--   found_all         what was found in the block that the first trial begins was found among all
 --   wins_before       a divisor can lose each effective divisor before its first loss
 --   found_loss        the first of all trials to lose is the first loss
 --   some_number       there is a trial with the number 0
 --   poor_loses        if the degree is too low, each trial loses
 --   poor_loss         so trial number 0 is the first loss
-use Rattle.dg_rank.proofs.Common.{◌≡◌, ℕ, ◌<◌, List, length, arith, refl, sym, subst, ◌∙◌, ◌≤ℤ◌, ◌<ℤ◌, Option, Some, None, MatchOption, ⊤, ints, pos, Multigraph, IsMultigraph, Amounts, degree, IsEffective, IsWinnable, less, HasRankAtLeast, IsBefore, IsFirstLoss, sum_below-cong, win_more, degree-less, degree-winnable, Vector, at, IsTrial, ComesBefore, IsNumbering, AnyTrial, IsWithinLimits, amounts_of, HoldsTrial, WinsWithout, AllWin, IsFirstLossIn}
+use Rattle.dg_rank.proofs.Common.{◌≡◌, ℕ, ◌+◌, ◌-◌, ◌<◌, ◌≤◌, slice_index, sum, List, length, arith, refl, sym, subst, ◌∙◌, ◌≤ℤ◌, ◌<ℤ◌, Option, Some, None, MatchOption, ⊤, ints, pos, Multigraph, IsMultigraph, Amounts, degree, IsEffective, IsWinnable, less, HasRankAtLeast, IsBefore, IsFirstLoss, sum_below-cong, win_more, degree-less, degree-winnable, Vector, at, IsTrial, ComesBefore, IsNumbering, AnyTrial, IsWithinLimits, amounts_of, HoldsTrial, WinsWithout, AllWin, IsFirstLossIn}
 use Rattle.dg_rank.specs.Numbering.{trial_count, nth_trial}
 use Rattle.dg_rank.proofs.Numbering.{numbered, limits_count, some_trial}
 use Rattle.dg_rank.proofs.CountedOnce.{lower_number}
@@ -66,9 +67,20 @@ loss-trial g D k c E within loss =
 
 pub found_trial : (g : Multigraph) (D : Amounts) (k c : ℕ) (found : Option (List ℕ)) → IsWithinLimits g.size k c →
     MatchOption found (AllWin g D k 0 c) (IsFirstLossIn g D k 0 c) →
-    MatchOption found ⊤ (λ (E : List ℕ). (n : ℕ) × (m : ℕ) × IsWithinLimits n k m × IsTrial n k E)
-found_trial g D k c (Some E) within loss = (g.size, c, within, loss-trial g D k c E within loss)
+    MatchOption found ⊤ (λ (E : List ℕ). sum E ≤ 1000)
+found_trial g D k c (Some E) within loss = omega (arith, (loss-trial g D k c E within loss).amount, within.small)
 found_trial g D k c None within wins = tt
+
+pub found_all : (g : Multigraph) (D : Amounts) (k c : ℕ) (E : List ℕ) (found : Option (List ℕ)) → IsWithinLimits g.size k c →
+    slice_index E (g.size - 1) ≡ k →
+    MatchOption found (AllWin g D k 0 (0 + trial_count (g.size - 0) (slice_index E (g.size - 1))))
+        (IsFirstLossIn g D k 0 (0 + trial_count (g.size - 0) (slice_index E (g.size - 1)))) →
+    MatchOption found (AllWin g D k 0 c) (IsFirstLossIn g D k 0 c)
+found_all g D k c E found within held told =
+    let size : g.size - 0 ≡ g.size = omega arith in
+    let all : 0 + trial_count (g.size - 0) (slice_index E (g.size - 1)) ≡ c =
+    rw (held, size) (omega (arith, limits_count g.size k c within)) in
+    subst (λ (m : ℕ). MatchOption found (AllWin g D k 0 m) (IsFirstLossIn g D k 0 m)) all told
 
 wins_before : (g : Multigraph) (D : Amounts) (k c : ℕ) (E : List ℕ) (d : Vector) (F : Amounts) →
     IsWithinLimits g.size k c →

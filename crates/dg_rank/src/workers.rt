@@ -8,10 +8,9 @@ ghost use Rattle.dg_rank.specs.declared.rank_fault.RankFault.TheVariants.{Spawn}
 use crate::counting::trials;
 use crate::pieces::{Search, first_loss_among};
 use crate::rank_fault::RankFault;
-use crate::ranks::{settled, small_amounts, verdict_on};
+use crate::ranks::{settled, verdict_on};
 use dg_chips::{Divisor, Wide};
 use dg_graph::Graph;
-use dg_reduce::InverseLaplacian;
 use dg_verdict::RankVerdict;
 use std::marker::Sync;
 use std::sync::Wait;
@@ -69,16 +68,16 @@ pub fn rank_with<R: Threads + Wait, G: Gate>(
     if let Some(verdict) = settled(graph, divisor, k) {
         return after_the_gate(rt, graph, k, workers, gate, verdict);
     }
-    let inverse = InverseLaplacian::new(graph, 0);
-    let chips = small_amounts(graph, &inverse, divisor, k);
+    // The clause of `size` says that the amounts are within their limit.
+    let _amounts = divisor.size();
     let search = Search {
         graph: *graph,
-        chips,
+        chips: Wide::of(divisor),
         k,
         count,
         workers,
     };
-    match first_loss_among(rt, &search, gate) {
+    match first_loss_among(rt, &search, gate, 0) {
         Ok(loss) => Ok(verdict_on(k, loss)),
         Err(fault) => Err(fault),
     }
@@ -104,7 +103,7 @@ fn after_the_gate<R: Threads + Wait, G: Gate>(
         count: 0,
         workers,
     };
-    match first_loss_among(rt, &search, gate) {
+    match first_loss_among(rt, &search, gate, 0) {
         Ok(_) => Ok(verdict),
         Err(fault) => Err(fault),
     }

@@ -7,12 +7,11 @@ use Rattle.dg_rank.proofs.first_loss.left_without.Goals.{After-less, After-reduc
 left : (c : After-less) →
     AgreeOn c.args.graph.now.size (less (at c.args.chips.now) (amounts_of c.args.trial.now)) (at c.less.result)
 left c v inside =
-    let (k, count, within, trial) = c.requires.trial in
     omega (
       arith,
       ints,
       c.less.ensures.amounts v (omega arith),
-      c.to_divisor-lost.ensures.amounts v (omega (arith, trial.places)),
+      c.to_divisor-lost.ensures.amounts v (omega (arith, c.requires.places)),
     )
 
 -- they are fired to the reduced ones
@@ -39,10 +38,8 @@ form c same paid = record {
 
 pub reduce_certified-left-requires-clause-range : goal.reduce_certified-left-requires-clause-range
 reduce_certified-left-requires-clause-range c v inside =
-    let (k, count, within, trial) = c.requires.trial in
-    left_small c.args.graph.now.size k count c.args.trial.now (at c.args.chips.now)
-    (at c.less.result) v within trial inside
-    (c.requires.range v inside)
+    left_small c.args.trial.now (at c.args.chips.now) (at c.less.result) v c.requires.few
+    (omega (arith, c.requires.places)) (c.requires.range v inside)
     (omega (arith, ints, left (goal.at.reduce_certified-left-requires-clause-range c).After-less v inside))
 
 pub returns-then-get-lt0 : goal.returns-then-get-lt0

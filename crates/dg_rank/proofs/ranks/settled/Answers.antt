@@ -26,13 +26,9 @@ pub to_divisor-first-requires : goal.to_divisor-first-requires
 to_divisor-first-requires c =
     let (count, given) = c.requires.limits in
     let within : IsWithinLimits c.size-size.result c.args.k count = rw (← c.size-size.ensures.size) at given in
-    let some : 0 < count = some_number c.size-size.result c.args.k count within in (
-      c.size-size.result,
-      c.args.k,
-      count,
-      within,
-      rw c.with_number.ensures (nth-trial c.size-size.result c.args.k count 0 within some),
-    )
+    let some : 0 < count = some_number c.size-size.result c.args.k count within in
+    rw c.with_number.ensures
+    (omega (arith, (nth-trial c.size-size.result c.args.k count 0 within some).amount, within.small))
 
 pub returns-then-rest-lt0 : goal.returns-then-rest-lt0
 returns-then-rest-lt0 c =

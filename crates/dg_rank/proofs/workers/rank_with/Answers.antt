@@ -1,21 +1,34 @@
-use Rattle.dg_rank.proofs.Common.{arith, at, IsWithinLimits}
+use Rattle.dg_rank.proofs.Common.{ℕ, ◌<◌, List, Option, MatchOption, subst, ◌∙◌, arith, ints, equivalent-refl, Vector, at, Multigraph, IsWithinLimits, AllWin, IsFirstLossIn, Search}
+use Rattle.dg_rank.specs.Pieces.{piece_start, Tells}
 use Rattle.dg_rank.proofs.FirstLosses.{found_trial}
+use Rattle.dg_rank.proofs.PieceLosses.{piece_first}
 use Rattle.dg_rank.proofs.workers.rank_with.Goals as goal
 
 pub first_loss_among-requires-clause-search : goal.first_loss_among-requires-clause-search
 first_loss_among-requires-clause-search g c κs within = record {
-  size = c.small_amounts-chips.ensures.size;
-  range =
-      c.small_amounts-chips.ensures.small;
+  size = c.of.ensures.size ∙ c.requires.size;
+  range = λ v inside.
+      let below : v < c.args.divisor.now.size = omega (arith, c.requires.size) in
+      omega (arith, ints, c.of.ensures.amounts v below, c.size-amounts.ensures.divisor.within v below);
   limits = (c.in-Some.count, rw c.size-size.ensures.size at c.in-Some.ensures, omega arith);
 }
+
+abbrev search : Multigraph → Vector → ℕ → ℕ → ℕ → Search
+search g x k count w = record { graph = g; chips = x; k = k; count = count; workers = w }
+
+-- the first piece starts with the first trial
+found : (g : Multigraph) (x : Vector) (k count w : ℕ) (loss : Option (List ℕ)) →
+    Tells (search g x k count w) (piece_start (search g x k count w) 0) count loss →
+    MatchOption loss (AllWin g (at x) k 0 count) (IsFirstLossIn g (at x) k 0 count)
+found g x k count w loss told =
+    subst (λ (m : ℕ). Tells (search g x k count w) m count loss) (piece_first (search g x k count w)) told
 
 pub verdict_on-requires : goal.verdict_on-requires
 verdict_on-requires g c =
     let limits : IsWithinLimits c.args.graph.now.size c.args.k c.in-Some.count =
     rw c.size-size.ensures.size at c.in-Some.ensures in
-    found_trial c.args.graph.now
-    (at c.small_amounts-chips.result) c.args.k c.in-Some.count c.in-Ok.loss limits c.in-Ok.ensures
+    found_trial c.args.graph.now (at c.of.result) c.args.k c.in-Some.count c.in-Ok.loss limits
+    (found c.args.graph.now c.of.result c.args.k c.in-Some.count c.args.workers c.in-Ok.loss c.in-Ok.ensures)
 
 pub returns-in-Ok : goal.returns-in-Ok
 returns-in-Ok g c =
@@ -23,7 +36,8 @@ returns-in-Ok g c =
     rw c.size-size.ensures.size at c.in-Some.ensures in (
       (c.in-Some.count, limits),
       (omega arith, c.if-workers-gt-MAX_WORKERS.false),
-      c.verdict_on.ensures c.args.graph.now (at c.args.divisor.now)
-          (at c.small_amounts-chips.result) c.in-Some.count limits
-          c.small_amounts-chips.ensures.fired c.in-Ok.ensures,
+      c.verdict_on.ensures c.args.graph.now (at c.args.divisor.now) (at c.of.result) c.in-Some.count limits
+          (equivalent-refl c.args.graph.now (at c.args.divisor.now) (at c.of.result)
+          (λ v inside. omega (arith, ints, c.of.ensures.amounts v (omega (arith, c.requires.size)))))
+          (found c.args.graph.now c.of.result c.args.k c.in-Some.count c.args.workers c.in-Ok.loss c.in-Ok.ensures),
     )

@@ -1,6 +1,6 @@
 use Rattle.dg_rank.proofs.Common.{rules, ◌+◌, ◌≤◌, ◌<◌, arith, piece_start}
 use Rattle.dg_rank.proofs.PieceLosses.{piece_within, piece_ends}
-use Rattle.dg_rank.proofs.pieces.+fn-search_from-later+search_from.Goals as goal
+use Rattle.dg_rank.proofs.pieces.+first_loss_among+fn-first_loss_among-later.Goals as goal
 
 pub returns-in-Ok-later : goal.returns-in-Ok-later
 returns-in-Ok-later g t c =
