@@ -101,22 +101,19 @@ module _ (names : List (List ℕ)) (keyword : List ℕ) (rest : List (List ℕ))
   one_refusal : (one other : LineFault) → AreRefused names one keyword rest → AreRefused names other keyword rest
       → one ≡ other
   one_refusal Seat other a b = absurd a
-  one_refusal Word Seat a b = absurd b
+  one_refusal one Seat a b = absurd b
   one_refusal Word Word a b = refl
   one_refusal Word Form a b = absurd (not_wanted a b.0)
   one_refusal Word Name a b = absurd (unwanted a b.0)
   one_refusal Word Number a b = absurd (unwanted a b.0)
-  one_refusal Form Seat a b = absurd b
   one_refusal Form Word a b = absurd (not_wanted b a.0)
   one_refusal Form Form a b = refl
   one_refusal Form Name a b = absurd (a.1 b.0)
   one_refusal Form Number a b = absurd (a.1 b.0)
-  one_refusal Name Seat a b = absurd b
   one_refusal Name Word a b = absurd (unwanted b a.0)
   one_refusal Name Form a b = absurd (b.1 a.0)
   one_refusal Name Name a b = refl
   one_refusal Name Number a b = absurd (a.1 b.1)
-  one_refusal Number Seat a b = absurd b
   one_refusal Number Word a b = absurd (unwanted b a.0)
   one_refusal Number Form a b = absurd (b.1 a.0)
   one_refusal Number Name a b = absurd (b.1 a.1)

@@ -1,4 +1,5 @@
 -- At one position a call has one reply.
+--   no_vertex_playable, empty_playable, script_playable   a move that may be played has none of these faults
 --   move_once, gift_once, join_once, look_once, claim_once   so it is of each call
 use Rattle.dg_rules.proofs.Common.{◌≡◌, ℕ, ◌<◌, ◌≤◌, ◌⊎◌, inl, inr, arith, refl, sym, ap, ◌∙◌, false≢true, ℤ, moved_once, not_past, in_set-none, in_set, Vector, NamesNoVertex, IsEmptySet, HasOtherSize, IsPlayable, IsAfterMove, IsGivenTo, RefusesGift, RepliesToGift, IsJoinedTo, RefusesToJoin, RepliesToJoin, RefusesMove, RepliesToMove, Position, RepliesToLook, RepliesToClaim, Refusal, Reply, Moved, Given, Joined, Looked, Won, NotWon, Refused}
 use Rattle.dg_chips.specs.declared.moves.Move.{Move}
@@ -16,7 +17,7 @@ module _ (p : Position) where
   no_vertex_script (Script s) none other = absurd none
   no_vertex_script m none other = absurd other
 
-  no_vertex_playable : (m : Move) → NamesNoVertex p.graph.size m → IsPlayable p.graph.size m → ⊥
+  pub no_vertex_playable : (m : Move) → NamesNoVertex p.graph.size m → IsPlayable p.graph.size m → ⊥
   no_vertex_playable (Lend v) none playable = omega (arith, none, playable)
   no_vertex_playable (Borrow v) none playable = omega (arith, none, playable)
   no_vertex_playable (Fire s) (v, past, inside) playable = omega (arith, past, playable.1 v inside)
@@ -26,11 +27,11 @@ module _ (p : Position) where
   empty_script (Script s) empty other = absurd empty
   empty_script m empty other = absurd other
 
-  empty_playable : (m : Move) → IsEmptySet m → IsPlayable p.graph.size m → ⊥
+  pub empty_playable : (m : Move) → IsEmptySet m → IsPlayable p.graph.size m → ⊥
   empty_playable (Fire s) empty playable = playable.0 empty
   empty_playable m empty playable = absurd empty
 
-  script_playable : (m : Move) → HasOtherSize p.graph.size m → IsPlayable p.graph.size m → ⊥
+  pub script_playable : (m : Move) → HasOtherSize p.graph.size m → IsPlayable p.graph.size m → ⊥
   script_playable (Script s) other playable = other playable
   script_playable m other playable = absurd other
 

@@ -3,12 +3,12 @@ pub use Rattle.dg_chips.specs.Moves.{IsPlayable}
 pub use Rattle.dg_chips.specs.Starts.{IsStart, StartData}
 pub use Rattle.dg_chips.specs.Vector.{Vector, at}
 pub use Rattle.dg_chips.specs.declared.moves.Move.{Move}
-pub use Rattle.dg_chips.specs.declared.moves.Move.TheVariants.{Borrow, Fire, Lend, Script}
+pub use Rattle.dg_chips.specs.declared.moves.Move.TheVariants.{Borrow}
 pub use Rattle.dg_rules.proofs.GraphLaws.{graphs_hold}
 pub use Rattle.dg_rules.proofs.HistoryLaws.{gifts_in-more}
 pub use Rattle.dg_rules.proofs.LegalLaws.{legal_more, legal_none, legal_part, right_here}
 pub use Rattle.dg_rules.proofs.ListLaws.{slice_get-append, slice_get-seam}
-pub use Rattle.dg_rules.proofs.OneReply.{move_once}
+pub use Rattle.dg_rules.proofs.OneReply.{empty_playable, move_once, no_vertex_playable, script_playable}
 pub use Rattle.dg_rules.proofs.StateLaws.{shown_once}
 pub use Rattle.dg_rules.specs.History.{gifts_by_reply, gifts_in, position_after}
 pub use Rattle.dg_rules.specs.Legal.{IsLegal, LooksBack}

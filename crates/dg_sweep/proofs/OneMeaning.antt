@@ -1,7 +1,7 @@
 -- A line of amounts has one meaning.
 --   spelled_once      numbers are spelled in one way
 --   amount_lines_have_one_meaning
-use Rattle.dg_sweep.proofs.Common.{◌≡◌, ◌≢◌, ℕ, ℤ, pos, List, [], ◌∷◌, length, map, All, FitsSigned, w64, refl, sym, ap, ◌∙◌, arith, subst, ◌^◌, ◌-◌, neg_ℤ, signed_decimal, signed_decimal_injective, All-head, All-tail, StartData, Vector, HoldsNumbers, IsFirstChipFault, ChipFault, IsNumberWithin, held_once, fits_within, FileFault, AmountLinesHaveOneMeaning, SpellsAmounts, SpellsNoAmounts, HasAmountsOf, RefusesAmounts}
+use Rattle.dg_sweep.proofs.Common.{◌≡◌, ◌≢◌, ℕ, ℤ, pos, List, [], ◌∷◌, length, map, All, FitsSigned, w64, refl, sym, ap, ◌∙◌, arith, subst, ◌^◌, ◌-◌, neg_ℤ, signed_decimal, signed_decimal_injective, All-head, All-tail, StartData, Vector, HoldsNumbers, IsFirstChipFault, IsNumberWithin, held_once, fits_within, FileFault, AmountLinesHaveOneMeaning, SpellsAmounts, HasAmountsOf, RefusesAmounts}
 use Rattle.dg_lines.proofs.Meaning.{same_words}
 use Rattle.dg_file.proofs.OneTable.{chip-one, chip-none}
 use Rattle.dg_file.specs.declared.fault.FileFault.TheVariants as fault
@@ -42,40 +42,29 @@ line_once : (line : List ℕ) (xs ys : List ℤ) → SpellsAmounts line xs → S
 line_once line xs ys first second =
     spelled_once xs ys (sym first.spelled ∙ second.spelled) first.held second.held
 
--- why a line of amounts is refused
-data Cause (n : ℕ) (line : List ℕ) : FileFault → Type 0 where
-  none : SpellsNoAmounts line → Cause n line (fault.Shape shape.Amounts)
-  chip : (f : ChipFault) (xs : List ℤ) → SpellsAmounts line xs → IsFirstChipFault n xs f → Cause n line (fault.Chip f)
-
-cause : (n : ℕ) (line : List ℕ) (f : FileFault) → f ≢ fault.OutOfMemory → RefusesAmounts n line f → Cause n line f
-cause n line fault.Json known refused = absurd refused
-cause n line (fault.Shape shape.Top) known refused = absurd refused
-cause n line (fault.Shape shape.Vertices) known refused = absurd refused
-cause n line (fault.Shape shape.Edges) known refused = absurd refused
-cause n line (fault.Shape (shape.Edge i)) known refused = absurd refused
-cause n line (fault.Shape shape.Amounts) known refused = none refused
-cause n line (fault.Shape shape.Q) known refused = absurd refused
-cause n line (fault.Graph f) known refused = absurd refused
-cause n line (fault.Name i) known refused = absurd refused
-cause n line (fault.Twice i) known refused = absurd refused
-cause n line (fault.Chip f) known refused = chip f refused.0 refused.1 refused.2
-cause n line fault.NoQ known refused = absurd refused
-cause n line fault.OutOfMemory known refused = absurd (known refl)
-
-cause_once : (n : ℕ) (line : List ℕ) (f h : FileFault) → Cause n line f → Cause n line h → f ≡ h
-cause_once n line f h (none a) (none b) = refl
-cause_once n line f h (none a) (chip c ys spells b) = absurd (a ys spells)
-cause_once n line f h (chip c xs spells a) (none b) = absurd (b xs spells)
-cause_once n line f h (chip c xs spells a) (chip d ys spells' b) =
+fault_once : (n : ℕ) (line : List ℕ) (f h : FileFault) → f ≢ fault.OutOfMemory → h ≢ fault.OutOfMemory
+    → RefusesAmounts n line f → RefusesAmounts n line h → f ≡ h
+fault_once n line fault.OutOfMemory h known known' a b = absurd (known refl)
+fault_once n line f fault.OutOfMemory known known' a b = absurd (known' refl)
+fault_once n line (fault.Shape shape.Amounts) (fault.Shape shape.Amounts) known known' a b = refl
+fault_once n line (fault.Shape shape.Amounts) (fault.Chip d) known known' a (ys, spells, b) = absurd (a ys spells)
+fault_once n line (fault.Chip c) (fault.Shape shape.Amounts) known known' (xs, spells, a) b = absurd (b xs spells)
+fault_once n line (fault.Chip c) (fault.Chip d) known known' (xs, spells, a) (ys, spells', b) =
     let same : xs ≡ ys = line_once line xs ys spells spells' in
     ap fault.Chip (chip-one n ys c d (subst (λ (zs : List ℤ). IsFirstChipFault n zs c) same a) b)
+fault_once n line (fault.Shape shape.Amounts) h known known' a b = absurd b
+fault_once n line (fault.Chip c) h known known' a b = absurd b
+fault_once n line f h known known' a b = absurd a
 
-no_start : (o p : StartData) (line : List ℕ) (f : FileFault) → Cause o.graph.size line f → HasAmountsOf o line p → ⊥
-no_start o p line f (none a) has = a has.xs has.spelled
-no_start o p line f (chip c xs spells a) has =
+no_start : (o p : StartData) (line : List ℕ) (f : FileFault) → f ≢ fault.OutOfMemory
+    → RefusesAmounts o.graph.size line f → HasAmountsOf o line p → ⊥
+no_start o p line fault.OutOfMemory known a has = known refl
+no_start o p line (fault.Shape shape.Amounts) known a has = a has.xs has.spelled
+no_start o p line (fault.Chip c) known (xs, spells, a) has =
     let same : xs ≡ has.xs = line_once line xs has.xs spells has.spelled in
     chip-none o.graph.size has.xs has.divisor has.size has.amounts has.within c
     (subst (λ (zs : List ℤ). IsFirstChipFault o.graph.size zs c) same a)
+no_start o p line f known a has = absurd a
 
 start_once : (o p r : StartData) (line : List ℕ) → HasAmountsOf o line p → HasAmountsOf o line r → p ≡ r
 start_once o p r line a b =
@@ -88,7 +77,6 @@ start_once o p r line a b =
 pub amount_lines_have_one_meaning : AmountLinesHaveOneMeaning
 amount_lines_have_one_meaning = record {
   start = start_once;
-  refused = λ o p line f known refused has. no_start o p line f (cause o.graph.size line f known refused) has;
-  fault = λ n line one other known known' a b.
-      cause_once n line one other (cause n line one known a) (cause n line other known' b);
+  refused = no_start;
+  fault = fault_once;
 }
