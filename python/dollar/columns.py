@@ -46,7 +46,7 @@ class Columns:
         return self.count
 
     def add(self, piece: bytes) -> int:
-        """Takes lines, and reads all that were taken if they are many. Tells how many were read."""
+        """Buffers lines, and reads all of them once they are AT_ONCE bytes. Returns how many it read."""
         self.unread.append(piece)
         self.unread_size += len(piece)
         return self.flush() if self.unread_size >= AT_ONCE else 0

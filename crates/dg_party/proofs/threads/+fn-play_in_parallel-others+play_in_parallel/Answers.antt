@@ -1,6 +1,6 @@
 use Rattle.dg_party.proofs.Common.{rules, IfErr-weaker, IfOk-weaker}
 use Rattle.dg_party.proofs.Begun.{none_begun, one_more, more_begun, all_begun}
-use Rattle.dg_party.proofs.threads.+fn-play-others+play.Goals as goal
+use Rattle.dg_party.proofs.threads.+fn-play_in_parallel-others+play_in_parallel.Goals as goal
 
 pub returns-in-Ok-default-Ok-clause-ok : goal.returns-in-Ok-default-Ok-clause-ok
 returns-in-Ok-default-Ok-clause-ok g n c =
