@@ -4,7 +4,7 @@ import { GRAMMAR } from "./grammar.js";
 import { fitted, freePlace, layoutOf, placesText, shortened, vertexAhead, vertexAt, wordsPlace } from "./places.js";
 import {
   CAUSES, FAULTS, Game, KINDS, answerOf, commandWords, faultWords, flows, legendWords, linesOf, markOf, mostTelling, movesWords, nameWords,
-  replyOf, replyWords, stepOf,
+  numbersOf, numbersWords, rankWords, replyOf, replyWords, startWords, stepOf,
 } from "./words.js";
 
 const failures_ = [];
@@ -104,7 +104,22 @@ function games() {
   rich.add("1 borrow a", "1 moved b=1 a=1 2=0");
   equal([0, 1, 2].map((index) => rich.isWon(index)), [false, false, false], "a table on which nobody owed");
   equal([movesWords(1), movesWords(0), faultWords("?", "x")], ["1 move", "0 moves", "x"], "words of numbers and faults");
+  equal([startWords(0), startWords(1), startWords(2)], ["Start. No moves yet.", "Start, before 1 step", "Start, before 2 steps"], "starts");
   equal([linesOf("a\nb\n"), linesOf("a\nb"), linesOf("")], [["a", "b"], ["a", "b"], []], "lines of texts");
+}
+
+function ranks() {
+  equal(numbersOf("degree 2 genus 5 rank 0 dual -1"), { degree: "2", genus: "5", rank: "0", dual: "-1" }, "the four numbers of a line");
+  const law = "By Riemann-Roch, the first rank minus the second is degree + 1 - genus.";
+  const begins = "The degree, the total of the dollars, is 17. The genus, edges minus vertices plus 1, is 9.";
+  equal(numbersWords({ degree: "17", genus: "9", rank: "8", dual: "-1" }), `${begins} The rank is 8, and the rank of K - D is -1. ${law}`,
+    "ranks");
+  equal(numbersWords({ degree: "17", genus: "9", rank: "?", dual: "?" }),
+    `${begins} Neither rank is known, since too many losses would have to be tried. ${law}`, "ranks that are not known");
+  equal([rankWords("-1", new Map()), rankWords("?"), rankWords("8", undefined), rankWords("1", new Map([["b", 1], ["c", 0], ["d", 1]]))],
+    ["The rank is -1. It can't be won as it stands.", "The rank is not known, since too many losses would have to be tried.",
+      "The rank is 8. Some loss of 9 dollars is too much; which one is not known, since too many losses would have to be tried.",
+      "The rank is 1. If b loses 1 dollar and d loses 1 dollar, the debts can no longer be cleared."], "words of a rank");
 }
 
 function places() {
@@ -142,6 +157,6 @@ function fits() {
 }
 
 export function failures() {
-  for (const part of [replies, commands, faults, marks, games, places, fits]) part();
+  for (const part of [replies, commands, faults, marks, games, ranks, places, fits]) part();
   return failures_;
 }

@@ -121,7 +121,7 @@ class OfPackages(Test):
             shutil.copy(path, copy / path.relative_to(ROOT))
         for words in ["init", "-q"], ["add", "-A"]:
             self.out("git", *words, cwd=copy)
-        strange = ["examples/class.json", "examples/kept/class.json", "python/dollar/id_rsa", "python/dollar/new.py", "docs/notes.md"]
+        strange = ["examples/class.json", "examples/kept/class.json", "python/dollar/id_rsa", "python/dollar/new.py", "docs/notes.bak"]
         for path in strange:
             (copy / path).parent.mkdir(exist_ok=True)
             (copy / path).write_text("secret")

@@ -2,7 +2,7 @@
 
 import { Board, still } from "./board.js";
 import { fitted } from "./places.js";
-import { commandWords, debtWords, faultWords, flowWords, legendWords, markOf, mostTelling, movesWords, often, planned, replyWords } from "./words.js";
+import { commandWords, debtWords, faultWords, flowWords, legendWords, markOf, mostTelling, movesWords, often, planned, replyWords, startWords } from "./words.js";
 
 export const element = (id) => document.getElementById(id);
 // The marks of a long game, which all are looked at for, are drawn when no more steps come for a while.
@@ -180,7 +180,7 @@ export class Viewer {
     const step = game.steps[index - 1], reply = game.replies[index - 1];
     document.querySelector("#now [aria-live]").setAttribute("aria-live", !index || this.speaks(step) ? "polite" : "off");
     this.showEnd();
-    element("place").textContent = index ? `Step ${index} of ${game.length}` : `The start, before ${game.length} steps`;
+    element("place").textContent = index ? `Step ${index} of ${game.length}` : startWords(game.length);
     element("step").textContent = index ? `${this.who(step.seat, index)}: ${commandWords(step)}` : "The table at the start";
     element("moves").textContent = index && reply.kind === "moved" ? flowWords(state.edges, step.script) : "";
     element("answer").textContent = index ? replyWords(reply, state.amounts, game.table.q) : debtWords(state.amounts);
