@@ -72,8 +72,9 @@ from 0, lines and steps from 1: `edge 0 is empty` is about the first edge, and
 A run that fails prints one line that says why, on standard error, and nothing
 else. But `serve`, `--lines` and `--divisors` have answered the lines before,
 and `party` prints the history even if a session ended early. If a line of these
-is refused, `refused ..` or `bad ..` is its answer, and the run goes on. The
-status is
+is refused, `refused ..` or `bad ..` is its answer, and the run goes on.
+
+The status is
 
     0  if there is an answer, also `unwinnable` and `rank below ..`
     2  if the command line is refused

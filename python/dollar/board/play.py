@@ -33,7 +33,7 @@ from dollar.board.game import MOST_SEATS, Table
 from dollar.board.keeping import Keeper
 from dollar.board.pages import forward
 from dollar.board.server import ANY, Server, address_of, is_loopback, new_secret
-from dollar.program import printed
+from dollar.program import Fault, printed
 from dollar.table import EXAMPLES, shown_name, text_of
 
 LOOPBACK = "127.0.0.1"
@@ -201,8 +201,11 @@ def main(words):
     given = arguments(words)
     own = None if given.places is None else text_of(given.places)
     texts = {shown_name(file): text_of(file) for file in given.files}
-    for text in texts.values():
-        printed("judge", text.encode())
+    for name, text in texts.items():
+        try:
+            printed("judge", text.encode())
+        except Fault as fault:
+            raise ValueError("%s: %s" % (name, fault)) from None
     tables = [Table(name, text, None if number else own) for number, (name, text) in enumerate(texts.items())]
     asyncio.run((serve_class if given.seats else serve_alone)(given, tables))
     return 0
