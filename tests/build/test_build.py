@@ -66,13 +66,13 @@ class OfBuilds(Test):
         self.assertNotIn("Traceback", said)
         return out, said, child.returncode
 
-    def builds(self):
+    def builds(self, **options):
         """Sees that the script builds the program of these files."""
         sums = {}
         for name, libraries in crates().items():
             below = {lower for each in libraries if each in sums for lower in [each, *sums[each][1]]}
             sums[name] = whole_sum(own_sum(self.tree / "crates" / name), {lower: sums[lower][0] for lower in below}), below
-        out, said, status = self.run_of()
+        out, said, status = self.run_of(**options)
         self.assertEqual((out, status), (sums["dollar"][0] + "\n", 0), said)
         return said
 
@@ -124,6 +124,19 @@ class OfBuilds(Test):
         left = len(list(self.made.glob("*.sum")))
         self.assertIn(f"its crates are proved: {left} of 25, ", self.builds())
 
+    def test_an_edit_that_is_taken_back_after_a_kill(self):
+        """The process of the toolchain lives on, and makes the crate of the edited file. Then one far above is edited."""
+        self.builds()
+        back = self.edit("dg_invocation")
+        child = self.begun(pace=0.2)
+        child.stderr.readline()
+        time.sleep(0.1)
+        os.killpg(child.pid, signal.SIGKILL)
+        child.communicate()
+        back()
+        self.edit("dollar")
+        self.assertIn("its crates are proved: 23 of 25, ", self.builds(pace=0.3))
+
     def test_an_edit_during_a_build(self):
         """What was edited while it was made is made again, even if the edit was taken back in time."""
         self.builds()
@@ -148,7 +161,7 @@ class OfBuilds(Test):
 
     def test_the_first_lines(self):
         first, second, *more = self.builds().splitlines()
-        self.assertEqual(first, "dollar: for a first answer without any proof, in a minute or two: ./dollar --unproved ..")
+        self.assertEqual(first, "dollar: for a first answer without any proof, in two minutes or more: ./dollar --unproved ..")
         self.assertRegex(second, "^dollar: the program is missing, and its crates are proved: 0 of 25, some [0-9]+ minutes left$")
         self.assertEqual(more, sorted(more, key=lambda line: int(line.split()[1])))
         self.assertEqual(more[-1], "dollar: 25 of 25, done")
