@@ -9,7 +9,6 @@ import shutil
 import signal
 import subprocess
 import sys
-import tempfile
 import time
 from pathlib import Path
 
@@ -70,7 +69,7 @@ class OfBuilds(Test):
         """Sees that the script builds the program of these files."""
         sums = {}
         for name, libraries in crates().items():
-            below = {lower for each in libraries if each in sums for lower in [each, *sums[each][1]]}
+            below = {lower for library in libraries if library in sums for lower in [library, *sums[library][1]]}
             sums[name] = whole_sum(own_sum(self.tree / "crates" / name), {lower: sums[lower][0] for lower in below}), below
         out, said, status = self.run_of(**options)
         self.assertEqual((out, status), (sums["dollar"][0] + "\n", 0), said)
@@ -116,8 +115,8 @@ class OfBuilds(Test):
 
     @each(list(ENDED.items()))
     def test_a_build_that_is_ended_says_what_is_kept(self, number, status):
-        for each in "out", "crates/dollar/out":
-            shutil.rmtree(self.tree / each, ignore_errors=True)
+        for path in "out", "crates/dollar/out":
+            shutil.rmtree(self.tree / path, ignore_errors=True)
         child = self.begun(self.tree / "tools" / "build", pace=0.2)
         self.assertTrue(self.end(child, number).endswith(KEPT))
         self.assertEqual(child.returncode, status)
