@@ -7,7 +7,7 @@ import { Hands } from "./hand.js";
 import { fewest, post, save, startPage, store, stored, sure } from "./page.js";
 import { fitted, layoutOf } from "./places.js";
 import { Viewer, bind, button, element, made, say } from "./viewer.js";
-import { Game, faultWords, movesWords } from "./words.js";
+import { Game, besideWords, faultWords, movesWords } from "./words.js";
 
 const SOON = 16, LETTERS = 24, WORDS_HIGH = 85, TITLE_HIGH = 60, GROUPS = [0, 1, 2, 3, 4, 5, 6];
 const CHANGES = ["moved", "given", "joined"];
@@ -392,7 +392,7 @@ function freeing(seat, name, bars = false) {
 
 async function command(path, thing) {
   const got = await post(path, thing);
-  say("teacher-refused", got.refused && faultWords(got.refused, got.refused));
+  say("teacher-refused", got.refused && `${faultWords(got.refused, got.refused)} ${besideWords(got.refused, thing.table, thing.name)}`.trim());
   return got;
 }
 
