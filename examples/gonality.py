@@ -1,13 +1,13 @@
 #!/usr/bin/env python3
-"""The gonality of a graph: the least degree of an effective divisor whose rank is at least 1. So many dollars can be placed so that
-any one of them may be lost.
+"""The gonality of a graph: the least degree of a divisor whose rank is at least 1. So many dollars can be placed so that any one of
+them may be lost.
 
     examples/gonality.py FILE
 
 prints the gonality of the graph of each line of FILE, a table each; what it holds does not matter.
 
-A divisor of rank at least 1 can be fired to one that is effective and has a dollar at q, so only such divisors are tried. Each
-degree takes one run of the program, over all of them as divisors of one table.
+Equivalent divisors have one rank, so of each class only the reduced divisor is tried, if it has a dollar at q: otherwise none can be lost
+there. Each degree takes one run of the program, over the tables of all graphs that are left.
 
     >>> gonality(graph(5, [(0, 1), (1, 2), (1, 3), (3, 4)])), gonality(graph(7, [(i, (i + 1) % 7) for i in range(7)]))
     (1, 2)
@@ -15,8 +15,8 @@ degree takes one run of the program, over all of them as divisors of one table.
     [1, 2, 3, 4, 5]
     >>> gonality(graph(2, [(0, 1)] * 7)), gonality(graph(6, [(u, v) for u in range(3) for v in range(3, 6)]))
     (2, 3)
-    >>> gonality(dollar.example("cube")), gonality(dollar.example("petersen"))
-    (4, 4)
+    >>> gonalities([dollar.example("cube"), dollar.example("petersen")])
+    [4, 4]
 
 Trees have 1, cycles 2, complete graphs one less than vertices, two vertices joined more than once 2, complete bipartite graphs the
 lesser part, and the cube and Petersen's graph 4."""
@@ -40,19 +40,30 @@ def graph(size, edges):
     return dollar.Table(matrix)
 
 
-def placed(table, degree):
-    """So many dollars in each way in which q has one of them at least."""
-    for more in itertools.combinations_with_replacement(table.vertices, degree - 1):
-        yield [(name == table.q) + more.count(name) for name in table.vertices]
+def tried(table, degree):
+    """The divisors of a degree, one of each class, that may have rank 1: how many dollars q has does not make one reduced."""
+    one = dollar.Table(table, {table.q: 1})
+    return (one + each for each in one.reduced_divisors(degree - 1, winnable=True))
+
+
+def gonalities(tables):
+    """The gonality of each graph: at most a dollar for each vertex."""
+    found = {}
+    for degree in itertools.count(1):
+        left = [number for number in range(len(tables)) if number not in found]
+        if not left:
+            return [found[number] for number in range(len(tables))]
+        numbers, asked = itertools.tee((number, each) for number in left for each in tried(tables[number], degree))
+        tests = dollar.rank_test_all((each for _, each in asked), 1, errors="raise")
+        found.update((number, degree) for (number, _), test in zip(numbers, tests) if test)
 
 
 def gonality(table):
-    """The least degree of an effective divisor of rank at least 1: at most a dollar for each vertex."""
-    return next(degree for degree in itertools.count(1)
-                if any(dollar.rank_all(table, 1, divisors=placed(table, degree), errors="raise")))
+    """The gonality of one graph."""
+    return gonalities([table])[0]
 
 
 if __name__ == "__main__":
     with open(sys.argv[1]) as file:
-        for line in file:
-            print(gonality(dollar.Table(json.loads(line))), flush=True)
+        for number in gonalities([dollar.Table(json.loads(line)) for line in file]):
+            print(number)

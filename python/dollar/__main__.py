@@ -18,9 +18,9 @@ if not __package__:
     sys.dont_write_bytecode = True
     sys.path[0] = os.path.dirname(os.path.dirname(os.path.abspath(__file__)))
 
+from dollar import program
 from dollar.commands import judge
 from dollar.drawing import verdict_picture
-from dollar.program import Fault
 from dollar.table import shown_name, text_of
 
 COMMANDS = {"board": "dollar.board.play", "replay": "dollar.board.replay", "sweep": "dollar.cluster",
@@ -30,7 +30,7 @@ COMMANDS = {"board": "dollar.board.play", "replay": "dollar.board.replay", "swee
 def draw(words: "list[str]") -> int:
     """Prints the picture of a table."""
     reader = argparse.ArgumentParser(
-        prog="dollar draw", usage="%(prog)s [--places PLACES] FILE > PICTURE.svg",
+        prog=program.typed("draw"), usage="%(prog)s [--places PLACES] FILE > PICTURE.svg",
         description="Draws a table and its verdict. A vertex has its name and its dollars; one in debt is red and hatched, and q has a "
         "double ring. Below a vertex is how often the script lets it lend or borrow. Vertices that burn are orange, with their number in the order.")
     reader.add_argument("--places", metavar="PLACES",
@@ -55,6 +55,7 @@ def main(words: "list[str]") -> int:
     if not words or words[0] not in ("draw", *COMMANDS):
         print(__doc__, file=sys.stderr)
         return 2
+    program.may_build = True
     try:
         command = draw if words[0] == "draw" else importlib.import_module(COMMANDS[words[0]]).main
         status: int = command(words[1:])
@@ -63,8 +64,8 @@ def main(words: "list[str]") -> int:
     except BrokenPipeError:
         os.dup2(os.open(os.devnull, os.O_WRONLY), sys.stdout.fileno())
         return 1
-    except (OSError, ValueError, TypeError, RecursionError, Fault) as error:
-        print("dollar %s: %s" % (" ".join(words), " ".join(str(error).split())), file=sys.stderr)
+    except (OSError, ValueError, TypeError, RecursionError, program.Fault) as error:
+        print("%s: %s" % (program.typed(words[0]), " ".join(str(error).split())), file=sys.stderr)
         return 1
     except KeyboardInterrupt:
         return 130

@@ -36,9 +36,9 @@ def pairs_of(text: str, vertices: Optional[Vertices] = None) -> Pairs:
     return found if vertices is None else vertices.read(found)
 
 
-def vertices_of(table: Any) -> Optional[Vertices]:
-    """The vertices of a Table; those of a dict or a file are their names."""
-    return getattr(table, "_vertices", None)
+def vertices_of(kept: Any) -> Optional[Vertices]:
+    """The vertices of a Table, by what was kept of it; those of a dict or a file are their names."""
+    return getattr(kept[0] if isinstance(kept, tuple) else kept, "_vertices", None)
 
 
 class Answer:
@@ -70,10 +70,10 @@ class Answer:
     def as_dict(self) -> Dict[str, object]:
         """The answer as a dict for `json.dumps`, amounts by the names of the vertices.
 
-        >>> from dollar import Table, judge, rank
+        >>> from dollar import Table, judge, rank_test
         >>> judge(Table([[0, 1], [1, 0]], [2, -1])).as_dict()
         {'winnable': True, 'script': {'0': 0, '1': -1}, 'reduced': {'0': 1, '1': 0}, 'burning': ['0', '1']}
-        >>> rank(Table([[0, 1], [1, 0]], [2, -1]), 1).as_dict()
+        >>> rank_test(Table([[0, 1], [1, 0]], [2, -1]), 1).as_dict()
         {'holds': True, 'degree': 1}
         """
         return {name: plain(value) for name, value in vars(self).items() if not name.startswith("_") and value is not None}
@@ -124,11 +124,6 @@ class Verdict(OfTable):
     True
     >>> "can be won" if verdict else "can't be won"
     'can be won'
-
-    The divisor to which the script leads can be the amounts of a table, unless q then owes more than a table allows:
-
-    >>> print(judge(Table(table, verdict.reduced)))
-    winnable by a=0 b=0 to a=1 b=0
     """
 
     winnable: bool
@@ -183,11 +178,11 @@ class RankTest(OfTable):
     """Whether so many dollars can be lost, no matter where; if not, the first way to lose them after which the table can't be won.
     `loss` is also None if a law settles a test that is past the limits.
 
-    >>> from dollar import Table, rank
+    >>> from dollar import Table, rank_test
     >>> table = Table([[0, 3], [3, 0]], [1, 1])
-    >>> print(rank(table, 1))
+    >>> print(rank_test(table, 1))
     rank at least 1
-    >>> rank(table, 2)
+    >>> rank_test(table, 2)
     RankTest(holds=False, degree=2, loss={0: 0, 1: 2})
     """
 
@@ -207,13 +202,13 @@ class RankTest(OfTable):
         word = "rank at least" if self.holds else "rank below"
         return (word, self.degree) if self.loss is None else (word, self.degree, self.loss)
 
-    def check(self, table: Optional[Mapping[str, Any]] = None, program: Optional[Place] = None) -> None:
+    def check(self, table: Optional[Mapping[str, Any]] = None, *, program: Optional[Place] = None) -> None:
         """Checks the test by its definition. A ValueError says why it is wrong. Each loss in the order of lists, up to `loss`, is taken
         from the table, and the verdict on the rest is checked as `Verdict.check` does; so a long test takes long.
 
-        >>> from dollar import Table, rank
+        >>> from dollar import Table, rank_test
         >>> table = Table([[0, 3], [3, 0]], [1, 1])
-        >>> rank(table, 1).check()
+        >>> rank_test(table, 1).check()
         >>> RankTest(True, 2).check(table)
         Traceback (most recent call last):
             ...
@@ -227,8 +222,8 @@ class RankTest(OfTable):
 
 
 @dataclass(frozen=True, eq=False)
-class RiemannRoch(AbstractMapping[str, Optional[int]]):
-    """The degree, the genus, the rank, and the rank of the dual. A rank is None if `rr_all` finds it past the limits.
+class RiemannRoch(AbstractMapping[str, int]):
+    """The degree, the genus, the rank, and the rank of the dual.
 
     It prints as the program does, and is equal to the dict of its numbers:
 
@@ -247,11 +242,11 @@ class RiemannRoch(AbstractMapping[str, Optional[int]]):
 
     degree: int
     genus: int
-    rank: Optional[int]
-    dual: Optional[int]
+    rank: int
+    dual: int
 
-    def __getitem__(self, word: str) -> Optional[int]:
-        number: Optional[int] = vars(self)[word]
+    def __getitem__(self, word: str) -> int:
+        number: int = vars(self)[word]
         return number
 
     def __iter__(self) -> Iterator[str]:
@@ -268,10 +263,10 @@ class RiemannRoch(AbstractMapping[str, Optional[int]]):
         return dict(self)
 
     def __str__(self) -> str:
-        return "\n".join("%s %s" % (word, "?" if number is None else number) for word, number in self.items())
+        return "\n".join("%s %d" % pair for pair in self.items())
 
     def _repr_html_(self) -> str:
-        return table_html(self, [["?" if number is None else number for number in self.values()]])
+        return table_html(self, [self.values()])
 
 
 @dataclass(frozen=True, eq=False, repr=False)
@@ -291,6 +286,10 @@ class Entry(Answer):
     ('moved', {0: 1, 1: 0}, True)
     >>> moved == ("moved", {0: 1, 1: 0}), moved
     (True, Moved(word='moved', amounts={0: 1, 1: 0}, number=1))
+    >>> [type(entry(text)).__name__ for text in ("given 1 a=2", "joined 1 a=2", "looked 0 a=2", "winnable by a=0 to a=2", "rank at least 1")]
+    ['Given', 'Joined', 'Looked', 'Judged', 'Tested']
+    >>> [type(entry(text)).__name__ for text in ("stale 1", "not won", "refused gift", "bad name", "turns")]
+    ['Stale', 'Claimed', 'Declined', 'Bad', 'Turns']
     """
 
     word: str = ""
@@ -328,64 +327,64 @@ class Entry(Answer):
 
 
 class Moved(Entry):
-    """A move was made, and led to these amounts."""
+    """A move was made, and led to these amounts. `help(dollar.Entry)` has an example."""
 
     amounts: Pairs
 
 
 class Given(Entry):
-    """A gift or a levy was made."""
+    """A gift or a levy was made. `help(dollar.Entry)` has an example."""
 
     gifts: int
     amounts: Pairs
 
 
 class Joined(Entry):
-    """An edge was added."""
+    """An edge was added. `help(dollar.Entry)` has an example."""
 
     gifts: int
     amounts: Pairs
 
 
 class Looked(Entry):
-    """A seat has looked."""
+    """A seat has looked. `help(dollar.Entry)` has an example."""
 
     gifts: int
     amounts: Pairs
 
 
 class Judged(Entry):
-    """The verdict on a look was entered."""
+    """The verdict on a look was entered. `help(dollar.Entry)` has an example."""
 
     found: Verdict
 
 
 class Tested(Entry):
-    """The rank test on a look was entered."""
+    """The rank test on a look was entered. `help(dollar.Entry)` has an example."""
 
     found: RankTest
 
 
 class Stale(Entry):
-    """A gift, a levy or a join was made since the look."""
+    """A gift, a levy or a join was made since the look. `help(dollar.Entry)` has an example."""
 
     gifts: int
 
 
 class Claimed(Entry):
-    """A seat has claimed that nobody is in debt: `won`, or `not won`."""
+    """A seat has claimed that nobody is in debt: `won`, or `not won`. `help(dollar.Entry)` has an example."""
 
 
 class Declined(Entry):
-    """A call that the game refused: `refused` and why."""
+    """A call that the game refused: `refused` and why. `help(dollar.Entry)` has an example."""
 
 
 class Bad(Entry):
-    """A line that made no entry: `bad` and why."""
+    """A line that made no entry: `bad` and why. `help(dollar.Entry)` has an example."""
 
 
 class Turns(Entry):
-    """The end of a greedy game whose turns were used up."""
+    """The end of a greedy game whose turns were used up. `help(dollar.Entry)` has an example."""
 
 
 ENTRIES: Dict[str, Type[Entry]] = {
@@ -451,7 +450,7 @@ class Party:
 
 
 class Refused(Fault):
-    """A table of a sweep that was refused: a row that has None for each number, and in `refused` why.
+    """A table of a sweep that was refused: a row that has None for each number that is not known, and in `refused` why.
 
     It is a Fault that can be raised, and false, as is a verdict of what can't be won.
 
@@ -459,26 +458,24 @@ class Refused(Fault):
     >>> row, = rr_all([{"vertices": ["a"]}])
     >>> row
     RefusedRiemannRoch(degree=None, genus=None, rank=None, dual=None, refused='shape of top')
-    >>> row.rank is None, row.table, bool(row)
-    (True, 0, False)
-    >>> print(row)
-    refused shape of top
+    >>> row.rank is None, row.table, bool(row), row.as_dict()
+    (True, 0, False, {'refused': 'shape of top'})
     """
 
     refused: str
 
     def __str__(self) -> str:
-        return "refused %s" % self.text
+        return "refused %s%s" % (self.text, self.more and ": " + self.more)
 
     def __bool__(self) -> bool:
         return False
 
     def as_dict(self) -> Dict[str, object]:
         """The row as a dict for `json.dumps`."""
-        return {"refused": self.refused}
+        return {name: value for name, value in vars(self).items() if value is not None and name not in vars(Fault("", 3))}
 
-    def __reduce__(self) -> Tuple[Callable[..., Refused], Tuple[Any, ...]]:
-        return refusal, (type(self), self.text, self.table)
+    def __reduce__(self) -> Tuple[Any, ...]:
+        return refusal, (type(self), self.text, self.table), dict(vars(self))
 
 
 @dataclass(eq=False)
@@ -503,19 +500,19 @@ class RefusedRankTest(Refused):
 
 @dataclass(eq=False)
 class RefusedRiemannRoch(Refused):
-    """A table that was refused its four numbers."""
+    """A table that was refused its four numbers, or whose ranks are both past the limits: then it has the degree and the genus."""
 
-    degree: None = None
-    genus: None = None
+    degree: Optional[int] = None
+    genus: Optional[int] = None
     rank: None = None
     dual: None = None
     refused: str = ""
 
 
-def refusal(kind: Callable[..., Row], text: str, table: Optional[int]) -> Row:
+def refusal(kind: Callable[..., Row], text: str, table: Optional[int], more: str = "", **known: int) -> Row:
     """The row of such a kind for a table that was refused."""
-    row = kind(refused=text)
-    Fault.__init__(row, text, 3, table)
+    row = kind(refused=text, **known)
+    Fault.__init__(row, text, 3, table, more)
     return row
 
 
@@ -571,7 +568,11 @@ def entry(text: str, vertices: Optional[Vertices] = None, **more: Any) -> Entry:
 
 
 def answer(text: str) -> Union[Verdict, RankTest, Entry]:
-    """The answer with this text, which has no number before it."""
+    """The answer with this text, which has no number before it.
+
+    >>> answer("rank below 2 at a=0 b=2"), answer("stale 1")
+    (RankTest(holds=False, degree=2, loss={'a': 0, 'b': 2}), Stale(word='stale', gifts=1))
+    """
     read = entry(text)
     return read if read.found is None else read.found
 
@@ -590,9 +591,13 @@ def numbered(text: str, with_seat: bool = False, vertices: Optional[Vertices] = 
     return found
 
 
-def history(lines: Iterable[str], with_seat: bool = False, table: Optional[Mapping[str, object]] = None) -> History:
+def history(lines: Iterable[str], *, with_seat: bool = False, table: Optional[Mapping[str, object]] = None) -> History:
     """The entries of these lines, or of a file with them, which have their numbers before them, from 0 on. Amounts are by the vertices of
-    the table."""
+    the table.
+
+    >>> [entry.word for entry in history(["0 looked 0 a=2 b=-1", "1 not won"])]
+    ['looked', 'not won']
+    """
     entries = History(numbered(line.rstrip("\n"), with_seat, vertices_of(table)) for line in lines)
     if [each.number for each in entries] != list(range(len(entries))):
         raise ValueError("no history: %r" % [str(each) for each in entries])
@@ -622,12 +627,15 @@ def rank_test_of(text: str, table: Any = None, vertices: Optional[Vertices] = No
     return test
 
 
+RIEMANN_ROCH = re.compile(r"degree (-?\d+) genus (-?\d+) rank (-?\d+|\?) dual (-?\d+|\?)", re.ASCII)
+
+
 def riemann_roch_of(text: str) -> RiemannRoch:
     """The four numbers, of which each stands after its word."""
-    found = re.fullmatch(r"degree (-?\d+) genus (-?\d+) rank (-?\d+|\?) dual (-?\d+|\?)", text, re.ASCII)
-    if not found:
+    found = RIEMANN_ROCH.fullmatch(text)
+    if not found or "?" in text:
         raise no_answer(text)
-    return RiemannRoch(int(found[1]), int(found[2]), *(None if rank == "?" else int(rank) for rank in found.groups()[2:]))
+    return RiemannRoch(*map(int, found.groups()))
 
 
 def table_html(names: Iterable[object], rows: Iterable[Iterable[object]]) -> str:

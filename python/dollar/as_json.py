@@ -22,8 +22,9 @@ import re
 import sys
 from typing import Dict, List
 
-from dollar.answers import Entry, answer, no_answer, numbered, pairs_of, riemann_roch_of
+from dollar.answers import RIEMANN_ROCH, Entry, answer, no_answer, numbered, pairs_of
 from dollar.grammar import GRAMMAR
+from dollar.program import typed
 
 TOTAL = re.compile(r"(degree|genus|rank|dual|entries|gifts) (0|-?[1-9]\d*)|seat ([1-9]\d*) calls (0|[1-9]\d*)", re.ASCII)
 POSITION = re.compile(r"position (\w+=-?\d+(?: \w+=-?\d+)*)", re.ASCII)
@@ -38,9 +39,9 @@ def read(line: str) -> Dict[str, object]:
         return found.as_dict()
     if line.startswith("refused ") and line not in GRAMMAR["refusals"]:
         return {"refused": line[len("refused "):]}
-    if line.startswith("degree ") and " genus " in line:
-        return riemann_roch_of(line).as_dict()
-    total, position = TOTAL.fullmatch(line), POSITION.fullmatch(line)
+    numbers, total, position = RIEMANN_ROCH.fullmatch(line), TOTAL.fullmatch(line), POSITION.fullmatch(line)
+    if numbers:
+        return {word: None if number == "?" else int(number) for word, number in zip(("degree", "genus", "rank", "dual"), numbers.groups())}
     if total:
         return {total[1]: int(total[2])} if total[1] else {"seat": int(total[3]), "calls": int(total[4])}
     if position:
@@ -53,7 +54,8 @@ def read(line: str) -> Dict[str, object]:
 
 def main(arguments: List[str]) -> int:
     text = (__doc__ or "").partition("\n    >>>")[0].split("\n\n", 2)
-    argparse.ArgumentParser(prog="dollar json", description=text[0], epilog=text[2], usage=text[1].strip(),
+    usage = text[1].strip().replace("python3 -m dollar json", typed("json"))
+    argparse.ArgumentParser(prog=typed("json"), description=text[0], epilog=text[2], usage=usage,
                             formatter_class=argparse.RawDescriptionHelpFormatter).parse_args(arguments)
     for number, line in enumerate(sys.stdin.buffer, 1):
         try:

@@ -2,33 +2,22 @@
 
 from __future__ import annotations
 
-from typing import Any, Dict, Hashable, Iterable, List, Mapping, NamedTuple, Optional, Sequence, Tuple
+from collections.abc import Mapping as AbstractMapping
+from typing import TYPE_CHECKING, Any, Dict, Hashable, Iterable, List, Mapping, Optional, Sequence, Union
 
-from dollar.vertices import Pairs, Vertex
+from dollar.vertices import Dollars, Pairs, Vertex
 
-Near = Dict[Hashable, Dict[Hashable, int]]
-
-
-class Parts(NamedTuple):
-    """What a table has, by its vertices: those that it was made of, or the names of a dict."""
-
-    vertices: Sequence[Vertex]
-    edges: Sequence[Tuple[Vertex, Vertex, int]]
-    amounts: Sequence[int]
-    q: Vertex
+if TYPE_CHECKING:
+    from dollar.table import Table
 
 
-def parts(table: Mapping[str, Any]) -> Parts:
-    """The parts of a Table, or of the members of a table file."""
-    if hasattr(table, "place"):
-        return Parts(table.vertices, table.edges, table.amounts, table.q)  # type: ignore[attr-defined]
-    return Parts(table["vertices"], table["edges"], table["amounts"], table["q"])
+def table_of(table: Mapping[str, Any]) -> Table:
+    """The table itself, or that of the members of a table file."""
+    from dollar.table import Table
 
-
-def by_vertices(table: Mapping[str, Any], amounts: Mapping[Any, int]) -> Mapping[Any, int]:
-    """Numbers of some vertices, by the vertices of the table; a Table knows them by their texts too."""
-    place = getattr(table, "place", None)
-    return amounts if place is None else {table.vertices[place(v)]: amount for v, amount in amounts.items()}  # type: ignore[attr-defined]
+    if not isinstance(table, AbstractMapping):
+        raise TypeError("a table is a Table or a dict, and not %r" % (table,))
+    return table if isinstance(table, Table) else Table(table)
 
 
 def joined(table: Mapping[str, Any], u: Vertex, v: Vertex) -> Dict[str, Any]:
@@ -38,42 +27,32 @@ def joined(table: Mapping[str, Any], u: Vertex, v: Vertex) -> Dict[str, Any]:
     >>> joined(Table([[0, 1], [1, 0]]), 0, 1)["edges"]
     [['0', '1', 1], ['0', '1', 1]]
     """
-    place = getattr(table, "place", None)
-    ends = [u, v] if place is None else [table["vertices"][place(each)] for each in (u, v)]
-    return dict(table, edges=[*table["edges"], [*ends, 1]])
+    place = table_of(table).place
+    return dict(table, edges=[*table["edges"], [*(table["vertices"][place(each)] for each in (u, v)), 1]])
 
 
-def edges(table: Mapping[str, Any]) -> Near:
+def edges(table: Mapping[str, Any]) -> Dict[Hashable, Dict[Hashable, int]]:
     """For each vertex its neighbours, with the number of edges to each.
 
     >>> from dollar import Table
     >>> edges(Table([[0, 2], [2, 0]]))
     {0: {1: 2}, 1: {0: 2}}
     """
-    return near_of(parts(table))
+    its = table_of(table)
+    return {v: {u: count for u, count in zip(its.vertices, row) if count} for v, row in zip(its.vertices, its._near())}
 
 
-def near_of(its: Parts) -> Near:
-    near: Near = {v: {} for v in its.vertices}
-    for u, v, count in its.edges:
-        near[u][v] = near[u].get(v, 0) + count
-        near[v][u] = near[v].get(u, 0) + count
-    return near
-
-
-def fired(table: Mapping[str, Any], script: Mapping[Any, int]) -> Pairs:
-    """The amounts after each vertex has lent as often as the script says.
+def fired(table: Mapping[str, Any], script: Dollars) -> Pairs:
+    """The amounts after each vertex has lent as often as the script says, as `Table.fire` has them.
 
     >>> from dollar import Table
-    >>> fired(Table([[0, 1], [1, 0]], [2, -1]), {0: 1, 1: 0})
+    >>> fired(Table([[0, 1], [1, 0]], [2, -1]), {0: 1})
     {0: 1, 1: 0}
     """
-    its, lent = parts(table), by_vertices(table, script)
-    held = dict(zip(its.vertices, its.amounts))
-    return {v: held[v] + sum(count * (lent[w] - lent[v]) for w, count in near.items()) for v, near in near_of(its).items()}
+    return table_of(table).fire(script).divisor
 
 
-def burnt(table: Mapping[str, Any], amounts: Mapping[Any, int]) -> List[Any]:
+def burnt(table: Mapping[str, Any], amounts: Union[Table, Dollars]) -> List[Any]:
     """The vertices in the order in which they burn from q: each the first of those that more edges join to burnt ones than they have
     dollars.
 
@@ -82,16 +61,16 @@ def burnt(table: Mapping[str, Any], amounts: Mapping[Any, int]) -> List[Any]:
     >>> burnt(ring, {0: -2, 1: 0, 2: 3, 3: 0})
     [0, 1, 3]
     """
-    its, held = parts(table), by_vertices(table, amounts)
-    order, near = [its.q], near_of(its)
+    its = table_of(table)
+    near, held, order = its._near(), its._like(amounts), [its._q]
     while True:
-        burning = [v for v in near if v not in order and sum(near[v].get(w, 0) for w in order) > held[v]]
+        burning = [v for v, row in enumerate(near) if v not in order and sum(row[w] for w in order) > held[v]]
         if not burning:
-            return order
+            return [its.vertices[v] for v in order]
         order.append(burning[0])
 
 
-def misplaced(table: Mapping[str, Any], amounts: Mapping[Any, int], order: Sequence[Vertex]) -> Optional[Vertex]:
+def misplaced(table: Mapping[str, Any], amounts: Dollars, order: Sequence[Vertex]) -> Optional[Vertex]:
     """The first vertex of an order that may not burn after those before it, or None: q comes first, and more edges join each other
     vertex to those before it than it has dollars.
 
@@ -101,11 +80,11 @@ def misplaced(table: Mapping[str, Any], amounts: Mapping[Any, int], order: Seque
     >>> misplaced(ring, {0: -2, 1: 0, 2: 1, 3: 0}, [0, 1, 2, 3])
     2
     """
-    its, held = parts(table), by_vertices(table, amounts)
-    near = near_of(its)
-    for count, v in enumerate(order):
-        if v != its.q if count == 0 else sum(near[v].get(w, 0) for w in order[:count]) <= held[v]:
-            return v
+    its = table_of(table)
+    near, held, places = its._near(), its._like(amounts), [its.place(v) for v in order]
+    for count, v in enumerate(places):
+        if v != its._q if count == 0 else sum(near[v][w] for w in places[:count]) <= held[v]:
+            return order[count]
     return None
 
 
@@ -119,26 +98,26 @@ def flaw(table: Mapping[str, Any], verdict: Iterable[Any]) -> Optional[str]:
     'the script leads elsewhere'
     """
     word, script, reduced = verdict
-    its = parts(table)
-    q, names = its.q, list(its.vertices)
+    its = table_of(table)
     try:
-        script, reduced = by_vertices(table, script), by_vertices(table, reduced)
-    except ValueError:
+        is_whole = len(script) == len(reduced) == len(its.vertices)
+        lent, held = its._vertices.amounts(script, "lending"), its._vertices.amounts(reduced)
+    except (TypeError, ValueError):
+        is_whole = False
+    if not is_whole or lent[its._q] != 0:
         return "the vertices are others, or the script is not 0 at q"
-    if list(script) != names or list(reduced) != names or script[q] != 0:
-        return "the vertices are others, or the script is not 0 at q"
-    if fired(table, script) != reduced:
+    if its._fired(lent) != held:
         return "the script leads elsewhere"
-    poor = [v for v in names if v != q and reduced[v] < 0]
+    poor = [v for v, amount in zip(its.vertices, held) if v != its.q and amount < 0]
     if poor:
         return "in debt off q: " + ", ".join(map(str, poor))
-    order = getattr(verdict, "burning", None) or burnt(table, reduced)
-    left = [v for v in names if v not in order]
+    order = getattr(verdict, "burning", None) or burnt(its, held)
+    left = [v for v in its.vertices if v not in order]
     if left:
         return "not all burns: %s is left" % ", ".join(map(str, left))
-    early = misplaced(table, reduced, order)
+    early = misplaced(its, held, order)
     if early is not None:
         return "%s burns too early" % (early,)
-    if word != ("winnable" if reduced[q] >= 0 else "unwinnable"):
+    if word != ("winnable" if held[its._q] >= 0 else "unwinnable"):
         return "the word does not fit the debt of q"
     return None

@@ -1,9 +1,9 @@
 """Asks a command about each line of a file, on the processors of this machine or on a Dask cluster, and writes a CSV file.
 
-    dollar sweep [--scheduler ADDRESS | --processes N] [--program PROGRAM] judge|rr FILE CSV
-    dollar sweep [..] rank FILE K CSV
-    dollar sweep [..] judge|rr TABLE --divisors LINES CSV
-    dollar sweep [..] rank TABLE K --divisors LINES CSV
+    python3 -m dollar sweep [--scheduler ADDRESS | --processes N] [--program PROGRAM] judge|rr FILE CSV
+    python3 -m dollar sweep [..] rank FILE K CSV
+    python3 -m dollar sweep [..] judge|rr TABLE --divisors LINES CSV
+    python3 -m dollar sweep [..] rank TABLE K --divisors LINES CSV
 
 The lines of FILE are tables, as for the program's --lines; the lines of LINES are divisors of the table TABLE, as for its --divisors. N
 runs of the program go on at once, by default one for each processor of this machine. With --scheduler the workers of the Dask cluster
@@ -19,16 +19,19 @@ rows is shown as it grows.
     [7, '000000ab', 'true', 'a=0 b=-1', 'a=0 b=1', '']
     >>> row("rank", 8, 0, "rank below 2 at ?")
     [8, '00000000', 'false', '2', '', '']
-    >>> row("rr", 9, 0, "refused no vertex q")
-    [9, '00000000', '', '', '', '', 'no vertex q']
+    >>> row("rr", 9, 0, "refused no vertex q"), row("rr", 10, 0, "degree 9 genus 9 rank ? dual ?")
+    ([9, '00000000', '', '', '', '', 'no vertex q'], [10, '00000000', '9', '9', '', '', 'too many trials'])
 """
 
 from __future__ import annotations
 
 import argparse
+import asyncio
 import collections
+import concurrent.futures
 import csv
 import importlib
+import logging
 import os
 import subprocess
 import sys
@@ -37,9 +40,9 @@ import zlib
 from concurrent.futures import Future, ThreadPoolExecutor
 from typing import Any, Callable, Deque, Dict, Iterable, Iterator, List, NamedTuple, Optional, Sequence, Tuple, Union
 
-from dollar.answers import no_answer, parts_of
-from dollar.program import command_line, find_program
-from dollar.readers import RIEMANN_ROCH
+from dollar.answers import RIEMANN_ROCH, no_answer, parts_of
+from dollar.commands import TOO_MANY
+from dollar.program import command_line, find_program, typed
 from dollar.sweeps import Progress
 from dollar.table import members
 
@@ -47,8 +50,10 @@ FOUND = {"judge": ["winnable", "script", "reduced"], "rank": ["holds", "degree",
 # How long a run is to need for its lines; how many bytes they have at most; how many lines the first runs have; and how often a run that
 # is killed is tried.
 SECONDS, MOST_BYTES, FIRST, TRIES = 0.5, 1 << 19, 8, 4
-# What the program takes for all lines, in seconds, below which a cluster is of no use.
-SMALL = 10.0
+# How long no worker may be there before that is told; what the program takes for all lines, in seconds, below which a cluster is of no use;
+# and how long Python takes to begin, and for a row.
+PATIENCE, SMALL, BEGIN, ROW = 10.0, 10.0, 0.3, 1e-5
+GONE = "the scheduler is gone; the same command goes on after the last row"
 
 
 def header(command: str) -> List[str]:
@@ -64,7 +69,7 @@ def row(command: str, number: int, checksum: int, answer: str) -> List[Any]:
         numbers = RIEMANN_ROCH.fullmatch(answer)
         if numbers is None:
             raise no_answer(answer)
-        return [*first, *("" if each == "?" else each for each in numbers.groups()), ""]
+        return [*first, *("" if each == "?" else each for each in numbers.groups()), TOO_MANY if "?" in answer else ""]
     word, *rest = parts_of(answer)
     if word not in {"judge": ("winnable", "unwinnable"), "rank": ("rank at least", "rank below")}[command]:
         raise no_answer(answer)
@@ -146,10 +151,10 @@ class Pace:
     """How many lines are taken at once, by what those before took."""
 
     def __init__(self) -> None:
-        self.count, self.seconds = FIRST, 0.0
+        self.count, self.seconds, self.lines = FIRST, 0.0, 0
 
     def took(self, count: int, seconds: float) -> None:
-        self.seconds += seconds
+        self.seconds, self.lines = self.seconds + seconds, self.lines + count
         wanted = int(count * SECONDS / max(seconds, 0.001))
         self.count = max(min(wanted, 4 * self.count), self.count // 4, 1)
 
@@ -168,14 +173,29 @@ def chunks(lines: Iterator[Tuple[bytes, int]], pace: Pace) -> Iterator[List[Tupl
         yield chunk
 
 
+def result_of(client: Any, future: Any) -> Any:
+    """What comes of a run. If there is no worker, that is told, and one is waited for."""
+    is_told = False
+    while True:
+        try:
+            return future.result(timeout=PATIENCE)
+        except (TimeoutError, asyncio.TimeoutError, concurrent.futures.TimeoutError):
+            if not is_told and not client.nthreads():
+                is_told = True
+                print("%s: the scheduler has no worker, and one is waited for: `dask worker ADDRESS` begins one" % typed("sweep"), file=sys.stderr)
+        except (concurrent.futures.CancelledError, asyncio.CancelledError):
+            raise ValueError(GONE) from None
+        except ModuleNotFoundError as error:
+            raise ValueError("a worker has %s: install it on each machine, and the same command goes on" % str(error).lower()) from None
+
+
 def rows(client: Any, sweep: Sweep, lines: Iterator[Tuple[bytes, int]], pace: Pace) -> Iterator[Tuple[int, str]]:
     """The checksum of each line, and its answer, in order. A few chunks for each thread of the cluster are under way at once."""
     under_way: Deque[Any] = collections.deque()
-    most = 4 * max(sum(client.nthreads().values()), 1)
 
     def first() -> Iterable[Tuple[int, str]]:
         chunk, future = under_way.popleft()
-        out, seconds = future.result()
+        out, seconds = result_of(client, future)
         pace.took(len(chunk), seconds)
         answers = out.decode().splitlines()
         if len(answers) != len(chunk):
@@ -185,7 +205,7 @@ def rows(client: Any, sweep: Sweep, lines: Iterator[Tuple[bytes, int]], pace: Pa
     for chunk in chunks(lines, pace):
         sent = b"".join(line for line, _ in chunk)
         under_way.append((chunk, client.submit(answered, sweep.words, sent, sweep.program, pure=False, retries=3)))
-        while under_way and (len(under_way) >= most or under_way[0][1].done()):
+        while under_way and (len(under_way) >= 4 * max(sum(client.nthreads().values()), 1) or under_way[0][1].done()):
             yield from first()
     while under_way:
         yield from first()
@@ -209,34 +229,31 @@ def swept(client: Any, sweep: Sweep, place: str) -> Pace:
     return pace
 
 
-def count(word: str) -> int:
-    """A number of processes."""
-    if not word.isdecimal() or int(word) == 0:
-        raise argparse.ArgumentTypeError("a whole number from 1 on")
-    return int(word)
+def number_from(least: int) -> Callable[[str], int]:
+    """What reads a number of processes, or the degree of a rank test."""
+    def read(word: str) -> int:
+        if not word.isdecimal() or int(word) < least:
+            raise argparse.ArgumentTypeError("%r, and only a whole number from %d on is possible" % (word, least))
+        return int(word)
 
-
-def degree(word: str) -> str:
-    """The degree of a rank test."""
-    if not word.isdecimal():
-        raise argparse.ArgumentTypeError("a whole number from 0 on")
-    return word
+    return read
 
 
 def words_of(arguments: List[str]) -> argparse.Namespace:
     text = (__doc__ or "").partition("\n    >>>")[0].split("\n\n", 2)
-    parser = argparse.ArgumentParser(prog="dollar sweep", description=text[0], epilog=text[2], usage=text[1].strip().replace("\n", "\n   "),
+    usage = text[1].strip().replace("python3 -m dollar sweep", typed("sweep")).replace("\n", "\n   ")
+    parser = argparse.ArgumentParser(prog=typed("sweep"), description=text[0], epilog=text[2], usage=usage,
                                      formatter_class=argparse.RawDescriptionHelpFormatter)
     where = parser.add_mutually_exclusive_group()
     where.add_argument("--scheduler", metavar="ADDRESS", help="the cluster to use")
-    where.add_argument("--processes", metavar="N", type=count, default=os.cpu_count(), help="the number of runs at once on this machine")
+    where.add_argument("--processes", metavar="N", type=number_from(1), default=os.cpu_count(), help="the number of runs at once on this machine")
     parser.add_argument("--program", help="the path of the program")
     commands = parser.add_subparsers(dest="command", required=True, metavar="judge|rank|rr")
     for command in FOUND:
-        of = commands.add_parser(command, prog="dollar sweep " + command)
+        of = commands.add_parser(command, prog=typed("sweep") + " " + command)
         of.add_argument("file", metavar="FILE", help="the tables, one on each line; or with --divisors one table")
         if command == "rank":
-            of.add_argument("degree", metavar="K", type=degree, help="how many dollars are lost")
+            of.add_argument("degree", metavar="K", type=number_from(0), help="how many dollars are lost")
         of.add_argument("--divisors", metavar="LINES", help="a file with amounts for the table on each line")
         of.add_argument("csv", metavar="CSV", help="the file that is written, or gone on with")
     return parser.parse_args(arguments)
@@ -244,7 +261,7 @@ def words_of(arguments: List[str]) -> argparse.Namespace:
 
 def sweep_of(given: argparse.Namespace, program: str) -> Sweep:
     """The sweep that some words ask for."""
-    more = [given.degree] if given.command == "rank" else []
+    more = [str(given.degree)] if given.command == "rank" else []
     if given.divisors is None:
         return Sweep(given.command, [given.command, "--lines", "/dev/stdin", *more], program, given.file, 0)
     table = members(given.file)
@@ -252,11 +269,14 @@ def sweep_of(given: argparse.Namespace, program: str) -> Sweep:
 
 
 def small(sweep: Sweep, pace: Pace) -> Optional[str]:
-    """What is said of a sweep that was too small for a cluster."""
+    """What is said of a sweep that was too small for a cluster: runs at once on this machine are sooner done, or one run is."""
     if pace.seconds >= SMALL:
         return None
-    return ("the program took %.1f s for these lines: that is too little for a cluster, and one run of `dollar %s` with %s does it sooner"
-            % (pace.seconds, sweep.command, "--divisors" if "--divisors" in sweep.words else "--lines"))
+    runs = os.cpu_count() or 1
+    sooner = "`--processes %d` without a cluster" % runs
+    if BEGIN + ROW * pace.lines + pace.seconds / runs >= pace.seconds:
+        sooner = "one run of `dollar %s` with %s" % (sweep.command, "--divisors" if "--divisors" in sweep.words else "--lines")
+    return "the program took %.1f s for these lines: that is too little for a cluster, and %s does it sooner" % (pace.seconds, sooner)
 
 
 def main(arguments: List[str]) -> int:
@@ -268,14 +288,17 @@ def main(arguments: List[str]) -> int:
             dask = importlib.import_module("distributed")
         except ModuleNotFoundError as error:
             raise ValueError("this Python, %s, has %s" % (sys.executable, str(error).lower())) from error
+        logging.disable()
         sweep = sweep_of(given, given.program or find_program())
-        with dask.Client(given.scheduler) as client:
-            pace = swept(client, sweep, given.csv)
+        try:
+            with dask.Client(given.scheduler) as client:
+                said = small(sweep, swept(client, sweep, given.csv))
+        except dask.comm.CommClosedError:
+            raise ValueError(GONE) from None
+        if said is not None:
+            print("%s: %s" % (typed("sweep"), said), file=sys.stderr)
     else:
         sweep = sweep_of(given, find_program(given.program))
         with Runs(given.processes) as runs:
-            pace = swept(runs, sweep, given.csv)
-    said = small(sweep, pace)
-    if said is not None:
-        print("dollar sweep: " + said, file=sys.stderr)
+            swept(runs, sweep, given.csv)
     return 0

@@ -2,17 +2,23 @@
 
 from __future__ import annotations
 
+import json
+import os
+import re
 from collections.abc import Mapping as AbstractMapping
-from typing import Iterable, List, Optional, Tuple, Union
+from typing import Any, Callable, Iterable, List, Optional, Tuple, TypeVar, Union
 
 from dollar.answers import (
     Entry, History, Party, RankTest, RiemannRoch, Verdict, history, pairs_of, rank_test_of, riemann_roch_of, verdict_of, vertices_of)
-from dollar.program import Fault, Place, call, fault_of, printed
-from dollar.table import Asked, Table, file_and_table, members
-from dollar.vertices import whole
+from dollar.grammar import limit
+from dollar.program import Fault, Place, call, fault_of, find_program, printed
+from dollar.table import MOST_AMOUNT, MOST_BYTES, Asked, Table, file_and_table, made_of, members
+from dollar.vertices import within
 
 Lines = Iterable[str]
+Got = TypeVar("Got")
 TOO_MANY = "too many trials"
+MOST_DEGREE, MOST_SEATS, MOST_ENTRIES = (1 << 32) - 1, limit("dg_rules::MAX_SEATS"), limit("dg_rules::MAX_ENTRIES")
 
 
 def lines_text(lines: Lines) -> bytes:
@@ -43,7 +49,63 @@ def run(command: str, *given: object, program: Optional[Place] = None) -> List[s
     >>> run("rank", Table([[0, 1], [1, 0]], [2, -1]), 1, "--workers", 2)
     ['rank at least 1']
     """
-    return printed(command, *map(word_of, given), program=program).splitlines()
+    try:
+        return printed(command, *map(word_of, given), program=program).splitlines()
+    except Fault as fault:
+        first = given[0] if given else None
+        raise Fault(fault.text, fault.status, None, more_of(fault.text, first, first)) from None
+
+
+# What can be said of a fault: its text, the value by the members of the table and the number in the text, and the limit.
+BESIDE: List[Tuple[str, Callable[[Any, int], Any], str]] = [
+    ("number of vertices", lambda table, _: len(table["vertices"]), "1 to %d is" % limit("dg_graph::MAX_VERTICES")),
+    ("amount of vertex", lambda table, place: table["amounts"][place], "%d to %d is" % (-MOST_AMOUNT, MOST_AMOUNT)),
+    ("valence of vertex", lambda table, place: "%d edges" % sum(edge[2] for edge in table["edges"] if table["vertices"][place] in edge[:2]),
+     "0 to %d is" % limit("dg_graph::MAX_VALENCE")),
+    ("name of vertex", lambda table, place: repr(table["vertices"][place]), "1 to %d letters, digits and _ are" % limit("dg_tokens::MAX_NAME")),
+    ("vertex # named twice", lambda table, place: repr(table["vertices"][place]), "one vertex with a name is"),
+    ("shape of edge", lambda table, place: repr(table["edges"][place]), "two names and a number are"),
+    ("edge #", lambda table, place: repr(table["edges"][place]), ""),
+    ("number of amounts", lambda table, _: len(table["amounts"]), "one for each vertex is"),
+    ("no vertex q", lambda table, _: repr(table["q"]), "one of the vertices is"),
+    ("file too long", lambda *_: "", "%d bytes are" % MOST_BYTES),
+    (TOO_MANY, lambda *_: "", "the degree %d and %d trials are" % (limit("dg_rank::MAX_DEGREE"), limit("dg_rank::MAX_TRIALS")))]
+
+
+def beside(text: str, kept: Any) -> str:
+    """What is said beside a fault: the value, by what was kept of the table, and the limit."""
+    found = re.search(r"\d+", text)
+    for begins, value_of, most in BESIDE:
+        if text.replace(found[0] if found else "#", "#").startswith(begins):
+            try:
+                table = json.loads(kept) if isinstance(kept, bytes) else made_of(kept) if isinstance(kept, tuple) else kept
+                value = str(value_of(table, int(found[0]) if found else 0))
+            except (LookupError, TypeError, ValueError, RecursionError):
+                value = ""
+            return ", and ".join(filter(None, [value, most and "only %s possible" % most]))
+    return ""
+
+
+def more_of(text: str, table: Any, kept: Any) -> str:
+    """The same, and the file, if the table is one."""
+    place = "in %s" % os.fspath(table) if isinstance(table, (str, os.PathLike)) else ""
+    return ", ".join(filter(None, [beside(text, kept), place]))
+
+
+def asked(table: Asked, ask: Callable[[bytes], str], read: Callable[[str, Any], Got], program: Optional[Place], lines: bytes = b"") -> Got:
+    """What is read of an answer about a table. A Fault has the file, the value and the limit beside it, and what is no answer has the
+    program."""
+    file, kept = file_and_table(table)
+    try:
+        out = ask(file)
+    except Fault as fault:
+        line = re.match(r"(?:line|step) (\d+): ", fault.text)
+        more = repr(lines.split(b"\n")[int(line[1]) - 1].decode()) if line else more_of(fault.text, table, kept)
+        raise Fault(fault.text, fault.status, None, more) from None
+    try:
+        return read(out, kept)
+    except ValueError as flaw:
+        raise ValueError("%s: %s" % (find_program(program), flaw)) from None
 
 
 def line_of(command: str, file: bytes, *words: str, program: Optional[Place] = None) -> str:
@@ -58,94 +120,135 @@ def line_of(command: str, file: bytes, *words: str, program: Optional[Place] = N
     return line
 
 
-def judge(table: Asked, program: Optional[Place] = None) -> Verdict:
+def judge(table: Asked, *, program: Optional[Place] = None) -> Verdict:
     """Whether all debts of the table can be cleared, and how.
 
     >>> from dollar import Table
     >>> print(judge(Table([[0, 1], [1, 0]], [2, -1])))
     winnable by 0=0 1=-1 to 0=1 1=0
     """
-    file, kept = file_and_table(table)
-    return verdict_of(printed("judge", "--order", file, program=program).rstrip("\n"), kept, vertices_of(kept))
+    return asked(table, lambda file: printed("judge", "--order", file, program=program).rstrip("\n"),
+                 lambda text, kept: verdict_of(text, kept, vertices_of(kept)), program)
 
 
-def rank(table: Asked, degree: int, program: Optional[Place] = None, *, workers: Optional[int] = None) -> RankTest:
+def rank(table: Asked, *, program: Optional[Place] = None) -> int:
+    """The rank of the table: how many dollars can be lost, no matter where, and the table still be won; -1 if it can't be won now. It is a
+    Fault, `too many trials`, if both ranks of Riemann-Roch are past the limits. `rr_all` has the ranks of many tables.
+
+    >>> from dollar import Table
+    >>> rank(Table([[0, 3], [3, 0]], [2, 2]))
+    2
+    """
+    return table.rank(program=program) if isinstance(table, Table) else rr(table, program=program).rank
+
+
+def rank_test(table: Asked, degree: int, *, workers: Optional[int] = None, program: Optional[Place] = None) -> RankTest:
     """Whether so many dollars can be lost, no matter where, and the table still be won. A test past the limits has an answer too if a
     law or the dual settles it; otherwise it is a Fault, `too many trials`. `workers` is the number of threads that share the test.
 
     >>> from dollar import Table
-    >>> rank(Table([[0, 1], [1, 0]], [2, -1]), 2)
+    >>> rank_test(Table([[0, 1], [1, 0]], [2, -1]), 2)
     RankTest(holds=False, degree=2, loss={0: 0, 1: 2})
     """
-    file, kept = file_and_table(table)
-    word = str(whole(degree, "the degree"))
-    if degree < 0:
-        raise Fault("the degree of a rank test is at least 0, and not %d" % degree, 2)
-    try:
-        line = printed("rank", file, word, *option("--workers", workers), program=program).rstrip("\n")
-    except Fault as fault:
-        if fault.text != TOO_MANY:
-            raise
-        line = line_of("rank", file, word, program=program)
-    return rank_test_of(line, kept, vertices_of(kept))
+    word, more = str(within(degree, "the degree", 0, MOST_DEGREE)), option("workers", workers)
+
+    def ask(file: bytes) -> str:
+        try:
+            return printed("rank", file, word, *more, program=program).rstrip("\n")
+        except Fault as fault:
+            if fault.text != TOO_MANY:
+                raise
+        return line_of("rank", file, word, program=program)
+
+    return asked(table, ask, lambda text, kept: rank_test_of(text, kept, vertices_of(kept)), program)
 
 
-def rr(table: Asked, program: Optional[Place] = None) -> RiemannRoch:
+def rr(table: Asked, *, program: Optional[Place] = None) -> RiemannRoch:
     """The four numbers of Riemann-Roch. It is a Fault, `too many trials`, if both ranks are past the limits.
 
     >>> from dollar import Table
     >>> rr(Table([[0, 1], [1, 0]], [2, -1]))
     RiemannRoch(degree=1, genus=0, rank=1, dual=-1)
     """
-    numbers = riemann_roch_of(line_of("rr", members(table), program=program))
-    if numbers.rank is None or numbers.dual is None:
-        raise Fault(TOO_MANY, 3)
-    return numbers
+    def ask(file: bytes) -> str:
+        line = line_of("rr", file, program=program)
+        if line.endswith("?"):
+            raise Fault(TOO_MANY, 3)
+        return line
+
+    return asked(table, ask, lambda text, kept: riemann_roch_of(text), program)
 
 
-def rehearse(table: Asked, steps: Lines, program: Optional[Place] = None) -> History:
-    """The history of these steps, each a seat and a command, as "1 lend a"."""
-    file, kept = file_and_table(table)
+def rehearse(table: Asked, steps: Lines, *, program: Optional[Place] = None) -> History:
+    """The history of these steps, each a seat and a command.
+
+    >>> from dollar import Table
+    >>> print(rehearse(Table([[0, 1], [1, 0]], [2, -1]), ["1 look", "2 lend 0", "1 commit"]))
+    0 looked 0 0=2 1=-1
+    1 moved 0=1 1=0
+    2 winnable by 0=0 1=0 to 0=1 1=0
+    """
     played = lines_text(steps)
-    found = history(printed("rehearse", file, played, program=program).splitlines(), table=kept_table(kept))
-    if len(found) != played.count(b"\n"):
-        raise ValueError("no history of the program: it has %d entries for %d steps" % (len(found), played.count(b"\n")))
-    return found
+
+    def read(text: str, kept: Any) -> History:
+        found = history(text.splitlines(), table=kept)
+        if len(found) != played.count(b"\n"):
+            raise ValueError("no history of the program: it has %d entries for %d steps" % (len(found), played.count(b"\n")))
+        return found
+
+    return asked(table, lambda file: printed("rehearse", file, played, program=program), read, program, played)
 
 
-def greedy(table: Asked, turns: int, program: Optional[Place] = None) -> History:
-    """The history of a game in which the first vertex in debt borrows; the last is `won`, or `turns` if its turns were used up."""
-    file, kept = file_and_table(table)
-    lines = printed("greedy", file, str(whole(turns, "the number of turns")), program=program).splitlines()
-    used_up = lines[-1:] == ["turns"]
-    played = history(lines[:-1] if used_up else lines, table=kept_table(kept))
-    if not used_up and not played:
-        raise ValueError("no history of the program: it has no end")
-    return History([*played, Entry("turns")]) if used_up else played
+def greedy(table: Asked, turns: int, *, program: Optional[Place] = None) -> History:
+    """The history of a game in which the first vertex in debt borrows; the last is `won`, or `turns` if its turns were used up.
+
+    >>> from dollar import Table
+    >>> print(greedy(Table([[0, 1], [1, 0]], [2, -1]), 1))
+    0 moved 0=1 1=0
+    turns
+    """
+    word = str(within(turns, "the number of turns", 0, MOST_ENTRIES))
+
+    def read(text: str, kept: Any) -> History:
+        lines = text.splitlines()
+        used_up = lines[-1:] == ["turns"]
+        played = history(lines[:-1] if used_up else lines, table=kept)
+        if not used_up and not played:
+            raise ValueError("no history of the program: it has no end")
+        return History([*played, Entry("turns")]) if used_up else played
+
+    return asked(table, lambda file: printed("greedy", file, word, program=program), read, program)
 
 
 def party(table: Asked, *scripts: Lines, cap: Optional[int] = None, program: Optional[Place] = None) -> Party:
     """Plays scripts at the same time: lists of lines, each for a seat and without seats in the lines. `faults` has the sessions that
-    ended early; a Fault is raised if nothing was played."""
-    if not scripts:
-        raise ValueError("a party has a script at least")
-    file, kept = file_and_table(table)
-    out, said, status = call(["party", file, *map(lines_text, scripts), *option("--cap", cap)], program)
-    lines = out.decode().splitlines()
-    if not lines:
-        raise fault_of(said, status)
-    first = next((at for at, line in enumerate(lines) if line.startswith("entries ")), None)
-    if first is None:
-        raise ValueError("no answer of the program: %r" % lines[-1])
-    gifts, position, *calls = lines[first + 1:]
-    return Party(history(lines[:first], with_seat=True, table=kept_table(kept)), int(gifts.split(" ")[1]),
-                 pairs_of(position.partition(" ")[2], vertices_of(kept)), [int(line.split(" ")[3]) for line in calls],
-                 dict(map(seat_fault, said.decode().splitlines())))
+    ended early; a Fault is raised if nothing was played.
 
+    >>> from dollar import Table
+    >>> party(Table([[0, 1], [1, 0]], [2, -1]), ["lend 0"], ["jump"]).calls
+    [1, 0]
+    """
+    within(len(scripts), "the number of scripts", 1, MOST_SEATS)
+    texts, said = list(map(lines_text, scripts)), b""
 
-def kept_table(kept: Union[Table, bytes]) -> Optional[Table]:
-    """The table if one was given, and not a dict or the place of a file."""
-    return kept if isinstance(kept, Table) else None
+    def ask(file: bytes) -> str:
+        nonlocal said
+        out, said, status = call(["party", file, *texts, *option("cap", cap)], program)
+        if not out:
+            raise fault_of(said, status, "it has no answer")
+        return out.decode()
+
+    def read(text: str, kept: Any) -> Party:
+        lines = text.splitlines()
+        first = next((at for at, line in enumerate(lines) if line.startswith("entries ")), None)
+        if first is None:
+            raise ValueError("no answer of the program: %r" % lines[-1])
+        gifts, position, *calls = lines[first + 1:]
+        return Party(history(lines[:first], with_seat=True, table=kept), int(gifts.split(" ")[1]),
+                     pairs_of(position.partition(" ")[2], vertices_of(kept)), [int(line.split(" ")[3]) for line in calls],
+                     dict(map(seat_fault, said.decode().splitlines())))
+
+    return asked(table, ask, read, program)
 
 
 def seat_fault(line: str) -> Tuple[int, str]:
@@ -154,6 +257,10 @@ def seat_fault(line: str) -> Tuple[int, str]:
     return int(seat.split(" ")[1]), text
 
 
+# The options with numbers, and their greatest.
+MOST = {"workers": limit("dg_invocation::MAX_WORKERS"), "cap": limit("dg_invocation::MAX_CAPACITY"), "seats": MOST_SEATS}
+
+
 def option(name: str, number: Optional[int]) -> List[str]:
     """The words of an option, none where it is not given."""
-    return [] if number is None else [name, str(whole(number, name))]
+    return [] if number is None else ["--" + name, str(within(number, name, 1, MOST[name]))]

@@ -246,6 +246,7 @@ def picture(table: Any, script: Optional[Mapping[Any, int]] = None, order: Seque
     >>> picture(Table([[0, 1], [1, 0]], [2, -1])).startswith("<svg ")
     True
     """
+    checks.table_of(table)
     found = places_for(table) if places is None else centred(by_names(table, places))
     lent = None if script is None else by_names(table, script)
     return pictured("A table", [Frame(table, found, held(table), (), list(by_names(table, dict.fromkeys(order))), None, lent)])

@@ -240,8 +240,6 @@ def matching(lines: Sequence[Any], size: int, names: Sequence[Any], near: Near) 
     return [given[spot] for spot in range(size)] if place(0) else None
 
 
-
-
 # All other graphs.
 
 def best(names: Sequence[Any], near: Near) -> Places:

@@ -17,35 +17,42 @@ from typing import Iterable, Iterator, List, Optional, Sequence, Tuple, Union
 
 Place = Union[str, "os.PathLike[str]"]
 
-# The folder of the clone that holds this package, if it is in one.
-CLONE = Path(__file__).resolve().parents[2]
+# The folder in which this package lies, and the folder of the clone that has it in `python`, if it is in one.
+HOME = Path(__file__).resolve().parents[1]
+CLONE = HOME.parent
+# Whether it is in a clone, or unpacked from the tarball: what else is beside its folder is somebody else's.
+IS_IN_CLONE = (HOME / "backend.py").is_file()
 # How many seconds a page waits for an answer.
 PATIENCE = 120.0
+# Whether the program of a clone is built if it has to be.
+may_build = False
 
 
 class Fault(Exception):
     """The program has refused what was asked, or could not do it.
 
-    `text` is what it said, `status` its exit status, and `table` the number of the table in a sweep, from 0.
+    `text` is what it said, `status` its exit status, and `table` the number of the table in a sweep, from 0. `more` has what the program
+    does not say: the file, the value, and the limit.
 
-    >>> from dollar import judge
+    >>> from dollar import Table, judge
     >>> try:
-    ...     judge({"vertices": ["a"], "edges": [], "amounts": [0], "q": "z"})
+    ...     judge(Table([[0, 1], [1, 0]], [2_000_000, 0]))
     ... except Fault as fault:
     ...     print(fault)
-    no vertex q (status 3)
+    amount of vertex 0: 2000000, and only -1000000 to 1000000 is possible (status 3)
     """
 
-    def __init__(self, text: str, status: int, table: Optional[int] = None) -> None:
-        super().__init__(text, status, table)
-        self.text, self.status, self.table = text, status, table
+    def __init__(self, text: str, status: int, table: Optional[int] = None, more: str = "") -> None:
+        super().__init__(text, status, table, more)
+        self.text, self.status, self.table, self.more = text, status, table, more
 
     def __str__(self) -> str:
-        return "%s (status %d)" % (self.text, self.status)
+        place = "" if self.table is None else "table %d: " % self.table
+        return "%s%s%s (status %d)" % (place, self.text, self.more and ": " + self.more, self.status)
 
 
 class ProgramNotFound(FileNotFoundError):
-    """There is no program `dollar` in any of the places that `find_program` tries."""
+    """There is no program `dollar` in any of the places that it may be in. `help(find_program)` has an example."""
 
 
 def fault_of(said: bytes, status: int, otherwise: str = "") -> Fault:
@@ -55,26 +62,43 @@ def fault_of(said: bytes, status: int, otherwise: str = "") -> Fault:
 
 
 def ended_by(status: int, answers: int) -> str:
-    """How a program has ended that said nothing.
-
-    >>> ended_by(-9, 3), ended_by(0, 1)
-    ('it was ended by SIGKILL after 3 answers', 'it ended after 1 answer')
-    """
-    if status >= 0:
-        end = "ended"
-    else:
-        names = {each.value: each.name for each in signal.Signals}
-        end = "was ended by %s" % names.get(-status, "signal %d" % -status)
+    """How a program has ended that said nothing."""
+    names = {each.value: each.name for each in signal.Signals}
+    end = "ended" if status >= 0 else "was ended by %s" % names.get(-status, "signal %d" % -status)
     return "it %s after %d answer%s" % (end, answers, "" if answers == 1 else "s")
+
+
+def is_new(program: Path) -> bool:
+    """Whether the program of the clone is there, and no source is newer, as its script `dollar` has it."""
+    sources = [CLONE / "crates.txt", *(folder for name in ("src", "specs", "proofs") for folder in CLONE.glob("crates/*/" + name))]
+    return program.is_file() and subprocess.run(["find", *sources, "-newer", program, "-print", "-quit"], stdin=subprocess.DEVNULL,
+                                                stdout=subprocess.PIPE).stdout == b""
 
 
 @functools.lru_cache(maxsize=None)
 def built() -> str:
-    """The program of the clone, as its script `dollar` builds it; if it has to, it says so on standard error. The script is asked once, and
-    not at each call, because it looks at all sources."""
-    if subprocess.run([CLONE / "dollar", "--version"], stdin=subprocess.DEVNULL, stdout=subprocess.DEVNULL).returncode:
-        raise ProgramNotFound("%s has built no program" % (CLONE / "dollar"))
-    return str(CLONE / "crates" / "dollar" / "out" / "dollar")
+    """The program of the clone. A proof takes minutes on all processors, so no call begins one, but only a command that somebody typed.
+    This looks at all sources, and so it is done once."""
+    program, script = CLONE / "crates" / "dollar" / "out" / "dollar", CLONE / "dollar"
+    if may_build and subprocess.run([script, "--version"], stdin=subprocess.DEVNULL, stdout=subprocess.DEVNULL).returncode:
+        raise ProgramNotFound("%s has built no program" % script)
+    if not may_build and not is_new(program):
+        raise ProgramNotFound("%s is not built, or older than its sources: run %s once, which proves and builds it, or name another program "
+                              "by the variable DOLLAR or the parameter `program`" % (program, script))
+    return str(program)
+
+
+def beside() -> Iterator[Path]:
+    """The folders in which the program is that was installed with this package: of the environment whose packages these are; of a
+    target of pip; of a wheel that was unpacked; and of the tarball."""
+    for scheme in sysconfig.get_scheme_names():
+        paths = sysconfig.get_paths(scheme)
+        if str(HOME) in {os.path.realpath(paths[of]) for of in ("purelib", "platlib")}:
+            yield Path(paths["scripts"])
+    yield HOME / "bin"
+    yield from HOME.glob("dollar-*.data/scripts")
+    if IS_IN_CLONE:
+        yield CLONE
 
 
 def find_program(program: Optional[Place] = None) -> str:
@@ -92,14 +116,20 @@ def find_program(program: Optional[Place] = None) -> str:
             if not found:
                 raise ProgramNotFound("%s names %s, and no program is there" % (whence, os.fspath(given)))
             return os.path.abspath(found)
-    if (CLONE / "crates.txt").is_file() and os.access(CLONE / "dollar", os.X_OK):
+    if IS_IN_CLONE and (CLONE / "crates.txt").is_file():
         return built()
-    # A wheel brings the program along, and pip puts it beside Python, or into the folder `bin` of a target.
-    beside = [Path(sys.executable).parent, Path(sysconfig.get_path("scripts")), Path(__file__).resolve().parents[1] / "bin"]
-    found = shutil.which("dollar", path=os.pathsep.join(map(str, beside))) or shutil.which("dollar")
+    found = shutil.which("dollar", path=os.pathsep.join(map(str, beside()))) or shutil.which("dollar")
     if not found:
         raise ProgramNotFound("there is no program `dollar` on the PATH; name it by the variable DOLLAR or the parameter `program`")
     return os.path.abspath(found)
+
+
+def typed(command: str) -> str:
+    """What somebody types for a command of this package, which its help and its errors call it by."""
+    name = os.path.basename(sys.argv[0])
+    if name in ("play", "dollar-board"):
+        return "board/play" if name == "play" else name
+    return "%s %s" % ("python3 " + sys.argv[0] if name == "dollar" else "python3 -m dollar", command)
 
 
 @contextmanager

@@ -11,7 +11,7 @@ import re
 import sys
 from typing import Any, Callable, Iterable, Iterator, List, Optional, Pattern, Sequence, Tuple
 
-from dollar.answers import RankTest, Verdict, no_answer, rank_test_of, verdict_of
+from dollar.answers import RankTest, Verdict, no_answer, rank_test_of, verdict_of, vertices_of
 from dollar.looking import verdict_look
 from dollar.table import Table
 from dollar.vertices import Dollars, Fixed, Pairs, Vertices
@@ -36,15 +36,6 @@ def verdict_form(names: Tuple[str, ...]) -> Pattern[str]:
 def rank_test_form(names: Tuple[str, ...]) -> Pattern[str]:
     """What reads a rank test that has its first loss, or holds."""
     return re.compile("rank (?:at least|below) (0|[1-9][0-9]*)(?: at %s)?" % amounts_form(names), re.ASCII)
-
-
-RIEMANN_ROCH = re.compile(r"degree (-?\d+) genus (-?\d+) rank (-?\d+|\?) dual (-?\d+|\?)", re.ASCII)
-
-
-def vertices_of(kept: Any) -> Optional[Vertices]:
-    """The vertices that an answer is about, by what was kept of the table; None if they are but their names."""
-    table = kept[0] if isinstance(kept, tuple) else kept
-    return table._vertices if isinstance(table, Table) else None
 
 
 def read_verdict(text: str, kept: Any) -> Verdict:
@@ -192,7 +183,7 @@ def batches_of(table: Table, divisors: Any) -> Iterator[Sequence[Any]]:
 def row_of(table: Table, row: Any, number: int) -> Tuple[int, ...]:
     """The amounts of the divisor with this number."""
     try:
-        return table._vertices.amounts(row)
+        return table._like(row)
     except (TypeError, ValueError) as error:
         raise type(error)("divisor %d: %s" % (number, error)) from None
 

@@ -12,11 +12,12 @@ import re
 import subprocess
 import threading
 import weakref
+from concurrent.futures import ThreadPoolExecutor
 from types import TracebackType
 from typing import Any, Callable, List, NamedTuple, Optional, Tuple, Type, TypeVar
 
 from dollar.answers import Entry, History, numbered, vertices_of
-from dollar.commands import option
+from dollar.commands import more_of, option
 from dollar.grammar import limit
 from dollar.program import Fault, Place, command_line, ended_by, fault_of
 from dollar.table import Asked, file_and_table
@@ -37,14 +38,14 @@ class End(NamedTuple):
 
 class Ended(Fault):
     """The session has ended instead of giving an answer, or had ended before. `text` says why, `fault` is the whole line that the program
-    said, and `answers` the number of lines that were answered."""
+    said, and `answers` the number of lines that were answered. `help(dollar.Session)` has an example."""
 
-    def __init__(self, end: End, answers: int = 0) -> None:
-        super().__init__(fault_of(end.fault.encode(), end.status, ended_by(end.status, answers)).text, end.status)
-        self.args, self.fault, self.answers = (end, answers), end.fault, answers
+    def __init__(self, end: End, answers: int = 0, more: str = "") -> None:
+        super().__init__(fault_of(end.fault.encode(), end.status, ended_by(end.status, answers)).text, end.status, None, more)
+        self.args, self.fault, self.answers = (end, answers, more), end.fault, answers
 
     def __str__(self) -> str:
-        return "the session has ended with status %d: %s" % (self.status, self.text)
+        return "the session has ended with status %d: %s%s" % (self.status, self.text, self.more and ": " + self.more)
 
 
 def one_line(line: str) -> bytes:
@@ -52,13 +53,13 @@ def one_line(line: str) -> bytes:
     if not isinstance(line, str):
         raise TypeError("a line is a text, and not %r" % (line,))
     if "\n" in line:
-        raise ValueError("a line has a newline in it")
+        raise ValueError("a line has a newline in it: %r" % line)
     try:
         sent = line.encode()
     except UnicodeEncodeError:
         raise ValueError("a line has half a character in it") from None
     if len(sent) > LONGEST_LINE:
-        raise ValueError("a line has more than %d bytes" % LONGEST_LINE)
+        raise ValueError("a line has %d bytes, and only %d are possible" % (len(sent), LONGEST_LINE))
     return sent
 
 
@@ -121,6 +122,13 @@ class Keeping:
         self.file.close()
 
 
+def words_of(seats: Optional[int], cap: Optional[int], workers: Optional[int], patience: Optional[float]) -> List[str]:
+    """The words for the options of a session, if they are within the limits."""
+    if patience is not None and not patience > 0:
+        raise ValueError("patience: %r, and only more than 0 seconds, or None, is possible" % (patience,))
+    return [*option("seats", seats), *option("cap", cap), *option("workers", workers)]
+
+
 class Session:
     """A session on a table: a line is asked, and answered before the next. With `seats` it is one for many people, where each line
     has the number of a seat before it, and each seat keeps a look of its own.
@@ -143,7 +151,7 @@ class Session:
     >>> session.ask("look\\nclaim")
     Traceback (most recent call last):
         ...
-    ValueError: a line has a newline in it
+    ValueError: a line has a newline in it: 'look\\nclaim'
 
     If the session ends instead of giving an answer, that is an `Ended`, and so is each later line:
 
@@ -163,15 +171,14 @@ class Session:
     entries in it. The file has the table in its first line, and then each line that made an entry, and the entry below it.
     """
 
-    def __init__(self, table: Asked, *options: object, seats: Optional[int] = None, cap: Optional[int] = None,
-                 workers: Optional[int] = None, patience: Optional[float] = 20.0, program: Optional[Place] = None,
-                 keep: Optional[Place] = None) -> None:
+    def __init__(self, table: Asked, *, seats: Optional[int] = None, cap: Optional[int] = None, workers: Optional[int] = None,
+                 patience: Optional[float] = 20.0, program: Optional[Place] = None, keep: Optional[Place] = None) -> None:
         self.patience, self.turn, self.table, self.answers, self.process = patience, threading.RLock(), table, 0, os.getpid()
         self.ended: Optional[End] = None
         self.reads_seats = seats is not None
-        words = [*option("--seats", seats), *option("--cap", cap), *option("--workers", workers), *map(str, options)]
+        words = words_of(seats, cap, workers, patience)
         file, kept = file_and_table(table)
-        self.vertices = vertices_of(kept)
+        self.kept_table, self.vertices = kept, vertices_of(kept)
         with command_line(["serve", file, *words], program) as (line, descriptors):
             # An interrupt at the terminal, or of a notebook, goes to Python, and does not end the game.
             self.child = subprocess.Popen(line, stdin=subprocess.PIPE, stdout=subprocess.PIPE, stderr=subprocess.PIPE,
@@ -213,23 +220,23 @@ class Session:
         was_over = self.ended is not None
         end = self.close()
         if end.status and kind is None and not was_over:
-            raise Ended(end, self.answers)
+            raise self._ended(end)
 
     def ask(self, line: str) -> Entry:
         """The answer to a line, which is given without its newline. A ValueError if it is not a line, or has more than 1,024 bytes; then
-        nothing is sent. `Ended` if the session ends instead."""
+        nothing is sent. `Ended` if the session ends instead. `help(Session)` has an example."""
         sent = one_line(line)
         with self.turn:
             return self._entry(line, self.ask_bytes(sent))
 
     def ask_seat(self, seat: int, line: str) -> Entry:
-        """The answer to a line of the seat, a number from 1 on."""
+        """The answer to a line of the seat, a number from 1 on. `help(Table.serve)` has an example."""
         return self.ask("%d %s" % (whole(seat, "a seat"), line))
 
     def ask_bytes(self, line: bytes) -> str:
-        """The text of the answer to a line as bytes, any but a newline."""
+        """The text of the answer to a line as bytes, any but a newline. `help(Session)` has an example of `ask`."""
         if b"\n" in line:
-            raise ValueError("a line has a newline in it")
+            raise ValueError("a line has a newline in it: %r" % line)
         if os.getpid() != self.process:
             raise ValueError("the session belongs to the process %d, which began it" % self.process)
         with self.turn:
@@ -239,10 +246,15 @@ class Session:
                     self.answers += 1
                     return answer[:-1].decode()
             end = self.close()
-        raise Ended(end, self.answers)
+        raise self._ended(end)
+
+    def _ended(self, end: End) -> Ended:
+        """The error for a line that has no answer any more, with the value and the limit."""
+        ended = Ended(end, self.answers)
+        return Ended(end, self.answers, more_of(ended.text, self.table, self.kept_table))
 
     def close(self) -> End:
-        """Ends the input, which ends the session. Returns how it has ended, the same at each call."""
+        """Ends the input, which ends the session. Returns how it has ended, the same at each call. `help(Session)` has an example."""
         with self.turn:
             return self.ended or self._in_time(self._end)
 
@@ -297,36 +309,58 @@ class Session:
 
 
 class AsyncSession:
-    """A session for programs that use asyncio: it has the calls of `Session`, which are awaited. A task that is cancelled while it waits
-    leaves the session in step.
+    """A session for programs that use asyncio: it has the calls of `Session`, which are awaited. It begins with `async with` or by
+    `await AsyncSession.open(..)`, and plays all its lines in a thread of its own, so that waiting ones hold up nothing else. A task that is
+    cancelled while it waits leaves the session in step.
 
     >>> import asyncio
     >>> from dollar import Table
     >>> async def play():
-    ...     async with AsyncSession(Table([[0, 1], [1, 0]], [2, -1])) as session:
-    ...         return [str(await session.ask(line)) for line in ("look", "commit")]
+    ...     async with AsyncSession(Table([[0, 1], [1, 0]], [2, -1])) as one:
+    ...         other = await AsyncSession.open(Table([[0, 1], [1, 0]], [2, -1]), seats=2)
+    ...         return str(await one.ask("look")), str(await other.ask_seat(2, "lend 0")), await other.close()
     >>> asyncio.run(play())
-    ['0 looked 0 0=2 1=-1', '1 winnable by 0=0 1=-1 to 0=1 1=0']
+    ('0 looked 0 0=2 1=-1', '0 moved 0=1 1=0', End(status=0, fault=''))
     """
 
     def __init__(self, table: Asked, *, seats: Optional[int] = None, cap: Optional[int] = None, workers: Optional[int] = None,
                  patience: Optional[float] = 20.0, program: Optional[Place] = None, keep: Optional[Place] = None) -> None:
-        self.session = Session(table, seats=seats, cap=cap, workers=workers, patience=patience, program=program, keep=keep)
+        words_of(seats, cap, workers, patience)
+        self._begin = functools.partial(Session, table, seats=seats, cap=cap, workers=workers, patience=patience, program=program, keep=keep)
+        self._begun: Optional[Session] = None
+        self._thread = ThreadPoolExecutor(1)
+
+    @property
+    def session(self) -> Session:
+        """The session that is played, once it has begun; its `kept` are the entries that it began with. `help(Session)` has an example."""
+        if self._begun is None:
+            self._begun = self._begin()
+        return self._begun
+
+    @classmethod
+    async def open(cls, table: Asked, **options: Any) -> AsyncSession:
+        """A session that has begun, with the options of the class; `help(AsyncSession)` has an example."""
+        return await cls(table, **options).__aenter__()
+
+    async def _in_thread(self, do: Callable[[], Got]) -> Got:
+        """What comes of a piece of work, which the session's own thread does after those before it."""
+        return await asyncio.get_running_loop().run_in_executor(self._thread, do)
 
     async def __aenter__(self) -> AsyncSession:
+        await self._in_thread(lambda: self.session)
         return self
 
     async def __aexit__(self, kind: Optional[Type[BaseException]], error: Optional[BaseException], trace: Optional[TracebackType]) -> None:
-        await asyncio.to_thread(self.session.__exit__, kind, error, trace)
+        await self._in_thread(lambda: self.session.__exit__(kind, error, trace))
 
     async def ask(self, line: str) -> Entry:
-        """The answer to a line."""
-        return await asyncio.to_thread(self.session.ask, line)
+        """The answer to a line. `help(AsyncSession)` has an example."""
+        return await self._in_thread(lambda: self.session.ask(line))
 
     async def ask_seat(self, seat: int, line: str) -> Entry:
-        """The answer to a line of the seat, a number from 1 on."""
-        return await asyncio.to_thread(self.session.ask_seat, seat, line)
+        """The answer to a line of the seat, a number from 1 on. `help(Table.serve)` has an example."""
+        return await self._in_thread(lambda: self.session.ask_seat(seat, line))
 
     async def close(self) -> End:
-        """Ends the session, and returns how it has ended."""
-        return await asyncio.to_thread(self.session.close)
+        """Ends the session, and returns how it has ended. `help(AsyncSession)` has an example."""
+        return await self._in_thread(lambda: self.session.close())

@@ -10,6 +10,7 @@ import sys
 import tempfile
 import time
 from collections import deque
+from collections.abc import Mapping as AbstractMapping
 from typing import (
     Any, Callable, Deque, Generic, Iterable, Iterator, List, Literal, Mapping, NamedTuple, Optional, Sequence, Tuple, TypeVar, Union,
     overload)
@@ -17,13 +18,13 @@ from typing import (
 from dollar.answers import RankTest, RefusedRankTest, RefusedRiemannRoch, RefusedVerdict, RiemannRoch, Verdict, refusal, riemann_roch_of
 from dollar.columns import (
     AnyInts, AnyTruths, ArrayInts, Columns, NumpyInts, NumpyTruths, RankTestColumns, RiemannRochColumns, VerdictColumns)
-from dollar.commands import option
+from dollar.commands import MOST_DEGREE, TOO_MANY, beside, option
 from dollar.program import Fault, Place, command_line, ended_by, fault_of
 from dollar.readers import (
     divisors_by_batches, divisors_one_by_one, numpy_or_none, ordered, read_rank_test, read_verdict, rows_of, verdict_on, verdict_reader,
     verdicts_reader)
 from dollar.table import Graph, Table, one_line
-from dollar.vertices import Dollars, Vertices, whole
+from dollar.vertices import Dollars, Vertices, within
 
 AT_ONCE, PIECE, PATIENCE, SLOW = 1 << 16, 1 << 16, 0.05, 0.001
 Found = TypeVar("Found", covariant=True)
@@ -33,8 +34,9 @@ OfNumpy = TypeVar("OfNumpy", bound=Columns, covariant=True)
 OfArray = TypeVar("OfArray", bound=Columns, covariant=True)
 # What is kept of a table until its answer comes, and its line.
 Kept = Tuple[Any, bytes]
-# Tables; or, with `divisors`, one.
+# Tables; or, with `divisors`, one; and these.
 Tables = Union[Iterable[Mapping[str, object]], Graph]
+Divisors = Iterable[Union[Table, Dollars]]
 
 
 class Sweep:
@@ -186,18 +188,24 @@ class Job(NamedTuple):
     read: Callable[[str, Any], Any]
     many: Optional[Callable[[bytes], Optional[Iterator[Tuple[Any, ...]]]]] = None
 
-    def row(self, text: str, number: int) -> Any:
-        """The row of a table that was refused, if it is not raised."""
-        row = refusal(self.refused, text[len("refused "):], number)
+    def answer(self, text: str, number: int, kept: Any) -> Any:
+        """The answer with this text and number. A table that was refused has a row, if it is not raised, and so have four numbers of which
+        two are not known."""
+        is_cut = text.endswith("dual ?")
+        if not is_cut and not text.startswith("refused "):
+            return self.read(text, kept)
+        known = dict(zip(("degree", "genus"), map(int, text.split(" ")[1:4:2]))) if is_cut else {}
+        reason = TOO_MANY if is_cut else text[len("refused "):]
+        row = refusal(self.refused, reason, number, beside(reason, kept), **known)
         if self.errors == "raise":
-            raise Fault(row.text, row.status, number)
+            raise Fault(row.text, row.status, number, row.more)
         return row
 
 
 def answers_one_by_one(job: Job, number: int, over: List[bool]) -> Iterator[Any]:
     """The answers, of which the first has this number. It is noted in `over` that they have come to their end."""
     sweep = Sweep(job.lines.words, job.lines.one_by_one, job.program, job.ahead)
-    progress, read, take = Progress(job.progress), job.read, sweep.waiting.popleft
+    progress, answer, take = Progress(job.progress), job.answer, sweep.waiting.popleft
     try:
         for piece in sweep.pieces():
             if piece.count(b"\n") > len(sweep.waiting):
@@ -210,11 +218,7 @@ def answers_one_by_one(job: Job, number: int, over: List[bool]) -> Iterator[Any]
                     progress.add(1)
                 continue
             for text in piece.decode().split("\n")[:-1]:
-                table = take()
-                if text.startswith("refused "):
-                    yield job.row(text, number)
-                else:
-                    yield read(text, table)
+                yield answer(text, number, take())
                 number += 1
                 progress.add(1)
         sweep.end(progress.count)
@@ -225,14 +229,19 @@ def answers_one_by_one(job: Job, number: int, over: List[bool]) -> Iterator[Any]
 
 
 class Answers(Generic[Found, Told, OfNumpy, OfArray], Iterator[Found]):
-    """The answers of a sweep, in order, as they come. The sweep begins when the first is asked for."""
+    """The answers of a sweep, in order, as they come. The sweep begins when the first is asked for, and they can be taken once."""
 
     def __init__(self, job: Job, columns: Callable[[Any, Any], Columns]) -> None:
-        if job.ahead is not None and whole(job.ahead, "ahead") < 1:
-            raise ValueError("at least one table is taken ahead of its answer, and not %d" % job.ahead)
+        if job.ahead is not None:
+            within(job.ahead, "ahead", 1, sys.maxsize)
         self._job, self._columns, self._skipped = job, columns, 0
         self._over: List[bool] = []
         self._found: Optional[Iterator[Found]] = None
+
+    def __iter__(self) -> Iterator[Found]:
+        if self._over:
+            raise ValueError("the answers were taken already: ask again for more")
+        return self
 
     def __next__(self) -> Found:
         if self._found is None:
@@ -269,14 +278,10 @@ class Answers(Generic[Found, Told, OfNumpy, OfArray], Iterator[Found]):
     def columns(self, kind: Optional[str] = None) -> Any:
         """All answers at once, as columns: arrays of numpy if it is installed, and else of the module `array`; or of the kind that is asked
         for. Columns have no place for a missing answer: a divisor that is refused, or a rank past the limits, is raised as a Fault, whose
-        `table` is its number.
-
-        >>> found = judge_all(Table([[0, 2], [2, 0]]), divisors=[[3, -1], [0, -1]]).columns()
-        >>> list(map(bool, found.winnable)), list(map(int, found.script[1])), list(map(int, found.reduced[0]))
-        ([True, False], [-1, -1], [1, -2])
+        `table` is its number. `help(dollar.columns)` has an example.
         """
         if self._found is not None or self._skipped:
-            raise ValueError("the sweep has begun")
+            raise ValueError("the sweep has begun: ask again for columns")
         if kind not in (None, "numpy", "array"):
             raise ValueError("columns are of the kind 'numpy' or 'array', and not %r" % (kind,))
         numpy = None if kind == "array" else numpy_or_none()
@@ -291,8 +296,8 @@ class Answers(Generic[Found, Told, OfNumpy, OfArray], Iterator[Found]):
                 answered += piece.count(b"\n")
                 while sweep.waiting and sweep.waiting[0] <= answered:
                     answered -= sweep.waiting.popleft()
-                progress.add(columns.add(piece))
-            progress.add(columns.done())
+                progress.add(columns._add(piece))
+            progress.add(columns._done())
             sweep.end(columns.count)
             if answered:
                 raise Fault("more answers came than tables were sent", 0)
@@ -307,25 +312,32 @@ RankTests = Answers[Found, RankTestColumns[AnyInts, AnyTruths], RankTestColumns[
 RiemannRochs = Answers[Found, RiemannRochColumns[AnyInts], RiemannRochColumns[NumpyInts], RiemannRochColumns[ArrayInts]]
 
 
-def tables_one_by_one(tables: Iterable[Any]) -> Iterator[Kept]:
+def tables_one_by_one(tables: Any) -> Iterator[Kept]:
     """What is kept of each table, and its line."""
-    for number, table in enumerate(tables):
+    if isinstance(tables, (AbstractMapping, str, bytes, os.PathLike)) or hasattr(tables, "edges") or not hasattr(tables, "__iter__"):
+        raise TypeError("many tables are asked about, as a list of them, or as `divisors` of one table; and not %.80r" % (tables,))
+
+    def kept_and_line(number: int, table: Any) -> Kept:
         try:
             line, kept = one_line(table)
         except (TypeError, ValueError) as error:
             raise type(error)("table %d: %s" % (number, error)) from None
-        yield kept, line + b"\n"
+        return kept, line + b"\n"
+
+    return itertools.starmap(kept_and_line, enumerate(tables))
 
 
-def asked(command: str, given: Sequence[str], tables: Any, divisors: Optional[Iterable[Dollars]], workers: Optional[int],
+def asked(command: str, given: Sequence[str], tables: Any, divisors: Optional[Divisors], workers: Optional[int],
           errors: str) -> Lines:
     """What a command over lines is asked."""
     if errors not in ("row", "raise"):
         raise ValueError("errors are either 'row' or 'raise', and not %r" % (errors,))
-    rest = [*given, *option("--workers", workers)]
+    rest = [*given, *option("workers", workers)]
     if divisors is None:
         one_by_one = tables_one_by_one(tables)
         return Lines([command, "--lines", "/dev/stdin", *rest], one_by_one, ((1, line) for _, line in one_by_one), None)
+    if isinstance(tables, (list, tuple)) and any(isinstance(each, AbstractMapping) for each in tables):
+        raise TypeError("with `divisors` one table is asked about, and not a list of %d" % len(tables))
     table = tables if isinstance(tables, Table) else Table(tables)
     file = one_line(table)[0]
     divisors = ordered(table, divisors)
@@ -343,21 +355,22 @@ def of_one_table(columns: Callable[[Vertices, Any], Columns]) -> Callable[[Optio
     return made
 
 
-@overload
-def judge_all(tables: Tables, program: Optional[Place] = ..., *, workers: Optional[int] = ..., errors: Literal["raise"],
-              divisors: Optional[Iterable[Dollars]] = ..., ahead: Optional[int] = ...,
-              progress: bool = ...) -> Verdicts[Verdict]: ...
+Errors = Literal["row", "raise"]
 
 
 @overload
-def judge_all(tables: Tables, program: Optional[Place] = ..., *, workers: Optional[int] = ..., errors: str = ...,
-              divisors: Optional[Iterable[Dollars]] = ..., ahead: Optional[int] = ...,
-              progress: bool = ...) -> Verdicts[Union[Verdict, RefusedVerdict]]: ...
+def judge_all(tables: Tables, *, workers: Optional[int] = ..., errors: Literal["raise"], divisors: Optional[Divisors] = ...,
+              ahead: Optional[int] = ..., progress: bool = ..., program: Optional[Place] = ...) -> Verdicts[Verdict]: ...
 
 
-def judge_all(tables: Tables, program: Optional[Place] = None, *, workers: Optional[int] = None, errors: str = "row",
-              divisors: Optional[Iterable[Dollars]] = None, ahead: Optional[int] = None,
-              progress: bool = False) -> Verdicts[Any]:
+@overload
+def judge_all(tables: Tables, *, workers: Optional[int] = ..., errors: Errors = ..., divisors: Optional[Divisors] = ...,
+              ahead: Optional[int] = ..., progress: bool = ...,
+              program: Optional[Place] = ...) -> Verdicts[Union[Verdict, RefusedVerdict]]: ...
+
+
+def judge_all(tables: Tables, *, workers: Optional[int] = None, errors: Errors = "row", divisors: Optional[Divisors] = None,
+              ahead: Optional[int] = None, progress: bool = False, program: Optional[Place] = None) -> Verdicts[Any]:
     """The verdicts on the tables, in order, as they come.
 
     There may be any number of tables, from any source. They are taken in the thread of the caller, some ahead of their answers, or at
@@ -371,9 +384,11 @@ def judge_all(tables: Tables, program: Optional[Place] = None, *, workers: Optio
     >>> [verdict.winnable for verdict in judge_all(Table(pair, [amount, -1]) for amount in range(4))]
     [False, False, True, True]
 
-    With `divisors` the first parameter is one table, and each of them has amounts for it, as a list in the order of the vertices or
-    as a dict. They may also be an array of numpy or a frame of pandas, a row each. The answers are the same as for the table with these
-    amounts, at a small part of the cost. `columns()` of the result has them as arrays.
+    With `divisors` the first parameter is one table, and each of them has amounts for it: a list in the order of the vertices, a dict, or
+    a table on the same graph. They may also be an array of numpy or a frame of pandas, a row each. The answers are the same as for the
+    table with these amounts, at a small part of the cost. `columns()` of the result has them as arrays. A call of `judge` starts the
+    program, which takes as long as some hundred tables of a sweep, or thousands of divisors: for many graphs ask about all their tables
+    in one sweep.
 
     >>> [verdict.winnable for verdict in judge_all(pair, divisors=([amount, -1] for amount in range(4)))]
     [False, False, True, True]
@@ -384,50 +399,47 @@ def judge_all(tables: Tables, program: Optional[Place] = None, *, workers: Optio
 
 
 @overload
-def rank_all(tables: Tables, degree: int, program: Optional[Place] = ..., *, workers: Optional[int] = ..., errors: Literal["raise"],
-             divisors: Optional[Iterable[Dollars]] = ..., ahead: Optional[int] = ...,
-             progress: bool = ...) -> RankTests[RankTest]: ...
+def rank_test_all(tables: Tables, degree: int, *, workers: Optional[int] = ..., errors: Literal["raise"], divisors: Optional[Divisors] = ...,
+                  ahead: Optional[int] = ..., progress: bool = ..., program: Optional[Place] = ...) -> RankTests[RankTest]: ...
 
 
 @overload
-def rank_all(tables: Tables, degree: int, program: Optional[Place] = ..., *, workers: Optional[int] = ..., errors: str = ...,
-             divisors: Optional[Iterable[Dollars]] = ..., ahead: Optional[int] = ...,
-             progress: bool = ...) -> RankTests[Union[RankTest, RefusedRankTest]]: ...
+def rank_test_all(tables: Tables, degree: int, *, workers: Optional[int] = ..., errors: Errors = ..., divisors: Optional[Divisors] = ...,
+                  ahead: Optional[int] = ..., progress: bool = ...,
+                  program: Optional[Place] = ...) -> RankTests[Union[RankTest, RefusedRankTest]]: ...
 
 
-def rank_all(tables: Tables, degree: int, program: Optional[Place] = None, *, workers: Optional[int] = None, errors: str = "row",
-             divisors: Optional[Iterable[Dollars]] = None, ahead: Optional[int] = None,
-             progress: bool = False) -> RankTests[Any]:
+def rank_test_all(tables: Tables, degree: int, *, workers: Optional[int] = None, errors: Errors = "row", divisors: Optional[Divisors] = None,
+                  ahead: Optional[int] = None, progress: bool = False, program: Optional[Place] = None) -> RankTests[Any]:
     """The rank tests of a degree, as `judge_all` has verdicts. If a law settles a test past the limits, it has no first loss.
 
     >>> from dollar import Table
     >>> pair = Table([[0, 1], [1, 0]])
-    >>> [str(test) for test in rank_all([Table(pair, [2, 0]), Table(pair, [0, 1])], 2)]
+    >>> [str(test) for test in rank_test_all([Table(pair, [2, 0]), Table(pair, [0, 1])], 2)]
     ['rank at least 2', 'rank below 2 at 0=0 1=2']
-    >>> [str(test) for test in rank_all(pair, 2, divisors=[[2, 0], {1: 1}])]
+    >>> [str(test) for test in rank_test_all(pair, 2, divisors=[[2, 0], {1: 1}])]
     ['rank at least 2', 'rank below 2 at 0=0 1=2']
     """
-    lines = asked("rank", [str(whole(degree, "the degree"))], tables, divisors, workers, errors)
+    lines = asked("rank", [str(within(degree, "the degree", 0, MOST_DEGREE))], tables, divisors, workers, errors)
     return Answers(Job(lines, program, ahead, progress, errors, RefusedRankTest, read_rank_test),
                    of_one_table(lambda vertices, numpy: RankTestColumns(vertices, numpy, degree)))
 
 
 @overload
-def rr_all(tables: Tables, program: Optional[Place] = ..., *, workers: Optional[int] = ..., errors: Literal["raise"],
-           divisors: Optional[Iterable[Dollars]] = ..., ahead: Optional[int] = ...,
-           progress: bool = ...) -> RiemannRochs[RiemannRoch]: ...
+def rr_all(tables: Tables, *, workers: Optional[int] = ..., errors: Literal["raise"], divisors: Optional[Divisors] = ...,
+           ahead: Optional[int] = ..., progress: bool = ..., program: Optional[Place] = ...) -> RiemannRochs[RiemannRoch]: ...
 
 
 @overload
-def rr_all(tables: Tables, program: Optional[Place] = ..., *, workers: Optional[int] = ..., errors: str = ...,
-           divisors: Optional[Iterable[Dollars]] = ..., ahead: Optional[int] = ...,
-           progress: bool = ...) -> RiemannRochs[Union[RiemannRoch, RefusedRiemannRoch]]: ...
+def rr_all(tables: Tables, *, workers: Optional[int] = ..., errors: Errors = ..., divisors: Optional[Divisors] = ...,
+           ahead: Optional[int] = ..., progress: bool = ...,
+           program: Optional[Place] = ...) -> RiemannRochs[Union[RiemannRoch, RefusedRiemannRoch]]: ...
 
 
-def rr_all(tables: Tables, program: Optional[Place] = None, *, workers: Optional[int] = None, errors: str = "row",
-           divisors: Optional[Iterable[Dollars]] = None, ahead: Optional[int] = None,
-           progress: bool = False) -> RiemannRochs[Any]:
-    """The four numbers of the tables, as `judge_all` has verdicts; None for a rank past the limits.
+def rr_all(tables: Tables, *, workers: Optional[int] = None, errors: Errors = "row", divisors: Optional[Divisors] = None,
+           ahead: Optional[int] = None, progress: bool = False, program: Optional[Place] = None) -> RiemannRochs[Any]:
+    """The four numbers of the tables, as `judge_all` has verdicts. If both ranks are past the limits, it is a `RefusedRiemannRoch`, which
+    has the degree and the genus.
 
     >>> from dollar import Table
     >>> pair = Table([[0, 3], [3, 0]])

@@ -10,8 +10,8 @@ import re
 from collections.abc import Mapping as AbstractMapping
 from pathlib import Path
 from typing import (
-    TYPE_CHECKING, Any, Callable, Dict, Hashable, Iterable, Iterator, List, Mapping, NamedTuple, Optional, Protocol, SupportsIndex, Tuple,
-    Union)
+    TYPE_CHECKING, AbstractSet, Any, Callable, Dict, Hashable, Iterable, Iterator, List, Literal, Mapping, NamedTuple, Optional, Protocol,
+    Sequence, SupportsIndex, Tuple, Union)
 
 from dollar import checks, drawing
 from dollar.grammar import limit
@@ -19,45 +19,27 @@ from dollar.program import CLONE, Place
 from dollar.vertices import Dollars, Pairs, Vertex, Vertices, whole
 
 if TYPE_CHECKING:
-    from dollar.divisors import EffectiveDivisors, LinearSystem
+    from dollar.divisors import EffectiveDivisors, LinearSystem, ReducedDivisors
     from dollar.session import Session
 
 MEMBERS = ("vertices", "edges", "amounts", "q")
 # The program reads no further: a longer file is refused.
 MOST_BYTES, MOST_TEXT = limit("dg_system::MAX_FILE"), 1 << 26
+MOST_AMOUNT = limit("dg_chips::MAX_AMOUNT")
 # The examples that are installed with the package, or else those of the clone.
 EXAMPLES = next(filter(Path.is_dir, [Path(__file__).with_name("examples")]), CLONE / "examples")
 Edge = Tuple[Hashable, Hashable, int]
 
 
-class OfNetworkx(Protocol):
-    """A graph of networkx, or what has its `nodes` and `edges`."""
+class OfGraph(Protocol):
+    """A graph of networkx or of Sage, or what has its `edges`."""
 
     @property
-    def nodes(self) -> Iterable[Any]: ...
-
-    @property
-    def edges(self) -> Iterable[Any]: ...
-
-
-class OfSage(Protocol):
-    """A Graph of Sage, or what has its `vertices` and `edges`."""
-
-    def vertices(self) -> Iterable[Any]: ...
-
-    def edges(self, labels: bool) -> Iterable[Any]: ...
-
-
-class OfSandpile(Protocol):
-    """A Sandpile of Sage."""
-
-    def vertices(self) -> Iterable[Any]: ...
-
-    def sink(self) -> Any: ...
+    def edges(self) -> Any: ...
 
 
 # What a table can be made of: the members of a table, a graph, or an adjacency matrix.
-Graph = Union[Mapping[str, object], OfNetworkx, OfSage, OfSandpile, Iterable[Iterable[SupportsIndex]]]
+Graph = Union[Mapping[str, object], OfGraph, Iterable[Iterable[SupportsIndex]]]
 # What a command takes as a table: a Table, the members of one, or the place of a file.
 Asked = Union[Mapping[str, object], Place]
 
@@ -170,8 +152,9 @@ def of_matrix(matrix: Any) -> Multigraph:
     elif hasattr(matrix, "tolist"):
         of = matrix.tolist()
     rows = [list(row) for row in of]
-    if any(len(row) != len(rows) for row in rows):
-        raise ValueError("an adjacency matrix has as many columns as rows")
+    for at, row in enumerate(rows):
+        if len(row) != len(rows):
+            raise ValueError("an adjacency matrix has as many columns as rows: row %d has %d, and there are %d rows" % (at, len(row), len(rows)))
     vertices = labels_of(matrix) if hasattr(matrix, "to_numpy") else list(range(len(rows)))
     counts = {(u, v): whole(count, "the number of edges from %s to %s" % (u, v))
               for u, row in zip(vertices, rows) for v, count in zip(vertices, row)}
@@ -249,8 +232,8 @@ class Table(AbstractMapping[str, Any]):
     not given, they are taken from the first parameter, or else all 0. q is the first vertex if neither says another.
 
     A table keeps the vertices that it was made of: they are the keys of amounts, scripts and answers. A text is a key too if it
-    means one vertex. The name of a vertex, by which the program knows it, is its text, unless `names` is a function that gives it
-    another.
+    means one vertex. The name of a vertex, which the program prints, is its text. If these can't all be names, the names are v0, v1 and
+    so on; or `names` is a function that gives them.
 
     >>> Table([[0, 2], [2, 0]], [3, -1])
     Table({'vertices': [0, 1], 'edges': [[0, 1, 2]], 'amounts': [3, -1], 'q': 0})
@@ -264,19 +247,17 @@ class Table(AbstractMapping[str, Any]):
 
     Nothing is dropped or rounded: a number that isn't whole is a TypeError, anything else that doesn't fit a ValueError.
 
-    >>> Table(table, {"c": 5})
-    Traceback (most recent call last):
-        ...
-    ValueError: there is no vertex 'c': the vertices are a, b
     >>> Table(table, {"a": 1.7})
     Traceback (most recent call last):
         ...
     TypeError: the amount of vertex a is not a whole number: 1.7
     """
 
-    __slots__ = ("_amounts", "_edges", "_q", "_vertices")
+    __slots__ = ("_amounts", "_edges", "_kept", "_q", "_vertices")
     _amounts: Tuple[int, ...]
     _edges: Tuple[Edge, ...]
+    # What was made of the graph, for all tables on it.
+    _kept: Dict[Any, Any]
     _q: int
     _vertices: Vertices
 
@@ -284,10 +265,9 @@ class Table(AbstractMapping[str, Any]):
                  names: Optional[Callable[[Any], str]] = None) -> None:
         made = graph if isinstance(graph, Multigraph) else multigraph(graph)
         if isinstance(graph, Table) and names is None:
-            self._vertices = graph._vertices
+            self._vertices, self._edges, self._kept = graph._vertices, graph._edges, graph._kept
         else:
-            self._vertices = Vertices(made.vertices, names or str)
-        self._edges = tuple(made.edges)
+            self._vertices, self._edges, self._kept = Vertices(made.vertices, names), tuple(made.edges), {}
         given = made.amounts if amounts is None else amounts
         self._amounts = self._vertices.amounts([0] * len(made.vertices) if given is None else given)
         q = made.q if q is None else q
@@ -297,7 +277,14 @@ class Table(AbstractMapping[str, Any]):
 
     @classmethod
     def read(cls, file: Place) -> Table:
-        """The table of a file. An error names the file and what is wrong in it."""
+        """The table of a file. An error names the file and what is wrong in it.
+
+        >>> import tempfile
+        >>> with tempfile.NamedTemporaryFile() as file:
+        ...     Table([[0, 1], [1, 0]], [2, -1]).write(file.name)
+        ...     print(Table.read(file.name).amounts)
+        (2, -1)
+        """
         try:
             with open(file, encoding="utf-8") as text:
                 return cls(json.load(text))
@@ -316,36 +303,43 @@ class Table(AbstractMapping[str, Any]):
 
     @property
     def vertices(self) -> Tuple[Vertex, ...]:
-        """The vertices that the table was made of, in order."""
+        """The vertices that the table was made of, in order.
+
+        >>> table = Table({"vertices": ["New York", "Rome"], "edges": [["New York", "Rome", 2]], "amounts": [3, -1], "q": "Rome"})
+        >>> table.vertices, table.names, table.edges
+        (('New York', 'Rome'), ('v0', 'v1'), (('New York', 'Rome', 2),))
+        >>> table.amounts, table.divisor, table.q, table.place("Rome")
+        ((3, -1), {'New York': 3, 'Rome': -1}, 'Rome', 1)
+        """
         return self._vertices.given
 
     @property
     def names(self) -> Tuple[str, ...]:
-        """The names of the vertices, by which the program knows them."""
+        """The names of the vertices, by which the program knows them; `help(Table.vertices)` has an example."""
         return self._vertices.names
 
     @property
     def edges(self) -> Tuple[Edge, ...]:
-        """The edges: two vertices, and how often the edge is there."""
+        """The edges: two vertices, and how often the edge is there; `help(Table.vertices)` has an example."""
         return self._edges
 
     @property
     def amounts(self) -> Tuple[int, ...]:
-        """The amounts, in the order of the vertices."""
+        """The amounts, in the order of the vertices; `help(Table.vertices)` has an example."""
         return self._amounts
 
     @property
     def q(self) -> Vertex:
-        """The vertex from which verdicts are computed."""
+        """The vertex from which verdicts are computed; `help(Table.vertices)` has an example."""
         return self._vertices.given[self._q]
 
     @property
     def divisor(self) -> Pairs:
-        """The amounts by vertices."""
+        """The amounts by vertices; `help(Table.vertices)` has an example."""
         return self._vertices.keyed(self._amounts)
 
     def place(self, vertex: Vertex) -> int:
-        """The place of a vertex in the order of the vertices, from 0."""
+        """The place of a vertex in the order of the vertices, from 0; `help(Table.vertices)` has an example."""
         return self._vertices.place(vertex)
 
     @property
@@ -372,11 +366,7 @@ class Table(AbstractMapping[str, Any]):
         >>> Table([[0, 3], [3, 0]]).canonical().amounts
         (1, 1)
         """
-        edges = [0] * len(self._amounts)
-        for u, v, count in self._edges:
-            for end in (u, v):
-                edges[self._vertices.places[end]] += count
-        return self._with(tuple(count - 2 for count in edges))
+        return self._with(tuple(sum(row) - 2 for row in self._near()))
 
     def residual(self) -> Table:
         """K - D, the residual of the divisor, whose rank is the other one of Riemann-Roch.
@@ -386,24 +376,80 @@ class Table(AbstractMapping[str, Any]):
         """
         return self.canonical() - self
 
-    def reduced(self, q: Optional[Vertex] = None, program: Optional[Place] = None) -> Table:
+    def fire(self, script: Union[AbstractSet[Any], Dollars]) -> Table:
+        """The table after each vertex has lent as often as a script says, which may be a list or a dict. Of a set each vertex lends once.
+
+        >>> path = Table([[0, 1, 0], [1, 0, 1], [0, 1, 0]], [2, 0, -1])
+        >>> path.fire({0: 2}).amounts, path.fire([2, 0, -1]).amounts, path.fire({0, 1}).amounts
+        ((0, 2, -1), (0, 1, 0), (2, -1, 0))
+        """
+        times = dict.fromkeys(script, 1) if isinstance(script, AbstractSet) else script
+        return self._with(self._fired(self._vertices.amounts(times, "lending")))
+
+    def lend(self, vertex: Vertex, times: int = 1) -> Table:
+        """The table after a vertex has lent, once or so many times.
+
+        >>> Table([[0, 1], [1, 0]], [2, -1]).lend(0).amounts
+        (1, 0)
+        """
+        return self.fire({vertex: times})
+
+    def borrow(self, vertex: Vertex, times: int = 1) -> Table:
+        """The table after a vertex has borrowed, once or so many times.
+
+        >>> Table([[0, 1], [1, 0]], [2, -1]).borrow(1).amounts
+        (1, 0)
+        """
+        return self.fire({vertex: -whole(times, "how often a vertex borrows")})
+
+    def _near(self) -> List[List[int]]:
+        """How many edges join each two vertices, by their places."""
+        if "near" not in self._kept:
+            places, size = self._vertices.places, len(self._amounts)
+            found = self._kept["near"] = [[0] * size for _ in range(size)]
+            for u, v, count in self._edges:
+                found[places[u]][places[v]] += count
+                found[places[v]][places[u]] += count
+        near: List[List[int]] = self._kept["near"]
+        return near
+
+    def _fired(self, script: Sequence[int]) -> Tuple[int, ...]:
+        """The amounts after a script, in the order of the vertices."""
+        return tuple(held + sum(count * (script[u] - script[v]) for u, count in enumerate(row) if count)
+                     for v, (held, row) in enumerate(zip(self._amounts, self._near())))
+
+    def _verdict(self, program: Optional[Place]) -> Tuple[List[int], List[int]]:
+        """The script and the reduced divisor, in the order of the vertices. Past the limits the program is asked about an equivalent
+        divisor, with other dollars at q, since these change neither the script nor what is off q."""
+        from dollar.commands import judge
+        from dollar.divisors import level
+
+        amounts, more = list(self._amounts), 0
+        if any(abs(amount) > MOST_AMOUNT for amount in amounts):
+            amounts[self._q], more = amounts[self._q] - self.degree, self.degree
+        within, first = level(self._with(tuple(amounts)))
+        verdict = judge(within, program=program)
+        script, reduced = [one + other for one, other in zip(first, verdict.script.values())], [*verdict.reduced.values()]
+        reduced[self._q] += more
+        return [times - script[self._q] for times in script], reduced
+
+    def reduced(self, q: Optional[Vertex] = None, *, program: Optional[Place] = None) -> Table:
         """The divisor that is equivalent to this one and reduced at q, which is the table's if no other is given.
 
         >>> Table([[0, 1], [1, 0]], [2, -1]).reduced(1).amounts
         (0, 1)
         """
-        from dollar.commands import judge
-
         table = self._with(self._amounts, self._q if q is None else self._vertices.place(q))
-        return table._with(tuple(judge(table, program).reduced.values()))
+        return table._with(tuple(table._verdict(program)[1]))
 
-    def is_reduced(self, program: Optional[Place] = None) -> bool:
-        """Whether the divisor is reduced at q.
+    def is_reduced(self) -> bool:
+        """Whether the divisor is reduced at q: nobody off q owes, and all burns.
 
         >>> Table([[0, 1], [1, 0]], [2, -1]).is_reduced(), Table([[0, 1], [1, 0]], [1, 0]).is_reduced()
         (False, True)
         """
-        return self.reduced(program=program)._amounts == self._amounts
+        off_q = self._amounts[:self._q] + self._amounts[self._q + 1:]
+        return min(off_q, default=0) >= 0 and len(self.burning_order()) == len(self._amounts)
 
     def burning_order(self) -> List[Any]:
         """The vertices in the order in which they burn from q: each the first of those that more edges join to burnt ones than they have
@@ -413,9 +459,9 @@ class Table(AbstractMapping[str, Any]):
         >>> ring.burning_order()
         [0, 1, 3]
         """
-        return checks.burnt(self, self.divisor)
+        return checks.burnt(self, self._amounts)
 
-    def is_equivalent(self, other: Union[Table, Dollars], program: Optional[Place] = None) -> bool:
+    def is_equivalent(self, other: Union[Table, Dollars], *, program: Optional[Place] = None) -> bool:
         """Whether some script leads from this divisor to the other, which is a table on the same graph, or amounts.
 
         >>> Table([[0, 1], [1, 0]], [2, -1]).is_equivalent([0, 1]), Table([[0, 1], [1, 0]], [2, -1]).is_equivalent([0, 0])
@@ -423,44 +469,37 @@ class Table(AbstractMapping[str, Any]):
         """
         return self._script_to(other, program) is not None
 
-    def script_to(self, other: Union[Table, Dollars], program: Optional[Place] = None) -> Pairs:
+    def script_to(self, other: Union[Table, Dollars], *, program: Optional[Place] = None) -> Pairs:
         """The script that leads from this divisor to the other and is 0 at q. A ValueError if they are not equivalent.
 
         >>> table = Table([[0, 1], [1, 0]], [2, -1])
-        >>> table.script_to([0, 1])
-        {0: 0, 1: -2}
-        >>> checks.fired(table, table.script_to([0, 1]))
-        {0: 0, 1: 1}
+        >>> table.script_to([0, 1]), table.fire(table.script_to([0, 1])).amounts
+        ({0: 0, 1: -2}, (0, 1))
         """
         script = self._script_to(other, program)
         if script is None:
-            raise ValueError("the divisors are not equivalent, so no script leads from one to the other")
+            raise ValueError("the divisors are not equivalent, so no script leads to %r" % (other,))
         return self._vertices.keyed(script)
 
-    def _script_to(self, other: Union[Table, Dollars], program: Optional[Place]) -> Optional[Tuple[int, ...]]:
-        """The script, in the order of the vertices, by the verdicts on both; None if they lead to two reduced divisors."""
-        from dollar.sweeps import judge_all
-
-        there = self._like(other)
-        if sum(there) != self.degree:
+    def _script_to(self, other: Union[Table, Dollars], program: Optional[Place]) -> Optional[List[int]]:
+        """The script, in the order of the vertices, which is that of the difference; None if that is not equivalent to 0."""
+        difference = self - other
+        if difference.degree:
             return None
-        one, two = judge_all(self, program, divisors=[self._amounts, there], errors="raise")
-        if one.reduced != two.reduced:
-            return None
-        return tuple(here - back for here, back in zip(one.script.values(), two.script.values()))
+        script, reduced = difference._verdict(program)
+        return None if any(reduced) else script
 
-    def rank(self, program: Optional[Place] = None) -> int:
+    def rank(self, *, program: Optional[Place] = None) -> int:
         """The rank of the divisor; -1 if it can't be won. It is a Fault, `too many trials`, if both ranks of Riemann-Roch are past the
-        limits.
+        limits. For many divisors `rr_all` has their ranks at a hundredth of the cost.
 
         >>> Table([[0, 3], [3, 0]], [2, 2]).rank()
         2
         """
         from dollar.commands import rr
+        from dollar.divisors import level
 
-        rank = rr(self, program).rank
-        assert rank is not None
-        return rank
+        return rr(level(self)[0], program=program).rank
 
     def effective_divisors(self, degree: int) -> EffectiveDivisors:
         """The effective divisors of a degree on the graph, as tables, in the order of lists; its `count` is their number.
@@ -473,11 +512,27 @@ class Table(AbstractMapping[str, Any]):
 
         return EffectiveDivisors(self, whole(degree, "the degree"))
 
-    def linear_system(self, program: Optional[Place] = None) -> LinearSystem:
-        """The effective divisors that are equivalent to this one, as tables, by one sweep; its `count` is the number of verdicts that takes.
+    def reduced_divisors(self, degree: int, *, winnable: bool = False) -> ReducedDivisors:
+        """The divisors of a degree that are reduced at q, as tables one by one: one of each class. With `winnable` only those that can be
+        won. The `count` of classes is known before: it is the number of spanning trees.
+
+        >>> triangle = Table([[0, 1, 1], [1, 0, 1], [1, 1, 0]])
+        >>> found = triangle.reduced_divisors(0)
+        >>> found.count, [table.amounts for table in found]
+        (3, [(0, 0, 0), (-1, 0, 1), (-1, 1, 0)])
+        >>> [table.amounts for table in triangle.reduced_divisors(0, winnable=True)]
+        [(0, 0, 0)]
+        """
+        from dollar.divisors import ReducedDivisors
+
+        return ReducedDivisors(self, whole(degree, "the degree"), winnable)
+
+    def linear_system(self, *, program: Optional[Place] = None) -> LinearSystem:
+        """The effective divisors that are equivalent to this one, as tables, by one sweep over all effective divisors of the degree, whose
+        number is `candidates`.
 
         >>> found = Table([[0, 1, 1], [1, 0, 1], [1, 1, 0]], [2, 0, 0]).linear_system()
-        >>> found.count, [table.amounts for table in found]
+        >>> found.candidates, [table.amounts for table in found]
         (6, [(0, 1, 1), (2, 0, 0)])
         """
         from dollar.divisors import LinearSystem
@@ -487,18 +542,23 @@ class Table(AbstractMapping[str, Any]):
     def _like(self, other: Union[Table, Dollars]) -> Tuple[int, ...]:
         """The amounts of a divisor on the same graph: a table, or amounts as a table takes them."""
         if isinstance(other, Table):
-            if other._graph() != self._graph():
+            if other._kept is not self._kept and other._graph() != self._graph():
                 raise ValueError("the two divisors are on different graphs")
             return other._amounts
         return self._vertices.amounts(other)
 
-    def __add__(self, other: Union[Table, Dollars]) -> Table:
+    def __add__(self, other: Union[Table, Dollars, Literal[0]]) -> Table:
         """The sum of two divisors on the graph; with q as here.
 
         >>> table = Table([[0, 1], [1, 0]], [2, -1])
         >>> (table + [1, 1]).amounts, (table - {0: 2}).amounts, (3 * table).amounts, (-table).amounts
         ((3, 0), (0, -1), (6, -3), (-2, 1))
+        >>> sum([table, table]).amounts
+        (4, -2)
         """
+        # `sum` begins with 0, which is the divisor without dollars.
+        if isinstance(other, int) and other == 0:
+            return self
         return self._with(tuple(map(operator.add, self._amounts, self._like(other))))
 
     __radd__ = __add__
@@ -539,21 +599,38 @@ class Table(AbstractMapping[str, Any]):
         raise KeyError(member)
 
     def to_dict(self) -> Dict[str, Any]:
-        """The members of a table file."""
+        """The members of a table file.
+
+        >>> table = Table([[0, 1], [1, 0]], [2, -1])
+        >>> table.to_dict()
+        {'vertices': ['0', '1'], 'edges': [['0', '1', 1]], 'amounts': [2, -1], 'q': '0'}
+        >>> table.to_json()
+        '{"vertices": ["0", "1"], "edges": [["0", "1", 1]], "amounts": [2, -1], "q": "0"}'
+        """
         return dict(self)
 
     def to_json(self) -> str:
-        """The table as a table file has it, in one line without its end."""
-        return json.dumps(self.to_dict())
+        """The table as a table file has it, in one line without its end; `help(Table.to_dict)` has an example."""
+        # A sweep over many tables of a few graphs writes each graph once.
+        if self._q not in self._kept:
+            graph = json.dumps({"vertices": self["vertices"], "edges": self["edges"]})
+            self._kept[self._q] = graph[:-1] + ', "amounts": ', ', "q": %s}' % json.dumps(self["q"])
+        before, after = self._kept[self._q]
+        return "%s%s%s" % (before, list(self._amounts), after)
 
     def write(self, file: Place) -> None:
-        """Writes a table file."""
+        """Writes a table file; `help(Table.read)` has an example."""
         with open(file, "w", encoding="utf-8") as text:
             text.write(self.to_json() + "\n")
 
     def to_networkx(self) -> Any:
         """The graph as a MultiGraph of networkx, whose nodes are the vertices, each with its `amount`; the graph has `q`. So the same
-        table can be made of it: `Table(table.to_networkx())`, with the same `names`."""
+        table can be made of it, with the same `names`.
+
+        >>> table = Table([[0, 2], [2, 0]], [3, -1], 1)
+        >>> table.to_networkx().number_of_edges(), Table(table.to_networkx()) == table  # doctest: +SKIP
+        (2, True)
+        """
         graph = importlib.import_module("networkx").MultiGraph(q=self.q)
         for vertex, amount in self.divisor.items():
             graph.add_node(vertex, amount=amount)
@@ -561,11 +638,15 @@ class Table(AbstractMapping[str, Any]):
         return graph
 
     def to_sage(self) -> Any:
-        """The amounts as a SandpileDivisor of Sage, on the Sandpile of the graph, whose sink is q."""
+        """The amounts as a SandpileDivisor of Sage, on the Sandpile of the graph, whose sink is q.
+
+        >>> Table([[0, 2], [2, 0]], [3, -1], 1).to_sage().rank()  # doctest: +SKIP
+        1
+        """
         sandpiles = importlib.import_module("sage.sandpiles.all")
         return sandpiles.SandpileDivisor(sandpiles.Sandpile(checks.edges(self), self.q), dict(self.divisor))
 
-    def serve(self, seats: Optional[int] = None, *, cap: Optional[int] = None, workers: Optional[int] = None,
+    def serve(self, *, seats: Optional[int] = None, cap: Optional[int] = None, workers: Optional[int] = None,
               patience: Optional[float] = 20.0, program: Optional[Place] = None, keep: Optional[Place] = None) -> Session:
         """A session on the table, or with `seats` one for many people; `help(dollar.Session)` explains the rest.
 
@@ -580,7 +661,7 @@ class Table(AbstractMapping[str, Any]):
     def _with(self, amounts: Tuple[int, ...], q: Optional[int] = None) -> Table:
         """The table with other amounts, and with the vertex at another place as q."""
         other = object.__new__(Table)
-        other._vertices, other._edges, other._amounts = self._vertices, self._edges, amounts
+        other._vertices, other._edges, other._kept, other._amounts = self._vertices, self._edges, self._kept, amounts
         other._q = self._q if q is None else q
         return other
 
@@ -667,7 +748,11 @@ def shown_name(file: Place) -> str:
 
 
 def example(name: str) -> Table:
-    """The table of an example, by the name of its file in the folder `examples`."""
+    """The table of an example, by the name of its file in the folder `examples`.
+
+    >>> example("triangle").amounts
+    (2, -1, -1)
+    """
     file = EXAMPLES / (name + ".json")
     if not file.is_file():
         raise FileNotFoundError("there is no example %s beside this package: %s" % (name, file))

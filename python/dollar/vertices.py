@@ -33,6 +33,14 @@ def whole(number: object, what: str) -> int:
     raise TypeError("%s is not a whole number: %r" % (what, number))
 
 
+def within(number: object, what: str, least: int, most: int) -> int:
+    """A whole number that is within limits. Another one is a ValueError that has it and the limits."""
+    found = whole(number, what)
+    if not least <= found <= most:
+        raise ValueError("%s: %d, and only %d to %d is possible" % (what, found, least, most))
+    return found
+
+
 def is_whole(thing: object) -> bool:
     """Whether a thing is a whole number."""
     try:
@@ -59,10 +67,13 @@ class Vertices:
 
     __slots__ = ("are_names", "given", "names", "places", "_texts")
 
-    def __init__(self, given: Iterable[Vertex], names: Callable[[Any], str] = str) -> None:
+    def __init__(self, given: Iterable[Vertex], names: Optional[Callable[[Any], str]] = None) -> None:
         self.given = tuple(given)
-        self.names = tuple(named(self.given, names))
         self.places = {vertex: place for place, vertex in enumerate(self.given)}
+        if len(self.places) != len(self.given):
+            twice = next(vertex for place, vertex in enumerate(self.given) if self.places[vertex] != place)
+            raise ValueError("the vertex %r is given twice" % (twice,))
+        self.names = tuple(named(self.given, names))
         self.are_names = self.given == self.names
         self._texts: Optional[Dict[str, List[int]]] = None
 
@@ -109,24 +120,22 @@ class Vertices:
         except TypeError:
             return ""
 
-    def amounts(self, given: Any) -> Tuple[int, ...]:
-        """Amounts in the order of the vertices. A vertex that a dict does not have has 0."""
-        if isinstance(given, (set, frozenset, str, bytes, bytearray, memoryview)) or given is None:
-            raise TypeError("amounts are a list in the order of the vertices, or a dict, and not %r" % (given,))
+    def amounts(self, given: Any, what: str = "amount") -> Tuple[int, ...]:
+        """Amounts in the order of the vertices, or other numbers, as the lendings of a script. A vertex that a dict does not have has 0."""
+        if isinstance(given, (set, frozenset, str, bytes, bytearray, memoryview)) or not (hasattr(given, "keys") or hasattr(given, "__iter__")):
+            raise TypeError("%ss are a list in the order of the vertices, or a dict, and not %r" % (what, given))
         if not hasattr(given, "keys"):
-            if not hasattr(given, "__iter__"):
-                raise TypeError("amounts are a list in the order of the vertices, or a dict, and not %r" % (given,))
             row = list(given)
             if len(row) != len(self.names):
-                raise ValueError("there are %d amounts for %d vertices" % (len(row), len(self.names)))
-            return tuple(whole(amount, "the amount of vertex %s" % name) for name, amount in zip(self.names, row))
+                raise ValueError("there are %d %ss for %d vertices" % (len(row), what, len(self.names)))
+            return tuple(whole(amount, "the %s of vertex %s" % (what, name)) for name, amount in zip(self.names, row))
         found: Dict[int, int] = {}
         # A series of pandas may take a key for a place; what stands beside its label is what was meant.
         for key, amount in given.items() if hasattr(given, "items") else ((key, given[key]) for key in given.keys()):
             place = self.place(key)
             if place in found:
-                raise ValueError("there are two amounts for vertex %s" % self.names[place])
-            found[place] = whole(amount, "the amount of vertex %s" % self.names[place])
+                raise ValueError("there are two %ss for vertex %s" % (what, self.names[place]))
+            found[place] = whole(amount, "the %s of vertex %s" % (what, self.names[place]))
         return tuple(found.get(place, 0) for place in range(len(self.names)))
 
     def keyed(self, amounts: Iterable[int]) -> Pairs:
@@ -201,15 +210,20 @@ def by_name(amounts: Mapping[Any, int]) -> Dict[str, int]:
     return {vertices.names[vertices.places[vertex]]: amount for vertex, amount in amounts.items()}
 
 
-def named(vertices: Sequence[Vertex], names: Callable[[Any], str]) -> List[str]:
-    """The names of the vertices, which are all different."""
-    found: Dict[str, Vertex] = {}
-    for vertex in vertices:
-        name = names(vertex)
+def named(vertices: Sequence[Vertex], names: Optional[Callable[[Any], str]] = None) -> List[str]:
+    """The names of the vertices, which are all different: their texts, or v0, v1 and so on if these can't be names; or those that
+    `names` gives.
+
+    >>> named(["New York", "Rome"]), named([0, 1])
+    (['v0', 'v1'], ['0', '1'])
+    """
+    found = [(names or str)(vertex) for vertex in vertices]
+    if names is None:
+        return found if all(map(NAME.fullmatch, found)) and len({*found}) == len(found) else ["v%d" % place for place in range(len(found))]
+    for place, name in enumerate(found):
         if not isinstance(name, str) or not NAME.fullmatch(name):
-            raise ValueError("vertex %s has no name of 1 to 16 letters from a to z or A to Z, digits or _: give them by the parameter "
-                             "`names`, a function from a vertex to its name" % (vertex,))
-        if name in found:
-            raise ValueError("the vertices %r and %r have the same name" % (found[name], vertex))
-        found[name] = vertex
-    return list(found)
+            raise ValueError("the parameter `names` gives vertex %s the name %r: a name has 1 to 16 letters from a to z or A to Z, digits or _"
+                             % (vertices[place], name))
+        if name in found[:place]:
+            raise ValueError("the vertices %r and %r have the same name, %s" % (vertices[found.index(name)], vertices[place], name))
+    return found

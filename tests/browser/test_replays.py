@@ -261,7 +261,7 @@ def with_strangers(browser, folder):
                  "[" * 100000, '{"vertices":["a"],"edges":[],"amounts":[NaN],"q":"a"}', "\0\1",
                  '{"vertices":["a"],"edges":[["a","z",1]],"amounts":[1],"q":"a"}'):
         for words in ([steps], [steps, history], ["--greedy", "3"]):
-            refused(["replay", written(folder, "t.json", text), *words], "dollar replay ")
+            refused(["replay", written(folder, "t.json", text), *words], "dollar replay: ")
     for words in ([TRIANGLE, written(folder, "bad", "1 lend <b>\n")],
                   [TRIANGLE, steps, written(folder, "two", "0 won\n1 won\n")],
                   [TRIANGLE, steps, written(folder, "odd", "0 <script>\n")], ["/nowhere", steps], [TRIANGLE, "/nowhere"]):

@@ -289,7 +289,7 @@ def command_line(folder):
     for words in ([bad], ["/nowhere"], [folder], [bad, "--class", "3"], [cube, "--places", bad],
                   [cube, "--class", "3", "--host", "198.51.100.7"], [written(folder, "bytes", "\0")]):
         done = subprocess.run([*PLAY, *words], capture_output=True, text=True, stdin=subprocess.DEVNULL, timeout=60)
-        fine = (done.returncode, done.stdout, done.stderr.count("\n")) == (1, "", 1) and done.stderr.startswith("dollar board ")
+        fine = (done.returncode, done.stdout, done.stderr.count("\n")) == (1, "", 1) and done.stderr.startswith("board/play: ")
         expect(fine, f"board/play {words}: {done}")
     for words in (["--class", "0"], ["--class", "65"], ["--class", "x"], ["--port", "70000"], ["--host", "127.0.0.1"],
                   ["a", "b"], ["--class", "2", "--name", "a/b"], ["--rooms", "1"],

@@ -85,7 +85,7 @@ class OfAnswers(Test):
             mine[first] = 7
             self.assertEqual(verdict.script[first], 0)
         with self.assertRaises(TypeError):
-            dollar.rank(table, 1).loss[first] = 1
+            dollar.rank_test(table, 1).loss[first] = 1
         self.assertEqual(len(dollar.judge(table).burning), 3)
 
     def test_numbers_are_a_dict_too(self):
@@ -118,22 +118,18 @@ class OfAnswers(Test):
         self.assertEqual([entry.seat for entry in played.history], [1, 1])
         self.assertEqual((played.calls, played.faults, played.position), ([2, 0], {1: "the history is full"}, {"a": 2, "b": -1, "c": -1}))
         self.assertEqual(str(played).splitlines()[-3:], ["position a=2 b=-1 c=-1", "seat 1 calls 2", "seat 2 calls 0"])
-        with self.assertRaisesRegex(Fault, "too many seats"):
+        with self.assertRaisesRegex(ValueError, "the number of scripts: 65, and only 1 to 64 is possible"):
             dollar.party(TRIANGLE, *[["claim"]] * 65)
 
     def test_faults(self):
         with self.assertRaises(Fault) as caught:
             dollar.judge(LOOPING)
         self.assertEqual((caught.exception.text, caught.exception.status), ("edge 0 is a loop", 3))
-        with self.assertRaises(Fault) as caught:
-            dollar.rank(TRIANGLE, -1)
-        self.assertEqual(caught.exception.status, 2)
-        self.assertTrue("\n" not in caught.exception.text)
 
     def test_rows_of_refused_tables_have_the_same_shape(self):
         tables = [TRIANGLE, LOOPING, dict(TRIANGLE, amounts=[0, 0, -1])]
         for rows, names in ((list(dollar.judge_all(tables)), ["winnable", "script", "reduced"]),
-                            (list(dollar.rank_all(tables, 1)), ["holds", "degree", "loss"]),
+                            (list(dollar.rank_test_all(tables, 1)), ["holds", "degree", "loss"]),
                             (list(dollar.rr_all(tables)), ["degree", "genus", "rank", "dual"])):
             row = rows[1]
             self.assertTrue(isinstance(row, Refused))
@@ -153,8 +149,28 @@ class OfAnswers(Test):
             self.assertEqual(len(frame), len(order))
             self.assertEqual(frame.refused.dropna().tolist(), ["edge 0 is a loop"])
             self.assertEqual(sorted(frame["rank"].dropna()), sorted([0, -1][:len(order) - 1]))
+            # Numbers stay whole beside what is refused.
+            whole = frame.convert_dtypes()
+            self.assertEqual({str(whole[name].dtype) for name in ("degree", "genus", "rank", "dual")}, {"Int64"})
+        # If both ranks are past the limits, the degree and the genus are there, and the reason.
+        complete = dollar.Table([[int(u != v) for v in range(16)] for u in range(16)], [7] * 15 + [6])
+        row, = dollar.rr_all([complete])
+        self.assertEqual((row.degree, row.genus, row.rank, row.refused, row.as_dict()),
+                         (111, 105, None, "too many trials", {"degree": 111, "genus": 105, "refused": "too many trials"}))
+        with self.assertRaisesRegex(Fault, "table 0: too many trials: only the degree 1000 and 200000 trials are possible"):
+            list(dollar.rr_all([complete], errors="raise"))
+        place = self.folder() / "rows.csv"
+        dollar.to_csv(dollar.rr_all([complete]), place)
+        self.assertEqual(place.read_text(), "table,degree,genus,rank,dual,refused\n0,111,105,,,too many trials\n")
+        columns = dollar.rr_all([TRIANGLE] * 3).columns()
+        frame = pandas.DataFrame(columns)
+        self.assertEqual((list(frame.columns), len(frame), str(frame["rank"].dtype), list(columns), columns.count),
+                         (["degree", "genus", "rank", "dual"], 3, "int64", ["degree", "genus", "rank", "dual"], 3))
+        # From 0 0 -1 first c borrows, which leaves -1 -1 1, and then b, which leaves -2 1 0.
+        verdicts = pandas.DataFrame(dollar.judge_all(dollar.Table(TRIANGLE), divisors=[[2, -1, -1], [0, 0, -1]]).columns())
+        self.assertEqual((verdicts.winnable.tolist(), verdicts.script_b.tolist(), len(verdicts.columns)), ([True, False], [-1, -1], 7))
         self.assertEqual(list(pandas.DataFrame(dollar.judge_all(tables[:1])).columns), ["winnable", "script", "reduced"])
-        self.assertEqual(pandas.DataFrame(dollar.rank_all(tables[:1], 1)).loss.tolist(), [{"a": 0, "b": 0, "c": 1}])
+        self.assertEqual(pandas.DataFrame(dollar.rank_test_all(tables[:1], 1)).loss.tolist(), [{"a": 0, "b": 0, "c": 1}])
 
     def test_csv(self):
         folder = self.folder()
@@ -164,7 +180,7 @@ class OfAnswers(Test):
             "rank": "table,holds,degree,loss,refused\n0,false,1,a=0 b=0 c=1,\n1,,,,edge 0 is a loop\n",
             "rr": "table,degree,genus,rank,dual,refused\n0,0,1,0,0,\n1,,,,,edge 0 is a loop\n",
         }
-        for name, rows in (("judge", dollar.judge_all(tables)), ("rank", dollar.rank_all(tables, 1)), ("rr", dollar.rr_all(tables))):
+        for name, rows in (("judge", dollar.judge_all(tables)), ("rank", dollar.rank_test_all(tables, 1)), ("rr", dollar.rr_all(tables))):
             self.assertEqual(dollar.to_csv(rows, str(folder / name)), 2)
             self.assertEqual((folder / name).read_text(), wanted[name])
             self.assertEqual(len(list(csv.DictReader(io.StringIO(wanted[name])))), 2)

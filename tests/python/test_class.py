@@ -62,12 +62,12 @@ def looks_kept(lines):
 class OfAClass(Test):
     def test_a_class_makes_one_history(self):
         lines, draws = [], {seat: random.Random(seat) for seat in range(1, PUPILS + 1)}
-        session = TABLE.serve(PUPILS)
+        session = TABLE.serve(seats=PUPILS)
         play(session, draws, lines)
         session.child.kill()
         self.assertEqual(session.close(), (-signal.SIGKILL, ""))
         # A new program is asked what made entries, and goes on where the first was.
-        session = TABLE.serve(PUPILS)
+        session = TABLE.serve(seats=PUPILS)
         for seat, line, answer in entries_of(lines):
             self.assertEqual(str(session.ask_seat(seat, line)), str(answer))
         play(session, draws, lines)

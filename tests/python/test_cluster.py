@@ -5,6 +5,7 @@ import io
 import json
 import os
 import random
+import re
 import signal
 import subprocess
 import sys
@@ -47,7 +48,7 @@ def csv_of(kind, answers):
     """A CSV file of the package for these answers of the program."""
     file = io.StringIO()
     read = {"judge": dollar.answers.verdict_of, "rank": dollar.answers.rank_test_of, "rr": dollar.answers.riemann_roch_of}[kind]
-    refused = {"judge": dollar.RefusedVerdict, "rank": dollar.RefusedRankTest, "rr": dollar.RefusedRiemannRoch}[kind]
+    refused = {"judge": dollar.answers.RefusedVerdict, "rank": dollar.answers.RefusedRankTest, "rr": dollar.answers.RefusedRiemannRoch}[kind]
     dollar.to_csv((refused(refused=text[8:]) if text.startswith("refused ") else read(text) for text in answers.splitlines()), file)
     return file.getvalue()
 
@@ -158,10 +159,52 @@ class OfAClusterOfTwo(Test):
         self.assertTrue(after.startswith(before))
         self.assertEqual(after.count(b"\n"), 201)
 
-    def test_it_says_that_a_sweep_is_small(self):
-        few = self.place / "few.txt"
-        few.write_text("".join(self.tables[:10]))
-        done = subprocess.run([sys.executable, "-m", "dollar", "sweep", "--processes", "1", "judge", few, self.place / "few.csv"],
-                              stderr=subprocess.PIPE, text=True, env=dict(os.environ, DOLLAR=program()))
-        self.assertEqual(done.returncode, 0)
-        self.assertIn("too little for a cluster, and one run of `dollar judge` with --lines does it sooner", done.stderr)
+    def begun(self, *words, **more):
+        """A process of Dask, which is ended after the test."""
+        child = subprocess.Popen([sys.executable, "-m", "distributed.cli." + words[0], *words[1:], "--no-dashboard"], stdout=subprocess.DEVNULL,
+                                 stderr=subprocess.PIPE, text=True, cwd=self.place, **more)
+        self.addCleanup(child.communicate)
+        self.addCleanup(child.kill)
+        return child
+
+    def test_each_end_of_a_cluster_is_told_in_a_line(self):
+        scheduler = self.begun("dask_scheduler", "--port", "0")
+        address = next(found[0] for found in (re.search(r"tcp://\S+:\d+", line) for line in scheduler.stderr) if found)
+        impatient = "import sys; from dollar import cluster, __main__; cluster.PATIENCE = 1.0; sys.exit(__main__.main(sys.argv[1:]))"
+        words = [sys.executable, "-c", impatient, "sweep", "--scheduler", address, "judge", self.file, self.place / "ends.csv"]
+
+        def swept(then):
+            child = subprocess.Popen(words, stderr=subprocess.PIPE, text=True, env=dict(os.environ, DOLLAR=program()))
+            first = child.stderr.readline()
+            then()
+            return first, child.communicate(timeout=60)[1], child.returncode
+
+        waits = "python3 -m dollar sweep: the scheduler has no worker, and one is waited for: `dask worker ADDRESS` begins one\n"
+        worker = ["dask_worker", address, "--no-nanny", "--nthreads", "1"]
+        # Nobody has the package, then nobody is there any more.
+        bare = {name: text for name, text in os.environ.items() if name != "PYTHONPATH"}
+        told = swept(lambda: self.begun(*worker, env=bare))
+        self.assertEqual(told, (waits, "python3 -m dollar sweep: a worker has no module named 'dollar': install it on each machine, "
+                                "and the same command goes on\n", 1))
+
+    def test_a_scheduler_that_is_gone(self):
+        scheduler = self.begun("dask_scheduler", "--port", "0")
+        address = next(found[0] for found in (re.search(r"tcp://\S+:\d+", line) for line in scheduler.stderr) if found)
+        child = subprocess.Popen([sys.executable, "-m", "dollar", "sweep", "--scheduler", address, "judge", self.file, self.place / "gone.csv"],
+                                 stderr=subprocess.PIPE, text=True, env=dict(os.environ, DOLLAR=program()))
+        self.assertIn("Client", next(line for line in scheduler.stderr if "Client" in line))
+        scheduler.kill()
+        said = child.communicate(timeout=60)[1]
+        self.assertEqual((said, child.returncode),
+                         ("python3 -m dollar sweep: the scheduler is gone; the same command goes on after the last row\n", 1))
+
+    def test_it_says_what_is_sooner_than_a_cluster(self):
+        few = cluster.Sweep("judge", ["judge", "--lines", "/dev/stdin"], program(), str(self.file), 0)
+        for seconds, lines, sooner in ((0.2, 10, "one run of `dollar judge` with --lines"), (9.0, 10, "`--processes 4` without a cluster"),
+                                       (2.0, 200_000, "one run of `dollar judge` with --lines"), (11.0, 10, None)):
+            pace = cluster.Pace()
+            pace.took(lines, seconds)
+            with mock.patch.object(os, "cpu_count", lambda: 4):
+                said = cluster.small(few, pace)
+            self.assertEqual(said, sooner and "the program took %.1f s for these lines: that is too little for a cluster, and %s does it sooner"
+                             % (seconds, sooner))

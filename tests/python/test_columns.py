@@ -49,15 +49,15 @@ class OfColumns(Test):
         with given():
             found = dollar.judge_all(table, divisors=rows).columns()
             verdicts = list(dollar.judge_all(table, divisors=rows))
-            self.assertEqual(len(found), len(rows))
+            self.assertEqual(found.count, len(rows))
             self.assertEqual(list(map(bool, found.winnable)), [verdict.winnable for verdict in verdicts])
             self.assertEqual((list(found.script), list(found.reduced)), ([*table.vertices], [*table.vertices]))
             for vertex in table.vertices:
                 self.assertEqual(ints(found.script[vertex]), [verdict.script[vertex] for verdict in verdicts])
                 self.assertEqual(ints(found.reduced[vertex]), [verdict.reduced[vertex] for verdict in verdicts])
             for degree in (0, 2):
-                found = dollar.rank_all(table, degree, divisors=rows[:500]).columns()
-                tests = list(dollar.rank_all(table, degree, divisors=rows[:500]))
+                found = dollar.rank_test_all(table, degree, divisors=rows[:500]).columns()
+                tests = list(dollar.rank_test_all(table, degree, divisors=rows[:500]))
                 self.assertEqual(list(map(bool, found.holds)), [test.holds for test in tests])
                 for vertex in table.vertices:
                     self.assertEqual(ints(found.loss[vertex]), [0 if test.holds else test.loss[vertex] for test in tests])
@@ -81,7 +81,7 @@ class OfColumns(Test):
     @each([with_numpy, without_numpy])
     def test_the_kind_that_is_asked_for(self, given):
         numpy, rows = needed("numpy"), divisors(RING, 50, 1)
-        asks = [(lambda: dollar.judge_all(RING, divisors=rows), ["winnable"]), (lambda: dollar.rank_all(RING, 1, divisors=rows), ["holds"]),
+        asks = [(lambda: dollar.judge_all(RING, divisors=rows), ["winnable"]), (lambda: dollar.rank_test_all(RING, 1, divisors=rows), ["holds"]),
                 (lambda: dollar.rr_all(RING, divisors=rows), ["degree", "genus", "rank", "dual"])]
         with given():
             for ask, names in asks:
@@ -125,7 +125,7 @@ class OfColumns(Test):
         with given():
             rows = divisors(PETERSEN, 3_000)
             rows[2_500] = [1_000_001] + [0] * 9
-            for call in (dollar.judge_all, dollar.rr_all, lambda table, **options: dollar.rank_all(table, 1, **options)):
+            for call in (dollar.judge_all, dollar.rr_all, lambda table, **options: dollar.rank_test_all(table, 1, **options)):
                 with self.assertRaisesRegex(Fault, "amount of vertex 0") as caught:
                     call(PETERSEN, divisors=rows).columns()
                 self.assertEqual(caught.exception.table, 2_500)
@@ -138,7 +138,7 @@ class OfColumns(Test):
                 dollar.rr_all(complete, divisors=[[0] * 16, [7] * 15 + [6]]).columns()
             self.assertEqual(caught.exception.table, 1)
             with self.assertRaisesRegex(Fault, "too many trials") as caught:
-                dollar.rank_all(ALONE, 2_000, divisors=[[3_000], [1_000]]).columns()
+                dollar.rank_test_all(ALONE, 2_000, divisors=[[3_000], [1_000]]).columns()
             self.assertEqual(caught.exception.table, 1)
             with self.assertRaisesRegex(ValueError, "for `divisors` of one table"):
                 dollar.judge_all([PETERSEN]).columns()
@@ -146,7 +146,7 @@ class OfColumns(Test):
             next(begun)
             with self.assertRaisesRegex(ValueError, "the sweep has begun"):
                 begun.columns()
-            self.assertEqual((len(dollar.judge_all(PETERSEN, divisors=[]).columns()), len(dollar.rr_all([]).columns())), (0, 0))
+            self.assertEqual((dollar.judge_all(PETERSEN, divisors=[]).columns().count, dollar.rr_all([]).columns().count), (0, 0))
 
     def test_a_source_that_takes_its_time(self):
         def slowly():
@@ -156,7 +156,7 @@ class OfColumns(Test):
                 yield [place % 5, 0, 0, 0]
 
         self.assertEqual(ints(dollar.rr_all(RING, divisors=slowly()).columns().degree), [place % 5 for place in range(9_000)])
-        self.assertEqual(len(dollar.rr_all(Table(RING, row) for row in itertools.islice(slowly(), 2_100)).columns()), 2_100)
+        self.assertEqual(dollar.rr_all(Table(RING, row) for row in itertools.islice(slowly(), 2_100)).columns().count, 2_100)
 
     def test_four_numbers_of_many_tables(self):
         tables = [Table(RING, row) for row in divisors(RING, 200, 2)]
@@ -168,8 +168,8 @@ class OfColumns(Test):
         with given():
             for _ in range(2):
                 found = columns.VerdictColumns(RING._vertices, sweeps.numpy_or_none())
-                found.add("".join(line + "\n" for line in good).encode())
-                self.assertEqual(found.done(), 40)
+                found._add("".join(line + "\n" for line in good).encode())
+                self.assertEqual(found._done(), 40)
             rng, refused = random.Random(2), 0
             for _ in range(3_000):
                 lines = list(good)
@@ -179,8 +179,8 @@ class OfColumns(Test):
                 lines[at] = line[:place] + rng.choice("0123456789-= vx\nw") + line[place + rng.randint(0, 1):]
                 found = columns.VerdictColumns(RING._vertices, sweeps.numpy_or_none())
                 try:
-                    found.add("".join(line + "\n" for line in lines).encode())
-                    found.done()
+                    found._add("".join(line + "\n" for line in lines).encode())
+                    found._done()
                 except (ValueError, Fault):
                     refused += 1
                     continue

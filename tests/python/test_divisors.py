@@ -120,7 +120,7 @@ class OfDivisors(Test):
             found = list(table.linear_system())
             self.assertEqual({each.amounts for each in found}, reached(found[0]))
             self.assertTrue(found[0].is_equivalent(table))
-            self.assertEqual(table.linear_system().count, table.effective_divisors(table.degree).count)
+            self.assertEqual(table.linear_system().candidates, table.effective_divisors(table.degree).count)
 
     def test_ranks_past_the_limits_of_one_side(self):
         # 30 dollars on the complete graph of ten vertices: the dual, of degree 40, is within the limits, and the rank is not.
@@ -132,9 +132,9 @@ class OfDivisors(Test):
         with self.assertRaisesRegex(Fault, "too many trials"):
             dollar.rr(Table(complete(16), [7] * 15 + [6]))
         path = Table([[0, 1], [1, 0]], [1500, 0])
-        self.assertEqual((str(dollar.rank(path, 1200)), str(dollar.rank(path, 1501))), ("rank at least 1200", "rank below 1501 at ?"))
+        self.assertEqual((str(dollar.rank_test(path, 1200)), str(dollar.rank_test(path, 1501))), ("rank at least 1200", "rank below 1501 at ?"))
         with self.assertRaisesRegex(ValueError, "no loss is given"):
-            dollar.rank(path, 1501).check()
+            dollar.rank_test(path, 1501).check()
 
     def test_rr_takes_what_a_file_may_be(self):
         folder = self.folder()
@@ -153,7 +153,7 @@ class OfDivisors(Test):
         rng, seen = random.Random(7), set()
         for _ in range(150):
             table = random_table(rng, 4)
-            test = dollar.rank(table, rng.randint(0, 3))
+            test = dollar.rank_test(table, rng.randint(0, 3))
             test.check()
             self.assertTrue(Game(table.to_dict()).is_rank(str(test), test.degree))
             seen.add(test.holds)

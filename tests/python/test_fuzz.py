@@ -1,7 +1,9 @@
 """Thousands of calls with what is nearly right: what is taken is what was meant, by a judgement that is written apart from the package, and
 all else is a TypeError, a ValueError or a Fault. And many divisors beside a program that is written apart."""
+import collections
 import decimal
 import fractions
+import itertools
 import os
 import random
 
@@ -206,6 +208,56 @@ class OfFuzz(Test):
                 self.assertRegex(fault.text, r"^line [123]: bad|^step [123]: no look")
             else:
                 self.assertEqual(len(found), 3)
+
+
+NUMBERS = [0, 1, 2, -1, 3, 17, 63, 64, 65, 1000, 65536, 65537, 2 ** 32, 10 ** 6, 10 ** 6 + 1, -10 ** 6, 10 ** 9, 10 ** 30, True, 1.0, 0.5, "1",
+           None, [1], b"1"]
+THINGS = ["a", "b", 0, 1, 2, None, "z", "", (0, 1), 5.5, object(), [], {}, set(), frozenset("ab"), [1, 2, 3], [0, 0], {"a": 1}, {0: 1}, {"z": 1},
+          {"a", "b"}, {7}, "abc", b"abc", range(3), iter([1, 2, 3]), [10 ** 7, 0, 0], ["look"], ["1 look", "1 commit"], ["1 rank 2"], [None],
+          "1 look"]
+# What is asked of two tables: a call by its name, and how many things it is given beside.
+METHODS = [("fire", 1), ("lend", 1), ("lend", 2), ("borrow", 1), ("borrow", 2), ("reduced", 1), ("place", 1), ("is_equivalent", 1), ("script_to", 1),
+           ("__add__", 1), ("__sub__", 1), ("__radd__", 1), ("__mul__", 1), ("effective_divisors", 1), ("reduced_divisors", 1), ("is_reduced", 0),
+           ("canonical", 0), ("residual", 0), ("burning_order", 0), ("linear_system", 0), ("rank", 0), ("rank", 1), ("serve", 1), ("to_json", 0)]
+FUNCTIONS = [("judge", 0), ("judge", 1), ("rank", 0), ("rank", 1), ("rank_test", 1), ("rr", 0), ("rehearse", 1), ("greedy", 1), ("party", 1),
+             ("party", 2), ("fired", 1), ("burnt", 1), ("edges", 0), ("joined", 2), ("flaw", 1), ("picture", 0), ("judge_all", 0), ("rr_all", 0),
+             ("rank_test_all", 1)]
+OPTIONS = ["seats", "cap", "workers", "patience", "degree", "divisors", "errors", "ahead", "winnable", "program", "names", "no_such"]
+# What a call may end with. An AttributeError or a LookupError would be a slip of the package, and so would an error from its depths.
+FINE = (TypeError, ValueError, Fault, FileNotFoundError)
+
+
+class OfWrongCalls(Test):
+    def test_no_call_ends_with_a_slip(self):
+        """Calls with whatever comes to hand: each answers, or says what is wrong with it."""
+        rng, ends = random.Random(SEED + 4), collections.Counter()
+        table = dollar.example("triangle")
+        tables = [table, Table(table, [10 ** 7, 0, -10 ** 7]), Table([[0, 70], [70, 0]]), table.to_dict(), dict(table, q="z"), Table([[0]])]
+
+        def some():
+            return rng.choice(NUMBERS if rng.random() < 0.4 else THINGS)
+
+        for _ in range(CALLS):
+            asked = rng.choice(tables)
+            options = {rng.choice(OPTIONS): some() for _ in range(rng.random() < 0.15)}
+            name, count = rng.choice(METHODS if isinstance(asked, Table) and rng.random() < 0.8 else FUNCTIONS)
+            call = getattr(asked, name) if (name, count) in METHODS and isinstance(asked, Table) and hasattr(asked, name) else None
+            given = [some() for _ in range(count)]
+            try:
+                if call is None:
+                    call, given = getattr(dollar, name, dollar.judge), [asked if rng.random() < 0.9 else some(), *given]
+                found = call(*given, **options)
+                if hasattr(found, "close"):
+                    found.close()
+                elif hasattr(found, "__next__") or hasattr(found, "amounts") and not isinstance(found, (dict, Table, dollar.Entry)):
+                    list(itertools.islice(found, 3))
+                ends["answered"] += 1
+            except FINE as error:
+                self.assertTrue(str(error), (name, given, options))
+                ends[type(error).__name__] += 1
+            except Exception as error:
+                self.fail("%r of %s: %s(%r, %r): %r" % (type(error), asked, name, given, options, error))
+        self.assertGreater(min(ends["answered"], ends["TypeError"] + ends["ValueError"]), CALLS // 10, ends)
 
 
 class OfManyDivisors(Test):

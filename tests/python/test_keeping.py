@@ -7,6 +7,7 @@ import signal
 import subprocess
 import sys
 import threading
+from unittest import mock
 
 import dollar
 from dollar import Ended, Entry, Session, Table
@@ -168,6 +169,56 @@ class OfAsyncSessions(Test):
         self.assertEqual(asyncio.run(play()), (0, ""))
         self.assertLess(threading.active_count(), 5)
 
+    def test_a_hundred_that_wait_stop_nothing(self):
+        silent = self.script("#!/bin/sh\nexec sleep 60\n")
+
+        async def play():
+            waiting = [await dollar.AsyncSession.open(TABLE, program=silent, patience=60) for _ in range(100)]
+            tasks = [asyncio.ensure_future(session.ask("look")) for session in waiting]
+            await asyncio.sleep(0.1)
+            async with dollar.AsyncSession(TABLE) as other:
+                told = await asyncio.wait_for(other.ask("look"), 5)
+            # The pool of the loop, by which names are looked up and files are read, has all its threads.
+            count = await asyncio.wait_for(asyncio.get_running_loop().run_in_executor(None, len, tasks), 5)
+            undone = sum(not task.done() for task in tasks)
+            for session in waiting:
+                session.session.child.kill()
+            return told.number, count, undone, {type(each) for each in await asyncio.gather(*tasks, return_exceptions=True)}
+
+        self.assertEqual(asyncio.run(play()), (0, 100, 100, {Ended}))
+
+    def test_a_kept_game_is_played_in_the_thread_of_the_session(self):
+        place = self.folder() / "game"
+        with Session(TABLE, keep=place) as session:
+            for _ in range(3):
+                session.ask("look")
+        threads = []
+
+        class Seen(Session):
+            def _go_on(self, keeping):
+                threads.append(threading.current_thread())
+                super()._go_on(keeping)
+
+        async def play():
+            async with dollar.AsyncSession(TABLE, keep=place) as session:
+                return len(session.session.kept), (await session.ask("claim")).number
+
+        with mock.patch.object(dollar.session, "Session", Seen):
+            self.assertEqual(asyncio.run(play()), (3, 3))
+        self.assertNotIn(threading.main_thread(), threads)
+        self.assertEqual(len(threads), 1)
+
+    def test_one_that_can_not_begin(self):
+        async def play(**options):
+            async with dollar.AsyncSession(TABLE, **options):
+                pass
+
+        for options, error, said in (({"seats": 65}, ValueError, "seats: 65, and only 1 to 64"),
+                                     ({"keep": "/nowhere/game"}, OSError, "/nowhere/game"),
+                                     ({"program": "/nowhere/dollar"}, dollar.ProgramNotFound, "names /nowhere/dollar")):
+            with self.assertRaisesRegex(error, said):
+                asyncio.run(play(**options))
+
 
 class OfJson(Test):
     @each([*GRAMMAR["replies"], *GRAMMAR["ordered"], "turns", *GRAMMAR["bad"]])
@@ -194,7 +245,7 @@ class OfJson(Test):
             child.stdin.flush()
             self.assertEqual(json.loads(child.stdout.readline()), wanted)
         said = child.communicate("nothing\n")[1]
-        self.assertEqual((child.returncode, said), (1, "dollar json: line 3: no answer of the program: 'nothing'\n"))
+        self.assertEqual((child.returncode, said), (1, "python3 -m dollar json: line 3: no answer of the program: 'nothing'\n"))
 
     def test_all_that_commands_print(self):
         cube, lines = EXAMPLES / "cube.json", EXAMPLES / "both_sides_cube.out"

@@ -57,12 +57,12 @@ REFUSED = [
     (lambda: dollar.rehearse(TRIANGLE, ["1 look\n2 lend a"]), ValueError, "line 0 has a newline in it"),
     (lambda: dollar.rehearse(TRIANGLE, ["1 look", None]), TypeError, "line 1 is a text, and not None"),
     (lambda: dollar.party(TRIANGLE, ["look\nlend a"]), ValueError, "line 0 has a newline in it"),
-    (lambda: dollar.party(TRIANGLE), ValueError, "a party has a script at least"),
-    (lambda: dollar.rank(TRIANGLE, -1), Fault, "the degree of a rank test is at least 0, and not -1"),
+    (lambda: dollar.party(TRIANGLE), ValueError, "the number of scripts: 0, and only 1 to 64 is possible"),
+    (lambda: dollar.rank_test(TRIANGLE, -1), ValueError, "the degree: -1, and only 0 to 4294967295 is possible"),
     (lambda: Table(TRIANGLE) + [1, 2], ValueError, "there are 2 amounts for 3 vertices"),
     (lambda: Table(TRIANGLE) + Table([[0, 1, 1], [1, 0, 1], [1, 1, 0]]), ValueError, "the two divisors are on different graphs"),
     (lambda: 1.5 * Table(TRIANGLE), TypeError, "how often a divisor is taken is not a whole number: 1.5"),
-    (lambda: dollar.judge_all([], ahead=0), ValueError, "at least one table is taken ahead"),
+    (lambda: dollar.judge_all([], ahead=0), ValueError, "ahead: 0, and only 1 to "),
 ]
 
 
@@ -155,8 +155,8 @@ class OfMeanings(Test):
         table = Table(tuples, [2, -1], names=lambda vertex: "v%d" % vertex[1])
         self.assertEqual(dollar.judge(table).script, {(0, 0): 0, (0, 1): -1})
         self.assertEqual(dollar.judge(table).burning, [(0, 0), (0, 1)])
-        self.assertEqual(dollar.rank(table, 2).loss, {(0, 0): 0, (0, 1): 2})
-        self.assertEqual(next(dollar.rank_all([table], 2)).loss, {(0, 0): 0, (0, 1): 2})
+        self.assertEqual(dollar.rank_test(table, 2).loss, {(0, 0): 0, (0, 1): 2})
+        self.assertEqual(next(dollar.rank_test_all([table], 2)).loss, {(0, 0): 0, (0, 1): 2})
         self.assertEqual(dollar.rehearse(table, ["1 look"])[0].amounts, {(0, 0): 2, (0, 1): -1})
         self.assertEqual(dollar.greedy(table, 1)[0].amounts, {(0, 0): 1, (0, 1): 0})
         self.assertEqual(dollar.party(table, ["look"]).position, {(0, 0): 2, (0, 1): -1})
@@ -178,7 +178,7 @@ class OfMeanings(Test):
         for amount, verdict in enumerate(verdicts):
             verdict.check()
             self.assertEqual(verdict.judged()["amounts"], [amount, 1, -1])
-        for test in list(dollar.rank_all(again(), 1)):
+        for test in list(dollar.rank_test_all(again(), 1)):
             test.check()
 
     def test_a_divisor_that_is_used_again_is_kept_as_it_was(self):
@@ -194,11 +194,12 @@ class OfMeanings(Test):
     @each(["/usr/bin/true", "/bin/cat", "/bin/echo"])
     def test_a_program_that_is_not_ours_is_noticed(self, program):
         table = Table(TRIANGLE)
-        calls = [lambda: dollar.judge(table, program), lambda: dollar.rank(table, 1, program), lambda: dollar.rr(table, program),
-                 lambda: list(dollar.judge_all([table], program)), lambda: list(dollar.judge_all([table] * 20_000, program)),
-                 lambda: list(dollar.judge_all(table, program, divisors=[[0, 0, 0]])),
-                 lambda: dollar.judge_all(table, program, divisors=[[0, 0, 0]]).columns(), lambda: dollar.greedy(table, 0, program),
-                 lambda: dollar.rehearse(table, ["1 look"], program), lambda: dollar.party(table, ["look"], program=program),
+        calls = [lambda: dollar.judge(table, program=program), lambda: dollar.rank_test(table, 1, program=program),
+                 lambda: dollar.rr(table, program=program), lambda: dollar.rank(table, program=program),
+                 lambda: list(dollar.judge_all([table], program=program)), lambda: list(dollar.judge_all([table] * 20_000, program=program)),
+                 lambda: list(dollar.judge_all(table, program=program, divisors=[[0, 0, 0]])),
+                 lambda: dollar.judge_all(table, program=program, divisors=[[0, 0, 0]]).columns(), lambda: dollar.greedy(table, 0, program=program),
+                 lambda: dollar.rehearse(table, ["1 look"], program=program), lambda: dollar.party(table, ["look"], program=program),
                  lambda: dollar.Session(table, program=program).ask("look")]
         for call in calls:
             with self.assertRaises((Fault, ValueError)):

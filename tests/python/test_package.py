@@ -1,12 +1,15 @@
 """The package as a whole: installed by pip for each Python that is here, with its examples and its types."""
+import doctest
 import glob
 import importlib.util
+import inspect
 import os
 import shutil
 import subprocess
 import sys
 
-from helpers import EXAMPLES, PACKAGE, Test, each
+import dollar
+from helpers import EXAMPLES, PACKAGE, Test, each, needed
 
 VERSIONS = ["3.9", "3.10", "3.11", "3.12", "3.13"]
 DOCTESTS = """
@@ -49,10 +52,20 @@ class OfThePackage(Test):
         if has(python, "pip"):
             place = str(self.folder())
             # pip leaves its own build/ in a folder that it installs.
-            copy = shutil.copytree(PACKAGE, self.folder() / "python", ignore=shutil.ignore_patterns("__pycache__"))
+            top = self.folder()
+            copy = shutil.copytree(PACKAGE, top / "python", ignore=shutil.ignore_patterns("__pycache__"))
+            shutil.copytree(EXAMPLES, top / "examples")
             self.holds([python, "-B", "-m", "pip", "install", "--quiet", "--disable-pip-version-check", "--no-index", "--no-deps",
                         "--target", place, copy])
         self.holds([python, "-B", "-c", DOCTESTS], cwd="/", env=dict(os.environ, PYTHONPATH=place))
+
+    @each(["networkx", "sage.all"])
+    def test_examples_that_take_another_package(self, name):
+        needed(name)
+        method = {"networkx": dollar.Table.to_networkx, "sage.all": dollar.Table.to_sage}[name]
+        text = inspect.getdoc(method).replace("  # doctest: +SKIP", "")
+        found = doctest.DocTestParser().get_doctest(text, dict(vars(dollar)), name, None, None)
+        self.assertEqual((doctest.DocTestRunner().run(found).failed, len(found.examples) > 0), (0, True))
 
     def test_the_types(self):
         if importlib.util.find_spec("mypy") is None:

@@ -1,6 +1,7 @@
 """What docs/tools.md shows over several lines, or with tools that may be missing. tests/pages plays the other commands of
 the pages."""
 import csv
+import inspect
 import re
 import shutil
 import subprocess
@@ -35,8 +36,23 @@ class OfPages(Test):
         self.assertEqual([line.strip() for line in done.stdout.splitlines()], wanted)
         self.assertEqual(done.returncode, 0)
 
-    def test_the_help_lists_each_name(self):
+    def test_the_help_and_the_page_have_each_name(self):
         self.assertEqual([name for name in dollar.__all__ if not re.search(r"`%s\b" % name, dollar.__doc__)], [])
+        self.assertEqual([name for name in dollar.__all__ if not re.search(r"`(dollar\.)?%s\b|dollar\.%s\b" % (name, name), PAGE)], [])
+
+    def test_each_name_has_an_example(self):
+        """In its own description, or in the one to which that sends."""
+        things = {name: getattr(dollar, name) for name in dollar.__all__}
+        for name in ("Table", "Session", "AsyncSession"):
+            things.update(("%s.%s" % (name, each), value) for each, value in vars(things[name]).items()
+                          if not each.startswith("_") and (callable(value) or isinstance(value, (property, classmethod))))
+        without = []
+        for name, thing in things.items():
+            text = inspect.getdoc(getattr(thing, "__func__", thing)) or ""
+            sent = re.search(r"`help\((?:dollar\.)?([\w.]+)\)`", text)
+            if ">>> " not in text and not (sent and ">>> " in inspect.getdoc(things[sent[1]])):
+                without.append(name)
+        self.assertEqual(without, [])
 
     def test_five_lines_with_pandas(self):
         needed("networkx")

@@ -76,7 +76,7 @@ class OfProperties(Test):
     @QUICK
     @given(tables(most=4, amounts=some.integers(-2, 3)), some.integers(0, 3))
     def test_rank_tests_by_all_trials(self, given_table, degree):
-        test = dollar.rank(given_table, degree)
+        test = dollar.rank_test(given_table, degree)
         self.assertTrue(Game(given_table).is_rank(str(test), degree))
         self.assertEqual(dollar.answer(str(test)), test)
 

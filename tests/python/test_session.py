@@ -65,7 +65,7 @@ def is_interrupted(session, seconds):
 class OfSessions(Test):
     def test_hostile_lines_leave_it_in_step(self):
         rng, model, refused, wrong = random.Random(1), Model(TABLE, SEATS), 0, []
-        with Table(TABLE).serve(SEATS) as session:
+        with Table(TABLE).serve(seats=SEATS) as session:
             for _ in range(LINES):
                 line = some_line(rng)
                 try:

@@ -89,15 +89,9 @@ class OfSweeps(Test):
         self.assertEqual(caught.exception.table, 1)
         self.assertFalse(isinstance(caught.exception, Refused))
 
-    def test_a_command_line_that_is_refused_is_a_fault(self):
-        with self.assertRaisesRegex(Fault, "invalid value"):
-            list(dollar.rank_all(pairs(100_000), 2 ** 40))
-        with self.assertRaisesRegex(Fault, "invalid value"):
-            list(dollar.judge_all(pairs(3), workers=17))
-
     def test_rank_tests_past_the_limits(self):
         path = Table([[0, 1], [1, 0]])
-        self.assertEqual(list(dollar.rank_all([Table(path, [20, 0]), Table(path, [0, 5])], 2000)), [("rank below", 2000)] * 2)
+        self.assertEqual(list(dollar.rank_test_all([Table(path, [20, 0]), Table(path, [0, 5])], 2000)), [("rank below", 2000)] * 2)
 
     def test_a_sweep_that_is_left_leaves_nothing_behind(self):
         before, threads = descriptors(), threading.active_count()
@@ -111,14 +105,14 @@ class OfSweeps(Test):
         program = self.script("#!/bin/sh\nread line\necho 'winnable by 0=0 1=0 to 0=0 1=0'\necho 'dollar: out of memory' >&2\nexit 4\n")
         got = []
         with self.assertRaisesRegex(Fault, "out of memory") as caught:
-            for verdict in dollar.judge_all(pairs(50_000), program):
+            for verdict in dollar.judge_all(pairs(50_000), program=program):
                 got.append(verdict)
         self.assertEqual(len(got), 1)
         self.assertEqual(caught.exception.status, 4)
 
     def test_progress(self):
         for shown in (lambda: list(dollar.judge_all(pairs(3), progress=True)),
-                      lambda: dollar.judge_all(PAIR, divisors=[[0, 0]] * 3, progress=True).columns()):
+                      lambda: dollar.judge_all(PAIR, divisors=[[0, 0]] * 3, progress=True).columns().winnable):
             with contextlib.redirect_stderr(io.StringIO()) as said:
                 self.assertEqual(len(shown()), 3)
             self.assertEqual(said.getvalue().split("\r")[-1], "3 answers\n")

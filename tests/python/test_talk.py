@@ -52,7 +52,8 @@ class OfTalks(Test):
 
     def test_what_is_no_line_leaves_the_next_answer_to_the_next_line(self):
         session = Session(FILE)
-        for line, fault in ("look\nclaim", "a line has a newline in it"), ("x" * 1025, "a line has more than 1024 bytes"):
+        for line, fault in (("look\nclaim", r"a line has a newline in it: 'look\\nclaim'"),
+                            ("x" * 1025, "a line has 1025 bytes, and only 1024 are possible")):
             with self.assertRaisesRegex(ValueError, "^%s$" % fault):
                 session.ask(line)
         self.assertEqual(str(session.ask("claim")), "0 not won")

@@ -17,8 +17,8 @@ named = Table(members, {"a": 1}, "a")
 dollar.judge(table), dollar.judge(members), dollar.judge("table.json")
 dollar.judge(5)  # error
 dollar.judge(None)  # error
-dollar.rank(table, "1")  # error
-dollar.rank(table, 1, workers="2")  # error
+dollar.rank_test(table, "1")  # error
+dollar.rank_test(table, 1, workers="2")  # error
 dollar.rr([1, 2])  # error
 Table(3.5)  # error
 Table("table.json")  # error
@@ -39,16 +39,24 @@ reveal_type(table.degree)  # is builtins.int
 reveal_type(table.linear_system())  # is dollar.divisors.LinearSystem
 reveal_type(next(dollar.judge_all([table], errors="raise")))  # is dollar.answers.Verdict
 reveal_type(next(dollar.judge_all([table])))  # is Union[dollar.answers.Verdict, dollar.answers.RefusedVerdict]
-reveal_type(next(dollar.rank_all([table], 1, errors="raise")))  # is dollar.answers.RankTest
-word: str = "raise"
-reveal_type(next(dollar.rr_all([table], errors=word)))  # is Union[dollar.answers.RiemannRoch, dollar.answers.RefusedRiemannRoch]
+reveal_type(next(dollar.rank_test_all([table], 1, errors="raise")))  # is dollar.answers.RankTest
+reveal_type(next(dollar.rr_all([table], errors="row")))  # is Union[dollar.answers.RiemannRoch, dollar.answers.RefusedRiemannRoch]
+reveal_type(dollar.rr(table).rank)  # is builtins.int
+reveal_type(dollar.rank(table))  # is builtins.int
+reveal_type(table.fire({0: 1}).lend(1))  # is dollar.table.Table
+reveal_type(next(iter(table.reduced_divisors(2, winnable=True))))  # is dollar.table.Table
+dollar.rr_all([table], errors="ignore")  # error
+dollar.judge(table, "b")  # error
+dollar.judge_all(table, [[2, -1]])  # error
+dollar.rank(table, 1)  # error
+table.rank(1)  # error
 found = dollar.judge_all(table, divisors=[[1, 2]]).columns()
 reveal_type(found.winnable)  # is Union[numpy.ndarray[Any, numpy.dtype[numpy.bool_]], array.array[builtins.int]]
 reveal_type(found.script[0].tolist())  # is Union[Any, builtins.list[builtins.int]]
 found.script[0].no_such_thing  # error
 found.script[0] = found.script[1]  # error
 dollar.judge_all(table, divisors=[[1, 2]]).columns("pandas")  # error
-of_numpy = dollar.rank_all(table, 1, divisors=[[1, 2]]).columns("numpy")
+of_numpy = dollar.rank_test_all(table, 1, divisors=[[1, 2]]).columns("numpy")
 reveal_type(of_numpy.holds)  # is numpy.ndarray[Any, numpy.dtype[numpy.bool_]]
 (of_numpy.loss[0] == of_numpy.loss[1] - 1).all()
 of_array = dollar.rr_all(table, divisors=[[1, 2]]).columns("array")

@@ -8,6 +8,7 @@ import os
 import re
 import sys
 
+from dollar.program import typed
 from dollar.table import text_of
 
 CLASS, TABLES, RECORD = "class.json", "tables.json", re.compile(r"room([0-9]{1,2})\.jsonl\Z")
@@ -39,7 +40,7 @@ class Kept:
             self.file.write(json.dumps(item) + "\n")
             self.file.flush()
         except OSError as error:
-            print("dollar board: %s: %s: the game is kept no more" % (self.place, error.strerror), file=sys.stderr)
+            print("%s: %s: %s: the game is kept no more" % (typed("board"), self.place, error.strerror), file=sys.stderr)
             self.is_kept = False
 
 
@@ -88,7 +89,7 @@ class Keeper:
                 json.dump(thing, file)
             os.replace(place + ".new", place)
         except OSError as error:
-            print("dollar board: %s: %s" % (place, error.strerror), file=sys.stderr)
+            print("%s: %s: %s" % (typed("board"), place, error.strerror), file=sys.stderr)
 
     def tables(self, turn):
         """The texts of the tables that were handed out at a turn: none if none were."""

@@ -1,7 +1,7 @@
 """A board to play on, in a browser.
 
-    dollar board [FILE]
-    dollar board FILE .. --class N [--rooms K] [--host ADDRESS] [--keep FOLDER]
+    board/play [FILE]
+    board/play FILE .. --class N [--rooms K] [--host ADDRESS] [--keep FOLDER]
 
 opens the table of FILE, or the first example: a click lends, shift-click borrows, and the program says whether it can be won.
 Ctrl-D or Ctrl-C ends it. Only this machine can reach the server, and only with the address that is printed.
@@ -16,7 +16,8 @@ With --keep FOLDER the class is kept in that folder while it goes on, with its a
 same command again, even after a crash.
 
 With --places PLACES each line 'name x y' of a file is the place of a vertex; x goes to the right, and y down. With --no-browser no
-browser is opened, and with --port PORT the address has that port. In a clone `board/play` is short for `python3 -m dollar board`."""
+browser is opened, and with --port PORT the address has that port. In a clone the command is `board/play`, and once installed it is
+`dollar-board`."""
 import argparse
 import asyncio
 import os
@@ -33,7 +34,7 @@ from dollar.board.game import MOST_SEATS, Table
 from dollar.board.keeping import Keeper
 from dollar.board.pages import forward
 from dollar.board.server import ANY, Server, address_of, is_loopback, new_secret
-from dollar.program import Fault, printed
+from dollar.program import Fault, printed, typed
 from dollar.table import EXAMPLES, shown_name, text_of
 
 LOOPBACK = "127.0.0.1"
@@ -42,7 +43,7 @@ LOOPBACK = "127.0.0.1"
 def arguments(words):
     """The command line."""
     usage, _, more = __doc__.partition("\n\n")
-    parser = argparse.ArgumentParser(prog="dollar board", description=usage, epilog=more,
+    parser = argparse.ArgumentParser(prog=typed("board"), description=usage, epilog=more,
                                      formatter_class=argparse.RawDescriptionHelpFormatter)
     parser.add_argument("files", nargs="*", metavar="FILE", default=[EXAMPLES / "triangle.json"], help="table files; a class may have several")
     parser.add_argument("--class", type=number_to(MOST_SEATS), dest="seats", metavar="N", help="serve a class of N pupils")
@@ -110,7 +111,7 @@ def told_once():
         words = context.get("message", "something went wrong")
         if words not in said:
             said.add(words)
-            print("dollar board: %s: %s" % (words, context.get("exception", "")), file=sys.stderr, flush=True)
+            print("%s: %s: %s" % (typed("board"), words, context.get("exception", "")), file=sys.stderr, flush=True)
     return tell
 
 

@@ -13,7 +13,7 @@ import sys
 from dollar.answers import numbered
 from dollar.board.pages import filled, one_script, part
 from dollar.drawing import held, layout
-from dollar.program import printed
+from dollar.program import printed, typed
 from dollar.table import shown_name, text_of
 
 USAGE = """%(prog)s FILE STEPS > GAME.html            the history is what `dollar rehearse FILE STEPS` prints
@@ -72,7 +72,7 @@ def page(title, text, steps, lines, history=None, own=None, names=()):
 
 def main(words):
     """Prints the page that the words of a command line ask for."""
-    reader = argparse.ArgumentParser(prog="dollar replay", usage=USAGE, description=__doc__.partition("\n\n")[0], epilog=__doc__.partition("\n\n")[2])
+    reader = argparse.ArgumentParser(prog=typed("replay"), usage=USAGE, description=__doc__.partition("\n\n")[0], epilog=__doc__.partition("\n\n")[2])
     reader.add_argument("--greedy", metavar="TURNS", help=argparse.SUPPRESS)
     reader.add_argument("--places", metavar="PLACES",
                         help="a file with a line 'name x y' for the place of each vertex; x goes to the right, and y down")
