@@ -1,4 +1,5 @@
-//! The calls of the project's outline at a table, and those of sessions and of the program, in the form that they were planned in.
+//! The calls of the project's outline at a table, and those of sessions and of the program, in the form that they were
+//! planned in.
 #![tactic(auto)]
 
 #[cfg(test)]
