@@ -52,7 +52,7 @@ pub use mir.Val.{Val, vcons, vint, vnil, vptr, vstruct, vunit}
 pub use native.Mathlib.Decide.{ℕ_discrete}
 pub use seplogic.Ra.Ura.{Ura}
 pub use types.ByLocal.{alloc_all, free_all, get, look_at, pass_all, sets}
-pub use types.Kit.{!, await, by, done, drop, feq_i, fjoin, fsplit, fsplit3, join, keep, later, move, now, qed, raw, rewrite, split, split3, updating, use0, use1, use2, ‵, ◌$◌, ◌∵◌, ◌⊛◌}
+pub use types.Kit.{ !, await, by, done, drop, feq_i, fjoin, fsplit, fsplit3, join, keep, later, move, now, qed, raw, rewrite, split, split3, updating, use0, use1, use2, ‵, ◌$◌, ◌∵◌, ◌⊛◌}
 pub use types.Logic.{Logic, lfts, sem}
 pub use types.Part.{agg}
 pub use types.Run.{and_then, enter, no_more, of_opd, returns, unit_lit}
