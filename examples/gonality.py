@@ -25,7 +25,9 @@ import json
 import os
 import sys
 
-sys.path.insert(0, os.path.join(os.path.dirname(os.path.abspath(__file__)), "..", "python"))
+HERE = os.path.dirname(os.path.abspath(__file__))
+# Where the package is in a clone, and in the unpacked tarball; otherwise it is installed.
+sys.path[:0] = [os.path.join(HERE, "..", "python"), os.path.join(HERE, "..", "..", "..", "dollar", "python")]
 import dollar
 
 

@@ -6,7 +6,9 @@ import base64
 import gzip
 import hashlib
 import io
+import os
 import re
+import subprocess
 import tarfile
 import zipfile
 from pathlib import Path
@@ -28,11 +30,28 @@ Tag: %s
 COMMANDS = "[console_scripts]\ndollar-board = dollar.__main__:board\n"
 
 
+def files_in(folder):
+    """The files of a folder: of a checkout those that git knows, and nothing else that happens to lie there."""
+    try:
+        listed = subprocess.run(["git", "-C", folder, "ls-files", "-z"], stdout=subprocess.PIPE, stderr=subprocess.DEVNULL, check=True).stdout
+    except (OSError, subprocess.CalledProcessError):
+        listed = b""
+    found = [folder / os.fsdecode(name) for name in listed.split(b"\0") if name] or folder.rglob("*")
+    return sorted(file for file in found if file.is_file() and file.suffix != ".pyc"
+                  and not any(part.startswith(".") for part in file.relative_to(folder).parts))
+
+
 def sources():
     """The files of the package, by the names that they have in it, among them the tables of the examples."""
-    files = [file for file in sorted((HERE / "dollar").rglob("*")) if file.is_file() and file.suffix != ".pyc"]
-    examples = {"dollar/examples/" + file.name: file.read_bytes() for file in sorted((HERE.parent / "examples").glob("*.json"))}
-    return {**{file.relative_to(HERE).as_posix(): file.read_bytes() for file in files}, **examples}
+    files = {file.relative_to(HERE).as_posix(): file.read_bytes() for file in files_in(HERE / "dollar")}
+    tables = HERE.parent / "examples"
+    examples = [file for file in files_in(tables) if file.suffix == ".json"] if tables.is_dir() else []
+    return {**files, **{"dollar/examples/" + file.name: file.read_bytes() for file in examples}}
+
+
+def sdist():
+    """The same with what pip needs to make the package of it."""
+    return {**sources(), **{name: (HERE / name).read_bytes() for name in ("pyproject.toml", "backend.py")}}
 
 
 def record_of(files):
@@ -45,7 +64,7 @@ def record_of(files):
 
 
 def wheel_of(folder, files, tag="py3-none-any"):
-    """Writes a wheel with these files into a folder, and tells its name. What lies in a folder `scripts` can be run."""
+    """Writes a wheel with these files into a folder, and tells its name. Scripts can be run."""
     info = NAME + ".dist-info/"
     files = dict(files, **{info + "METADATA": METADATA.encode(), info + "entry_points.txt": COMMANDS.encode(),
                            info + "WHEEL": (WHEEL % (str(tag.endswith("any")).lower(), tag)).encode()})
@@ -54,7 +73,8 @@ def wheel_of(folder, files, tag="py3-none-any"):
     with zipfile.ZipFile(Path(folder) / name, "w", zipfile.ZIP_DEFLATED) as wheel:
         for path, content in files.items():
             entry = zipfile.ZipInfo(path)
-            entry.compress_type, entry.external_attr = zipfile.ZIP_DEFLATED, (0o100755 if "/scripts/" in path else 0o100644) << 16
+            can_run = "/scripts/" in path or content.startswith(b"#!")
+            entry.compress_type, entry.external_attr = zipfile.ZIP_DEFLATED, (0o100755 if can_run else 0o100644) << 16
             wheel.writestr(entry, content)
     return name
 
@@ -68,8 +88,7 @@ def build_editable(wheel_directory, config_settings=None, metadata_directory=Non
 
 
 def build_sdist(sdist_directory, config_settings=None):
-    files = dict(sources(), **{name: (HERE / name).read_bytes() for name in ("pyproject.toml", "backend.py")})
-    files["PKG-INFO"] = METADATA.encode()
+    files = {**sdist(), "PKG-INFO": METADATA.encode()}
     with open(Path(sdist_directory) / (NAME + ".tar.gz"), "wb") as file, gzip.GzipFile("", "wb", 9, file, mtime=0) as packed:
         with tarfile.open(fileobj=packed, mode="w", format=tarfile.PAX_FORMAT) as archive:
             for name, content in files.items():

@@ -121,7 +121,7 @@ def table_faults():
             if variant in own and numbered(text) != own[variant]:
                 yield "%s: %s::%s says `%s`, not `%s`" % (part.place(), enum, variant, own[variant], text)
     of_files = set(words.table_faults()) - {"out of memory"}
-    part = Part(FORMATS, "The reader reports one fault, the first in this order.", "\n\nA number with a fraction")
+    part = Part(FORMATS, "The reader reports one fault, the first in this order.", "\n\nEach text of RFC 8259")
     found = [(numbered(text), place) for text, place in part.matches(r"^\| `([^`|]*)` \|")]
     yield from part.compare("fault of a table file", found, of_files)
     part = Part("tests/damage/reader.py")
@@ -195,8 +195,8 @@ def grammar():
 
 
 def version():
-    """The version of the newest part of the changelog, which no other part has, is that of the program, and of the package for
-    Python."""
+    """The version of the newest part of the changelog, which no other part has, is that of the program, of the package for
+    Python, and of what to cite."""
     heads = list(Part("CHANGELOG.md").matches(r"^## (.*)$"))
     numbers = [re.match(r"(\d+\.\d+\.\d+), \d+ \w+ \d+$", head) for head, _ in heads]
     if not numbers[0]:
@@ -205,7 +205,8 @@ def version():
     for number, (_, place) in list(zip(numbers, heads))[1:]:
         if number and number[1] == numbers[0][1]:
             yield f"{place}: {number[1]} is the version of the newest part too, which wants one of its own"
-    for path, form in (HELP, r'VERSION: &str = "([\d.]+)'), ("python/dollar/__init__.py", r'^__version__ = "(.*)"$'):
+    for path, form in ((HELP, r'VERSION: &str = "([\d.]+)'), ("python/dollar/__init__.py", r'^__version__ = "(.*)"$'),
+                       ("CITATION.cff", "^version: (.*)$")):
         for text, place in Part(path).matches(form):
             if text != numbers[0][1]:
                 yield f"{place}: the version is {text}, and the newest part of CHANGELOG.md is {numbers[0][1]}"

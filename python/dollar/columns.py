@@ -49,7 +49,7 @@ class Columns(Dict[str, Any]):
         return "<%s: %d answers, with %s>" % (type(self).__name__, self.count, ", ".join(self))
 
     def _add(self, piece: bytes) -> int:
-        """Takes lines, and reads all that were taken if they are many. Tells how many were read."""
+        """Buffers lines, and reads all of them once they are AT_ONCE bytes. Returns how many it read."""
         self._unread.append(piece)
         self._unread_size += len(piece)
         return self._flush() if self._unread_size >= AT_ONCE else 0

@@ -253,7 +253,7 @@ def picture(table: Any, script: Optional[Mapping[Any, int]] = None, order: Seque
 
 
 def verdict_picture(name: str, table: Any, verdict: Any, own: Optional[str] = None) -> str:
-    """A picture of a table that has a name with the script of its verdict, and beside it of what that leads to, which all burns."""
+    """A picture of a table with the script of its verdict, and beside it of the reduced divisor with the order in which all burns."""
     word, script, reduced = verdict
     script, reduced = by_names(table, script), by_names(table, reduced)
     order = by_names(table, dict.fromkeys(getattr(verdict, "burning", None) or checks.burnt(table, reduced)))

@@ -77,6 +77,12 @@ def asked(command, *words):
     return done.stdout.decode(), done.stderr.decode(), done.returncode
 
 
+def by_line(command, place, *words):
+    """What the program prints for a table file, by a line of a sweep."""
+    words = [program(), command, "--lines", "/dev/stdin", *words]
+    return subprocess.run(words, input=" ".join(text_of(place).split()), stdout=subprocess.PIPE, text=True).stdout
+
+
 def started(*words, browser=None):
     """Starts board/play, which opens a browser if one is given."""
     pipes = dict(stdin=subprocess.DEVNULL, stdout=subprocess.PIPE, stderr=subprocess.PIPE, text=True)

@@ -3,8 +3,8 @@
 import { GRAMMAR } from "./grammar.js";
 import { fitted, freePlace, layoutOf, placesText, shortened, vertexAhead, vertexAt, wordsPlace } from "./places.js";
 import {
-  CAUSES, FAULTS, Game, KINDS, answerOf, commandWords, faultWords, flows, legendWords, linesOf, markOf, mostTelling, movesWords, nameWords,
-  replyOf, replyWords, stepOf,
+  CAUSES, FAULTS, Game, KINDS, answerOf, besideWords, commandWords, faultWords, flows, legendWords, linesOf, markOf, mostTelling,
+  movesWords, nameWords, numbersOf, numbersWords, rankWords, replyOf, replyWords, startWords, stepOf,
 } from "./words.js";
 
 const failures_ = [];
@@ -66,6 +66,14 @@ function faults() {
   const names = ["a", "a b", "b", "_9", "x".repeat(16), "x".repeat(17), ""].map((name) => nameWords(name, ["a"]) !== "");
   equal(names, [true, true, false, false, false, true, true], "names that a vertex beside a can't have");
   equal(faultWords("edge 0 is a loop"), "Edge 1 of the list leads from a vertex to itself.", "a fault with its number");
+  const bad = JSON.stringify({ vertices: ["a", "b c", "a"], edges: [["a", "b c", 40], ["b c", "b c", 0], ["a", "a", 24]], amounts: [7], q: "z" });
+  equal(["number of vertices", "name of vertex 1", "vertex 2 named twice", "edge 1 is a loop", "valence of vertex 0", "number of amounts",
+    "amount of vertex 0", "no vertex q", "not JSON", "shape of top"].map((text) => besideWords(text, bad)),
+  ["It is 3 here.", 'It is "b c" here.', 'It is "a" here.', 'It is ["b c","b c",0] here.', "It is 64 here.", "It is 1 here.", "It is 7 here.",
+    'It is "z" here.', "", ""], "the values beside faults");
+  equal([besideWords("no vertex q", bad, "x.json"), besideWords("not JSON", "{", "x.json"), besideWords("file too long", "", "x.json"),
+    besideWords("amount of vertex 3", "[]"), besideWords("no vertex q", undefined)],
+  ['It is "z" here. The file is x.json.', "The file is x.json.", "The file is x.json.", "", ""], "the file beside faults");
 }
 
 function marks() {
@@ -104,7 +112,22 @@ function games() {
   rich.add("1 borrow a", "1 moved b=1 a=1 2=0");
   equal([0, 1, 2].map((index) => rich.isWon(index)), [false, false, false], "a table on which nobody owed");
   equal([movesWords(1), movesWords(0), faultWords("?", "x")], ["1 move", "0 moves", "x"], "words of numbers and faults");
+  equal([startWords(0), startWords(1), startWords(2)], ["Start. No moves yet.", "Start, before 1 step", "Start, before 2 steps"], "starts");
   equal([linesOf("a\nb\n"), linesOf("a\nb"), linesOf("")], [["a", "b"], ["a", "b"], []], "lines of texts");
+}
+
+function ranks() {
+  equal(numbersOf("degree 2 genus 5 rank 0 dual -1"), { degree: "2", genus: "5", rank: "0", dual: "-1" }, "the four numbers of a line");
+  const law = "By Riemann-Roch, the first rank minus the second is degree + 1 - genus.";
+  const begins = "The degree, the total of the dollars, is 17. The genus, edges minus vertices plus 1, is 9.";
+  equal(numbersWords({ degree: "17", genus: "9", rank: "8", dual: "-1" }), `${begins} The rank is 8, and the rank of K - D is -1. ${law}`,
+    "ranks");
+  equal(numbersWords({ degree: "17", genus: "9", rank: "?", dual: "?" }),
+    `${begins} Neither rank is known, since too many losses would have to be tried. ${law}`, "ranks that are not known");
+  equal([rankWords("-1", new Map()), rankWords("?"), rankWords("8", undefined), rankWords("1", new Map([["b", 1], ["c", 0], ["d", 1]]))],
+    ["The rank is -1. It can't be won as it stands.", "The rank is not known, since too many losses would have to be tried.",
+      "The rank is 8. Some loss of 9 dollars is too much; which one is not known, since too many losses would have to be tried.",
+      "The rank is 1. If b loses 1 dollar and d loses 1 dollar, the debts can no longer be cleared."], "words of a rank");
 }
 
 function places() {
@@ -142,6 +165,6 @@ function fits() {
 }
 
 export function failures() {
-  for (const part of [replies, commands, faults, marks, games, places, fits]) part();
+  for (const part of [replies, commands, faults, marks, games, ranks, places, fits]) part();
   return failures_;
 }

@@ -8,11 +8,11 @@ import time
 
 import firefox
 from browser import CTRL, LISTED, READY, SHIFT, Page, at, needed
-from common import EXAMPLES, asked, played, swings, tell, text_of, written
+from common import EXAMPLES, asked, by_line, played, swings, tell, text_of, written
 from helpers import equal, expect, tests_of
 
 RANDOM_LINES, LONG = 80, 60_000
-NO_LOOK = "This seat has not looked since its last verdict. It looks first."
+NO_LOOK = "Look first: this seat has no look to use."
 TOO_MANY = "The command has too many words or too few, or an extra space."
 NO_NAME, NO_WORD = "It names a vertex that is not there, or one twice.", "There is no such command."
 # Seconds that a line takes on the page, from its click until it is drawn, at the median.
@@ -244,7 +244,7 @@ def with_questions(player):
     for index in 0, 1, 4, length:
         player.value(f"viewer.go({index})")
         now = player.now()
-        judged, numbers = asked("judge", now, "--order")[0], asked("rr", now)[0]
+        judged, numbers = asked("judge", now, "--order")[0], by_line("rr", now)
         words, printed = player.told("#ask-won")
         equal(printed, judged, f"whether it can be won at {index}")
         expect(("can be won" in words) == judged.startswith("winnable"), f"the words {words} for {judged}")
@@ -254,8 +254,8 @@ def with_questions(player):
         says = player.value("$$('#board .vertex .says').length")
         equal(says, sum(not pair.endswith("=0") for pair in script.split(" ")), f"the script on the board at {index}")
         equal(player.told("#ask-rr")[1], numbers, f"the four numbers at {index}")
-        degree = int(re.search(r"^rank (-?\d+)$", numbers, re.M)[1]) + 1
-        lost = asked("rank", now, str(degree))[0]
+        degree = int(re.search(r" rank (-?\d+) ", numbers)[1]) + 1
+        lost = by_line("rank", now, str(degree))
         player.told("#ask-rank")
         player.until("/rank below/.test($('#told-printed').textContent)")
         equal(player.text("#told-printed"), numbers + lost, f"the rank at {index}")
@@ -283,7 +283,7 @@ def with_many_lines(player):
     expect(RANDOM_LINES / 2 < more < RANDOM_LINES, f"{more} of {RANDOM_LINES} lines")
     player.compare("many lines")
     equal(asked("rr", player.now()), ("", "dollar: too many trials\n", 3), "the four numbers of a table with millions")
-    equal(player.told("#ask-rr"), ("That rank test is too large.", "dollar: too many trials\n"), "what the page says of them")
+    equal(player.told("#ask-rr")[1], by_line("rr", player.now()), "what the page says of them")
     player.value("hands.tell('')")
     player.compare("houses")
 
@@ -317,7 +317,7 @@ def with_fire(player):
     player.until("$$('#told-fire li').length === 5")
     lines = player.value("texts('#told-fire li')")
     equal([line.split(" ")[0] for line in lines], ["ann", "bob", "dan", "cyd", "All"], "the order of the fire")
-    equal(lines[1], "bob burns: if bob, cyd and dan lent at once, bob would owe. So it isn't a giver.", "why bob burns")
+    equal(lines[1], "bob burns: 1 burning edge, 0 dollars. So bob can't be one of those that lend most.", "why bob burns")
     equal(player.value("viewer.board.burnt"), ["ann", "bob", "dan", "cyd"], "who burns on the board")
     equal(player.value("texts('#board .amount')"), ["-1", "0", "1", "1"], "the amounts under the fire")
     equal(player.text("#answer"), "In debt: ann owes 1.", "what is told beside the fire")

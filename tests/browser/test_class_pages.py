@@ -16,7 +16,7 @@ from visitors import PagePupil, Place, Pupil, program_of, taken
 Lesson = collections.namedtuple("Lesson", "ann bob desk child place")
 SEEN = """[texts("#board .amount"), viewer.game.names.map((name) => String(viewer.game.states.at(-1).amounts.get(name))),
   $$("#board .coin").length]"""
-NO_LOOK = "This seat has not looked since its last verdict. It looks first."
+NO_LOOK = "Look first: this seat has no look to use."
 
 
 def with_entries(lesson):

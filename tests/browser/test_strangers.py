@@ -204,13 +204,13 @@ def without_secret(place, question):
 
 
 def questions(ask, folder, table):
-    """What the page asks goes to the program as it is."""
-    steps = "1 look\n2 lend a\n1 commit\n"
+    """What the page asks goes to the program, ranks as a line of a sweep."""
+    steps, line = "1 look\n2 lend a\n1 commit\n", written(folder, "line", table.replace("\n", " "))
     for given, words in (
-            ({"command": "judge"}, ("judge", TRIANGLE, "--order")), ({"command": "rr"}, ("rr", TRIANGLE)),
-            ({"command": "rank", "degree": "1"}, ("rank", TRIANGLE, "1")),
-            ({"command": "rank", "degree": "-1"}, ("rank", "--", TRIANGLE, "-1")),
-            ({"command": "rank", "degree": "--help"}, ("rank", "--", TRIANGLE, "--help")),
+            ({"command": "judge"}, ("judge", TRIANGLE, "--order")), ({"command": "rr"}, ("rr", "--lines", line)),
+            ({"command": "rank", "degree": "1"}, ("rank", "--lines", line, "1")),
+            ({"command": "rank", "degree": "-1"}, ("rank", "--lines", "--", line, "-1")),
+            ({"command": "rank", "degree": "--help"}, ("rank", "--lines", "--", line, "--help")),
             ({"command": "rehearse", "steps": steps}, ("rehearse", TRIANGLE, written(folder, "s", steps))),
             ({"command": "rehearse", "steps": "1 lend z\n"}, ("rehearse", TRIANGLE, written(folder, "s2", "1 lend z\n")))):
         status, got = ask(table=table, **given)

@@ -1,7 +1,8 @@
-"""The tarball, the Debian package and the wheel of the built program: each is made twice, from other folders and at other
-times, and is the same, byte for byte. They are unpacked and installed, what is in them is run, and they are removed again: the
-wheel in an environment of its own, and both in a fresh tree of this Debian, if debootstrap can make one, which takes root and a
-mirror of Debian."""
+"""The tarball, the Debian package and the wheel of the built program: each is made twice, from other folders, at other times and by
+each Python that is here, and is the same, byte for byte. They are unpacked and installed, the commands of the pages are run in them,
+and they are removed again: the wheel in an environment of its own, and all three in a fresh tree of this Debian, if debootstrap can
+make one, which takes root and a mirror of Debian."""
+import glob
 import gzip
 import os
 import re
@@ -16,6 +17,9 @@ from pathlib import Path
 
 from helpers import EXAMPLES, ROOT, Test, program
 
+sys.path.append(str(ROOT / "tests" / "pages"))
+from test_pages import shown
+
 VERDICT = "winnable by a=0 b=-1 c=-1 to a=0 b=0 c=0\n"
 TOOL = ROOT / "tools" / "package"
 # What a package is for, from Python: a verdict on an example, and a sweep.
@@ -25,10 +29,40 @@ assert [numbers.rank for numbers in dollar.rr_all(dollar.Table([[0, 3], [3, 0]],
 """
 
 
-def made(folder, given, **options):
+# The pages whose commands are run where a package is installed, and what is typed there in place of the words of a clone.
+PAGES = ["README.md", "docs/play.md", "docs/theory.md", "docs/formats.md", "docs/tools.md", "examples/README.md"]
+TYPED = {"./dollar": "dollar", "python3 python/dollar": "python3 -m dollar"}
+# Where a page says that a tool is needed that few machines have.
+OTHERS = ["jq ", "nauty-geng "]
+UNITS = ["dollar.socket", "dollar@.service"]
+
+
+def made(folder, given, *before, tool=TOOL, **options):
     """What tools/package prints that it makes."""
-    said = subprocess.run([TOOL, given, folder], stdout=subprocess.PIPE, text=True, check=True, **options).stdout
+    said = subprocess.run([*before, tool, given, folder], stdout=subprocess.PIPE, text=True, check=True, **options).stdout
     return list(map(Path, said.splitlines()))
+
+
+def pythons():
+    """The Pythons from 3.9 on that are here, one of each version."""
+    found = {}
+    kept = os.path.join(os.environ.get("PYENV_ROOT", os.path.expanduser("~/.pyenv")), "versions", "*", "bin", "python3")
+    for name in [sys.executable, *sorted(glob.glob(kept)), "/usr/bin/python3"]:
+        if os.path.exists(name):
+            said = subprocess.run([name, "-c", "import sys; print(*sys.version_info[:2])"], stdout=subprocess.PIPE, text=True).stdout
+            if tuple(map(int, said.split())) >= (3, 9):
+                found[said] = name
+    return list(found.values())
+
+
+def dead_links(folder):
+    """The links of the pages of a folder that lead to no file of it."""
+    for page in sorted(folder.rglob("*.md")):
+        lines = [line for line in page.read_text().splitlines() if not line.startswith("    ")]
+        text = re.sub(r"`[^`\n]+`", "", "\n".join(lines))
+        for target in re.findall(r"\]\(\s*([^)#\s]+)[^)]*\)", text):
+            if not re.match("[a-z]+:", target) and not (page.parent / target).exists():
+                yield f"{page.relative_to(folder)}: {target}"
 
 
 def listed(tree):
@@ -55,9 +89,12 @@ class OfPackages(Test):
     def test_they_are_the_same_each_time(self):
         shutil.copy(program(), self.place / "copy")
         time.sleep(1)
-        for one, other in zip(self.made, made("two", "copy", cwd=self.place)):
-            self.assertEqual(one.name, other.name)
-            self.assertTrue(one.read_bytes() == (self.place / other).read_bytes(), one.name)
+        for python in pythons():
+            for one, other in zip(self.made, made("two", "copy", python, "-B", cwd=self.place)):
+                self.assertEqual(one.name, other.name)
+                self.assertTrue(one.read_bytes() == (self.place / other).read_bytes(), f"{one.name} by {python}")
+        # Some Pythons write another tenth byte, which names the system.
+        self.assertEqual(self.tarball.read_bytes()[:10], b"\x1f\x8b\x08\0\0\0\0\0\x02\xff")
         sdists = []
         for name in "first", "second":
             (self.place / name).mkdir()
@@ -72,49 +109,133 @@ class OfPackages(Test):
             done = subprocess.run([TOOL, *words], stdout=subprocess.PIPE, stderr=subprocess.STDOUT, text=True)
             self.assertEqual((done.returncode, done.stdout.count("\n")), (1, 1))
 
+    def test_only_what_git_knows_is_packed(self):
+        """Files lie about that git does not know, among them the secrets of a class that was kept, and a file that is not there
+        any more."""
+        copy = self.folder() / "copy"
+        listed = subprocess.run(["git", "-C", ROOT, "ls-files", "-z"], stdout=subprocess.PIPE, text=True)
+        if listed.returncode:
+            self.skipTest("what git knows of the packed folders, for want of git or a checkout")
+        for path in filter(os.path.isfile, (ROOT / name for name in listed.stdout.split("\0") if name)):
+            (copy / path.relative_to(ROOT)).parent.mkdir(parents=True, exist_ok=True)
+            shutil.copy(path, copy / path.relative_to(ROOT))
+        for words in ["init", "-q"], ["add", "-A"]:
+            self.out("git", *words, cwd=copy)
+        strange = ["examples/class.json", "examples/kept/class.json", "python/dollar/id_rsa", "python/dollar/new.py", "docs/notes.bak"]
+        for path in strange:
+            (copy / path).parent.mkdir(exist_ok=True)
+            (copy / path).write_text("secret")
+        (copy / "examples" / "cube.json").unlink()
+        _, deb, wheel = made(self.folder(), program(), tool=copy / "tools" / "package", cwd=copy)
+        for found in self.out("dpkg-deb", "-c", deb), self.out(sys.executable, "-m", "zipfile", "-l", wheel):
+            self.assertIn("triangle.json", found)
+            self.assertEqual([path for path in strange if path.split("/")[-1] in found], [])
+
     def unpacked(self):
         """The folder of the tarball."""
         with tarfile.open(self.tarball) as archive:
             archive.extractall(self.place)
         return self.place / ("dollar-" + self.version)
 
+    def of_debian(self):
+        """What lies in the Debian package."""
+        tree = self.folder()
+        self.out("dpkg-deb", "-x", self.deb, tree)
+        return tree
+
+    def try_pages(self, documents, path, *before, inside="", **variables):
+        """Runs the commands of the pages in the folder of the documents, and compares what they print; inside of a tree, the words
+        before a command lead there."""
+        environ = {**self.environ, "PATH": f"{path}:{os.environ['PATH']}", "PYTHONDONTWRITEBYTECODE": "1", **variables}
+        words, tried = [*before, "bash", "-c", 'cd "$0" && eval "$1"', inside or documents], 0
+        for page in PAGES:
+            for command, wanted in shown((documents / page).read_text(), r"(?:|.* )\./dollar"):
+                for word, typed in TYPED.items():
+                    command = command.replace(word, typed)
+                if not any(command.startswith(tool) for tool in OTHERS):
+                    rest, said = wanted.partition("..\n")[2], self.said(words, command, environ)
+                    self.assertEqual(said[-len(rest):] if rest and wanted.startswith("..") else said, rest or wanted, command)
+                    tried += 1
+        self.assertGreater(tried, 20)
+
+    def said(self, words, command, environ):
+        """What a command prints and says."""
+        return subprocess.run([*map(str, words), command], stdin=subprocess.DEVNULL, stdout=subprocess.PIPE, stderr=subprocess.STDOUT,
+                              text=True, env=environ).stdout
+
+    def test_links_lead_to_pages(self):
+        for folder in self.of_debian() / "usr/share/doc/dollar", self.unpacked() / "share/doc/dollar":
+            self.assertEqual(list(dead_links(folder)), [])
+
+    def test_the_units(self):
+        """Each path in the units is in the package, and systemd has nothing to say of them."""
+        tree = self.folder()
+        shutil.copytree(self.of_debian() / "usr", tree / "usr")
+        shutil.copytree(self.unpacked(), tree / "usr" / "local", symlinks=True)
+        for place in "usr", "usr/local":
+            units = [tree / place / "share/doc/dollar/examples" / name for name in UNITS]
+            command = re.search("(?m)^ExecStart=-(.*)$", units[1].read_text())[1].split()
+            self.assertEqual([word for word in command if word[0] == "/" and not (tree / word[1:]).is_file()], [])
+            self.assertTrue(command[0].startswith(f"/{place}/bin/"))
+            if not shutil.which("systemd-analyze"):
+                self.skipTest("what systemd says of the units, for want of it")
+            self.assertIn(self.out("systemd-analyze", "verify", *units), ["", "running with root privileges is not recommended!\n"])
+            level = self.out("systemd-analyze", "security", "--offline=true", units[1])
+            self.assertLess(float(re.search(r"exposure level for .*: ([\d.]+)", level)[1]), 1)
+
+    def test_it_can_be_removed_without_its_folder(self):
+        """What Debian runs before it removes the package."""
+        control, module = self.folder(), self.folder() / "dollar"
+        self.out("dpkg-deb", "-e", self.deb, control)
+        text = (control / "prerm").read_text().replace("/usr/lib/python3/dist-packages/dollar", str(module)).replace("py3clean", "nothing")
+        (module / "board" / "__pycache__").mkdir(parents=True)
+        self.out("sh", "-c", text, "prerm", "remove")
+        self.assertEqual(list(module.rglob("*")), [module / "board"])
+        shutil.rmtree(module)
+        self.out("sh", "-c", text, "prerm", "remove")
+
     def test_the_program_needs_no_library(self):
         packed = self.unpacked() / "bin" / "dollar"
         if b"/ld-linux" in packed.read_bytes():
             self.skipTest("the link with the C library, for want of gcc, rt, or the object of which tools/build has made the program")
         ldd = subprocess.run(["ldd", packed], stdout=subprocess.PIPE, stderr=subprocess.STDOUT, text=True)
-        self.assertEqual((ldd.returncode, ldd.stdout.strip()), (1, "not a dynamic executable"))
+        self.assertIn(ldd.stdout.strip(), ["not a dynamic executable", "statically linked"])
         self.out(ROOT / "tests" / "rows" / "check", packed)
+        if shutil.which("readelf"):
+            # It lies at no fixed address, and what it has looked up is read-only, as in the built program.
+            self.assertRegex(self.out("readelf", "-hd", packed), r"(?s)Type: +DYN .*NOW PIE")
 
     def test_the_tarball(self):
-        tree, table = self.unpacked(), EXAMPLES / "triangle.json"
-        self.assertEqual(self.out(tree / "bin" / "dollar", "judge", table), VERDICT)
+        tree = self.unpacked()
         self.assertEqual(self.out(tree / "bin" / "dollar", "--version"), self.out(program(), "--version"))
-        page = gzip.decompress((tree / "share/man/man1/dollar.1.gz").read_bytes()).decode()
-        self.assertEqual(page, self.out(sys.executable, ROOT / "tools" / "manual", program()))
-        named = re.findall(r"(?m)^\.I ([\w/]+\.md)$", page)
-        self.assertEqual([name for name in named if not (tree / "share/doc/dollar" / name).is_file()], [])
+        for name, words in {"dollar": [program()], "dollar-board": ["--board"]}.items():
+            page = gzip.decompress((tree / f"share/man/man1/{name}.1.gz").read_bytes()).decode()
+            self.assertEqual(page, self.out(sys.executable, ROOT / "tools" / "manual", *words))
+            named = re.findall(r"(?m)^\.I ([\w/]+\.md)$", page)
+            self.assertEqual([name for name in named if not (tree / "share/doc/dollar" / name).is_file()], [])
         self.assertIn("complete -F _dollar dollar", self.out(
             "bash", "--norc", "-c", 'source "$1"; complete -p dollar', "bash",
             tree / "share/bash-completion/completions/dollar"))
         for shell, place in ("zsh", "site-functions/_dollar"), ("fish", "vendor_completions.d/dollar.fish"):
             if shutil.which(shell):
                 self.out(shell, "-n", tree / "share" / shell / place)
-        path = "%s:%s" % (tree / "bin", os.environ["PATH"])
-        self.assertEqual(self.out(sys.executable, "-B", "-c", LINES, cwd="/", env=dict(
-            self.environ, PATH=path, PYTHONPATH=str(tree / "share/dollar/python"))), VERDICT)
-        drawn = self.out(sys.executable, tree / "share/dollar/python/dollar", "draw", table, env=dict(self.environ, PATH=path))
-        self.assertTrue(drawn.endswith("</svg>\n"))
+        package, inside = str(tree / "share/dollar/python"), {**self.environ, "PATH": f"{tree / 'bin'}:{os.environ['PATH']}"}
+        self.assertEqual(self.out(sys.executable, "-B", "-c", LINES, cwd="/", env={**inside, "PYTHONPATH": package}), VERDICT)
+        self.assertTrue(self.out(sys.executable, tree / "share/dollar/python/dollar", "draw", EXAMPLES / "triangle.json",
+                                 env=inside).endswith("</svg>\n"))
+        self.assertTrue(self.out(tree / "share/doc/dollar/examples/talk.py", env=inside).endswith("2 won\n"))
+        self.try_pages(tree / "share/doc/dollar", tree / "bin", PYTHONPATH=package)
+        self.try_board([tree / "bin" / "dollar-board"], env=inside)
         local = self.place / "local"
         local.mkdir()
         remove = re.search(r"(?m)^ *(rm .*)$", (tree / "README").read_text())[1].replace("/usr/local", str(local))
         self.out("sh", "-c", 'cp -r "$0/bin" "$0/share" "$1" && %s' % remove, tree, local)
         self.assertEqual([file for file in local.rglob("*") if not file.is_dir()], [])
 
-    def try_board(self, words):
+    def try_board(self, words, env=None):
         """Opens the first board, and sees that its page is there."""
         child = subprocess.Popen(list(map(str, [*words, "--no-browser"])), stdin=subprocess.DEVNULL, stdout=subprocess.PIPE,
-                                 text=True, env=self.environ, cwd="/")
+                                 text=True, env=env or self.environ, cwd="/")
         try:
             address = re.search(r"http://\S+", child.stdout.readline())[0]
             with urllib.request.urlopen(address) as page:
@@ -124,12 +245,11 @@ class OfPackages(Test):
             child.communicate()
         self.assertEqual(child.returncode, 0)
 
-    def try_wheel(self, wheel, *before):
+    def try_wheel(self, wheel, *before, tree="/"):
         """Installs the wheel in a fresh environment, in a tree if the words before a command lead there; tries it, and removes
         it."""
         inside = "/tmp/own" if before else str(self.folder() / "own")
-        own = Path(before[1]) / "tmp/own" if before else Path(inside)
-        table = "/tmp/triangle.json" if before else EXAMPLES / "triangle.json"
+        own = Path(f"{tree}/{inside}")
         self.out(*before, "python3" if before else sys.executable, "-m", "venv", inside)
 
         def files():
@@ -137,10 +257,14 @@ class OfPackages(Test):
 
         kept, pip = files(), [*before, inside + "/bin/python", "-m", "pip", "--disable-pip-version-check"]
         self.out(*pip, "install", "--quiet", "--no-index", wheel)
-        self.assertEqual(self.out(*before, inside + "/bin/dollar", "judge", table), VERDICT)
+        documents = inside + "/share/doc/dollar"
+        self.assertEqual(self.out(*before, inside + "/bin/dollar", "judge", documents + "/examples/triangle.json"), VERDICT)
         self.assertEqual(self.out(*before, inside + "/bin/python", "-B", "-c", LINES, cwd="/"), VERDICT)
+        self.assertTrue(self.out(*before, inside + "/bin/python", "-B", documents + "/examples/talk.py").endswith("2 won\n"))
+        self.assertTrue(os.access(own / "share/doc/dollar/examples/talk.py", os.X_OK))
+        self.try_pages(own / "share/doc/dollar", inside + "/bin", *before, inside=documents)
         self.try_board([*before, inside + "/bin/dollar-board"])
-        self.assertTrue((own / "share/doc/dollar/docs/tools.md").is_file())
+        self.assertEqual(list(dead_links(own / "share/doc/dollar")), [])
         self.out(*pip, "uninstall", "--quiet", "--yes", "dollar")
         self.assertEqual(files() - kept, set())
 
@@ -153,7 +277,8 @@ class OfPackages(Test):
         said = subprocess.run(["lintian", self.deb], stdout=subprocess.PIPE, stderr=subprocess.DEVNULL, text=True).stdout
         self.assertEqual(said.splitlines(), ["W: dollar: copyright-without-copyright-notice"])
 
-    def test_both_in_a_fresh_debian(self):
+    def fresh_debian(self):
+        """A fresh tree of this Debian, and the files that are in it."""
         with open("/etc/os-release") as file:
             suite = re.search(r"(?m)^VERSION_CODENAME=(.*)$", file.read())
         if not shutil.which("debootstrap") or os.geteuid() or not suite:
@@ -167,15 +292,36 @@ class OfPackages(Test):
             self.skipTest("the install in a fresh Debian, which debootstrap could not make: %s" % done.stdout.splitlines()[-1:])
         # The package hands the program its files by /dev/fd, which leads to /proc.
         self.out("mount", "-t", "proc", "proc", tree / "proc")
-        for file in self.deb, self.wheel, EXAMPLES / "triangle.json":
+        for file in self.made:
             shutil.copy(file, tree / "tmp")
-        before, inside = listed(tree), ["chroot", tree]
-        self.out(*inside, "dpkg", "-i", "/tmp/" + self.deb.name)
-        self.assertEqual(self.out(*inside, "dollar", "judge", "/tmp/triangle.json"), VERDICT)
+        return tree, listed(tree)
+
+    def try_debian(self, tree, inside, user):
+        """What somebody without rights does with the installed Debian package."""
+        documents = "/usr/share/doc/dollar"
+        self.assertEqual(self.out(*user, "dollar", "judge", documents + "/examples/triangle.json"), VERDICT)
         self.assertEqual(self.out(*inside, "dpkg-query", "-W", "-f", "${Version}", "dollar"), self.version)
         self.assertEqual(self.out(*inside, "dpkg", "-V", "dollar"), "")
-        self.assertEqual(self.out(*inside, "python3", "-c", LINES), VERDICT)
-        self.try_board([*inside, "dollar-board"])
-        self.out(*inside, "dpkg", "-P", "dollar")
-        self.assertEqual(listed(tree) - before, set())
-        self.try_wheel("/tmp/" + self.wheel.name, *inside)
+        self.assertEqual(self.out(*user, "python3", "-c", LINES), VERDICT)
+        self.try_pages(tree / documents[1:], "/usr/bin", *user, inside=documents)
+        self.try_board([*user, "dollar-board"])
+        command = re.search("(?m)^ExecStart=-(.*)$", (tree / documents[1:] / "examples" / UNITS[1]).read_text())[1]
+        self.assertEqual(self.out(*user, "sh", "-c", f"echo claim | {command}"), "0 not won\n")
+
+    def test_all_in_a_fresh_debian(self):
+        tree, before = self.fresh_debian()
+        inside, user = ["chroot", tree], ["chroot", "--userspec=65534:65534", tree]
+        for number in range(2):
+            self.out(*inside, "dpkg", "-i", "/tmp/" + self.deb.name)
+            if number == 0:
+                self.try_debian(tree, inside, user)
+            else:
+                shutil.rmtree(tree / "usr/lib/python3/dist-packages/dollar")
+            self.out(*inside, "dpkg", "-P", "dollar")
+            self.assertEqual(listed(tree) - before, set())
+        self.try_wheel("/tmp/" + self.wheel.name, *user, tree=tree)
+        self.out(*user, "sh", "-c", f"cd /tmp && tar -xf {self.tarball.name}")
+        home = f"/tmp/dollar-{self.version}"
+        self.try_pages(tree / home[1:] / "share/doc/dollar", home + "/bin", *user, inside=home + "/share/doc/dollar",
+                       PYTHONPATH=home + "/share/dollar/python")
+        self.try_board([*user, home + "/bin/dollar-board"])

@@ -49,7 +49,10 @@ class OfPages(Test):
     @each(PAGES)
     def test_a_page(self, page):
         for command, wanted in shown(page.read_text(), r"(?:|.* )\./dollar"):
-            self.play(command, wanted, ROOT)
+            if command.startswith("jq ") and not shutil.which("jq"):
+                print("left out: a sweep over lines that jq makes, for want of it")
+            else:
+                self.play(command, wanted, ROOT)
         for path, quoted in re.findall(r"(?m)^From `(.+)`:\n\n((?:    .*\n)+)", page.read_text()):
             self.assertIn("\n" + re.sub("(?m)^    ", "", quoted), "\n" + (ROOT / path).read_text())
 
@@ -84,6 +87,27 @@ class OfPages(Test):
         self.assertEqual(start, [*houses["amounts"], sum(houses["amounts"])])
         said = subprocess.run([program(), "serve", EXAMPLES / "houses.json"], input="lend cyd", stdout=subprocess.PIPE, text=True).stdout
         self.assertEqual(list(map(int, re.findall(r"=(-?\d+)", said))), after)
+
+    def test_the_homework(self):
+        """The handout gives what play.md gives, and the answers there are right."""
+        asked = re.findall(r"(?s)<li>(.*?)</li>", HANDOUT.read_text().partition("At home</h2>")[2])
+        home, answers = (ROOT / "docs" / "play.md").read_text().partition("### To take home")[2].split("#### Answers")
+        for said in zip(asked, re.findall(r"(?ms)^\d\. (.*?)(?=^\d\.|\Z)", home)):
+            one, other = (re.sub(r"In part 1|On the first table", "There", re.sub("part 3|the second table", "it", " ".join(text.split())))
+                          for text in said)
+            self.assertEqual(one, other)
+        self.assertEqual(len(asked), 2)
+        kind, first = (json.loads((EXAMPLES / f"{name}.json").read_text()) for name in ("kind_houses", "houses"))
+        names = first["vertices"]
+        given = [{**kind, "amounts": [n + (i == at) for i, n in enumerate(kind["amounts"])]} for at in range(4)]
+        roads = [(one, other) for at, one in enumerate(names) for other in names[:at]]
+        built = [{**first, "edges": [*first["edges"], [*road, 1]]} for road in roads]
+        lines = "".join(json.dumps(table) + "\n" for table in given + built)
+        said = subprocess.run([program(), "judge", "--lines", "/dev/stdin"], input=lines, stdout=subprocess.PIPE, text=True).stdout
+        won = [line.startswith("winnable") for line in said.splitlines()]
+        self.assertEqual((won[:4], [set(road) for road, is_won in zip(roads, won[4:]) if is_won]), ([True] * 4, [{"ann", "dan"}]))
+        self.assertIn("any of the four houses", answers)
+        self.assertIn("road between ann and dan, and after no other", answers)
 
     def test_the_handout_fits_a_sheet(self):
         if not shutil.which("chromium"):

@@ -31,9 +31,10 @@ class OfPages(Test):
         if not shutil.which(tool):
             self.skipTest("the pipe with %s, which is not here" % tool)
         command, wanted = shown(tool)
-        done = subprocess.run(["bash", "-c", 'dollar() { "$DOLLAR" "$@"; }\n' + command], cwd=ROOT, stdout=subprocess.PIPE, text=True)
+        command = 'dollar() { "$DOLLAR" "$@"; }\n' + command.replace("./dollar", "dollar")
+        done = subprocess.run(["bash", "-c", command], cwd=ROOT, stdout=subprocess.PIPE, text=True)
         # How far uniq moves its numbers to the right is its own affair.
-        self.assertEqual([line.strip() for line in done.stdout.splitlines()], wanted)
+        self.assertEqual([line.strip() for line in done.stdout.splitlines()], [line.strip() for line in wanted])
         self.assertEqual(done.returncode, 0)
 
     def test_the_help_and_the_page_have_each_name(self):

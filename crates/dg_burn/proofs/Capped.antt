@@ -3,6 +3,7 @@
 --   same-may       who may burn is the same, where q burns
 --   same-order     so the order is the same
 use Rattle.dg_burn.proofs.Common.{◌≡◌, ℕ, suc, ◌<◌, ◌≤◌, Bool, true, false, List, [], ◌∷◌, take, arith, refl, ap, ◌∙◌, ◌↔◌, ℤ, negsuc, slice_get, Some, ◌<ℤ◌, ◌≤ℤ◌, pos, both_ways, eq-eqb, ints, Multigraph, Amounts, HasNoDebtOff, among, edges_into, MayBurn, BurnsNext, BurnsInOrder, IsGraph, dollars, capped, IsHeldForBurning}
+use Rattle.dg_theory.proofs.BurningOrder.{among_first}
 use Rattle.dg_burn.proofs.Fires.{into-few}
 
 pub capped-less : (z : ℤ) (e : ℕ) → pos 0 ≤ℤ z → e ≤ 63 → (pos (capped z) <ℤ pos e) ↔ (z <ℤ pos e)
@@ -29,15 +30,9 @@ same-may g q D held B v graph solvent same burns = (
         (solvent v below (λ is_q. both_ways _ out (ap B is_q ∙ burns)))
         (into-few g B v graph)
 
-among-first : (l : List ℕ) (q i : ℕ) → slice_get l 0 ≡ Some q → among (take (suc i) l) q ≡ true
+pub among-first : (l : List ℕ) (q i : ℕ) → slice_get l 0 ≡ Some q → among (take (suc i) l) q ≡ true
 among-first [] q i first = let clash : ⊥ = cc in absurd clash
 among-first (x ∷ l) q i first =
-    let is_q : x ≡ q = cc in
-    rw (eq-eqb x q is_q) refl
-
-among-all : (l : List ℕ) (q : ℕ) → slice_get l 0 ≡ Some q → among l q ≡ true
-among-all [] q first = let clash : ⊥ = cc in absurd clash
-among-all (x ∷ l) q first =
     let is_q : x ≡ q = cc in
     rw (eq-eqb x q is_q) refl
 
@@ -56,5 +51,5 @@ same-order g q D held l graph solvent same order = record {
         };
   };
   last = λ v may.
-      order.last v ((same-may g q D held (among l) v graph solvent same (among-all l q order.begun.first)).1 may);
+      order.last v ((same-may g q D held (among l) v graph solvent same (among_first l q order.begun.first)).1 may);
 }

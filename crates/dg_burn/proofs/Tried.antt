@@ -18,29 +18,18 @@
 --   turned-skip      a vertex that is not in U needs no turn
 --   turned-kept      a vertex is kept, and turned-out: left out
 --   turned-all       after all turns
-use Rattle.dg_burn.proofs.Common.{zero, suc, if◌then◌else◌, ◌≡◌, ◌≢◌, ℕ, ◌+◌, ◌<◌, ◌≤◌, ◌&&◌, ◌⊎◌, inl, inr, ⊎_elim, Bool, true, false, not, nat_lt, List, arith, refl, sym, ap, subst, ◌∙◌, pos, ◌≤ℤ◌, cases_Bool, cases_eq, cases_lt, both_ways, and_parts, ints, eq-eqb, le-ltb, lt-ltb, ltb-true, ne_eqb, true_from_ne_false, Multigraph, IsMultigraph, IsGraph, valence, edges_between, edges_into, edges_out, total_below-term, member_or_none, IsReduced, BurnsInOrder, IsGreatestFree, unburnt_by, IsWith, IsWithout, in_set, in_set-none, no_set, dollars}
+use Rattle.dg_burn.proofs.Common.{zero, suc, if◌then◌else◌, ◌≡◌, ◌≢◌, ℕ, ◌+◌, ◌<◌, ◌≤◌, ◌&&◌, ◌⊎◌, inl, inr, ⊎_elim, Bool, true, false, not, nat_lt, List, arith, refl, sym, ap, subst, ◌∙◌, pos, ◌≤ℤ◌, cases_Bool, cases_eq, cases_lt, both_ways, and_parts, ints, eq-eqb, le-ltb, lt-ltb, ltb-true, ne_eqb, true_from_ne_false, Multigraph, IsMultigraph, IsGraph, edges_between, edges_into, edges_out, total_below-term, member_or_none, IsReduced, BurnsInOrder, IsGreatestFree, unburnt_by, IsWith, IsWithout, in_set, in_set-none, no_set, dollars}
 use Rattle.std.proofs.lemmas.Bool.{and_from, false_from_ne_true, not-true, not_from_false}
 use Rattle.dg_theory.specs.Burning.{FiresFreely}
 use Rattle.dg_theory.specs.Determining.{HangsLoosely, IsConnectedSet, MeetsSpecialSets, beside}
 use Rattle.dg_theory.proofs.Agreement.{reduced-cong}
 use Rattle.dg_theory.proofs.Components.{connected-alone, connected-more, connected_grows}
+use Rattle.dg_theory.proofs.Debts.{out-le-valence}
 use Rattle.dg_theory.proofs.SetFiring.{fired-inside, inside-fired, outside-fired}
-use Rattle.dg_theory.proofs.Special.{fires_hangs, hangs_not_reduced, total_some}
+use Rattle.dg_theory.proofs.Special.{edge_into, fires_hangs, hangs_not_reduced, total_some}
 use Rattle.dg_theory.proofs.TotalLaws.{total_below-le}
 use Rattle.dg_burn.specs.Special.{AllHang, Hangs, IsGreedy, IsGrowing, IsOff, IsPartOf, IsSpecialFrom, only, others, wall}
 use Rattle.dg_burn.proofs.Told.{none_reduced}
-
-into-parts : (b : Bool) (e : ℕ) → 0 < (if b then e else 0) → (b ≡ true) × (0 < e)
-into-parts true e some = (refl, some)
-into-parts false e some = absurd (omega arith)
-
--- from a count above 0, an edge
-edge_into : (g : Multigraph) (S : ℕ → Bool) (v : ℕ) → 0 < edges_into g S v →
-    (w : ℕ) × (w < g.size) × (S w ≡ true) × (0 < edges_between g v w)
-edge_into g S v some =
-    let (w, below, counted) = total_some g.size (λ u. if S u then edges_between g v u else 0) some in
-    let (member, edge) = into-parts (S w) (edges_between g v w) counted in
-    (w, below, member, edge)
 
 pub joined_by : (g : Multigraph) (S : ℕ → Bool) (v w : ℕ) → w < g.size → S w ≡ true → 0 < edges_between g v w →
     0 < edges_into g S v
@@ -99,15 +88,8 @@ but-below g X v member =
 but-from : (g : Multigraph) (X : ℕ → Bool) (v : ℕ) → v < g.size → X v ≡ false → but g X v ≡ true
 but-from g X v below off = and_from _ _ (lt-ltb v g.size below) (not_from_false (X v) off)
 
-out-once : (b : Bool) (e : ℕ) → (if b then 0 else e) ≤ e
-out-once true e = omega arith
-out-once false e = omega arith
-
 out-few : (g : Multigraph) (R : ℕ → Bool) (v : ℕ) → IsGraph g → v < g.size → edges_out g R v ≤ 63
-out-few g R v graph below =
-    let few : edges_out g R v ≤ valence g v =
-    total_below-le g.size _ _ (λ w _. out-once (R w) (edges_between g v w)) in
-    omega (arith, graph.valences v below)
+out-few g R v graph below = omega (arith, out-le-valence g R v, graph.valences v below)
 
 out-none : (g : Multigraph) (R : ℕ → Bool) (v : ℕ) →
     ((w : ℕ) → w < g.size → R w ≡ false → edges_between g v w ≡ 0) → edges_out g R v ≡ 0

@@ -27,7 +27,7 @@ pub struct Burnt {
 
 /// What burning from a vertex comes to, with the counts that tell what a firing of the rest would move.
 #[derive(Clone, Copy)]
-pub struct Counted {
+pub struct BurnCounts {
     /// What burning comes to.
     pub burnt: Burnt,
     /// How many edges join each vertex to those that burn, 0 past the last vertex.
@@ -57,7 +57,7 @@ pub fn burn(graph: &Graph, q: usize, chips: &Wide) -> Burnt
 /// Burns the graph from q, if each vertex holds so many dollars: as `burn` does, and with the counts kept. Amounts above
 /// 64 burn as 64 does, for no vertex has more than 63 edges.
 #[inline(always)]
-pub fn burn_counted(graph: &Graph, q: usize, held: &[u8; 16]) -> Counted
+pub fn burn_counted(graph: &Graph, q: usize, held: &[u8; 16]) -> BurnCounts
     requires { q < graph.now.size }
     ensures order { BurnsInOrder graph.now q (dollars held.now)
         (take result.burnt.burnt result.burnt.order) }
@@ -84,7 +84,7 @@ pub fn burn_counted(graph: &Graph, q: usize, held: &[u8; 16]) -> Counted
         count += 1;
         fire.burn_vertex(graph, v);
     }
-    Counted {
+    BurnCounts {
         burnt: Burnt {
             order,
             burnt: count as u8,

@@ -5,5 +5,5 @@ mod burning;
 mod fire;
 mod special;
 
-pub use burning::{Burnt, Counted, burn, burn_counted, capped_at};
+pub use burning::{BurnCounts, Burnt, burn, burn_counted, capped_at};
 pub use special::{determining_set, determining_sets_are_one};

@@ -5,7 +5,6 @@
 --   none_there      past the graph there is no vertex of S
 --   set-gain        each vertex gets what comes along its edges from S, and one of S loses a dollar along each of its edges
 --   set-outside     so a 0 that stands where there is no vertex stays
---   some-few        a number or none is at most the number
 --   lends-once      what is told of a vertex as a number is how often it lends
 --   held_flow       a machine's sum of an amount and what comes less what goes is the amount after it
 --   range-more      whether the first amounts are in range, and one more
@@ -66,10 +65,6 @@ set-outside g D S v graph inside past none =
       into-le-valence g S v,
       valence-outside g v graph past,
     )
-
-pub some-few : (b : Bool) (k : ℕ) → (if b then k else 0) ≤ k
-some-few true k = omega arith
-some-few false k = omega arith
 
 pub lends-once : (S : ℕ → Bool) (v : ℕ) (member : Bool) (x : ℤ) → member ≡ S v → x ≡ pos (bool_byte member) →
     (x ≡ indicator S v) × (unsigned_abs x ≤ 1)

@@ -10,8 +10,11 @@
 --   single        zeros with x written at v are x at v and 0 elsewhere
 --   one_more      numbers of which one is replaced by so much more are so much more at that place
 --   one_written   a vector with another number within the limit at one place is within the limit
+--   one_vector    vectors are one if they have as many places and the same numbers
+--   held_once     and so if they hold the numbers of one list
+--   not_past      amounts that a divisor holds are not out of range
 --   within_all    past the size too, the numbers of a vector are within its limit
-use Rattle.dg_chips.proofs.Common.{◌≡◌, ◌≢◌, ℕ, ◌+◌, ◌<◌, ◌≤◌, List, length, length-set, slice_set, arith, inl, inr, get_or-set_same, get_or-set_other, below_more, sym, ◌∙◌, unsigned_abs, replicate, slice_index_or, ℤ, pos, ◌+ℤ◌, +ℤ_idr, cases_lt, cases_eq, ints, get_or-replicate, get_or_past, length-replicate, only_at, only_at-here, only_at-other, Vector, IsVector, at}
+use Rattle.dg_chips.proofs.Common.{◌≡◌, ◌≢◌, ℕ, ◌+◌, ◌<◌, ◌≤◌, List, length, length-set, slice_set, arith, inl, inr, get_or-set_same, get_or-set_other, below_more, ext_get_or, sym, ◌∙◌, unsigned_abs, replicate, slice_index_or, ℤ, pos, ◌+ℤ◌, +ℤ_idr, cases_lt, cases_eq, ints, get_or-replicate, get_or_past, length-replicate, ap, Amounts, IsOutOfRange, only_at, only_at-here, only_at-other, Vector, IsVector, HoldsNumbers, at}
 
 pub at_same : {X : Type 0} (n v : ℕ) (x : X) → slice_index_or (replicate n x) v x ≡ x
 at_same n v x = elim (cases_lt v n) [
@@ -69,6 +72,7 @@ pub one_written : (limit : ℕ) (a : Vector) (v : ℕ) (x : ℤ) → v < a.size 
     IsVector limit (record { size = a.size; numbers = slice_set a.numbers v x })
 one_written limit a v x below within small right = record {
   few = right.few;
+  places = length-set a.numbers v x ∙ right.places;
   within = λ w here. elim (cases_eq w v) [
     | inl same ↦ rw (same, get_or-set_same a.numbers v x (pos 0) within) small
     | inr other ↦ rw (get_or-set_other a.numbers v w x (pos 0) other) (right.within w here)
@@ -92,3 +96,25 @@ within_all limit x right v = elim (cases_lt v x.size) [
   | inl below ↦ right.within v below
   | inr above ↦ rw (right.inside v (omega arith)) (omega arith)
 ]
+
+pub one_vector : (limit : ℕ) (x y : Vector) → IsVector limit x → IsVector limit y → x.size ≡ y.size →
+    ((v : ℕ) → v < x.size → at x v ≡ at y v) → x ≡ y
+one_vector limit x y right other sizes same =
+    let numbers : x.numbers ≡ y.numbers =
+    ext_get_or (pos 0) x.numbers y.numbers (right.places ∙ sym other.places) (λ v below. elim (cases_lt v x.size) [
+      | inl here ↦ same v here
+      | inr past ↦ right.inside v past ∙ sym (other.inside v (omega (arith, past, sizes)))
+    ]) in
+    λ i. record { size = sizes i; numbers = numbers i }
+
+pub held_once : (limit : ℕ) (xs : List ℤ) (x y : Vector) → HoldsNumbers xs x → HoldsNumbers xs y → IsVector limit x →
+    IsVector limit y → x ≡ y
+held_once limit xs x y first second right other =
+    one_vector limit x y right other (first.size ∙ sym second.size) (λ v below.
+    let here : v < length xs = omega (arith, below, first.size) in
+    first.numbers v here ∙ sym (second.numbers v here))
+
+pub not_past : (n : ℕ) (D : Amounts) (d : Vector) → IsVector 1000000 d → d.size ≡ n → ((v : ℕ) → v < n → at d v ≡ D v) →
+    IsOutOfRange n D → ⊥
+not_past n D d right size same (v, below, past) =
+    omega (arith, right.within v (omega arith), ap unsigned_abs (same v below))

@@ -1,14 +1,14 @@
 -- What an accepted move leaves.
---   IsAfterMove g D m d == d holds the amounts after the move m on D, all of them in range
+--   IsAfterMove g D m d == the divisor d holds the amounts after the move m on D, so all are in range
 use Rattle.std.specs.Prelude.{◌≡◌, ℕ, ◌<◌}
 use Rattle.dg_theory.specs.Firing.{Amounts, fired}
 use Rattle.dg_theory.specs.Multigraph.{Multigraph}
-use Rattle.dg_chips.specs.Vector.{Vector, at, IsInRange}
+use Rattle.dg_chips.specs.Vector.{Vector, at, IsDivisor}
 use Rattle.dg_chips.specs.Moves.{script_of, IsPlayable}
 use Rattle.dg_chips.specs.declared.moves.Move.{Move}
 
 pub record IsAfterMove (g : Multigraph) (D : Amounts) (m : Move) (d : Vector) : Type 0 where
   pub playable : IsPlayable g.size m
-  pub in_range : IsInRange g.size (fired g D (script_of m))
   pub size : d.size ≡ g.size
+  pub divisor : IsDivisor d
   pub amounts : (v : ℕ) → v < g.size → at d v ≡ fired g D (script_of m) v

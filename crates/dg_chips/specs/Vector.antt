@@ -1,13 +1,12 @@
 -- A whole number for each vertex, as divisors and scripts hold it.
 --   Vector               == a size, and a list of whole numbers
 --   at x v               == the number at v, and 0 past the list
---   IsVector limit x     == at most 16 numbers, each within the limit, and 0 past the size
---   IsDivisor x          == at most 16 numbers within the limit of an amount, and 0 past the size
---   IsScript x           == at most 16 numbers within the limit of an entry of a script, and 0 past
---                           the size
---   IsDrift x            == at most 16 numbers within the limit of a sum of scripts, and 0 past the
---                           size
---   IsWide x             == at most 16 numbers of any size, and 0 past the size
+--   IsVector limit x     == a list of 16 numbers, each within the limit, and 0 past the size; so two
+--                           vectors of one size are one if they have the same numbers
+--   IsDivisor x          == the numbers are within the limit of an amount
+--   IsScript x           == they are within the limit of an entry of a script
+--   IsDrift x            == they are within the limit of a sum of scripts
+--   IsWide x             == a list of 16 numbers of any size, and 0 past the size of the vector
 --   HoldsNumbers xs x    == the vector holds just the numbers of the list xs
 --   IsInRange n D        == all n amounts are within the limit of a divisor
 --   IsOutOfRange n D     == some of the n amounts is past the limit of a divisor
@@ -27,6 +26,7 @@ at x v = slice_index_or x.numbers v (pos 0)
 
 pub record IsVector (limit : ℕ) (x : Vector) : Type 0 where
   pub few : x.size ≤ MAX_VERTICES
+  pub places : length x.numbers ≡ MAX_VERTICES
   pub within : (v : ℕ) → v < x.size → unsigned_abs (at x v) ≤ limit
   pub inside : (v : ℕ) → x.size ≤ v → at x v ≡ pos 0
 
@@ -41,6 +41,7 @@ IsDrift x = IsVector MAX_DRIFT x
 
 pub record IsWide (x : Vector) : Type 0 where
   pub few : x.size ≤ MAX_VERTICES
+  pub places : length x.numbers ≡ MAX_VERTICES
   pub inside : (v : ℕ) → x.size ≤ v → at x v ≡ pos 0
 
 pub record HoldsNumbers (xs : List ℤ) (x : Vector) : Type 0 where

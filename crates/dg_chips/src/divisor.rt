@@ -6,7 +6,7 @@ ghost use Rattle.std.specs.Int.RustNames.{unsigned_abs};
 ghost use Rattle.dg_theory.specs.Rank.{canonical};
 ghost use Rattle.dg_theory.specs.Firing.{degree, IsEffective, only_at, indicator, fired};
 ghost use Rattle.dg_graph.specs.Sets.{in_set, IsVertexSet};
-ghost use Rattle.dg_chips.specs.Vector.{at, HoldsNumbers, IsDivisor, IsInRange, IsOutOfRange};
+ghost use Rattle.dg_chips.specs.Vector.{at, HoldsNumbers, IsDivisor, IsOutOfRange};
 ghost use Rattle.dg_chips.specs.DivisorFaults.{IsFirstChipFault, IsFirstMinusFault};
 
 use crate::firing::carried_once;
@@ -81,7 +81,8 @@ impl Divisor {
     /// The divisor that is kept as this row.
     fn of_row(size: usize, amounts: [i32; 16]) -> Divisor
         requires { IsDivisor (record { size = size; numbers = amounts }) }
-        ensures { result ≡ record { size = size; numbers = amounts } }
+        ensures row { result ≡ record { size = size; numbers = amounts } }
+        ensures divisor { IsDivisor result }
     {
         let size = size as u8;
         Divisor { size, amounts }
@@ -175,7 +176,8 @@ impl Divisor {
         ensures { MatchOption result
             (MAX_AMOUNT < unsigned_abs (at self.now v +ℤ dollars))
             (λ d. (d.size ≡ self.now.size)
-            × ((w : ℕ) → w < self.now.size → at d w ≡ at self.now w +ℤ only_at v dollars w)) }
+            × ((w : ℕ) → w < self.now.size → at d w ≡ at self.now w +ℤ only_at v dollars w)
+            × IsDivisor d) }
     {
         let amount = self.get(v) + dollars;
         if amount.unsigned_abs() > MAX_AMOUNT {
@@ -196,9 +198,9 @@ impl Divisor {
         ensures { MatchOption result
             (IsOutOfRange graph.now.size (fired graph.now (at self.now) (only_at v times)))
             (λ d. (d.size ≡ graph.now.size)
-            × IsInRange graph.now.size (fired graph.now (at self.now) (only_at v times))
             × ((w : ℕ) → w < graph.now.size →
-            at d w ≡ fired graph.now (at self.now) (only_at v times) w)) }
+            at d w ≡ fired graph.now (at self.now) (only_at v times) w)
+            × IsDivisor d) }
     {
         let size = graph.size();
         let row = graph.row(v);
@@ -222,9 +224,9 @@ impl Divisor {
         ensures { MatchOption result
             (IsOutOfRange graph.now.size (fired graph.now (at self.now) (indicator (in_set set))))
             (λ d. (d.size ≡ graph.now.size)
-            × IsInRange graph.now.size (fired graph.now (at self.now) (indicator (in_set set)))
             × ((w : ℕ) → w < graph.now.size →
-            at d w ≡ fired graph.now (at self.now) (indicator (in_set set)) w)) }
+            at d w ≡ fired graph.now (at self.now) (indicator (in_set set)) w)
+            × IsDivisor d) }
     {
         let size = graph.size();
         let (got, lent) = flows(graph, set);

@@ -71,7 +71,7 @@ pub(crate) fn flows(graph: &Graph, set: u16) -> ([u8; 16], [u8; 16])
     (got.to_array(), lent)
 }
 
-/// The sums of the lanes.
+/// Adds `row` to `sums`, lane by lane. No lane passes 255.
 fn with_flow_row(sums: u8x16, row: u8x16) -> u8x16
     requires { (v : ℕ) → v < MAX_VERTICES → slice_index sums v + slice_index row v ≤ 255 }
     ensures { (v : ℕ) → v < MAX_VERTICES →

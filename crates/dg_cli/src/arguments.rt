@@ -90,7 +90,7 @@ impl Argument {
         }
     }
 
-    /// How it is written.
+    /// Whether it is one word or more at its place, a flag, or an option with a value.
     fn form(self) -> Form
         ensures { rule_for self ≡ rule_by result (rule_for self).id }
     {

@@ -30,13 +30,13 @@ pub(crate) const WORKERS_HELP: &str = "How many threads share the trials, 1 to 1
 
 pub(crate) const RANK_WORKERS_HELP: &str = "Threads that share trials or lines, 1 to 16; default 1";
 
-pub(crate) const LINE_WORKERS_HELP: &str = "How many threads share the lines, 1 to 16; default 1";
+pub(crate) const LINE_WORKERS_HELP: &str = "Threads for --lines or --divisors, 1 to 16; default 1";
 
-pub(crate) const SEATS_HELP: &str = "How many seats lines name, 1 to 64; default one, unnamed";
+pub(crate) const SEATS_HELP: &str = "A game for N seats, 1 to 64: each line begins with one";
 
 pub(crate) const LINES_HELP: &str = "FILE has a table on each line, and each is answered";
 
-pub(crate) const DIVISORS_HELP: &str = "LINES has amounts for the table on each line";
+pub(crate) const DIVISORS_HELP: &str = "Each line of LINES has amounts for the table of FILE";
 
 pub(crate) const ORDER_HELP: &str = "Verdicts end with the order in which vertices burn";
 
@@ -71,11 +71,14 @@ from 0, lines and steps from 1: `edge 0 is empty` is about the first edge, and
 
 A run that fails prints one line that says why, on standard error, and nothing
 else. But `serve`, `--lines` and `--divisors` have answered the lines before,
-and `party` prints the history even if a session ended early. The status is
+and `party` prints the history even if a session ended early. If a line of these
+is refused, `refused ..` or `bad ..` is its answer, and the run goes on.
+
+The status is
 
     0  if there is an answer, also `unwinnable` and `rank below ..`
     2  if the command line is refused
-    3  if a file, a line or a limit is refused
+    3  if a table or a steps file is refused, or a limit is passed
     4  if memory, a thread or a cell of the history is refused
     5  if a file can't be read or the output can't be written
 "#;
@@ -145,7 +148,10 @@ first trial that does not is shown. The status is 0 for both answers.
     rank below 1 at a=0 b=0 c=1
 
 K may be at most 1000, and there may be at most 200000 trials; a test past that
-is refused with `too many trials`. The workers change no answer.
+is refused with `too many trials`. The workers change no answer. With --lines,
+many of these tests have an answer too:
+
+    jq -c . FILE | dollar rank --lines /dev/stdin K
 
 With --lines, FILE has a table on each line, and is read as it comes. Any other
 line is answered by the fault of such a file:
@@ -199,7 +205,10 @@ For the triangle:
 By Riemann-Roch, rank - dual = degree + 1 - genus.
 
 Both ranks must be within the limits of `dollar rank`. With 16 vertices each may
-be at most 6. Otherwise the fault is `too many trials`.
+be at most 6. Otherwise the fault is `too many trials`; with --lines many tables
+have an answer even then:
+
+    jq -c . FILE | dollar rr --lines /dev/stdin
 
 With --lines, FILE has a table on each line, and is read as it comes. Any other
 line is answered by the fault of such a file:
@@ -291,9 +300,10 @@ from 1, as in `line 1: bad seat`.
 Each step has a line with its number, from 0, and its result. A levy takes
 dollars from V. A join changes no amount, but from then on dollars go along the
 new edge too. Both count as gifts. A commit or a rank test uses up the look of
-its seat. It holds for the amounts at which it is entered, even if there were
-moves since the look; only a gift makes it stale. If something is refused, only
-a fault is printed: of the first refused line, or else the first refused step.
+its seat. The answer is for the amounts at that moment: moves since the look do
+no harm, but a gift, a levy or a join makes it stale. If something is refused,
+only a fault is printed: of the first refused line, or else the first refused
+step.
 ";
 
 pub(crate) const SERVE_MORE: &str = "\

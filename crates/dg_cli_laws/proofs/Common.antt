@@ -1,5 +1,4 @@
 -- The names that the proofs of this crate cite, passed on from one place. Declares nothing.
-pub use Rattle.clap.proofs.CountText.{decimal-count_text}
 pub use Rattle.clap.specs.Facts.{parser_of_value, unwrap_or_range}
 pub use Rattle.clap.specs.Faults.{action_fault, built_fault, bundle_step_fault, count_fault, default_fault, entered_fault, fault_of, flag_word_fault, level_fault, long_fault, option_fault, other_fault, react_fault, set_fault, settle_fault, short_fault, step_fault, turn_fault, use_fault}
 pub use Rattle.clap.specs.Kinds.{IsAmong, Kinds, check_kinds, or_else, range_kinds, request_kinds, value_kinds, values_kinds}
@@ -13,11 +12,9 @@ pub use Rattle.clap.specs.declared.builder.action.ArgAction.{ArgAction}
 pub use Rattle.clap.specs.declared.builder.action.ArgAction.TheVariants.{Append, Count, Help, HelpLong, HelpShort, Set, SetFalse, SetTrue, Version}
 pub use Rattle.clap.specs.declared.builder.value_parser.ValueParser.{ValueParser}
 pub use Rattle.clap.specs.declared.error.kind.ErrorKind.{ErrorKind}
-pub use Rattle.clap.specs.declared.error.kind.ErrorKind.TheVariants.{DisplayHelp, DisplayHelpOnMissingArgumentOrSubcommand, DisplayVersion, InvalidSubcommand, UnknownArgument}
 pub use Rattle.dg_cli.specs.Asks.{Asks, AsksFor, AsksQuestion, CallsForHelp, HasOneTable, IsOrdered, LinesAre, divisors_of, word_of, words_of}
 pub use Rattle.dg_cli.specs.Numbers.{IsGiven, IsGivenOr, IsNumber}
 pub use Rattle.dg_cli.specs.Refusals.{HasFault, Refuses}
-pub use Rattle.dg_cli_laws.specs.CommandLines.{CommandLinesAsk, LineHasFault, LineAsksJudge, IsParty, LineAsksRank, LineAsksServe, LineAsksSweep}
 pub use Rattle.dg_cli_laws.specs.OneMeaning.{CommandLinesHaveOneMeaning, lines_words, order_words, question_words, seats_words, written}
 pub use Rattle.dg_invocation.specs.declared.invocation.Invocation.{Invocation}
 pub use Rattle.dg_invocation.specs.declared.limits.TheConstants.{MAX_CAPACITY}
@@ -25,8 +22,7 @@ pub use Rattle.dg_invocation.specs.declared.args_fault.ArgsFault.{ArgsFault}
 pub use Rattle.dg_invocation.specs.declared.args_fault.ArgsFault.TheVariants.{CommandLine, NotText, OutOfMemory}
 pub use Rattle.dg_invocation.specs.declared.question.Question.{Question}
 pub use Rattle.dg_invocation.specs.declared.question.Question.TheVariants.{Judge, Rank, RiemannRoch}
-pub use Rattle.std.proofs.Common.{Bool, IsSomeAnd, List, None, Option, Some, [], ap, arith, codes, cond, decimal, false, inl, inr, length, map, not, refl, subst, suc, sym, true, true≢false, zero, ℕ, ◌&&◌, ◌*◌, ◌++◌, ◌+◌, ◌∙◌, ◌∷◌, ◌≡◌, ◌≤◌, ◌⊎◌}
-pub use Rattle.std.proofs.lemmas.Fmt.{decimal_step}
+pub use Rattle.std.proofs.Common.{Bool, IsSomeAnd, List, None, Option, Some, [], ap, codes, cond, decimal, false, inl, inr, length, map, not, refl, subst, suc, sym, true, true≢false, zero, ℕ, ◌&&◌, ◌*◌, ◌++◌, ◌+◌, ◌∙◌, ◌∷◌, ◌≡◌, ◌⊎◌}
 pub use Rattle.std.proofs.lemmas.Slice.Eq.{bytes_eq-Decides}
 pub use Rattle.std.specs.Option.{option_map_or}
 pub use Rattle.std.specs.Prelude.{if◌then◌else◌, find, is_some, nat_lt, slice_get, slice_index, unwrap_or, ◌==◌}

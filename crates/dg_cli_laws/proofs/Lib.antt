@@ -1,5 +1,4 @@
--- The command lines, and why no words both ask for something and are refused.
-mod CommandLines
+-- Why no words both ask for something and are refused.
 mod Alike
 mod Apart
 mod Written

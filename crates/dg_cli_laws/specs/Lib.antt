@@ -1,3 +1,2 @@
--- Some command lines, and what they ask for.
-pub mod CommandLines
+-- What command lines mean.
 pub mod OneMeaning

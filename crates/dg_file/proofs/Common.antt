@@ -1,4 +1,5 @@
 -- The names that the proofs of this crate cite, passed on from one place. Declares nothing.
+pub use Rattle.dg_chips.proofs.VectorLaws.{held_once}
 pub use Rattle.dg_chips.specs.DivisorFaults.{IsFirstChipFault}
 pub use Rattle.dg_chips.specs.Starts.{StartData}
 pub use Rattle.dg_chips.specs.Vector.{HoldsNumbers, IsDivisor, Vector, at}
@@ -7,12 +8,13 @@ pub use Rattle.dg_chips.specs.declared.divisor.ChipFault.{ChipFault}
 pub use Rattle.dg_chips.specs.declared.divisor.ChipFault.TheVariants.{Length, Range}
 pub use Rattle.dg_file.specs.Content.{Content, HasParts, IsContent, IsNotJson, Parts, Reads, count_in, edge_from, edge_in, edges_in, listed, numbers_in, put_first_json, texts_in, whole}
 pub use Rattle.dg_file.specs.FileFaults.{GivesDivisor, GivesGraph, IsEdgeFault, IsGraphFault, IsNameFault, IsRefusedTable, IsShapeFault, IsShapeFaultOf, IsTwiceFault, RefusesFile, RefusesTable}
-pub use Rattle.dg_file.specs.FileLaws.{AreSameOpenings, FilesHaveOneMeaning}
+pub use Rattle.dg_file.specs.FileLaws.{FilesHaveOneMeaning}
 pub use Rattle.dg_file.specs.TableFiles.{IsTable, IsTableFile, item_of, items_of}
 pub use Rattle.dg_file.specs.declared.fault.FileFault.{FileFault}
 pub use Rattle.dg_file.specs.declared.fault.FileFault.TheVariants.{Chip, Graph, Json, Name, NoQ, OutOfMemory, Twice}
 pub use Rattle.dg_file.specs.declared.fault.Shape.{Shape}
 pub use Rattle.dg_file.specs.declared.fault.Shape.TheVariants.{Amounts, Edge, Edges, Q, Top, Vertices}
+pub use Rattle.dg_graph.proofs.Squares.{one_graph}
 pub use Rattle.dg_graph.specs.Faults.{IsEmptyItem, IsFirstGraphFault, IsFirstHigh, IsLoop, IsParted, IsSize, JoinsNoVertex}
 pub use Rattle.dg_graph.specs.Items.{HasItem, IsGiven, IsItem, IsItems, IsRightBefore, Item, edges_listed, valence_listed}
 pub use Rattle.dg_graph.specs.declared.fault.GraphFault.{GraphFault}
@@ -29,7 +31,7 @@ pub use Rattle.serde_json.specs.Find.{as_array, as_object, as_str, get, get_item
 pub use Rattle.serde_json.specs.View.{items_view, members_view, view}
 pub use Rattle.serde_json.specs.declared.value.Value.{Value}
 pub use Rattle.std.proofs.Common.{Bool, Bor, Global, List, None, Option, Some, String, Vec, [], ap, arith, codes, cond, drop, false, get_or, inl, inr, length, map, not, option_map, refl, rules, suc, sym, take, true, w64, zero, ℕ, ℤ, ⊎_elim, ◌++◌, ◌+◌, ◌<◌, ◌∙◌, ◌∷◌, ◌≡◌, ◌≢◌, ◌≤◌, ◌⊎◌}
-pub use Rattle.std.proofs.lemmas.Bool.{cases_lt, cases_order, false≢true, iff_false, or_cases}
+pub use Rattle.std.proofs.lemmas.Bool.{cases_order, false≢true, iff_false, or_cases}
 pub use Rattle.std.proofs.lemmas.Int.{to_z-of_z}
 pub use Rattle.std.proofs.lemmas.List.{append-nil, append_assoc, drop_all, drop_more, length-map, length-take, map_more, map_push, take-map, take-take, take_all}
 pub use Rattle.std.proofs.lemmas.List.Elements.{All-get_or}

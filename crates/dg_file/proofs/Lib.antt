@@ -6,6 +6,6 @@ mod OneContent
 mod OneShape
 mod OneName
 mod OneGraph
-mod OneTable
+pub mod OneTable
 mod OneFile
 pub mod Common

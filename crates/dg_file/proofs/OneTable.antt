@@ -1,32 +1,25 @@
 -- A content has one fault at most, and none where it is a table.
---   at-one        the amounts of a divisor are those that were given
+--   chip-one      amounts have one fault
+--   chip-none     and none if they are those of a divisor
 --   table-one     one fault
 --   table-none    no fault where there is a table
-use Rattle.dg_file.proofs.Common.{◌≡◌, ℕ, ◌<◌, ℤ, List, length, inl, inr, refl, sym, ap, ◌∙◌, arith, cases_lt, IsSize, GraphFault, Size, NoVertex, Loop, Multiplicity, Valence, NotConnected, StartData, Vector, at, HoldsNumbers, IsDivisor, IsFirstPast, IsFirstChipFault, ChipFault, Length, Range, Content, AreNames, items_of, IsTable, IsGraphFault, IsNameFault, IsTwiceFault, GivesGraph, GivesDivisor, RefusesTable, FileFault, Json, Graph, Name, Twice, Chip, NoQ, OutOfMemory}
-use Rattle.dg_file.specs.declared.fault.FileFault.TheVariants.{Shape as OfShape}
+use Rattle.dg_file.proofs.Common.{◌≡◌, ℕ, ◌<◌, ℤ, List, length, refl, sym, ap, ◌∙◌, arith, IsSize, GraphFault, Size, NoVertex, Loop, Multiplicity, Valence, NotConnected, StartData, Vector, at, HoldsNumbers, IsDivisor, IsFirstPast, IsFirstChipFault, ChipFault, Length, Range, Content, AreNames, items_of, IsTable, IsGraphFault, IsNameFault, IsTwiceFault, GivesGraph, GivesDivisor, RefusesTable, FileFault, Graph, Name, Twice, Chip, NoQ}
 use Rattle.dg_file.proofs.OneContent.{none-found, first-once}
 use Rattle.dg_file.proofs.OneGraph.{graph-one, graph-none}
 use Rattle.dg_file.proofs.OneName.{stops-name, stops-twice, stops-one, name-or-twice}
-
-pub at-one : (xs : List ℤ) (x y : Vector) → HoldsNumbers xs x → HoldsNumbers xs y → IsDivisor x → IsDivisor y → (v : ℕ)
-    → at x v ≡ at y v
-at-one xs x y a b within_x within_y v = elim (cases_lt v (length xs)) [
-  | inl below ↦ a.numbers v below ∙ sym (b.numbers v below)
-  | inr past ↦ within_x.inside v (omega (arith, a.size)) ∙ sym (within_y.inside v (omega (arith, b.size)))
-]
 
 module _ (n : ℕ) (xs : List ℤ) where
   past-one : (limit u v : ℕ) → IsFirstPast limit xs u → IsFirstPast limit xs v → u ≡ v
   past-one limit u v a b = first-once u v (λ less. let h = b.least u less in omega (arith, a.past))
       (λ more. let h = a.least v more in omega (arith, b.past))
 
-  chip-one : (f h : ChipFault) → IsFirstChipFault n xs f → IsFirstChipFault n xs h → f ≡ h
+  pub chip-one : (f h : ChipFault) → IsFirstChipFault n xs f → IsFirstChipFault n xs h → f ≡ h
   chip-one Length Length a b = refl
   chip-one Length (Range v) a b = absurd (a b.0)
   chip-one (Range v) Length a b = absurd (b a.0)
   chip-one (Range u) (Range v) a b = ap Range (past-one _ u v a.1 b.1)
 
-  chip-none : (x : Vector) → x.size ≡ n → HoldsNumbers xs x → IsDivisor x → (f : ChipFault)
+  pub chip-none : (x : Vector) → x.size ≡ n → HoldsNumbers xs x → IsDivisor x → (f : ChipFault)
       → IsFirstChipFault n xs f → ⊥
   chip-none x size holds within Length fault = fault (sym holds.size ∙ size)
   chip-none x size holds within (Range v) fault =
@@ -71,52 +64,40 @@ module _ (content : Content) where
       (stops-one content.vertices i j (stops-name content.vertices i a) (stops-twice content.vertices j b)) a b
 
   pub table-one : (f h : FileFault) → RefusesTable content f → RefusesTable content h → f ≡ h
-  table-one Json h a b = absurd a
-  table-one (OfShape s) h a b = absurd a
-  table-one OutOfMemory h a b = absurd a
-  table-one (Graph f) Json a b = absurd b
-  table-one (Graph f) (OfShape s) a b = absurd b
   table-one (Graph f) (Graph h) a b =
       ap Graph (graph-one (length content.vertices) (items_of content) f h a.first b.first)
   table-one (Graph f) (Name j) a b = absurd (graph-name f j a b)
   table-one (Graph f) (Twice j) a b = absurd (graph-twice f j a b)
   table-one (Graph f) (Chip h) a b = absurd (graph-given f a b.0)
   table-one (Graph f) NoQ a b = absurd (graph-given f a b.0)
-  table-one (Graph f) OutOfMemory a b = absurd b
-  table-one (Name i) Json a b = absurd b
-  table-one (Name i) (OfShape s) a b = absurd b
   table-one (Name i) (Graph h) a b = absurd (graph-name h i b a)
   table-one (Name i) (Name j) a b =
       ap Name (stops-one content.vertices i j (stops-name content.vertices i a) (stops-name content.vertices j b))
   table-one (Name i) (Twice j) a b = absurd (name-twice i j a b)
   table-one (Name i) (Chip h) a b = absurd (name-given i a b.0)
   table-one (Name i) NoQ a b = absurd (name-given i a b.0)
-  table-one (Name i) OutOfMemory a b = absurd b
-  table-one (Twice i) Json a b = absurd b
-  table-one (Twice i) (OfShape s) a b = absurd b
   table-one (Twice i) (Graph h) a b = absurd (graph-twice h i b a)
   table-one (Twice i) (Name j) a b = absurd (name-twice j i b a)
   table-one (Twice i) (Twice j) a b =
       ap Twice (stops-one content.vertices i j (stops-twice content.vertices i a) (stops-twice content.vertices j b))
   table-one (Twice i) (Chip h) a b = absurd (twice-given i a b.0)
   table-one (Twice i) NoQ a b = absurd (twice-given i a b.0)
-  table-one (Twice i) OutOfMemory a b = absurd b
-  table-one (Chip f) Json a b = absurd b
-  table-one (Chip f) (OfShape s) a b = absurd b
   table-one (Chip f) (Graph h) a b = absurd (graph-given h b a.0)
   table-one (Chip f) (Name j) a b = absurd (name-given j b a.0)
   table-one (Chip f) (Twice j) a b = absurd (twice-given j b a.0)
   table-one (Chip f) (Chip h) a b = ap Chip (chip-one (length content.vertices) content.amounts f h a.1 b.1)
   table-one (Chip f) NoQ a b = absurd (chip-given f a.1 b.1)
-  table-one (Chip f) OutOfMemory a b = absurd b
-  table-one NoQ Json a b = absurd b
-  table-one NoQ (OfShape s) a b = absurd b
   table-one NoQ (Graph h) a b = absurd (graph-given h b a.0)
   table-one NoQ (Name j) a b = absurd (name-given j b a.0)
   table-one NoQ (Twice j) a b = absurd (twice-given j b a.0)
   table-one NoQ (Chip h) a b = absurd (chip-given h b.1 a.1)
   table-one NoQ NoQ a b = refl
-  table-one NoQ OutOfMemory a b = absurd b
+  table-one (Graph f) h a b = absurd b
+  table-one (Name i) h a b = absurd b
+  table-one (Twice i) h a b = absurd b
+  table-one (Chip f) h a b = absurd b
+  table-one NoQ h a b = absurd b
+  table-one f h a b = absurd a
 
   gives-graph : (o : StartData) (names : List (List ℕ)) → IsTable content o names → GivesGraph content
   gives-graph o names table = record {
@@ -135,11 +116,9 @@ module _ (content : Content) where
 
   pub table-none : (o : StartData) (names : List (List ℕ)) → IsTable content o names → (f : FileFault)
       → RefusesTable content f → ⊥
-  table-none o names table Json fault = fault
-  table-none o names table (OfShape s) fault = fault
   table-none o names table (Graph f) fault = graph-given f fault (gives-graph o names table)
   table-none o names table (Name i) fault = name-given i fault (gives-graph o names table)
   table-none o names table (Twice i) fault = twice-given i fault (gives-graph o names table)
   table-none o names table (Chip f) fault = chip-given f fault.1 (gives-divisor o names table)
   table-none o names table NoQ fault = none-found _ o.q (rw table.given at table.vertex) fault.2
-  table-none o names table OutOfMemory fault = fault
+  table-none o names table f fault = fault

@@ -1,23 +1,14 @@
 -- A law of table files.
---   AreSameOpenings o p == the openings have the same graph, the same amounts and the same vertex q
 --   HasMeaning bytes    == the bytes describe a table, or there is a fault for which they are refused,
 --                          want of memory aside
 --   FilesHaveOneMeaning == bytes that describe a table have no such fault and describe no other table,
 --                          and no bytes have two such faults
 use Rattle.std.specs.Prelude.{◌≡◌, ◌≢◌, ◌⊎◌, ℕ, List}
 use Rattle.dg_chips.specs.Starts.{StartData}
-use Rattle.dg_chips.specs.Vector.{at}
-use Rattle.dg_theory.specs.Multigraph.{edges_between}
 use Rattle.dg_file.specs.TableFiles.{IsTableFile}
 use Rattle.dg_file.specs.FileFaults.{RefusesFile}
 use Rattle.dg_file.specs.declared.fault.FileFault.{FileFault}
 use Rattle.dg_file.specs.declared.fault.FileFault.TheVariants.{OutOfMemory}
-
-pub record AreSameOpenings (o p : StartData) : Type 0 where
-  pub size : o.graph.size ≡ p.graph.size
-  pub edges : (u v : ℕ) → edges_between o.graph u v ≡ edges_between p.graph u v
-  pub amounts : (v : ℕ) → at o.divisor v ≡ at p.divisor v
-  pub vertex : o.q ≡ p.q
 
 abbrev pub HasMeaning : List ℕ → Type 0
 HasMeaning bytes = ((o : StartData) × (names : List (List ℕ)) × IsTableFile bytes o names)
@@ -25,8 +16,7 @@ HasMeaning bytes = ((o : StartData) × (names : List (List ℕ)) × IsTableFile 
 
 pub record FilesHaveOneMeaning : Type 0 where
   pub table : (bytes : List ℕ) (o p : StartData) (names others : List (List ℕ))
-      → IsTableFile bytes o names → IsTableFile bytes p others → AreSameOpenings o p ×
-      (names ≡ others)
+      → IsTableFile bytes o names → IsTableFile bytes p others → (o ≡ p) × (names ≡ others)
   pub refused : (bytes : List ℕ) (fault : FileFault) (o : StartData) (names : List (List ℕ))
       → fault ≢ OutOfMemory → RefusesFile bytes fault → ¬ IsTableFile bytes o names
   pub fault : (bytes : List ℕ) (one other : FileFault)

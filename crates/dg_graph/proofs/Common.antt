@@ -1,6 +1,6 @@
 -- The names that the proofs of this crate cite, passed on from one place. Declares nothing.
 pub use Rattle.dg_graph.specs.Faults.{IsFirstHigh, IsParted, IsSize}
-pub use Rattle.dg_graph.specs.Graph.{IsGraph}
+pub use Rattle.dg_graph.specs.Graph.{IsGraph, IsSquare}
 pub use Rattle.dg_graph.specs.Items.{IsItem, IsItems, IsRightBefore, Item, edges_put}
 pub use Rattle.dg_graph.specs.Joins.{IsJoinable}
 pub use Rattle.dg_graph.specs.Search.{IsApart, IsInOrApart, IsJoinedInTable, IsNextTo, is_in}
@@ -14,12 +14,12 @@ pub use Rattle.dg_theory.specs.Joins.{at_either, edge_entry_more, one_edge_more}
 pub use Rattle.dg_theory.specs.Multigraph.{JoinedIn, Multigraph, along, edges_between, here, valence}
 pub use Rattle.dg_theory.specs.Reduced.{edges_out}
 pub use Rattle.dg_theory.specs.Sums.{total_below}
-pub use Rattle.std.proofs.Common.{Bool, List, MatchBool, Some, [], ap, arith, bit_and, bit_or, cond, count_by, false, get_or, inl, inr, length, length-set, min, nat_eq, not, refl, replicate, rules, set, slice_get, subst, suc, sum_by, sym, take, true, w16, zero, ℕ, ⊎_elim, ◌%◌, ◌&&◌, ◌*◌, ◌+◌, ◌-◌, ◌/◌, ◌<◌, ◌==◌, ◌^◌, ◌||◌, ◌∙◌, ◌∷◌, ◌≡◌, ◌≢◌, ◌≤◌}
+pub use Rattle.std.proofs.Common.{Bool, List, MatchBool, Some, [], ap, arith, bit_and, bit_or, cond, count_by, ext_get_or, false, get_or, inl, inr, length, length-set, min, nat_eq, not, refl, replicate, rules, set, slice_get, subst, suc, sum_by, sym, take, true, w16, zero, ℕ, ⊎_elim, ◌%◌, ◌&&◌, ◌*◌, ◌+◌, ◌-◌, ◌/◌, ◌<◌, ◌==◌, ◌^◌, ◌||◌, ◌∙◌, ◌∷◌, ◌≡◌, ◌≢◌, ◌≤◌}
 pub use Rattle.std.proofs.Math.IntN.{pos, ◌+ℤ◌, ◌-ℤ◌}
 pub use Rattle.std.proofs.lemmas.Bool.{cases_Bool, cases_eq, cases_lt, eqb-false, false≢true, le-ltb, lt-ltb}
 pub use Rattle.std.proofs.lemmas.Bool.Decides.{nat_tests}
 pub use Rattle.std.proofs.lemmas.Int.{ints}
-pub use Rattle.std.proofs.lemmas.List.{get_or-set_other, get_or-set_same, get_or_past}
+pub use Rattle.std.proofs.lemmas.List.{get_or-set_other, get_or-set_same, get_or-replicate, get_or_past}
 pub use Rattle.std.proofs.lemmas.List.FromFn.{fill_by_all, get_or-map-range_with_len}
 pub use Rattle.std.proofs.lemmas.List.Sums.{sum_by-cons, sum_by-set, sum_by_more}
 pub use Rattle.std.proofs.lemmas.Nat.Bits.{bit_at-lt, bit_at-zero, bit_at_above, bit_at_and, bit_at_not, bit_at_ones, bit_at_ones_above, bit_at_set_other, bit_at_set_same, ones_shr, same_from_bits, shr_and_one}

@@ -2,7 +2,7 @@
 -- cut off at 255, so the table is symmetric, and its first vertex with more than 63 edges is the first in the list
 -- (high). With right items and at most 63 edges at each vertex the cells are the sums (exact), a vertex that no chain
 -- joins to vertex 0 parts the list (parted), and otherwise the table is that of a graph (graph).
-use Rattle.dg_graph.proofs.Common.{◌≡◌, ℕ, ◌<◌, ◌≤◌, min, List, arith, sym, ap, ◌∙◌, ⊎_elim, cases_lt, total_below, JoinedIn-cong, IsGraph, Item, IsItems, IsSize, IsFirstHigh, IsParted, IsJoinedInTable, IsApart}
+use Rattle.dg_graph.proofs.Common.{◌≡◌, ℕ, ◌<◌, ◌≤◌, min, List, arith, sym, ap, ◌∙◌, ⊎_elim, cases_lt, total_below, JoinedIn-cong, IsGraph, IsSquare, Item, IsItems, IsSize, IsFirstHigh, IsParted, IsJoinedInTable, IsApart}
 use Rattle.dg_theory.specs.Multigraph.{entry}
 use Rattle.dg_graph.specs.Items.{edges_listed}
 use Rattle.dg_graph.proofs.Listed.{edges_listed-symmetric, edges_listed-loopless, edges_listed-inside}
@@ -53,8 +53,8 @@ cells-parted n items table size right cells few (v, below, apart) = record {
 pub cells-graph : (n : ℕ) (items : List Item) (table : List (List ℕ)) → IsSize n → IsItems n items →
     ((u v : ℕ) → entry table u v ≡ min 255 (edges_listed items u v)) →
     ((v : ℕ) → v < n → total_below n (entry table v) ≤ 63) → IsJoinedInTable n (entry table) →
-    IsGraph (record { size = n; table = table })
-cells-graph n items table size right cells few joined = record {
+    IsSquare table → IsGraph (record { size = n; table = table })
+cells-graph n items table size right cells few joined square = record {
   some = size.0;
   few = size.1;
   multigraph = record {
@@ -64,4 +64,5 @@ cells-graph n items table size right cells few joined = record {
     connected = joined;
   };
   valences = few;
+  square = square;
 }

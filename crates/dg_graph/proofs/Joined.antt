@@ -1,13 +1,15 @@
 -- A graph with one more edge.
 --   set-one_edge_more      to set a number of a row to one more is to have one more there
 --   set-edge_entry_more    and to set a row of a table to that is to have one more in that row
+--   one_edge_more-length, edge_entry_more-square, with_edge-square   which keeps the lengths of rows and table
 --   edges_few         a vertex with room for one more edge has few to each other vertex,
 --   edges_few_back    also in the table with one more edge from the other vertex
 --   joined_is         the table after both steps is that of the graph with one more edge,
 --   joined_graph      which is within the limits
-use Rattle.dg_graph.proofs.Common.{◌≡◌, ℕ, zero, suc, ◌+◌, ◌<◌, ◌≤◌, List, [], ◌∷◌, length, set, arith, refl, sym, ap, subst, ◌∙◌, slice_index, slice_index_or, nat_tests, Multigraph, edges_between, valence, one_edge_more, edge_entry_more, at_either, edge_entry_more-row, size_stays, joined_is_multigraph, valence_grows, total_below-term, IsGraph, IsJoinable}
+use Rattle.dg_graph.proofs.Common.{◌≡◌, ℕ, zero, suc, ◌+◌, ◌<◌, ◌≤◌, List, [], ◌∷◌, length, set, arith, refl, sym, ap, subst, ◌∙◌, slice_index, slice_index_or, nat_tests, Multigraph, edges_between, valence, one_edge_more, edge_entry_more, at_either, edge_entry_more-row, size_stays, joined_is_multigraph, valence_grows, total_below-term, IsGraph, IsSquare, IsJoinable, length-set}
 use Rattle.dg_theory.specs.Multigraph.{entry}
 use Rattle.dg_theory.specs.Joins.{with_edge}
+use Rattle.dg_graph.proofs.Squares.{set_square}
 
 pub set-one_edge_more : (row : List ℕ) (v : ℕ) → v < length row → set row v (slice_index row v + 1) ≡ one_edge_more row v
 set-one_edge_more [] v inside = absurd (omega arith)
@@ -20,6 +22,19 @@ set-edge_entry_more [] u v inside = absurd (omega arith)
 set-edge_entry_more (row ∷ table) zero v inside = refl
 set-edge_entry_more (row ∷ table) (suc u) v inside =
     ap (λ (l : List (List ℕ)). row ∷ l) (set-edge_entry_more table u v (omega arith))
+
+one_edge_more-length : (row : List ℕ) (v : ℕ) → v < length row → length (one_edge_more row v) ≡ length row
+one_edge_more-length row v inside =
+    sym (ap (length {A = ℕ}) (set-one_edge_more row v inside)) ∙ length-set row v (slice_index row v + 1)
+
+edge_entry_more-square : (table : List (List ℕ)) (u v : ℕ) → u < 16 → v < 16 → IsSquare table →
+    IsSquare (edge_entry_more table u v)
+edge_entry_more-square table u v row column square =
+    let inside : u < length table = omega (arith, square.rows) in
+    let last : v < length (slice_index_or table u []) = omega (arith, square.places u row) in
+    subst IsSquare (set-edge_entry_more table u v inside)
+    (set_square table u (one_edge_more (slice_index_or table u []) v) row
+    (one_edge_more-length (slice_index_or table u []) v last ∙ square.places u row) square)
 
 pub edges_few : (g : Multigraph) (u v : ℕ) → v < g.size → valence g u < 63 → entry g.table u v < 255
 edges_few g u v inside room = omega (arith, total_below-term g.size (edges_between g u) v inside)
@@ -43,7 +58,15 @@ joined_is g u v once both first second =
     ap (λ (table : List (List ℕ)). record { size = g.size; table = table })
     (second ∙ ap (λ (table : List (List ℕ)). edge_entry_more table v u) first)
 
-with_edge-graph : (g : Multigraph) (u v : ℕ) → IsGraph g → IsJoinable g u v → IsGraph (with_edge g u v)
+with_edge-square : (g : Multigraph) (u v : ℕ) → IsGraph g → IsJoinable g u v → IsSquare (with_edge g u v).table
+unfolding with_edge
+with_edge-square g u v graph joinable =
+    let first : u < 16 = omega (arith, joinable.first, graph.few) in
+    let second : v < 16 = omega (arith, joinable.second, graph.few) in
+    edge_entry_more-square (edge_entry_more g.table u v) v u second first
+    (edge_entry_more-square g.table u v first second graph.square)
+
+pub with_edge-graph : (g : Multigraph) (u v : ℕ) → IsGraph g → IsJoinable g u v → IsGraph (with_edge g u v)
 with_edge-graph g u v graph joinable =
     let size : (with_edge g u v).size ≡ g.size = size_stays g u v in
     record {
@@ -55,6 +78,7 @@ with_edge-graph g u v graph joinable =
           (valence_grows g u v joinable.first joinable.second joinable.different w)
           (graph.valences w (omega (arith, size, below)))
           (λ here. rw here joinable.first_room) (λ here. rw here joinable.second_room);
+      square = with_edge-square g u v graph joinable;
     }
 
 pub joined_graph : (g : Multigraph) (u v : ℕ) (once both : List (List ℕ)) → IsGraph g → IsJoinable g u v →

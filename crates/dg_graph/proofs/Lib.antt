@@ -7,4 +7,5 @@ pub mod NoEdges
 pub mod Genus
 pub mod Valences
 pub mod Joined
+pub mod Squares
 pub mod Common

@@ -2,6 +2,7 @@
 
 ghost use Rattle.std.specs.Prelude.{◌≡◌, ◌≢◌, ℕ, ◌+◌, ◌<◌, ◌≤◌, MatchOption, min, slice_index};
 ghost use Rattle.dg_theory.specs.Multigraph.{entry};
+ghost use Rattle.dg_graph.specs.Graph.{IsSquare};
 ghost use Rattle.dg_graph.specs.Items.{IsItem, IsItems, edges_put, edges_listed};
 ghost use Rattle.dg_graph.specs.Faults.{IsFirstGraphFault, IsSize};
 
@@ -33,7 +34,8 @@ pub fn first_item_fault(size: usize, items: &[(u8, u8, u8)]) -> Option<GraphFaul
 pub fn table_of(size: usize, items: &[(u8, u8, u8)]) -> Table
     requires size { IsSize size }
     requires items { IsItems size items.now }
-    ensures { (u v : ℕ) → entry result u v ≡ min 255 (edges_listed items.now u v) }
+    ensures cells { (u v : ℕ) → entry result u v ≡ min 255 (edges_listed items.now u v) }
+    ensures square { IsSquare result }
 {
     let mut table = [[0; MAX_VERTICES]; MAX_VERTICES];
     'items: for &item in items {
@@ -46,7 +48,9 @@ pub fn table_of(size: usize, items: &[(u8, u8, u8)]) -> Table
 fn add_item(table: &mut Table, item: (u8, u8, u8))
     requires item { IsItem MAX_VERTICES item }
     requires capped { (a b : ℕ) → entry table.old a b ≤ 255 }
-    ensures { (a b : ℕ) → entry table.new a b ≡ min 255 (entry table.old a b + edges_put item a b) }
+    requires square { IsSquare table.old }
+    ensures cells { (a b : ℕ) → entry table.new a b ≡ min 255 (entry table.old a b + edges_put item a b) }
+    ensures square { IsSquare table.new }
 {
     let (u, v, edges) = item;
     let (u, v) = (usize::from(u), usize::from(v));
@@ -59,9 +63,11 @@ fn add_item(table: &mut Table, item: (u8, u8, u8))
 fn add_edges(table: &mut Table, u: usize, v: usize, edges: u8)
     requires u { u < MAX_VERTICES }
     requires v { v < MAX_VERTICES }
+    requires square { IsSquare table.old }
     ensures at { entry table.new u v ≡ min 255 (entry table.old u v + edges) }
     ensures row { (b : ℕ) → b ≢ v → entry table.new u b ≡ entry table.old u b }
     ensures others { (a b : ℕ) → a ≢ u → entry table.new a b ≡ entry table.old a b }
+    ensures square { IsSquare table.new }
 {
     table[u] = with_more(table[u], v, edges);
 }

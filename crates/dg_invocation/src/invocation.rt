@@ -92,6 +92,6 @@ pub enum Invocation<'a> {
     Party(PartyTask<'a>),
     /// The lines of a file to answer, each of which is a table or has amounts for one.
     Sweep(SweepTask<'a>),
-    /// A text to print, as after `--help`.
+    /// The help or the version, to print.
     Text(String),
 }

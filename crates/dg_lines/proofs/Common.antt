@@ -1,5 +1,6 @@
 -- The names that the proofs of this crate cite, passed on from one place. Declares nothing.
 pub use Rattle.dg_chips.specs.Starts.{StartData}
+pub use Rattle.dg_chips.proofs.VectorLaws.{one_vector}
 pub use Rattle.dg_chips.specs.Vector.{HoldsNumbers, IsScript, Vector, at}
 pub use Rattle.dg_chips.specs.declared.limits.TheConstants.{MAX_ENTRY}
 pub use Rattle.dg_chips.specs.declared.moves.Move.{Move}
@@ -18,22 +19,30 @@ pub use Rattle.dg_lines.specs.Cuts.{items, onto_first, pieces_after, words, word
 pub use Rattle.dg_lines.specs.Judgements.{HasNamesIn, burning_text}
 pub use Rattle.dg_lines.specs.Keywords.{AreWords, IsBadScript, kinds, spelling}
 pub use Rattle.dg_lines.specs.LineFaults.{AreRefused, IsLineFault}
-pub use Rattle.dg_lines.specs.LineLaws.{AreAlike, IsDigit, IsNumeral, IsShortNumeral, IsUnsigned, LinesHaveOneMeaning, NumeralsAreDecimals, StepsHaveOneMeaning}
+pub use Rattle.dg_lines.specs.LineLaws.{IsDigit, IsNumeral, IsShortNumeral, IsUnsigned, LinesHaveOneMeaning, NumeralsAreDecimals, StepsHaveOneMeaning}
 pub use Rattle.dg_lines.specs.Schedules.{AreStepsOf, StepLinesHaveSeats}
 pub use Rattle.dg_lines.specs.Steps.{IsSeated, IsStepFault, IsStepLine, IsTextFault}
 pub use Rattle.dg_lines.specs.Streams.{Begins, HasNoNewline, LinesHaveCome, last_line, with_newline}
-pub use Rattle.dg_lines.specs.Texts.{RepliesHaveNames, entry_text, pair}
+pub use Rattle.dg_lines.specs.Texts.{RepliesHaveNames, entry_text, pair, rank_text, verdict_text, verdict_word}
 pub use Rattle.dg_lines.specs.declared.command.Keyword.{Keyword}
 pub use Rattle.dg_lines.specs.declared.command.Keyword.TheVariants.{Lend}
 pub use Rattle.dg_lines.specs.declared.line.LineFault.{LineFault}
 pub use Rattle.dg_lines.specs.declared.line.LineFault.TheVariants.{Form, Name, Number, Seat, Word}
+pub use Rattle.dg_theory.proofs.ConstantLaws.{same_by_constant}
+pub use Rattle.dg_theory.proofs.Equivalence.{equivalent-sym, equivalent-trans}
+pub use Rattle.dg_theory.proofs.LossLaws.{loss_bounds_rank, loss_once}
+pub use Rattle.dg_theory.proofs.ReducedLaws.{reduced_once}
 pub use Rattle.dg_theory.specs.Burning.{BurnsAll}
-pub use Rattle.dg_theory.specs.Firing.{Amounts}
-pub use Rattle.dg_theory.specs.Multigraph.{Multigraph}
+pub use Rattle.dg_theory.specs.Firing.{AgreeOn, Amounts}
+pub use Rattle.dg_theory.specs.Multigraph.{IsMultigraph, Multigraph}
+pub use Rattle.dg_theory.specs.Play.{IsWinnable}
 pub use Rattle.dg_tokens.specs.Names.{has, label, name_at}
-pub use Rattle.dg_verdict.specs.Right.{IsVerdictOn}
+pub use Rattle.dg_verdict.specs.RankTests.{IsRankTest}
+pub use Rattle.dg_verdict.specs.Right.{IsRight, IsVerdictOn}
+pub use Rattle.dg_verdict.specs.declared.rank_verdict.RankVerdict.{RankVerdict}
+pub use Rattle.dg_verdict.specs.declared.rank_verdict.RankVerdict.TheVariants.{AtLeast, Below}
 pub use Rattle.dg_verdict.specs.declared.verdict.Verdict.{Verdict}
-pub use Rattle.std.proofs.Common.{Bool, Bor, Decides, Err, FitsSigned, IfErr, IfOk, IsErrAnd, List, MatchOption, MatchResult, None, Ok, Option, Result, Some, [], add-one, ap, append_assoc, arith, codes, cond, decimal, drop, false, flat_map, get_or, inl, inr, int_le, length, length-take-le, lit≤, map, min, nat_lt, neg_ℤ, negsuc, not, one-add, pos, refl, rules, slice_get, subst, suc, sym, take, to_z-of_z, true, true≢false, unsigned_abs, w64, w8, zero, ℕ, ℤ, ◌%◌, ◌&&◌, ◌*◌, ◌++◌, ◌+◌, ◌-◌, ◌/◌, ◌<◌, ◌==◌, ◌^◌, ◌||◌, ◌∙◌, ◌∷◌, ◌≡◌, ◌≢◌, ◌≤◌, ◌⊎◌}
+pub use Rattle.std.proofs.Common.{Bool, Bor, Decides, Err, FitsSigned, IfErr, IfOk, IsErrAnd, List, MatchOption, MatchResult, None, Ok, Option, Result, Some, [], add-one, ap, append_assoc, arith, codes, cond, decimal, drop, false, flat_map, get_or, inl, inr, int_le, length, length-take-le, lit≤, map, min, nat_lt, neg_ℤ, negsuc, not, one-add, pos, refl, rules, slice_get, subst, suc, sym, take, to_z-of_z, true, true≢false, unsigned_abs, w64, w8, zero, ℕ, ℤ, ◌%◌, ◌&&◌, ◌*◌, ◌++◌, ◌+◌, ◌-◌, ◌/◌, ◌<◌, ◌==◌, ◌^◌, ◌||◌, ◌∙◌, ◌∷◌, ◌≡◌, ◌≢◌, ◌≤◌, ◌⊎◌, ◌↔◌}
 pub use Rattle.std.proofs.Math.ListN.{get_or-append}
 pub use Rattle.std.proofs.Math.Seq.{drop-cons}
 pub use Rattle.std.proofs.lemmas.Bool.{cases_lt, eqb-true, false_from_ne_true, lt-ltb}
@@ -54,7 +63,7 @@ pub use Rattle.std.proofs.lemmas.Slice.Eq.{bytes_eq-Decides}
 pub use Rattle.std.proofs.lemmas.Str.{digit_value_digit}
 pub use Rattle.std.proofs.lemmas.Str.Parse.{digit_from_value, digits_value_short, numerals_by_value, tells_digits}
 pub use Rattle.std.specs.Char.{digit_value}
-pub use Rattle.std.specs.Cmp.{IsEquivalence, both_ways}
+pub use Rattle.std.specs.Cmp.{IsEquivalence}
 pub use Rattle.std.specs.Fmt.{signed_decimal}
 pub use Rattle.std.specs.Int.{FitsUnsignedBits, bit_at}
 pub use Rattle.std.specs.Int.Signed.{◌≤ℤ◌}

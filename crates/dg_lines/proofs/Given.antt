@@ -10,10 +10,11 @@
 --   one_member       with one name more the set has one vertex more
 --   HasTaken names given left set == `left` are the last of the names given, and the set has those before them
 -- What a loop over the names does: none taken, one more, all, and where the next name refuses them.
-use Rattle.dg_lines.proofs.Common.{◌≡◌, ◌≢◌, ℕ, ◌+◌, ◌*◌, ◌<◌, ◌==◌, ◌||◌, not, cond, Bool, true, false, List, [], ◌∷◌, ◌++◌, length, Some, None, refl, ap, sym, ◌∙◌, subst, arith, Decides, append_assoc, bytes_eq, IsTrue, All, IsEquivalence, both_ways, bit_at, AllByRecursion, position_or_len, eqb-true, nat_tests, append-nil, All-nil, All-cons, All-head, All-tail, All-push, list_any-append, list_any_at, position-Some, IsDistinct-push, apart_from_distinct, bit_at-zero, bit_at-lt, same_from_bits, bytes_eq-Decides, has, name_at, AreGiven, IsSetOf}
+use Rattle.dg_lines.proofs.Common.{◌≡◌, ◌≢◌, ℕ, ◌+◌, ◌*◌, ◌<◌, ◌==◌, ◌||◌, not, cond, Bool, true, false, List, [], ◌∷◌, ◌++◌, length, Some, None, refl, ap, sym, ◌∙◌, subst, arith, Decides, append_assoc, bytes_eq, IsTrue, All, IsEquivalence, bit_at, AllByRecursion, position_or_len, eqb-true, nat_tests, append-nil, All-nil, All-cons, All-head, All-tail, All-push, list_any-append, list_any_at, position-Some, IsDistinct-push, apart_from_distinct, bit_at-zero, bit_at-lt, same_from_bits, bytes_eq-Decides, has, name_at, AreGiven, IsSetOf}
 use Rattle.std.specs.List.{IsDistinct}
 use Rattle.dg_graph.specs.Sets.{in_set}
 use Rattle.dg_tokens.specs.Names.{place_of}
+use Rattle.dg_tokens.proofs.NamesLaws.{bytes_eq-swaps}
 
 equal : (x y : List ℕ) → x ≡ y → bytes_eq x y ≡ true
 equal x y e = (bytes_eq-Decides x y).1 e
@@ -21,15 +22,10 @@ equal x y e = (bytes_eq-Decides x y).1 e
 is_equal : (x y : List ℕ) → bytes_eq x y ≡ true → x ≡ y
 is_equal x y e = (bytes_eq-Decides x y).0 e
 
-flips : (x y : List ℕ) → bytes_eq x y ≡ bytes_eq y x
-flips x y =
-    both_ways (bytes_eq x y) (bytes_eq y x)
-    (λ e. equal y x (sym (is_equal x y e))) (λ e. equal x y (sym (is_equal y x e)))
-
 pub same_bytes : IsEquivalence bytes_eq
 same_bytes = record {
   refl = λ x. equal x x refl;
-  symm = flips;
+  symm = bytes_eq-swaps;
   congr = λ x y z e. ap (λ w. bytes_eq w z) (is_equal x y e);
 }
 
@@ -62,7 +58,7 @@ unfolding IsDistinct
 stands_before [] back name known = refl
 stands_before (x ∷ done) back name known =
     let other : bytes_eq name x ≡ false =
-    flips name x ∙ recursion_there (λ y. bytes_eq x y ≡ false) done back name known.0 in
+    bytes_eq-swaps name x ∙ recursion_there (λ y. bytes_eq x y ≡ false) done back name known.0 in
     ap (λ t. t || has done name) other ∙ stands_before done back name known.1
 
 -- ---- names and their places
@@ -75,7 +71,7 @@ some_place (own ∷ names) name e =
     (elim (bytes_eq own name) as P [
       | true ↦ λ found. omega arith
       | false ↦ λ found. omega (arith, some_place names name found)
-    ]) (ap (λ t. t || has names name) (flips own name) ∙ e)
+    ]) (ap (λ t. t || has names name) (bytes_eq-swaps own name) ∙ e)
 
 -- the first vertex is the lowest bit
 unfoldable members : List (List ℕ) → List (List ℕ) → ℕ
@@ -175,7 +171,7 @@ module _ (names : List (List ℕ)) where
           ap (bytes_eq (name_at names w)) (sym named) ∙ apart_from_distinct bytes_eq names w v [] distinct less inside
       go false after =
           let less : v < w = grind (arith, nat_tests) in
-          flips (name_at names w) name ∙ ap (λ own. bytes_eq own (name_at names w)) (sym named)
+          bytes_eq-swaps (name_at names w) name ∙ ap (λ own. bytes_eq own (name_at names w)) (sym named)
           ∙ apart_from_distinct bytes_eq names v w [] distinct less also
 
   pub is_next : (done : List (List ℕ)) (name : List ℕ) (set v : ℕ) → IsDistinct bytes_eq names

@@ -1,8 +1,7 @@
 -- A line spells no two commands, has no two faults, and never both.
 --   line_read        what is read of the words of a line is what the line spells, or its fault
 --   lines_have_one_meaning
-use Rattle.dg_lines.proofs.Common.{◌≡◌, ℕ, ◌<◌, ◌≤◌, ◌^◌, cond, Bool, true, false, ℤ, pos, List, [], ◌∷◌, length, map, Some, None, Result, Ok, Err, refl, ap, sym, ◌∙◌, subst, arith, codes, FitsSigned, w64, decimal, MatchResult, IfOk, IfErr, All, IsSome, is_some, bytes_eq, option_map, signed_decimal, nat_tests, decimal_injective, signed_decimal_injective, ints, All-nil, All-cons, Vector, at, Move, Borrow, Fire, Script, Command, Call, Commit, Rank, Gift, Join, Look, Claim, name_at, LineFault, Seat, Word, Form, Name, Number, words, items, Kind, vertex, vertices, degree, dollars, name_part, number_part, IsNumberFor, WordsAreNamed, AreNumbers, IsScriptWord, IsSetOf, kinds_wanted, kinds_of, IsWellFormed, Means, IsCommandLine, AreRefused, IsLineFault, AreAlike, LinesHaveOneMeaning}
-use Rattle.std.proofs.Common.{◌≤ℤ◌}
+use Rattle.dg_lines.proofs.Common.{◌≡◌, ℕ, ◌<◌, ◌^◌, cond, true, false, ℤ, pos, List, [], ◌∷◌, length, map, Some, None, Result, Ok, Err, refl, ap, sym, ◌∙◌, subst, arith, codes, FitsSigned, w64, decimal, MatchResult, IfOk, IfErr, All, IsSome, is_some, bytes_eq, option_map, signed_decimal, decimal_injective, signed_decimal_injective, ints, All-nil, All-cons, Vector, Move, Borrow, Fire, Script, Command, Call, Commit, Rank, Gift, Join, Look, Claim, name_at, LineFault, Seat, Word, Form, Name, Number, words, items, Kind, vertex, vertices, degree, dollars, name_part, number_part, IsNumberFor, WordsAreNamed, AreNumbers, IsScriptWord, IsSetOf, kinds_wanted, kinds_of, IsWellFormed, Means, IsCommandLine, AreRefused, IsLineFault, one_vector, LinesHaveOneMeaning}
 use Rattle.dg_chips.specs.declared.moves.Move.TheVariants.{Lend}
 use Rattle.dg_rules.specs.declared.entry.Plain.TheVariants.{Move as Play}
 use Rattle.dg_tokens.specs.Names.{place_of}
@@ -13,7 +12,7 @@ use Rattle.dg_lines.proofs.Integers.{within_fits}
 use Rattle.dg_lines.proofs.Scripts.{told_numbers, one_list}
 
 -- ---- from words to lines
-same_words : (one other : List ℕ) (ones others : List (List ℕ)) → one ∷ ones ≡ other ∷ others
+pub same_words : (one other : List ℕ) (ones others : List (List ℕ)) → one ∷ ones ≡ other ∷ others
     → (one ≡ other) × (ones ≡ others)
 same_words one other ones others e = (cc, cc)
 
@@ -102,22 +101,19 @@ module _ (names : List (List ℕ)) (keyword : List ℕ) (rest : List (List ℕ))
   one_refusal : (one other : LineFault) → AreRefused names one keyword rest → AreRefused names other keyword rest
       → one ≡ other
   one_refusal Seat other a b = absurd a
-  one_refusal Word Seat a b = absurd b
+  one_refusal one Seat a b = absurd b
   one_refusal Word Word a b = refl
   one_refusal Word Form a b = absurd (not_wanted a b.0)
   one_refusal Word Name a b = absurd (unwanted a b.0)
   one_refusal Word Number a b = absurd (unwanted a b.0)
-  one_refusal Form Seat a b = absurd b
   one_refusal Form Word a b = absurd (not_wanted b a.0)
   one_refusal Form Form a b = refl
   one_refusal Form Name a b = absurd (a.1 b.0)
   one_refusal Form Number a b = absurd (a.1 b.0)
-  one_refusal Name Seat a b = absurd b
   one_refusal Name Word a b = absurd (unwanted b a.0)
   one_refusal Name Form a b = absurd (b.1 a.0)
   one_refusal Name Name a b = refl
   one_refusal Name Number a b = absurd (a.1 b.1)
-  one_refusal Number Seat a b = absurd b
   one_refusal Number Word a b = absurd (unwanted b a.0)
   one_refusal Number Form a b = absurd (b.1 a.0)
   one_refusal Number Name a b = absurd (b.1 a.1)
@@ -152,22 +148,17 @@ module _ (names : List (List ℕ)) where
   one_place word v w here there = let same : Some v ≡ Some w = sym here ∙ there in cc
 
   one_script : (word : List ℕ) (s t : Vector) → IsScriptWord names word s → IsScriptWord names word t
-      → (s.size ≡ t.size) × ((v : ℕ) → at s v ≡ at t v)
+      → s ≡ t
   one_script word s t first second =
-      (first.script.size ∙ sym second.script.size, λ v. same v (Rattle.std.proofs.Common.nat_lt v (length names)) refl)
+      one_vector 1_000_000_000 s t first.script.within second.script.within
+      (first.script.size ∙ sym second.script.size) (λ v inside.
+      let below : v < length names = omega (arith, inside, first.script.size) in
+      first.script.entries v below
+      ∙ ap (λ xs. number_in_script (map name_part (items word)) xs (name_at names v)) numbers
+      ∙ sym (second.script.entries v below))
     where
       numbers : first.numbers ≡ second.numbers
       numbers = one_list first.numbers second.numbers (sym first.spelled ∙ second.spelled) first.limit second.limit
-
-      same : (v : ℕ) (b : Bool) → Rattle.std.proofs.Common.nat_lt v (length names) ≡ b → at s v ≡ at t v
-      same v true less =
-          let below : v < length names = grind (arith, nat_tests) in
-          first.script.entries v below
-          ∙ ap (λ xs. number_in_script (map name_part (items word)) xs (name_at names v)) numbers
-          ∙ sym (second.script.entries v below)
-      same v false past =
-          let above : length names ≤ v = grind (arith, nat_tests) in
-          first.script.inside v above ∙ sym (second.script.inside v above)
 
 module _ (names : List (List ℕ)) (keyword : List ℕ) (rest : List (List ℕ)) where
   form_of : (c : Command) → Means names c keyword rest → HasForm c keyword
@@ -187,28 +178,28 @@ module _ (names : List (List ℕ)) (keyword : List ℕ) (rest : List (List ℕ))
   meant_as d e same means = subst (λ x. Means names x keyword rest) same means
 
   -- of two commands that the same words spell the second has the form of the first
-  alike : (c d : Command) → Means names c keyword rest → Means names d keyword rest → HasForm d keyword → AreAlike c d
-  alike (Call (Play (Lend v))) d (word, one, (key, place)) other form =
+  one_command : (c d : Command) → Means names c keyword rest → Means names d keyword rest → HasForm d keyword → c ≡ d
+  one_command (Call (Play (Lend v))) d (word, one, (key, place)) other form =
       let (w, is) = subst (HasForm d) key form in
       let also = meant_as d (play (Lend w)) is other in
       let there = subst (λ name. place_of names name ≡ Some w) (one_word word also.0 rest one also.1) also.2.1 in
       ap (λ x. play (Lend x)) (one_place names word v w place there) ∙ sym is
-  alike (Call (Play (Borrow v))) d (word, one, (key, place)) other form =
+  one_command (Call (Play (Borrow v))) d (word, one, (key, place)) other form =
       let (w, is) = subst (HasForm d) key form in
       let also = meant_as d (play (Borrow w)) is other in
       let there = subst (λ name. place_of names name ≡ Some w) (one_word word also.0 rest one also.1) also.2.1 in
       ap (λ x. play (Borrow x)) (one_place names word v w place there) ∙ sym is
-  alike (Call (Play (Fire members))) d (word, one, (key, known)) other form =
+  one_command (Call (Play (Fire members))) d (word, one, (key, known)) other form =
       let (m, is) = subst (HasForm d) key form in
       let also = meant_as d (play (Fire m)) is other in
       let there = subst (λ w. IsSetOf names (items w) m) (one_word word also.0 rest one also.1) also.2.1 in
       ap (λ x. play (Fire x)) (one_set names (items word) members m known there) ∙ sym is
-  alike (Call (Play (Script s))) d (word, one, (key, known)) other form =
+  one_command (Call (Play (Script s))) d (word, one, (key, known)) other form =
       let (t, is) = subst (HasForm d) key form in
       let also = meant_as d (play (Script t)) is other in
       let there = subst (λ w. IsScriptWord names w t) (one_word word also.0 rest one also.1) also.2.1 in
-      subst (AreAlike (play (Script s))) (sym is) (one_script names word s t known there)
-  alike (Call (Gift v x)) d (key, known) other form =
+      ap (λ x. play (Script x)) (one_script names word s t known there) ∙ sym is
+  one_command (Call (Gift v x)) d (key, known) other form =
       let (w, y, is) = subst (HasForm d) key form in
       let also = (meant_as d (Call (Gift w y)) is other).1 in
       let same = two_words known.name (signed_decimal x) also.name (signed_decimal y) rest known.given also.given in
@@ -216,7 +207,7 @@ module _ (names : List (List ℕ)) (keyword : List ℕ) (rest : List (List ℕ))
       let number = signed_decimal_injective x y known.fits.sfits also.fits.sfits (sym same.1) in
       ap (λ u. Call (Gift u x)) (one_place names known.name v w known.vertex there)
       ∙ ap (λ z. Call (Gift w z)) number ∙ sym is
-  alike (Call (Join u v)) d (key, known) other form =
+  one_command (Call (Join u v)) d (key, known) other form =
       let (a, b, is) = subst (HasForm d) key form in
       let also = (meant_as d (Call (Join a b)) is other).1 in
       let same = two_words known.first known.second also.first also.second rest known.given also.given in
@@ -224,10 +215,10 @@ module _ (names : List (List ℕ)) (keyword : List ℕ) (rest : List (List ℕ))
       let to = subst (λ name. place_of names name ≡ Some b) same.1 also.to in
       ap (λ w. Call (Join w v)) (one_place names known.first u a known.from from)
       ∙ ap (λ w. Call (Join a w)) (one_place names known.second v b known.to to) ∙ sym is
-  alike (Call Look) d (key, none) other form = sym (subst (HasForm d) key form)
-  alike (Call Claim) d (key, none) other form = sym (subst (HasForm d) key form)
-  alike Commit d (key, none) other form = sym (subst (HasForm d) key form)
-  alike (Rank k) d (key, one, small) other form =
+  one_command (Call Look) d (key, none) other form = sym (subst (HasForm d) key form)
+  one_command (Call Claim) d (key, none) other form = sym (subst (HasForm d) key form)
+  one_command Commit d (key, none) other form = sym (subst (HasForm d) key form)
+  one_command (Rank k) d (key, one, small) other form =
       let (m, is) = subst (HasForm d) key form in
       let also = meant_as d (Rank m) is other in
       let same = one_word (decimal k) (decimal m) rest one also.1 in
@@ -240,7 +231,7 @@ lines_have_one_meaning = record {
       (refused_at names line known.keyword known.rest known.cut fault refused);
   command = λ names line c d first second.
       let also = means_at names line first.keyword first.rest first.cut d second in
-      alike names first.keyword first.rest c d first.means also (form_of names first.keyword first.rest d also);
+      one_command names first.keyword first.rest c d first.means also (form_of names first.keyword first.rest d also);
   fault = λ names line one other first second.
       one_refusal names first.keyword first.rest one other first.refused
       (refused_at names line first.keyword first.rest first.cut other second);

@@ -7,12 +7,13 @@
 --                            flag tells whether all texts are those of entries
 --   HasPairs names all left set entries flag == `left` are the last of the items, and so much is read of those before
 -- What a loop over the pairs does: none read, one more, all; and what it comes to.
-use Rattle.dg_lines.proofs.Common.{◌≡◌, ◌≢◌, ℕ, ◌+◌, ◌<◌, ◌≤◌, ◌==◌, ◌||◌, ◌&&◌, cond, Bool, true, false, ℤ, pos, negsuc, neg_ℤ, unsigned_abs, List, [], ◌∷◌, ◌++◌, length, take, map, Option, Some, None, refl, ap, sym, ◌∙◌, subst, arith, append_assoc, FitsSigned, w64, MatchOption, Bor, bytes_eq, All, is_some, replicate, signed_decimal, slice_index_or, slice_set, option_copied, eqb-true, nat_tests, signed_decimal_injective, ints, append-nil, map-append, length-append, length-take, length-set, get_or-set_same, get_or-set_other, get_or_past, get_or-take, get_or-replicate, length-replicate, All-nil, All-cons, All-head, All-tail, All-push, Vector, IsScript, HoldsNumbers, MAX_ENTRY, has, name_at, IsNumberWithin, AreGiven, name_part, number_part, IsScriptOf}
+use Rattle.dg_lines.proofs.Common.{◌≡◌, ◌≢◌, ℕ, ◌+◌, ◌<◌, ◌≤◌, ◌==◌, ◌&&◌, cond, Bool, true, false, ℤ, pos, negsuc, neg_ℤ, unsigned_abs, List, [], ◌∷◌, ◌++◌, length, take, map, Option, Some, None, refl, ap, sym, ◌∙◌, subst, arith, append_assoc, FitsSigned, w64, MatchOption, Bor, bytes_eq, All, is_some, replicate, signed_decimal, slice_index_or, slice_set, option_copied, eqb-true, nat_tests, signed_decimal_injective, ints, append-nil, map-append, length-append, length-take, length-set, get_or-set_same, get_or-set_other, get_or_past, get_or-take, get_or-replicate, length-replicate, All-nil, All-cons, All-head, All-tail, All-push, Vector, IsScript, HoldsNumbers, MAX_ENTRY, has, name_at, IsNumberWithin, AreGiven, name_part, number_part, IsScriptOf}
 use Rattle.std.proofs.Common.{◌≤ℤ◌}
 use Rattle.std.specs.Prelude.{unwrap_or}
 use Rattle.std.specs.List.{IsDistinct}
 use Rattle.dg_graph.specs.Sets.{in_set}
 use Rattle.dg_tokens.specs.Names.{place_of}
+use Rattle.dg_tokens.proofs.NamesLaws.{or-false}
 use Rattle.dg_lines.specs.Cuts.{after}
 use Rattle.dg_lines.specs.CommandWords.{number_in_script}
 use Rattle.dg_lines.proofs.Given.{same_bytes, vertex_named, IsNamedNext, is_next, other_name, HasTaken, none_taken, one_taken, all_there}
@@ -78,10 +79,6 @@ none_is_given : (numbers : List ℤ) (name : List ℕ) → number_in_script [] n
 unfolding number_in_script
 none_is_given numbers name = refl
 
-neither : (a b : Bool) → (a || b) ≡ false → (a ≡ false) × (b ≡ false)
-neither true b e = absurd (cc)
-neither false b e = (refl, e)
-
 module _ (name own : List ℕ) (x : ℤ) where
   given_before : (done : List (List ℕ)) (numbers : List ℤ) → length done ≡ length numbers → bytes_eq name own ≡ false
       → number_in_script (done ++ name ∷ []) (numbers ++ x ∷ []) own ≡ number_in_script done numbers own
@@ -99,7 +96,7 @@ module _ (name own : List ℕ) (x : ℤ) where
   given_last [] (y ∷ numbers) count fresh same = absurd (omega arith)
   given_last (first ∷ done) [] count fresh same = absurd (omega arith)
   given_last (first ∷ done) (y ∷ numbers) count fresh same =
-      let (differs, later) = neither (bytes_eq own first) (has done own) fresh in
+      let (differs, later) = or-false (bytes_eq own first) (has done own) fresh in
       ap (λ t. cond t y (number_in_script (done ++ name ∷ []) (numbers ++ x ∷ []) own))
       (same_bytes.symm first own ∙ differs) ∙ given_last done numbers (omega arith) later same
 
@@ -226,7 +223,7 @@ module _ (names done told : List (List ℕ)) (entries : List ℤ) (flag : Bool)
         size = held.size ∙ long;
         entries = λ v less.
             held.numbers v (omega (arith, long)) ∙ get_or-take n entries v (pos 0) (omega arith) ∙ known.entered v less;
-        inside = λ v past. script.inside v (omega (arith, held.size, long));
+        within = script;
       }
 
 module _ (names all left back : List (List ℕ)) (item : List ℕ) (set : ℕ) (entries : List ℤ) (flag : Bool)

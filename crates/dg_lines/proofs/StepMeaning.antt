@@ -1,6 +1,6 @@
 -- A line spells no two steps, has no two faults, and never both.
 --   steps_have_one_meaning
-use Rattle.dg_lines.proofs.Common.{◌≡◌, ℕ, ◌⊎◌, inl, inr, List, Some, refl, sym, ◌∙◌, subst, Step, LineFault, Seat, Word, Form, Name, Number, IsCommandLine, IsLineFault, AreAlike, StepsHaveOneMeaning, IsSeated, IsStepLine, IsTextFault, IsStepFault}
+use Rattle.dg_lines.proofs.Common.{◌≡◌, ℕ, ◌⊎◌, inl, inr, List, Some, refl, sym, ◌∙◌, subst, Step, LineFault, Seat, Word, Form, Name, Number, IsCommandLine, IsLineFault, StepsHaveOneMeaning, IsSeated, IsStepLine, IsTextFault, IsStepFault}
 use Rattle.dg_lines.proofs.Meaning.{lines_have_one_meaning}
 use Rattle.dg_lines.proofs.Stepping.{IsUnseated, seated_parts}
 
@@ -42,11 +42,12 @@ module _ (names : List (List ℕ)) (line : List ℕ) where
       (subst (IsLineFault names one) same.1 first.refused) second.refused
 
   one_step : (c d : Step) → IsStepLine names c line → IsStepLine names d line
-      → (c.seat ≡ d.seat) × AreAlike c.command d.command
+      → c ≡ d
   one_step c d first second =
       let same = one_seat c.seat d.seat first.text second.text first.seated second.seated in
       let means = subst (IsCommandLine names c.command) same.1 first.means in
-      (same.0, lines_have_one_meaning.command names second.text c.command d.command means second.means)
+      let command = lines_have_one_meaning.command names second.text c.command d.command means second.means in
+      λ i. record { seat = same.0 i; command = command i }
 
 pub steps_have_one_meaning : StepsHaveOneMeaning
 steps_have_one_meaning = record {

@@ -27,7 +27,7 @@ use Rattle.std.specs.Prelude.{◌≡◌, ℕ, ◌<◌, ◌≤◌, ◌-◌, ◌^�
 use Rattle.std.specs.Fmt.{signed_decimal}
 use Rattle.std.specs.Int.RustNames.{unsigned_abs}
 use Rattle.std.specs.List.{IsDistinct}
-use Rattle.dg_chips.specs.Vector.{Vector, at}
+use Rattle.dg_chips.specs.Vector.{Vector, IsScript, at}
 use Rattle.dg_chips.specs.declared.limits.TheConstants.{MAX_ENTRY}
 use Rattle.dg_graph.specs.Sets.{in_set, IsVertexSet}
 use Rattle.dg_tokens.specs.Names.{has, name_at}
@@ -102,7 +102,7 @@ pub record IsScriptOf (names given : List (List ℕ)) (numbers : List ℤ) (s : 
   pub are_given : AreGiven names given
   pub size : s.size ≡ length names
   pub entries : (v : ℕ) → v < length names → at s v ≡ number_in_script given numbers (name_at names v)
-  pub inside : (v : ℕ) → length names ≤ v → at s v ≡ pos 0
+  pub within : IsScript s
 
 pub record IsScriptWord (names : List (List ℕ)) (word : List ℕ) (s : Vector) : Type 0 where
   pub numbers : List ℤ

@@ -1,9 +1,7 @@
 -- Laws of lines and of the numbers in them.
---   AreAlike c d                == the commands are the same; scripts are if they have the same
---                                  numbers
 --   HasMeaning names line       == the line spells a command or has a fault
---   LinesHaveOneMeaning         == no line spells a command and has a fault; all commands that a
---                                  line spells are alike, and it has no two faults
+--   LinesHaveOneMeaning         == no line spells a command and has a fault, and no line spells two
+--                                  commands or has two faults
 --   HasStepMeaning, StepsHaveOneMeaning == the same of a line of a seat and a command line, as a
 --                                  step
 --   IsDigit byte                == an ASCII digit
@@ -17,21 +15,12 @@
 use Rattle.std.specs.Prelude.{◌≡◌, ℕ, ◌<◌, ◌≤◌, ◌^◌, ℤ, ◌⊎◌, ◌↔◌, List, ◌∷◌, length, All, codes}
 use Rattle.std.specs.Fmt.{signed_decimal}
 use Rattle.std.specs.Int.RustNames.{unsigned_abs}
-use Rattle.dg_chips.specs.Vector.{at}
-use Rattle.dg_chips.specs.declared.moves.Move.TheVariants.{Script}
 use Rattle.dg_rules.specs.declared.step.Command.{Command}
-use Rattle.dg_rules.specs.declared.step.Command.TheVariants.{Call}
 use Rattle.dg_rules.specs.declared.step.Step.{Step}
-use Rattle.dg_rules.specs.declared.entry.Plain.TheVariants.{Move as Play}
 use Rattle.dg_lines.specs.Commands.{IsCommandLine}
 use Rattle.dg_lines.specs.LineFaults.{IsLineFault}
 use Rattle.dg_lines.specs.Steps.{IsStepLine, IsStepFault}
 use Rattle.dg_lines.specs.declared.line.LineFault.{LineFault}
-
-abbrev pub AreAlike : Command → Command → Type 0
-AreAlike (Call (Play (Script s))) (Call (Play (Script t))) =
-    (s.size ≡ t.size) × ((v : ℕ) → at s v ≡ at t v)
-AreAlike c d = c ≡ d
 
 abbrev pub HasMeaning : List (List ℕ) → List ℕ → Type 0
 HasMeaning names line =
@@ -41,7 +30,7 @@ pub record LinesHaveOneMeaning : Type 0 where
   pub not_both : (names : List (List ℕ)) (line : List ℕ) (c : Command) (fault : LineFault)
       → IsCommandLine names c line → ¬ IsLineFault names fault line
   pub command : (names : List (List ℕ)) (line : List ℕ) (c d : Command)
-      → IsCommandLine names c line → IsCommandLine names d line → AreAlike c d
+      → IsCommandLine names c line → IsCommandLine names d line → c ≡ d
   pub fault : (names : List (List ℕ)) (line : List ℕ) (one other : LineFault)
       → IsLineFault names one line → IsLineFault names other line → one ≡ other
 
@@ -53,8 +42,7 @@ pub record StepsHaveOneMeaning : Type 0 where
   pub not_both : (names : List (List ℕ)) (line : List ℕ) (step : Step) (fault : LineFault)
       → IsStepLine names step line → ¬ IsStepFault names fault line
   pub step : (names : List (List ℕ)) (line : List ℕ) (c d : Step)
-      → IsStepLine names c line → IsStepLine names d line
-      → (c.seat ≡ d.seat) × AreAlike c.command d.command
+      → IsStepLine names c line → IsStepLine names d line → c ≡ d
   pub fault : (names : List (List ℕ)) (line : List ℕ) (one other : LineFault)
       → IsStepFault names one line → IsStepFault names other line → one ≡ other
 

@@ -1,9 +1,7 @@
-//! The calls of the project's outline, each by the path, the name and the parameters that it was planned with, on examples that
-//! only a call shows. Nothing of the libraries' own is between: what is called here is what a user calls.
+//! The calls of the project's outline that need no table, each by the path, the name and the parameters that it was planned
+//! with, on examples that only a call shows. Nothing of the libraries' own is between: what is called here is what a user calls.
 #![tactic(auto)]
 
-#[cfg(test)]
-mod analyst_tests;
 #[cfg(test)]
 mod burn_tests;
 #[cfg(test)]
@@ -17,25 +15,9 @@ mod gates;
 #[cfg(test)]
 mod graph_tests;
 #[cfg(test)]
-pub mod held_tests;
-#[cfg(test)]
-mod log_tests;
-#[cfg(test)]
-mod observer_tests;
-#[cfg(test)]
 mod rank_tests;
 #[cfg(test)]
 mod reduce_tests;
-#[cfg(test)]
-mod server_tests;
-#[cfg(test)]
-mod session_tests;
-#[cfg(test)]
-mod settle_tests;
-#[cfg(test)]
-mod strategy_tests;
-#[cfg(test)]
-mod table_tests;
 #[cfg(test)]
 mod tables;
 #[cfg(test)]

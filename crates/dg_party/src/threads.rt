@@ -68,7 +68,7 @@ pub fn sessions<N: Name + Send + Sync, R: Threads + Wait + Sync, G: Gate>(
     if scripts.len() == 1 {
         play_alone(&context, scripts, seats)
     } else {
-        play(&context, scripts, seats)
+        play_in_parallel(&context, scripts, seats)
     }
 }
 
@@ -95,13 +95,13 @@ fn play_alone<'a, N: Name, R: Threads + Wait, G: Gate>(
     let Some((script, _)) = scripts.split_first() else {
         unreachable!()
     };
-    let end = hold(context, script.as_slice(), seat);
+    let end = run_session(context, script.as_slice(), seat);
     with_first(end, Vec::new(context.alloc))
 }
 
-// The same in a room. The first seat has a thread of its own, and the others are played beside it.
+// A thread for the first seat, and beside it this call again for the others.
 #[tactic(auto, unfolding(crate::specs::Sessions::AreSessions))]
-fn play<'a, N: Name + Send + Sync, R: Threads + Wait + Sync, G: Gate>(
+fn play_in_parallel<'a, N: Name + Send + Sync, R: Threads + Wait + Sync, G: Gate>(
     context: &PartyContext<'a, N, R, G>,
     scripts: &[Vec<u8>],
     seats: &mut [Seat<N>],
@@ -126,7 +126,7 @@ fn play<'a, N: Name + Send + Sync, R: Threads + Wait + Sync, G: Gate>(
         requires { length context.now.names.now ≡ N.table.start.graph.size }
         ensures { IsSessionOver N.table context.entry.now.names.now
             bytes.entry.now seat.entry.now seat.exit.now result }
-    { hold(context, bytes, seat) };
+    { run_session(context, bytes, seat) };
     let mut others = || -> Result<Vec<Result<u32, SessionEnd>>, Shortage>
         requires { (length left.now ≡ length rest.now)
             × (length context.now.names.now ≡ N.table.start.graph.size) }
@@ -136,7 +136,7 @@ fn play<'a, N: Name + Send + Sync, R: Threads + Wait + Sync, G: Gate>(
             × IfErr result
             (RefusesSessions N.table context.entry.now.names.now
             (contents left.entry.now) rest.entry.now rest.exit.now) }
-    { play(context, left, rest) };
+    { play_in_parallel(context, left, rest) };
     match in_parallel(context.rt, &mut first, &mut others) {
         Ok((end, Ok(ends))) => with_first(end, ends),
         Ok((_, Err(shortage))) => Err(shortage),
@@ -145,7 +145,7 @@ fn play<'a, N: Name + Send + Sync, R: Threads + Wait + Sync, G: Gate>(
 }
 
 // A session of the seat over a script, after the gate. What it would say nobody hears.
-fn hold<'a, N: Name, R: Threads + Wait, G: Gate>(
+fn run_session<'a, N: Name, R: Threads + Wait, G: Gate>(
     context: &PartyContext<'a, N, R, G>,
     script: &[u8],
     seat: &mut Seat<N>,

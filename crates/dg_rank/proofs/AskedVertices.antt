@@ -14,10 +14,11 @@
 --   none_made, made_at   the sets that are made: none at first, then one more
 --   loss_from        a loss of the box holds nothing before the place
 --   told_from        so what is told of the box is told of these losses
-use Rattle.dg_rank.proofs.Common.{zero, suc, ◌-◌, eq-eqb, eqb-true, ne_eqb, if◌then◌else◌, ◌≡◌, ℕ, ◌+◌, ◌<◌, ◌≤◌, ◌⊎◌, inl, inr, ⊎_elim, Bool, true, false, not, nat_lt, List, arith, refl, sym, ap, subst, ◌∙◌, cases_eq, cases_lt, cases_Bool, both_ways, false_from_ne_true, lt-ltb, le-ltb, ltb-true, fun_ext, ints, pos, ◌≤ℤ◌, slice_index, length, set, get_or-set_same, get_or-set_other, get_or-replicate, replicate, Option, Some, None, MatchOption, AreMade, IsMadeFor, IsBoxLoss, IsLossFrom, in_set, Multigraph, IsMultigraph, edges_between, JoinedIn, here, along, JoinedIn-end, IsConnectedSet, edges_within, Bears, Determines, IsNoneOff, Amounts, degree, IsEffective, IsWinnable, less, HasRankAtLeast, sum_below-one, win_more, total_below, total_below-cong, total_below-le, count_of-some, member_or_none, IsGreedy, IsPartOf, others, greedy-once, WinFrom, BoxWins, ArePastTrialLimits, IsWithin, IsAskedSet, IsPastAsked, how_many, DeterminesFrom, MAX_TRIALS, AreCounted, AnyTrial}
+use Rattle.dg_rank.proofs.Common.{◌-◌, eq-eqb, eqb-true, ne_eqb, if◌then◌else◌, ◌≡◌, ℕ, ◌+◌, ◌<◌, ◌≤◌, inl, inr, ⊎_elim, Bool, true, false, nat_lt, List, arith, refl, sym, ap, subst, ◌∙◌, cases_eq, cases_lt, cases_Bool, both_ways, false_from_ne_true, lt-ltb, le-ltb, ltb-true, fun_ext, ints, ◌≤ℤ◌, slice_index, length, set, get_or-set_same, get_or-set_other, get_or-replicate, replicate, Option, Some, None, MatchOption, AreMade, IsMadeFor, IsBoxLoss, IsLossFrom, in_set, Multigraph, IsMultigraph, edges_between, JoinedIn, here, along, JoinedIn-end, IsConnectedSet, edges_within, Bears, Determines, Amounts, degree, less, HasRankAtLeast, sum_below-one, total_below-cong, count_of-some, member_or_none, IsGreedy, IsPartOf, others, greedy-once, WinFrom, BoxWins, ArePastTrialLimits, IsWithin, IsAskedSet, IsPastAsked, how_many, DeterminesFrom}
 use Rattle.dg_rank.specs.Numbering.{trial_count, nth_trial}
 use Rattle.dg_rank.proofs.CountedOnce.{counted_once}
 use Rattle.dg_rank.proofs.Pascal.{count_grows}
+use Rattle.dg_rank.proofs.SmallDegrees.{total_below-times}
 use Rattle.dg_rank.proofs.Numbering.{numbered, past_above, past_within}
 
 pub record IsAllFrom (n d : ℕ) (U : ℕ → Bool) : Type 0 where
@@ -106,15 +107,8 @@ one_if_few : (b : Bool) → (if b then 1 else 0) ≤ 1
 one_if_few true = omega arith
 one_if_few false = omega arith
 
-ones : (n : ℕ) → total_below n (λ _. 1) ≡ n
-ones zero = refl
-ones (suc n) = omega (arith, ones n)
-
 asked_few : (n : ℕ) (A : ℕ → Bool) → how_many n A ≤ n
-asked_few n A =
-    let few : how_many n A ≤ total_below n (λ _. 1) =
-    total_below-le n (λ v. if A v then 1 else 0) (λ _. 1) (λ v _. one_if_few (A v)) in
-    omega (arith, ones n)
+asked_few n A = omega (arith, total_below-times n 1 (λ v. if A v then 1 else 0) (λ v _. one_if_few (A v)))
 
 past_more : (m n k : ℕ) → 0 < m → m ≤ n → ArePastTrialLimits m k → ArePastTrialLimits n k
 past_more m n k some less (inl none) = absurd (omega arith)
@@ -167,15 +161,12 @@ pub wins_from : (g : Multigraph) (A : Amounts) (d : ℕ) (S : ℕ → Bool) (roo
     DeterminesFrom g d S → IsRoomAt room S r → BoxWins g A room r → WinFrom g A r d
 wins_from g A d S room r few determines at wins = determines.wins A r (bears_box g A S room r few at wins)
 
-pub rank_from : (g : Multigraph) (A B : Amounts) (k : ℕ) → ((v : ℕ) → v < g.size → A v ≡ B v) → WinFrom g B k 0 →
-    HasRankAtLeast g A k
-rank_from g A B k same wins E effective of_degree =
-    win_more g (less B E) (less A E) (λ v below. omega (arith, ints, same v below))
-    (wins E (record {
-      effective = effective;
-      of_degree = of_degree;
-      empty = λ v low. absurd (omega arith);
-    }))
+pub rank_from : (g : Multigraph) (A : Amounts) (k : ℕ) → WinFrom g A k 0 → HasRankAtLeast g A k
+rank_from g A k wins E effective of_degree = wins E (record {
+  effective = effective;
+  of_degree = of_degree;
+  empty = λ v low. absurd (omega arith);
+})
 
 pub none_made : (g : Multigraph) → g.size ≤ 16 → AreMade g (replicate 16 0)
 none_made g few p below = inl (get_or-replicate 16 p 0 0 (omega arith))

@@ -1,14 +1,12 @@
 -- Rank tests of a divisor by those of its residual.
 --   decided          a test that tells one of two facts which hold together tells the other
 --   won_by           a test that tells a fact tells what follows from it
---   unsettled-cong   divisors that agree are unsettled together
---   unsettled_dual   where a divisor is unsettled by a test of a degree below the genus, so is the residual
 --   dual_passes      what agrees with the residual passes its test exactly where the divisor passes its own
 --   both_past        where the lower of both degrees is past the limits, so are both tests
 --   told_rich, told_past_half   what the degree settles is told
 --   told_within      so is what a test of the lower degree within the limits tells
 --   fails_past_half  where it is not rich, a divisor fails a test of more than half of its degree
-use Rattle.dg_rank.proofs.Common.{◌≡◌, ℕ, ◌<◌, inl, inr, Bool, true, false, arith, subst, ◌↔◌, ◌≤ℤ◌, ◌<ℤ◌, ◌+ℤ◌, ⊤, MatchBool, min, cases_lt, ints, pos, Multigraph, IsMultigraph, genus, Amounts, degree, AgreeOn, less, canonical, HasRankAtLeast, sum_below-cong, equivalent-refl, equivalent-rank, IsDual, dual-degree, dual_tests, ⊎_elim, half_of_degree, IsPastAsked, IsUnsettled, BothArePast, IsUntold}
+use Rattle.dg_rank.proofs.Common.{◌≡◌, ℕ, ◌<◌, inl, inr, Bool, true, false, arith, subst, ◌↔◌, ◌≤ℤ◌, ◌<ℤ◌, ◌+ℤ◌, ⊤, MatchBool, min, cases_lt, ints, pos, Multigraph, IsMultigraph, genus, Amounts, degree, AgreeOn, less, canonical, HasRankAtLeast, equivalent-refl, equivalent-rank, IsDual, dual_tests, ⊎_elim, half_of_degree, IsPastAsked, BothArePast, IsUntold}
 use Rattle.dg_rank.proofs.AskedVertices.{asked_above}
 
 pub decided : {P Q : Type 0} (b : Bool) → P ↔ Q → MatchBool b P (¬ P) → MatchBool b Q (¬ Q)
@@ -18,20 +16,6 @@ decided false same fails = λ q. fails (same.1 q)
 pub won_by : {P Q : Type 0} (b : Bool) → (P → Q) → MatchBool b P (¬ P) → MatchBool b Q ⊤
 won_by true more won = more won
 won_by false more lost = tt
-
-pub unsettled-cong : (g : Multigraph) (D E : Amounts) (k : ℕ) → AgreeOn g.size D E → IsUnsettled g E k →
-    IsUnsettled g D k
-unsettled-cong g D E k same unsettled =
-    let alike : degree g.size D ≡ degree g.size E = sum_below-cong g.size D E same in
-    record { least = omega (arith, ints, unsettled.least); most = omega (arith, ints, unsettled.most) }
-
-pub unsettled_dual : (g : Multigraph) (D E : Amounts) (k l : ℕ) → IsMultigraph g → pos k <ℤ genus g → IsDual g D k l →
-    AgreeOn g.size E (less (canonical g) D) → IsUnsettled g E l
-unsettled_dual g D E k l graph low dual same =
-    unsettled-cong g E (less (canonical g) D) l same (record {
-      least = omega (arith, ints, dual-degree g D graph);
-      most = omega (arith, ints, dual-degree g D graph);
-    })
 
 pub dual_passes : (g : Multigraph) (D E : Amounts) (k l : ℕ) → IsMultigraph g → 0 < g.size → IsDual g D k l →
     AgreeOn g.size E (less (canonical g) D) → HasRankAtLeast g E l ↔ HasRankAtLeast g D k

@@ -10,7 +10,7 @@
 --   left_small      small amounts less a trial's are small
 --   form_kept       the same amounts are as good a form, of what is the same on the vertices
 --   left_degree     what is left without a trial adds up to no more than before
-use Rattle.dg_rank.proofs.Common.{◌≡◌, ℕ, ◌+◌, ◌*◌, ◌<◌, ◌≤◌, Bool, true, false, List, arith, sym, ap, ◌∙◌, ⊎_elim, slice_index, ◌≤ℤ◌, MatchBool, unsigned_abs, cases_eq, ints, sum, get_or-le-sum_by, ℤ, pos, ◌-ℤ◌, Multigraph, IsMultigraph, Amounts, degree, only_at, IsEffective, HasNoDebtOff, AgreeOn, AreEquivalent, IsWinnable, less, within_abs, abs_within, equivalent-refl, equivalent-trans, equivalent-degree, degree-only_at, only_at-here, only_at-other, sum_below-one, sum_below-at_most, sum_below-cong, sum_below-add, equivalent-winnable, IsGraph, Vector, at, IsEffectiveDivisor, amounts_of, IsTrial, IsWithinLimits}
+use Rattle.dg_rank.proofs.Common.{◌≡◌, ℕ, ◌+◌, ◌*◌, ◌<◌, ◌≤◌, Bool, true, false, List, arith, sym, ap, ◌∙◌, ⊎_elim, slice_index, ◌≤ℤ◌, MatchBool, unsigned_abs, cases_eq, ints, sum, get_or-le-sum_by, ℤ, pos, ◌-ℤ◌, Multigraph, IsMultigraph, Amounts, degree, only_at, IsEffective, HasNoDebtOff, AgreeOn, AreEquivalent, IsWinnable, less, within_abs, abs_within, equivalent-refl, equivalent-trans, equivalent-degree, degree-only_at, only_at-here, only_at-other, sum_below-one, sum_below-at_most, sum_below-cong, sum_below-add, equivalent-winnable, IsGraph, Vector, at, IsEffectiveDivisor, amounts_of, length}
 use Rattle.std.proofs.Math.IntN.{◌+ℤ◌}
 
 pub only_at-more : (v k w : ℕ) → pos 0 ≤ℤ only_at v (pos k) w
@@ -77,15 +77,15 @@ left_degree g D E x graph range form =
     let few : g.size ≤ 16 = graph.few in
     omega (arith, ints)
 
-trial_small : (n k c : ℕ) (E : List ℕ) (v : ℕ) → IsWithinLimits n k c → IsTrial n k E → v < n → slice_index E v ≤ 1000
-trial_small n k c E v within trial inside =
-    let most : slice_index E v ≤ sum E = get_or-le-sum_by (λ (x : ℕ). x) E v 0 (omega (arith, trial.places)) in
-    omega (arith, trial.amount, within.small)
+pub trial_small : (E : List ℕ) (v : ℕ) → sum E ≤ 1000 → v < length E → slice_index E v ≤ 1000
+trial_small E v few inside =
+    let most : slice_index E v ≤ sum E = get_or-le-sum_by (λ (x : ℕ). x) E v 0 inside in
+    omega arith
 
-pub left_small : (n k c : ℕ) (E : List ℕ) (B F : Amounts) (v : ℕ) → IsWithinLimits n k c → IsTrial n k E → v < n →
+pub left_small : (E : List ℕ) (B F : Amounts) (v : ℕ) → sum E ≤ 1000 → v < length E →
     unsigned_abs (B v) ≤ 1999000 → F v ≡ less B (amounts_of E) v → unsigned_abs (F v) ≤ 2000000
-left_small n k c E B F v within trial inside small left =
-    let few : slice_index E v ≤ 1000 = trial_small n k c E v within trial inside in
+left_small E B F v total inside small left =
+    let few : slice_index E v ≤ 1000 = trial_small E v total inside in
     let (low, high) = within_abs (B v) 1999000 small in
     abs_within (F v) 2000000 (omega (arith, ints)) (omega (arith, ints))
 

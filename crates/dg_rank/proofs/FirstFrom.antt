@@ -141,7 +141,7 @@ first_with g A B r d p E E' past inside some other wins loss is = record {
       let apart : v ≢ p = omega arith in
       omega (arith, ints, more v, loss.from.empty v low, only_at-other p (pos 1) v apart)
 
-held_at_last : (n r : ℕ) (E : List ℕ) → slice_index E (n - 1) ≡ r → ((u : ℕ) → u + 1 < n → slice_index E u ≡ 0) →
+pub held_at_last : (n r : ℕ) (E : List ℕ) → slice_index E (n - 1) ≡ r → ((u : ℕ) → u + 1 < n → slice_index E u ≡ 0) →
     (v : ℕ) → v < n → amounts_of E v ≡ only_at (n - 1) (pos r) v
 held_at_last n r E held empty v below = ⊎_elim
     (λ (last : v ≡ n - 1).

@@ -4,17 +4,17 @@
 --   listed_before     an effective divisor before one that holds a trial is a list that comes before the trial
 --   wins_listed       if all trials win, a divisor can lose each effective divisor of their degree
 --   found_rank        if all trials win, the rank is at least their degree
---   nth-trial         each number below the number of all trials has a trial
 --   loss-trial        the first of all trials to lose is a trial
---   found_trial       what was found among all trials, if it is one, is a trial
+--   found_trial       what was found among all trials, if it is one, has at most 1,000 dollars
+--   found_all         what was found in the block that the first trial begins was found among all
 --   wins_before       a divisor can lose each effective divisor before its first loss
 --   found_loss        the first of all trials to lose is the first loss
 --   some_number       there is a trial with the number 0
 --   poor_loses        if the degree is too low, each trial loses
 --   poor_loss         so trial number 0 is the first loss
-use Rattle.dg_rank.proofs.Common.{◌≡◌, ℕ, ◌<◌, List, length, arith, refl, sym, subst, ◌∙◌, ◌≤ℤ◌, ◌<ℤ◌, Option, Some, None, MatchOption, ⊤, ints, pos, Multigraph, IsMultigraph, Amounts, degree, IsEffective, IsWinnable, less, HasRankAtLeast, IsBefore, IsFirstLoss, sum_below-cong, win_more, degree-less, degree-winnable, Vector, at, IsTrial, ComesBefore, IsNumbering, AnyTrial, IsWithinLimits, amounts_of, HoldsTrial, WinsWithout, AllWin, IsFirstLossIn}
+use Rattle.dg_rank.proofs.Common.{◌≡◌, ℕ, ◌+◌, ◌-◌, ◌<◌, ◌≤◌, slice_index, sum, List, length, arith, refl, sym, subst, ◌∙◌, ◌≤ℤ◌, ◌<ℤ◌, Option, Some, None, MatchOption, ⊤, ints, pos, Multigraph, IsMultigraph, Amounts, degree, IsEffective, IsWinnable, less, HasRankAtLeast, IsBefore, IsFirstLoss, sum_below-cong, win_more, degree-less, degree-winnable, Vector, at, IsTrial, ComesBefore, IsNumbering, AnyTrial, IsWithinLimits, amounts_of, HoldsTrial, WinsWithout, AllWin, IsFirstLossIn}
 use Rattle.dg_rank.specs.Numbering.{trial_count, nth_trial}
-use Rattle.dg_rank.proofs.Numbering.{numbered, limits_count, some_trial}
+use Rattle.dg_rank.proofs.Numbering.{numbered, limits_count, limits_trial, some_trial}
 use Rattle.dg_rank.proofs.CountedOnce.{lower_number}
 use Rattle.dg_rank.proofs.TrialLists.{listed, listed-amounts, listed-trial, degree-trial}
 
@@ -55,20 +55,28 @@ found_rank g D k c within wins E effective of_degree =
     let (i, below, here) = (numbered g.size k).all (listed g.size E) (listed-trial g.size k E effective of_degree) tt in
     wins_listed g D k i E effective here (wins i (omega arith) (omega (arith, limits_count g.size k c within)))
 
-pub nth-trial : (n k c i : ℕ) → IsWithinLimits n k c → i < c → IsTrial n k (nth_trial n k i)
-nth-trial n k c i within below = ((numbered n k).each i (omega (arith, limits_count n k c within))).0
-
 pub loss-trial : (g : Multigraph) (D : Amounts) (k c : ℕ) (E : List ℕ) → IsWithinLimits g.size k c →
     IsFirstLossIn g D k 0 c E →
     IsTrial g.size k E
 loss-trial g D k c E within loss =
-    subst (λ (L : List ℕ). IsTrial g.size k L) (sym loss.trial) (nth-trial g.size k c loss.number within loss.to)
+    subst (λ (L : List ℕ). IsTrial g.size k L) (sym loss.trial) (limits_trial g.size k c loss.number within loss.to)
 
 pub found_trial : (g : Multigraph) (D : Amounts) (k c : ℕ) (found : Option (List ℕ)) → IsWithinLimits g.size k c →
     MatchOption found (AllWin g D k 0 c) (IsFirstLossIn g D k 0 c) →
-    MatchOption found ⊤ (λ (E : List ℕ). (n : ℕ) × (m : ℕ) × IsWithinLimits n k m × IsTrial n k E)
-found_trial g D k c (Some E) within loss = (g.size, c, within, loss-trial g D k c E within loss)
+    MatchOption found ⊤ (λ (E : List ℕ). sum E ≤ 1000)
+found_trial g D k c (Some E) within loss = omega (arith, (loss-trial g D k c E within loss).amount, within.small)
 found_trial g D k c None within wins = tt
+
+pub found_all : (g : Multigraph) (D : Amounts) (k c : ℕ) (E : List ℕ) (found : Option (List ℕ)) → IsWithinLimits g.size k c →
+    slice_index E (g.size - 1) ≡ k →
+    MatchOption found (AllWin g D k 0 (0 + trial_count (g.size - 0) (slice_index E (g.size - 1))))
+    (IsFirstLossIn g D k 0 (0 + trial_count (g.size - 0) (slice_index E (g.size - 1)))) →
+    MatchOption found (AllWin g D k 0 c) (IsFirstLossIn g D k 0 c)
+found_all g D k c E found within held told =
+    let size : g.size - 0 ≡ g.size = omega arith in
+    let all : 0 + trial_count (g.size - 0) (slice_index E (g.size - 1)) ≡ c =
+    rw (held, size) (omega (arith, limits_count g.size k c within)) in
+    subst (λ (m : ℕ). MatchOption found (AllWin g D k 0 m) (IsFirstLossIn g D k 0 m)) all told
 
 wins_before : (g : Multigraph) (D : Amounts) (k c : ℕ) (E : List ℕ) (d : Vector) (F : Amounts) →
     IsWithinLimits g.size k c →
@@ -119,6 +127,6 @@ poor_loss g D k c graph poor within =
       from = omega arith;
       to = some;
       trial = refl;
-      loses = poor_loses g D k (nth_trial g.size k 0) graph poor (nth-trial g.size k c 0 within some);
+      loses = poor_loses g D k (nth_trial g.size k 0) graph poor (limits_trial g.size k c 0 within some);
       first = λ m from to. absurd (omega arith);
     }

@@ -2,7 +2,7 @@
 --   IsBlock P n r m k base i   == the trial of degree k on m places that begins with the amounts P, and holds after
 --                                 those, at n places, what the trial number i of degree r does, has the number base + i
 --   block_of                   there is such a base for all that begin with P and hold r in all after it
---   first_held                 where all is held at the last place, the number is 0
+--   first_at, first_sum        where all is held at the last place, the number is 0, and the last amount is the sum
 --   IsSplit n k c i d r E      == E is the trial number i of c, and from place d on holds r at its last place and
 --                                 nothing else
 --   IsAmong n k c i d r j E    == the trial number i + j of c holds before place d what E does, and from there on what
@@ -89,7 +89,7 @@ none_first : (m s : ℕ) → nth_trial (suc (suc m)) s 0 ≡ 0 ∷ nth_trial (su
 none_first m zero = nth_broke (suc m) 0
 none_first m (suc s) = nth_low (suc m) s 0 (some_trial (suc m) (suc s) (omega arith))
 
-pub first_held : (n r : ℕ) (T : List ℕ) → length T ≡ suc n → ((u : ℕ) → u < n → slice_index T u ≡ 0) →
+first_held : (n r : ℕ) (T : List ℕ) → length T ≡ suc n → ((u : ℕ) → u < n → slice_index T u ≡ 0) →
     slice_index T n ≡ r →
     T ≡ nth_trial (suc n) r 0
 first_held n r [] places empty held = absurd (omega arith)
@@ -99,6 +99,17 @@ first_held zero r (a ∷ b ∷ T) places empty held = absurd (omega arith)
 first_held (suc n) r (a ∷ T) places empty held =
     let rest : T ≡ nth_trial (suc n) r 0 = first_held n r T (omega arith) (λ u low. empty (suc u) (omega arith)) held in
     ap (λ (x : ℕ). x ∷ T) (empty 0 (omega arith)) ∙ ap (λ (L : List ℕ). 0 ∷ L) rest ∙ sym (none_first n r)
+
+pub first_at : (n k : ℕ) (E : List ℕ) → 0 < n → length E ≡ n → slice_index E (n - 1) ≡ k →
+    ((u : ℕ) → u + 1 < n → slice_index E u ≡ 0) → E ≡ nth_trial n k 0
+first_at n k E some places held empty =
+    let one : suc (n - 1) ≡ n = omega arith in
+    rw (← one) (first_held (n - 1) k E (omega arith) (λ u low. empty u (omega arith)) held)
+
+pub first_sum : (n k : ℕ) (E : List ℕ) → 0 < n → length E ≡ n → slice_index E (n - 1) ≡ k →
+    ((u : ℕ) → u + 1 < n → slice_index E u ≡ 0) → sum E ≡ k
+first_sum n k E some places held empty =
+    rw (first_at n k E some places held empty) ((numbered n k).each 0 (some_trial n k some)).0.amount
 
 -- the trial number i, which from place d on holds r at its last place alone
 pub record IsSplit (n k c i d r : ℕ) (E : List ℕ) : Type 0 where

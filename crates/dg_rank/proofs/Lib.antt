@@ -1,4 +1,4 @@
--- The numbering of trials, unranking and the walk.
+-- The numbering of trials.
 pub mod Lists
 pub mod Numbering
 pub mod CountedOnce
@@ -12,8 +12,6 @@ pub mod FirstLosses
 pub mod PieceLosses
 pub mod Elsewhere
 pub mod Blocks
--- The reduced divisor in place of the one given.
-pub mod SmallAmounts
 -- Boxes of losses.
 pub mod LossBoxes
 pub mod FirstFrom
@@ -21,6 +19,7 @@ pub mod FixedBeginnings
 -- The vertices that are asked.
 pub mod AskedVertices
 -- Ranks and rank tests by the residual.
+pub mod SmallDegrees
 pub mod DualTests
 pub mod TestDegrees
 pub mod RankByTests

@@ -5,7 +5,6 @@
 --   trial_tail     what follows the first amount of a trial is a trial of that much less
 --   before_cons    an order of trials stays with one amount put before both
 --   before_both    no two trials are each before the other
---   heavier        a list that is before another and holds nothing after the place at which they differ has less in all
 use Rattle.dg_rank.proofs.Common.{◌≡◌, ℕ, zero, suc, ◌+◌, ◌<◌, ◌≤◌, List, [], ◌∷◌, length, arith, refl, sym, subst, ⊎_elim, slice_index, sum, cases_lt, sum_by-cons, IsTrial, ComesBefore}
 
 pub sum_cons : (a : ℕ) (E : List ℕ) → sum (a ∷ E) ≡ a + sum E
@@ -41,27 +40,3 @@ before_both E F one other = ⊎_elim
     omega (arith, one.smaller, subst (λ (p : ℕ). slice_index F p < slice_index E p) (sym here) other.smaller))
     (cases_lt other.place one.place))
     (cases_lt one.place other.place)
-
-no_sum : (E : List ℕ) → ((u : ℕ) → slice_index E u ≡ 0) → sum E ≡ 0
-no_sum [] none = refl
-no_sum (a ∷ E) none =
-    let rest : sum E ≡ 0 = no_sum E (λ u. none (suc u)) in
-    let head : a ≡ 0 = none 0 in
-    omega (arith, rest, head, sum_cons a E)
-
-pub heavier : (E F : List ℕ) (p : ℕ) → ((u : ℕ) → u < p → slice_index E u ≡ slice_index F u) →
-    slice_index E p < slice_index F p →
-    ((u : ℕ) → p < u → slice_index E u ≡ 0) → sum E < sum F
-heavier E [] p same smaller none = absurd (omega (arith, smaller))
-heavier [] (b ∷ F) zero same smaller none = omega (arith, smaller, sum_cons b F)
-heavier [] (b ∷ F) (suc p) same smaller none =
-    let less : sum [] < sum F = heavier [] F p (λ u low. same (suc u) (omega arith)) smaller (λ u high. refl) in
-    omega (arith, less, sum_cons b F)
-heavier (a ∷ E) (b ∷ F) zero same smaller none =
-    let empty : sum E ≡ 0 = no_sum E (λ u. none (suc u) (omega arith)) in
-    omega (arith, smaller, empty, sum_cons a E, sum_cons b F)
-heavier (a ∷ E) (b ∷ F) (suc p) same smaller none =
-    let less : sum E < sum F =
-    heavier E F p (λ u low. same (suc u) (omega arith)) smaller (λ u high. none (suc u) (omega arith)) in
-    let head : a ≡ b = same 0 (omega arith) in
-    omega (arith, less, head, sum_cons a E, sum_cons b F)

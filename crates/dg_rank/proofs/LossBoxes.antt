@@ -6,12 +6,12 @@
 --   loss_beyond    a loss of the former is one of the box
 --   loss_wider     a loss of a box is one of a wider box
 --   nothing_lost   what can't be won is lost with no dollar taken
---   result_told    what is told of amounts is told of equivalent ones
+--   box_told       what is told of amounts is told of equivalent ones
 --   closed_few, closed_rich   a box that is closed at a vertex
 --   rich_more      and one that need not be
 --   none_held      a trial of no dollars
 --   taken_small    what is left once dollars are taken
-use Rattle.dg_rank.proofs.Common.{◌≡◌, ℕ, ◌+◌, ◌-◌, ◌<◌, ◌≤◌, List, [], length, arith, ap, ◌∙◌, ⊎_elim, set, length-set, get_or-set_same, get_or-set_other, slice_index, ◌≤ℤ◌, ◌<ℤ◌, cases_eq, ints, by_lt_z, pos, Option, Some, None, MatchOption, MatchResult, Result, Ok, Err, Multigraph, Amounts, degree, only_at, AreEquivalent, IsWinnable, less, degree-less, degree-only_at, only_at-here, only_at-other, sum_below-one, sum_below-zero, equivalent-winnable, win_more, amounts_of, BoxWins, IsBoxLoss, IsInBox, IsMultigraph, Vector, at, IsEffectiveDivisor}
+use Rattle.dg_rank.proofs.Common.{◌≡◌, ℕ, ◌+◌, ◌-◌, ◌<◌, ◌≤◌, List, [], length, arith, ap, ◌∙◌, ⊎_elim, set, length-set, get_or-set_same, get_or-set_other, slice_index, ◌≤ℤ◌, ◌<ℤ◌, cases_eq, ints, by_lt_z, pos, Option, Some, None, MatchOption, Multigraph, Amounts, degree, only_at, AreEquivalent, IsWinnable, less, degree-less, degree-only_at, only_at-here, only_at-other, sum_below-one, sum_below-zero, equivalent-winnable, win_more, amounts_of, BoxWins, IsBoxLoss, IsInBox, IsMultigraph, Vector, at, IsEffectiveDivisor}
 use Rattle.std.proofs.Common.{min}
 use Rattle.std.proofs.Math.IntN.{◌+ℤ◌}
 use Rattle.dg_rank.proofs.Elsewhere.{degree-given, form_degree}
@@ -163,7 +163,7 @@ nothing_lost g A r j E places empty lost = record {
   loses = λ win. lost (win_more g (less A (amounts_of E)) A (λ u low. omega (arith, ints)) win);
 }
 
-box_told : (o : Option (List ℕ)) (g : Multigraph) (A B : Amounts) (r : List ℕ) (j : ℕ) → AreEquivalent g A B →
+pub box_told : (o : Option (List ℕ)) (g : Multigraph) (A B : Amounts) (r : List ℕ) (j : ℕ) → AreEquivalent g A B →
     MatchOption o (BoxWins g B r j) (IsBoxLoss g B r j) → MatchOption o (BoxWins g A r j) (IsBoxLoss g A r j)
 box_told None g A B r j (s, leads) wins =
     λ E inside. (equivalent-winnable g (less A E) (less B E) (s, λ u below. omega (arith, ints, leads u below))).1
@@ -174,13 +174,6 @@ box_told (Some E) g A B r j (s, leads) loss = record {
   loses = λ win. loss.loses ((equivalent-winnable g (less A (amounts_of E)) (less B (amounts_of E))
       (s, λ u below. omega (arith, ints, leads u below))).0 win);
 }
-
-pub result_told : {X : Type 0} (o : Result (Option (List ℕ)) X) (P : Type 0) (g : Multigraph) (A B : Amounts) (r : List ℕ)
-    (j : ℕ) → AreEquivalent g A B →
-    MatchResult o (λ found. MatchOption found (BoxWins g B r j) (IsBoxLoss g B r j)) (λ _. P) →
-    MatchResult o (λ found. MatchOption found (BoxWins g A r j) (IsBoxLoss g A r j)) (λ _. P)
-result_told (Ok found) P g A B r j same told = box_told found g A B r j same told
-result_told (Err x) P g A B r j same stopped = stopped
 
 pub closed_few : (r s : List ℕ) (v h : ℕ) → v < length r → h ≤ slice_index r v →
     ((u : ℕ) → slice_index r u ≤ slice_index s u) → (u : ℕ) → slice_index (set r v h) u ≤ slice_index s u

@@ -1,12 +1,15 @@
 -- Pieces of the trials, one after another.
+--   piece_first    the first piece starts at number 0
 --   piece_within   no piece starts past all trials
 --   piece_ends     a piece ends where the next one starts, and not before its own start
 --   wins_both      trials that follow one another and all win
 --   loss_before    the first loss of trials is the first loss of them and later ones
 --   loss_after     after trials that all win, the first loss of later ones is the first loss of all
 --   found_after    after trials that all win, what is found in later ones is found in all
---   partial_after  after trials that all win, what is known of later ones is known of all
-use Rattle.dg_rank.proofs.Common.{ℕ, ◌+◌, ◌*◌, ◌/◌, ◌<◌, ◌≤◌, List, arith, ⊎_elim, mul-le-mul_right, Option, Some, None, MatchOption, cases_lt, le-div, div-mul-le_self, div-le_of_le-mul, Multigraph, Amounts, AllWin, IsFirstLossIn, IsPartial, piece_start, Search, SearchState, Lost, Won, Open}
+use Rattle.dg_rank.proofs.Common.{◌≡◌, ℕ, ◌+◌, ◌*◌, ◌/◌, ◌<◌, ◌≤◌, List, arith, ⊎_elim, mul-le-mul_right, Option, Some, None, MatchOption, cases_lt, le-div, div-mul-le_self, div-le_of_le-mul, Multigraph, Amounts, AllWin, IsFirstLossIn, piece_start, Search}
+
+pub piece_first : (s : Search) → piece_start s 0 ≡ 0
+piece_first s = omega arith
 
 pub piece_within : (s : Search) (j : ℕ) → j ≤ s.workers → piece_start s j ≤ s.count
 piece_within s j few =
@@ -53,9 +56,3 @@ pub found_after : (g : Multigraph) (D : Amounts) (k i m j : ℕ) (found : Option
     MatchOption found (AllWin g D k i j) (IsFirstLossIn g D k i j)
 found_after g D k i m j (Some E) start wins loss = loss_after g D k i m j E start wins loss
 found_after g D k i m j None start wins later = wins_both g D k i m j wins later
-
-pub partial_after : (g : Multigraph) (D : Amounts) (k i m j : ℕ) (later : SearchState) → i ≤ m → AllWin g D k i m →
-    IsPartial g D k m j later → IsPartial g D k i j later
-partial_after g D k i m j (Lost E) start wins loss = loss_after g D k i m j E start wins loss
-partial_after g D k i m j Won start wins all = wins_both g D k i m j wins all
-partial_after g D k i m j (Open l) start wins some = (some.0, wins_both g D k i m l wins some.1)

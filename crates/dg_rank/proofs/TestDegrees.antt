@@ -5,7 +5,6 @@
 --   last_small   the last is at least the first and the genus, and small
 --   through      what is at most b is at most what b is at most
 --   one_more     the number after the last is not cut off
---   count_within  a degree up to that of the divisor is within its amount and 1
 --   dual_degree  the degree of the dual's test, which passes where that of degree k does
 --   last_tested  where none before that number is left, the last was tested
 use Rattle.dg_rank.proofs.Common.{◌≡◌, ℕ, ◌+◌, ◌<◌, ◌≤◌, arith, w32, w64, to_z, of_z, ◌≤ℤ◌, ◌<ℤ◌, int_max, unsigned_abs, ints, clamps, ℤ, pos, ◌-ℤ◌, nat_abs, natural}
@@ -47,9 +46,6 @@ last_tested last n k same high none =
     one_more last (omega (arith, ints)) high in
     let past : nat_abs (last +ℤ pos 1) ≤ k = rw more at none in
     omega (arith, ints)
-
-pub count_within : (total : ℤ) (k : ℕ) → pos k ≤ℤ total → k ≤ unsigned_abs total + 1
-count_within total k low = omega (arith, ints)
 
 pub dual_degree : (total genus apart whole : ℤ) (k : ℕ) → apart ≡ (total +ℤ pos 1) -ℤ genus →
     unsigned_abs apart ≤ 17000000 →

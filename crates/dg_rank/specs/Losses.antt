@@ -6,18 +6,18 @@
 --                                is winnable
 --   IsFirstLossIn g D k i j E == E is the first trial of the piece from i up to j whose loss leaves
 --                                D unwinnable
---   IsPartial g D k i j x     == what x tells of the piece is true: its first loss, or that all
---                                win, or that those before some number win
-use Rattle.std.specs.Prelude.{◌≡◌, ℕ, ◌<◌, ◌≤◌, pos, ◌≤ℤ◌, List}
+--   IsLeftBeforeLast g D E x  == x is effective, adds up to few, and D can be fired to it once all of the
+--                                trial E is lost but its amount at the last place
+use Rattle.std.specs.Prelude.{◌≡◌, ℕ, ◌-◌, ◌<◌, ◌≤◌, pos, ◌+ℤ◌, ◌≤ℤ◌, List, slice_index}
 use Rattle.std.specs.Int.RustNames.{unsigned_abs}
-use Rattle.dg_theory.specs.Firing.{Amounts, degree}
+use Rattle.dg_chips.specs.Vector.{Vector, at}
+use Rattle.dg_reduce.specs.Effective.{IsEffectiveDivisor}
+use Rattle.dg_theory.specs.Firing.{Amounts, degree, only_at}
 use Rattle.dg_theory.specs.Multigraph.{Multigraph}
 use Rattle.dg_theory.specs.Play.{IsWinnable}
 use Rattle.dg_theory.specs.Rank.{less}
 use Rattle.dg_rank.specs.Divisors.{amounts_of}
 use Rattle.dg_rank.specs.Numbering.{nth_trial}
-use Rattle.dg_rank.specs.declared.search_state.SearchState.{SearchState}
-use Rattle.dg_rank.specs.declared.search_state.SearchState.TheVariants.{Lost, Won, Open}
 
 abbrev pub AreSmallForTrials : ℕ → Amounts → Type 0
 AreSmallForTrials n D = (v : ℕ) → v < n → unsigned_abs (D v) ≤ 1999000
@@ -39,7 +39,6 @@ pub record IsFirstLossIn (g : Multigraph) (D : Amounts) (k i j : ℕ) (E : List 
   pub loses : ¬ WinsWithout g D E
   pub first : AllWin g D k i number
 
-abbrev pub IsPartial : Multigraph → Amounts → ℕ → ℕ → ℕ → SearchState → Type 0
-IsPartial g D k i j (Lost E) = IsFirstLossIn g D k i j E
-IsPartial g D k i j Won = AllWin g D k i j
-IsPartial g D k i j (Open m) = (m ≤ j) × AllWin g D k i m
+pub record IsLeftBeforeLast (g : Multigraph) (D : Amounts) (E : List ℕ) (x : Vector) : Type 0 where
+  pub left : IsEffectiveDivisor g (λ v. less D (amounts_of E) v +ℤ only_at (g.size - 1) (pos (slice_index E (g.size - 1))) v) x
+  pub few : AddUpToFewForTrials g.size (at x)

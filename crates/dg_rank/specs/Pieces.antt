@@ -2,13 +2,12 @@
 --   piece_start s j == the number of the first trial of piece j; past the last piece it is the
 --                      number of all trials
 --   CanSearch s     == the trials of the search and its amounts are within the limits
---   Tells s i j x   == what x tells of the trials from number i up to j is true
-use Rattle.std.specs.Prelude.{◌≡◌, ℕ, ◌*◌, ◌/◌, ◌≤◌}
+--   Tells s i j x   == x is the first loss of the trials from number i up to j, or they all win
+use Rattle.std.specs.Prelude.{◌≡◌, ℕ, ◌*◌, ◌/◌, ◌≤◌, List, Option, MatchOption}
 use Rattle.dg_chips.specs.Vector.{at}
 use Rattle.dg_rank.specs.Limits.{IsWithinLimits}
-use Rattle.dg_rank.specs.Losses.{AreSmallForTrials, IsPartial}
+use Rattle.dg_rank.specs.Losses.{AreSmallForTrials, AllWin, IsFirstLossIn}
 use Rattle.dg_rank.specs.declared.pieces.Search.{Search}
-use Rattle.dg_rank.specs.declared.search_state.SearchState.{SearchState}
 
 abbrev pub piece_start : Search → ℕ → ℕ
 piece_start s j = j * s.count / s.workers
@@ -18,5 +17,5 @@ pub record CanSearch (s : Search) : Type 0 where
   pub range : AreSmallForTrials s.graph.size (at s.chips)
   pub limits : (c : ℕ) × IsWithinLimits s.graph.size s.k c × (s.count ≤ c)
 
-abbrev pub Tells : Search → ℕ → ℕ → SearchState → Type 0
-Tells s i j x = IsPartial s.graph (at s.chips) s.k i j x
+abbrev pub Tells : Search → ℕ → ℕ → Option (List ℕ) → Type 0
+Tells s i j x = MatchOption x (AllWin s.graph (at s.chips) s.k i j) (IsFirstLossIn s.graph (at s.chips) s.k i j)

@@ -1,7 +1,5 @@
 -- How far rank tests go, what they tell of ranks, and why one is refused.
 --   IsWithin n k           == a rank test of degree k on n vertices is within the limits
---   IsUnsettled g D k      == what D less k dollars holds in all is at least 0 and less than the
---                             genus
 --   IsRankInLimits g D r   == r is the rank of D, and the test of the next degree is within the
 --                             limits
 --   AreRanksInLimits g D r == so are the two of r, of D and of its residual
@@ -43,10 +41,6 @@ use Rattle.dg_rank.specs.declared.workers.TheConstants.{MAX_WORKERS}
 
 abbrev pub IsWithin : ℕ → ℕ → Type 0
 IsWithin n k = (c : ℕ) × IsWithinLimits n k c
-
-pub record IsUnsettled (g : Multigraph) (D : Amounts) (k : ℕ) : Type 0 where
-  pub least : pos k ≤ℤ degree g.size D
-  pub most : degree g.size D <ℤ (genus g +ℤ pos k)
 
 pub record IsRankInLimits (g : Multigraph) (D : Amounts) (r : ℤ) : Type 0 where
   pub is_rank : IsRank g D r

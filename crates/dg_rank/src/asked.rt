@@ -17,7 +17,7 @@ use dg_graph::{Graph, MAX_VERTICES, contains, with_vertex};
 use dg_reduce::EffectiveDivisor;
 
 /// So many boxes are searched on all vertices, before a determining set is made.
-const FEW_BOXES: u32 = 100;
+const FEW_BOXES: u32 = 32;
 
 /// A loss of at most so many dollars, of which none are lost before a place; `None` if each such loss can be borne. The sets
 /// that were made for the graph are kept: one for each place, and 0 until it is made.

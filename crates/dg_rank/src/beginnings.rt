@@ -1,71 +1,16 @@
 //! The first loss of all trials, by boxes with a fixed beginning.
-ghost use Rattle.std.specs.Prelude.{◌≡◌, ◌<◌, ◌≤◌, MatchBool, MatchOption};
+ghost use Rattle.std.specs.Prelude.{◌≡◌, ◌<◌, ◌≤◌};
 ghost use Rattle.dg_theory.specs.Firing.{IsEffective};
-ghost use Rattle.dg_theory.specs.Rank.{HasRankAtLeast};
-ghost use Rattle.dg_theory.specs.Reduced.{IsReduced};
 ghost use Rattle.dg_chips.specs.Vector.{at};
-ghost use Rattle.dg_rank.specs.Losses.{AreSmallForTrials, AddUpToFewForTrials};
+ghost use Rattle.dg_rank.specs.Losses.{AddUpToFewForTrials};
 ghost use Rattle.dg_rank.specs.Asked.{AreMade};
 ghost use Rattle.dg_rank.specs.Boxes.{IsLossFrom, IsFirstFrom};
 
 use crate::asked::find_from;
 use crate::boxes::left_after;
 use crate::enumeration::Trial;
-use dg_chips::Wide;
 use dg_graph::Graph;
 use dg_reduce::EffectiveDivisor;
-
-/// The first loss of the trials of degree k; `None` if all win. The amounts are reduced for the first vertex.
-pub(crate) fn first_loss_by_boxes(
-    graph: &Graph,
-    made: &mut [u16; 16],
-    chips: &Wide,
-    k: u32,
-) -> Option<Trial>
-    requires some { 0 < graph.now.size }
-    requires size { chips.now.size ≡ graph.now.size }
-    requires reduced { IsReduced graph.now 0 (at chips.now) }
-    requires range { AreSmallForTrials graph.now.size (at chips.now) }
-    requires few { k ≤ 1000 }
-    requires made { AreMade graph.now made.old }
-    ensures { MatchOption result
-        (HasRankAtLeast graph.now (at chips.now) k)
-        (IsFirstFrom graph.now (at chips.now) k 0) }
-{
-    let size = graph.size();
-    if chips.get(0) < 0 {
-        return Some(Trial::at_last(size, k));
-    }
-    let left = EffectiveDivisor::of(chips);
-    match find_from(graph, &left, made, k, 0) {
-        Some(known) => Some(first_from(graph, made, &left, k, 0, known)),
-        None => None,
-    }
-}
-
-/// Whether all trials of degree k win. The amounts are reduced for the first vertex.
-pub(crate) fn wins_all(graph: &Graph, made: &mut [u16; 16], chips: &Wide, k: u32) -> bool
-    requires some { 0 < graph.now.size }
-    requires size { chips.now.size ≡ graph.now.size }
-    requires reduced { IsReduced graph.now 0 (at chips.now) }
-    requires range { AreSmallForTrials graph.now.size (at chips.now) }
-    requires few { k ≤ 1000 }
-    requires made { AreMade graph.now made.old }
-    ensures made { AreMade graph.now made.new }
-    ensures told { MatchBool result
-        (HasRankAtLeast graph.now (at chips.now) k)
-        (¬ HasRankAtLeast graph.now (at chips.now) k) }
-{
-    let _size = graph.size();
-    if chips.get(0) < 0 {
-        return false;
-    }
-    let left = EffectiveDivisor::of(chips);
-    match find_from(graph, &left, made, k, 0) {
-        Some(_) => false,
-        None => true,
-    }
-}
 
 /// The first loss of the trials of a degree that hold nothing before a place, if a loss of at most that degree is known
 /// among these: the amounts are fixed from the first on, at each place the least with which there is a loss of the later ones.

@@ -21,7 +21,6 @@ pub(crate) struct Stopped;
 /// can. At any other a loss takes more than is left, or no more: the former are searched, and then the box is closed there.
 ///
 /// A search that stops does so after so many more boxes; the number is counted down.
-#[cycle(box_search)]
 pub(crate) fn find_in_box(
     graph: &Graph,
     left: &EffectiveDivisor,
@@ -44,15 +43,21 @@ pub(crate) fn find_in_box(
     if dollars == 0 {
         return Ok(None);
     }
+    if stops && *boxes == 0 {
+        return Err(Stopped);
+    }
+    *boxes = boxes.saturating_sub(1);
     let mut open = *room;
     for v in 0..size {
         let held = held_at(left, v);
         if held < open[v].min(dollars) {
             let taken = held + 1;
+            let Some(other) = left_after(graph, left, v, taken) else {
+                return Ok(Some(Trial::at_last(size, 0).with_more(v, taken)));
+            };
             let mut beyond = open;
             beyond[v] -= taken;
-            let fewer = dollars - taken;
-            match find_without(graph, left, v, taken, &beyond, fewer, stops, boxes) {
+            match find_in_box(graph, &other, &beyond, dollars - taken, stops, boxes) {
                 Ok(Some(trial)) => return Ok(Some(trial.with_more(v, taken))),
                 Ok(None) => open[v] = held,
                 Err(stopped) => return Err(stopped),
@@ -60,43 +65,6 @@ pub(crate) fn find_in_box(
         }
     }
     Ok(None)
-}
-
-/// A loss in a box once so many dollars are taken at a vertex.
-#[cycle(box_search)]
-fn find_without(
-    graph: &Graph,
-    left: &EffectiveDivisor,
-    v: usize,
-    taken: u32,
-    room: &[u32; 16],
-    dollars: u32,
-    stops: bool,
-    boxes: &mut u32,
-) -> Result<Option<Trial>, Stopped>
-    requires size { left.now.size ≡ graph.now.size }
-    requires effective { IsEffective graph.now.size (at left.now) }
-    requires small { AddUpToFewForTrials graph.now.size (at left.now) }
-    requires vertex { v < graph.now.size }
-    requires taken { taken ≤ 1000 }
-    requires few { dollars ≤ 1000 }
-    ensures { MatchResult result
-        (λ found. MatchOption found
-        (BoxWins graph.now (less (at left.now) (only_at v (pos taken))) room.now dollars)
-        (IsBoxLoss graph.now (less (at left.now) (only_at v (pos taken))) room.now dollars))
-        (λ _. stops ≡ true) }
-{
-    let size = graph.size();
-    if stops {
-        if *boxes == 0 {
-            return Err(Stopped);
-        }
-        *boxes -= 1;
-    }
-    match left_after(graph, left, v, taken) {
-        Some(other) => find_in_box(graph, &other, room, dollars, stops, boxes),
-        None => Ok(Some(Trial::at_last(size, 0))),
-    }
 }
 
 /// What is left once so many dollars are taken at a vertex and paid back; `None` if that can't be won.

@@ -1,23 +1,24 @@
 //! Rank tests by the residual of a divisor, which is the canonical divisor less it. By the theorem of Riemann and Roch a divisor
 //! passes a test exactly if its residual passes another, and one of the two may have far fewer trials.
-ghost use Rattle.std.specs.Prelude.{◌≡◌, ℕ, ⊤, ◌<◌, ◌≤◌, pos, ◌+ℤ◌, ◌-ℤ◌, MatchBool};
+ghost use Rattle.std.specs.Prelude.{◌≡◌, ℕ, ⊤, ◌+◌, ◌<◌, ◌≤◌, pos, ◌+ℤ◌, ◌-ℤ◌, ◌<ℤ◌, MatchBool};
 ghost use Rattle.std.specs.Int.RustNames.{unsigned_abs};
 ghost use Rattle.dg_theory.specs.Multigraph.{genus};
 ghost use Rattle.dg_theory.specs.Firing.{degree};
 ghost use Rattle.dg_theory.specs.Rank.{less, canonical, HasRankAtLeast};
-ghost use Rattle.dg_reduce.specs.declared.limits.TheConstants.{MAX_START};
 ghost use Rattle.dg_graph.specs.Graph.{IsGraph};
 ghost use Rattle.dg_chips.specs.Vector.{at};
 ghost use Rattle.dg_rank.specs.Asked.{AreMade};
-ghost use Rattle.dg_rank.specs.Ranks.{IsUnsettled, TellsRankTest};
+ghost use Rattle.dg_rank.specs.Losses.{AreSmallForTrials};
+ghost use Rattle.dg_rank.specs.Ranks.{TellsRankTest};
 ghost use Rattle.dg_rank.specs.declared.rank_fault.RankFault.TheVariants.{TooMany};
 
-use crate::asked::may_ask;
-use crate::beginnings::wins_all;
+use crate::asked::{find_from, may_ask};
+use crate::enumeration::Trial;
+use crate::first_loss::left_before_last;
 use crate::rank_fault::RankFault;
 use dg_chips::{Divisor, Wide};
 use dg_graph::Graph;
-use dg_reduce::{InverseLaplacian, reduce_certified};
+use dg_reduce::InverseLaplacian;
 
 /// Whether the rank of a divisor is at least k: whether every effective divisor of degree k can be lost and the rest still
 /// won. The test is made of the divisor or of its residual, if that has fewer trials, and on a determining set of vertices.
@@ -80,7 +81,7 @@ pub(crate) fn degree_left(divisor: &Divisor, k: u32) -> i64
     divisor.degree() - i64::from(k)
 }
 
-/// Whether the residual tells that a divisor passes a test that its degree does not settle: if the residual's own test has
+/// Whether the residual tells that a divisor passes a test: if no law of the degree tells it, and the residual's own test has
 /// fewer dollars to take, and passes.
 pub(crate) fn dual_wins(
     graph: &Graph,
@@ -91,14 +92,14 @@ pub(crate) fn dual_wins(
 ) -> bool
     requires size { divisor.now.size ≡ graph.now.size }
     requires some { 0 < graph.now.size }
-    requires unsettled { IsUnsettled graph.now (at divisor.now) k }
     requires few { k ≤ 1000 }
     requires made { AreMade graph.now made.old }
     ensures made { AreMade graph.now made.new }
     ensures told { MatchBool result (HasRankAtLeast graph.now (at divisor.now) k) ⊤ }
 {
     let _size = graph.size();
-    if degree_left(divisor, k) < i64::from(k) {
+    let rest = degree_left(divisor, k);
+    if rest < i64::from(k) || rest >= i64::from(graph.genus()) {
         return false;
     }
     let other = degree_of_dual(graph, divisor, k);
@@ -106,9 +107,10 @@ pub(crate) fn dual_wins(
 }
 
 /// The degree at which the residual passes its test exactly if the divisor passes the test of degree k.
-fn degree_of_dual(graph: &Graph, divisor: &Divisor, k: u32) -> u32
+pub(crate) fn degree_of_dual(graph: &Graph, divisor: &Divisor, k: u32) -> u32
     requires size { divisor.now.size ≡ graph.now.size }
-    requires unsettled { IsUnsettled graph.now (at divisor.now) k }
+    requires low { k ≤ unsigned_abs (degree graph.now.size (at divisor.now)) + 1 }
+    requires poor { degree graph.now.size (at divisor.now) <ℤ (genus graph.now +ℤ pos k) }
     ensures { pos k -ℤ pos result
         ≡ (degree graph.now.size (at divisor.now) +ℤ pos 1) -ℤ genus graph.now }
 {
@@ -133,8 +135,9 @@ fn dual_of(graph: &Graph, divisor: &Divisor) -> Wide
     ensures size { result.size ≡ graph.now.size }
     ensures amounts { (v : ℕ) → v < graph.now.size →
         at result v ≡ less (canonical graph.now) (at divisor.now) v }
-    ensures range { (v : ℕ) → v < graph.now.size → unsigned_abs (at result v) ≤ MAX_START }
+    ensures range { AreSmallForTrials graph.now.size (at result) }
 {
+    let _size = graph.size();
     let canonical = Divisor::canonical(graph);
     // The clauses of `size` say that the amounts of both are within their limit.
     let _canonical = canonical.size();
@@ -153,8 +156,7 @@ fn all_win(
     requires graph { IsGraph graph.now }
     requires some { 0 < graph.now.size }
     requires size { amounts.now.size ≡ graph.now.size }
-    requires range { (v : ℕ) → v < graph.now.size → unsigned_abs (at amounts.now v) ≤ MAX_START }
-    requires unsettled { IsUnsettled graph.now (at amounts.now) k }
+    requires range { AreSmallForTrials graph.now.size (at amounts.now) }
     requires few { k ≤ 1000 }
     requires made { AreMade graph.now made.old }
     ensures made { AreMade graph.now made.new }
@@ -162,6 +164,9 @@ fn all_win(
         (HasRankAtLeast graph.now (at amounts.now) k)
         (¬ HasRankAtLeast graph.now (at amounts.now) k) }
 {
-    let chips = reduce_certified(graph, inverse, 0, amounts).reduced.divisor;
-    wins_all(graph, made, &chips, k)
+    let first = Trial::at_last(graph.size(), k);
+    match left_before_last(graph, inverse, amounts, &first) {
+        Some(left) => find_from(graph, &left, made, k, 0).is_none(),
+        None => false,
+    }
 }

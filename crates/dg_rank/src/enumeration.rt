@@ -1,8 +1,8 @@
 //! Trials in their order: the one with a number, the next one, and each as a divisor.
 ghost use Rattle.std.specs.Prelude.{◌≡◌, ℕ, suc, ◌<◌, ◌≤◌, ◌+◌, ◌-◌, ◌∷◌, length, slice_index, slice_set};
+ghost use Rattle.std.specs.List.{sum};
 ghost use Rattle.dg_rank.specs.Limits.{IsWithinLimits};
 ghost use Rattle.dg_rank.specs.Numbering.{trial_count, nth_trial};
-ghost use Rattle.dg_rank.specs.Trials.{IsTrial};
 ghost use Rattle.dg_rank.specs.Divisors.{HoldsTrial};
 
 use crate::counting::{MAX_DEGREE, MAX_TRIALS, count};
@@ -121,7 +121,7 @@ impl Trial {
 
     /// A trial as a divisor.
     pub fn to_divisor(&self) -> Divisor
-        requires { (n : ℕ) × (k : ℕ) × (c : ℕ) × IsWithinLimits n k c × IsTrial n k self.now }
+        requires { sum self.now ≤ 1000 }
         ensures { HoldsTrial (length self.now) self.now result }
     {
         let size = self.size();

@@ -1,15 +1,12 @@
 //! The first trial whose loss can't be borne.
 ghost use Rattle.std.specs.Prelude.{◌≡◌, ℕ, ◌+◌, ◌-◌, ◌<◌, ◌≤◌, min, length, slice_index, MatchOption};
-ghost use Rattle.dg_theory.specs.Rank.{less};
+ghost use Rattle.std.specs.List.{sum};
 ghost use Rattle.dg_graph.specs.Graph.{IsGraph};
 ghost use Rattle.dg_chips.specs.Vector.{at};
-ghost use Rattle.dg_reduce.specs.Effective.{IsEffectiveDivisor};
 ghost use Rattle.dg_rank.specs.Asked.{AreMade};
-ghost use Rattle.dg_rank.specs.Divisors.{amounts_of};
 ghost use Rattle.dg_rank.specs.Limits.{IsWithinLimits};
-ghost use Rattle.dg_rank.specs.Trials.{IsTrial};
 ghost use Rattle.dg_rank.specs.Numbering.{nth_trial, trial_count};
-ghost use Rattle.dg_rank.specs.Losses.{AreSmallForTrials, WinsWithout, AllWin, IsFirstLossIn};
+ghost use Rattle.dg_rank.specs.Losses.{AreSmallForTrials, WinsWithout, AllWin, IsFirstLossIn, IsLeftBeforeLast};
 ghost use Rattle.dg_rank.specs.declared.counting.TheConstants.{MAX_TRIALS};
 
 use crate::asked::find_from;
@@ -77,7 +74,7 @@ fn block_place(trial: &Trial, most: u32) -> usize
 }
 
 /// The first loss of the trials that hold the same as one before a place, which is the first of these; `None` if all win.
-fn first_in_block(
+pub(crate) fn first_in_block(
     graph: &Graph,
     inverse: &InverseLaplacian,
     made: &mut [u16; 16],
@@ -101,12 +98,10 @@ fn first_in_block(
         (IsFirstLossIn graph.now (at chips.now) k i (i + trial_count (graph.now.size - place)
         (slice_index trial (graph.now.size - 1)))) }
 {
-    let last = graph.size() - 1;
-    let dollars = trial.get(last);
-    let Some(mut left) = left_without(graph, inverse, chips, &trial) else {
+    let dollars = trial.get(graph.size() - 1);
+    let Some(left) = left_before_last(graph, inverse, chips, &trial) else {
         return Some(trial);
     };
-    left.give(last, dollars);
     match find_from(graph, &left, made, dollars, place) {
         Some(known) => {
             let later = first_from(graph, made, &left, dollars, place, known);
@@ -116,8 +111,9 @@ fn first_in_block(
     }
 }
 
-/// Amounts without debts that amounts without a trial's can be fired to; `None` if those can't be won.
-pub(crate) fn left_without(
+/// Amounts without debts that amounts can be fired to once all of a trial is lost but its amount at the last place. `None` if
+/// the whole trial can't be lost.
+pub(crate) fn left_before_last(
     graph: &Graph,
     inverse: &InverseLaplacian,
     chips: &Wide,
@@ -126,18 +122,21 @@ pub(crate) fn left_without(
     requires graph { IsGraph graph.now }
     requires size { chips.now.size ≡ graph.now.size }
     requires range { AreSmallForTrials graph.now.size (at chips.now) }
-    requires trial { (k : ℕ) × (c : ℕ) × IsWithinLimits graph.now.size k c ×
-        IsTrial graph.now.size k trial.now }
+    requires places { length trial.now ≡ graph.now.size }
+    requires few { sum trial.now ≤ 1000 }
     ensures { MatchOption result
         (¬ WinsWithout graph.now (at chips.now) trial.now)
-        (IsEffectiveDivisor graph.now (less (at chips.now) (amounts_of trial.now))) }
+        (IsLeftBeforeLast graph.now (at chips.now) trial.now) }
 {
+    let last = graph.size() - 1;
     let lost = trial.to_divisor();
-    let left = reduce_certified(graph, inverse, 0, &chips.less(&lost))
+    let reduced = reduce_certified(graph, inverse, 0, &chips.less(&lost))
         .reduced
         .divisor;
-    if left.get(0) < 0 {
+    if reduced.get(0) < 0 {
         return None;
     }
-    Some(EffectiveDivisor::of(&left))
+    let mut left = EffectiveDivisor::of(&reduced);
+    left.give(last, trial.get(last));
+    Some(left)
 }

@@ -14,7 +14,6 @@ mod numbers;
 mod pieces;
 mod rank_fault;
 mod ranks;
-mod search_state;
 mod workers;
 
 pub use counting::{MAX_DEGREE, MAX_TRIALS, trial, trials};

@@ -7,7 +7,7 @@ ghost use Rattle.dg_chips.specs.Vector.{at};
 ghost use Rattle.dg_rank.specs.Ranks.{AreBothRanks, IsRankInLimits, AreRanksInLimits, NeedsTooMany, EitherNeedsTooMany, NeedsPastTests, FailsFirstAt};
 
 use crate::counting::trials;
-use crate::duals::{passes, ranks_apart};
+use crate::duals::{degree_of_dual, passes, ranks_apart};
 use dg_chips::Divisor;
 use dg_graph::Graph;
 use dg_reduce::InverseLaplacian;
@@ -70,7 +70,7 @@ pub fn both_ranks_in_limits(graph: &Graph, q: usize, divisor: &Divisor) -> Optio
 {
     let size = graph.size();
     let fails = first_failing(graph, &InverseLaplacian::new(graph, 0), divisor)?;
-    let dual_fails = first_failing_of_dual(graph, divisor, fails);
+    let dual_fails = degree_of_dual(graph, divisor, fails);
     trials(size, fails)?;
     trials(size, dual_fails)?;
     Some((i64::from(fails) - 1, i64::from(dual_fails) - 1))
@@ -98,16 +98,4 @@ fn first_failing(graph: &Graph, inverse: &InverseLaplacian, divisor: &Divisor) -
         }
     }
     unreachable!()
-}
-
-/// The least degree at which the rank test of the residual fails, if this is that of the divisor.
-fn first_failing_of_dual(graph: &Graph, divisor: &Divisor, fails: u32) -> u32
-    requires size { divisor.now.size ≡ graph.now.size }
-    requires some { 0 < graph.now.size }
-    requires fails { FailsFirstAt graph.now (at divisor.now) fails }
-    ensures { pos fails -ℤ pos result
-        ≡ (degree graph.now.size (at divisor.now) +ℤ pos 1) -ℤ genus graph.now }
-{
-    let _size = graph.size();
-    (i64::from(fails) - ranks_apart(graph, divisor)) as u32
 }

@@ -1,24 +1,23 @@
 //! Rank tests.
 ghost use Rattle.std.specs.Prelude.{◌≡◌, ℕ, ◌<◌, ◌≤◌, ⊤, MatchOption};
+ghost use Rattle.std.specs.List.{sum};
 ghost use Rattle.dg_theory.specs.Multigraph.{Multigraph};
 ghost use Rattle.dg_theory.specs.Firing.{Amounts, AreEquivalent};
-ghost use Rattle.dg_theory.specs.Reduced.{IsReduced};
 ghost use Rattle.dg_chips.specs.Vector.{at};
 ghost use Rattle.dg_rank.specs.Limits.{IsWithinLimits};
-ghost use Rattle.dg_rank.specs.Trials.{IsTrial};
-ghost use Rattle.dg_rank.specs.Losses.{AreSmallForTrials, AllWin, IsFirstLossIn};
+ghost use Rattle.dg_rank.specs.Losses.{AllWin, IsFirstLossIn};
 ghost use Rattle.dg_verdict.specs.RankTests.{IsRankTest};
 ghost use Rattle.dg_rank.specs.Ladders.{AnswersRankTest};
-ghost use Rattle.dg_rank.specs.Ranks.{IsWithin, IsUnsettled};
+ghost use Rattle.dg_rank.specs.Ranks.{IsWithin};
 
-use crate::beginnings::first_loss_by_boxes;
 use crate::counting::trials;
 use crate::duals::{degree_left, dual_wins};
 use crate::enumeration::Trial;
+use crate::first_loss::first_in_block;
 use crate::rank_fault::RankFault;
 use dg_chips::{Divisor, Wide};
 use dg_graph::Graph;
-use dg_reduce::{InverseLaplacian, reduce_certified};
+use dg_reduce::InverseLaplacian;
 use dg_verdict::RankVerdict;
 
 /// Tests whether the rank of a divisor is at least k: whether every effective divisor of degree k can be lost and the
@@ -71,47 +70,23 @@ pub fn rank_at_least_by(
     Ok(tested(graph, inverse, divisor, k))
 }
 
-/// The answer of a rank test that the degree does not settle.
+/// The answer of a rank test that the degree does not settle. The first trial, which holds all at the last place, begins a block
+/// that has all of them.
 fn tested(graph: &Graph, inverse: &InverseLaplacian, divisor: &Divisor, k: u32) -> RankVerdict
     requires size { divisor.now.size ≡ graph.now.size }
     requires limits { IsWithin graph.now.size k }
-    requires unsettled { IsUnsettled graph.now (at divisor.now) k }
     ensures { IsRankTest graph.now (at divisor.now) k result }
 {
-    let _size = graph.size();
+    let size = graph.size();
+    // The clause of `size` says that the amounts are within their limit.
+    let _amounts = divisor.size();
     let mut made = [0; 16];
     if dual_wins(graph, inverse, &mut made, divisor, k) {
         return RankVerdict::AtLeast(k);
     }
-    let chips = small_amounts(graph, inverse, divisor, k);
-    match first_loss_by_boxes(graph, &mut made, &chips, k) {
-        Some(loss) => RankVerdict::Below(k, loss.to_divisor()),
-        None => RankVerdict::AtLeast(k),
-    }
-}
-
-/// The amounts that are reduced for the first vertex and that a divisor can be fired to, if the degree does not settle its
-/// test: all of them are small.
-pub(crate) fn small_amounts(
-    graph: &Graph,
-    inverse: &InverseLaplacian,
-    divisor: &Divisor,
-    k: u32,
-) -> Wide
-    requires size { divisor.now.size ≡ graph.now.size }
-    requires limits { IsWithin graph.now.size k }
-    requires unsettled { IsUnsettled graph.now (at divisor.now) k }
-    ensures size { result.size ≡ graph.now.size }
-    ensures fired { AreEquivalent graph.now (at divisor.now) (at result) }
-    ensures small { AreSmallForTrials graph.now.size (at result) }
-    ensures reduced { IsReduced graph.now 0 (at result) }
-{
-    let _size = graph.size();
-    // The clause of `size` says that the amounts are within their limit.
-    let _amounts = divisor.size();
-    reduce_certified(graph, inverse, 0, &Wide::of(divisor))
-        .reduced
-        .divisor
+    let first = Trial::at_last(size, k);
+    let loss = first_in_block(graph, inverse, &mut made, &Wide::of(divisor), first, 0);
+    verdict_on(k, loss)
 }
 
 /// The answer of a rank test that the degree alone settles. `None` if trials must be made.
@@ -119,7 +94,7 @@ pub(crate) fn settled(graph: &Graph, divisor: &Divisor, k: u32) -> Option<RankVe
     requires size { divisor.now.size ≡ graph.now.size }
     requires limits { IsWithin graph.now.size k }
     ensures { MatchOption result
-        (IsUnsettled graph.now (at divisor.now) k)
+        ⊤
         (IsRankTest graph.now (at divisor.now) k) }
 {
     let size = graph.size();
@@ -128,15 +103,15 @@ pub(crate) fn settled(graph: &Graph, divisor: &Divisor, k: u32) -> Option<RankVe
         return Some(RankVerdict::AtLeast(k));
     }
     if rest < 0 {
-        let first = Trial::with_number(size, k, 0).to_divisor();
+        let first = Trial::at_last(size, k).to_divisor();
         return Some(RankVerdict::Below(k, first));
     }
     None
 }
 
-/// The answer if this is the first loss of all trials, or if none was found. The condition is that it is a trial.
+/// The answer if this is the first loss of all trials, or if none was found.
 pub(crate) fn verdict_on(k: u32, loss: Option<Trial>) -> RankVerdict
-    requires { MatchOption loss ⊤ (λ E. (n : ℕ) × (c : ℕ) × IsWithinLimits n k c × IsTrial n k E) }
+    requires { MatchOption loss ⊤ (λ E. sum E ≤ 1000) }
     ensures { (g : Multigraph) (D x : Amounts) (c : ℕ) → IsWithinLimits g.size k c →
         AreEquivalent g D x →
         MatchOption loss (AllWin g x k 0 c) (IsFirstLossIn g x k 0 c) →

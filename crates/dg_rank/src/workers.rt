@@ -1,17 +1,15 @@
 //! Rank tests among workers.
-ghost use Rattle.std.specs.Prelude.{◌≡◌, ◌<◌, MatchResult};
+ghost use Rattle.std.specs.Prelude.{◌≡◌, ◌<◌, ◌≤◌, ⊤, MatchOption, MatchResult};
 ghost use Rattle.dg_chips.specs.Vector.{at};
 ghost use Rattle.dg_verdict.specs.RankTests.{IsRankTest};
 ghost use Rattle.dg_rank.specs.Ranks.{IsWithin, IsRankFault, MayHaveWorkers};
-ghost use Rattle.dg_rank.specs.declared.rank_fault.RankFault.TheVariants.{Spawn};
 
 use crate::counting::trials;
 use crate::pieces::{Search, first_loss_among};
 use crate::rank_fault::RankFault;
-use crate::ranks::{settled, small_amounts, verdict_on};
+use crate::ranks::{settled, verdict_on};
 use dg_chips::{Divisor, Wide};
 use dg_graph::Graph;
-use dg_reduce::InverseLaplacian;
 use dg_verdict::RankVerdict;
 use std::marker::Sync;
 use std::sync::Wait;
@@ -66,46 +64,32 @@ pub fn rank_with<R: Threads + Wait, G: Gate>(
     if workers < 1 || workers > MAX_WORKERS {
         return Err(RankFault::Workers);
     }
-    if let Some(verdict) = settled(graph, divisor, k) {
-        return after_the_gate(rt, graph, k, workers, gate, verdict);
-    }
-    let inverse = InverseLaplacian::new(graph, 0);
-    let chips = small_amounts(graph, &inverse, divisor, k);
+    let known = settled(graph, divisor, k);
+    // The clause of `size` says that the amounts are within their limit.
+    let _amounts = divisor.size();
     let search = Search {
         graph: *graph,
-        chips,
+        chips: Wide::of(divisor),
         k,
-        count,
+        count: trials_to_make(&known, count),
         workers,
     };
-    match first_loss_among(rt, &search, gate) {
-        Ok(loss) => Ok(verdict_on(k, loss)),
+    match first_loss_among(rt, &search, gate, 0) {
+        Ok(loss) => match known {
+            Some(verdict) => Ok(verdict),
+            None => Ok(verdict_on(k, loss)),
+        },
         Err(fault) => Err(fault),
     }
 }
 
-/// A verdict that is known, once a thread for each piece has passed the gate, with no trials to make.
-fn after_the_gate<R: Threads + Wait, G: Gate>(
-    rt: &R,
-    graph: &Graph,
-    k: u32,
-    workers: u32,
-    gate: &G,
-    verdict: RankVerdict,
-) -> Result<RankVerdict, RankFault>
-    requires limits { IsWithin graph.now.size k }
-    requires workers { MayHaveWorkers workers }
-    ensures { MatchResult result (λ x. x ≡ verdict) (λ e. e ≡ Spawn) }
+/// How many of so many trials are made: none if the verdict is known.
+fn trials_to_make(known: &Option<RankVerdict>, count: u32) -> u32
+    ensures few { result ≤ count }
+    ensures all { MatchOption known.now (result ≡ count) (λ _. ⊤) }
 {
-    let search = Search {
-        graph: *graph,
-        chips: Wide::zero(graph),
-        k,
-        count: 0,
-        workers,
-    };
-    match first_loss_among(rt, &search, gate) {
-        Ok(_) => Ok(verdict),
-        Err(fault) => Err(fault),
+    match *known {
+        Some(_) => 0,
+        None => count,
     }
 }

@@ -2,7 +2,7 @@
 --   held-may       who may burn is the same, where q burns
 --   whole_order    so its order is that of the amounts
 --   whole_reduced  and the amounts are reduced
-use Rattle.dg_reduce.proofs.Common.{◌≡◌, ◌≢◌, ℕ, suc, ◌<◌, Bool, true, false, List, [], ◌∷◌, take, arith, ap, sym, ◌∙◌, ◌↔◌, slice_get, Some, both_ways, ints, Multigraph, Amounts, among, MayBurn, BurnsNext, BurnsInOrder, IsReduced, among_first, q_burns, dollars, Burning, IsBurningOrder, IsWhole, IsGuessedOff}
+use Rattle.dg_reduce.proofs.Common.{◌≡◌, ◌≢◌, ℕ, suc, ◌<◌, Bool, true, false, List, take, arith, ap, sym, ◌∙◌, ◌↔◌, both_ways, ints, Multigraph, Amounts, among, MayBurn, BurnsNext, BurnsInOrder, IsReduced, among-first, q_burns, dollars, Burning, IsBurningOrder, IsWhole, IsGuessedOff}
 
 pub held-may : (g : Multigraph) (q : ℕ) (D : Amounts) (held : List ℕ) (B : ℕ → Bool) (v : ℕ) →
     IsGuessedOff g.size q D held → B q ≡ true → MayBurn g (dollars held) B v ↔ MayBurn g D B v
@@ -23,10 +23,6 @@ held-may g q D held B v same burns = (
     here below out = same v below (λ is_q. both_ways _ out (ap B is_q ∙ burns))
 
 -- q is the first to burn
-among-begun : (l : List ℕ) (q i : ℕ) → slice_get l 0 ≡ Some q → among (take (suc i) l) q ≡ true
-among-begun [] q i first = let clash : ⊥ = cc in absurd clash
-among-begun (x ∷ l) q i first = among_first (x ∷ take i l) q first
-
 pub whole_order : (g : Multigraph) (q : ℕ) (D : Amounts) (x : Burning) → IsGuessedOff g.size q D x.held →
     IsWhole g q x → IsBurningOrder g q D x.order
 whole_order g q D x same whole = record {
@@ -34,7 +30,7 @@ whole_order g q D x same whole = record {
     begun = record {
       first = order.begun.first;
       next = λ i v place.
-          let burns : among (take (suc i) l) q ≡ true = among-begun l q i order.begun.first in
+          let burns : among (take (suc i) l) q ≡ true = among-first l q i order.begun.first in
           let next : BurnsNext g (dollars x.held) (among (take (suc i) l)) v = order.begun.next i v place in
           record {
             may = (held-may g q D x.held (among (take (suc i) l)) v same burns).0 next.may;

@@ -1,5 +1,5 @@
 -- The names that the proofs of this crate cite, passed on from one place. Declares nothing.
-pub use Rattle.dg_burn.proofs.Capped.{same-order}
+pub use Rattle.dg_burn.proofs.Capped.{among-first, same-order}
 pub use Rattle.dg_burn.proofs.Told.{none_reduced, reduced_none, rest_is_free, unburnt_member}
 pub use Rattle.dg_burn.specs.Fires.{IsHeldForBurning, dollars}
 pub use Rattle.dg_chips.proofs.FlowLaws.{times_held}
@@ -21,7 +21,7 @@ pub use Rattle.dg_reduce.specs.declared.walk.Walk.{Walk}
 pub use Rattle.dg_theory.proofs.Absolute.{abs-add, abs_within, within_abs}
 pub use Rattle.dg_theory.proofs.Agreement.{agree-trans, reduced-cong}
 pub use Rattle.dg_theory.proofs.Bounds.{script_bound}
-pub use Rattle.dg_theory.proofs.BurningOrder.{among_first, q_burns}
+pub use Rattle.dg_theory.proofs.BurningOrder.{q_burns}
 pub use Rattle.dg_theory.proofs.Climbs.{JoinedIn-leaves, Leaves}
 pub use Rattle.dg_theory.proofs.ConstantLaws.{same_by_constant}
 pub use Rattle.dg_theory.proofs.Debts.{fired_nearer, into-le-valence, nearer, out-le-valence}
@@ -60,6 +60,6 @@ pub use Rattle.std.proofs.lemmas.Simd.{get_or-sel_l, get_or-zip2, tops_compared}
 pub use Rattle.std.specs.Int.{bit_at, w128}
 pub use Rattle.std.specs.Int.RustNames.{unsigned_abs}
 pub use Rattle.std.specs.List.{slice_index_or}
-pub use Rattle.std.specs.Prelude.{Some, if◌then◌else◌, nat_lt, slice_get, ◌<ℤ◌, ◌↔◌, ◌≤ℤ◌}
+pub use Rattle.std.specs.Prelude.{if◌then◌else◌, nat_lt, ◌<ℤ◌, ◌↔◌, ◌≤ℤ◌}
 pub use lib.Lanes.{sel_l, top, zip2}
 pub use mir.Val.{of_z, to_z}

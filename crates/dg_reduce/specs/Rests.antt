@@ -2,14 +2,14 @@
 --   IsRest g q D x == the rest of the burning x has a member and fires freely, and x counts the
 --                     edges of each vertex that lead out of it
 use Rattle.std.specs.Prelude.{◌≡◌, ℕ, true, slice_index}
-use Rattle.dg_burn.specs.declared.burning.Counted.{Counted}
+use Rattle.dg_burn.specs.declared.burning.BurnCounts.{BurnCounts}
 use Rattle.dg_graph.specs.Sets.{in_set}
 use Rattle.dg_theory.specs.Burning.{FiresFreely}
 use Rattle.dg_theory.specs.Firing.{Amounts}
 use Rattle.dg_theory.specs.Multigraph.{Multigraph}
 use Rattle.dg_theory.specs.Reduced.{edges_out}
 
-pub record IsRest (g : Multigraph) (q : ℕ) (D : Amounts) (x : Counted) : Type 0 where
+pub record IsRest (g : Multigraph) (q : ℕ) (D : Amounts) (x : BurnCounts) : Type 0 where
   pub free : FiresFreely g q D (in_set x.burnt.unburnt)
   pub member : (v : ℕ) × (in_set x.burnt.unburnt v ≡ true)
   pub joined : (v : ℕ) → slice_index x.joined v ≡ edges_out g (in_set x.burnt.unburnt) v

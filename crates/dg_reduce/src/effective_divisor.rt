@@ -14,7 +14,7 @@ ghost use Rattle.dg_burn.specs.Fires.{IsHeldForBurning};
 ghost use Rattle.dg_reduce.specs.Effective.{IsEffectiveDivisor};
 ghost use Rattle.dg_reduce.specs.Rests.{IsRest};
 
-use dg_burn::{Counted, burn_counted};
+use dg_burn::{BurnCounts, burn_counted};
 use dg_chips::Wide;
 use dg_graph::Graph;
 use std::marker::Model;
@@ -115,7 +115,7 @@ impl EffectiveDivisor {
         self.pay(graph, v)
     }
 
-    /// The same, if the vertex is in debt at first.
+    /// The slow half of `repay`: pays back what the vertex owes. It stands apart, as most calls find no debt.
     #[inline(never)]
     fn pay(&mut self, graph: &Graph, v: usize) -> bool
         requires size { self.old.size ≡ graph.now.size }
@@ -126,7 +126,7 @@ impl EffectiveDivisor {
             (IsEffectiveDivisor graph.now (at self.old) self.new)
             (¬ IsWinnable graph.now (at self.old)) }
     {
-        // The clause of `size` says that the graph is within its limits.
+        // For the prover: `size` says that the graph is within its limits.
         let _size = graph.size();
         'paying: while self.get(v) < 0 {
             let Some(rest) = self.rest(graph, v) else {
@@ -147,7 +147,7 @@ impl EffectiveDivisor {
         ensures form { IsEffectiveDivisor graph.now (at self.old) self.new }
         ensures reduced { IsReduced graph.now v (at self.new) }
     {
-        // The clause of `size` says that the graph is within its limits.
+        // For the prover: `size` says that the graph is within its limits.
         let _size = graph.size();
         'reducing: while let Some(rest) = self.rest(graph, v) {
             self.fire(graph, &rest);
@@ -170,7 +170,7 @@ impl EffectiveDivisor {
 
     /// What burning from a vertex leaves, with its counts, if it leaves something.
     #[inline(always)]
-    fn rest(&self, graph: &Graph, v: usize) -> Option<Counted>
+    fn rest(&self, graph: &Graph, v: usize) -> Option<BurnCounts>
         requires size { self.now.size ≡ graph.now.size }
         requires vertex { v < graph.now.size }
         requires no_debt { HasNoDebtOff graph.now v (at self.now) }
@@ -197,7 +197,7 @@ impl EffectiveDivisor {
 
     /// Lets each vertex that burning left lend once.
     #[inline(always)]
-    fn fire(&mut self, graph: &Graph, rest: &Counted)
+    fn fire(&mut self, graph: &Graph, rest: &BurnCounts)
         requires size { self.old.size ≡ graph.now.size }
         requires rest { (v : ℕ) →
             slice_index rest.now.joined v ≡ edges_out graph.now (in_set rest.now.burnt.unburnt) v }
@@ -228,7 +228,7 @@ pub(crate) fn seen_by_burning(amounts: &[i32; 16]) -> [u8; 16]
 }
 
 /// What each vertex gains if each vertex that burning left lends once.
-fn gains_of(graph: &Graph, rest: &Counted) -> [i8; 16]
+fn gains_of(graph: &Graph, rest: &BurnCounts) -> [i8; 16]
     requires { (v : ℕ) →
         slice_index rest.now.joined v ≡ edges_out graph.now (in_set rest.now.burnt.unburnt) v }
     ensures gains { (v : ℕ) → v < MAX_VERTICES →
@@ -246,7 +246,7 @@ fn gains_of(graph: &Graph, rest: &Counted) -> [i8; 16]
 }
 
 /// What a vertex gains if each vertex that burning left lends once, and a dollar comes along each of so many edges.
-fn gained(graph: &Graph, rest: &Counted, edges: u8, v: usize) -> i8
+fn gained(graph: &Graph, rest: &BurnCounts, edges: u8, v: usize) -> i8
     requires vertex { v < MAX_VERTICES }
     requires rest { slice_index rest.now.joined v
         ≡ edges_out graph.now (in_set rest.now.burnt.unburnt) v }

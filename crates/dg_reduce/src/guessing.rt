@@ -155,7 +155,7 @@ fn nearest(lendings: f64) -> i32 {
     ((sum & 0xffff_ffff) as u32).cast_signed()
 }
 
-/// What each gets if the vertex that this row is of lends so often.
+/// What each vertex gains if the row's vertex lends `times` times.
 fn lent(row: &[i32; 16], times: i32) -> i32x16 {
     i32x16::from_array(*row) * i32x16::splat(times)
 }

@@ -8,8 +8,8 @@ ghost use Rattle.std.specs.Prelude.{◌<◌, ◌≤◌};
 use dg_graph::{Graph, MAX_VERTICES};
 use std::simd::prelude::*;
 
-/// What is added to the lendings, so that those halfway between two numbers are rounded up, as they are computed here or there.
-const A_BIT_MORE: f64 = 0.001;
+/// Added to lendings before they are rounded, so that x.5, which may be off in its last bits, goes up on all machines.
+const ROUND_HALVES_UP: f64 = 0.001;
 
 /// The inverse of a graph's Laplacian without the row and column of q, as far as fractions of 64 bits give it, with what else
 /// guesses need. Made once, it serves each reduction for this graph and q. For another graph or q it only makes the guesses bad.
@@ -222,7 +222,7 @@ fn clear_below(size: usize, rows: &mut [[f64; 16]; 16], wanted: &mut [f64; 16], 
 fn solved(size: usize, rows: &[[f64; 16]; 16], wanted: &[f64; 16]) -> [f64; 16]
     requires { size ≤ MAX_VERTICES }
 {
-    let mut lendings = [A_BIT_MORE; 16];
+    let mut lendings = [ROUND_HALVES_UP; 16];
     let mut found = [0.0; 16];
     for v in (0..size).rev() {
         let row = &rows[v];
@@ -244,7 +244,7 @@ fn product(row: &[f64; 16], other: &[f64; 16]) -> f64 {
 /// The lendings that leave what is aimed at, if nobody holds anything before: a vertex of valence 3 or more is to keep
 /// half of one dollar less than its valence less 1, so that it burns before long.
 fn shift_of(graph: &Graph, q: usize, inverse: &[[f64; 16]; 16]) -> [f64; 16] {
-    let mut shift = [A_BIT_MORE; 16];
+    let mut shift = [ROUND_HALVES_UP; 16];
     for v in 0..graph.size() {
         let kept = kept_by(graph, v);
         if v != q && kept != 0.0 {

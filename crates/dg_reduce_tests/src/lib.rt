@@ -1,13 +1,9 @@
-//! The tests of graphs, of divisors, of burning and of reductions, which call only what those crates make public.
+//! The tests of burning and of reductions, which call only what those crates make public.
 #![tactic(auto)]
 
 #[cfg(test)]
 mod burn;
 #[cfg(test)]
-mod chips;
-#[cfg(test)]
 mod edges;
-#[cfg(test)]
-mod graph;
 #[cfg(test)]
 mod reduce;

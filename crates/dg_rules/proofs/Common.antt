@@ -1,14 +1,17 @@
 -- The names that the proofs of this crate cite, passed on from one place. Declares nothing.
-pub use Rattle.dg_chips.specs.Moves.{script_of}
+pub use Rattle.dg_chips.proofs.Applying.{moved_once}
+pub use Rattle.dg_chips.specs.Applied.{IsAfterMove}
+pub use Rattle.dg_chips.specs.Moves.{HasOtherSize, IsEmptySet, IsPlayable, NamesNoVertex, script_of}
 pub use Rattle.dg_chips.specs.Starts.{StartData}
-pub use Rattle.dg_chips.specs.Vector.{IsDivisor, IsInRange, IsOutOfRange, Vector, at}
-pub use Rattle.dg_rules.specs.GiftReplies.{RepliesToGift}
+pub use Rattle.dg_chips.proofs.VectorLaws.{not_past, one_vector}
+pub use Rattle.dg_chips.specs.Vector.{IsDivisor, IsOutOfRange, Vector, at}
+pub use Rattle.dg_rules.specs.GiftReplies.{IsGivenTo, RefusesGift, RepliesToGift}
 pub use Rattle.dg_rules.specs.History.{after_change, changed, gifts_by_reply, gifts_in, is_change, no_lendings, script_by, scripts_played, scripts_since}
-pub use Rattle.dg_rules.specs.JoinReplies.{RepliesToJoin}
+pub use Rattle.dg_rules.specs.JoinReplies.{IsJoinedTo, RefusesToJoin, RepliesToJoin}
 pub use Rattle.dg_rules.specs.Legal.{IsLegal, IsSeat, LooksBack}
 pub use Rattle.dg_rules.specs.LegalLaws.{LegalGraphsHold, HasSize, LegalIsSized, LooksAreShown}
 pub use Rattle.dg_rules.specs.Look.{IsLookAt, asked_for, asked_on}
-pub use Rattle.dg_rules.specs.MoveReplies.{RepliesToMove}
+pub use Rattle.dg_rules.specs.MoveReplies.{RefusesMove, RepliesToMove}
 pub use Rattle.dg_rules.specs.Position.{Position, Shows, fired_by, joined_at, opened, with_gift}
 pub use Rattle.dg_rules.specs.Replies.{Replies, RepliesAt, RepliesToClaim, RepliesToJudge, RepliesToLook, RepliesToRank}
 pub use Rattle.dg_rules.specs.Requests.{asked}
@@ -16,6 +19,7 @@ pub use Rattle.dg_rules.specs.State.{IsNext, IsRightIn, IsState, LeadsTo, GameSt
 pub use Rattle.dg_rules.specs.Step.{GameHasNoEntry, OneMoreEntry, SinceChange, SinceLast, PlayedSinceStart, VerticesStay, after_reply}
 pub use Rattle.dg_rules.specs.declared.entry.Entry.{Entry}
 pub use Rattle.dg_rules.specs.declared.entry.Plain.{Plain}
+pub use Rattle.dg_rules.specs.declared.entry.Refusal.{Refusal}
 pub use Rattle.dg_rules.specs.declared.entry.Reply.{Reply}
 pub use Rattle.dg_rules.specs.declared.entry.Reply.TheVariants.{Given, Joined, Looked, Moved, NotWon, Refused, Stale, Verdict, Won}
 pub use Rattle.dg_rules.specs.declared.entry.Request.{Request}
@@ -24,9 +28,10 @@ pub use Rattle.dg_rules.specs.declared.finding.Finding.{Finding}
 pub use Rattle.dg_rules.specs.declared.finding.Finding.TheVariants.{Judged, Ranked}
 pub use Rattle.dg_rules.specs.declared.finding.Question.{Question}
 pub use Rattle.dg_rules.specs.declared.look.LookData.{LookData}
-pub use Rattle.dg_graph.proofs.Joined.{joined_graph}
+pub use Rattle.dg_graph.proofs.Joined.{with_edge-graph}
+pub use Rattle.dg_graph.proofs.SetLaws.{in_set-none}
 pub use Rattle.dg_graph.specs.Graph.{IsGraph}
-pub use Rattle.dg_graph.specs.Joins.{IsJoinable}
+pub use Rattle.dg_graph.specs.Sets.{in_set}
 pub use Rattle.dg_theory.proofs.Agreement.{fired-here}
 pub use Rattle.dg_theory.proofs.Equivalence.{equivalent-refl}
 pub use Rattle.dg_theory.proofs.FiringLaws.{fired-constant, fired-fired}
@@ -34,7 +39,6 @@ pub use Rattle.dg_theory.proofs.JoinLaws.{size_stays}
 pub use Rattle.dg_theory.proofs.LossLaws.{equivalent-loss}
 pub use Rattle.dg_theory.proofs.RankLaws.{equivalent-rank}
 pub use Rattle.dg_theory.specs.Firing.{AgreeOn, Amounts, AreEquivalent, FiresTo, fired}
-pub use Rattle.dg_theory.specs.Joins.{edge_entry_more}
 pub use Rattle.dg_theory.specs.Multigraph.{Multigraph}
 pub use Rattle.dg_verdict.proofs.Agreement.{right-cong}
 pub use Rattle.dg_verdict.proofs.Between.{between_leads}

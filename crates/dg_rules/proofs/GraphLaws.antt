@@ -1,21 +1,15 @@
 -- The graphs of legal histories.
 --   graphs_hold      a legal history, from a start on a graph within the limits, leads to a position on one
-use Rattle.dg_rules.proofs.Common.{◌≡◌, ℕ, List, [], ◌∷◌, ◌++◌, length, append_assoc, append-nil, refl, sym, subst, take-append_seam, IsGraph, Multigraph, edge_entry_more, IsJoinable, joined_graph, StartData, IsLegal, LegalGraphsHold, Position, Replies, after_reply, Entry, Request, Move, Gift, Join, Reply, Moved, Given, Joined}
-use Rattle.dg_theory.specs.Joins.{with_edge}
+use Rattle.dg_rules.proofs.Common.{◌≡◌, List, [], ◌∷◌, ◌++◌, append_assoc, append-nil, sym, subst, IsGraph, with_edge-graph, StartData, IsLegal, LegalGraphsHold, Position, Replies, after_reply, Entry, Request, Move, Gift, Join, Reply, Moved, Given, Joined}
 use Rattle.dg_rules.specs.History.{position_after}
-use Rattle.dg_rules.proofs.ListLaws.{slice_get-seam}
+use Rattle.dg_rules.proofs.LegalLaws.{right_here}
 use Rattle.dg_rules.proofs.StepLaw.{no_entry, one_more_entry}
-
-joined_on : (g : Multigraph) (u v : ℕ) → IsGraph g → IsJoinable g u v → IsGraph (with_edge g u v)
-unfolding with_edge
-joined_on g u v graph joinable =
-    joined_graph g u v (edge_entry_more g.table u v) (edge_entry_more (edge_entry_more g.table u v) v u) graph joinable refl refl
 
 graph_next : (o : StartData) (K : List Entry) (request : Request) (reply : Reply) → Replies o K request reply →
     IsGraph (position_after o K).graph → IsGraph (after_reply (position_after o K) request reply).graph
 graph_next o K (Move m) (Moved d) right graph = graph
 graph_next o K (Gift v x) (Given g d) right graph = graph
-graph_next o K (Join u v) (Joined g d) right graph = joined_on (position_after o K).graph u v graph right.joinable
+graph_next o K (Join u v) (Joined g d) right graph = with_edge-graph (position_after o K).graph u v graph right.joinable
 graph_next o K request reply right graph = graph
 
 graphs_since : (o : StartData) (K L : List Entry) → IsLegal o (K ++ L) → IsGraph (position_after o K).graph →
@@ -24,9 +18,7 @@ graphs_since o K [] legal graph =
     subst (λ (H : List Entry). IsGraph (position_after o H).graph) (sym (append-nil K)) graph
 graphs_since o K (e ∷ L) legal graph =
     let whole : (K ++ e ∷ []) ++ L ≡ K ++ e ∷ L = append_assoc K (e ∷ []) L in
-    let right : Replies o K e.request e.reply =
-    subst (λ (H : List Entry). Replies o H e.request e.reply) (take-append_seam K (e ∷ L))
-    (legal (length K) e (slice_get-seam K e L)).2 in
+    let right : Replies o K e.request e.reply = right_here o K e L legal in
     let next : IsGraph (position_after o (K ++ e ∷ [])).graph =
     subst (λ (p : Position). IsGraph p.graph) (sym (one_more_entry o K e))
     (graph_next o K e.request e.reply right graph) in

@@ -4,6 +4,7 @@
 --                      legal
 --   legal_take         the first entries of a legal history are legal
 --   legal_part         the first part of a legal history is legal
+--   right_here         the reply of each entry of a legal history is right after those before it
 --   back_asked         a call of the game looks back to nothing
 --   back_for           what is entered on a look of the history looks back to that look
 --   back_on            and so does a question on it
@@ -16,7 +17,7 @@ use Rattle.dg_rules.specs.declared.entry.Plain.TheVariants as plain
 use Rattle.dg_rules.specs.declared.entry.Request.TheVariants.{Rank as RankRequest}
 use Rattle.dg_rules.specs.declared.entry.Reply.TheVariants.{Rank as RankReply}
 use Rattle.dg_rules.specs.declared.finding.Question.TheVariants as question
-use Rattle.dg_rules.proofs.ListLaws.{more_holds, slice_get_taken}
+use Rattle.dg_rules.proofs.ListLaws.{more_holds, slice_get-seam, slice_get_taken}
 use Rattle.dg_rules.proofs.StepLaw.{vertices_stay}
 
 pub legal_none : (o : StartData) → IsLegal o []
@@ -42,6 +43,12 @@ legal_take o H k legal i e at =
 
 pub legal_part : (o : StartData) (K L : List Entry) → IsLegal o (K ++ L) → IsLegal o K
 legal_part o K L legal = subst (IsLegal o) (take-append_seam K L) (legal_take o (K ++ L) (length K) legal)
+
+pub right_here : (o : StartData) (K : List Entry) (e : Entry) (H : List Entry) → IsLegal o (K ++ e ∷ H) →
+    Replies o K e.request e.reply
+right_here o K e H legal =
+    subst (λ (L : List Entry). Replies o L e.request e.reply) (take-append_seam K (e ∷ H))
+    (legal (length K) e (slice_get-seam K e H)).2
 
 pub back_asked : (H : List Entry) (p : Plain) → LooksBack H (asked p)
 back_asked H plain.Look = tt

@@ -4,6 +4,7 @@ pub mod StepLaw
 pub mod RankTests
 pub mod ReplyLaws
 pub mod StateLaws
+pub mod OneReply
 pub mod LegalLaws
 pub mod GraphLaws
 pub mod LookLaws

@@ -11,7 +11,7 @@
 --   look_new                an entry that is a look is a look of the history
 --   look_size               a look shows as many vertices as the state
 --   carried                 a verdict can be carried along a drift that leads to the amounts of a state
-use Rattle.dg_rules.proofs.Common.{◌≡◌, ◌≢◌, ℕ, ◌+◌, ◌<◌, ◌≤◌, List, [], ◌∷◌, ◌++◌, length, take, drop, slice_get, arith, refl, sym, ap, subst, ◌∙◌, take-append_seam, ints, take-append-le, take-append-drop, slice_get_within, Multigraph, Amounts, fired, FiresTo, Vector, at, IsDivisor, StartData, IsRight, IsRebasable, IsRankTest, RankVerdict, Position, fired_by, scripts_played, gifts_in, IsLookAt, asked_on, Replies, GameState, IsState, LeadsTo, Entry, Look, Judge, Verdict, Stale, Question, LookData}
+use Rattle.dg_rules.proofs.Common.{◌≡◌, ◌≢◌, ℕ, ◌+◌, ◌<◌, ◌≤◌, List, [], ◌∷◌, ◌++◌, length, take, drop, slice_get, arith, refl, sym, ap, subst, ◌∙◌, take-append_seam, ints, take-append-le, take-append-drop, slice_get_within, Multigraph, Amounts, fired, FiresTo, Vector, at, StartData, IsRight, IsRebasable, IsRankTest, RankVerdict, Position, fired_by, scripts_played, gifts_in, IsLookAt, asked_on, Replies, GameState, IsState, LeadsTo, Entry, Look, Judge, Verdict, Stale, Question, LookData}
 use Rattle.dg_verdict.specs.declared.verdict.Verdict.{Verdict as AVerdict}
 use Rattle.dg_rules.specs.History.{position_after}
 use Rattle.dg_rules.specs.declared.entry.Request.TheVariants.{Rank as RankRequest}
@@ -114,15 +114,14 @@ pub look_size : (o : StartData) (H : List Entry) (s : GameState) (x : LookData) 
 look_size o H s x leads look =
     look_fits o H x look ∙ look_vertices o H s x leads look
 
-pub carried : (s : GameState) (D : Amounts) (x : AVerdict) (m : Vector) → IsState s → IsDivisor s.amounts →
-    IsRight s.graph s.q D x →
-    m.size ≡ s.graph.size → FiresTo s.graph (at m) D (at s.amounts) → IsRebasable s.q x m
-carried s D x m state divisor right size leads = record {
+pub carried : (s : GameState) (D : Amounts) (x : AVerdict) (m : Vector) → IsState s →
+    IsRight s.graph s.q D x → m.size ≡ s.graph.size → FiresTo s.graph (at m) D (at s.amounts) → IsRebasable s.q x m
+carried s D x m state right size leads = record {
   graph = s.graph;
   start = D;
   is_graph = state.graph;
   vertex = state.vertex;
   right = right;
   size = size;
-  in_range = λ v below. rw (← leads v below) (divisor.within v (rw state.size below));
+  in_range = λ v below. rw (← leads v below) (state.divisor.within v (rw state.size below));
 }

@@ -1,16 +1,12 @@
 -- A reply that is right at one position is right at another that has the same graph and the same amounts on it.
---   in_range-cong        amounts that agree with some in range are in range
 --   out_of_range-cong    amounts that agree with some out of range are out of range
 --   replies-cong         a right reply to a request is right for amounts that agree
-use Rattle.dg_rules.proofs.Common.{◌≡◌, ℕ, arith, ◌∙◌, ints, ℤ, Multigraph, Amounts, AgreeOn, Vector, IsInRange, IsOutOfRange, script_of, fired-here, right-cong, Shows, with_gift, RepliesToMove, RepliesToGift, RepliesToJoin, RepliesToLook, RepliesToClaim, RepliesToJudge, RepliesToRank, RepliesAt, Request, Move, Gift, Join, Look, Claim, Judge, Reply, Moved, Given, Joined, Looked, Verdict, Stale, Won, NotWon, Refused}
+use Rattle.dg_rules.proofs.Common.{◌≡◌, ℕ, arith, ◌∙◌, ints, ℤ, Multigraph, Amounts, AgreeOn, Vector, IsOutOfRange, script_of, fired-here, right-cong, Shows, with_gift, RepliesToMove, RepliesToGift, RepliesToJoin, RepliesToLook, RepliesToClaim, RepliesToJudge, RepliesToRank, RepliesAt, Request, Move, Gift, Join, Look, Claim, Judge, Reply, Moved, Given, Joined, Looked, Verdict, Stale, Won, NotWon, Refused}
 use Rattle.dg_chips.specs.declared.moves.Move.{Move as AMove}
 use Rattle.dg_rules.specs.declared.entry.Refusal.TheVariants as refusal
 use Rattle.dg_rules.specs.declared.entry.Request.TheVariants.{Rank as RankRequest}
 use Rattle.dg_rules.specs.declared.entry.Reply.TheVariants.{Rank as RankReply}
 use Rattle.dg_rules.proofs.RankTests.{rank_test-cong}
-
-in_range-cong : (n : ℕ) (D E : Amounts) → AgreeOn n D E → IsInRange n D → IsInRange n E
-in_range-cong n D E same right v below = rw (← same v below) (right v below)
 
 out_of_range-cong : (n : ℕ) (D E : Amounts) → AgreeOn n D E → IsOutOfRange n D → IsOutOfRange n E
 out_of_range-cong n D E same (v, below, past) = (v, below, rw (← same v below) past)
@@ -20,8 +16,8 @@ moved-cong : (g : Multigraph) (D E : Amounts) (m : AMove) (reply : Reply) → Ag
     RepliesToMove (record { graph = g; amounts = E }) m reply
 moved-cong g D E m (Moved d) same right = record {
   playable = right.playable;
-  in_range = in_range-cong g.size _ _ (fired-here g D E (script_of m) same) right.in_range;
   size = right.size;
+  divisor = right.divisor;
   amounts = λ v below. right.amounts v below ∙ fired-here g D E (script_of m) same v below;
 }
 moved-cong g D E m (Refused refusal.NoVertex) same right = right
@@ -42,9 +38,9 @@ given-cong : (g : Multigraph) (D E : Amounts) (n v : ℕ) (x : ℤ) (reply : Rep
 given-cong g D E n v x (Given count d) same right = record {
   vertex = right.vertex;
   gift = right.gift;
-  in_range = in_range-cong g.size _ _ (given-here g D E v same x) right.in_range;
   count' = right.count';
   size = right.size;
+  divisor = right.divisor;
   amounts = λ w below. right.amounts w below ∙ given-here g D E v same x w below;
 }
 given-cong g D E n v x (Refused refusal.NoVertex) same right = right
@@ -55,7 +51,11 @@ given-cong g D E n v x reply same right = absurd right
 
 shows-cong : (g : Multigraph) (D E : Amounts) (d : Vector) → AgreeOn g.size D E →
     Shows (record { graph = g; amounts = D }) d → Shows (record { graph = g; amounts = E }) d
-shows-cong g D E d same shows = record { size = shows.size; amounts = λ v below. shows.amounts v below ∙ same v below }
+shows-cong g D E d same shows = record {
+  size = shows.size;
+  divisor = shows.divisor;
+  amounts = λ v below. shows.amounts v below ∙ same v below;
+}
 
 joined-cong : (g : Multigraph) (D E : Amounts) (n u v : ℕ) (reply : Reply) → AgreeOn g.size D E →
     RepliesToJoin (record { graph = g; amounts = D }) n u v reply →

@@ -1,11 +1,13 @@
 -- States and histories go on together.
 --   start_leads      the empty history leads to the state at the start
+--   shown_once       one divisor shows a position
+--   given_once       one divisor is given
 --   shows_joined     what shows a position shows it on the graph with one more edge
 --   shows_after      what shows the position shows it after the entry, with the amounts after the reply
 --   replies_after    a reply that is right in a state is right after a history that leads to it
 --   right_in         and the other way round
 --   leads_more       a reply that is right after the history leads with its entry to the next state
-use Rattle.dg_rules.proofs.Common.{◌≡◌, ℕ, ◌+◌, ◌<◌, List, [], ◌∷◌, ◌++◌, take, arith, refl, sym, ap, subst, ◌∙◌, length-append, ints, pos, Multigraph, size_stays, Vector, at, StartData, Position, Shows, joined_at, gifts_in, gifts_by_reply, scripts_played, after_reply, Replies, RepliesAt, GameState, LeadsTo, IsRightIn, IsNext, position_of, amounts_after, gifts_after, graph_after, Entry, Request, Move, Gift, Join, Look, Claim, Judge, Reply, Moved, Given, Joined, Looked, Verdict, Stale, Won, NotWon, Refused}
+use Rattle.dg_rules.proofs.Common.{◌≡◌, ℕ, ◌+◌, ◌<◌, List, [], ◌∷◌, ◌++◌, take, arith, refl, sym, ap, subst, ◌∙◌, length-append, ints, ℤ, pos, Multigraph, size_stays, one_vector, Vector, IsDivisor, at, StartData, Position, Shows, IsGivenTo, with_gift, joined_at, gifts_in, gifts_by_reply, scripts_played, after_reply, Replies, RepliesAt, GameState, LeadsTo, IsRightIn, IsNext, position_of, amounts_after, gifts_after, graph_after, Entry, Request, Move, Gift, Join, Look, Claim, Judge, Reply, Moved, Given, Joined, Looked, Verdict, Stale, Won, NotWon, Refused}
 use Rattle.dg_rules.specs.History.{position_after}
 use Rattle.dg_rules.specs.declared.entry.Request.TheVariants.{Rank as RankRequest}
 use Rattle.dg_rules.specs.declared.entry.Reply.TheVariants.{Rank as RankReply}
@@ -43,18 +45,34 @@ right_in o H s request reply leads right =
           (sym leads.graph) on_amounts,
     )
 
+pub shown_once : (p : Position) (d e : Vector) → Shows p d → Shows p e → d ≡ e
+shown_once p d e first second =
+    one_vector 1_000_000 d e first.divisor second.divisor (first.size ∙ sym second.size) (λ v below.
+    let here : v < p.graph.size = omega (arith, below, first.size) in
+    first.amounts v here ∙ sym (second.amounts v here))
+
+pub given_once : (p : Position) (g v : ℕ) (x : ℤ) (n m : ℕ) (d e : Vector) → IsGivenTo p g v x n d →
+    IsGivenTo p g v x m e → d ≡ e
+given_once p g v x n m d e first second =
+    shown_once (record { graph = p.graph; amounts = with_gift p v x }) d e
+    (record { size = first.size; divisor = first.divisor; amounts = first.amounts })
+    (record { size = second.size; divisor = second.divisor; amounts = second.amounts })
+
 pub shows_joined : (p : Position) (u v : ℕ) (d : Vector) → Shows p d → Shows (joined_at p u v) d
 shows_joined p u v d shows = record {
   size = shows.size ∙ sym (size_stays p.graph u v);
+  divisor = shows.divisor;
   amounts = λ w below. shows.amounts w (subst (λ (n : ℕ). w < n) (size_stays p.graph u v) below);
 }
 
 pub shows_after : (o : StartData) (H : List Entry) (d : Vector) (request : Request) (reply : Reply) →
     Shows (position_after o H) d →
     Replies o H request reply → Shows (after_reply (position_after o H) request reply) (amounts_after d reply)
-shows_after o H d (Move m) (Moved e) shows right = record { size = right.size; amounts = right.amounts }
+shows_after o H d (Move m) (Moved e) shows right =
+    record { size = right.size; divisor = right.divisor; amounts = right.amounts }
 shows_after o H d (Move m) (Refused refusal) shows right = shows
-shows_after o H d (Gift v x) (Given count e) shows right = record { size = right.size; amounts = right.amounts }
+shows_after o H d (Gift v x) (Given count e) shows right =
+    record { size = right.size; divisor = right.divisor; amounts = right.amounts }
 shows_after o H d (Gift v x) (Refused refusal) shows right = shows
 shows_after o H d (Join u v) (Joined count e) shows right = shows_joined (position_after o H) u v d shows
 shows_after o H d (Join u v) (Refused refusal) shows right = shows
@@ -119,12 +137,13 @@ leads_more o H s t e leads right next =
       entries = next.entries ∙ omega (arith, leads.entries, length-append H (e ∷ []));
     }
 
-pub start_leads : (o : StartData) (d : Vector) → o.divisor.size ≡ o.graph.size → ((v : ℕ) → at d v ≡ pos 0) →
+pub start_leads : (o : StartData) (d : Vector) → o.divisor.size ≡ o.graph.size → IsDivisor o.divisor →
+    ((v : ℕ) → at d v ≡ pos 0) →
     LeadsTo o [] (record { graph = o.graph; q = o.q; amounts = o.divisor; drift = d; gifts = 0; entries = 0 })
-start_leads o d size still = record {
+start_leads o d size divisor still = record {
   graph = ap (λ (p : Position). p.graph) (sym (no_entry o));
   q = refl;
-  amounts = rw (no_entry o) (record { size = size; amounts = λ v below. refl });
+  amounts = rw (no_entry o) (record { size = size; divisor = divisor; amounts = λ v below. refl });
   drift = λ v below. still v;
   gifts = refl;
   entries = refl;

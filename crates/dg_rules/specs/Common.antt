@@ -2,7 +2,7 @@
 pub use Rattle.dg_chips.specs.Applied.{IsAfterMove}
 pub use Rattle.dg_chips.specs.Moves.{HasOtherSize, IsEmptySet, IsPlayable, NamesNoVertex, script_of}
 pub use Rattle.dg_chips.specs.Starts.{StartData}
-pub use Rattle.dg_chips.specs.Vector.{IsInRange, IsOutOfRange, Vector, at}
+pub use Rattle.dg_chips.specs.Vector.{IsDivisor, IsOutOfRange, Vector, at}
 pub use Rattle.dg_chips.specs.declared.limits.TheConstants.{MAX_ENTRY}
 pub use Rattle.dg_chips.specs.declared.moves.Move.{Move}
 pub use Rattle.dg_chips.specs.declared.moves.MoveFault.{MoveFault}

@@ -7,7 +7,7 @@
 --   RefusesGift p v x refusal     == the gift is refused for this cause, and for no earlier one
 --   RepliesToGift p g v x reply   == the reply is the right one
 use Rattle.std.specs.Prelude.{◌≡◌, ◌≢◌, ℕ, ◌+◌, ◌<◌, ◌≤◌, ℤ, pos, neg_ℤ, ◌≤ℤ◌}
-use Rattle.dg_rules.specs.Common.{Vector, at, IsInRange, IsOutOfRange}
+use Rattle.dg_rules.specs.Common.{Vector, at, IsDivisor, IsOutOfRange}
 use Rattle.dg_rules.specs.Position.{Position, with_gift}
 use Rattle.dg_rules.specs.declared.entry.Refusal.{Refusal}
 use Rattle.dg_rules.specs.declared.entry.Refusal.TheVariants.{NoVertex, Gift, Range}
@@ -21,9 +21,9 @@ IsGift x = (neg_ℤ MAX_GIFT ≤ℤ x) × (x ≤ℤ MAX_GIFT) × (x ≢ pos 0)
 pub record IsGivenTo (p : Position) (g v : ℕ) (x : ℤ) (count : ℕ) (d : Vector) : Type 0 where
   pub vertex : v < p.graph.size
   pub gift : IsGift x
-  pub in_range : IsInRange p.graph.size (with_gift p v x)
   pub count' : count ≡ g + 1
   pub size : d.size ≡ p.graph.size
+  pub divisor : IsDivisor d
   pub amounts : (w : ℕ) → w < p.graph.size → at d w ≡ with_gift p v x w
 
 abbrev pub RefusesGift : Position → ℕ → ℤ → Refusal → Type 0

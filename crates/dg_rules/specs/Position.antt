@@ -7,7 +7,7 @@
 --   fired_by p s         == the position p after every vertex has lent as often as the script s
 --                           says
 use Rattle.std.specs.Prelude.{◌≡◌, ℕ, ◌<◌, ℤ, ◌+ℤ◌}
-use Rattle.dg_rules.specs.Common.{Multigraph, Amounts, fired, only_at, with_edge, StartData, Vector, at}
+use Rattle.dg_rules.specs.Common.{Multigraph, Amounts, fired, only_at, with_edge, StartData, Vector, IsDivisor, at}
 
 pub record Position : Type 0 where
   pub graph : Multigraph
@@ -15,6 +15,7 @@ pub record Position : Type 0 where
 
 pub record Shows (p : Position) (d : Vector) : Type 0 where
   pub size : d.size ≡ p.graph.size
+  pub divisor : IsDivisor d
   pub amounts : (v : ℕ) → v < p.graph.size → at d v ≡ p.amounts v
 
 abbrev pub opened : StartData → Position

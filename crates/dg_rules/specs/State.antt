@@ -13,7 +13,7 @@
 --   IsNext s request reply t  == t is the state after s and one entry with this request and reply
 use Rattle.std.specs.Prelude.{◌≡◌, ℕ, ◌+◌, ◌*◌, ◌<◌, ◌≤◌, ◌+ℤ◌, List, length}
 use Rattle.std.specs.Int.RustNames.{unsigned_abs}
-use Rattle.dg_rules.specs.Common.{Multigraph, with_edge, IsGraph, Vector, at, MAX_ENTRY, StartData}
+use Rattle.dg_rules.specs.Common.{Multigraph, with_edge, IsGraph, Vector, IsDivisor, at, MAX_ENTRY, StartData}
 use Rattle.dg_rules.specs.Position.{Position, Shows}
 use Rattle.dg_rules.specs.History.{position_after, gifts_in, scripts_played, script_by}
 use Rattle.dg_rules.specs.Replies.{RepliesAt}
@@ -39,6 +39,7 @@ pub record IsState (s : GameState) : Type 0 where
   pub graph : IsGraph s.graph
   pub vertex : s.q < s.graph.size
   pub size : s.amounts.size ≡ s.graph.size
+  pub divisor : IsDivisor s.amounts
   pub drift_size : s.drift.size ≡ s.graph.size
   pub drift_limit : (v : ℕ) → v < s.graph.size → unsigned_abs (at s.drift v) ≤ s.entries * MAX_ENTRY
   pub gifts : s.gifts ≤ s.entries

@@ -9,7 +9,7 @@ mod serve;
 mod sweeps;
 
 pub use dg_party::{PartyFault, sessions};
-pub use dg_system::{SourceFault, Sources};
+pub use dg_system::{SourceFault, Sources, Stream};
 pub use fault::{Fault, report, status_of};
 pub use program::perform;
 pub use running::{run, run_streams};

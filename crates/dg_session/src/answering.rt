@@ -38,8 +38,8 @@ pub(crate) struct Shared<'a, N: Name, R: Threads + Wait> {
 pub(crate) struct AnswerBuffer {
     /// `None` if nobody hears it.
     pub(crate) text: Option<Vec<u8>>,
-    /// The buffer in which the line of an entry is made.
-    pub(crate) line: Vec<u8>,
+    /// One line, copied to `text` when it is whole, so that memory refused on the way says nothing.
+    pub(crate) scratch: Vec<u8>,
     /// What serves the verdicts, made anew after an edge was added; no answer depends on it.
     pub(crate) inverse: InverseLaplacian,
 }
@@ -73,14 +73,14 @@ impl AnswerBuffer {
             return Ok(());
         };
         let entry = table.log().entry(receipt);
-        self.line.clear();
+        self.scratch.clear();
         match push_entry(
-            &mut self.line,
+            &mut self.scratch,
             receipt.number() as usize,
             &entry.reply,
             names,
         ) {
-            Ok(()) => match text.extend_from_slice(&self.line) {
+            Ok(()) => match text.extend_from_slice(&self.scratch) {
                 Ok(()) => Ok(()),
                 Err(_) => Err(SessionEnd::Memory),
             },

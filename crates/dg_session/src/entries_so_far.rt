@@ -7,7 +7,7 @@ use dg_log::{Name, Prefix, ReceiptSet};
 use dg_table::Seat;
 use std::marker::Model;
 
-/// The history as the last line left it, and what all lines have entered, in their order.
+/// The history after the last line, and the entries that the lines have made so far, in their order.
 #[derive(Drop)]
 pub(crate) struct EntriesSoFar<N: Name> {
     latest: Prefix<N>,

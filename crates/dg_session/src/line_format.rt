@@ -1,4 +1,4 @@
-//! Whom a line is for.
+//! Which seat a line belongs to.
 ghost use Rattle.std.specs.Prelude.{◌≡◌, ◌<◌, ◌≤◌, None, IfSome};
 ghost use Rattle.dg_session.specs.Speakers.{IsFor, IsForNone};
 

@@ -183,7 +183,7 @@ fn serve_lines<N: Name, R: Threads + Wait, I: Read, O: Write>(
     }
 }
 
-/// Writes what was said, if anybody hears it, and clears it. Then it ends as the taking did, if that ended.
+/// Writes the answers and clears them, if anybody hears them. Then it returns `taken`, or `Write`.
 fn write_said<O: Write>(
     writer: &mut Output<O>,
     said: &mut AnswerBuffer,

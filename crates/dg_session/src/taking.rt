@@ -56,7 +56,7 @@ impl<N: Name> SessionProgress<N> {
             entries_so_far: EntriesSoFar::new(),
             said: AnswerBuffer {
                 text,
-                line: Vec::new(alloc),
+                scratch: Vec::new(alloc),
                 inverse: *inverse,
             },
         })

@@ -1,22 +1,21 @@
 -- The names that the proofs of this crate cite, passed on from one place. Declares nothing.
-pub use Rattle.dg_chips.specs.Applied.{IsAfterMove}
 pub use Rattle.dg_chips.specs.Moves.{IsPlayable}
 pub use Rattle.dg_chips.specs.Starts.{IsStart, StartData}
 pub use Rattle.dg_chips.specs.Vector.{Vector, at}
 pub use Rattle.dg_chips.specs.declared.moves.Move.{Move}
-pub use Rattle.dg_chips.specs.declared.moves.Move.TheVariants.{Borrow, Fire, Lend, Script}
+pub use Rattle.dg_chips.specs.declared.moves.Move.TheVariants.{Borrow}
 pub use Rattle.dg_rules.proofs.GraphLaws.{graphs_hold}
 pub use Rattle.dg_rules.proofs.HistoryLaws.{gifts_in-more}
-pub use Rattle.dg_rules.proofs.LegalLaws.{legal_more, legal_none, legal_part}
+pub use Rattle.dg_rules.proofs.LegalLaws.{legal_more, legal_none, legal_part, right_here}
 pub use Rattle.dg_rules.proofs.ListLaws.{slice_get-append, slice_get-seam}
-pub use Rattle.dg_rules.proofs.StepLaw.{one_more_entry}
+pub use Rattle.dg_rules.proofs.OneReply.{empty_playable, move_once, no_vertex_playable, script_playable}
+pub use Rattle.dg_rules.proofs.StateLaws.{shown_once}
 pub use Rattle.dg_rules.specs.History.{gifts_by_reply, gifts_in, position_after}
 pub use Rattle.dg_rules.specs.Legal.{IsLegal, LooksBack}
 pub use Rattle.dg_rules.specs.MoveReplies.{RepliesToMove}
-pub use Rattle.dg_rules.specs.Position.{Position, Shows}
+pub use Rattle.dg_rules.specs.Position.{Position}
 pub use Rattle.dg_rules.specs.Replies.{Replies, RepliesAt, RepliesToClaim}
 pub use Rattle.dg_rules.specs.State.{LeadsTo, GameState}
-pub use Rattle.dg_rules.specs.Step.{after_reply}
 pub use Rattle.dg_rules.specs.declared.entry.Entry.{Entry}
 pub use Rattle.dg_rules.specs.declared.entry.Refusal.TheVariants.{Empty, NoVertex, Range}
 pub use Rattle.dg_rules.specs.declared.entry.Reply.{Reply}
@@ -27,7 +26,7 @@ pub use Rattle.dg_graph.specs.Graph.{IsGraph}
 pub use Rattle.dg_log.specs.Tables.{TableData}
 pub use Rattle.dg_strategy.specs.Choices.{BorrowsAtLeast, BorrowsInDebt, Choosing, IsLeastInDebt}
 pub use Rattle.dg_strategy.specs.Greedy.{AllChosenMoves, AreGreedy, EndsSo, EndsTurn, IsGreedyCall, IsGreedyGame, IsGreedyTurn}
-pub use Rattle.dg_strategy.specs.GreedyLaws.{AreSameGreedyGame, GreedyGameIsOne, IsGreedyChoice, StrategyIsAloneAt, SettlingOutIsGreedy, GreedyShowTheSame}
+pub use Rattle.dg_strategy.specs.GreedyLaws.{GreedyGameIsOne, IsGreedyChoice, StrategyIsAloneAt, SettlingOutIsGreedy}
 pub use Rattle.dg_strategy.specs.Plays.{AreMoves, Gains, IsClaimed, ChoiceIsMadeOrPastRange, IsChosenMove, IsPlayed, IsPlayedOut, IsSettlerTurn, IsStopped, IsStrategyTurn, IsTurnBy}
 pub use Rattle.dg_strategy.specs.declared.playing.Ended.{Ended}
 pub use Rattle.dg_strategy.specs.declared.playing.Ended.TheVariants.{Settled, Turns}
@@ -36,7 +35,7 @@ pub use Rattle.dg_table.specs.Faults.{RefusesCall}
 pub use Rattle.dg_table.specs.Seats.{AreOfTableSeats, Keeps, SeatView, entries_of}
 pub use Rattle.dg_rules.specs.Requests.{request_for}
 pub use Rattle.dg_table.specs.declared.fault.Fault.{Fault}
-pub use Rattle.dg_theory.specs.Firing.{AgreeOn, IsEffective}
+pub use Rattle.dg_theory.specs.Firing.{IsEffective}
 pub use Rattle.std.proofs.Common.{Bool, List, None, Option, Some, [], ap, append-nil, append_assoc, arith, false, inl, inr, is_some, length, length-append, map, not, refl, rules, subst, sym, take, true, ℕ, ⊎_elim, ◌++◌, ◌+◌, ◌-◌, ◌<◌, ◌∙◌, ◌∷◌, ◌≡◌, ◌≤◌, ◌⊎◌}
 pub use Rattle.std.proofs.Math.IntN.{pos}
 pub use Rattle.std.proofs.Math.Seq.{take-append_seam}

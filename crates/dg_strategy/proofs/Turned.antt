@@ -4,27 +4,17 @@
 --   settler_moves    a settler's moves can be made
 --   strategy_turn    a turn by a choice whose moves can be made
 --   settler_turn     a turn by a choice that settles debts
-use Rattle.dg_strategy.proofs.Common.{◌≡◌, ℕ, ◌<◌, [], ◌∷◌, Option, Some, None, arith, refl, ap, subst, ◌∙◌, IsEffective, IsGraph, at, IsPlayable, Move, Lend, Borrow, Fire, Script, position_after, gifts_by_reply, Position, RepliesToMove, Replies, RepliesToClaim, Entry, NoVertex, Empty, Range, Reply, Moved, Refused, Won, NotWon, gifts_in-more, legal_part, graphs_hold, SeatView, request_for, Choosing, BorrowsInDebt, IsTurnBy, IsChosenMove, ChoiceIsMadeOrPastRange, IsStrategyTurn, IsSettlerTurn, TableData}
+use Rattle.dg_strategy.proofs.Common.{◌≡◌, ℕ, ◌<◌, [], ◌∷◌, Option, Some, None, arith, refl, ap, subst, ◌∙◌, IsEffective, IsGraph, at, IsPlayable, Move, Borrow, no_vertex_playable, empty_playable, script_playable, position_after, gifts_by_reply, Position, RepliesToMove, Replies, RepliesToClaim, Entry, NoVertex, Empty, Range, Reply, Moved, Refused, Won, NotWon, gifts_in-more, legal_part, graphs_hold, SeatView, request_for, Choosing, BorrowsInDebt, IsTurnBy, IsChosenMove, ChoiceIsMadeOrPastRange, IsStrategyTurn, IsSettlerTurn, TableData}
 use Rattle.dg_strategy.proofs.Kept.{GivesMoves, SettlesDebts}
-use Rattle.dg_rules.specs.declared.entry.Refusal.TheVariants.{Script as OtherScript}
+use Rattle.dg_rules.specs.declared.entry.Refusal.TheVariants.{Script}
 use Rattle.dg_rules.specs.declared.entry.Request.TheVariants as request
 
 pub move_answered : (p : Position) (m : Move) (reply : Reply) → IsPlayable p.graph.size m → RepliesToMove p m reply →
     ChoiceIsMadeOrPastRange reply × (gifts_by_reply reply ≡ 0)
 move_answered p m (Moved d) playable replies = (tt, refl)
-move_answered p (Lend v) (Refused NoVertex) playable replies = absurd (omega (arith, playable, replies))
-move_answered p (Borrow v) (Refused NoVertex) playable replies = absurd (omega (arith, playable, replies))
-move_answered p (Fire m) (Refused NoVertex) playable (v, past, inside) =
-    absurd (omega (arith, past, playable.1 v inside))
-move_answered p (Script s) (Refused NoVertex) playable replies = absurd replies
-move_answered p (Lend v) (Refused Empty) playable replies = absurd replies
-move_answered p (Borrow v) (Refused Empty) playable replies = absurd replies
-move_answered p (Fire m) (Refused Empty) playable replies = absurd (playable.0 replies)
-move_answered p (Script s) (Refused Empty) playable replies = absurd replies
-move_answered p (Lend v) (Refused OtherScript) playable replies = absurd replies
-move_answered p (Borrow v) (Refused OtherScript) playable replies = absurd replies
-move_answered p (Fire m) (Refused OtherScript) playable replies = absurd replies
-move_answered p (Script s) (Refused OtherScript) playable replies = absurd (replies playable)
+move_answered p m (Refused NoVertex) playable replies = absurd (no_vertex_playable p m replies playable)
+move_answered p m (Refused Empty) playable replies = absurd (empty_playable p m replies playable)
+move_answered p m (Refused Script) playable replies = absurd (script_playable p m replies playable)
 move_answered p m (Refused Range) playable replies = (tt, refl)
 move_answered p m (Refused refusal) playable replies = absurd replies
 move_answered p m reply playable replies = absurd replies

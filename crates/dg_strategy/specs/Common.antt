@@ -21,5 +21,5 @@ pub use Rattle.dg_table.specs.Faults.{RefusesCall}
 pub use Rattle.dg_table.specs.Seats.{Keeps, SeatView}
 pub use Rattle.dg_rules.specs.Requests.{request_for}
 pub use Rattle.dg_table.specs.declared.fault.Fault.{Fault}
-pub use Rattle.dg_theory.specs.Firing.{AgreeOn, IsEffective}
+pub use Rattle.dg_theory.specs.Firing.{IsEffective}
 pub use Rattle.dg_theory.specs.Multigraph.{Multigraph}

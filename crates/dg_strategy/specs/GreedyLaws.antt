@@ -7,15 +7,11 @@
 --                           turns, numbered from 0 on, which ended so
 --   SettlingOutIsGreedy N A table == if A is a greedy choice, so it is after every play of a settler
 --                           with A that is not refused, by a seat that is alone at the new table N
---   GreedyShowTheSame a b == the replies are the same, but that an accepted move may hold its amounts
---                           in another way
---   AreSameGreedyGame H K == the histories are as long, and in each place of the same seat and request,
---                           with replies that show the same
 --   GreedyGameIsOne      == from one start, and with one number of turns, greedy games have the same
 --                           history, and end in the same way
-use Rattle.std.specs.Prelude.{◌≡◌, ℕ, Bool, List, [], ◌∷◌, Option, Ok, ⊤, ◌⊎◌}
+use Rattle.std.specs.Prelude.{◌≡◌, ℕ, Bool, List, [], Option, Ok}
 use Rattle.std.specs.List.{enumerate_from}
-use Rattle.dg_strategy.specs.Common.{Multigraph, AgreeOn, StartData, Vector, at, Move, Entry, Reply, Moved, TableData, SeatView}
+use Rattle.dg_strategy.specs.Common.{Multigraph, StartData, Vector, Move, Entry, TableData, SeatView}
 use Rattle.dg_strategy.specs.Choices.{Choosing, BorrowsAtLeast}
 use Rattle.dg_strategy.specs.Greedy.{IsGreedyGame}
 use Rattle.dg_strategy.specs.Plays.{IsSettlerTurn, Plays, is_settled}
@@ -35,16 +31,6 @@ abbrev pub SettlingOutIsGreedy : Type 0 → Choosing → TableData → Type 0
 SettlingOutIsGreedy N A table = (n : ℕ) (x y : SeatView) (ended : Ended N) → IsGreedyChoice A →
     StrategyIsAloneAt table x → Plays (IsSettlerTurn A table) table n x y (Ok ended) → HasGreedyGame table n y ended
 
-abbrev pub GreedyShowTheSame : Reply → Reply → Type 0
-GreedyShowTheSame a b = (a ≡ b) ⊎ ((d e : Vector) × (a ≡ Moved d) × (b ≡ Moved e) × (d.size ≡ e.size)
-    × AgreeOn d.size (at d) (at e))
-
-abbrev pub AreSameGreedyGame : List Entry → List Entry → Type 0
-AreSameGreedyGame [] [] = ⊤
-AreSameGreedyGame (x ∷ H) (y ∷ K) = (x.seat ≡ y.seat) × (x.request ≡ y.request)
-    × GreedyShowTheSame x.reply y.reply × AreSameGreedyGame H K
-AreSameGreedyGame H K = ⊥
-
 abbrev pub GreedyGameIsOne : Type 0
 GreedyGameIsOne = (o : StartData) (n : ℕ) (H K : List Entry) (settled ended : Bool) →
-    IsGreedyGame o n H settled → IsGreedyGame o n K ended → AreSameGreedyGame H K × (settled ≡ ended)
+    IsGreedyGame o n H settled → IsGreedyGame o n K ended → (H ≡ K) × (settled ≡ ended)

@@ -21,7 +21,7 @@ use std::sync::Wait;
 pub enum Ended<N: Name> {
     /// With the claim of this receipt.
     Settled(Receipt<N>),
-    /// With the last of its turns, which was a move as all were.
+    /// All its turns were used, each for a move.
     Turns,
 }
 

@@ -1,14 +1,12 @@
 -- The names that the proofs of this crate cite, passed on from one place. Declares nothing.
-pub use Rattle.dg_burn.specs.Special.{AllHang, IsSpecialFrom, only}
+pub use Rattle.dg_chips.proofs.VectorLaws.{held_once}
 pub use Rattle.dg_chips.specs.DivisorFaults.{IsFirstChipFault}
 pub use Rattle.dg_chips.specs.Starts.{IsStart, StartData}
-pub use Rattle.dg_chips.specs.Vector.{HoldsNumbers, IsDivisor, Vector, at}
-pub use Rattle.dg_chips.specs.VectorFaults.{IsFirstPast}
-pub use Rattle.dg_chips.specs.declared.divisor.ChipFault.TheVariants.{Length, Range}
+pub use Rattle.dg_chips.specs.Vector.{HoldsNumbers, Vector, at}
 pub use Rattle.dg_chips.specs.declared.divisor.ChipFault.{ChipFault}
 pub use Rattle.dg_file.specs.Content.{Content}
 pub use Rattle.dg_file.specs.FileFaults.{RefusesFile, RefusesTable}
-pub use Rattle.dg_file.specs.FileLaws.{AreSameOpenings, FilesHaveOneMeaning}
+pub use Rattle.dg_file.specs.FileLaws.{FilesHaveOneMeaning}
 pub use Rattle.dg_file.specs.TableFiles.{IsTable}
 pub use Rattle.dg_file.specs.declared.fault.FileFault.TheVariants.{Chip}
 pub use Rattle.dg_file.specs.declared.fault.FileFault.{FileFault}
@@ -21,13 +19,11 @@ pub use Rattle.dg_lines.proofs.Streams.{begins_more, begins_none, begins_one, be
 pub use Rattle.dg_lines.specs.CommandWords.{IsNumberWithin}
 pub use Rattle.dg_lines.specs.Cuts.{lines, pieces_after, words}
 unfoldable pub use Rattle.dg_lines.specs.Cuts.{after, before}
-pub use Rattle.dg_lines.specs.Judgements.{IsJudgement, burning_text, judgement_text}
+pub use Rattle.dg_lines.specs.Judgements.{burning_text, judgement_text}
 pub use Rattle.dg_lines.specs.Streams.{Begins, HasNoNewline, LinesHaveCome, last_line, with_newline}
-pub use Rattle.dg_lines.specs.Texts.{pair, rank_text, verdict_text, verdict_word}
+pub use Rattle.dg_lines.specs.Texts.{verdict_text}
 pub use Rattle.dg_rank.proofs.AskedVertices.{asked_within}
 pub use Rattle.dg_rank.proofs.Numbering.{past_within}
-pub use Rattle.dg_rank.specs.Limits.{ArePastTrialLimits}
-pub use Rattle.dg_rank.specs.Ranks.{IsPastAsked, IsUntold, IsWithin, NeedsPastTests}
 pub use Rattle.dg_sweep.specs.AnswerLaws.{AmountsHaveOneAnswer, AmountLinesHaveOneMeaning, TablesHaveOneAnswer}
 pub use Rattle.dg_sweep.specs.Answers.{AnswersLine, AnswersRankLine, AnswersTable, AnswersTableWithin, AreRanks, AreUntested, IsBelow, IsRefused, IsTested, answer_number, degree_and_genus_words, refusal_line}
 pub use Rattle.dg_sweep.specs.DivisorLaws.{with_amounts_of_line}
@@ -43,32 +39,21 @@ pub use Rattle.dg_system.proofs.Growing.{appends_more, appends_none}
 pub use Rattle.dg_system.proofs.InputReads.{chunk_size, consumes_kept, consumes_more, consumes_none, read_chunk, read_nothing}
 pub use Rattle.dg_system.specs.Growth.{AppendsFront}
 pub use Rattle.dg_system.specs.declared.shortage.Shortage.TheVariants.{OutOfMemory}
-pub use Rattle.dg_theory.proofs.ConstantLaws.{same_by_constant}
-pub use Rattle.dg_theory.proofs.Equivalence.{equivalent-sym, equivalent-trans}
-pub use Rattle.dg_theory.proofs.LossLaws.{loss_bounds_rank, loss_once}
 pub use Rattle.dg_theory.proofs.RankNumbers.{rank_once}
-pub use Rattle.dg_theory.proofs.ReducedLaws.{reduced_once}
-pub use Rattle.dg_theory.proofs.Winning.{winnable_by_script}
-pub use Rattle.dg_theory.specs.Burning.{BurnsAll, BurnsInOrder, BurnsNext, MayBurn, among, edges_into}
-pub use Rattle.dg_theory.specs.Determining.{HangsLoosely, IsConnectedSet, beside}
-pub use Rattle.dg_theory.specs.Firing.{AgreeOn, Amounts, FiresTo, IsEffective, degree, fired}
-pub use Rattle.dg_theory.specs.Multigraph.{IsMultigraph, JoinedIn, Multigraph, edges_between, entry, genus}
-pub use Rattle.dg_theory.specs.Play.{IsWinnable}
-pub use Rattle.dg_theory.specs.Rank.{HasRankAtLeast, IsRank, canonical, less}
-pub use Rattle.dg_theory.specs.Reduced.{IsReduced}
-pub use Rattle.dg_theory.specs.Sums.{sum_below, total_below}
+pub use Rattle.dg_theory.specs.Burning.{BurnsInOrder, BurnsNext, MayBurn, among, edges_into}
+pub use Rattle.dg_theory.specs.Firing.{AgreeOn, Amounts}
+pub use Rattle.dg_theory.specs.Multigraph.{IsMultigraph, Multigraph}
+pub use Rattle.dg_theory.specs.Rank.{canonical, less}
 pub use Rattle.dg_tokens.proofs.Signs.{one_rest}
 pub use Rattle.dg_tokens.specs.Decimals.{BeginsWith, HasDigitFirst}
 pub use Rattle.dg_verdict.specs.RankTests.{IsRankTest}
-pub use Rattle.dg_verdict.specs.Right.{IsRight, IsVerdictOn}
-pub use Rattle.dg_verdict.specs.declared.rank_verdict.RankVerdict.TheVariants.{AtLeast, Below}
+pub use Rattle.dg_verdict.specs.Right.{IsVerdictOn}
+pub use Rattle.dg_verdict.specs.declared.rank_verdict.RankVerdict.TheVariants.{AtLeast}
 pub use Rattle.dg_verdict.specs.declared.rank_verdict.RankVerdict.{RankVerdict}
 pub use Rattle.dg_verdict.specs.declared.verdict.Verdict.{Verdict}
-pub use Rattle.std.proofs.Common.{All, Bool, Bor, Err, FitsSigned, List, None, Ok, Option, Result, [], ap, append-nil, append_assoc, arith, codes, drop, false, flat_map, get_or, if◌then◌else◌, inl, inr, length, map, neg_ℤ, negsuc, of_z, pos, refl, rules, subst, suc, sym, take, tests, to_z, to_z-of_z, true, w64, zero, ℕ, ℤ, ◌*◌, ◌++◌, ◌+◌, ◌-◌, ◌<◌, ◌==◌, ◌^◌, ◌∙◌, ◌∷◌, ◌≡◌, ◌≢◌, ◌≤◌, ◌⊎◌}
-pub use Rattle.std.proofs.Math.IntN.{◌*ℤ◌, ◌+ℤ◌, ◌-ℤ◌}
-pub use Rattle.std.proofs.Math.Path.{fun_ext}
+pub use Rattle.std.proofs.Common.{All, Bool, Bor, Err, FitsSigned, List, None, Ok, Option, Result, [], ap, append-nil, append_assoc, arith, codes, drop, false, flat_map, get_or, inl, inr, length, map, neg_ℤ, negsuc, of_z, pos, refl, rules, subst, suc, sym, take, tests, to_z, to_z-of_z, true, w64, zero, ℕ, ℤ, ◌*◌, ◌++◌, ◌+◌, ◌-◌, ◌<◌, ◌==◌, ◌^◌, ◌∙◌, ◌∷◌, ◌≡◌, ◌≢◌, ◌≤◌, ◌⊎◌}
 pub use Rattle.std.proofs.Math.Seq.{take-append_seam}
-pub use Rattle.std.proofs.lemmas.Bool.{cases_eq, cases_lt, cases_order, eqb-true, false≢true, ne_eqb}
+pub use Rattle.std.proofs.lemmas.Bool.{cases_eq, cases_lt, eqb-true, false≢true, ne_eqb}
 pub use Rattle.std.proofs.lemmas.Fmt.{decimal_is_IsNumeral, signed_decimal_injective}
 pub use Rattle.std.proofs.lemmas.Grind.{common_steps, flat_map-append}
 pub use Rattle.std.proofs.lemmas.Int.{ints}
@@ -79,5 +64,5 @@ pub use Rattle.std.proofs.lemmas.Str.Parse.{digit_from_value}
 pub use Rattle.std.specs.Fmt.{signed_decimal}
 pub use Rattle.std.specs.Io.KnownBytes.{Appends, Consumes, IsAtEnd, Keeps}
 pub use Rattle.std.specs.Option.{option_copied}
-pub use Rattle.std.specs.Prelude.{Some, min, ◌&&◌, decimal, slice_get, ◌<ℤ◌, ◌↔◌}
+pub use Rattle.std.specs.Prelude.{Some, decimal, slice_get, ◌<ℤ◌}
 pub use Rattle.std.specs.Str.Parse.{AllDigits}

@@ -5,7 +5,6 @@ pub mod Swept
 pub mod Amounts
 mod FirstAmounts
 -- Each line has one answer.
-pub mod SameTables
 pub mod OneText
 pub mod OneMeaning
 pub mod OneAnswer

@@ -1,111 +1,13 @@
 -- A line has just one answer.
---   answer_moves   what answers a table answers the same table, however it is written
 --   answer_once    a table has one answer
 --   table_once, amounts_once   so has a line of a table, and one of amounts
 --   tables_have_one_answer, amounts_have_one_answer   the laws of dg_sweep
-use Rattle.dg_sweep.proofs.Common.{◌≡◌, ℕ, Bool, ◌<◌, ◌⊎◌, inl, inr, List, ◌++◌, length, codes, sym, ap, ◌∙◌, arith, subst, fun_ext, Multigraph, IsMultigraph, Amounts, degree, less, canonical, HasRankAtLeast, IsRank, rank_once, StartData, IsStart, at, IsVerdictOn, IsJudgement, IsRankTest, RankVerdict, ArePastTrialLimits, IsWithin, IsUntold, NeedsPastTests, past_within, AreSameOpenings, FilesHaveOneMeaning, RefusesFile, FileFault, Question, Judge, Rank, RiemannRoch, TablesHaveOneAnswer, AmountsHaveOneAnswer, IsTested, IsBelow, AnswersRankLine, answer_number, degree_and_genus_words, AreRanks, AreUntested, AnswersTable, refusal_line, IsRefused, AnswersTableWithin, AnswersLine, RefusesAmounts, AnswersAmounts, file_fault_words}
+use Rattle.dg_sweep.proofs.Common.{◌≡◌, ℕ, ◌<◌, ◌⊎◌, inl, inr, List, ◌++◌, length, codes, sym, ap, ◌∙◌, arith, subst, Multigraph, IsMultigraph, less, canonical, rank_once, StartData, IsStart, at, IsRankTest, RankVerdict, past_within, FilesHaveOneMeaning, RefusesFile, FileFault, Question, Judge, Rank, RiemannRoch, TablesHaveOneAnswer, AmountsHaveOneAnswer, IsTested, IsBelow, AnswersRankLine, answer_number, degree_and_genus_words, AreRanks, AreUntested, AnswersTable, refusal_line, IsRefused, AnswersTableWithin, AnswersLine, RefusesAmounts, AnswersAmounts, file_fault_words}
 use Rattle.std.proofs.Math.IntN.{ℤ}
 use Rattle.dg_lines.proofs.Given.{vertex_named}
 use Rattle.dg_sweep.proofs.OneMeaning.{amount_lines_have_one_meaning}
-use Rattle.dg_sweep.proofs.OneText.{judgement_same, test_same}
-use Rattle.dg_sweep.proofs.SameTables.{IsSameGraph, same_back, same_genus, same_canonical, found_on, tested_on, rank_on, is_rank_on, untold_on, needs_on}
-
-same_graph : (o p : StartData) → AreSameOpenings o p → IsSameGraph o.graph p.graph
-same_graph o p alike = record { size = alike.size; edges = alike.edges }
-
-module _ (o p : StartData) (alike : AreSameOpenings o p) where
-  same : IsSameGraph o.graph p.graph
-  same = same_graph o p alike
-
-  amounts : at o.divisor ≡ at p.divisor
-  amounts = fun_ext alike.amounts
-
-  move : (P : Amounts → Type 0) → P (at o.divisor) → P (at p.divisor)
-  move P here = subst P amounts here
-
-  move_back : (P : Amounts → Type 0) → P (at p.divisor) → P (at o.divisor)
-  move_back P there = subst P (sym amounts) there
-
-  untold_back : (k : ℕ) → IsUntold p.graph (at p.divisor) k → IsUntold o.graph (at o.divisor) k
-  untold_back k there =
-      untold_on p.graph o.graph (same_back o.graph p.graph same) (at o.divisor) k
-      (move_back (λ (D : Amounts). IsUntold p.graph D k) there)
-
-  rank_back : (k : ℕ) → HasRankAtLeast p.graph (at p.divisor) k → HasRankAtLeast o.graph (at o.divisor) k
-  rank_back k there =
-      rank_on p.graph o.graph (same_back o.graph p.graph same) (at o.divisor) k
-      (move_back (λ (D : Amounts). HasRankAtLeast p.graph D k) there)
-
-  needs_back : NeedsPastTests p.graph (at p.divisor) → NeedsPastTests o.graph (at o.divisor)
-  needs_back there =
-      needs_on p.graph o.graph (same_back o.graph p.graph same) (at o.divisor)
-      (move_back (NeedsPastTests p.graph) there)
-
-  numbers : degree_and_genus_words o ≡ degree_and_genus_words p
-  numbers = λ i.
-      answer_number (codes "degree ") (degree (alike.size i) (amounts i))
-      ++ answer_number (codes " genus ") (same_genus o.graph p.graph same i)
-
-  verdict_moves : (names : List (List ℕ)) (ordered : Bool) (text : List ℕ) → IsJudgement o names ordered text
-      → IsJudgement p names ordered text
-  verdict_moves names ordered text is = record {
-    verdict = is.verdict;
-    found = subst (λ (q : ℕ). IsVerdictOn p.graph q (at p.divisor) is.verdict) alike.vertex
-        (move (λ (D : Amounts). IsVerdictOn p.graph o.q D is.verdict)
-        (found_on o.graph p.graph same o.q (at o.divisor) is.verdict is.found));
-    printed = is.printed;
-  }
-
-  named_moves : (k : ℕ) (P : Type 0) → IsWithin o.graph.size k ⊎ P → IsWithin p.graph.size k ⊎ P
-  named_moves k P (inl within) = inl (subst (λ (n : ℕ). IsWithin n k) alike.size within)
-  named_moves k P (inr other) = inr other
-
-  rank_moves : (k : ℕ) (names : List (List ℕ)) (text : List ℕ) → AnswersRankLine o k names text
-      → AnswersRankLine p k names text
-  rank_moves k names text (inl is) = inl (record {
-    verdict = is.verdict;
-    right = move (λ (D : Amounts). IsRankTest p.graph D k is.verdict)
-        (tested_on o.graph p.graph same (at o.divisor) k is.verdict is.right);
-    told = λ there. is.told (untold_back k there);
-    named = named_moves k _ is.named;
-    printed = is.printed;
-  })
-  rank_moves k names text (inr (inl is)) = inr (inl (record {
-    past = subst (λ (n : ℕ). ArePastTrialLimits n k) alike.size is.past;
-    told = λ there. is.told (untold_back k there);
-    below = λ there. is.below (rank_back k there);
-    printed = is.printed;
-  }))
-  rank_moves k names text (inr (inr is)) = inr (inr (record {
-    untold = move (λ (D : Amounts). IsUntold p.graph D k)
-        (untold_on o.graph p.graph same (at o.divisor) k is.untold);
-    printed = is.printed;
-  }))
-
-  ranks_move : (text : List ℕ) → AreRanks o text ⊎ AreUntested o text → AreRanks p text ⊎ AreUntested p text
-  ranks_move text (inl is) = inl (record {
-    told = λ there. is.told (needs_back there);
-    rank = is.rank;
-    of_divisor = move (λ (D : Amounts). IsRank p.graph D is.rank)
-        (is_rank_on o.graph p.graph same (at o.divisor) is.rank is.of_divisor);
-    dual_rank = is.dual_rank;
-    of_dual = subst (λ (D : Amounts). IsRank p.graph D is.dual_rank)
-        (λ i. less (same_canonical o.graph p.graph same i) (amounts i))
-        (is_rank_on o.graph p.graph same (less (canonical o.graph) (at o.divisor)) is.dual_rank is.of_dual);
-    printed = is.printed
-        ∙ ap (λ (t : List ℕ). t ++ answer_number (codes " rank ") is.rank
-        ++ answer_number (codes " dual ") is.dual_rank ++ codes "\n") numbers;
-  })
-  ranks_move text (inr is) = inr (record {
-    past = move (NeedsPastTests p.graph) (needs_on o.graph p.graph same (at o.divisor) is.past);
-    printed = is.printed ∙ ap (λ (t : List ℕ). t ++ codes " rank ? dual ?\n") numbers;
-  })
-
-  answer_moves : (question : Question) (names : List (List ℕ)) (text : List ℕ) → AnswersTable question o names text
-      → AnswersTable question p names text
-  answer_moves (Judge ordered) names text is = verdict_moves names ordered text is
-  answer_moves (Rank k) names text is = rank_moves k names text is
-  answer_moves RiemannRoch names text is = ranks_move text is
+use Rattle.dg_lines.proofs.OneText.{test_same}
+use Rattle.dg_sweep.proofs.OneText.{judgement_same}
 
 module _ (o : StartData) (names : List (List ℕ)) (graph : IsMultigraph o.graph) (vertex : o.q < o.graph.size)
     (fit : length names ≡ o.graph.size) where
@@ -181,14 +83,14 @@ module _ (question : Question) where
   table_once files line text other (inr a) (inl b) =
       absurd (files.refused line b.fault a.start a.names b.found b.refused a.table)
   table_once files line text other (inr a) (inr b) =
-      let (alike, named) = files.table line b.start a.start b.names a.names b.table a.table in
+      let (same, named) = files.table line b.start a.start b.names a.names b.table a.table in
       let table = a.table.describes in
       let fit : length a.names ≡ a.start.graph.size = sym table.graph.size in
       let vertex : a.start.q < a.start.graph.size =
       omega (arith, fit, (vertex_named a.names a.table.content.q a.start.q table.vertex).0) in
       answer_once a.start a.names table.graph.graph.multigraph vertex fit question text other a.answer
       (subst (λ (ns : List (List ℕ)). AnswersTable question a.start ns other) named
-      (answer_moves b.start a.start alike question b.names other b.answer))
+      (subst (λ (o : StartData). AnswersTable question o b.names other) same b.answer))
 
   amounts_once : (o : StartData) (names : List (List ℕ)) (line text other : List ℕ) → IsStart o → length names ≡ o.graph.size
       → AnswersAmounts question o names line text → AnswersAmounts question o names line other → text ≡ other
@@ -200,13 +102,13 @@ module _ (question : Question) where
   amounts_once o names line text other start fit (inr a) (inl b) =
       absurd (amount_lines_have_one_meaning.refused o a.start line b.fault b.found b.refused a.stands)
   amounts_once o names line text other start fit (inr a) (inr b) =
-      let alike = amount_lines_have_one_meaning.start o b.start a.start line b.stands a.stands in
+      let same = amount_lines_have_one_meaning.start o b.start a.start line b.stands a.stands in
       let graph : a.start.graph ≡ o.graph = ap (λ (s : StartData). s.graph) a.stands.rest in
       let q : a.start.q ≡ o.q = ap (λ (s : StartData). s.q) a.stands.rest in
       let size : a.start.graph.size ≡ o.graph.size = ap (λ (g : Multigraph). g.size) graph in
       answer_once a.start names (subst IsMultigraph (sym graph) start.graph.multigraph)
       (omega (arith, q, size, start.vertex)) (fit ∙ sym size) question text other a.answer
-      (answer_moves b.start a.start alike question names other b.answer)
+      (subst (λ (p : StartData). AnswersTable question p names other) same b.answer)
 
 pub tables_have_one_answer : FilesHaveOneMeaning → TablesHaveOneAnswer
 tables_have_one_answer files question line text other =

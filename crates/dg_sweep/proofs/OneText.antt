@@ -1,35 +1,9 @@
--- Right verdicts, and right rank tests, have one text.
---   pairs_same     amounts that agree on the vertices have the same pairs
---   verdict_same   right verdicts on one divisor have one text
+-- Verdicts with the order in which the vertices burn have one text.
 --   order_same     vertices burn in one order, the least first
 --   judgement_same verdicts on one divisor are printed alike, with the order of burning or without
---   test_same      so have right rank tests of one degree
-use Rattle.dg_sweep.proofs.Common.{◌≡◌, ℕ, zero, suc, ◌+◌, ◌<◌, Bool, true, false, List, [], ◌∷◌, ◌++◌, length, take, get_or, codes, inl, inr, arith, refl, sym, ap, ◌∙◌, subst, ◌↔◌, ◌<ℤ◌, decimal, slice_get, Some, cases_eq, cases_lt, take_all, take_more, slice_get-get_or, slice_get_within, get_or_from_slice_get, ints, Multigraph, IsMultigraph, Amounts, AgreeOn, IsWinnable, among, edges_into, MayBurn, BurnsNext, BurnsInOrder, same_by_constant, equivalent-sym, equivalent-trans, loss_once, loss_bounds_rank, reduced_once, Vector, at, IsRight, IsVerdictOn, IsRankTest, Verdict, RankVerdict, AtLeast, Below, pair, verdict_word, verdict_text, rank_text, burning_text, judgement_text}
+use Rattle.dg_sweep.proofs.Common.{◌≡◌, ℕ, zero, suc, ◌+◌, ◌<◌, Bool, true, false, List, [], ◌∷◌, ◌++◌, length, take, get_or, inl, inr, arith, sym, ap, ◌∙◌, subst, ◌<ℤ◌, slice_get, Some, cases_eq, cases_lt, take_all, take_more, slice_get-get_or, slice_get_within, get_or_from_slice_get, Multigraph, IsMultigraph, Amounts, AgreeOn, among, edges_into, MayBurn, BurnsNext, BurnsInOrder, at, IsVerdictOn, Verdict, verdict_text, burning_text, judgement_text}
 use Rattle.std.proofs.Math.IntN.{ℤ, pos}
-use Rattle.dg_lines.specs.Texts.{more_pairs, pairs}
-
-more_same : (names : List (List ℕ)) (x y : Amounts) (n : ℕ)
-    → ((v : ℕ) → v < n + length names → x v ≡ y v) → more_pairs names x n ≡ more_pairs names y n
-unfolding more_pairs
-more_same [] x y n same = refl
-more_same (name ∷ names) x y n same =
-    ap (λ (z : ℤ). codes " " ++ pair name z ++ more_pairs names x (n + 1)) (same n (omega arith))
-    ∙ ap (λ (rest : List ℕ). codes " " ++ pair name (y n) ++ rest)
-    (more_same names x y (n + 1) (λ v below. same v (omega (arith, below))))
-
-pub pairs_same : (names : List (List ℕ)) (x y : Amounts) → AgreeOn (length names) x y → pairs names x ≡ pairs names y
-unfolding pairs
-pairs_same [] x y same = refl
-pairs_same (name ∷ names) x y same =
-    ap (λ (z : ℤ). pair name z ++ more_pairs names x 1) (same 0 (omega arith))
-    ∙ ap (λ (rest : List ℕ). pair name (y 0) ++ rest)
-    (more_same names x y 1 (λ v below. same v (omega (arith, below))))
-
-win_once : (P : Type 0) (s t : Bool) → (s ≡ true) ↔ P → (t ≡ true) ↔ P → s ≡ t
-win_once P true true first second = refl
-win_once P true false first second = sym (second.1 (first.0 refl))
-win_once P false true first second = first.1 (second.0 refl)
-win_once P false false first second = refl
+use Rattle.dg_lines.proofs.OneText.{verdict_same, reduced_same}
 
 may_cong : (g : Multigraph) (D E : Amounts) (B : ℕ → Bool) (v : ℕ) → AgreeOn g.size D E → MayBurn g D B v → MayBurn g E B v
 may_cong g D E B v same may = record {
@@ -106,52 +80,13 @@ module _ (g : Multigraph) (q : ℕ) (D E : Amounts) (same : AgreeOn g.size D E) 
         sym (take_all (suc far) l (omega arith)) ∙ all_same far ∙ take_all (suc far) m (omega arith)
 
 module _ (names : List (List ℕ)) (g : Multigraph) (D : Amounts) (fit : length names ≡ g.size) where
-  shown_same : (d e : Vector) → AgreeOn g.size (at d) (at e) → pairs names (at d) ≡ pairs names (at e)
-  shown_same d e same = pairs_same names (at d) (at e) (λ v below. same v (omega (arith, below, fit)))
-
-  reduced_same : (q : ℕ) → q < g.size → (x y : Verdict) → IsRight g q D x → IsRight g q D y
-      → AgreeOn g.size (at x.reduced) (at y.reduced)
-  reduced_same q vertex x y first second =
-      reduced_once g q (at x.reduced) (at y.reduced) vertex
-      (equivalent-trans g (at x.reduced) D (at y.reduced)
-      (equivalent-sym g D (at x.reduced) (at x.script, first.led)) (at y.script, second.led))
-      first.reduced second.reduced
-
-  script_same : (q : ℕ) → IsMultigraph g → q < g.size → (x y : Verdict) → IsRight g q D x → IsRight g q D y
-      → AgreeOn g.size (at x.script) (at y.script)
-  script_same q graph vertex x y first second =
-      let (z, apart) = (same_by_constant g D (at x.script) (at y.script) graph).0
-      (λ v below. sym (first.led v below) ∙ reduced_same q vertex x y first second v below ∙ second.led v below) in
-      λ v below. omega (arith, ints, apart v below, apart q vertex, first.at_q, second.at_q)
-
-  verdict_same : (q : ℕ) → IsMultigraph g → q < g.size → (x y : Verdict) → IsRight g q D x → IsRight g q D y
-      → verdict_text names x ≡ verdict_text names y
-  verdict_same q graph vertex x y first second =
-      ap (λ (w : Bool). verdict_word w ++ pairs names (at x.script) ++ codes " to " ++ pairs names (at x.reduced))
-      (win_once (IsWinnable g D) x.winnable y.winnable first.winnable second.winnable)
-      ∙ ap (λ (ps : List ℕ). verdict_word y.winnable ++ ps ++ codes " to " ++ pairs names (at x.reduced))
-      (shown_same x.script y.script (script_same q graph vertex x y first second))
-      ∙ ap (λ (ps : List ℕ). verdict_word y.winnable ++ pairs names (at y.script) ++ codes " to " ++ ps)
-      (shown_same x.reduced y.reduced (reduced_same q vertex x y first second))
-
   pub judgement_same : (q : ℕ) → IsMultigraph g → q < g.size → (ordered : Bool) (x y : Verdict) → IsVerdictOn g q D x
       → IsVerdictOn g q D y → judgement_text names ordered x ≡ judgement_text names ordered y
-  judgement_same q graph vertex false x y first second = verdict_same q graph vertex x y first.right second.right
+  judgement_same q graph vertex false x y first second = verdict_same names g D fit q graph vertex x y first.right second.right
   judgement_same q graph vertex true x y first second =
       ap (λ (t : List ℕ). t ++ burning_text names (take (length names) x.order))
-      (verdict_same q graph vertex x y first.right second.right)
+      (verdict_same names g D fit q graph vertex x y first.right second.right)
       ∙ ap (λ (l : List ℕ). verdict_text names y ++ burning_text names l)
       (subst (λ (n : ℕ). take n x.order ≡ take n y.order) (sym fit)
-      (order_same g q (at x.reduced) (at y.reduced) (reduced_same q vertex x y first.right second.right)
+      (order_same g q (at x.reduced) (at y.reduced) (reduced_same names g D fit q vertex x y first.right second.right)
       (take g.size x.order) (take g.size y.order) first.order.burns second.order.burns))
-
-  pub test_same : (k : ℕ) (x y : RankVerdict) → IsRankTest g D k x → IsRankTest g D k y
-      → rank_text names x ≡ rank_text names y
-  test_same k (AtLeast i) (AtLeast j) first second =
-      ap (λ (n : ℕ). codes "rank at least " ++ decimal n) (first.0 ∙ sym second.0)
-  test_same k (AtLeast i) (Below j e) first second = absurd (loss_bounds_rank g D k (at e) second.2 first.1)
-  test_same k (Below i d) (AtLeast j) first second = absurd (loss_bounds_rank g D k (at d) first.2 second.1)
-  test_same k (Below i d) (Below j e) first second =
-      ap (λ (n : ℕ). codes "rank below " ++ decimal n ++ codes " at " ++ pairs names (at d)) (first.0 ∙ sym second.0)
-      ∙ ap (λ (ps : List ℕ). codes "rank below " ++ decimal j ++ codes " at " ++ ps)
-      (shown_same d e (loss_once g D k (at d) (at e) first.2 second.2))

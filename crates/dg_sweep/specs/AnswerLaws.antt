@@ -5,7 +5,7 @@
 --                          for no other start, and no line has two such faults
 use Rattle.std.specs.Prelude.{◌≡◌, ◌≢◌, ℕ, List, length}
 use Rattle.dg_chips.specs.Starts.{IsStart}
-use Rattle.dg_sweep.specs.Common.{StartData, AreSameOpenings, FileFault, OutOfMemory, Question}
+use Rattle.dg_sweep.specs.Common.{StartData, FileFault, OutOfMemory, Question}
 use Rattle.dg_sweep.specs.Answers.{AnswersLine, AnswersTableLine}
 use Rattle.dg_sweep.specs.Divisors.{HasAmountsOf, RefusesAmounts, AnswersAmounts}
 
@@ -23,7 +23,7 @@ AmountsHaveOneAnswer =
 
 pub record AmountLinesHaveOneMeaning : Type 0 where
   pub start : (o p r : StartData) (line : List ℕ) → HasAmountsOf o line p → HasAmountsOf o line r
-      → AreSameOpenings p r
+      → p ≡ r
   pub refused : (o p : StartData) (line : List ℕ) (fault : FileFault) → fault ≢ OutOfMemory
       → RefusesAmounts o.graph.size line fault → ¬ HasAmountsOf o line p
   pub fault : (n : ℕ) (line : List ℕ) (one other : FileFault)

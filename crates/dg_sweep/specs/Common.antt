@@ -6,7 +6,6 @@ pub use Rattle.dg_chips.specs.declared.divisor.ChipFault.{ChipFault}
 pub use Rattle.dg_chips.specs.declared.divisor.ChipFault.TheVariants.{Length, Range}
 pub use Rattle.dg_file.specs.Content.{Content}
 pub use Rattle.dg_file.specs.FileFaults.{RefusesFile, RefusesTable}
-pub use Rattle.dg_file.specs.FileLaws.{AreSameOpenings}
 pub use Rattle.dg_file.specs.TableFiles.{IsTable, IsTableFile}
 pub use Rattle.dg_file.specs.declared.fault.FileFault.{FileFault}
 pub use Rattle.dg_file.specs.declared.fault.FileFault.TheVariants.{Chip, Graph, Json, Name, NoQ, OutOfMemory, Shape, Twice}

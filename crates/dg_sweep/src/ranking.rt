@@ -139,7 +139,7 @@ fn push_told(
     Ok(())
 }
 
-/// The line of a subject with marks in place of the two ranks, into an empty buffer.
+/// Puts `degree D genus G rank ? dual ?` into an empty buffer.
 fn push_untold_answer(subject: &Subject<'_>, answer: &mut Vec<u8>) -> Result<(), AllocError>
     requires start { IsStart (start_of subject.now) }
     requires empty { answer.old.items ≡ [] }

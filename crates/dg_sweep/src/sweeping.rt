@@ -121,6 +121,6 @@ fn sweep_reads<R: Threads + Wait + Sync, K: LineKind + Sync, I: Read, O: Write>(
             Err(end) => return Err(end),
         }
     }
-    // That so many reads were made nobody will see.
+    // Never reached: that is after 2^64 reads. A loop needs a bound for the proof that it ends.
     Err(SweepEnd::Shortage(Shortage::OutOfMemory))
 }

@@ -164,15 +164,15 @@ fn put_answers<R, K: LineKind>(
         Leads (K.answers context.now.kind.now) (flat_map (λ piece. piece.now) pieces.now) said
         × (text.new.items ≡ text.old.items ++ said)) }
 {
-    let found = places_in(context.alloc, done, pieces.len())?;
+    let found = indices_of(context.alloc, done, pieces.len())?;
     for place in 0..pieces.len() {
         put_answer(context, pieces, place, done, &found, text)?;
     }
     Ok(())
 }
 
-/// For each place of so many, where its answer is among these, or their number if it is not there.
-fn places_in(alloc: Global, done: &[Answered], count: usize) -> Result<Vec<usize>, AllocError> {
+/// For each of `count` pieces, the index of its answers in `done`, or the length of `done` if they are not there.
+fn indices_of(alloc: Global, done: &[Answered], count: usize) -> Result<Vec<usize>, AllocError> {
     let mut found = vec![in alloc; done.len(); count]?;
     for (index, answered) in done.iter().enumerate() {
         if let Some(at) = found.get_mut(answered.place) {

@@ -35,8 +35,8 @@ pub fn in_parallel<R: Threads + Wait, F: FnMut() -> A + Send, G: FnMut() -> B, A
     }
 }
 
-/// Work to be done once. The prover sees a value of a type parameter where a thread's closure has one, and not what that
-/// value borrows.
+/// A closure to run once, in a thread. It has a trait of our own, because of a plain closure the prover would not see what
+/// it borrows.
 trait Task {
     type Output;
 

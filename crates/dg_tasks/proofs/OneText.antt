@@ -3,16 +3,14 @@
 --   counts_more       with one more entry
 --   counted_first     the gift count of the first entries of a history, by its counts
 --   counted_all       and that of all
---   right_here        the reply of each entry of a legal history is right after those before it
 --   seen_on           histories that go on from one position, and ask for the same, have one text
 --   legal_have_one_text   so have legal histories
 --   asked_alike       histories whose requests are the same at each place ask for the same
 --   kept_once         a seat keeps one look
 --   asked_once        so a step makes one request
 --   rehearsals_have_one_text   histories of the same steps have one text
---   same_asks         greedy games that are the same ask for the same
 --   greedy_has_one_text   what is printed of a greedy game
-use Rattle.dg_tasks.proofs.Common.{◌≡◌, ℕ, zero, suc, ◌+◌, ◌<◌, ◌≤◌, Bool, List, [], ◌∷◌, ◌++◌, length, take, slice_get, Some, arith, refl, sym, ap, subst, ◌∙◌, append_assoc, ⊎_elim, codes, take-append_seam, decimal, slice_get_within, cases_lt, StartData, IsStart, position_after, gifts_in, gifts_by_reply, IsLegal, Position, Replies, RepliesAt, after_reply, Entry, Request, Reply, Command, Call, Commit, Step, graphs_hold, legal_part, slice_get-seam, one_more_entry, vertices_stay, IsKept, IsAsked, IsEntryOf, AreSameGreedyGame, greedy_game_is_one, entry_text, turns_text, printed_requests, LegalAnswersAreOneText, RehearsalsHaveOneText, GreedyHasOneText}
+use Rattle.dg_tasks.proofs.Common.{◌≡◌, ℕ, zero, suc, ◌+◌, ◌<◌, ◌≤◌, Bool, List, [], ◌∷◌, ◌++◌, length, take, slice_get, Some, arith, refl, sym, ap, subst, ◌∙◌, append_assoc, ⊎_elim, codes, decimal, slice_get_within, cases_lt, StartData, IsStart, position_after, gifts_in, gifts_by_reply, IsLegal, Position, Replies, RepliesAt, after_reply, Entry, Request, Reply, Command, Call, Commit, Step, graphs_hold, legal_part, right_here, one_more_entry, vertices_stay, IsKept, IsAsked, IsEntryOf, greedy_game_is_one, entry_text, turns_text, printed_requests, LegalAnswersAreOneText, RehearsalsHaveOneText, GreedyHasOneText}
 use Rattle.dg_rules.specs.declared.entry.Request.TheVariants as request
 use Rattle.dg_rules.specs.declared.step.Command.TheVariants.{Rank}
 use Rattle.dg_lines.specs.Texts.{history_text}
@@ -41,12 +39,6 @@ counted_all : (H : List Entry) → gifts_in H ≡ added (counts H)
 unfolding counts added
 counted_all [] = refl
 counted_all (e ∷ H) = omega (arith, counted_all H)
-
-right_here : (o : StartData) (K : List Entry) (e : Entry) (H : List Entry) → IsLegal o (K ++ e ∷ H) →
-    Replies o K e.request e.reply
-right_here o K e H legal =
-    subst (λ (L : List Entry). Replies o L e.request e.reply) (take-append_seam K (e ∷ H))
-    (legal (length K) e (slice_get-seam K e H)).2
 
 module _ (o : StartData) (start : IsStart o) (names : List (List ℕ)) (fit : length names ≡ o.graph.size) where
   -- replies after histories that lead to one position, and count alike
@@ -157,18 +149,9 @@ rehearsals_have_one_text o names steps H K start fit first second =
     let other : IsEntryOf steps i step e = second.entries i step e at there in
     asked_once steps step.seat i step.command d.request e.request one.request other.request))
 
-same_asks : (H K : List Entry) → AreSameGreedyGame H K → printed_requests H ≡ printed_requests K
-same_asks [] [] same = refl
-same_asks [] (e ∷ K) same = absurd same
-same_asks (d ∷ H) [] same = absurd same
-same_asks (d ∷ H) (e ∷ K) (seat, request', reply, same) =
-    ap (λ (r : Request). r ∷ printed_requests H) request' ∙ ap (λ (rs : List Request). e.request ∷ rs) (same_asks H K same)
-
 pub greedy_has_one_text : GreedyHasOneText
 greedy_has_one_text o names n text other start fit first second =
     let (same, ended) = greedy_game_is_one o n first.history second.history first.settled second.settled first.game
     second.game in
-    let texts = legal_have_one_text o names first.history second.history start fit first.game.legal second.game.legal
-    (same_asks first.history second.history same) in
-    first.printed ∙ ap (λ (t : List ℕ). t ++ turns_text first.settled) texts
+    first.printed ∙ ap (λ (H : List Entry). history_text names 0 H ++ turns_text first.settled) same
     ∙ ap (λ (b : Bool). history_text names 0 second.history ++ turns_text b) ended ∙ sym second.printed

@@ -1,6 +1,7 @@
 -- Firing all vertices nearer to q than a level j, k times at once, to clear the debts of that level.
 --   nearer level j          the set of the vertices of level below j
 --   fired_nearer g level j k D   the divisor after that set has fired k times
+--   if-le                   a number or none is at most the number
 --   into-le-valence, out-le-valence   at most all edges of a vertex lead into a set, or out of it
 --   farther_same            vertices of level above j keep their amounts
 --   farther_stays           so one that was not in debt is not in debt
@@ -25,7 +26,7 @@ total_below-none (suc n) f none =
     let last : f n ≡ 0 = none n (omega arith) in
     omega arith
 
-if-le : (b : Bool) (e : ℕ) → (if b then e else 0) ≤ e
+pub if-le : (b : Bool) (e : ℕ) → (if b then e else 0) ≤ e
 if-le true e = omega arith
 if-le false e = omega arith
 

@@ -1,9 +1,9 @@
 -- What hangs loosely on a connected set, and what a dollar at each vertex beside the set tells of it.
 --   total_some           of a sum above 0, some term is above 0
+--   edge_into            so from a count of edges into a set above 0, an edge
 --   beside-inside        no dollar is at a vertex of S
 --   beside-outside       and at a vertex outside at most one, where an edge leads into S
 --   out-le-into          where X hangs loosely on S, no more edges lead out of X than into S
---   into-le-out          no fewer, if T has no vertex of S
 --   fires_hangs          a set that the dollars beside a connected set let fire hangs loosely on it
 --   hangs_not_reduced    where something hangs loosely on S, the dollars beside S are not reduced
 --   not_reduced_hangs    and the other way round, where S is connected
@@ -14,6 +14,7 @@ use Rattle.dg_theory.proofs.TotalLaws.{total_below-le, total_below-term}
 use Rattle.dg_theory.proofs.Counting.{total_below-less}
 use Rattle.dg_theory.proofs.Climbs.{Leaves, JoinedIn-leaves}
 use Rattle.dg_theory.proofs.SetFiring.{fired-inside}
+use Rattle.dg_theory.proofs.BurningOrder.{into-le-out, into-le-out-once}
 use Rattle.dg_theory.proofs.Unburnt.{reduced_or_fires, FiresSome}
 use Rattle.dg_theory.proofs.Components.{within-parts}
 
@@ -24,6 +25,17 @@ total_some (suc n) f some =
     (λ (last : 0 < f n). (n, omega arith, last))
     (λ (none : f n ≤ 0). let (w, below, here) = total_some n f (omega arith) in (w, omega arith, here))
     (cases_lt 0 (f n))
+
+into-parts : (b : Bool) (e : ℕ) → 0 < (if b then e else 0) → (b ≡ true) × (0 < e)
+into-parts true e some = (refl, some)
+into-parts false e some = absurd (omega arith)
+
+pub edge_into : (g : Multigraph) (S : ℕ → Bool) (v : ℕ) → 0 < edges_into g S v →
+    (w : ℕ) × (w < g.size) × (S w ≡ true) × (0 < edges_between g v w)
+edge_into g S v some =
+    let (w, below, counted) = total_some g.size (λ u. if S u then edges_between g v u else 0) some in
+    let (member, edge) = into-parts (S w) (edges_between g v w) counted in
+    (w, below, member, edge)
 
 pub beside-inside : (g : Multigraph) (S : ℕ → Bool) (v : ℕ) → S v ≡ true → beside g S v ≡ pos 0
 beside-inside g S v inside = rw inside refl
@@ -64,10 +76,6 @@ hangs_not_reduced g S X s start hangs reduced =
       hangs.loose v in_X,
       beside-outside g S v (hangs.apart v in_X),
     )
-
-into-le-out-once : (b c : Bool) (e : ℕ) → (b ≡ true → c ≡ false) → (if b then e else 0) ≤ (if c then 0 else e)
-into-le-out-once false c e apart = omega arith
-into-le-out-once true c e apart = rw (apart refl) (omega arith)
 
 -- a set without s that the dollars beside S let fire
 record FiresBeside (g : Multigraph) (S : ℕ → Bool) (s : ℕ) (T : ℕ → Bool) : Type 0 where
@@ -129,10 +137,7 @@ fires_hangs g S T s graph connected start free some =
       closed = λ v w member off_T off_S.
           fires_closed g S T s v w fires apart member (outside v member) off_T off_S;
       loose = λ v member.
-          let fewer : edges_into g S v ≤ edges_out g T v =
-          total_below-le g.size _ _ (λ w below.
-          into-le-out-once (S w) (T w) (edges_between g v w) (apart w)) in
-          omega (arith, ints, fires.stands v member, beside-outside g S v (outside v member));
+          omega (arith, ints, into-le-out g S T v apart, fires.stands v member, beside-outside g S v (outside v member));
     }
 
 not_reduced_hangs : (g : Multigraph) (S : ℕ → Bool) (s : ℕ) → IsMultigraph g → IsConnectedSet g S → S s ≡ true →

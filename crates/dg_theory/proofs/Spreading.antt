@@ -3,7 +3,7 @@
 --   spreads_over      so does each vertex of a connected set with s, if R has no dollar there
 --   neighbour_holds   and then each vertex next to the set that can bear the loss of a dollar holds one
 --   beside_reduced    so where all next to the set can, a dollar at each of them is reduced for s
-use Rattle.dg_theory.proofs.Common.{if◌then◌else◌, ◌≡◌, ◌≢◌, ℕ, ◌<◌, ◌≤◌, [], arith, ap, sym, refl, ◌∙◌, ⊎_elim, cases_eq, cases_lt, cases_Bool, both_ways, Bool, true, false, ints, by_lt_z, pos, ◌-ℤ◌, ◌*ℤ◌, ◌≤ℤ◌, ◌<ℤ◌, Multigraph, IsMultigraph, edges_between, Amounts, gain, fired, IsEffective, IsReduced, IsWinnable, IsConnectedSet, edges_into, beside}
+use Rattle.dg_theory.proofs.Common.{◌≡◌, ◌≢◌, ℕ, ◌<◌, ◌≤◌, [], arith, ap, sym, ◌∙◌, ⊎_elim, cases_eq, cases_lt, cases_Bool, both_ways, Bool, true, false, ints, by_lt_z, pos, ◌-ℤ◌, ◌*ℤ◌, ◌≤ℤ◌, ◌<ℤ◌, Multigraph, IsMultigraph, edges_between, Amounts, gain, fired, IsEffective, IsReduced, IsWinnable, IsConnectedSet, edges_into, beside}
 use Rattle.dg_theory.proofs.SumBounds.{mul-nonpos, mul-cancel, sum_below-le_term}
 use Rattle.dg_theory.proofs.Chains.{JoinedIn-stays}
 use Rattle.dg_theory.proofs.Plays.{only_at-here, only_at-other}
@@ -14,7 +14,7 @@ use Rattle.dg_theory.proofs.ReducedLaws.{effective_from}
 use Rattle.dg_theory.proofs.Giving.{effective-only_at}
 use Rattle.dg_theory.proofs.RankExists.{lost}
 use Rattle.dg_theory.proofs.Components.{within-parts}
-use Rattle.dg_theory.proofs.Special.{total_some, beside-inside, beside-outside, beside-solvent}
+use Rattle.dg_theory.proofs.Special.{edge_into, beside-inside, beside-outside, beside-solvent}
 
 spreads : (g : Multigraph) (s : Amounts) (u w : ℕ) → IsLargest g.size s u → pos 0 ≤ℤ gain g s u → w < g.size →
     0 < edges_between g u w → IsLargest g.size s w
@@ -64,10 +64,6 @@ spreads_over g s S R t on effective w member =
           most (on.connected.joined s w on.start member),
     )
 
-into-parts : (b : Bool) (e : ℕ) → 0 < (if b then e else 0) → (b ≡ true) × (0 < e)
-into-parts true e some = (refl, some)
-into-parts false e some = absurd (omega arith)
-
 neighbour_holds : (g : Multigraph) (s : ℕ) (S : ℕ → Bool) (R : Amounts) (w v : ℕ) → LosesOn g s S R →
     S w ≡ true → v < g.size → 0 < edges_between g w v → IsWinnable g (lost v R) → pos 1 ≤ℤ R v
 neighbour_holds g s S R w v on member inside edge win =
@@ -91,8 +87,7 @@ holds_beside g s S R v graph on next inside solvent =
     (λ (member : S v ≡ true). omega (arith, ints, beside-inside g S v member))
     (λ (outside : S v ≡ false). ⊎_elim
     (λ (some : 0 < edges_into g S v).
-    let (w, below, counted) = total_some g.size (λ u. if S u then edges_between g v u else 0) some in
-    let (in_S, edge) = into-parts (S w) (edges_between g v w) counted in
+    let (w, below, in_S, edge) = edge_into g S v some in
     let back : 0 < edges_between g w v = omega (arith, graph.symmetric v w) in
     let holds : pos 1 ≤ℤ R v =
     neighbour_holds g s S R w v on in_S inside back (next w v in_S inside outside back) in

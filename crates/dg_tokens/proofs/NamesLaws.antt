@@ -68,7 +68,7 @@ others-push : (x : List ℕ) (names : List (List ℕ)) (name : List ℕ)
 others-push x [] name others differ = (differ, tt)
 others-push x (y ∷ names) name others differ = (others.0, others-push x names name others.1 differ)
 
-or-false : (a b : Bool) → (a || b) ≡ false → (a ≡ false) × (b ≡ false)
+pub or-false : (a b : Bool) → (a || b) ≡ false → (a ≡ false) × (b ≡ false)
 or-false true b e = absurd (false≢true (sym e))
 or-false false b e = (refl, e)
 

@@ -16,9 +16,10 @@ MOST_BODY, AT_ONCE, MOST_GAMES = 1 << 24, 3, 8
 MOST = {"command": 16, "table": 1 << 21, "tables": 1 << 21, "places": 1 << 21, "steps": 1 << 22, "degree": 12, "name": 200,
         "graph": 40, "level": 20, "key": 64, "line": MOST_BODY}
 # What the program is asked: the words of its command line, and the texts after them, each in a file but for a number.
-ASKED = {"judge": (["judge", "--order", "--"], ["table"]), "rr": (["rr", "--"], ["table"]),
-         "rank": (["rank", "--"], ["table", "degree"]), "rehearse": (["rehearse", "--"], ["table", "steps"]),
+ASKED = {"judge": (["judge", "--order", "--"], ["table"]), "rehearse": (["rehearse", "--"], ["table", "steps"]),
          "judge --lines": (["judge", "--lines"], ["tables"])}
+# What it is asked for the table as a line, whose answer reaches past the limits of one test: with the texts after the table.
+BY_LINE = {"rr": [], "rank": ["degree"]}
 
 
 class OwnGame(Game):
@@ -99,7 +100,10 @@ class Alone:
         table = text("table")
         if command in ASKED:
             words, names = ASKED[command]
-            return await run(*words, *(text(name) if name == "degree" else text(name).encode() for name in names))
+            return await run(*words, *(text(name).encode() for name in names))
+        if command in BY_LINE:
+            line = table.replace("\n", " ").encode() + b"\n"
+            return of_line(await run(command, "--lines", "--", line, *map(text, BY_LINE[command])))
         if command == "begin":
             return await self.begin(table, [line for line in text("steps").split("\n") if line])
         if command == "layout":
@@ -179,6 +183,12 @@ async def made(make):
         return {"status": fault.status, "out": "", "err": fault.text}
     except ValueError as error:
         raise Refused(409, str(error)) from None
+
+
+def of_line(said):
+    """What a run of one line says, as a run for one table says it: what is refused is a fault."""
+    refused, fault = said["out"].startswith("refused "), said["out"][len("refused "):].rstrip("\n")
+    return {"status": 3, "out": "", "err": fault} if refused else said
 
 
 async def run(*words):

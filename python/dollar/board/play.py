@@ -12,8 +12,8 @@ with --rooms K there is one for each K pupils. The teacher's page hands out the 
 which may end with a port, it also answers to that name: the name of this machine, or of a tunnel that leads here. With --teacher-here
 the teacher's page can be opened on this machine alone.
 
-With --keep FOLDER the class is kept in that folder while it goes on, with its addresses, its names and its games. The same command
-goes on with it, no matter what ended the first.
+With --keep FOLDER the class is kept in that folder while it goes on, with its addresses, its names and its games. To resume, run the
+same command again, even after a crash.
 
 With --places PLACES each line 'name x y' of a file is the place of a vertex; x goes to the right, and y down. With --no-browser no
 browser is opened, and with --port PORT the address has that port. In a clone the command is `board/play`, and once installed it is
@@ -23,6 +23,7 @@ import asyncio
 import os
 import re
 import signal
+import socket
 import sys
 import threading
 import webbrowser
@@ -32,8 +33,8 @@ from dollar.board.classroom import Classroom
 from dollar.board.game import MOST_SEATS, Table
 from dollar.board.keeping import Keeper
 from dollar.board.pages import forward
-from dollar.board.server import ANY, Server, address_of, new_secret
-from dollar.program import printed, typed
+from dollar.board.server import ANY, Server, address_of, is_loopback, new_secret
+from dollar.program import Fault, printed, typed
 from dollar.table import EXAMPLES, shown_name, text_of
 
 LOOPBACK = "127.0.0.1"
@@ -163,12 +164,17 @@ async def serve_class(given, tables):
         room.address, room.port = base + room.secret + "/", server.port
         room.changed()
         desk = base_of(host, server) if given.teacher_here else base
-        told = "can be opened from other machines of this network" if given.host else "can be opened on this machine alone"
+        told = "can be opened on this machine alone" if is_here_alone(host) else "can be opened from other machines of this network"
         print("The table %s.\n\nFor the pupils:    %s\nFor the teacher:   %s%s/\n\nCtrl-D or Ctrl-C ends it."
               % (told, room.address, desk, room.teacher), flush=True)
         await until_ended(given, server, host, room.teacher, ending)
     finally:
         await room.stop()
+
+
+def is_here_alone(host):
+    """Whether an address that the server listens on, or a name of one, leads to this machine alone."""
+    return all(is_loopback(place) for *_, place in socket.getaddrinfo(host, None))
 
 
 async def begun(server, port):
@@ -196,8 +202,11 @@ def main(words):
     given = arguments(words)
     own = None if given.places is None else text_of(given.places)
     texts = {shown_name(file): text_of(file) for file in given.files}
-    for text in texts.values():
-        printed("judge", text.encode())
+    for name, text in texts.items():
+        try:
+            printed("judge", text.encode())
+        except Fault as fault:
+            raise ValueError("%s: %s" % (name, fault)) from None
     tables = [Table(name, text, None if number else own) for number, (name, text) in enumerate(texts.items())]
     asyncio.run((serve_class if given.seats else serve_alone)(given, tables))
     return 0

@@ -4,7 +4,7 @@ ghost use Rattle.std.specs.Prelude.{◌<◌};
 
 use crate::burn::reference::burn_anew;
 use crate::edges::{PATH, SQUARE, TRIANGLE};
-use dg_burn::{Counted, burn, burn_counted, capped_at};
+use dg_burn::{BurnCounts, burn, burn_counted, capped_at};
 use dg_chips::Wide;
 use dg_graph::Graph;
 use dg_reduce::is_solvent_off;
@@ -114,7 +114,7 @@ fn is_as_anew(rt: &impl Abort, graph: &Graph, q: usize, chips: &Wide) {
     is_joined(rt, graph, &counted);
 }
 
-fn is_joined(rt: &impl Abort, graph: &Graph, counted: &Counted) {
+fn is_joined(rt: &impl Abort, graph: &Graph, counted: &BurnCounts) {
     for v in 0..graph.size() {
         let out = graph.edges_out(counted.burnt.unburnt, v);
         assert!(rt; u32::from(counted.joined[v]) == out, "vertex {v}");

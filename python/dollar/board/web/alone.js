@@ -7,7 +7,7 @@ import { Hands } from "./hand.js";
 import { fewest, post, save, startPage, store, stored, sure } from "./page.js";
 import { layoutOf, placesText } from "./places.js";
 import { Viewer, bind, choose, element } from "./viewer.js";
-import { Game, linesOf } from "./words.js";
+import { Game, besideWords, linesOf } from "./words.js";
 
 const SOON = 400, EDITED = "an edited table";
 export let table, fileName, examples, viewer, hands, questions, editor;
@@ -171,7 +171,8 @@ async function find(text) {
 
 async function openFile(file) {
   if (!file) return;
-  hands.refuse(file.size > 1 << 20 ? "file too long" : await openTable(await file.text(), file.name));
+  const text = file.size > 1 << 20 ? "" : await file.text(), fault = text ? await openTable(text, file.name) : "file too long";
+  hands.refuse(fault, fault === null ? "" : besideWords(fault, text, file.name));
 }
 
 /* A puzzle: other dollars on a graph, of which the program has said whether it can be won. */

@@ -3,7 +3,13 @@
 
 import { still } from "./board.js";
 import { below, bind, element, lost, made } from "./viewer.js";
-import { answerOf, debtWords, dollars, faultWords, linesOf, listed, lossWords, planned, replyWords } from "./words.js";
+import { answerOf, debtWords, dollars, faultWords, linesOf, numbersOf, numbersWords, planned, rankWords, replyWords } from "./words.js";
+
+/* How many edges lead from a vertex to those that burn. */
+function edgesTo(name, burning, edges) {
+  const ends = [...edges].map(([key, count]) => [...key.split(" "), count]);
+  return ends.reduce((sum, [u, v, count]) => sum + ((u === name && burning.includes(v)) || (v === name && burning.includes(u)) ? count : 0), 0);
+}
 
 export class Questions {
   /* `ask` puts a question to the program, and `play` plays a line. */
@@ -67,25 +73,19 @@ export class Questions {
   async rank() {
     const printed = await this.answer({ command: "rr" });
     if (printed === null) return;
-    const rank = /^rank (-?\d+)$/m.exec(printed);
-    if (!rank) return this.tell("The program gives no rank.", printed);
-    const degree = Number(rank[1]) + 1;
-    const tested = await this.answer({ command: "rank", degree: String(degree) });
+    const { rank } = numbersOf(linesOf(printed)[0]);
+    if (rank === "?") return this.tell(rankWords(rank), printed);
+    const tested = await this.answer({ command: "rank", degree: String(Number(rank) + 1) });
     if (tested === null) return;
-    const reply = answerOf(linesOf(tested)[0]);
-    const first = degree === 0 ? "It can't be won as it stands."
-      : `The first way to lose ${dollars(degree)} that can't be borne: ${lossWords(reply.loss)}.`;
-    this.tell(`The rank is ${rank[1]}. ${first}`, printed + tested);
-    this.mark(reply.loss, lost);
+    const { loss } = answerOf(linesOf(tested)[0]);
+    this.tell(rankWords(rank, loss), printed + tested);
+    this.mark(loss || new Map(), lost);
   }
 
   async numbers() {
     const printed = await this.answer({ command: "rr" });
     if (printed === null) return;
-    const number = Object.fromEntries(linesOf(printed).map((line) => line.split(" ")));
-    this.tell(`The degree, the total of the dollars, is ${number.degree}. The genus, edges minus vertices plus 1, is ${number.genus}. `
-      + `The rank is ${number.rank}, and the rank of K - D is ${number.dual}. `
-      + "By Riemann-Roch, the first rank minus the second is degree + 1 - genus.", printed);
+    this.tell(numbersWords(numbersOf(linesOf(printed)[0])), printed);
   }
 
   /* The fire, in the order that the program tells. */
@@ -98,14 +98,13 @@ export class Questions {
     for (const [count, next] of burning.entries()) {
       if (count > 0 && !still.matches) await new Promise((done) => setTimeout(done, 700));
       if (this.reply !== asked) return;
-      const left = game.names.filter((name) => !burning.slice(0, count).includes(name));
-      const who = left.length === 1 ? `if ${next} lent` : `if ${listed(left)} lent at once`;
-      const why = count === 0 ? "it owes, and a giver gets nothing" : `${who}, ${next} would owe`;
+      const hot = edgesTo(next, burning.slice(0, count), edges), has = dollars(reduced.get(next));
+      const why = count === 0 ? "it owes, and who lends most gets nothing" : `${hot === 1 ? "1 burning edge" : `${hot} burning edges`}, ${has}`;
       this.viewer.board.burnt = burning.slice(0, count + 1);
       this.viewer.board.show(state, game.table.q);
-      this.line(`${next} burns: ${why}. So it isn't a giver.`);
+      this.line(`${next} burns: ${why}. So ${next} can't be one of those that lend most.`);
     }
-    this.line("All burn: there are no givers, and nobody can help.");
+    this.line("All burn: nobody can lend most, so no lendings help.");
   }
 
   line(words) {

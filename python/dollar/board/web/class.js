@@ -7,14 +7,14 @@ import { Hands } from "./hand.js";
 import { fewest, post, save, startPage, store, stored, sure } from "./page.js";
 import { fitted, layoutOf } from "./places.js";
 import { Viewer, bind, button, element, made, say } from "./viewer.js";
-import { Game, faultWords, movesWords } from "./words.js";
+import { Game, besideWords, faultWords, movesWords } from "./words.js";
 
 const SOON = 16, LETTERS = 24, WORDS_HIGH = 85, TITLE_HIGH = 60, GROUPS = [0, 1, 2, 3, 4, 5, 6];
 const CHANGES = ["moved", "given", "joined"];
 const FILES = { "take-table": "table.json", "take-steps": "steps.txt", "take-history": "history.txt" };
 const SWITCHES = ["gifts", "edges", "questions", "undo", "hints"];
 const KEPT = `dollar ${location.pathname.replaceAll("-", "").toLowerCase()}`;
-export let given, viewer, hands, editor, source, me = null, state = null, waiting = [], had = 0, large = 1;
+export let given, viewer, hands, editor, source, me = null, state = null, waiting = [], received = 0, shownRoom = 1;
 const MEANWHILE = 200;
 let preview = [140, 110], frame = null, took = 0, last = 0, stopped = false, broken = false, missed = false;
 export const entries = new Map(), rooms = new Map();
@@ -47,7 +47,7 @@ async function join() {
   sit();
 }
 
-function stand(words) {
+function leaveSeat(words) {
   keep(null);
   if (source) source.close();
   // What is still to be drawn says nothing over these words.
@@ -82,14 +82,14 @@ function sit() {
 
 function listen(path) {
   if (source) source.close();
-  source = new EventSource(`${path}from=${given.feed}.${had}`);
+  source = new EventSource(`${path}from=${given.feed}.${received}`);
   source.addEventListener("table", (event) => handed(JSON.parse(event.data)));
   source.addEventListener("entries", (event) => taken(...JSON.parse(event.data)));
   source.addEventListener("state", (event) => {
     state = JSON.parse(event.data);
-    later();
+    scheduleFlush();
   });
-  source.addEventListener("freed", () => stand("Your seat was freed. You can take another."));
+  source.addEventListener("freed", () => leaveSeat("Your seat was freed. You can take another."));
   source.addEventListener("asleep", () => {
     source.close();
     notice("This seat is open in too many pages. This page shows nothing new until you load it again.");
@@ -97,12 +97,12 @@ function listen(path) {
   source.addEventListener("open", () => {
     if (broken && hands) hands.tell("");
     broken = false;
-    later();
+    scheduleFlush();
   });
   source.addEventListener("error", () => {
     broken = true;
     if (source.readyState !== EventSource.CLOSED) notice("There is no connection to the game. The page tries again.");
-    else seek(path);
+    else checkSeat(path);
   });
 }
 
@@ -111,10 +111,10 @@ function listen(path) {
 
 const AGAIN = 2000;
 
-async function seek(path) {
+async function checkSeat(path) {
   try {
     const got = await fetch("start");
-    if (got.ok && me) return stand("This is no longer your seat. You can take another.");
+    if (got.ok && me) return leaveSeat("This is no longer your seat. You can take another.");
     if (got.status === 404 && (await got.text()) === "there is nothing here") return notice("The game is not there any more.");
   } catch {
     /* It is tried again. */
@@ -128,13 +128,13 @@ async function seek(path) {
 
 function handed(thing) {
   Object.assign(given, thing);
-  [had, waiting] = [0, []];
+  [received, waiting] = [0, []];
   entries.clear();
   clearRooms();
   if (editor && editor.draft) editor.leave();
-  large = thing.room || 1;
+  shownRoom = thing.room || 1;
   element("title").textContent = document.title = `${teaches() ? "For the teacher" : "The dollar game"}: ${given.name}`;
-  const { game } = roomOf(large);
+  const { game } = roomOf(shownRoom);
   viewer.board.chosen.clear();
   viewer.reset(game, 0, layoutOf(given.layout));
   if (hands) {
@@ -160,40 +160,40 @@ function roomOf(number) {
 
 function taken(from, come) {
   come.forEach((item, i) => {
-    if (from + i !== had) return;
+    if (from + i !== received) return;
     waiting.push(item);
-    had += 1;
+    received += 1;
   });
-  later();
+  scheduleFlush();
 }
 
 /* What comes is drawn at once, and what comes soon after it together, however much; a browser that is slow to draw draws seldom. */
 
-function later() {
-  if (frame === null) frame = setTimeout(drawn, Math.max(0, last + Math.max(SOON, 4 * took) - performance.now()));
+function scheduleFlush() {
+  if (frame === null) frame = setTimeout(flush, Math.max(0, last + Math.max(SOON, 4 * took) - performance.now()));
 }
 
-function drawn() {
+function flush() {
   frame = null;
   const start = performance.now(), follows = viewer.now === viewer.game.length;
   let grown = false, leapt = null;
   for (const [number, ...item] of waiting) {
     const room = roomOf(number), words = item.length === 2 ? leap(room, ...item) : take(room, item);
     room.is_new = true;
-    if (number === large) [grown, leapt] = [true, words || leapt];
+    if (number === shownRoom) [grown, leapt] = [true, words || leapt];
   }
   waiting = [];
   // What comes while the teacher draws a table is shown after it.
   missed = missed || Boolean(editor && editor.draft);
   if (editor && editor.draft) {
-    frame = setTimeout(drawn, MEANWHILE);
+    frame = setTimeout(flush, MEANWHILE);
     return;
   }
   if (leapt || missed) viewer.reset(viewer.game, viewer.game.length);
   else if (grown) viewer.grown(follows);
   missed = false;
   if (leapt && hands) hands.note(leapt);
-  if (state) told();
+  if (state) showState();
   last = performance.now();
   took = last - start;
 }
@@ -224,8 +224,8 @@ function leap(room, count, name) {
   return `${who} taken the last move back.`;
 }
 
-function told() {
-  const { over, ends, paused, names } = state, end = over ? { status: 0 } : ends[large];
+function showState() {
+  const { over, ends, paused, names } = state, end = over ? { status: 0 } : ends[shownRoom];
   const pages = me && names[me.seat] ? names[me.seat].here : 1;
   if (stopped && !paused && !end && hands) hands.tell("");
   stopped = paused || Boolean(end);
@@ -266,7 +266,7 @@ function rowOf(seat, name, who) {
 
 /* What the teacher does not permit is not offered. */
 function permit() {
-  const { gifts, edges, questions, undo, hints } = state.may, { game, undone } = roomOf(large);
+  const { gifts, edges, questions, undo, hints } = state.may, { game, undone } = roomOf(shownRoom);
   const parts = { "gift-form": gifts, "join-form": edges, "draw-hint": edges, look: questions, commit: questions, ask: questions,
     "rank-form": questions, undo, redo: undo, hint: hints };
   for (const [id, permitted] of Object.entries(parts)) element(id).hidden = !permitted;
@@ -300,7 +300,7 @@ function showRooms() {
   box.hidden = size === 0;
   element("done").hidden = size === 0 || Boolean(one);
   if (size === 0) return;
-  if (one && one !== large) enlarge(one);
+  if (one && one !== shownRoom) enlarge(one);
   document.body.classList.toggle("one-room", Boolean(one));
   document.body.classList.toggle("all-rooms", !one && !teaches());
   box.classList.toggle("list", shown === "done");
@@ -331,7 +331,7 @@ function showRoom(room, listed) {
   who.textContent = names;
   how.textContent = `${won ? "done in " : ""}${movesWords(state_.moves)}${backs ? `, ${backs} taken back` : ""}`;
   room.part.classList.toggle("done", won);
-  room.part.setAttribute("aria-current", number === large);
+  room.part.setAttribute("aria-current", number === shownRoom);
   if (room.is_new && !listed) {
     room.board.layout = fitted(layoutOf(given.layout), ...preview);
     room.board.show(state_, game.table.q);
@@ -342,11 +342,11 @@ function showRoom(room, listed) {
 
 /* Shows the board of a room large. */
 function enlarge(number) {
-  large = number;
+  shownRoom = number;
   const { game } = roomOf(number);
   viewer.reset(game, game.length);
   for (const [id, file] of Object.entries(FILES)) element(id).href = `${file}?room=${number}`;
-  later();
+  scheduleFlush();
 }
 
 /* What a seat plays. */
@@ -372,7 +372,7 @@ async function hint() {
 async function sent(path, thing) {
   if (!me) return hands.tell("Take a seat first.");
   const got = await hands.patient(post(path, { key: me.key, feed: given.feed, ...thing }));
-  if (got.status === 404) return seek(`events?key=${encodeURIComponent(me.key)}&`);
+  if (got.status === 404) return checkSeat(`events?key=${encodeURIComponent(me.key)}&`);
   if (got.status === null) return hands.tell(`${got.refused} The list shows whether the line was played.`);
   if (got.refused) return hands.tell(got.refused);
   const bad = got.answer && got.answer.startsWith("bad ");
@@ -392,7 +392,7 @@ function freeing(seat, name, bars = false) {
 
 async function command(path, thing) {
   const got = await post(path, thing);
-  say("teacher-refused", got.refused && faultWords(got.refused, got.refused));
+  say("teacher-refused", got.refused && `${faultWords(got.refused, got.refused)} ${besideWords(got.refused, thing.table, thing.name)}`.trim());
   return got;
 }
 
@@ -511,7 +511,7 @@ function teach() {
       if (secret) location.replace(`/${secret}/`);
     },
     async "take-page"() {
-      const got = await command("replay", { room: large });
+      const got = await command("replay", { room: shownRoom });
       if (got.page) save("game.html", got.page, "text/html");
     },
   });
@@ -533,8 +533,8 @@ async function start() {
   given = await (await fetch("start")).json();
   const { game } = roomOf(1);
   viewer = new Viewer(game, layoutOf(given.layout), {
-    hands: !teaches(), who: (seat, index) => roomOf(large).items[index - 1][3], speaks: (step) => me && Number(step.seat) === me.seat,
-    fewest: (moves) => (me ? fewest(tableOf(large), moves) : null),
+    hands: !teaches(), who: (seat, index) => roomOf(shownRoom).items[index - 1][3], speaks: (step) => me && Number(step.seat) === me.seat,
+    fewest: (moves) => (me ? fewest(tableOf(shownRoom), moves) : null),
   });
   viewer.filled(0);
   viewer.afterShow = () => {

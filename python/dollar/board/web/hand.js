@@ -205,7 +205,7 @@ export class Hands {
   }
 
   /* Says what the program has refused, if it has. */
-  refuse(fault) {
-    refuse("refused", fault);
+  refuse(fault, beside) {
+    refuse("refused", fault, beside);
   }
 }

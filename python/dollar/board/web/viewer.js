@@ -2,7 +2,9 @@
 
 import { Board, still } from "./board.js";
 import { fitted } from "./places.js";
-import { commandWords, debtWords, faultWords, flowWords, legendWords, markOf, mostTelling, movesWords, often, planned, replyWords } from "./words.js";
+import {
+  commandWords, debtWords, faultWords, flowWords, legendWords, markOf, mostTelling, movesWords, often, planned, replyWords, startWords,
+} from "./words.js";
 
 export const element = (id) => document.getElementById(id);
 // The marks of a long game, which all are looked at for, are drawn when no more steps come for a while.
@@ -47,10 +49,10 @@ export function say(id, words, own = "") {
   box.querySelector("code").textContent = own;
 }
 
-/* Says in the box what the program has refused, or else the server, or nothing if that is null. */
-export function refuse(id, fault) {
+/* Says in the box what the program has refused, or else the server, or nothing if that is null; and what is to be said beside it. */
+export function refuse(id, fault, beside = "") {
   const words = fault === null ? "" : faultWords(fault, "");
-  if (fault === null || words) say(id, words, words && `dollar: ${fault}`);
+  if (fault === null || words) say(id, words && `${words} ${beside}`.trim(), words && `dollar: ${fault}`);
   else say(id, `${fault[0].toUpperCase()}${fault.slice(1)}${fault.endsWith(".") ? "" : "."}`);
 }
 
@@ -180,7 +182,7 @@ export class Viewer {
     const step = game.steps[index - 1], reply = game.replies[index - 1];
     document.querySelector("#now [aria-live]").setAttribute("aria-live", !index || this.speaks(step) ? "polite" : "off");
     this.showEnd();
-    element("place").textContent = index ? `Step ${index} of ${game.length}` : `The start, before ${game.length} steps`;
+    element("place").textContent = index ? `Step ${index} of ${game.length}` : startWords(game.length);
     element("step").textContent = index ? `${this.who(step.seat, index)}: ${commandWords(step)}` : "The table at the start";
     element("moves").textContent = index && reply.kind === "moved" ? flowWords(state.edges, step.script) : "";
     element("answer").textContent = index ? replyWords(reply, state.amounts, game.table.q) : debtWords(state.amounts);

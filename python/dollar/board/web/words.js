@@ -191,6 +191,10 @@ export function flowWords(edges, script) {
 
 export const owing = (amounts) => [...amounts].filter(([, amount]) => amount < 0);
 
+export function startWords(steps) {
+  return steps === 0 ? "Start. No moves yet." : `Start, before ${steps === 1 ? "1 step" : `${steps} steps`}`;
+}
+
 export const movesWords = (count) => (count === 1 ? "1 move" : `${count} moves`);
 
 export function debtWords(amounts) {
@@ -200,6 +204,32 @@ export function debtWords(amounts) {
 
 export function lossWords(loss) {
   return listed([...loss].filter(([, count]) => count > 0).map(([name, count]) => `${dollars(count)} at ${name}`)) || "nothing";
+}
+
+/* What the program says of a rank, by the line of a sweep: past the limits of one test a loss, or both ranks, may be `?`. */
+
+export function numbersOf(line) {
+  const words = line.split(" ");
+  return Object.fromEntries(words.filter((_, i) => i % 2 === 0).map((name, i) => [name, words[2 * i + 1]]));
+}
+
+const PAST = "too many losses would have to be tried";
+
+export function numbersWords({ degree, genus, rank, dual }) {
+  const ranks = rank === "?" && dual === "?" ? `Neither rank is known, since ${PAST}.`
+    : `The rank is ${rank}, and the rank of K - D is ${dual}.`;
+  return `The degree, the total of the dollars, is ${degree}. The genus, edges minus vertices plus 1, is ${genus}. ${ranks} `
+    + "By Riemann-Roch, the first rank minus the second is degree + 1 - genus.";
+}
+
+/* The rank, with the loss that shows that it is no more, if there is one. */
+export function rankWords(rank, loss) {
+  if (rank === "?") return `The rank is not known, since ${PAST}.`;
+  const degree = Number(rank) + 1, known = `The rank is ${rank}.`;
+  if (degree === 0) return `${known} It can't be won as it stands.`;
+  if (!loss) return `${known} Some loss of ${dollars(degree)} is too much; which one is not known, since ${PAST}.`;
+  const told = [...loss].filter(([, count]) => count > 0).map(([name, count]) => `${name} loses ${dollars(count)}`);
+  return `${known} If ${listed(told)}, the debts can no longer be cleared.`;
 }
 
 const { limits } = GRAMMAR;
@@ -275,13 +305,33 @@ export const FAULTS = {
   "bad form": "The command has too many words or too few, or an extra space.",
   "bad name": "It names a vertex that is not there, or one twice.",
   "bad number": "A number in it is missing, badly written or out of range.",
-  "bad look": "This seat has not looked since its last verdict. It looks first.",
+  "bad look": "Look first: this seat has no look to use.",
   "bad trials": "That rank test is too large.",
   "the history is full": `The history is full: it has ${limits["dg_rules::MAX_ENTRIES"]} entries.`,
   "long line": "The line is too long.",
   "file too long": "The file has more than a megabyte.",
   "too many trials": "That rank test is too large.",
 };
+
+/* The value in a table that a fault is about. */
+const edgesOf = ({ vertices, edges }, i) => edges.reduce((sum, [u, v, count]) => sum + (u === vertices[i] || v === vertices[i] ? count : 0), 0);
+const VALUES = {
+  "shape of edge #": ({ edges }, i) => edges[i], "number of vertices": ({ vertices }) => vertices.length,
+  "name of vertex #": ({ vertices }, i) => vertices[i], "vertex # named twice": ({ vertices }, i) => vertices[i],
+  "edge # has no vertex": ({ edges }, i) => edges[i], "edge # is a loop": ({ edges }, i) => edges[i],
+  "edge # is empty": ({ edges }, i) => edges[i], "valence of vertex #": edgesOf, "number of amounts": ({ amounts }) => amounts.length,
+  "amount of vertex #": ({ amounts }, i) => amounts[i], "no vertex q": ({ q }) => q,
+};
+
+/* What the words of a fault don't have: the value in the text of the table, and the name of its file. */
+export function besideWords(text, table, file = "") {
+  const value = VALUES[text.replace(/\d+/, "#")], place = file && `The file is ${file}.`;
+  try {
+    return [`It is ${JSON.stringify(value(JSON.parse(table), Number(/\d+/.exec(text))))} here.`, place].filter(Boolean).join(" ");
+  } catch {
+    return place;
+  }
+}
 
 export function faultWords(text, otherwise = "The program has refused this.") {
   const words = FAULTS[text.replace(/\d+/, "#")];

@@ -1,29 +1,26 @@
 -- One value, one content, one table or one fault.
-use Rattle.dg_file.proofs.Common.{◌≡◌, ℕ, List, length, sym, ap, ◌∙◌, StartData, Content, place_of, IsTable, IsTableFile, AreSameOpenings, FilesHaveOneMeaning}
+use Rattle.dg_file.proofs.Common.{◌≡◌, ℕ, List, length, sym, ap, ◌∙◌, StartData, Content, place_of, IsTable, IsTableFile, held_once, one_graph, FilesHaveOneMeaning}
 use Rattle.dg_file.proofs.OneContent.{found-once, same-value, same-content}
-use Rattle.dg_file.proofs.OneTable.{at-one}
 use Rattle.dg_file.proofs.OneFile.{file-none, file-one}
 use Rattle.dg_file.proofs.laws.files_have_one_meaning.Goals as goal
 
-alike : (content : Content) (o p : StartData) (names others : List (List ℕ)) → IsTable content o names
-    → IsTable content p others → AreSameOpenings o p × (names ≡ others)
-alike content o p names others a b =
-    let same : names ≡ others = a.given ∙ sym b.given in (
-      record {
-        size = a.graph.size ∙ ap length same ∙ sym b.graph.size;
-        edges = λ u v. a.graph.edges u v ∙ sym (b.graph.edges u v);
-        amounts = at-one content.amounts o.divisor p.divisor a.amounts b.amounts a.within b.within;
-        vertex = found-once (place_of others content.q) o.q p.q (rw same at a.vertex) b.vertex;
-      },
-      same,
-    )
+one-described : (content : Content) (o p : StartData) (names others : List (List ℕ)) → IsTable content o names
+    → IsTable content p others → (o ≡ p) × (names ≡ others)
+one-described content o p names others a b =
+    let same : names ≡ others = a.given ∙ sym b.given in
+    let graph : o.graph ≡ p.graph = one_graph o.graph p.graph a.graph.graph b.graph.graph
+    (a.graph.size ∙ ap length same ∙ sym b.graph.size) (λ u v. a.graph.edges u v ∙ sym (b.graph.edges u v)) in
+    let divisor : o.divisor ≡ p.divisor =
+    held_once 1000000 content.amounts o.divisor p.divisor a.amounts b.amounts a.within b.within in
+    let vertex : o.q ≡ p.q = found-once (place_of others content.q) o.q p.q (rw same at a.vertex) b.vertex in
+    (λ i. record { graph = graph i; divisor = divisor i; q = vertex i }, same)
 
 one-table : (bytes : List ℕ) (o p : StartData) (names others : List (List ℕ)) → IsTableFile bytes o names
-    → IsTableFile bytes p others → AreSameOpenings o p × (names ≡ others)
+    → IsTableFile bytes p others → (o ≡ p) × (names ≡ others)
 one-table bytes o p names others a b =
     let value : a.value ≡ b.value = same-value bytes a.value b.value a.reads b.reads in
     let content : a.content ≡ b.content = same-content b.value a.content b.content (rw value at a.says) b.says in
-    alike b.content o p names others (rw content at a.describes) b.describes
+    one-described b.content o p names others (rw content at a.describes) b.describes
 
 one : FilesHaveOneMeaning
 one = record { table = one-table; refused = file-none; fault = file-one }

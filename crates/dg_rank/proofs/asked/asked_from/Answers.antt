@@ -1,4 +1,4 @@
-use Rattle.dg_rank.proofs.Common.{◌≡◌, ℕ, ◌≤◌, arith, inl, inr, ⊎_elim, subst, length, slice_index, in_set, IsMadeFor}
+use Rattle.dg_rank.proofs.Common.{◌≡◌, ℕ, arith, ⊎_elim, subst, slice_index, in_set, IsMadeFor}
 use Rattle.dg_rank.proofs.AskedVertices.{IsAllFrom, set_determines, asked_set, made_at}
 use Rattle.dg_rank.proofs.asked.asked_from.Goals as goal
 use Rattle.dg_rank.proofs.asked.asked_from.Goals.{After-determining_set-set}

@@ -1,5 +1,5 @@
 use Rattle.dg_rank.proofs.Common.{arith, at, in_set}
-use Rattle.dg_rank.proofs.AskedVertices.{IsAllFrom, all_determine, told_from}
+use Rattle.dg_rank.proofs.AskedVertices.{all_determine, told_from}
 use Rattle.dg_rank.proofs.asked.find_from.Goals as goal
 
 pub returns-in-Ok-clause-told : goal.returns-in-Ok-clause-told

@@ -1,4 +1,4 @@
-use Rattle.dg_rank.proofs.Common.{arith, refl, in_set, how_many}
+use Rattle.dg_rank.proofs.Common.{refl, in_set}
 use Rattle.dg_rank.proofs.AskedVertices.{asked_within, asked_told}
 use Rattle.dg_rank.proofs.asked.may_ask.Goals as goal
 

@@ -1,4 +1,4 @@
-use Rattle.dg_rank.proofs.Common.{◌≡◌, ℕ, ◌<◌, ◌≤◌, true, arith, sym, ◌∙◌, ⊎_elim, cases_eq, both_ways, in_set, in_set-none}
+use Rattle.dg_rank.proofs.Common.{◌≡◌, arith, sym, ◌∙◌, ⊎_elim, cases_eq, both_ways, in_set-none}
 use Rattle.dg_rank.proofs.asked.vertices_from.Goals as goal
 
 pub loop-v-init : goal.loop-v-init

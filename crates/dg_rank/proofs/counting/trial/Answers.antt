@@ -5,13 +5,8 @@ use Rattle.dg_rank.proofs.counting.trial.Goals as goal
 
 pub to_divisor-requires : goal.to_divisor-requires
 to_divisor-requires c =
-    let (count, limits, small) = c.requires in (
-      c.args.n,
-      c.args.k,
-      count,
-      limits,
-      rw c.with_number.ensures (limits_trial c.args.n c.args.k count c.args.i limits small),
-    )
+    let (count, limits, small) = c.requires in
+    rw c.with_number.ensures (omega (arith, (limits_trial c.args.n c.args.k count c.args.i limits small).amount, limits.small))
 
 pub returns : goal.returns
 returns c =

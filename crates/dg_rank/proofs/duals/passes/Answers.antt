@@ -1,6 +1,6 @@
 use Rattle.dg_rank.proofs.Common.{◌≡◌, ◌<◌, arith, refl, ◌≤ℤ◌, ◌<ℤ◌, min, ints, pos, ◌-ℤ◌, genus, degree, equivalent-refl, rich_rank, equivalent-rank, at, IsPastAsked}
 use Rattle.std.proofs.Math.IntN.{◌+ℤ◌}
-use Rattle.dg_rank.proofs.DualTests.{decided, unsettled-cong, unsettled_dual, dual_passes, both_past, told_rich, told_past_half, told_within, fails_past_half}
+use Rattle.dg_rank.proofs.DualTests.{decided, dual_passes, both_past, told_rich, told_past_half, told_within, fails_past_half}
 use Rattle.dg_rank.proofs.duals.passes.Goals as goal
 
 pub returns-then-rest-from-clause-tells : goal.returns-then-rest-from-clause-tells
@@ -44,20 +44,6 @@ pub all_win-requires-clause-range : goal.all_win-requires-clause-range
 all_win-requires-clause-range c v inside =
     let below : v < c.args.divisor.now.size = omega (arith, c.requires.size) in
     omega (arith, ints, c.of.ensures.amounts v below, c.size-amounts.ensures.divisor.within v below)
-
-pub all_win-requires-clause-unsettled : goal.all_win-requires-clause-unsettled
-all_win-requires-clause-unsettled c =
-    let g = c.args.graph.now in
-    let rest : c.degree_left-rest.result ≡ degree g.size (at c.args.divisor.now) -ℤ pos c.args.k =
-    rw c.requires.size at c.degree_left-rest.ensures in
-    unsettled-cong g (at c.of.result) (at c.args.divisor.now) c.args.k
-    (λ v inside. c.of.ensures.amounts v (omega (arith, c.requires.size)))
-    (record { least = omega (arith, ints); most = omega (arith, ints) })
-
-pub all_win-requires-else-k-other-clause-unsettled : goal.all_win-requires-else-k-other-clause-unsettled
-all_win-requires-else-k-other-clause-unsettled c =
-    unsettled_dual c.args.graph.now (at c.args.divisor.now) (at c.dual_of.result) c.args.k c.degree_of_dual-other.result
-    c.size-size.ensures.graph.multigraph (omega (arith, ints)) c.degree_of_dual-other.ensures c.dual_of.ensures.amounts
 
 pub returns-then-k-other-clause-tells : goal.returns-then-k-other-clause-tells
 returns-then-k-other-clause-tells c =

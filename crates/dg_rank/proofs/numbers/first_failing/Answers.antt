@@ -3,7 +3,7 @@ use Rattle.std.proofs.Math.IntN.{◌+ℤ◌}
 use Rattle.dg_rank.proofs.AskedVertices.{none_made}
 use Rattle.dg_rank.proofs.DualTests.{told_rich}
 use Rattle.dg_rank.proofs.RankByTests.{not_all_pass, tests_suffice}
-use Rattle.dg_rank.proofs.SmallAmounts.{genus_small, genus_least}
+use Rattle.dg_rank.proofs.SmallDegrees.{genus_small, genus_least}
 use Rattle.dg_rank.proofs.TestDegrees.{rich_below, first_small, last_small, one_more, last_tested, through}
 use Rattle.dg_rank.proofs.numbers.first_failing.Goals as goal
 

@@ -1,7 +1,7 @@
-use Rattle.dg_rank.proofs.Common.{◌≡◌, ◌<◌, arith, refl, ◌≤ℤ◌, ◌<ℤ◌, ints, pos, ◌-ℤ◌, genus, degree, rich_rank, at, IsWithinLimits, IsFirstLossIn}
+use Rattle.dg_rank.proofs.Common.{◌≡◌, ◌∙◌, arith, refl, ◌≤ℤ◌, ints, pos, ◌-ℤ◌, genus, degree, rich_rank, at, IsFirstLossIn}
 use Rattle.std.proofs.Math.IntN.{◌+ℤ◌}
-use Rattle.dg_rank.specs.Numbering.{nth_trial}
-use Rattle.dg_rank.proofs.FirstLosses.{nth-trial, found_loss, some_number, poor_loss}
+use Rattle.dg_rank.proofs.FirstLosses.{found_loss, poor_loss}
+use Rattle.dg_rank.proofs.Leaps.{first_at, first_sum}
 use Rattle.dg_rank.proofs.ranks.settled.Goals as goal
 
 pub returns-then-rest-from : goal.returns-then-rest-from
@@ -16,35 +16,24 @@ returns-then-rest-from c =
           (at c.args.divisor.now) c.args.k c.size-size.ensures.graph.multigraph within.some rich,
     )
 
-pub with_number-requires : goal.with_number-requires
-with_number-requires c =
-    let (count, given) = c.requires.limits in
-    let within : IsWithinLimits c.size-size.result c.args.k count = rw (← c.size-size.ensures.size) at given in
-    (count, within, some_number c.size-size.result c.args.k count within)
-
 pub to_divisor-first-requires : goal.to_divisor-first-requires
 to_divisor-first-requires c =
-    let (count, given) = c.requires.limits in
-    let within : IsWithinLimits c.size-size.result c.args.k count = rw (← c.size-size.ensures.size) at given in
-    let some : 0 < count = some_number c.size-size.result c.args.k count within in (
-      c.size-size.result,
-      c.args.k,
-      count,
-      within,
-      rw c.with_number.ensures (nth-trial c.size-size.result c.args.k count 0 within some),
-    )
+    let (count, within) = c.requires.limits in
+    let all = first_sum c.size-size.result c.args.k c.at_last.result (omega (arith, within.some, c.size-size.ensures.size))
+    c.at_last.ensures.places c.at_last.ensures.held c.at_last.ensures.empty in
+    omega (arith, within.small)
 
 pub returns-then-rest-lt0 : goal.returns-then-rest-lt0
 returns-then-rest-lt0 c =
+    let g = c.args.graph.now in
+    let D = at c.args.divisor.now in
     let (count, within) = c.requires.limits in
-    let first : c.with_number.result ≡ nth_trial c.args.graph.now.size c.args.k 0 =
-    rw c.size-size.ensures.size at c.with_number.ensures in
-    let rest : c.degree_left-rest.result ≡ degree c.args.graph.now.size (at c.args.divisor.now) -ℤ pos c.args.k =
+    let rest : c.degree_left-rest.result ≡ degree g.size D -ℤ pos c.args.k =
     rw c.requires.size at c.degree_left-rest.ensures in
-    let poor : degree c.args.graph.now.size (at c.args.divisor.now) <ℤ pos c.args.k = omega (arith, ints) in
-    let loss : IsFirstLossIn c.args.graph.now (at c.args.divisor.now) c.args.k 0 count c.with_number.result =
-    rw first (poor_loss c.args.graph.now
-    (at c.args.divisor.now) c.args.k count c.size-size.ensures.graph.multigraph poor within) in
-    let (size, found) = found_loss c.args.graph.now (at c.args.divisor.now) c.args.k count c.with_number.result
-    c.to_divisor-first.result within loss c.to_divisor-first.ensures in
+    let loss : IsFirstLossIn g D c.args.k 0 count c.at_last.result =
+    rw (first_at g.size c.args.k c.at_last.result within.some (c.at_last.ensures.places ∙ c.size-size.ensures.size)
+    (rw c.size-size.ensures.size at c.at_last.ensures.held) (rw c.size-size.ensures.size at c.at_last.ensures.empty))
+    (poor_loss g D c.args.k count c.size-size.ensures.graph.multigraph (omega (arith, ints)) within) in
+    let (size, found) = found_loss g D c.args.k count c.at_last.result c.to_divisor-first.result within loss
+    c.to_divisor-first.ensures in
     (refl, size, found)

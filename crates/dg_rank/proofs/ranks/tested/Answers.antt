@@ -1,7 +1,10 @@
-use Rattle.dg_rank.proofs.Common.{refl, equivalent-loss, equivalent-rank, at}
+use Rattle.dg_rank.proofs.Common.{◌≡◌, ℕ, ◌-◌, ◌<◌, slice_index, MatchOption, arith, ints, refl, ◌∙◌, equivalent-refl, at, IsWithinLimits, AllWin, IsFirstLossIn}
+use Rattle.dg_rank.specs.Numbering.{nth_trial}
 use Rattle.dg_rank.proofs.AskedVertices.{none_made}
-use Rattle.dg_rank.proofs.FixedBeginnings.{first_trial, first_is}
+use Rattle.dg_rank.proofs.FirstLosses.{some_number, found_all, found_trial}
+use Rattle.dg_rank.proofs.Leaps.{first_at}
 use Rattle.dg_rank.proofs.ranks.tested.Goals as goal
+use Rattle.dg_rank.proofs.ranks.tested.Goals.{After-at_last-first, After-first_in_block-loss}
 
 pub dual_wins-requires : goal.dual_wins-requires
 dual_wins-requires c =
@@ -9,49 +12,58 @@ dual_wins-requires c =
     record {
       size = c.requires.size;
       some = within.some;
-      unsettled = c.requires.unsettled;
       few = within.small;
       made = none_made c.args.graph.now within.few;
     }
 
-pub first_loss_by_boxes-requires : goal.first_loss_by_boxes-requires
-first_loss_by_boxes-requires c =
-    let (count, within) = c.requires.limits in
-    record {
-      some = within.some;
-      size = c.small_amounts-chips.ensures.size;
-      reduced = c.small_amounts-chips.ensures.reduced;
-      range = c.small_amounts-chips.ensures.small;
-      few = within.small;
-      made = c.if-dual_wins.ensures.made;
-    }
+pub first_in_block-loss-requires-clause-range : goal.first_in_block-loss-requires-clause-range
+first_in_block-loss-requires-clause-range c v inside =
+    let below : v < c.args.divisor.now.size = omega (arith, c.requires.size) in
+    omega (arith, ints, c.of.ensures.amounts v below, c.size-amounts.ensures.divisor.within v below)
 
-pub to_divisor-requires : goal.to_divisor-requires
-to_divisor-requires c =
+held : (c : After-at_last-first) → slice_index c.at_last-first.result (c.args.graph.now.size - 1) ≡ c.args.k
+held c = rw c.size-size.ensures.size at c.at_last-first.ensures.held
+
+first : (c : After-at_last-first) → (count : ℕ) → IsWithinLimits c.args.graph.now.size c.args.k count →
+    c.at_last-first.result ≡ nth_trial c.args.graph.now.size c.args.k 0
+first c count within =
+    first_at c.args.graph.now.size c.args.k c.at_last-first.result within.some
+    (c.at_last-first.ensures.places ∙ c.size-size.ensures.size) (held c)
+    (rw c.size-size.ensures.size at c.at_last-first.ensures.empty)
+
+pub first_in_block-loss-requires-clause-trial : goal.first_in_block-loss-requires-clause-trial
+first_in_block-loss-requires-clause-trial c =
     let (count, within) = c.requires.limits in (
-      c.args.graph.now.size,
       c.args.k,
       count,
+      0,
       within,
-      first_trial c.args.graph.now (at c.small_amounts-chips.result) c.args.k c.in-Some.loss c.in-Some.ensures,
+      some_number c.args.graph.now.size c.args.k count within,
+      first (goal.at.first_in_block-loss-requires-clause-trial c).After-at_last-first count within,
     )
 
-pub returns-in-Some : goal.returns-in-Some
-returns-in-Some c =
-    let (size, loss) = first_is c.args.graph.now (at c.small_amounts-chips.result) c.args.k c.in-Some.loss
-    c.to_divisor.result c.in-Some.ensures c.to_divisor.ensures in (
-      refl,
-      size,
-      (equivalent-loss c.args.graph.now (at c.args.divisor.now) (at c.small_amounts-chips.result) c.args.k
-          (at c.to_divisor.result) c.small_amounts-chips.ensures.fired).1 loss,
-    )
+found : (c : After-first_in_block-loss) → (count : ℕ) → IsWithinLimits c.args.graph.now.size c.args.k count →
+    MatchOption c.first_in_block-loss.result (AllWin c.args.graph.now (at c.of.result) c.args.k 0 count)
+    (IsFirstLossIn c.args.graph.now (at c.of.result) c.args.k 0 count)
+found c count within =
+    let d = (goal.at.After-first_in_block-loss c).After-at_last-first in
+    found_all c.args.graph.now (at c.of.result) c.args.k count c.at_last-first.result c.first_in_block-loss.result within
+    (held d) (c.first_in_block-loss.ensures.first c.args.k count 0 within
+    (some_number c.args.graph.now.size c.args.k count within) (first d count within))
 
-pub returns-in-None : goal.returns-in-None
-returns-in-None c = (
-  refl,
-  (equivalent-rank c.args.graph.now (at c.args.divisor.now) (at c.small_amounts-chips.result) c.args.k
-      c.small_amounts-chips.ensures.fired).1 c.in-None.ensures,
-)
+pub verdict_on-requires : goal.verdict_on-requires
+verdict_on-requires c =
+    let (count, within) = c.requires.limits in
+    found_trial c.args.graph.now (at c.of.result) c.args.k count c.first_in_block-loss.result within
+    (found (goal.at.verdict_on-requires c).After-first_in_block-loss count within)
+
+pub returns : goal.returns
+returns c =
+    let (count, within) = c.requires.limits in
+    c.verdict_on.ensures c.args.graph.now (at c.args.divisor.now) (at c.of.result) count within
+    (equivalent-refl c.args.graph.now (at c.args.divisor.now) (at c.of.result)
+    (λ v inside. omega (arith, ints, c.of.ensures.amounts v (omega (arith, c.requires.size)))))
+    (found (goal.at.returns c).After-first_in_block-loss count within)
 
 pub returns-then-dual_wins : goal.returns-then-dual_wins
 returns-then-dual_wins c = (refl, c.if-dual_wins.ensures.told)

@@ -1,29 +1,48 @@
-use Rattle.dg_rank.proofs.Common.{arith, at, IsWithinLimits}
+use Rattle.dg_rank.proofs.Common.{◌≡◌, ℕ, ◌<◌, List, Option, MatchOption, subst, ◌∙◌, arith, ints, equivalent-refl, Vector, at, Multigraph, IsWithinLimits, AllWin, IsFirstLossIn, Search}
+use Rattle.dg_rank.specs.Pieces.{piece_start, Tells}
 use Rattle.dg_rank.proofs.FirstLosses.{found_trial}
+use Rattle.dg_rank.proofs.PieceLosses.{piece_first}
+use Rattle.dg_rank.proofs.workers.rank_with.Given.{Over}
 use Rattle.dg_rank.proofs.workers.rank_with.Goals as goal
+use Rattle.dg_rank.proofs.workers.rank_with.Goals.{In-None}
 
 pub first_loss_among-requires-clause-search : goal.first_loss_among-requires-clause-search
 first_loss_among-requires-clause-search g c κs within = record {
-  size = c.small_amounts-chips.ensures.size;
-  range =
-      c.small_amounts-chips.ensures.small;
-  limits = (c.in-Some.count, rw c.size-size.ensures.size at c.in-Some.ensures, omega arith);
+  size = c.of.ensures.size ∙ c.requires.size;
+  range = λ v inside.
+      let below : v < c.args.divisor.now.size = omega (arith, c.requires.size) in
+      omega (arith, ints, c.of.ensures.amounts v below, c.size-amounts.ensures.divisor.within v below);
+  limits = (c.in-Some.count, rw c.size-size.ensures.size at c.in-Some.ensures, omega (arith, c.trials_to_make.ensures.few));
 }
+
+abbrev search : Multigraph → Vector → ℕ → ℕ → ℕ → Search
+search g x k count w = record { graph = g; chips = x; k = k; count = count; workers = w }
+
+-- the first piece starts with the first trial
+found : (g : Multigraph) (x : Vector) (k count w : ℕ) (loss : Option (List ℕ)) →
+    Tells (search g x k count w) (piece_start (search g x k count w) 0) count loss →
+    MatchOption loss (AllWin g (at x) k 0 count) (IsFirstLossIn g (at x) k 0 count)
+found g x k count w loss told =
+    subst (λ (m : ℕ). Tells (search g x k count w) m count loss) (piece_first (search g x k count w)) told
+
+limits : (g : Over) (c : In-None g) → IsWithinLimits c.args.graph.now.size c.args.k c.trials_to_make.result
+limits g c =
+    let all : c.trials_to_make.result ≡ c.in-Some.count = rw c.in-None.is at c.trials_to_make.ensures.all in
+    rw all (rw c.size-size.ensures.size at c.in-Some.ensures)
 
 pub verdict_on-requires : goal.verdict_on-requires
 verdict_on-requires g c =
-    let limits : IsWithinLimits c.args.graph.now.size c.args.k c.in-Some.count =
-    rw c.size-size.ensures.size at c.in-Some.ensures in
-    found_trial c.args.graph.now
-    (at c.small_amounts-chips.result) c.args.k c.in-Some.count c.in-Ok.loss limits c.in-Ok.ensures
+    found_trial c.args.graph.now (at c.of.result) c.args.k c.trials_to_make.result c.in-Ok.loss
+    (limits g (goal.at.verdict_on-requires g c).In-None)
+    (found c.args.graph.now c.of.result c.args.k c.trials_to_make.result c.args.workers c.in-Ok.loss c.in-Ok.ensures)
 
-pub returns-in-Ok : goal.returns-in-Ok
-returns-in-Ok g c =
-    let limits : IsWithinLimits c.args.graph.now.size c.args.k c.in-Some.count =
-    rw c.size-size.ensures.size at c.in-Some.ensures in (
-      (c.in-Some.count, limits),
-      (omega arith, c.if-workers-gt-MAX_WORKERS.false),
-      c.verdict_on.ensures c.args.graph.now (at c.args.divisor.now)
-          (at c.small_amounts-chips.result) c.in-Some.count limits
-          c.small_amounts-chips.ensures.fired c.in-Ok.ensures,
-    )
+pub returns-in-None : goal.returns-in-None
+returns-in-None g c = (
+  (c.in-Some.count, rw c.size-size.ensures.size at c.in-Some.ensures),
+  (omega arith, c.if-workers-gt-MAX_WORKERS.false),
+  c.verdict_on.ensures c.args.graph.now (at c.args.divisor.now) (at c.of.result) c.trials_to_make.result
+      (limits g (goal.at.returns-in-None g c).In-None)
+      (equivalent-refl c.args.graph.now (at c.args.divisor.now) (at c.of.result)
+      (λ v inside. omega (arith, ints, c.of.ensures.amounts v (omega (arith, c.requires.size)))))
+      (found c.args.graph.now c.of.result c.args.k c.trials_to_make.result c.args.workers c.in-Ok.loss c.in-Ok.ensures),
+)

@@ -1,7 +1,8 @@
 use Rattle.dg_chips.proofs.Common.{◌≡◌, ◌∙◌, ℕ, ◌<◌, ◌≤◌, List, length, length-set, get_or-set_other, ◌≢◌, Bool, ap, arith, inl, inr, w32, slice_index_or, slice_index, unsigned_abs, ℤ, pos, ◌+ℤ◌, ◌-ℤ◌, cases_lt, ints, get_or_past, to_z, of_z, Amounts, fired, indicator, gain, Multigraph, valence, IsGraph, in_set, IsVertexSet, valence-few, Vector, IsVector, at}
+use Rattle.dg_theory.proofs.Debts.{if-le}
 use Rattle.dg_chips.proofs.VectorLaws.{filled-set, within_all}
 use Rattle.dg_chips.proofs.OneLending.{read_back}
-use Rattle.dg_chips.proofs.SetLending.{set-gain, set-outside, some-few, held_flow, range-more}
+use Rattle.dg_chips.proofs.SetLending.{set-gain, set-outside, held_flow, range-more}
 use Rattle.dg_chips.proofs.divisor.Divisor.after_firing.Goals as goal
 
 pub loop-w-preserved : goal.loop-w-preserved
@@ -24,7 +25,7 @@ loop-w-preserved c =
     let less : lent ≤ 255 = omega (
       arith,
       c.flows.ensures.lent w few,
-      some-few (in_set c.args.set w) (valence c.args.graph.now w),
+      if-le (in_set c.args.set w) (valence c.args.graph.now w),
       valence-few c.args.graph.now w c.size-size.ensures.graph,
     ) in
     let sum : ℤ = to_z w32 (of_z w32 (slice_index_or xs w (pos 0))) +ℤ
@@ -66,6 +67,7 @@ of_row-requires c =
     let near = rw c.if-not-fits.false at c.loop-w.invariant.range in
     record {
       few = omega arith;
+      places = omega arith;
       within = λ u below. rw (c.loop-w.invariant.done u (omega arith)) (near u (omega arith));
       inside = λ u past. elim (cases_lt u 16) [
         | inl below ↦ c.loop-w.invariant.done u (omega arith)

@@ -129,6 +129,7 @@ of_row-requires c =
     λ u past. sym (ap (λ (d : Vector). at d u) c.self.view_is) ∙ c.self.invariant.inside u (omega arith) in
     record {
       few = omega arith;
+      places = omega arith;
       within = λ u below. rw (c.loop-w.invariant.done u (omega arith)) (near u (omega arith));
       inside = λ u past. elim (cases_lt u 16) [
         | inl below ↦ c.loop-w.invariant.done u (omega arith)

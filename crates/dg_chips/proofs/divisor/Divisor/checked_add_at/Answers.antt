@@ -31,4 +31,6 @@ returns c =
           one_more c.self.inside.amounts c.args.v _ c.args.dollars (omega arith)
           (sum ∙ ap (λ (a : Vector). at a c.args.v +ℤ c.args.dollars) (sym c.self.view_is)) w
           ∙ ap (λ (a : Vector). at a w +ℤ only_at c.args.v c.args.dollars w) c.self.view_is,
+      one_written _ (record { size = c.self.inside.size; numbers = c.self.inside.amounts }) c.args.v _ (omega arith)
+          (omega arith) (omega (arith, ints)) c.self.invariant,
     )

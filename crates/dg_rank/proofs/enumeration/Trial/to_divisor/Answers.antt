@@ -13,11 +13,10 @@ loop-v-preserved c =
 
 pub sized-requires-clause-range : goal.sized-requires-clause-range
 sized-requires-clause-range c v low =
-    let (n, k, count, limits, trial) = c.requires in
     let few : c.size-size.result ≤ length c.loop-v.amounts = omega (arith, c.size-size.ensures.few) in
     let here : v < c.size-size.result = omega (arith, length-take-le c.size-size.result c.loop-v.amounts few) in
     let is : slice_index_or (take c.size-size.result c.loop-v.amounts) v (pos 0) ≡ pos (slice_index c.args.self.now v) =
     get_or-take c.size-size.result c.loop-v.amounts v (pos 0) here ∙ c.loop-v.invariant.same v (omega arith) in
     let most : slice_index c.args.self.now v ≤ sum c.args.self.now =
     get_or-le-sum_by (λ (x : ℕ). x) c.args.self.now v 0 (omega arith) in
-    rw is (omega (arith, ints, trial.amount, limits.small))
+    rw is (omega (arith, ints, c.requires))

@@ -20,5 +20,6 @@ invariant_of-self c =
     let d = goal.at.invariant_of-self c in
     record {
       few = omega (arith, c.size-size.ensures.size, c.size-size.ensures.graph.few);
+      places = omega arith;
       inside = λ v outside. past d.After-loop-v v (omega (arith, c.size-size.ensures.size));
     }

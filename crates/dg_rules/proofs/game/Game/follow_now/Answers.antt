@@ -12,6 +12,7 @@ invariant_of-self-in-Joined c =
       graph = graph;
       vertex = omega (arith, size, c.self.invariant.vertex);
       size = c.self.invariant.size ∙ sym size;
+      divisor = c.self.invariant.divisor;
       drift_size = c.self.invariant.drift_size ∙ sym size;
       drift_limit = λ v below.
           let inside : v < c.self.inside.graph.size = subst (λ (n : ℕ). v < n) size below in

@@ -1,14 +1,12 @@
-use Rattle.dg_rules.proofs.Common.{sym, subst, fired, at, IsDivisor, IsRight, right-cong, GameState, IsState}
+use Rattle.dg_rules.proofs.Common.{sym, subst, fired, at, IsRight, right-cong, GameState, IsState}
 use Rattle.dg_rules.proofs.LookLaws.{carried}
 use Rattle.dg_rules.proofs.game.Game.verdict_now.Goals as goal
 
 pub rebase-requires : goal.rebase-requires
 rebase-requires c =
     let state : IsState c.args.self.now = subst (λ (s : GameState). IsState s) c.self.view_is c.self.invariant in
-    let divisor : IsDivisor c.args.self.now.amounts =
-    subst (λ (s : GameState). IsDivisor s.amounts) c.self.view_is c.size-size.ensures.divisor in
     rw c.q.ensures.q (carried c.args.self.now
-    (at c.args.then.now) c.args.verdict.now c.drift_from-since.result state divisor c.requires.right
+    (at c.args.then.now) c.args.verdict.now c.drift_from-since.result state c.requires.right
     c.drift_from-since.ensures.size c.drift_from-since.ensures.led)
 
 pub returns-clause-right : goal.returns-clause-right

@@ -1,3 +1,0 @@
-//! Graphs, and sets of vertices.
-mod graphs;
-mod sets;

@@ -1,0 +1,262 @@
+"""Builds that are ended at random moments, and each way in which a first run of ./dollar can fail: in a copy, with a toolchain that
+proves nothing (kit.py). SEED=N gives the same moments again, as far as the machine does."""
+import contextlib
+import importlib.machinery
+import importlib.util
+import os
+import random
+import shutil
+import signal
+import subprocess
+import sys
+import time
+from pathlib import Path
+
+from helpers import ROOT, Test, each
+from kit import own_sum, whole_sum
+
+SEED = int(os.environ.get("SEED") or random.randrange(10000))
+TOOLS = ["bash", "basename", "dirname", "env", "find", "grep", "mkdir", "mv", "nice", "python3", "readlink", "rm", "sh"]
+NOBODY = 65534
+# A Python that other users can run too.
+PYTHON = "/usr/bin/python3" if os.path.exists("/usr/bin/python3") else sys.executable
+KEPT = "dollar: interrupted; what is proved is kept, and the next call goes on from there\n"
+ENDED = {signal.SIGINT: 130, signal.SIGTERM: 143, signal.SIGHUP: 129}
+
+
+def crates():
+    lines = (line.partition(":") for line in (ROOT / "crates.txt").read_text().splitlines() if ":" in line and line[0] != "#")
+    return {name: rest.split() for name, _, rest in lines}
+
+
+class OfBuilds(Test):
+    def setUp(self):
+        self.top = self.folder()
+        self.top.chmod(0o755)
+        self.tree, self.kit, self.tools = (self.top / name for name in ("tree", "kit", "tools"))
+        for path in "crates.txt", "dollar", *("tools/" + name for name in ("build", "repository.py", "seconds", "unproved")):
+            (self.tree / path).parent.mkdir(parents=True, exist_ok=True)
+            shutil.copy(ROOT / path, self.tree / path)
+        for name in crates():
+            for part in "src", "specs", "proofs":
+                (self.tree / "crates" / name / part).mkdir(parents=True)
+            (self.tree / "crates" / name / "src" / ("main.rt" if name == "dollar" else "lib.rt")).write_text(f"// {name}\n")
+        (self.kit / "bin").mkdir(parents=True)
+        for name in "rt", "rattle", "rattle-link":
+            (self.kit / "bin" / name).write_text(f"#!{PYTHON} -S\n" + Path(__file__).with_name("kit.py").read_text())
+            (self.kit / "bin" / name).chmod(0o755)
+        self.tools.mkdir()
+        for name in TOOLS:
+            (self.tools / name).symlink_to(PYTHON if name == "python3" else shutil.which(name))
+        self.made = self.tree / "out" / "build"
+
+    def begun(self, *words, without="", pace=0, fault="", **options):
+        """Starts a command, the script if none is given, in a group of its own and without a tool."""
+        (self.tools / (without or "nothing")).unlink(missing_ok=True)
+        path = f"{self.tools}:{self.kit / 'bin'}" if without != "rt" else str(self.tools)
+        return subprocess.Popen(list(map(str, words or [self.tree / "dollar"])), stdin=subprocess.DEVNULL, stdout=subprocess.PIPE,
+                                stderr=subprocess.PIPE, text=True, start_new_session=True,
+                                env={"PATH": path, "PACE": str(pace), "FAULT": fault}, **options)
+
+    def run_of(self, *words, **options):
+        """What a command prints, what it says, and its status."""
+        child = self.begun(*words, **options)
+        out, said = child.communicate(timeout=60)
+        self.assertNotIn("Traceback", said)
+        return out, said, child.returncode
+
+    def builds(self, **options):
+        """Sees that the script builds the program of these files."""
+        sums = {}
+        for name, libraries in crates().items():
+            below = {lower for library in libraries if library in sums for lower in [library, *sums[library][1]]}
+            sums[name] = whole_sum(own_sum(self.tree / "crates" / name), {lower: sums[lower][0] for lower in below}), below
+        out, said, status = self.run_of(**options)
+        self.assertEqual((out, status), (sums["dollar"][0] + "\n", 0), said)
+        return said
+
+    def fails(self, text, status=1, **options):
+        """Sees that the script says this in one line, and ends so."""
+        out, said, found = self.run_of(**options)
+        *before, last = said.splitlines()
+        self.assertRegex(last, text)
+        self.assertEqual((out, found), ("", status), said)
+        return before
+
+    def edit(self, name):
+        """Edits a crate, and gives what takes that back."""
+        file = next((self.tree / "crates" / name / "src").iterdir())
+        text = file.read_text()
+        file.write_text(f"{text}// {random.random()}\n")
+        return lambda: file.write_text(text)
+
+    def end(self, child, number):
+        """Ends a build after its first line, at a random moment, and gives what it says. Whoever has a pipe to it ends with it."""
+        first = child.stderr.readline()
+        time.sleep(random.uniform(0, 0.8))
+        with contextlib.suppress(ProcessLookupError):
+            os.killpg(child.pid, number)
+        return first + child.communicate(timeout=60)[1]
+
+    def test_builds_that_are_ended_at_random_moments(self):
+        random.seed(SEED)
+        names = [name for name in crates() if (self.tree / "crates" / name).exists() and "_tests" not in name]
+        for turn in range(12):
+            with self.subTest(f"SEED={SEED}", turn=turn):
+                for _ in range(random.randrange(1, 4)):
+                    back = self.edit(random.choice(names))
+                    number = random.choice([signal.SIGKILL, *ENDED])
+                    said = self.end(self.begun(pace=0.03), number)
+                    self.assertNotIn("Traceback", said)
+                    self.assertTrue(number == signal.SIGKILL or said.endswith((KEPT, " left\n", " done\n")) or not said, said)
+                    if random.random() < 0.6:
+                        back()
+                self.builds()
+
+    @each(list(ENDED.items()))
+    def test_a_build_that_is_ended_says_what_is_kept(self, number, status):
+        for path in "out", "crates/dollar/out":
+            shutil.rmtree(self.tree / path, ignore_errors=True)
+        child = self.begun(self.tree / "tools" / "build", pace=0.2)
+        self.assertTrue(self.end(child, number).endswith(KEPT))
+        self.assertEqual(child.returncode, status)
+        left = len(list(self.made.glob("*.sum")))
+        self.assertIn(f"its crates are proved: {left} of 25, ", self.builds())
+
+    def test_an_edit_that_is_taken_back_after_a_kill(self):
+        """The process of the toolchain lives on, and makes the crate of the edited file. Then one far above is edited."""
+        self.builds()
+        back = self.edit("dg_invocation")
+        child = self.begun(pace=0.2)
+        child.stderr.readline()
+        time.sleep(0.1)
+        os.killpg(child.pid, signal.SIGKILL)
+        child.communicate()
+        back()
+        self.edit("dollar")
+        self.assertIn("its crates are proved: 23 of 25, ", self.builds(pace=0.3))
+
+    def test_an_edit_during_a_build(self):
+        """What was edited while it was made is made again, even if the edit was taken back in time."""
+        self.builds()
+        self.edit("dg_theory")
+        child = self.begun(pace=0.1)
+        child.stderr.readline()
+        back = self.edit("dg_cli")
+        child.stderr.readline()
+        child.communicate()
+        back()
+        self.builds()
+
+    def test_one_that_another_build_is_waited_for(self):
+        first = self.begun(pace=0.2)
+        first.stderr.readline()
+        second = self.begun()
+        self.assertIn("another call is building the program here, and is waited for: ", second.stderr.readline())
+        os.killpg(second.pid, signal.SIGINT)
+        self.assertEqual((second.communicate()[1], second.returncode), (KEPT, -signal.SIGINT))
+        self.assertEqual(first.communicate(timeout=60)[1].splitlines()[-1], "dollar: 25 of 25, done")
+        self.assertEqual(self.builds(), "")
+
+    def test_the_first_lines(self):
+        first, second, *more = self.builds().splitlines()
+        self.assertEqual(first, "dollar: for a first answer without any proof, in two minutes or more: ./dollar --unproved ..")
+        self.assertRegex(second, "^dollar: the program is missing, and its crates are proved: 0 of 25, some [0-9]+ minutes left$")
+        self.assertEqual(more, sorted(more, key=lambda line: int(line.split()[1])))
+        self.assertEqual(more[-1], "dollar: 25 of 25, done")
+
+    def test_no_toolchain(self):
+        self.assertEqual(self.fails("'rt', the toolchain of Rattle, is not on the PATH; 'How to get it' in README.md", without="rt"), [])
+        _, said, status = self.run_of(self.tree / "dollar", "--unproved", "judge", without="rt")
+        self.assertEqual((said.count("\n"), status), (1, 1))
+
+    def test_a_toolchain_that_does_not_run(self):
+        (self.kit / "bin" / "rt").write_text("#!/bin/sh\nexit 3\n")
+        self.assertEqual(self.fails("the toolchain can't be run: "), [])
+        (self.kit / "bin" / "rt").chmod(0o644)
+        self.assertEqual(self.fails("the toolchain can't be run: "), [])
+
+    def test_no_python(self):
+        self.assertEqual(self.fails("'python3', which takes part in that, is not on the PATH", without="python3"), [])
+
+    @each([("no proof", "dg_rank is not proved; what the toolchain says is in out/build/dg_rank.log"),
+           ("killed", "dg_rank is not proved: its process was killed, perhaps because memory was short")])
+    def test_a_crate_that_is_not_proved(self, fault, text):
+        self.edit("dg_rank")
+        self.fails(text, fault=fault)
+        self.builds()
+
+    def as_nobody(self):
+        """The options for a run of another user, or of this one without the right to write."""
+        if os.geteuid() == 0:
+            return {"user": NOBODY, "group": NOBODY, "extra_groups": []}
+        subprocess.run(["chmod", "-R", "a-w", self.tree], check=True)
+        self.addCleanup(subprocess.run, ["chmod", "-R", "u+w", self.tree])
+        return {}
+
+    def test_a_folder_that_cannot_be_written(self):
+        self.assertEqual(self.fails("the program can't be built here: .Errno 13. Permission denied", **self.as_nobody()), [])
+
+    def test_a_checkout_of_somebody_else(self):
+        self.builds()
+        self.edit("dollar")
+        self.assertEqual(self.fails("the program can't be built here: .Errno 13. Permission denied", **self.as_nobody()), [])
+
+    def mounted(self, *options):
+        """A file system of its own in the place of `out`, for as long as the test."""
+        (self.tree / "out").mkdir()
+        done = subprocess.run(["mount", "-t", "tmpfs", *options, "tmpfs", self.tree / "out"], stderr=subprocess.DEVNULL)
+        if done.returncode:
+            self.skipTest("a build on a disk that is full or can't be written, for want of root")
+        self.addCleanup(subprocess.run, ["umount", "-l", self.tree / "out"])
+
+    def test_a_disk_that_is_full(self):
+        self.mounted("-o", "size=160k")
+        with open(self.tree / "out" / "filler", "wb", buffering=0) as filler:
+            filler.write(bytes(100_000))
+        self.fails("the disk is full|No space left on device")
+        (self.tree / "out" / "filler").unlink()
+        subprocess.run(["mount", "-o", "remount,size=10m", self.tree / "out"], check=True)
+        self.builds()
+
+    def test_a_disk_that_cannot_be_written(self):
+        self.mounted("-o", "ro")
+        self.assertEqual(self.fails("the program can't be built here: .Errno 30. Read-only file system"), [])
+
+    def module(self):
+        """The script as a module."""
+        loader = importlib.machinery.SourceFileLoader("build", str(self.tree / "tools" / "build"))
+        module = importlib.util.module_from_spec(importlib.util.spec_from_loader("build", loader))
+        self.addCleanup(sys.path.remove, str(self.tree / "tools"))
+        sys.path.insert(0, str(self.tree / "tools"))
+        loader.exec_module(module)
+        return module
+
+    def test_a_line_comes_in_time(self):
+        """Also if no crate is done."""
+        script = self.script("import importlib.machinery, importlib.util, sys\nsys.path.insert(0, sys.argv[1])\n"
+                             "loader = importlib.machinery.SourceFileLoader('build', sys.argv[1] + '/build')\n"
+                             "build = importlib.util.module_from_spec(importlib.util.spec_from_loader('build', loader))\n"
+                             "loader.exec_module(build)\nbuild.PATIENCE = 0.1\nsys.exit(build.main())\n")
+        child = self.begun(sys.executable, "-B", script, self.tree / "tools", pace=1000)
+        lines = [child.stderr.readline() for _ in range(5)]
+        os.killpg(child.pid, signal.SIGINT)
+        child.communicate()
+        self.assertEqual([line.split(",")[0] for line in lines[2:]], ["dollar: 0 of 25"] * 3)
+
+    @each([("0::/a/b\n", {"a/b/memory.max": "max\n", "a/memory.max": "5000000000\n", "a/memory.current": "1500000000\n",
+                          "a/memory.stat": "anon 7\ninactive_file 500000000\n"}, 4000000000),
+           ("0::/a\n", {"memory.max": "7000000000\n", "memory.current": "6000000000\n", "memory.stat": ""}, 1000000000),
+           ("4:memory:/of/docker\n0::/\n", {"memory/memory.limit_in_bytes": "3000000000\n", "memory/memory.usage_in_bytes": "1000000\n",
+                                            "memory/memory.stat": "inactive_file 5\ntotal_inactive_file 1000\n"}, 2999001000),
+           ("4:memory:/a\n", {"memory/a/memory.limit_in_bytes": "9223372036854771712\n", "memory/a/memory.usage_in_bytes": "1\n",
+                              "memory/a/memory.stat": ""}, 9000000000 // 1024 * 1024),
+           ("", {}, 9000000000 // 1024 * 1024)])
+    def test_the_memory_of_a_container(self, group, files, free):
+        module, folder = self.module(), self.folder()
+        for path, text in {"group": group, "meminfo": f"MemFree: 5 kB\nMemAvailable: {9000000000 // 1024} kB\n", **files}.items():
+            (folder / path).parent.mkdir(parents=True, exist_ok=True)
+            (folder / path).write_text(text)
+        module.GROUP, module.MEMINFO, module.GROUPS = folder / "group", folder / "meminfo", folder
+        self.assertEqual(module.free_memory(), free)
+        self.assertEqual(module.processors(), min(len(os.sched_getaffinity(0)), max(1, free // 3_000_000_000)))
