@@ -310,5 +310,16 @@ def file_limits(checks):
                         run._replace(output=output.read()))
 
 
+def other_names(checks):
+    """A program whose file has another name says the same, also in its usage."""
+    table, link = checks.put("triangle", TRIANGLE), os.path.join(checks.folder, "another")
+    os.symlink(os.path.realpath(checks.program), link)
+    for words in (["--help"], ["judge"], ["judge", "--help"], ["judge", table, "x"], ["judge", "--workers", "2", table], ["juge"]):
+        own, other = (subprocess.run([name, *words], stdin=subprocess.DEVNULL, stdout=subprocess.PIPE, stderr=subprocess.PIPE)
+                      for name in (checks.program, link))
+        checks.same("%s by another name" % words[:2], Run(own.returncode, own.stdout, own.stderr),
+                    Run(other.returncode, other.stdout, other.stderr))
+
+
 load_tests = checked(outputs, broken_pipes, inputs, files, fifos, changing_files, threads, interrupts, unread_answers,
-                     file_limits)
+                     file_limits, other_names)

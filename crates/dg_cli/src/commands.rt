@@ -46,7 +46,7 @@ pub(crate) const SUBCOMMANDS: &[Subcommand] = &[
 pub(crate) fn dollar<'a>(alloc: Global) -> Result<Command<'a>, AllocError>
     ensures { IfOk result (λ program. app_of program ≡ dollar) }
 {
-    let mut program = bare_program(alloc);
+    let mut program = bare_program(alloc)?;
     'commands: for subcommand in SUBCOMMANDS {
         let command = subcommand.to_clap(alloc)?;
         program = program.subcommand(command)?;
@@ -54,17 +54,18 @@ pub(crate) fn dollar<'a>(alloc: Global) -> Result<Command<'a>, AllocError>
     Ok(program)
 }
 
-/// The program without its commands.
-fn bare_program<'a>(alloc: Global) -> Command<'a>
-    ensures { app_of result ≡ bare_program }
+/// The program without its commands. Its usage has the same name, whatever its file is called.
+fn bare_program<'a>(alloc: Global) -> Result<Command<'a>, AllocError>
+    ensures { IfOk result (λ program. app_of program ≡ bare_program) }
 {
-    Command::new(alloc, "dollar")
+    let program = Command::new(alloc, "dollar")
         .about("Plays the dollar game on a graph, and tells whether a table is winnable")
         .version(VERSION)
         .after_help(MORE)
         .disable_help_subcommand(true)
         .subcommand_required(true)
-        .arg_required_else_help(true)
+        .arg_required_else_help(true);
+    program.bin_name("dollar")
 }
 
 impl Subcommand {

@@ -1,4 +1,5 @@
 use Rattle.dg_cli.proofs.Common.{◌∙◌, ap, true, app_of_fields, on_top}
+use Rattle.std.proofs.lemmas.Result.{IfOk-weaker}
 use Rattle.dg_cli.proofs.commands.bare_program.Goals as goal
 
 pub returns : goal.returns
@@ -14,7 +15,8 @@ returns c =
       subcommand_required =
           true;
     })) helpless in
-    ap app_of_fields c.arg_required_else_help.ensures ∙ ap (on_top (λ s. record s {
+    let whole = ap app_of_fields c.arg_required_else_help-program.ensures ∙ ap (on_top (λ s. record s {
       arg_required_else_help =
           true;
-    })) required
+    })) required in
+    IfOk-weaker c.bin_name.result _ _ (λ program named. ap app_of_fields named.0 ∙ whole) c.bin_name.ensures
