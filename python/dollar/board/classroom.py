@@ -498,7 +498,7 @@ class Classroom:
         try:
             table = self.table(number)
             lines = await asyncio.to_thread(printed, "rehearse", table.text.encode(), steps.encode(), patience=PATIENCE)
-            names = [name for _, _, _, name in self.rooms[number].entries] if number in self.rooms else []
+            names = [entry.name for entry in self.rooms[number].entries] if number in self.rooms else []
             made = await asyncio.to_thread(replay_page, table.name, table.text, steps, lines, history, table.own, names)
         except (Fault, TimeoutError) as fault:
             raise Refused(409, "The program does not play the game again: %s" % fault) from None
