@@ -111,8 +111,7 @@ def told_twice():
 
 
 def table_faults():
-    """The faults of table files: each variant is told in an answer as on the fault line, on the page, and in the second
-    reader."""
+    """The faults of table files: each variant is told in an answer as on the fault line and on the page."""
     for name, (enum, path) in SAID.items():
         part = Part(words.FILE_FAULTS, "abbrev pub %s" % name)
         own = {variant: numbered(text.strip('"')) for variant, text, _ in words.variants(enum, path) if text
@@ -123,9 +122,6 @@ def table_faults():
     of_files = set(words.table_faults()) - {"out of memory"}
     part = Part(FORMATS, "The reader reports one fault, the first in this order.", "\n\nEach text of RFC 8259")
     found = [(numbered(text), place) for text, place in part.matches(r"^\| `([^`|]*)` \|")]
-    yield from part.compare("fault of a table file", found, of_files)
-    part = Part("tests/damage/reader.py")
-    found = [(text.replace("%d", "#"), place) for text, place in part.matches(r'Refused\("([^"]*)"')]
     yield from part.compare("fault of a table file", found, of_files)
 
 
@@ -151,7 +147,7 @@ def fault_tables():
 
 
 def faults():
-    """Faults and exit statuses on pages, and in the second reader of table files."""
+    """Faults and exit statuses on pages."""
     yield from table_faults()
     yield from fault_tables()
     statuses = sorted({"0"} | {str(status) for status in words.faults().values()})
