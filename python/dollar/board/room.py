@@ -20,7 +20,7 @@ def event(kind, thing, number=None):
 
 
 class Played(NamedTuple):
-    """An entry, with the name of who sat there."""
+    """An entry, with the name of the pupil who sat there."""
 
     seat: int
     line: str
@@ -56,7 +56,8 @@ class Feed:
 
 
 class Room(Game):
-    """A game of some pupils with its entries. What was taken back can be played again until there is another entry. `told` is called when there is something new, and `changed` when the game has ended."""
+    """A game of some pupils with its entries. What was taken back can be played again until there is another entry. `told` is called when
+    there is something new, and `changed` when the game has ended."""
 
     def __init__(self, number, text, seats, whole, told, changed, kept=None):
         super().__init__(text, seats)

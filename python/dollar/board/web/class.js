@@ -1,5 +1,5 @@
-/* A class: a click is a line, and the board shows what came back. A pupil's page shows the board of his room; those of the teacher and
-   of who only watches show all boards small, and one of them large. */
+/* A class: a click is a line, and the board shows what came back. A pupil's page shows the board of its room; those of the teacher and of
+   people who only watch show all boards small, and one of them large. */
 
 import { Board, draw } from "./board.js";
 import { Editor } from "./edit.js";
@@ -287,7 +287,7 @@ function notice(words) {
   box.hidden = !words;
 }
 
-/* All boards, small: each with who plays there, in how many moves, and whether it is done. */
+/* All boards, small: each with the names of those who play there, in how many moves, and whether it is done. */
 
 const playersOf = (number) => Object.values(state.names).filter(({ room }) => room === number).map(({ name }) => name);
 
