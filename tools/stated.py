@@ -1,12 +1,12 @@
 """Pages and texts that state the program's words and limits, each compared with the grammar that tools/words.py reads off the
 code. tools/lint prints what differs, with the file and the line, and what is wanted there. What is written in Python or
 JavaScript reads the grammar itself."""
-import glob
 import re
 
 import words
 from pages import Part, names, pages
-from words import numbered, read
+from repository import files, read
+from words import numbered
 
 HELP, FORMATS = "crates/dg_cli/src/help_texts.rt", "docs/formats.md"
 
@@ -27,7 +27,7 @@ def commands():
 
 def played_commands():
     """Rows: one at least with each command."""
-    rows = "".join(read(path) for path in sorted(glob.glob("crates/dg_rows/data/*.txt")))
+    rows = "".join(map(read, files("crates/dg_rows/data/*.txt")))
     for word, kinds in words.commands().items():
         line = r"(?:^[<|] |\| |\\n)(?:\d+ )?%s(?:\\n|$| \|)" % " ".join([word, *[r"[^ \n\\|]+"] * len(kinds)])
         if not re.search(line, rows, re.M):
@@ -57,7 +57,7 @@ def bad_texts():
             yield from part.compare("answer to a bad line", part.matches(r"`(bad [a-z]+)`"), bad)
         else:
             yield from part.unknown("answer to a bad line", part.matches(r"`(bad [a-z]+)`"), bad)
-    for path in sorted(glob.glob("tests/**/*.py", recursive=True) + glob.glob("python/**/*.py", recursive=True)):
+    for path in files("tests/**/*.py", "python/**/*.py"):
         yield from Part(path).unknown("answer to a bad line", Part(path).matches(r"""["'](bad \w+)["']"""), bad)
 
 
