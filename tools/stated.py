@@ -94,9 +94,9 @@ def fault_tables():
     wanted = {text: status for text, status in statuses.items() if text not in of_files | bad}
     wanted["line #:"], wanted["amount of vertex #"] = statuses[min(bad)], statuses["amount of vertex #"]
     part = Part(FORMATS, "| Text | Meaning, and what helps | Status |", "\n\n")
-    rows = [(numbered(names(cells[0].replace("a fault of [the table file]", "`not JSON`"))[0]), cells[-1], place)
-            for cells, place in part.rows() if names(cells[0]) or "the table file" in cells[0]]
-    yield from part.compare("fault", [(text, place) for text, _, place in rows if text != "not JSON"], list(wanted))
+    rows = [(numbered(text), cells[-1], place) for cells, place in part.rows() for text in names(cells[0])[:1]]
+    yield from part.compare("fault", [(text, place) for text, _, place in rows], list(wanted))
+    rows += [("not JSON", cells[-1], place) for cells, place in part.rows() if "[the table file]" in cells[0]]
     for text, status, place in rows:
         if status != str({**statuses, **wanted}.get(text, status)):
             yield "%s: the status of `%s` is %d" % (place, text, {**statuses, **wanted}[text])
