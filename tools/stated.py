@@ -1,57 +1,21 @@
 """Pages and texts that state the program's words and limits, each compared with the grammar that tools/words.py reads off the
 code. tools/lint prints what differs, with the file and the line, and what is wanted there. What is written in Python or
 JavaScript reads the grammar itself."""
-import glob
 import re
 
 import words
-from words import numbered, read
+from pages import Part, names, pages
+from repository import files, read
+from words import numbered
 
 HELP, FORMATS = "crates/dg_cli/src/help_texts.rt", "docs/formats.md"
-
-
-class Part:
-    """A part of a file, from one text to the next that follows it, and where in the file it stands."""
-
-    def __init__(self, path, begin="", end=None):
-        self.path, whole = path, read(path)
-        at = whole.find(begin)
-        stop = whole.find(end, at + len(begin)) if end else len(whole)
-        self.is_there = at >= 0 and stop >= 0
-        self.before, self.text = (whole[:at], whole[at:stop]) if self.is_there else ("", "")
-
-    def place(self, offset=0):
-        return "%s:%d" % (self.path, (self.before + self.text[:offset]).count("\n") + 1)
-
-    def matches(self, form, flags=re.M):
-        """What fits, each with the line that it stands on; of several groups the ones that there are, and else the whole."""
-        for found in re.finditer(form, self.text, flags):
-            yield found[found.lastindex or 0], self.place(found.start(found.lastindex or 0))
-
-    def compare(self, what, found, wanted, both=True):
-        """Names what is wanted and lacks, and what stands there and is none. `found` are pairs of a text and its place."""
-        if not self.is_there:
-            yield "%s: the list of each %s is not where tools/stated.py looks for it" % (self.path, what)
-            return
-        places = dict(reversed(list(found)))
-        for text in wanted:
-            if text not in places:
-                yield "%s: the %s `%s` is wanted here" % (self.place(), what, text)
-        if both:
-            yield from self.unknown(what, places.items(), wanted)
-
-    def unknown(self, what, found, known):
-        """Names what stands there and is none."""
-        for text, place in found:
-            if text not in known:
-                yield "%s: `%s` is no %s of the code's" % (place, text, what)
 
 
 def commands():
     """Lists of the commands: names, number and kinds of the words after each."""
     forms, column = words.command_forms(), r"^ *([a-z]+(?: \S+)*)(?:  +.*|)$"
     part = Part(FORMATS, "| Command | Meaning |", "\n\n")
-    yield from part.compare("command", part.matches(r"^\| `([^`]*)` \|"), forms)
+    yield from part.compare("command", part.codes(0), forms)
     part = Part(HELP, "one of these commands:\n", "\nThere is")
     found = [(text, place) for text, place in part.matches(column) if not text.startswith(("one of", "exactly"))]
     yield from part.compare("command", found, forms)
@@ -63,7 +27,7 @@ def commands():
 
 def played_commands():
     """Rows: one at least with each command."""
-    rows = "".join(read(path) for path in sorted(glob.glob("crates/dg_rows/data/*.txt")))
+    rows = "".join(map(read, files("crates/dg_rows/data/*.txt")))
     for word, kinds in words.commands().items():
         line = r"(?:^[<|] |\| |\\n)(?:\d+ )?%s(?:\\n|$| \|)" % " ".join([word, *[r"[^ \n\\|]+"] * len(kinds)])
         if not re.search(line, rows, re.M):
@@ -74,8 +38,7 @@ def replies():
     """Lists of the replies' forms, and of the refusals."""
     given = words.grammar()
     part = Part(FORMATS, "| Reply | Text |", "\n\n")
-    found = [(each, place) for text, place in part.matches(r"^\|[^|]*\|(.*)\|$") for each in re.findall(r"`([^`]*)`", text)]
-    yield from part.compare("reply", found, given["replies"])
+    yield from part.compare("reply", part.codes(1), given["replies"])
     yield from Part(FORMATS).compare("refusal", Part(FORMATS).matches(r"`(refused \w+)`"), given["refusals"])
 
 
@@ -84,18 +47,17 @@ def bad_texts():
     bad = words.bad_texts()
     lines = [text for text in bad if "line #: " + text in words.faults()]
     part = Part(FORMATS, "A line that spells no step is refused with the first of these.", "\n\nIn an item")
-    found = list(part.matches(r"^\| `(bad \w+)` \|"))
+    found = list(part.codes(0))
     yield from part.compare("fault of a line", found, lines)
     if sorted(lines) == sorted(text for text, _ in found) and lines != [text for text, _ in found]:
         yield "%s: the order of the faults of a line is %s" % (part.place(), ", ".join(lines))
-    pages = ["docs/tools.md", FORMATS, HELP]
-    for path in pages + sorted(set(glob.glob("docs/*.md") + glob.glob("*.md") + ["examples/README.md"]) - set(pages)):
+    for path in [HELP, "CHANGELOG.md", *pages()]:
         part = Part(path)
-        if path in pages:
+        if path in (HELP, FORMATS, "docs/tools.md"):
             yield from part.compare("answer to a bad line", part.matches(r"`(bad [a-z]+)`"), bad)
         else:
             yield from part.unknown("answer to a bad line", part.matches(r"`(bad [a-z]+)`"), bad)
-    for path in sorted(glob.glob("tests/**/*.py", recursive=True) + glob.glob("python/**/*.py", recursive=True)):
+    for path in files("tests/**/*.py", "python/**/*.py"):
         yield from Part(path).unknown("answer to a bad line", Part(path).matches(r"""["'](bad \w+)["']"""), bad)
 
 
@@ -111,8 +73,7 @@ def told_twice():
 
 
 def table_faults():
-    """The faults of table files: each variant is told in an answer as on the fault line, on the page, and in the second
-    reader."""
+    """The faults of table files: each variant is told in an answer as on the fault line and on the page."""
     for name, (enum, path) in SAID.items():
         part = Part(words.FILE_FAULTS, "abbrev pub %s" % name)
         own = {variant: numbered(text.strip('"')) for variant, text, _ in words.variants(enum, path) if text
@@ -122,10 +83,7 @@ def table_faults():
                 yield "%s: %s::%s says `%s`, not `%s`" % (part.place(), enum, variant, own[variant], text)
     of_files = set(words.table_faults()) - {"out of memory"}
     part = Part(FORMATS, "The reader reports one fault, the first in this order.", "\n\nEach text of RFC 8259")
-    found = [(numbered(text), place) for text, place in part.matches(r"^\| `([^`|]*)` \|")]
-    yield from part.compare("fault of a table file", found, of_files)
-    part = Part("tests/damage/reader.py")
-    found = [(text.replace("%d", "#"), place) for text, place in part.matches(r'Refused\("([^"]*)"')]
+    found = [(numbered(text), place) for text, place in part.codes(0)]
     yield from part.compare("fault of a table file", found, of_files)
 
 
@@ -136,22 +94,16 @@ def fault_tables():
     wanted = {text: status for text, status in statuses.items() if text not in of_files | bad}
     wanted["line #:"], wanted["amount of vertex #"] = statuses[min(bad)], statuses["amount of vertex #"]
     part = Part(FORMATS, "| Text | Meaning, and what helps | Status |", "\n\n")
-    rows = [(numbered(row[1]), int(row[2]), part.place(row.start()))
-            for row in re.finditer(r"^\| `([^`]*)`[^|]*\|[^|]*\| (\d) \|$", part.text, re.M)]
+    rows = [(numbered(text), cells[-1], place) for cells, place in part.rows() for text in names(cells[0])[:1]]
     yield from part.compare("fault", [(text, place) for text, _, place in rows], list(wanted))
-    for path in sorted(glob.glob("docs/*.md")):
-        page = Part(path)
-        rows += [(numbered(row[1]), int(row[2]), page.place(row.start()))
-                 for row in re.finditer(r"^\|.*\| `dollar: ([^`]*)` \| (\d) \|", page.text, re.M)]
-    rows += [("not JSON", int(status), place)
-             for status, place in part.matches(r"^\| a fault of \[the table file\][^|]*\|[^|]*\| (\d) \|$")]
+    rows += [("not JSON", cells[-1], place) for cells, place in part.rows() if "[the table file]" in cells[0]]
     for text, status, place in rows:
-        if status != {**statuses, **wanted}.get(text, status):
+        if status != str({**statuses, **wanted}.get(text, status)):
             yield "%s: the status of `%s` is %d" % (place, text, {**statuses, **wanted}[text])
 
 
 def faults():
-    """Faults and exit statuses on pages, and in the second reader of table files."""
+    """Faults and exit statuses on pages."""
     yield from table_faults()
     yield from fault_tables()
     statuses = sorted({"0"} | {str(status) for status in words.faults().values()})
@@ -183,9 +135,10 @@ def limits():
         if known[one] != known[other]:
             yield "%s is %s, and %s is %s: they are one limit" % (one, known[one], other, known[other])
     part = Part(FORMATS, "| What | Limit | Name in the code |", "\n\n")
-    for row in re.finditer(r"^\|[^|]*\| ([\d,]+) \| `(dg_\w+::\w+)` \|", part.text, re.M):
-        if known.get(row[2], "no constant") != row[1].replace(",", ""):
-            yield "%s: %s is %s, not %s" % (part.place(row.start()), row[2], known.get(row[2], "no constant"), row[1])
+    for (_, stated, *code), place in part.rows():
+        name = "".join(code).strip("`")
+        if name.startswith("dg_") and known.get(name, "no constant") != stated.replace(",", ""):
+            yield "%s: %s is %s, not %s" % (place, name, known.get(name, "no constant"), stated)
 
 
 def grammar():

@@ -6,13 +6,13 @@ python/dollar/grammar.json, which everything else reads; tools/lint compares it 
     tools/words.py            prints it
     tools/words.py --write    writes it"""
 import functools
-import glob
 import json
 import os
 import re
 import sys
 
-TOP = os.path.dirname(os.path.dirname(os.path.abspath(__file__)))
+from repository import TOP, code, files, read, without_comments
+
 LINES, SESSION, SWEEP = "crates/dg_lines/specs/", "crates/dg_session/specs/", "crates/dg_sweep/specs/"
 COMMANDS, KINDS_OF, REPLIES = LINES + "Commands.antt", LINES + "CommandWords.antt", LINES + "Texts.antt"
 JUDGEMENTS = LINES + "Judgements.antt"
@@ -21,16 +21,6 @@ FAULT, LINE_FAULT = "crates/dg_server/src/fault.rt", "crates/dg_lines/src/line.r
 GRAMMAR = "python/dollar/grammar.json"
 # How a page shows a word after a command, by its kind.
 KINDS = {"vertex": "V", "vertices": "V,V,..", "script": "V=x,V=x,..", "degree": "k", "dollars": "x"}
-
-
-def read(path):
-    with open(os.path.join(TOP, path), encoding="utf-8") as file:
-        return file.read()
-
-
-def sources(crate):
-    """The files of a crate's code, or of all."""
-    return sorted(os.path.relpath(path, TOP) for path in glob.glob(os.path.join(TOP, "crates", crate, "src", "**", "*.rt"), recursive=True))
 
 
 def unread(path, what):
@@ -144,11 +134,6 @@ def table_faults():
     return [numbered(text) for text in texts(FILE_FAULTS, "file_fault_words")]
 
 
-@functools.lru_cache(maxsize=None)
-def without_comments(path):
-    return re.sub(r"^ *//.*\n", "", read(path), flags=re.M)
-
-
 def home_of(what, path):
     """The file that has an item, as `enum Shortage` or `fn end_text`, if the file of the path uses it by its last word."""
     word = what.split(" ")[1]
@@ -160,7 +145,7 @@ def home_of(what, path):
     crate = word.split("::")[0] if "::" in word else next(
         (crate for crate, several, one in uses if name in re.findall(r"\w+", several + " " + one)), "crate")
     crate = path.split("/")[1] if crate == "crate" else crate
-    return next((found for found in sources(crate) if item.search(without_comments(found))), None)
+    return next((found for found in code(crate) if item.search(without_comments(found))), None)
 
 
 def block(path, head):
@@ -244,7 +229,7 @@ def faults():
 def limits():
     """The public limits of the crates, by the crate and the name."""
     found = {}
-    for path in sources("*"):
+    for path in files("crates/*/src/**/*.rt"):
         crate = path.split("/")[1]
         if not crate.endswith("_tests"):
             for name, value in re.findall(r"^pub const (\w+): \w+ = ([\w:]+?)(?: as \w+)?;", read(path), re.M):

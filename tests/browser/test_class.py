@@ -5,6 +5,7 @@ import json
 import os
 import random
 import re
+import shutil
 import signal
 import statistics
 import subprocess
@@ -195,6 +196,11 @@ def deaths(folder):
         in_order(room, steps, history)
 
 
+def entry(seat, line, answer):
+    """A line of a record, of an entry of ann's."""
+    return json.dumps({"kind": "played", "seat": seat, "line": line, "answer": answer, "name": "ann"}) + "\n"
+
+
 def keeping(folder):
     """A class that is kept outlasts board/play itself, with its addresses, its seats and the looks that they had, also if it was
     killed while it wrote."""
@@ -212,7 +218,7 @@ def keeping(folder):
     child.kill()
     child.communicate()
     with open(record, "a") as file:
-        file.write('[1, "claim", "4 no')
+        file.write(entry(1, "claim", "4 not won")[:-20])
     with played(*command[2:]) as (_, found):
         equal(found, [pupils, teacher], "the addresses of a class that was kept")
         desk, bob = Place(teacher), Pupil(pupils, "bob")
@@ -222,12 +228,15 @@ def keeping(folder):
         expect("winnable" in ann.play("commit")[1], f"the look was not kept: {ann.lines}")
         steps = ["1 look", "1 gift ann 1", "1 look", "1 lend ann", "1 commit"]
         equal(taken(desk, folder)[0], steps, "the steps that were kept")
-        before, entries = text_of(record), [[int(step[0]), step[2:], answer, "ann"] for step, answer in zip(*taken(desk, folder))]
-        equal([json.loads(line) for line in before.splitlines()], entries, "the record of a kept game")
+        before = text_of(record)
+        equal(before, "".join(entry(1, step[2:], answer) for step, answer in zip(*taken(desk, folder))), "the record of a kept game")
         bob.leave()
     for text, word in (
-            ('[9, "look", "0 looked", "ann"]\n' + before, "seat is not from 1 to 3"), ('[1, "claim", "0 won", "ann"]\n' + before, "as it did"),
-            ('[7, "ann"]\n' + before, "not a record"), ("7\n" + before, "not a record"), ("{\n" + before, "not a record")):
+            (entry(9, "look", "0 looked"), "seat is not from 1 to 3"), (entry(1, "claim", "0 won"), "as it did"),
+            (entry("1", "claim", "0 not won"), "not a record"), ('{"kind": "rewound", "left": 7, "name": "ann"}\n', "not a record"),
+            ('{"kind": "lost", "left": 0, "name": "ann"}\n', "not a record"), ('{"kind": "rewound"}\n', "not a record"),
+            ('[7, "ann"]\n', "not a record"), ('[1, "claim", "ann"]\n', "not a record"), ("7\n", "not a record"), ("{\n", "not a record")):
+        text += before
         written(folder, record, text)
         refused(command, word, stdin=subprocess.DEVNULL)
         equal(text_of(record), text, "a record of a game that is not gone on with")
@@ -236,13 +245,26 @@ def keeping(folder):
     refused(command, "another table", stdin=subprocess.DEVNULL)
 
 
+def kept_by_1_1(folder):
+    """A class that version 1.1 kept goes on, with what was taken back, and its record then has both forms."""
+    kept, table = Path(folder, "kept"), written(folder, "table.json", json.dumps(TABLE))
+    shutil.copytree(Path(__file__).with_name("kept_by_1.1"), kept)
+    seats = {name: key for _, name, _, key in json.loads(text_of(kept / "class.json"))["seats"]}
+    for steps in "1 look\n1 lend ann\n", "1 look\n1 lend ann\n2 lend dot\n":
+        with played(table, "--class", "3", "--rooms", "2", "--keep", kept) as (_, (pupils, teacher)):
+            desk = Place(teacher)
+            equal([desk.get(f"steps.txt?room={room}")[1] for room in (1, 2)], [steps, "3 gift cem 2\n"], "the steps that 1.1 kept")
+            Place(pupils).post("redo", {"key": seats["bob"]})
+    equal([text[0] for text in text_of(kept / "table1" / "room1.jsonl").splitlines()], ["["] * 9 + ["{"], "a record of both forms")
+
+
 def a_long_game(folder):
-    """A kept game of 60,000 entries comes back soon: in half a second, if the machine has nothing else to do."""
+    """A kept game of 60,000 entries comes back soon: in a second, if the machine has nothing else to do."""
     table, kept = written(folder, "table.json", json.dumps(TABLE)), Path(folder, "kept", "table1")
     kept.mkdir(parents=True)
     steps = written(folder, "steps.txt", swings("ann", LONG))
     entries = zip(text_of(steps).splitlines(), asked("rehearse", table, steps)[0].splitlines())
-    written(kept, "room1.jsonl", "".join(json.dumps([1, step[2:], answer, "ann"]) + "\n" for step, answer in entries))
+    written(kept, "room1.jsonl", "".join(entry(1, step[2:], answer) for step, answer in entries))
     start = time.monotonic()
     with played(table, "--class", "3", "--keep", Path(folder, "kept")) as (_, (_, teacher)):
         took = time.monotonic() - start
@@ -411,5 +433,5 @@ def other_names(folder):
             equal(place.post("join", {"name": "ann", "browser": "b" * 24}, headers=given)[0], status, f"{origin} at {host}")
 
 
-load_tests = tests_of(many_pupils, network, strangers, commands, deaths, keeping, a_long_game, full_history, floods, clicks,
+load_tests = tests_of(many_pupils, network, strangers, commands, deaths, keeping, kept_by_1_1, a_long_game, full_history, floods, clicks,
                       opening, other_names, teacher_here, given=tempfile.TemporaryDirectory)

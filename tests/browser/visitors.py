@@ -108,20 +108,20 @@ class Listener:
             equal(start, self.items, "where the entries go on")
             self.items += len(items)
             for item in items:
-                self.take_item(*item)
+                self.take_item(item)
         elif kind == "table":
             self.tables.append(thing)
             self.entries, self.undone, self.items = [], [], 0
         else:
             self.states.append(thing if kind == "state" else kind)
 
-    def take_item(self, room, seat, line, *more):
+    def take_item(self, item):
         """An entry, or how many entries a game has since some were taken back, or played again."""
-        if len(more) == 2:
-            self.entries.append([seat, line, more[0]])
-        elif seat < len(self.entries):
-            self.undone.append(self.entries[seat:])
-            del self.entries[seat:]
+        if item["kind"] == "played":
+            self.entries.append([item["seat"], item["line"], item["answer"]])
+        elif item["left"] < len(self.entries):
+            self.undone.append(self.entries[item["left"]:])
+            del self.entries[item["left"]:]
         else:
             self.entries += self.undone.pop()
 
@@ -149,9 +149,9 @@ class Watcher(Listener):
             self.rooms = {}
         super().take(kind, thing)
 
-    def take_item(self, room, *item):
-        self.entries, self.undone = self.rooms.setdefault(room, ([], []))
-        super().take_item(room, *item)
+    def take_item(self, item):
+        self.entries, self.undone = self.rooms.setdefault(item["room"], ([], []))
+        super().take_item(item)
 
 
 class Pupil(Listener):

@@ -1,5 +1,5 @@
-"""Runs of the program. What is expected comes from docs/formats.md and docs/tools.md: of table files by a second reader of them
-(reader.py), of answers by the checks in python/dollar and the model of the game in tests/model.py."""
+"""Runs of the program. What is expected comes from docs/formats.md and docs/tools.md: of JSON by Python's
+reader, of answers by the checks in python/dollar and the model of the game in tests/model.py."""
 import collections
 import contextlib
 import os

@@ -16,9 +16,7 @@ import urllib.request
 from pathlib import Path
 
 from helpers import EXAMPLES, ROOT, Test, program
-
-sys.path.append(str(ROOT / "tests" / "pages"))
-from test_pages import shown
+from pages import links, shown
 
 VERDICT = "winnable by a=0 b=-1 c=-1 to a=0 b=0 c=0\n"
 TOOL = ROOT / "tools" / "package"
@@ -58,11 +56,7 @@ def pythons():
 def dead_links(folder):
     """The links of the pages of a folder that lead to no file of it."""
     for page in sorted(folder.rglob("*.md")):
-        lines = [line for line in page.read_text().splitlines() if not line.startswith("    ")]
-        text = re.sub(r"`[^`\n]+`", "", "\n".join(lines))
-        for target in re.findall(r"\]\(\s*([^)#\s]+)[^)]*\)", text):
-            if not re.match("[a-z]+:", target) and not (page.parent / target).exists():
-                yield f"{page.relative_to(folder)}: {target}"
+        yield from (f"{page.relative_to(folder)}: {target}" for target, place, _ in links(str(page)) if not os.path.exists(place))
 
 
 def listed(tree):

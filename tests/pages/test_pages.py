@@ -1,4 +1,4 @@
-"""Every command that README.md, docs/ and the help show is run, and what it prints is compared with what stands below it.
+"""Every command that a page or the help shows is run, and what it prints is compared with what stands below it.
 
 A command is an indented line `$ ./dollar WORD ..`, or another line of bash that has `./dollar` in it. What it prints are the lines below
 it that are indented as far; where the first of these is `..`, as many of its last lines as stand below that. What stands below `>>>` is
@@ -15,17 +15,11 @@ import textwrap
 import xml.dom.minidom
 
 from helpers import EXAMPLES, PACKAGE, ROOT, Test, each, program
+from pages import pages, shown
 
-PAGES = [ROOT / "README.md", *sorted((ROOT / "docs").glob("*.md")), EXAMPLES / "README.md"]
+PAGES = [ROOT / page for page in pages()]
 HANDOUT = ROOT / "docs" / "handout.html"
 DRAW = [sys.executable, "-B", PACKAGE / "dollar", "draw"]
-
-
-def shown(text, word):
-    """The commands that a text shows, which begin so, each with the lines below it."""
-    for found in re.finditer(r"(?m)^( {4,})\$ (%s .*)\n((?:\1[^ \n].*\n|\1 .*\n)*)" % word, text):
-        below = re.split(r"(?m)^%s\$ " % found[1], found[3])[0]
-        yield found[2], "".join(line[len(found[1]):] + "\n" for line in below.splitlines())
 
 
 def help_of(*words):

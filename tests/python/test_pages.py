@@ -8,16 +8,9 @@ import subprocess
 
 import dollar
 from helpers import ROOT, Test, each, needed
+from pages import shown
 
 PAGE = (ROOT / "docs" / "tools.md").read_text(encoding="utf-8")
-
-
-def shown(tool):
-    """The command that begins with a tool, and what stands below it."""
-    block = re.search(r"(?m)^    \$ %s .*\n(?:    .*\n)*" % re.escape(tool), PAGE)[0].replace("    ", "", 1)
-    lines = [line[4:] if line.startswith("    ") else line for line in block.splitlines()]
-    last = max(place for place, line in enumerate(lines) if "dollar " in line)
-    return "\n".join(lines[:last + 1])[2:], lines[last + 1:]
 
 
 def block(page, first):
@@ -30,8 +23,10 @@ class OfPages(Test):
     def test_pipes(self, tool):
         if not shutil.which(tool):
             self.skipTest("the pipe with %s, which is not here" % tool)
-        command, wanted = shown(tool)
-        command = 'dollar() { "$DOLLAR" "$@"; }\n' + command.replace("./dollar", "dollar")
+        first, below = next(shown(PAGE, tool))
+        lines = [first, *below.splitlines()]
+        last = max(place for place, line in enumerate(lines) if "dollar " in line) + 1
+        command, wanted = 'dollar() { "$DOLLAR" "$@"; }\n' + "\n".join(lines[:last]).replace("./dollar", "dollar"), lines[last:]
         done = subprocess.run(["bash", "-c", command], cwd=ROOT, stdout=subprocess.PIPE, text=True)
         # How far uniq moves its numbers to the right is its own affair.
         self.assertEqual([line.strip() for line in done.stdout.splitlines()], [line.strip() for line in wanted])

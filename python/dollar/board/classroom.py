@@ -1,5 +1,5 @@
-"""A class: pupils with seats, and the tables that the teacher hands out to them one after another. All share one, or each has a room of
-his own, or so many are in one. A click is a line, and what is drawn is what came back; the lines of a room are put to its program one
+"""A class: pupils with seats, and the tables that the teacher hands out to them one after another. All share one, or so many are in a
+room, perhaps one alone. A click is a line, and what is drawn is what came back; the lines of a room are put to its program one
 after another, and its pages see each entry as it comes. The pages of the teacher and of those who only watch see all rooms."""
 import asyncio
 import re
@@ -61,7 +61,7 @@ class NewTable(Refused):
 
 
 class Seat:
-    """A seat that somebody has: the key that only his page knows, his name, his browser, and the pages that are open on it."""
+    """A seat that somebody has: the key that only that pupil's page knows, the name, the browser, and the pages that are open on it."""
 
     def __init__(self, number, name, browser=None, key=None):
         self.number, self.name, self.browser, self.key = number, name, browser, key or new_secret()
@@ -498,7 +498,7 @@ class Classroom:
         try:
             table = self.table(number)
             lines = await asyncio.to_thread(printed, "rehearse", table.text.encode(), steps.encode(), patience=PATIENCE)
-            names = [name for _, _, _, name in self.rooms[number].entries] if number in self.rooms else []
+            names = [entry.name for entry in self.rooms[number].entries] if number in self.rooms else []
             made = await asyncio.to_thread(replay_page, table.name, table.text, steps, lines, history, table.own, names)
         except (Fault, TimeoutError) as fault:
             raise Refused(409, "The program does not play the game again: %s" % fault) from None

@@ -8,10 +8,14 @@ import os
 import re
 import sys
 
+from dollar.board.room import Played, Rewound
 from dollar.program import typed
 from dollar.table import text_of
 
 CLASS, TABLES, RECORD = "class.json", "tables.json", re.compile(r"room([0-9]{1,2})\.jsonl\Z")
+KINDS = {"played": Played, "rewound": Rewound}
+# In version 1.1 an item was a list of its parts, so many of each kind.
+KINDS_OF_1_1 = {4: Played, 2: Rewound}
 
 
 def read(place):
@@ -28,8 +32,8 @@ class Kept:
         whole, end, _ = read(place).rpartition("\n")
         self.items, self.size = items_in(place, whole, seats), len((whole + end).encode())
 
-    def add(self, item):
-        """Keeps an item. If the disk does not take it, the game goes on and this is told."""
+    def add(self, thing):
+        """Keeps an item, as it is in JSON. If the disk does not take it, the game goes on and this is told."""
         if not self.is_kept:
             return
         try:
@@ -37,24 +41,30 @@ class Kept:
                 os.makedirs(os.path.dirname(self.place), exist_ok=True)
                 self.file = open(self.place, "a", encoding="utf-8", newline="")
                 self.file.truncate(self.size)
-            self.file.write(json.dumps(item) + "\n")
+            self.file.write(json.dumps(thing) + "\n")
             self.file.flush()
         except OSError as error:
             print("%s: %s: %s: the game is kept no more" % (typed("board"), self.place, error.strerror), file=sys.stderr)
             self.is_kept = False
 
 
+def item_of(thing):
+    """The item that something in JSON is."""
+    if isinstance(thing, list):
+        return KINDS_OF_1_1[len(thing)](*thing)
+    return KINDS[thing.pop("kind")](**thing)
+
+
 def items_in(place, lines, seats):
     """The items of the lines of a record. Raises ValueError if it is none, or has a seat that there is not."""
     try:
-        items = json.loads("[%s]" % lines.replace("\n", ","))
-        used = {item[0] for item in items if len(item) == 4}
-        fine = all(len(item) in (2, 4) and isinstance(item[0], int) for item in items)
-    except (TypeError, ValueError):
+        items = [item_of(thing) for thing in json.loads("[%s]" % lines.replace("\n", ","))]
+        fine = all(isinstance(item[0], int) for item in items)
+    except (AttributeError, KeyError, TypeError, ValueError):
         fine = False
     if not fine:
         raise ValueError("%s is not a record of a game" % place)
-    if not used <= set(range(1, seats + 1)):
+    if not {item.seat for item in items if isinstance(item, Played)} <= set(range(1, seats + 1)):
         raise ValueError("%s has a step whose seat is not from 1 to %d" % (place, seats))
     return items
 

@@ -53,7 +53,7 @@ def differences(lines, given):
 
 def page(title, text, steps, lines, history=None, own=None, names=()):
     """The text of the page for a table, steps, and what the program prints of them, or another history that was given. `names` are
-    those of who played each step."""
+    those of the players, step by step."""
     shown = lines if history is None else history
     flaws = differences(lines, shown)
     if any("<" in word for word in (steps, shown)):

@@ -2,6 +2,7 @@
 import asyncio
 import contextlib
 import json
+from typing import NamedTuple
 
 from dollar.answers import numbered
 from dollar.board.game import Game
@@ -18,9 +19,29 @@ def event(kind, thing, number=None):
     return ("%sevent: %s\ndata: %s\n\n" % (name, kind, json.dumps(thing))).encode()
 
 
+class Played(NamedTuple):
+    """An entry, with the name of the pupil who sat there."""
+
+    seat: int
+    line: str
+    answer: str
+    name: str
+
+
+class Rewound(NamedTuple):
+    """Somebody took entries back, or played again what was taken back last; so many entries are left."""
+
+    left: int
+    name: str
+
+
+def as_thing(item):
+    """An item as it is in JSON."""
+    return {"kind": "played" if isinstance(item, Played) else "rewound", **item._asdict()}
+
+
 class Feed:
-    """What has come, in its order, for the pages that follow it. An item is an entry, as its room, seat, line, answer and who sat there;
-    or it is a room, how many entries its game has now that some were taken back or played again, and by whom."""
+    """What has come, in its order, for the pages that follow it: items, each with the number of its room."""
 
     def __init__(self, room=None):
         self.room, self.items, self.key, self.said = room, [], new_secret()[:LETTERS], (None, b"")
@@ -29,13 +50,14 @@ class Feed:
         """The next items from a number on as an event, and the number after them. Pages that are equally far share its bytes."""
         end = min(len(self.items), number + BATCH)
         if self.said[0] != (number, end):
-            self.said = (number, end), event("entries", [number, self.items[number:end]], "%s.%d" % (self.key, end))
+            things = [{"room": room, **as_thing(item)} for room, item in self.items[number:end]]
+            self.said = (number, end), event("entries", [number, things], "%s.%d" % (self.key, end))
         return end, self.said[1]
 
 
 class Room(Game):
-    """A game of some pupils with its entries, each a seat, a line, an answer and who sat there. What was taken back can be played again
-    until there is another entry. `told` is called when there is something new, and `changed` when the game has ended."""
+    """A game of some pupils with its entries. What was taken back can be played again until there is another entry. `told` is called when
+    there is something new, and `changed` when the game has ended."""
 
     def __init__(self, number, text, seats, whole, told, changed, kept=None):
         super().__init__(text, seats)
@@ -43,7 +65,7 @@ class Room(Game):
         self.entries, self.undone, self.turn, self.saved, self.restarts = [], [], asyncio.Lock(), 0, False
         try:
             for item in kept.items if kept else []:
-                self.take(*item)
+                self.take(item)
         except IndexError:
             raise ValueError("%s is not a record of a game" % kept.place) from None
 
@@ -51,25 +73,24 @@ class Room(Game):
     def feed(self):
         return self.feeds[0]
 
-    def take(self, *item):
-        """Takes an item of a feed: an entry, or how many entries there are now, and by whom: fewer if some were taken back, and more if
-        those that were taken back last are there again."""
-        if len(item) == 4:
+    def take(self, item):
+        """Takes an item of a feed."""
+        if isinstance(item, Played):
             self.entries.append(item)
             self.undone.clear()
-        elif item[0] < len(self.entries):
-            self.undone.append(self.entries[item[0]:])
-            del self.entries[item[0]:]
+        elif item.left < len(self.entries):
+            self.undone.append(self.entries[item.left:])
+            del self.entries[item.left:]
         else:
             self.entries += self.undone.pop()
         for feed in self.feeds:
-            feed.items.append([self.number, *item])
+            feed.items.append((self.number, item))
 
-    def comes(self, *item):
+    def comes(self, item):
         """Takes an item, keeps it, and tells it."""
-        self.take(*item)
+        self.take(item)
         if self.kept:
-            self.kept.add(item)
+            self.kept.add(as_thing(item))
         self.told()
 
     async def begin(self, entries=None):
@@ -86,7 +107,7 @@ class Room(Game):
 
     async def agrees(self, answers, entries):
         """Ends the program and raises ValueError if its answers are not those of the entries."""
-        if answers != [answer for _, _, answer, _ in entries]:
+        if answers != [entry.answer for entry in entries]:
             await self.close()
             raise ValueError("the program does not answer the lines of the game as it did")
 
@@ -107,7 +128,7 @@ class Room(Game):
                 return None
             answer = await self.answer("%d %s" % (seat, line))
             if answer is not None and answer[:1].isdigit():
-                self.comes(seat, line, answer, name)
+                self.comes(Played(seat, line, answer, name))
             return answer
 
     async def undo(self, name):
@@ -119,7 +140,7 @@ class Room(Game):
                 return None
             if changes:
                 await self.begin(self.entries[:changes[-1]])
-                self.comes(changes[-1], name)
+                self.comes(Rewound(changes[-1], name))
             return bool(changes)
 
     async def redo(self, name):
@@ -130,7 +151,7 @@ class Room(Game):
             again = self.undone[-1] if self.undone else []
             if again:
                 await self.agrees(await self.answers(lines_of(again)), again)
-                self.comes(len(self.entries) + len(again), name)
+                self.comes(Rewound(len(self.entries) + len(again), name))
             return bool(again)
 
     async def again(self):
@@ -148,9 +169,9 @@ class Room(Game):
     def now(self):
         """The text of the table as it stands."""
         made, changes = json.loads(self.text), [entry for entry in self.entries if has_changed(entry)]
-        made["edges"] += [[*line.split(" ")[1:], 1] for _, line, _, _ in changes if line.startswith("join ")]
+        made["edges"] += [[*entry.line.split(" ")[1:], 1] for entry in changes if entry.line.startswith("join ")]
         if changes:
-            amounts = numbered(changes[-1][2]).amounts
+            amounts = numbered(changes[-1].answer).amounts
             made["amounts"] = [amounts[name] for name in made["vertices"]]
         return json.dumps(made)
 
@@ -158,14 +179,14 @@ class Room(Game):
         return "".join("%s\n" % line for line in lines_of(self.entries))
 
     def history(self):
-        return "".join("%s\n" % answer for _, _, answer, _ in self.entries)
+        return "".join("%s\n" % entry.answer for entry in self.entries)
 
 
 def lines_of(entries):
     """The lines that the program is given for entries."""
-    return ["%d %s" % (seat, line) for seat, line, _, _ in entries]
+    return ["%d %s" % (entry.seat, entry.line) for entry in entries]
 
 
 def has_changed(entry):
     """Whether an entry has changed the board."""
-    return entry[2].split(" ")[1] in CHANGES
+    return entry.answer.split(" ")[1] in CHANGES

@@ -1,5 +1,5 @@
-/* A class: a click is a line, and the board shows what came back. A pupil's page shows the board of his room; those of the teacher and
-   of who only watches show all boards small, and one of them large. */
+/* A class: a click is a line, and the board shows what came back. A pupil's page shows the board of its room; those of the teacher and of
+   people who only watch show all boards small, and one of them large. */
 
 import { Board, draw } from "./board.js";
 import { Editor } from "./edit.js";
@@ -177,10 +177,10 @@ function flush() {
   frame = null;
   const start = performance.now(), follows = viewer.now === viewer.game.length;
   let grown = false, leapt = null;
-  for (const [number, ...item] of waiting) {
-    const room = roomOf(number), words = item.length === 2 ? leap(room, ...item) : take(room, item);
+  for (const item of waiting) {
+    const room = roomOf(item.room), words = item.kind === "rewound" ? leap(room, item) : take(room, item);
     room.is_new = true;
-    if (number === shownRoom) [grown, leapt] = [true, words || leapt];
+    if (item.room === shownRoom) [grown, leapt] = [true, words || leapt];
   }
   waiting = [];
   // What comes while the teacher draws a table is shown after it.
@@ -199,27 +199,26 @@ function flush() {
 }
 
 function take(room, item) {
-  const seat = String(item[0]);
+  const seat = String(item.seat);
   add(room, item);
   room.undone = [];
   entries.set(seat, (entries.get(seat) || 0) + 1);
 }
 
 function add({ game, items }, item) {
-  const [seat, line, answer] = item;
-  game.add(`${seat} ${line}`, answer);
+  game.add(`${item.seat} ${item.line}`, item.answer);
   items.push(item);
 }
 
 /* Goes back or on to so many entries, and says who has done it. */
-function leap(room, count, name) {
+function leap(room, { left, name }) {
   const { game, items, undone } = room, who = me && name === me.name ? "You have" : `${name} has`;
-  if (count > game.length) {
+  if (left > game.length) {
     undone.pop().forEach((item) => add(room, item));
     return `${who} played the move again.`;
   }
-  undone.push(items.splice(count));
-  game.cut(count);
+  undone.push(items.splice(left));
+  game.cut(left);
   room.backs += 1;
   return `${who} taken the last move back.`;
 }
@@ -288,7 +287,7 @@ function notice(words) {
   box.hidden = !words;
 }
 
-/* All boards, small: each with who plays there, in how many moves, and whether it is done. */
+/* All boards, small: each with the names of those who play there, in how many moves, and whether it is done. */
 
 const playersOf = (number) => Object.values(state.names).filter(({ room }) => room === number).map(({ name }) => name);
 
@@ -533,7 +532,7 @@ async function start() {
   given = await (await fetch("start")).json();
   const { game } = roomOf(1);
   viewer = new Viewer(game, layoutOf(given.layout), {
-    hands: !teaches(), who: (seat, index) => roomOf(shownRoom).items[index - 1][3], speaks: (step) => me && Number(step.seat) === me.seat,
+    hands: !teaches(), who: (seat, index) => roomOf(shownRoom).items[index - 1].name, speaks: (step) => me && Number(step.seat) === me.seat,
     fewest: (moves) => (me ? fewest(tableOf(shownRoom), moves) : null),
   });
   viewer.filled(0);

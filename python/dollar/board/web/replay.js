@@ -12,5 +12,5 @@ const viewer = new Viewer(game, layoutOf(JSON.parse(read("layout"))), {
   flaws: JSON.parse(read("flaws")), who: (seat, index) => names[index - 1] || `Seat ${seat}`,
 });
 viewer.filled(0);
-// For who looks at the page from its console.
+// For people who look at the page from its console.
 element("board").viewer = viewer;
