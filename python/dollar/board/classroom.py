@@ -16,15 +16,15 @@ from dollar.board.server import Nothing, Refused, as_json, new_secret, same, tex
 from dollar.program import PATIENCE, Fault, printed
 
 MOST_BODY, MOST_TABLE, MOST_NAME = 1 << 14, 1 << 22, 24
-# A seat may play so many lines at once, and then so many in a second; so many of its lines wait, and so many pages are open on it.
-AT_ONCE, IN_A_SECOND, MOST_WAITING, MOST_PAGES = 60, 10.0, 4, 4
-HEARTBEAT, UNUSED = 15.0, 60.0
+# A seat may play so many lines at once, and then so many in a second; so many of its lines wait.
+AT_ONCE, IN_A_SECOND, MOST_WAITING = 60, 10.0, 4
+HEARTBEAT, UNUSED = 5.0, 60.0
 # Pages are told together what comes within so many seconds.
 TOGETHER = 0.03
 # The letters of the short code, and how many wrong ones are tried at once, and then in a second.
 SHORT, TRIES, TRIES_IN_A_SECOND = 6, 10, 3.0
 FILES = {"table.json": "application/json", "steps.txt": "text/plain", "history.txt": "text/plain"}
-KEEP_OPEN, JOINER = b": the game goes on\n\n", "\u200d"
+BEAT, JOINER = event("beat", {}), "\u200d"
 # What the teacher permits, the first words of the lines that fall under it, and what it is called.
 SWITCHES = {"gifts": (["gift"], "gifts and levies"), "edges": (["join"], "new edges"),
             "questions": (["look", "commit", "rank"], "looks, commits and rank tests"), "undo": ([], "undo and redo"),
@@ -61,11 +61,11 @@ class NewTable(Refused):
 
 
 class Seat:
-    """A seat that somebody has: the key that only that pupil's page knows, the name, the browser, and the pages that are open on it."""
+    """A seat that somebody has: the key that only that pupil's page knows, the name, the browser, and the page that is open on it."""
 
     def __init__(self, number, name, browser=None, key=None):
         self.number, self.name, self.browser, self.key = number, name, browser, key or new_secret()
-        self.pages, self.played, self.waiting, self.seen = [], 0, 0, time.monotonic()
+        self.page, self.played, self.waiting, self.seen = None, 0, 0, time.monotonic()
         self.bucket = Bucket(AT_ONCE, IN_A_SECOND)
 
     def takes(self):
@@ -219,7 +219,7 @@ class Classroom:
     def state(self):
         """Who is there, and what goes on, as an event. All pages share its bytes."""
         if self.told_state[0] != self.changes:
-            names = {seat.number: {"name": seat.name, "here": len(seat.pages), "room": self.number_of(seat)}
+            names = {seat.number: {"name": seat.name, "here": seat.page is not None, "room": self.number_of(seat)}
                      for seat in self.taken.values()}
             self.told_state = self.changes, event("state", {
                 "names": names, "paused": self.paused, "open": self.is_open, "may": self.may, "size": self.size, "shown": self.shown,
@@ -228,13 +228,13 @@ class Classroom:
 
     async def events(self, gone, mark, seat):
         """The table, the state and the entries, from a mark on, as they come, until the page has gone, or its seat was freed or is open
-        in too many other pages. A mark is the key of a feed and a number; of another feed all is told."""
+        in a newer one. A mark is the key of a feed and a number; of another feed all is told."""
         follower, (key, number), seen = Follower(gone), mark, -1
         self.followers.add(follower)
         if seat:
-            seat.pages.append(follower)
-            for old in seat.pages[:-MOST_PAGES]:
-                old.end("asleep")
+            if seat.page:
+                seat.page.end("asleep")
+            seat.page = follower
             self.changed()
         try:
             while follower.goes_on():
@@ -250,16 +250,15 @@ class Classroom:
                     yield said
                 elif follower.is_due:
                     follower.is_due = False
-                    yield KEEP_OPEN
+                    yield BEAT
                 else:
                     await follower.sleep()
             if not gone.done():
                 yield event(follower.word, {})
         finally:
             self.followers.discard(follower)
-            if seat:
-                seat.pages.remove(follower)
-                seat.seen = time.monotonic()
+            if seat and seat.page is follower:
+                seat.page, seat.seen = None, time.monotonic()
                 self.changed()
 
     # Requests.
@@ -332,7 +331,7 @@ class Classroom:
         self.permits("hints" if asked == "hint" else "undo")
         acts = {"undo": lambda: room.undo(seat.name), "redo": lambda: room.redo(seat.name),
                 "hint": lambda: asyncio.to_thread(hint, room.now())}
-        return as_json({asked: await self.done(seat, room, request, acts[asked])})
+        return await self.done(asked, seat, room, request, acts[asked])
 
     def permits(self, switch):
         """Refuses what the teacher does not permit."""
@@ -357,7 +356,7 @@ class Classroom:
         free = [number for number in range(1, self.seats + 1) if number not in self.taken]
         if not free:
             late = time.monotonic() - UNUSED
-            idle = [seat for seat in self.taken.values() if not seat.pages and not seat.played and seat.seen < late]
+            idle = [seat for seat in self.taken.values() if not seat.page and not seat.played and seat.seen < late]
             if not idle:
                 raise Refused(409, "All %d seats are taken. The teacher can free one." % self.seats)
             free = [idle[0].number]
@@ -374,10 +373,11 @@ class Classroom:
         for switch, (words, _) in SWITCHES.items():
             if line.split(" ")[0] in words:
                 self.permits(switch)
-        return as_json({"answer": await self.done(seat, room, request, lambda: self.play(seat, room, line))})
+        return await self.done("answer", seat, room, request, lambda: self.play(seat, room, line))
 
-    async def done(self, seat, room, request, act):
-        """What comes of an act of a seat in its room, if it may act now. It goes on also if who asked has gone meanwhile."""
+    async def done(self, called, seat, room, request, act):
+        """What comes of an act of a seat in its room, if it may act now, with how many items its page has to draw until it shows that. It
+        goes on also if who asked has gone meanwhile."""
         if self.paused:
             raise Refused(409, "The teacher has paused the game. This line was not played.")
         if not seat.takes():
@@ -394,7 +394,7 @@ class Classroom:
             raise NewTable
         if came is None:
             raise Refused(503, "The game has ended. This line was not played, unless the list has it.")
-        return came
+        return as_json({called: came, "items": len(room.feed.items)})
 
     async def play(self, seat, room, line):
         answer = await room.ask(seat.number, line, seat.name)
@@ -442,8 +442,8 @@ class Classroom:
             raise Refused(409, "Nobody has this seat.")
         if bar and seat.browser:
             self.barred.add(seat.browser)
-        for follower in seat.pages:
-            follower.end("freed")
+        if seat.page:
+            seat.page.end("freed")
 
     async def again(self):
         """Starts the programs that have ended again, with all entries that there were."""

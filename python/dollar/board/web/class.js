@@ -4,7 +4,7 @@
 import { Board, draw } from "./board.js";
 import { Editor } from "./edit.js";
 import { Hands } from "./hand.js";
-import { fewest, post, save, startPage, store, stored, sure } from "./page.js";
+import { Link, fewest, post, save, startPage, store, stored, sure } from "./page.js";
 import { fitted, layoutOf } from "./places.js";
 import { Viewer, bind, button, element, made, say } from "./viewer.js";
 import { Game, besideWords, faultWords, movesWords } from "./words.js";
@@ -14,9 +14,9 @@ const CHANGES = ["moved", "given", "joined"];
 const FILES = { "take-table": "table.json", "take-steps": "steps.txt", "take-history": "history.txt" };
 const SWITCHES = ["gifts", "edges", "questions", "undo", "hints"];
 const KEPT = `dollar ${location.pathname.replaceAll("-", "").toLowerCase()}`;
-export let given, viewer, hands, editor, source, me = null, state = null, waiting = [], received = 0, shownRoom = 1;
-const MEANWHILE = 200;
-let preview = [140, 110], frame = null, took = 0, last = 0, stopped = false, broken = false, missed = false;
+export let given, viewer, hands, editor, me = null, state = null, waiting = [], received = 0, shownRoom = 1;
+const MEANWHILE = 200, PATIENCE = 10000;
+let preview = [140, 110], frame = null, took = 0, last = 0, stopped = false, missed = false;
 export const entries = new Map(), rooms = new Map();
 
 const teaches = () => given.role === "teacher";
@@ -49,7 +49,7 @@ async function join() {
 
 function leaveSeat(words) {
   keep(null);
-  if (source) source.close();
+  link.close();
   // What is still to be drawn says nothing over these words.
   state = null;
   enter(false);
@@ -70,57 +70,57 @@ function watch() {
   element("hands").hidden = true;
   document.body.classList.add("watching");
   showWay();
-  listen("events?");
+  link.listen(() => place("events?"));
 }
 
 function sit() {
   enter(true);
-  listen(`events?key=${encodeURIComponent(me.key)}&`);
+  const key = encodeURIComponent(me.key);
+  link.listen(() => place(`events?key=${key}&`));
 }
 
 /* What comes from the server. */
 
-function listen(path) {
-  if (source) source.close();
-  source = new EventSource(`${path}from=${given.feed}.${received}`);
-  source.addEventListener("table", (event) => handed(JSON.parse(event.data)));
-  source.addEventListener("entries", (event) => taken(...JSON.parse(event.data)));
-  source.addEventListener("state", (event) => {
-    state = JSON.parse(event.data);
-    scheduleFlush();
-  });
-  source.addEventListener("freed", () => leaveSeat("Your seat was freed. You can take another."));
-  source.addEventListener("asleep", () => {
-    source.close();
-    notice("This seat is open in too many pages. This page shows nothing new until you load it again.");
-  });
-  source.addEventListener("open", () => {
-    if (broken && hands) hands.tell("");
-    broken = false;
-    scheduleFlush();
-  });
-  source.addEventListener("error", () => {
-    broken = true;
-    if (source.readyState !== EventSource.CLOSED) notice("There is no connection to the game. The page tries again.");
-    else checkSeat(path);
-  });
+const NO_LINK = "There is no connection to the game. The page tries again.";
+const place = (path) => `${path}from=${given.feed}.${received}`;
+
+function unheard(refused) {
+  if (refused) checkSeat();
+  else notice(NO_LINK);
 }
+
+export const link = new Link(PATIENCE, {
+  table: handed, beat() {},
+  entries: (come) => taken(...come),
+  state(now) {
+    state = now;
+    scheduleFlush();
+  },
+  freed: () => leaveSeat("Your seat was freed. You can take another."),
+  asleep() {
+    link.close();
+    notice("Your seat is open in another page now. To play here, load this page again.");
+  },
+}, unheard);
 
 /* A page that was not let in: its seat was freed, or the game is gone. Only the server itself can say so; what a network puts between is
    tried again. */
 
 const AGAIN = 2000;
 
-async function checkSeat(path) {
+async function checkSeat() {
   try {
     const got = await fetch("start");
     if (got.ok && me) return leaveSeat("This is no longer your seat. You can take another.");
-    if (got.status === 404 && (await got.text()) === "there is nothing here") return notice("The game is not there any more.");
+    if (got.status === 404 && (await got.text()) === "there is nothing here") {
+      link.close();
+      return notice("The game is not there any more.");
+    }
   } catch {
     /* It is tried again. */
   }
-  notice("There is no connection to the game. The page tries again.");
-  setTimeout(() => listen(path), AGAIN);
+  notice(NO_LINK);
+  setTimeout(() => link.source && link.listen(link.place), AGAIN);
   return null;
 }
 
@@ -194,6 +194,7 @@ function flush() {
   missed = false;
   if (leapt && hands) hands.note(leapt);
   if (state) showState();
+  link.drew();
   last = performance.now();
   took = last - start;
 }
@@ -225,12 +226,10 @@ function leap(room, { left, name }) {
 
 function showState() {
   const { over, ends, paused, names } = state, end = over ? { status: 0 } : ends[shownRoom];
-  const pages = me && names[me.seat] ? names[me.seat].here : 1;
   if (stopped && !paused && !end && hands) hands.tell("");
   stopped = paused || Boolean(end);
   if (end) notice(endWords(end));
   else if (paused) notice("The teacher has paused the game.");
-  else if (pages > 1) notice(`This seat is open in ${pages} pages. All of them play for it.`);
   else notice("");
   showNames(names);
   if (hands) permit();
@@ -351,13 +350,16 @@ function enlarge(number) {
 /* What a seat plays. */
 
 export async function play(line) {
+  if (viewer.now < viewer.game.length) {
+    viewer.go(viewer.game.length);
+    return hands.note("You were at an earlier step, so this was not played. This is the board now.");
+  }
   return sent("line", { line });
 }
 
 /* Whether the board can be won: a look, and the verdict on it. */
 async function ask() {
-  await play("look");
-  if (element("refused").hidden) await play("commit");
+  if ((await play("look")) && element("refused").hidden) await play("commit");
 }
 
 /* One move that helps. */
@@ -368,12 +370,21 @@ async function hint() {
   hands.hint(got.hint);
 }
 
-async function sent(path, thing) {
+/* Nothing is played while the page does not hear what comes of it, and each line only when the one before it is drawn. */
+
+function sent(path, thing) {
   if (!me) return hands.tell("Take a seat first.");
-  const got = await hands.patient(post(path, { key: me.key, feed: given.feed, ...thing }));
-  if (got.status === 404) return checkSeat(`events?key=${encodeURIComponent(me.key)}&`);
-  if (got.status === null) return hands.tell(`${got.refused} The list shows whether the line was played.`);
+  if (!link.hears) return hands.tell("This page does not hear the game just now. This was not played.");
+  const { feed } = given;
+  return link.inTurn(() => me && hands.patient(sentNow(path, { key: me.key, feed, ...thing })));
+}
+
+async function sentNow(path, thing) {
+  const got = await link.post(path, thing);
+  if (got.status === 404) return checkSeat();
+  if (got.status === null) return hands.tell(`${got.refused} The list shows whether the line was played. Later clicks were not.`);
   if (got.refused) return hands.tell(got.refused);
+  await link.until(() => given.feed !== thing.feed || received - waiting.length >= got.items);
   const bad = got.answer && got.answer.startsWith("bad ");
   hands.tell(bad ? faultWords(got.answer) : "", bad ? got.answer : "");
   if (!bad) hands.unchoose();
@@ -525,7 +536,7 @@ function teach() {
   }
   drawTables();
   offer();
-  listen("events?");
+  link.listen(() => place("events?"));
 }
 
 async function start() {
