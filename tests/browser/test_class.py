@@ -15,7 +15,7 @@ from pathlib import Path
 
 from browser import browsers
 from common import EXAMPLES, PATIENCE, addresses, asked, is_modest, played, refused, started, swings, tell, text_of, together, written
-from dollar.board.server import address_of
+from dollar.board.server import addresses_of
 from helpers import equal, expect, tests_of
 from model import some_command
 from visitors import TABLE, PagePupil, Place, Pupil, Watcher, a_class, program_of, taken
@@ -113,7 +113,7 @@ def without_secret(place, ann, line, wrong):
         f"/{secret}/events?key=&from=0", f"/{secret}/events?key={wrong}&from=0", f"/{secret}/events?key={ann.key}&from=x",
         "/favicon.ico", "/robots.txt")))
     teachers = [("POST", path, {"seat": 1, "paused": True})
-                for path in ("pause", "free", "end", "again", "replay", "move", "may", "door", "show", "table", "tables", "start", "")]
+                for path in ("pause", "free", "end", "again", "replay", "move", "may", "door", "show", "place", "table", "tables", "start", "")]
     refused_alike(place, "a pupil", ("POST", f"/{wrong}/line", line), ("POST", "/line", line), *teachers)
     keys = "", "1", wrong, "x" * 64, ann.key[:-1]
     refused_alike(place, "another seat", *(("POST", "line", {"key": key, "line": "claim", "seat": 1}) for key in keys))
@@ -350,7 +350,7 @@ def teacher_here(folder):
     with played(table, *words) as (_, (pupils, teacher)):
         desk = Place(teacher)
         equal((desk.host, desk.get("start")[0], desk.post("pause", {"paused": True})[0]), ("127.0.0.1", 200, 200), "the teacher here")
-        far = Place(f"http://{address_of('0.0.0.0')}:{desk.port}{desk.path}")
+        far = Place(f"http://{(addresses_of('0.0.0.0') or [desk.host])[0]}:{desk.port}{desk.path}")
         if far.host != desk.host:
             for path in "", "start", "steps.txt":
                 equal(far.get(path)[0], 404, f"the teacher from elsewhere at {path}")

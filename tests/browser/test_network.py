@@ -1,7 +1,9 @@
 """A class on a network that forgets connections without a word, and on computers with several addresses."""
 import contextlib
-import json
+import itertools
 import os
+import re
+import shutil
 import socket
 import subprocess
 import tempfile
@@ -9,79 +11,66 @@ import threading
 import unittest
 
 import firefox
-from browser import READY, Page, at, needed
-from common import EXAMPLES, played
+from browser import Page, at, needed
+from common import EXAMPLES, PATIENCE, PLAY, played
 from helpers import equal, expect, tests_of
 from visitors import PagePupil, Place, Pupil, taken
 
 
 class Network:
-    """What lies between pages and a server, at a port of its own. It may forget its connections: they stay open, and nothing comes."""
+    """What lies between pages and a server. Whenever its age grows it forgets its connections: they stay open, and nothing comes."""
 
     def __init__(self):
-        self.listener, self.lines, self.to = socket.create_server(("127.0.0.1", 0), backlog=64), [], None
-        self.port = self.listener.getsockname()[1]
+        self.listener, self.age = socket.create_server(("127.0.0.1", 0), backlog=64), 0
+        with socket.create_server(("127.0.0.1", 0)) as free:
+            self.port, self.to = (each.getsockname()[1] for each in (self.listener, free))
         threading.Thread(target=self.run, daemon=True).start()
 
     def run(self):
         with contextlib.suppress(OSError):
             while True:
-                near = self.listener.accept()[0]
-                line = {"ends": (near, socket.create_connection(("127.0.0.1", self.to))), "lives": True}
-                self.lines.append(line)
-                for ends in line["ends"], line["ends"][::-1]:
-                    threading.Thread(target=self.carry, args=[line, *ends], daemon=True).start()
+                ends = self.listener.accept()[0], socket.create_connection(("127.0.0.1", self.to))
+                for one, other in ends, ends[::-1]:
+                    threading.Thread(target=self.carry, args=[self.age, one, other], daemon=True).start()
 
-    def carry(self, line, one, other):
+    def carry(self, age, one, other):
         with contextlib.suppress(OSError):
-            while data := one.recv(1 << 16):
-                if line["lives"]:
-                    other.sendall(data)
-            if line["lives"]:
-                other.shutdown(socket.SHUT_WR)
-
-    def forgets(self):
-        for line in self.lines:
-            line["lives"] = False
+            data = True
+            while data:
+                data = one.recv(1 << 16)
+                if self.age == age:
+                    other.sendall(data) if data else other.shutdown(socket.SHUT_WR)
 
 
 @contextlib.contextmanager
-def forgetful(table, *words):
-    """A class behind a network: the network, and the addresses that lead through it."""
-    network = Network()
-    with played(table, "--class", "4", "--name", f"127.0.0.1:{network.port}", *words) as (child, found):
-        equal({Place(address).port for address in found}, {network.port}, "the addresses through the network")
-        # Its own port is in none of the addresses.
-        network.to = port_of(child)
-        yield network, found
-    network.listener.close()
-
-
-def port_of(child):
-    """The port at which a process listens."""
-    inodes = {os.readlink(f"/proc/{child.pid}/fd/{name}") for name in os.listdir(f"/proc/{child.pid}/fd")}
-    with open("/proc/net/tcp") as lines:
-        rows = [row.split() for row in lines]
-    return next(int(row[1][-4:], 16) for row in rows if row[3] == "0A" and f"socket:[{row[9]}]" in inodes)
+def through(network, browsers, *words):
+    """A class behind a network, as its addresses. The browsers that look at it are left as they were."""
+    for browser in browsers:
+        browser.asked.clear()
+    with played(EXAMPLES / "houses.json", "--class", "4", "--port", str(network.to), "--name", f"127.0.0.1:{network.port}", *words) as (_, found):
+        yield found
+        for browser in browsers:
+            browser.harmless(Place(found[0]).origin)
+            browser.go("about:blank")
+            browser.asked.clear()
 
 
 def dying_connections(folder, browsers):
     """Connections die: all that is played is drawn, in its order, on the pupil's page and on the wall."""
     one, two, _ = browsers
-    with forgetful(EXAMPLES / "houses.json") as (network, (pupils, teacher)):
-        for browser in browsers:
-            browser.asked.clear()
+    network = Network()
+    with through(network, browsers) as (pupils, teacher):
         ann, wall = PagePupil(one, pupils, "Ann", folder), Page(two, pupils, os.path.join(folder, "wall"))
         wall.click("#watch")
         wall.until("state !== null")
         other = Pupil(pupils, "other", events=False)
         ann.click(at("cyd"))
         ann.has(1)
-        network.forgets()
+        network.age += 1
         for name in "bob", "cyd", "dan":
             ann.click(at(name))
         ann.has(4)
-        network.forgets()
+        network.age += 1
         other.play("borrow cyd")
         for page in ann, wall:
             page.has(5)
@@ -95,9 +84,50 @@ def dying_connections(folder, browsers):
             page.has(45)
             equal(page.value("viewer.game.replies.map(({ line }) => line)"), history, "what a page has drawn")
         equal(ann.value("[state.names[me.seat].here, $('#refused').hidden]"), [True, True], "who is here, and what is refused")
-        for browser in browsers:
-            browser.harmless(pupils)
-            browser.go("about:blank")
+
+
+CARD = "ip link add {0} type {1} && ip addr add {2} dev {0} && ip link set {0} up"
+OWN, OPEN = CARD.format("class", "veth", "10.5.0.7/24"), "can be opened from other machines of this network."
+MORE = [CARD.format("docker0", "bridge", "172.17.0.1/16"), CARD.format("stick", "veth", "172.31.9.9/24"), "ip route add default via 172.31.9.1"]
+COMPUTERS = [("in no network", [], ["127.0.0.1"], "can be opened on this machine alone."),
+             ("with a network of the class's own, which leads nowhere", [OWN], ["10.5.0.7"], OPEN),
+             ("with a stick that leads to the internet as well, and a bridge", [*MORE, OWN], ["10.5.0.7", "172.31.9.9", "172.17.0.1"], OPEN)]
+
+
+def computers(folder):
+    """The likeliest address of a computer is shown and the others are told, whatever networks it is in."""
+    apart = ["unshare", "-rn", "sh", "-ec"]
+    if not shutil.which("ip") or subprocess.run([*apart, OWN], capture_output=True).returncode:
+        raise unittest.SkipTest("the addresses of other computers, for want of network namespaces")
+    for what, cards, (first, *others), words in COMPUTERS:
+        given = [*PLAY, EXAMPLES / "houses.json", "--class", "2", "--host", "0.0.0.0", "--port", "4000"]
+        child = subprocess.Popen([*apart, "\n".join(["ip link set lo up", *cards, 'exec "$@"']), "sh", *given], stdin=subprocess.DEVNULL,
+                                 stdout=subprocess.PIPE, text=True)
+        said = "".join(itertools.takewhile(lambda line: "ends it" not in line, child.stdout))
+        child.terminate()
+        equal(child.wait(PATIENCE), 0, f"the end on a computer {what}")
+        told = f"Other addresses:   {', '.join(f'{each}:4000' for each in others)}. The teacher's page can choose."
+        expect(words in said and [Place(each).host for each in re.findall(r"http://\S+", said)] == [first, first], f"a computer {what}: {said}")
+        expect(told in said if others else "Other" not in said, f"the other addresses of a computer {what}: {said}")
+
+
+def chosen(folder):
+    """The teacher chooses which address is shown."""
+    one, two, _ = browsers = needed()
+    network = Network()
+    with through(network, browsers, "--name", "vm:8080") as (pupils, teacher):
+        desk, wall = Page(one, teacher, os.path.join(folder, "desk")), Page(two, pupils, os.path.join(folder, "wall"))
+        wall.click("#watch")
+        for page in desk, wall:
+            page.until("state !== null")
+        before = wall.value("$('#code').innerHTML")
+        equal(desk.value("texts('#which option')"), [f"127.0.0.1:{network.port}", "vm:8080"], "the addresses to choose from")
+        equal([page.value("$('#here').hidden") for page in (desk, wall)], [False, False], "a word on an address of this computer alone")
+        desk.value("($('#which').value = 'vm:8080', $('#which').dispatchEvent(new Event('change')))")
+        for page in desk, wall:
+            page.until(f"$('#address').textContent === 'http://vm:8080/{Place(pupils).secret}/' && $('#here').hidden")
+        expect(wall.text("#short").startswith("http://vm:8080/") and wall.value("$('#code').innerHTML") != before, "the short address and the code")
+        equal(Place(teacher).post("place", {"place": "evil.example"}), (409, "This machine does not have this address any more."), "another")
 
 
 def in_chromium(folder):
@@ -108,4 +138,4 @@ def in_firefox(folder):
     dying_connections(folder, firefox.needed())
 
 
-load_tests = tests_of(in_chromium, in_firefox, given=tempfile.TemporaryDirectory)
+load_tests = tests_of(computers, chosen, in_chromium, in_firefox, given=tempfile.TemporaryDirectory)

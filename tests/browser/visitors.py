@@ -18,13 +18,9 @@ TABLE = {
     "edges": [["ann", "bob", 1], ["bob", "cem", 2], ["cem", "dot", 1], ["dot", "ann", 1], ["dot", "eve", 3]],
     "amounts": [6, -3, 1, -2, -1], "q": "ann"}
 SEND = """(async () => {
-  const told = [], { post } = await import("./page.js");
+  const told = [];
   for (const line of %s) {
-    let got = await post("line", { key: me.key, line });
-    while (got.status === 429) {
-      await new Promise((done) => setTimeout(done, 100));
-      got = await post("line", { key: me.key, line });
-    }
+    const got = await link.post("line", { key: me.key, line });
     told.push(got.refused ? [line, got.status, got.refused] : [line, 200, got.answer]);
   }
   return told;
@@ -64,12 +60,8 @@ class Place:
 
     def post(self, path, thing, **given):
         status, text = self.ask("POST", path, thing, **given)
-        if status != 200:
-            return status, text
-        got = json.loads(text)
-        # How much has to be drawn first is told to pages alone.
-        got.pop("items", None)
-        return status, got
+        # How much a page has to draw first is left out.
+        return status, {key: value for key, value in json.loads(text).items() if key != "items"} if status == 200 else text
 
     def sent(self, request, *headers, body=""):
         """A connection on which a request was sent, whose answer is not read."""

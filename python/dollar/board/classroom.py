@@ -118,7 +118,8 @@ class Classroom:
                 self.taken[number] = Seat(number, name, browser, key)
         self.paused, self.is_open, self.over, self.shown = False, kept.get("open", True), False, kept.get("shown", "all")
         self.followers, self.soon, self.last, self.changes, self.told_state = set(), None, 0.0, 0, (None, b"")
-        self.address, self.port = "", 0
+        # Where others find this: by a place, and by more from which the teacher chooses.
+        self.place, self.places, self.port = "", list, 0
         self.set_tables(tables[:1], kept.get("size", size), 1)
         self.may = {**dict.fromkeys(SWITCHES, False), "questions": True, **dict.fromkeys(IN_ROOMS, self.size > 0), **kept.get("may", {})}
         if keeper:
@@ -187,6 +188,11 @@ class Classroom:
         return {"feed": feed.key, "room": feed.room, "turn": self.turn, "name": tables[0].name, "tables": [table.text for table in tables],
                 "layout": tables[0].layout}
 
+    @property
+    def address(self):
+        """The pupils' address."""
+        return "http://%s/%s/" % (self.place, self.secret)
+
     # What all are told.
 
     def changed(self):
@@ -223,7 +229,7 @@ class Classroom:
                      for seat in self.taken.values()}
             self.told_state = self.changes, event("state", {
                 "names": names, "paused": self.paused, "open": self.is_open, "may": self.may, "size": self.size, "shown": self.shown,
-                "over": self.over, "ends": {room.number: room.end for room in self.rooms.values() if room.end}})
+                "address": self.address, "over": self.over, "ends": {room.number: room.end for room in self.rooms.values() if room.end}})
         return self.told_state[1]
 
     async def events(self, gone, mark, seat):
@@ -295,7 +301,8 @@ class Classroom:
         """What a page gets that plays nothing."""
         if asked == "start":
             return as_json({"role": "teacher" if teaches else "pupil", "seats": self.seats, "address": self.address,
-                            "short": self.short, "code": code(self.address), **self.told_first(self.feed)})
+                            "short": self.short, "code": code(self.address), "places": self.places() if teaches else [],
+                            **self.told_first(self.feed)})
         if asked == "events":
             mark, seat = begin_at(request), None
             if "key" in request.query and not teaches:
@@ -415,6 +422,10 @@ class Classroom:
             self.may = {switch: given.get(switch, now) is True for switch, now in self.may.items()}
         elif asked == "show":
             self.shown = text_in(given, "what", 8)
+        elif asked == "place":
+            if given.get("place") not in self.places():
+                raise Refused(409, "This machine does not have this address any more.")
+            self.place = given["place"]
         elif asked == "end":
             self.over = True
             await self.stop()

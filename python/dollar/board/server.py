@@ -5,6 +5,7 @@ guests, who know the secret, are counted apart: when there are too many of eithe
 without the secret, from another origin or for another host is answered alike: there is nothing here."""
 import asyncio
 import contextlib
+import fcntl
 import hmac
 import ipaddress
 import json
@@ -13,6 +14,7 @@ import re
 import resource
 import secrets
 import socket
+import struct
 
 MOST_HEAD, MOST_HEADERS, MOST_STRANGERS, MOST_GUESTS, MOST_FILES = 8192, 64, 300, 600, 4096
 TO_ASK, TO_SEND, TO_TAKE = 5.0, 8.0, 20.0
@@ -30,6 +32,10 @@ REASONS = {200: "OK", 400: "Bad Request", 404: "Not Found", 409: "Conflict", 413
            503: "Service Unavailable"}
 HOST = re.compile(r"(\[[0-9a-f:.]+\]|[^:\[\]]+)(?::([0-9]{1,5}))?\Z")
 ANY = "0.0.0.0", "::"
+# What Linux is asked for the address of a network card and for its state, the state of one that is on, and how the names of bridges and
+# tunnels begin.
+ADDRESS_OF, FLAGS_OF, IS_UP = 0x8915, 0x8913, 1
+APART = "br", "docker", "lxc", "ppp", "tailscale", "tap", "tun", "veth", "virbr", "wg", "zt"
 LETTERS, LONG = "abcdefghijkmnpqrstuvwxyz23456789", 26
 
 
@@ -44,17 +50,33 @@ def same(given, secret):
     return hmac.compare_digest(given.replace("-", "").lower().encode(), secret.replace("-", "").encode())
 
 
-def address_of(host):
-    """The address at which others find a server that listens on a host: on 0.0.0.0 that of this machine in its network."""
+def addresses_of(host):
+    """The addresses at which others may find a server that listens on a host, the likeliest first: on 0.0.0.0 those that this machine has
+    in its networks. There are none if it has only those that no other machine reaches."""
     if host not in ANY:
-        return host
+        return [host]
+    found, way_out = {}, None
     with socket.socket(socket.AF_INET6 if host == "::" else socket.AF_INET, socket.SOCK_DGRAM) as probe:
-        try:
+        for _, card in socket.if_nameindex() if host != "::" else ():
+            with contextlib.suppress(OSError):
+                asked = struct.pack("40s", card.encode())
+                if struct.unpack_from("H", fcntl.ioctl(probe, FLAGS_OF, asked), 16)[0] & IS_UP:
+                    found[socket.inet_ntoa(fcntl.ioctl(probe, ADDRESS_OF, asked)[20:24])] = card
+        with contextlib.suppress(OSError):
             # No packet is sent: this only asks the system which of its addresses it would send from.
             probe.connect(("2001:db8::1" if host == "::" else "192.0.2.1", 9))
-            return probe.getsockname()[0]
-        except OSError:
-            return "::1" if host == "::" else "127.0.0.1"
+            way_out = probe.getsockname()[0]
+            found.setdefault(way_out, "")
+    return sorted((place for place in found if not is_loopback([place])), key=lambda place: unlikely(place, found[place], place == way_out))
+
+
+def unlikely(place, card, leads_out):
+    """How unlikely it is that a class finds this machine at an address: a real network card is likelier than one that was made up, and
+    that than a bridge or a tunnel. Of several cards it is one that does not lead to the internet: somebody has made a network for the
+    class. Of several bridges it is the one that does."""
+    is_apart = card.startswith(APART)
+    made_up = 2 if is_apart else 0 if os.path.exists("/sys/class/net/%s/device" % card) else 1
+    return made_up, not ipaddress.ip_address(place).is_private, leads_out != is_apart
 
 
 class Refused(Exception):

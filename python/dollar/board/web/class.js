@@ -75,7 +75,7 @@ function watch() {
 
 function sit() {
   enter(true);
-  const key = encodeURIComponent(me.key);
+  const { key } = me;
   link.listen(() => place(`events?key=${key}&`));
 }
 
@@ -84,14 +84,8 @@ function sit() {
 const NO_LINK = "There is no connection to the game. The page tries again.";
 const place = (path) => `${path}from=${given.feed}.${received}`;
 
-function unheard(refused) {
-  if (refused) checkSeat();
-  else notice(NO_LINK);
-}
-
 export const link = new Link(PATIENCE, {
-  table: handed, beat() {},
-  entries: (come) => taken(...come),
+  table: handed, entries: (come) => taken(...come), beat() {},
   state(now) {
     state = now;
     scheduleFlush();
@@ -101,7 +95,7 @@ export const link = new Link(PATIENCE, {
     link.close();
     notice("Your seat is open in another page now. To play here, load this page again.");
   },
-}, unheard);
+}, (refused) => (refused ? checkSeat() : notice(NO_LINK)));
 
 /* A page that was not let in: its seat was freed, or the game is gone. Only the server itself can say so; what a network puts between is
    tried again. */
@@ -112,10 +106,7 @@ async function checkSeat() {
   try {
     const got = await fetch("start");
     if (got.ok && me) return leaveSeat("This is no longer your seat. You can take another.");
-    if (got.status === 404 && (await got.text()) === "there is nothing here") {
-      link.close();
-      return notice("The game is not there any more.");
-    }
+    if (got.status === 404 && (await got.text()) === "there is nothing here") return notice("The game is not there any more.");
   } catch {
     /* It is tried again. */
   }
@@ -235,6 +226,7 @@ function showState() {
   if (hands) permit();
   if (teaches()) showCommands(Boolean(end), end);
   if (watches()) showRooms();
+  if (watches() && state.address !== given.address) renewWay();
   // The way in is shown until all are in, and small once somebody plays.
   document.body.classList.toggle("begun", given.turn > 1 || [...rooms.values()].some(({ game }) => game.length > 0));
   element("way").classList.toggle("full", !state.open || Object.keys(names).length >= given.seats);
@@ -421,11 +413,14 @@ function showCommands(ended, end) {
     box.replaceChildren(...wanted.map(([value, text]) => new Option(text, value)));
   }
   box.value = shown;
+  element("which").value = state.address.split("/")[2];
 }
 
 function showWay() {
   const box = element("code"), lines = given.code;
+  box.replaceChildren();
   element("way").hidden = false;
+  element("here").hidden = !/^http:\/\/(localhost|127\.|\[::1\])/.test(given.address);
   element("address").textContent = given.address;
   element("short").textContent = `${new URL(given.address).origin}/${given.short}`;
   if (!lines) return;
@@ -434,6 +429,13 @@ function showWay() {
   const dots = lines.flatMap((line, y) => [...line].flatMap((dot, x) => (dot === "1" ? [`M${x} ${y}h1v1h-1z`] : [])));
   draw("path", { d: dots.join(""), class: "dot" }, box);
   box.removeAttribute("hidden");
+}
+
+/* The address that the teacher has chosen, which the page may have to be told again. */
+async function renewWay() {
+  const { address, code } = await (await fetch("start")).json();
+  Object.assign(given, { address, code });
+  showWay();
 }
 
 /* The next table: one of those that were named, a puzzle on a graph, or a file. */
@@ -531,6 +533,9 @@ function teach() {
     target.value = "";
   });
   element("show").addEventListener("change", () => command("show", { what: element("show").value }));
+  element("which").append(...given.places.map((each) => new Option(each, each)));
+  element("which").addEventListener("change", () => command("place", { place: element("which").value }));
+  element("which").parentElement.hidden = given.places.length < 2;
   for (const name of SWITCHES) {
     element(`may-${name}`).addEventListener("change", ({ target }) => command("may", { [name]: target.checked }));
   }

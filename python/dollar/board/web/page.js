@@ -9,15 +9,14 @@ const NO_ANSWER = "There is no answer from board/play: it may have ended, or the
 /* What the server says to a request: a thing, or its words if it refuses. */
 
 export async function post(path, thing, patience = LONG) {
-  const stop = new AbortController(), timer = setTimeout(() => stop.abort(), patience);
-  const given = { method: "POST", headers: { "Content-Type": "application/json" }, body: JSON.stringify(thing), signal: stop.signal };
+  const given = { method: "POST", headers: { "Content-Type": "application/json" }, body: JSON.stringify(thing) };
+  // Old browsers know no such signal, and wait.
+  if (AbortSignal.timeout) given.signal = AbortSignal.timeout(patience);
   try {
     const got = await fetch(path, given);
     return got.ok ? await got.json() : { refused: await got.text(), status: got.status };
   } catch {
     return { refused: NO_ANSWER, status: null };
-  } finally {
-    clearTimeout(timer);
   }
 }
 
@@ -30,9 +29,9 @@ export class Link {
      has refused it. */
   constructor(patience = LONG, told = {}, lost = null) {
     Object.assign(this, { patience, told, lost, turn: Promise.resolve(), fails: 0, source: null, heard: 0, hears: false, drew: () => {} });
-    if (!lost) return;
-    setInterval(() => this.look(), LOOK);
-    document.addEventListener("visibilitychange", () => this.look());
+    const look = () => Date.now() - this.heard > SILENT && this.breaks();
+    setInterval(look, LOOK);
+    document.addEventListener("visibilitychange", look);
   }
 
   /* Does something after all that was to be done before it, but not after something that got no answer. */
@@ -46,7 +45,7 @@ export class Link {
     const got = await post(path, thing, this.patience);
     if (got.status === null) {
       this.fails++;
-      if (this.source) this.breaks();
+      this.breaks();
     }
     if (got.status !== TOO_FAST) return got;
     await new Promise((done) => setTimeout(done, RETRY));
@@ -78,11 +77,8 @@ export class Link {
     });
   }
 
-  look() {
-    if (this.source && Date.now() - this.heard > SILENT) this.breaks();
-  }
-
   breaks() {
+    if (!this.source) return;
     this.hears = false;
     this.lost(false);
     this.listen(this.place);
