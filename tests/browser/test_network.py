@@ -84,6 +84,18 @@ def dying_connections(folder, browsers):
             page.has(45)
             equal(page.value("viewer.game.replies.map(({ line }) => line)"), history, "what a page has drawn")
         equal(ann.value("[state.names[me.seat].here, $('#refused').hidden]"), [True, True], "who is here, and what is refused")
+        with socket.create_server(("127.0.0.1", 0)) as silent:
+            real, network.to, network.age = network.to, silent.getsockname()[1], network.age + 1
+            ann.click(at("cyd"))
+            ann.click(at("cyd"))
+            ann.until("$('#refused').textContent.includes('Later clicks were not.') && !$('#notice').hidden")
+            ann.click(at("cyd"))
+            ann.until("$('#refused').textContent.includes('does not hear the game just now.')")
+            network.to = real
+        ann.until("$('#notice').hidden && link.hears")
+        ann.click(at("cyd"))
+        for page in ann, wall:
+            page.has(46)
 
 
 CARD = "ip link add {0} type {1} && ip addr add {2} dev {0} && ip link set {0} up"
