@@ -108,7 +108,7 @@ def without_secret(place, ann, line, wrong):
     """Paths without the secret or with a wrong one, what is the teacher's, and keys of nobody."""
     secret = place.secret
     refused_alike(place, "without the secret", *(("GET", path) for path in (
-        "/", "/start", "/events", f"/{wrong}/", f"/{wrong}/start", f"/{wrong}/events?from=0", f"/{wrong}/steps.txt",
+        "/", f"/{wrong}/", f"/{wrong}/start", f"/{wrong}/events?from=0", f"/{wrong}/steps.txt",
         f"/{wrong}", f"//{secret}/", f"/{secret}/../", f"/{secret}/%2e", f"/{secret}/x/start", f"/{secret}/class.py", f"/{secret}/steps.txt",
         f"/{secret}/events?key=&from=0", f"/{secret}/events?key={wrong}&from=0", f"/{secret}/events?key={ann.key}&from=x",
         "/favicon.ico", "/robots.txt")))

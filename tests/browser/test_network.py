@@ -1,6 +1,7 @@
 """A class on a network that forgets connections without a word, and on computers with several addresses."""
 import contextlib
 import itertools
+import json
 import os
 import re
 import shutil
@@ -11,7 +12,7 @@ import threading
 import unittest
 
 import firefox
-from browser import Page, at, needed
+from browser import READY, Page, at, needed
 from common import EXAMPLES, PATIENCE, PLAY, played
 from helpers import equal, expect, tests_of
 from visitors import PagePupil, Place, Pupil, taken
@@ -124,11 +125,16 @@ def computers(folder):
 
 
 def chosen(folder):
-    """The teacher chooses which address is shown."""
+    """Somebody who mistypes the code is let in, and the teacher chooses which address is shown."""
     one, two, _ = browsers = needed()
     network = Network()
     with through(network, browsers, "--name", "vm:8080") as (pupils, teacher):
         desk, wall = Page(one, teacher, os.path.join(folder, "desk")), Page(two, pupils, os.path.join(folder, "wall"))
+        wall.value(f"void (location.href = '/{desk.text('#short').rpartition('/')[2][::-1]}')")
+        wall.until("document.readyState === 'complete' && $('[role=alert]').textContent.startsWith('There is no such code.')")
+        wall.write(desk.text("#short").rpartition("/")[2], into="input")
+        wall.click("button")
+        wall.until(f"location.href === {json.dumps(pupils)} && {READY}")
         wall.click("#watch")
         for page in desk, wall:
             page.until("state !== null")

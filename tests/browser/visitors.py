@@ -2,6 +2,7 @@
 pages in a browser."""
 import contextlib
 import http.client
+import itertools
 import json
 import re
 import socket
@@ -25,6 +26,8 @@ SEND = """(async () => {
   }
   return told;
 })()"""
+# Each pupil has an address of the network.
+NUMBERS = itertools.count(251)
 ENTRIES = "viewer.game.steps.map((step, i) => [step.seat, step.line.slice(step.seat.length + 1), viewer.game.replies[i].line])"
 
 
@@ -34,7 +37,7 @@ class Place:
     def __init__(self, address):
         parts = urllib.parse.urlsplit(address)
         self.address, self.host, self.port, self.path = address, parts.hostname, parts.port, parts.path
-        self.origin, self.secret = f"http://{parts.netloc}", parts.path.strip("/")
+        self.origin, self.secret, self.source = f"http://{parts.netloc}", parts.path.strip("/"), None
 
     @contextlib.contextmanager
     def answer(self, method, path, thing=None, headers=(), raw=None):
@@ -43,7 +46,7 @@ class Place:
         body = raw if raw is not None or thing is None else json.dumps(thing).encode()
         given = {"Content-Type": "application/json", "Origin": self.origin} if body is not None else {}
         given = {name: value for name, value in {**given, **dict(headers)}.items() if value is not None}
-        link = http.client.HTTPConnection(self.host, self.port, timeout=PATIENCE)
+        link = http.client.HTTPConnection(self.host, self.port, PATIENCE, self.source)
         try:
             link.request(method, path if path.startswith("/") else self.path + path, body, given)
             yield link.getresponse()
@@ -157,6 +160,8 @@ class Pupil(Listener):
     def __init__(self, address, name, events=True, **given):
         super().__init__(Place(address))
         self.name, self.lines = name, []
+        if self.place.host == "127.0.0.1":
+            self.place.source = "127.1.%d.%d" % divmod(next(NUMBERS), 250), 0
         status, got = self.place.post("join", {"name": name, **given})
         if status != 200:
             raise ValueError(got)

@@ -7,22 +7,25 @@ import time
 from collections import Counter
 
 from dollar.board.game import MOST_LINE, Table, tables_of
-from dollar.board.pages import asset, forward, page
+from dollar.board.pages import asset, filled, forward, page
 from dollar.board.puzzles import graphs, hint, puzzles
 from dollar.board.qr import code
 from dollar.board.replay import page as replay_page
 from dollar.board.room import Feed, Room, event
-from dollar.board.server import Nothing, Refused, as_json, new_secret, same, text_in
+from dollar.board.server import LETTERS, Nothing, Refused, as_json, new_secret, same, text_in
 from dollar.program import PATIENCE, Fault, printed
 
-MOST_BODY, MOST_TABLE, MOST_NAME = 1 << 14, 1 << 22, 24
+MOST_BODY, MOST_TABLE, MOST_NAME, MOST_PEERS = 1 << 14, 1 << 22, 24, 1000
 # A seat may play so many lines at once, and then so many in a second; so many of its lines wait.
 AT_ONCE, IN_A_SECOND, MOST_WAITING = 60, 10.0, 4
 HEARTBEAT, UNUSED = 5.0, 60.0
 # Pages are told together what comes within so many seconds.
 TOGETHER = 0.03
-# The letters of the short code, and how many wrong ones are tried at once, and then in a second.
-SHORT, TRIES, TRIES_IN_A_SECOND = 6, 10, 3.0
+# The letters of the short code, what is meant as one, and what is counted as a wrong one.
+SHORT, MEANT, COUNTED = 6, re.compile(r"[A-Za-z0-9-]{1,12}\Z"), re.compile("[%s]{6}\\Z" % LETTERS, re.I)
+# How many wrong codes and new seats one address of the network has at once, and then in a second; and how many all have together. A
+# school may be behind one address.
+TRIES, SEATS = ((40, 2.0), (200, 10.0)), ((12, 0.5), (64, 8.0))
 FILES = {"table.json": "application/json", "steps.txt": "text/plain", "history.txt": "text/plain"}
 BEAT, JOINER = event("beat", {}), "\u200d"
 # What the teacher permits, the first words of the lines that fall under it, and what it is called.
@@ -51,6 +54,23 @@ class Bucket:
             return False
         self.left -= 1
         return True
+
+
+class Limit:
+    """A bucket for each address of the network, beside a wide one for all."""
+
+    def __init__(self, own, whole):
+        self.own, self.whole, self.buckets = own, Bucket(*whole), {}
+
+    def has(self, peer):
+        """Whether there is one more for an address."""
+        if peer not in self.buckets and len(self.buckets) >= MOST_PEERS:
+            self.buckets.pop(next(iter(self.buckets)))
+        return self.buckets.setdefault(peer, Bucket(*self.own)).has() and self.whole.has()
+
+    def takes(self, peer):
+        """Takes one for an address, if there is one."""
+        return self.has(peer) and self.buckets[peer].takes() and self.whole.takes()
 
 
 class NewTable(Refused):
@@ -111,7 +131,8 @@ class Classroom:
         kept = keeper.found if keeper else {}
         self.tables, self.seats, self.keeper, self.teacher_here = tables, seats, keeper, teacher_here
         self.secret, self.teacher = kept.get("secret") or new_secret(), kept.get("teacher") or new_secret()
-        self.short, self.tries = kept.get("short") or new_secret().replace("-", "")[:SHORT], Bucket(TRIES, TRIES_IN_A_SECOND)
+        self.short, self.tries = kept.get("short") or new_secret().replace("-", "")[:SHORT], Limit(*TRIES)
+        self.joins = Limit(*SEATS)
         self.taken, self.barred = {}, set(kept.get("barred", ()))
         for number, name, browser, key in kept.get("seats", ()):
             if number <= seats:
@@ -275,8 +296,8 @@ class Classroom:
         knows = teaches or same(request.parts[0], self.secret)
         if len(request.parts) == 1 and knows:
             return forward(request, request.parts[0])
-        if len(request.parts) == 1 and self.is_short(request.parts[0]):
-            return forward(request, self.secret)
+        if len(request.parts) == 1 and self.is_open and request.method == "GET":
+            return self.at_the_door(request)
         if not knows or len(request.parts) != 2:
             raise Nothing
         asked = request.parts[1]
@@ -288,14 +309,20 @@ class Classroom:
         given = await request.json(MOST_TABLE if teaches else MOST_BODY)
         return await (self.teachers(asked, given) if teaches else self.pupils(asked, given, request))
 
-    def is_short(self, word):
-        """Whether a word is the short code, which leads to the pupils' address while the door is open. Few wrong ones are looked at."""
-        if not self.is_open or not word or not self.tries.has():
-            return False
-        right = same(word, self.short)
-        if not right:
-            self.tries.takes()
-        return right
+    def at_the_door(self, request):
+        """What is said to an address of one part while the door is open: the short code leads to the pupils' address, and what may have been
+        meant for it to a page with a field. Few wrong codes are looked at."""
+        word = request.query.get("code", request.parts[0])
+        if word == "page.css":
+            return asset(word)
+        is_code = COUNTED.match(word.replace("-", "")) and self.tries.has(request.peer)
+        if is_code and same(word, self.short):
+            return forward(request, self.secret)
+        if is_code:
+            self.tries.takes(request.peer)
+        if not MEANT.match(word):
+            raise Nothing
+        return 404, "text/html", filled("wrong.html", {"title": "The dollar game"}).encode()
 
     def given(self, asked, request, teaches):
         """What a page gets that plays nothing."""
@@ -326,7 +353,7 @@ class Classroom:
     async def pupils(self, asked, given, request):
         if asked == "join":
             browser = text_in(given, "browser", 64) if "browser" in given else None
-            return self.join(clean(text_in(given, "name", 200)), browser)
+            return self.join(clean(text_in(given, "name", 200)), browser, request.peer)
         if asked not in ("line", "undo", "redo", "hint"):
             raise Nothing
         seat = self.seat_of(text_in(given, "key", 64))
@@ -345,7 +372,7 @@ class Classroom:
         if not self.may[switch]:
             raise Refused(409, "The teacher has switched off %s. Nothing was played." % SWITCHES[switch][1])
 
-    def join(self, name, browser):
+    def join(self, name, browser, peer):
         """Gives a free seat: of those the one that was used least, so that nobody finds the look of another on it. A browser that has a
         seat keeps it."""
         if browser in self.barred:
@@ -353,6 +380,8 @@ class Classroom:
         own = next((seat for seat in self.taken.values() if browser and seat.browser == browser), None)
         if own is None:
             number = self.free_number()
+            if not self.joins.takes(peer):
+                raise Refused(429, "Many are taking seats from here. Wait a moment.")
             own = self.taken[number] = Seat(number, name or "Seat %d" % number, browser)
             self.changed()
         return as_json({"seat": own.number, "key": own.key, "name": own.name})

@@ -1,7 +1,7 @@
 """A small web server for the pages: it answers those who know a secret, and holds against those who don't.
 
 Each connection brings one request and gets one answer. Whoever is slow, sends too much or sends nonsense is dropped. Strangers and
-guests, who know the secret, are counted apart: when there are too many of either, the oldest of them makes room. Whatever is asked
+guests, who know the secret, are counted apart: when there are too many of either, the address that has most makes room. Whatever is asked
 without the secret, from another origin or for another host is answered alike: there is nothing here."""
 import asyncio
 import contextlib
@@ -15,6 +15,7 @@ import resource
 import secrets
 import socket
 import struct
+from collections import Counter
 
 MOST_HEAD, MOST_HEADERS, MOST_STRANGERS, MOST_GUESTS, MOST_FILES = 8192, 64, 300, 600, 4096
 TO_ASK, TO_SEND, TO_TAKE = 5.0, 8.0, 20.0
@@ -22,7 +23,7 @@ TOKEN = re.compile(r"[A-Za-z0-9!#$%&'*+.^_`|~-]{1,64}\Z")
 VALUE = re.compile(r"[\t -~]*\Z")
 TARGET = re.compile(r"(GET|POST) (/[A-Za-z0-9/._~?=&-]*) HTTP/1\.[01]\Z")
 POLICY = ("default-src 'none'; script-src 'self'; style-src 'self'; img-src 'self' data:; connect-src 'self'; "
-          "base-uri 'none'; form-action 'none'; frame-ancestors 'none'")
+          "base-uri 'none'; form-action 'self'; frame-ancestors 'none'")
 ALWAYS = {
     "Content-Security-Policy": POLICY, "X-Content-Type-Options": "nosniff", "X-Frame-Options": "DENY",
     "Referrer-Policy": "no-referrer", "Cross-Origin-Resource-Policy": "same-origin", "Cross-Origin-Opener-Policy": "same-origin",
@@ -103,7 +104,7 @@ class Request:
         # To be called once it has the secret, and once it is known whose the request is.
         self.is_guest, self.known = is_guest, known
         # Whether it comes from this machine, and through no tunnel; and whether from a program of this user.
-        self.is_local, self.is_own = False, lambda: False
+        self.is_local, self.is_own, self.peer = False, lambda: False, ""
         self.query = dict(pair.partition("=")[::2] for pair in query.split("&") if pair)
 
     async def json(self, most):
@@ -144,15 +145,22 @@ class Crowd:
         self.most, self.writers = most, {}
 
     def take(self, task, writer):
-        """Takes one more, and drops the oldest if there are too many."""
-        self.writers[task] = writer
+        """Takes one more. If there are too many, the address of the network that has most of them loses its oldest."""
+        self.writers[task] = writer, peer_of(writer)
         if len(self.writers) > self.most:
-            oldest = next(iter(self.writers))
-            self.writers.pop(oldest).transport.abort()
+            most = Counter(peer for _, peer in self.writers.values()).most_common(1)[0][0]
+            oldest = next(task for task, (_, peer) in self.writers.items() if peer == most)
+            self.writers.pop(oldest)[0].transport.abort()
             oldest.cancel()
 
     def leave(self, task):
         self.writers.pop(task, None)
+
+
+def peer_of(writer):
+    """The address of the network from which a connection comes; of the sixth version the half that is the network's."""
+    peer = (writer.get_extra_info("peername") or [""])[0]
+    return ":".join(ipaddress.ip_address(peer.partition("%")[0]).exploded.split(":")[:4]) if ":" in peer else peer
 
 
 class Server:
@@ -255,6 +263,7 @@ class Server:
         if headers.get("sec-fetch-site", "none") not in ("none", "same-origin") and headers.get("sec-fetch-dest") != "document":
             raise Nothing
         request = Request(*target.groups(), headers, reader, lambda: self.welcome(task, writer), lambda: self.leave(task))
+        request.peer = peer_of(writer)
         request.is_own = lambda: is_own(*map(writer.get_extra_info, ("peername", "sockname")))
         request.is_local = not self.is_front(headers["host"]) and all(
             is_loopback(writer.get_extra_info(end)) for end in ("peername", "sockname"))

@@ -39,7 +39,9 @@ function browser() {
 async function join() {
   const submit = document.querySelector("#join [type=submit]");
   submit.disabled = true;
-  const got = await post("join", { name: element("your-name").value, browser: browser() });
+  const timer = setTimeout(() => say("join-refused", "Many are coming in. Your seat comes in a moment."), 1000);
+  const got = await link.post("join", { name: element("your-name").value, browser: browser() });
+  clearTimeout(timer);
   submit.disabled = false;
   say("join-refused", got.refused);
   if (got.refused) return;
