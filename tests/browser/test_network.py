@@ -148,6 +148,33 @@ def chosen(folder):
         equal(Place(teacher).post("place", {"place": "evil.example"}), (409, "This machine does not have this address any more."), "another")
 
 
+def shared_laptop(folder):
+    """In a class that goes on another day a laptop asks who is there."""
+    one, *_ = needed()
+    with played(EXAMPLES / "houses.json", "--class", "4", "--keep", os.path.join(folder, "kept")) as (_, (pupils, _)):
+        ann = PagePupil(one, pupils, "Ann", folder)
+        ann.click("#names button")
+        ann.types("#your-name", "Anne")
+        ann.click("#join button")
+        ann.until("texts('#names li b').join() === 'Anne' && me.name === 'Anne' && $('#entrance').hidden")
+        ann.visit(pupils, "me && state !== null")
+        for name in "Bob", "Cem":
+            ann.click("#names li button:last-child")
+            ann.until(f"{READY} && me === null && !$('#known').hidden")
+            ann.join(name, "Enter")
+        ann.click("#names li:nth-child(3) button:last-child")
+        ann.until(f"{READY} && me === null && texts('#known button').join() === 'Cem,Bob,Anne'")
+        ann.click("#known button:last-child")
+        ann.until("me.name === 'Anne' && state !== null && texts('#names li b').join() === 'Anne,Bob,Cem'")
+        ann.click("#names li:nth-child(1) button:nth-of-type(2)")
+        ann.answered(True)
+        ann.told("Your seat was freed.")
+        equal(ann.value("[me, texts('#known button')]"), [None, ["Cem", "Bob"]], "who is known after somebody left")
+        one.harmless(pupils)
+        one.go("about:blank")
+        one.asked.clear()
+
+
 def in_chromium(folder):
     dying_connections(folder, needed())
 
@@ -156,4 +183,4 @@ def in_firefox(folder):
     dying_connections(folder, firefox.needed())
 
 
-load_tests = tests_of(computers, chosen, in_chromium, in_firefox, given=tempfile.TemporaryDirectory)
+load_tests = tests_of(computers, chosen, shared_laptop, in_chromium, in_firefox, given=tempfile.TemporaryDirectory)

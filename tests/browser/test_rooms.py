@@ -291,6 +291,22 @@ def many_seats(folder):
         expect(waited(lambda: place.post("join", {"name": "y"})[0] == 200), "a school behind one address gets its seats one by one")
 
 
+def names(folder):
+    """A name can be seen, and is nobody else's; its owner changes it, and leaves."""
+    with a_class(folder, 8, "Anna") as (_, place, _, anna):
+        for name in "\u2800", "\u3164 \uffa0", "\u200d", "\ufe0f", "\u0301":
+            equal(place.post("join", {"name": name}), (409, "Nobody can see this name. Choose another."), f"the name {name!r}")
+        given = ["Anna", "ANNA\u200d", "\uff21nna", "A" + "\u0301" * 23 + "b", "\u0928\u093f", "\U0001f469\u200d\U0001f4bb", ""]
+        came = [place.post("join", {"name": name})[1] for name in given]
+        equal([got["name"] for got in came], ["Anna 2", "ANNA\u200d 3", "\uff21nna 4", "A\u0301\u0301\u0301b", *given[4:6], "Seat 8"], "the names")
+        bob = {"key": came[0]["key"], "name": "Bob"}
+        equal([place.post("rename", {**bob, "name": name})[1] for name in ("Bob", "anna", "\u2800")],
+              [{"name": "Bob"}, {"name": "anna 2"}, "Nobody can see this name. Choose another."], "other names")
+        equal([place.post("leave", bob)[0], place.post("line", {**bob, "line": "look"})[0], place.post("join", {"name": "Cem"})[1]["seat"]],
+              [200, 404, 2], "who leaves")
+        anna.until(lambda pupil: "Cem" in str(pupil.states[-1:]), "the names are not told")
+
+
 def an_accident(folder):
     """A class in rooms on its second table is killed, and comes back: addresses, names, keys, tables, rooms and switches."""
     kept, table = Path(folder, "kept"), written(folder, "table.json", json.dumps(TABLE))
@@ -330,4 +346,4 @@ def an_accident(folder):
 
 
 load_tests = tests_of(apart, next_tables, in_the_middle, on_graphs, a_puzzle_each, taking_back, hints, permitted, by_a_short_code,
-                      many_seats, an_accident, given=tempfile.TemporaryDirectory)
+                      many_seats, names, an_accident, given=tempfile.TemporaryDirectory)

@@ -4,6 +4,7 @@ after another, and its pages see each entry as it comes. The pages of the teache
 import asyncio
 import re
 import time
+import unicodedata
 from collections import Counter
 
 from dollar.board.game import MOST_LINE, Table, tables_of
@@ -28,6 +29,8 @@ SHORT, MEANT, COUNTED = 6, re.compile(r"[A-Za-z0-9-]{1,12}\Z"), re.compile("[%s]
 TRIES, SEATS = ((40, 2.0), (200, 10.0)), ((12, 0.5), (64, 8.0))
 FILES = {"table.json": "application/json", "steps.txt": "text/plain", "history.txt": "text/plain"}
 BEAT, JOINER = event("beat", {}), "\u200d"
+# Letters that look like nothing, and a row of marks on a letter of which three are enough.
+UNSEEN, MARKS = "\u115f\u1160\u2800\u3164\uffa0", re.compile("([\u0300-\u036f]{3})[\u0300-\u036f]+")
 # What the teacher permits, the first words of the lines that fall under it, and what it is called.
 SWITCHES = {"gifts": (["gift"], "gifts and levies"), "edges": (["join"], "new edges"),
             "questions": (["look", "commit", "rank"], "looks, commits and rank tests"), "undo": ([], "undo and redo"),
@@ -117,9 +120,16 @@ class Follower:
 
 
 def clean(name):
-    """A name as it is shown: what can be printed of it, on one line. The letter that joins others to one sign stays."""
-    shown = "".join(letter if letter.isprintable() or letter == JOINER else " " if letter.isspace() else "" for letter in name)
-    return " ".join(shown.split())[:MOST_NAME].strip()
+    """A name as it is shown: what can be seen of it, on one line, with few marks on a letter. The letter that joins others to one sign
+    stays."""
+    shown = "".join(letter if (letter.isprintable() and letter not in UNSEEN) or letter == JOINER else " " if letter.isspace() else ""
+                    for letter in name)
+    return MARKS.sub(r"\1", " ".join(shown.split()))[:MOST_NAME].strip()
+
+
+def seen(name):
+    """What eyes tell apart in a name."""
+    return re.sub("[%s\ufe00-\ufe0f]" % JOINER, "", unicodedata.normalize("NFKC", name)).casefold()
 
 
 class Classroom:
@@ -329,6 +339,7 @@ class Classroom:
         if asked == "start":
             return as_json({"role": "teacher" if teaches else "pupil", "seats": self.seats, "address": self.address,
                             "short": self.short, "code": code(self.address), "places": self.places() if teaches else [],
+                            "kept": self.keeper is not None,
                             **self.told_first(self.feed)})
         if asked == "events":
             mark, seat = begin_at(request), None
@@ -353,10 +364,12 @@ class Classroom:
     async def pupils(self, asked, given, request):
         if asked == "join":
             browser = text_in(given, "browser", 64) if "browser" in given else None
-            return self.join(clean(text_in(given, "name", 200)), browser, request.peer)
-        if asked not in ("line", "undo", "redo", "hint"):
+            return self.join(text_in(given, "name", 200), browser, request.peer)
+        if asked not in ("line", "undo", "redo", "hint", "rename", "leave"):
             raise Nothing
         seat = self.seat_of(text_in(given, "key", 64))
+        if asked in ("rename", "leave"):
+            return self.renamed(seat, text_in(given, "name", 200)) if asked == "rename" else self.left(seat)
         room = self.room_of(seat)
         if given.get("feed", room.feed.key) != room.feed.key:
             raise NewTable
@@ -375,16 +388,37 @@ class Classroom:
     def join(self, name, browser, peer):
         """Gives a free seat: of those the one that was used least, so that nobody finds the look of another on it. A browser that has a
         seat keeps it."""
-        if browser in self.barred:
+        if owner_of(browser) in self.barred:
             raise Refused(409, "The teacher lets this browser take no seat.")
         own = next((seat for seat in self.taken.values() if browser and seat.browser == browser), None)
         if own is None:
             number = self.free_number()
+            named = self.name_for(name, number)
             if not self.joins.takes(peer):
                 raise Refused(429, "Many are taking seats from here. Wait a moment.")
-            own = self.taken[number] = Seat(number, name or "Seat %d" % number, browser)
+            own = self.taken[number] = Seat(number, named, browser)
             self.changed()
         return as_json({"seat": own.number, "key": own.key, "name": own.name})
+
+    def name_for(self, wanted, number):
+        """A name for a seat: a second Anna is Anna 2. Raises Refused if nobody can see it."""
+        name, others = clean(wanted), {seen(seat.name) for seat in self.taken.values() if seat.number != number}
+        if wanted.strip() and not any(unicodedata.category(letter)[0] in "LNPS" for letter in name):
+            raise Refused(409, "Nobody can see this name. Choose another.")
+        named = [name or "Seat %d" % number, *("%s %d" % (name[:MOST_NAME - 3], count) for count in range(2, self.seats + 2))]
+        return next(each for each in named if seen(each) not in others)
+
+    def renamed(self, seat, wanted):
+        if not seat.bucket.takes():
+            raise Refused(429, "That is too fast; wait a moment.")
+        seat.name = self.name_for(wanted, seat.number)
+        self.changed()
+        return as_json({"name": seat.name})
+
+    def left(self, seat):
+        self.free(seat.number, False)
+        self.changed()
+        return as_json({})
 
     def free_number(self):
         if not self.is_open:
@@ -481,7 +515,7 @@ class Classroom:
         if seat is None:
             raise Refused(409, "Nobody has this seat.")
         if bar and seat.browser:
-            self.barred.add(seat.browser)
+            self.barred.add(owner_of(seat.browser))
         if seat.page:
             seat.page.end("freed")
 
@@ -553,6 +587,11 @@ class Classroom:
         room = self.rooms[number]
         room.saved = len(room.entries)
         return room.steps() if name == "steps.txt" else room.history()
+
+
+def owner_of(browser):
+    """The browser to which a name of one belongs: on a shared laptop each of its pupils has a name of it, with an own end after a dot."""
+    return browser and browser.partition(".")[0]
 
 
 def begin_at(request):

@@ -16,37 +16,65 @@ const SWITCHES = ["gifts", "edges", "questions", "undo", "hints"];
 const KEPT = `dollar ${location.pathname.replaceAll("-", "").toLowerCase()}`;
 export let given, viewer, hands, editor, me = null, state = null, waiting = [], received = 0, shownRoom = 1;
 const MEANWHILE = 200, PATIENCE = 10000;
-let preview = [140, 110], frame = null, took = 0, last = 0, stopped = false, missed = false;
+let known = [], preview = [140, 110], frame = null, took = 0, last = 0, stopped = false, missed = false;
 export const entries = new Map(), rooms = new Map();
 
 const teaches = () => given.role === "teacher";
 const watches = () => teaches() || me === null;
 
-/* A seat of one's own, which is kept over a reload. A browser has one seat, however often it asks. */
+/* A seat of one's own, which is kept over a reload. A browser has one seat, however often it asks; but in a class that goes on another day
+   it may be shared, and a new window asks who is there. */
 
 function keep(seat) {
+  known = [...(seat ? [seat] : []), ...known.filter(({ key }) => !me || key !== me.key)];
   me = seat;
-  store("localStorage", KEPT, seat);
+  store("localStorage", KEPT, known);
+  store("sessionStorage", KEPT, me && me.key);
+}
+
+function askName() {
+  element("watch").hidden = Boolean(me);
+  document.querySelector("#join [type=submit]").textContent = me ? "Change the name" : "Take a seat";
+  element("known").hidden = Boolean(me) || known.length === 0;
+  element("known").replaceChildren("Who is there? ", ...known.map((seat) => button(seat.name, () => {
+    keep(seat);
+    sit();
+  })));
+  element("entrance").hidden = false;
+  element("your-name").value = me ? me.name : "";
+  element("your-name").focus();
 }
 
 function browser() {
   const own = stored("localStorage", "dollar browser")
     || [...crypto.getRandomValues(new Uint8Array(LETTERS))].map((byte) => (byte % 36).toString(36)).join("");
   store("localStorage", "dollar browser", own);
-  return own;
+  return known.length ? `${own}.${Math.random().toString(36).slice(2, 8)}` : own;
 }
 
 async function join() {
   const submit = document.querySelector("#join [type=submit]");
   submit.disabled = true;
   const timer = setTimeout(() => say("join-refused", "Many are coming in. Your seat comes in a moment."), 1000);
-  const got = await link.post("join", { name: element("your-name").value, browser: browser() });
+  const name = element("your-name").value, before = me;
+  const got = await (before ? link.post("rename", { name, key: me.key }) : link.post("join", { name, browser: browser() }));
   clearTimeout(timer);
   submit.disabled = false;
   say("join-refused", got.refused);
   if (got.refused) return;
-  keep(got);
-  sit();
+  keep({ ...before, ...got });
+  if (before) element("entrance").hidden = true;
+  else sit();
+}
+
+async function leave() {
+  if (await sure("Leave this seat? Somebody else can take it then.")) link.post("leave", { key: me.key });
+}
+
+/* Lets somebody else take the place before the screen. */
+function changeOver() {
+  store("sessionStorage", KEPT, null);
+  location.reload();
 }
 
 function leaveSeat(words) {
@@ -63,6 +91,7 @@ function enter(inside) {
   document.body.classList.toggle("outside", !inside);
   viewer.refit();
   notice("");
+  if (!inside) askName();
 }
 
 /* A page without a seat, which shows the way in as well. */
@@ -251,7 +280,9 @@ function showNames(names) {
 function rowOf(seat, name, who) {
   const row = made("li", "", { value: seat, "data-who": who });
   row.append(made("b", name), made("span", ""));
-  if (me && Number(seat) === me.seat) row.append("(you) ");
+  if (me && Number(seat) === me.seat) {
+    row.append("(you) ", button("rename", askName), " ", button("leave", leave), ...(given.kept ? [" ", button("somebody else", changeOver)] : []));
+  }
   if (teaches()) row.append(freeing(seat, name), " ", freeing(seat, name, true));
   return row;
 }
@@ -562,11 +593,9 @@ async function start() {
   hands = teaches() ? null : new Hands(viewer, play);
   if (teaches()) return teach();
   bind({ join, watch, undo: () => sent("undo", {}), redo: () => sent("redo", {}), hint, ask });
-  me = stored("localStorage", KEPT);
-  if (me) return sit();
-  enter(false);
-  element("your-name").focus();
-  return null;
+  known = [stored("localStorage", KEPT) || []].flat();
+  me = (given.kept ? known.find(({ key }) => key === stored("sessionStorage", KEPT)) : known[0]) || null;
+  return me ? sit() : enter(false);
 }
 
 startPage(start);
