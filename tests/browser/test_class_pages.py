@@ -47,7 +47,8 @@ def with_entries(lesson):
     bob.click("#look")
     ann.has(5)
     equal(ann.value("viewer.now"), 1, "who walks in the history is left there")
-    ann.press("End")
+    ann.click(at("bob"))
+    ann.until("viewer.now === 5 && $('#note').textContent.startsWith('You were at an earlier step')")
     for text, words in (("x" * 1100, "at most 1024 bytes"), ("a\\nb", "no newline"), ("2 look", "There is no such command.")):
         ann.value(f"void play('{text}')")
         ann.until(f"$('#refused').textContent.includes({json.dumps(words)})")
@@ -61,15 +62,17 @@ def confirmed(desk, button):
 
 
 def with_seats(lesson):
-    """A seat is kept over a reload, is told that it is open twice, and is freed by the teacher."""
+    """A seat is kept over a reload, has one page, the newest, and is freed by the teacher."""
     ann, _, desk, *_ = lesson
     seat, address = ann.seat, ann.value("location.href")
     ann.visit(address, "state !== null && viewer.game.length === 5")
     equal(ann.value("me.seat"), seat, "the seat after a reload")
     link = Place(address).events(ann.key)
-    ann.told("This seat is open in 2 pages.")
+    ann.told("Your seat is open in another page now.")
+    ann.click(at("cyd"))
+    ann.until("$('#refused').textContent.includes('was not played')")
+    ann.visit(address, "state !== null && viewer.game.length === 5")
     link.close()
-    ann.until("$('#notice').hidden")
     confirmed(desk, "#names button")
     ann.told("Your seat was freed.")
     equal(ann.value("$('#entrance').hidden"), False, "a new seat is offered")
@@ -104,7 +107,7 @@ def with_commands(lesson):
     equal(ann.value(LISTED), entries, "the history on a pupil's page")
     ann.value("viewer.go(1)")
     expect(ann.text("#step").startswith("Zo\u00eb: cyd lends"), f"whose the first step was: {ann.text('#step')}")
-    ann.press("End")
+    ann.click("#last")
 
 
 def on_a_busy_table(lesson):

@@ -8,6 +8,7 @@ from pathlib import Path
 
 from common import EXAMPLES, addresses, asked, played, refused, started, text_of, together, waited, written
 from dollar.board.puzzles import GRAPHS, LEVELS, puzzles, table_of
+from dollar.board.server import LETTERS
 from helpers import equal, expect, tests_of
 from visitors import TABLE, Place, Pupil, Watcher, a_class, taken
 
@@ -266,13 +267,44 @@ def by_a_short_code(folder):
         equal([len(short), place.get(f"/{short}"), place.get(f"/{short.upper()}")], [6, leads, leads], "the short code")
         equal([place.get(f"/{short}/"), place.get(f"/{short}/start"), place.post(f"/{short}", {})], [nothing] * 3, "the code is no secret")
         desk.post("door", {"open": False})
-        equal(place.get(f"/{short}"), nothing, "the short code, and the door is shut")
+        equal([place.get(path) for path in (f"/{short}", "/start", "/events", "/page.css")], [nothing] * 4, "when the door is shut")
         desk.post("door", {"open": True})
-        equal(together(*[lambda: place.get(f"/{short}")] * 30), [leads] * 30, "all type the code")
-        equal([place.get(f"/{short[:-1]}{letter}")[0] for letter in "abcdefghijkmnpqrstuvwxyz" if letter != short[-1]][:20], [404] * 20,
-              "wrong codes")
-        equal(place.get(f"/{short}"), nothing, "the right code after many wrong ones")
-        expect(waited(lambda: place.get(f"/{short}") == leads, 3), "the right code a while later")
+        wrongs = [f"/{short[:-1]}{letter}" for letter in LETTERS if letter != short[-1]]
+        half = together(*(lambda path=path: (place.get(path)[0], place.get("/favicon.ico"), place.get(f"/{short}")) for path in wrongs[:15]))
+        equal([*half, *together(*[lambda: place.get(f"/{short}")] * 15)], [(404, nothing, leads)] * 15 + [leads] * 15,
+              "a school behind one address, of which half mistype")
+        pest = Place(place.address)
+        pest.source = "127.0.0.66", 0
+        equal({pest.get(path)[0] for path in wrongs * 2}, {404}, "wrong codes")
+        expect("There is no such code." in pest.get(f"/{short}")[1], "the right code after many wrong ones")
+        equal([place.get(f"/{short}"), place.get("/page.css")[0]], [leads, 200], "the right code from another address, and how the page looks")
+        expect(waited(lambda: pest.get(f"/{short}") == leads), "the right code a while later")
+
+
+def many_seats(folder):
+    """A script takes no more seats at once than a few; everybody else has one at once."""
+    with a_class(folder, 30) as (_, place, _):
+        place.source = "127.0.0.66", 0
+        took = [place.post("join", {"name": "x", "browser": f"b{number}"})[0] for number in range(29)]
+        expect(took[:12] == [200] * 12 and set(took) == {200, 429}, f"the seats of a script: {took}")
+        equal(len({Pupil(place.address, "honest", events=False).seat for _ in range(10)}), 10, "the seats of others")
+        expect(waited(lambda: place.post("join", {"name": "y"})[0] == 200), "a school behind one address gets its seats one by one")
+
+
+def names(folder):
+    """A name can be seen, and is nobody else's; its owner changes it, and leaves."""
+    with a_class(folder, 8, "Anna") as (_, place, _, anna):
+        for name in "\u2800", "\u3164 \uffa0", "\u200d", "\ufe0f", "\u0301":
+            equal(place.post("join", {"name": name}), (409, "Nobody can see this name. Choose another."), f"the name {name!r}")
+        given = ["Anna", "ANNA\u200d", "\uff21nna", "A" + "\u0301" * 23 + "b", "\u0928\u093f", "\U0001f469\u200d\U0001f4bb", ""]
+        came = [place.post("join", {"name": name})[1] for name in given]
+        equal([got["name"] for got in came], ["Anna 2", "ANNA\u200d 3", "\uff21nna 4", "A\u0301\u0301\u0301b", *given[4:6], "Seat 8"], "the names")
+        bob = {"key": came[0]["key"], "name": "Bob"}
+        equal([place.post("rename", {**bob, "name": name})[1] for name in ("Bob", "anna", "\u2800")],
+              [{"name": "Bob"}, {"name": "anna 2"}, "Nobody can see this name. Choose another."], "other names")
+        equal([place.post("leave", bob)[0], place.post("line", {**bob, "line": "look"})[0], place.post("join", {"name": "Cem"})[1]["seat"]],
+              [200, 404, 2], "who leaves")
+        anna.until(lambda pupil: "Cem" in str(pupil.states[-1:]), "the names are not told")
 
 
 def an_accident(folder):
@@ -313,5 +345,5 @@ def an_accident(folder):
     refused(["board", "--no-browser", *words], "has lost its table 2", stdin=subprocess.DEVNULL)
 
 
-load_tests = tests_of(apart, next_tables, in_the_middle, on_graphs, a_puzzle_each, taking_back, hints, permitted, by_a_short_code, an_accident,
-                      given=tempfile.TemporaryDirectory)
+load_tests = tests_of(apart, next_tables, in_the_middle, on_graphs, a_puzzle_each, taking_back, hints, permitted, by_a_short_code,
+                      many_seats, names, an_accident, given=tempfile.TemporaryDirectory)

@@ -168,9 +168,14 @@ def silence(folder):
     with a_class(folder, 2, "ann") as (child, place, _, ann):
         links, waits = [], []
         for number in range(SILENT):
-            links.append(socket.create_connection((place.host, place.port), LATEST))
+            if number == SILENT - MOST_KEPT:
+                slow = socket.create_connection((place.host, place.port), LATEST)
+            links.append(socket.create_connection((place.host, place.port), LATEST, ("127.0.0.66", 0)))
             if number % 20 == 0:
                 waits.append(ann.timed("gift ann 1", f"who plays among {number} silent connections"))
+        slow.sendall(f"GET {place.path}start HTTP/1.1\r\nHost: {place.host}:{place.port}\r\n\r\n".encode())
+        with slow:
+            equal(slow.recv(12), b"HTTP/1.1 200", "a connection from another address that was there before")
         expect(max(waits) < 2.0, f"who plays among silent connections waited {max(waits):.2f} s")
         kept = len(os.listdir(f"/proc/{child.pid}/fd"))
         expect(kept < MOST_KEPT, f"{kept} connections are kept")

@@ -2,6 +2,7 @@
 pages in a browser."""
 import contextlib
 import http.client
+import itertools
 import json
 import re
 import socket
@@ -18,17 +19,15 @@ TABLE = {
     "edges": [["ann", "bob", 1], ["bob", "cem", 2], ["cem", "dot", 1], ["dot", "ann", 1], ["dot", "eve", 3]],
     "amounts": [6, -3, 1, -2, -1], "q": "ann"}
 SEND = """(async () => {
-  const told = [], { post } = await import("./page.js");
+  const told = [];
   for (const line of %s) {
-    let got = await post("line", { key: me.key, line });
-    while (got.status === 429) {
-      await new Promise((done) => setTimeout(done, 100));
-      got = await post("line", { key: me.key, line });
-    }
+    const got = await link.post("line", { key: me.key, line });
     told.push(got.refused ? [line, got.status, got.refused] : [line, 200, got.answer]);
   }
   return told;
 })()"""
+# Each pupil has an address of the network.
+NUMBERS = itertools.count(251)
 ENTRIES = "viewer.game.steps.map((step, i) => [step.seat, step.line.slice(step.seat.length + 1), viewer.game.replies[i].line])"
 
 
@@ -38,7 +37,7 @@ class Place:
     def __init__(self, address):
         parts = urllib.parse.urlsplit(address)
         self.address, self.host, self.port, self.path = address, parts.hostname, parts.port, parts.path
-        self.origin, self.secret = f"http://{parts.netloc}", parts.path.strip("/")
+        self.origin, self.secret, self.source = f"http://{parts.netloc}", parts.path.strip("/"), None
 
     @contextlib.contextmanager
     def answer(self, method, path, thing=None, headers=(), raw=None):
@@ -47,7 +46,7 @@ class Place:
         body = raw if raw is not None or thing is None else json.dumps(thing).encode()
         given = {"Content-Type": "application/json", "Origin": self.origin} if body is not None else {}
         given = {name: value for name, value in {**given, **dict(headers)}.items() if value is not None}
-        link = http.client.HTTPConnection(self.host, self.port, timeout=PATIENCE)
+        link = http.client.HTTPConnection(self.host, self.port, PATIENCE, self.source)
         try:
             link.request(method, path if path.startswith("/") else self.path + path, body, given)
             yield link.getresponse()
@@ -64,7 +63,8 @@ class Place:
 
     def post(self, path, thing, **given):
         status, text = self.ask("POST", path, thing, **given)
-        return status, json.loads(text) if status == 200 else text
+        # How much a page has to draw first is left out.
+        return status, {key: value for key, value in json.loads(text).items() if key != "items"} if status == 200 else text
 
     def sent(self, request, *headers, body=""):
         """A connection on which a request was sent, whose answer is not read."""
@@ -112,7 +112,7 @@ class Listener:
         elif kind == "table":
             self.tables.append(thing)
             self.entries, self.undone, self.items = [], [], 0
-        else:
+        elif kind != "beat":
             self.states.append(thing if kind == "state" else kind)
 
     def take_item(self, item):
@@ -160,6 +160,8 @@ class Pupil(Listener):
     def __init__(self, address, name, events=True, **given):
         super().__init__(Place(address))
         self.name, self.lines = name, []
+        if self.place.host == "127.0.0.1":
+            self.place.source = "127.1.%d.%d" % divmod(next(NUMBERS), 250), 0
         status, got = self.place.post("join", {"name": name, **given})
         if status != 200:
             raise ValueError(got)
@@ -229,7 +231,7 @@ class PagePupil(Page):
         return [self.value("state")]
 
     def leave(self):
-        self.value("source.close()")
+        self.value("link.close()")
 
     def told(self, words):
         self.until(f"$('#notice').textContent.includes({json.dumps(words)})")

@@ -4,27 +4,33 @@ after another, and its pages see each entry as it comes. The pages of the teache
 import asyncio
 import re
 import time
+import unicodedata
 from collections import Counter
 
 from dollar.board.game import MOST_LINE, Table, tables_of
-from dollar.board.pages import asset, forward, page
+from dollar.board.pages import asset, filled, forward, page
 from dollar.board.puzzles import graphs, hint, puzzles
 from dollar.board.qr import code
 from dollar.board.replay import page as replay_page
 from dollar.board.room import Feed, Room, event
-from dollar.board.server import Nothing, Refused, as_json, new_secret, same, text_in
+from dollar.board.server import LETTERS, Nothing, Refused, as_json, new_secret, same, text_in
 from dollar.program import PATIENCE, Fault, printed
 
-MOST_BODY, MOST_TABLE, MOST_NAME = 1 << 14, 1 << 22, 24
-# A seat may play so many lines at once, and then so many in a second; so many of its lines wait, and so many pages are open on it.
-AT_ONCE, IN_A_SECOND, MOST_WAITING, MOST_PAGES = 60, 10.0, 4, 4
-HEARTBEAT, UNUSED = 15.0, 60.0
+MOST_BODY, MOST_TABLE, MOST_NAME, MOST_PEERS = 1 << 14, 1 << 22, 24, 1000
+# A seat may play so many lines at once, and then so many in a second; so many of its lines wait.
+AT_ONCE, IN_A_SECOND, MOST_WAITING = 60, 10.0, 4
+HEARTBEAT, UNUSED = 5.0, 60.0
 # Pages are told together what comes within so many seconds.
 TOGETHER = 0.03
-# The letters of the short code, and how many wrong ones are tried at once, and then in a second.
-SHORT, TRIES, TRIES_IN_A_SECOND = 6, 10, 3.0
+# The letters of the short code, what is meant as one, and what is counted as a wrong one.
+SHORT, MEANT, COUNTED = 6, re.compile(r"[A-Za-z0-9-]{1,12}\Z"), re.compile("[%s]{6}\\Z" % LETTERS, re.I)
+# How many wrong codes and new seats one address of the network has at once, and then in a second; and how many all have together. A
+# school may be behind one address.
+TRIES, SEATS = ((40, 2.0), (200, 10.0)), ((12, 0.5), (64, 8.0))
 FILES = {"table.json": "application/json", "steps.txt": "text/plain", "history.txt": "text/plain"}
-KEEP_OPEN, JOINER = b": the game goes on\n\n", "\u200d"
+BEAT, JOINER = event("beat", {}), "\u200d"
+# Letters that look like nothing, and a row of marks on a letter of which three are enough.
+UNSEEN, MARKS = "\u115f\u1160\u2800\u3164\uffa0", re.compile("([\u0300-\u036f]{3})[\u0300-\u036f]+")
 # What the teacher permits, the first words of the lines that fall under it, and what it is called.
 SWITCHES = {"gifts": (["gift"], "gifts and levies"), "edges": (["join"], "new edges"),
             "questions": (["look", "commit", "rank"], "looks, commits and rank tests"), "undo": ([], "undo and redo"),
@@ -53,6 +59,23 @@ class Bucket:
         return True
 
 
+class Limit:
+    """A bucket for each address of the network, beside a wide one for all."""
+
+    def __init__(self, own, whole):
+        self.own, self.whole, self.buckets = own, Bucket(*whole), {}
+
+    def has(self, peer):
+        """Whether there is one more for an address."""
+        if peer not in self.buckets and len(self.buckets) >= MOST_PEERS:
+            self.buckets.pop(next(iter(self.buckets)))
+        return self.buckets.setdefault(peer, Bucket(*self.own)).has() and self.whole.has()
+
+    def takes(self, peer):
+        """Takes one for an address, if there is one."""
+        return self.has(peer) and self.buckets[peer].takes() and self.whole.takes()
+
+
 class NewTable(Refused):
     """What a line gets that was meant for the table before."""
 
@@ -61,11 +84,11 @@ class NewTable(Refused):
 
 
 class Seat:
-    """A seat that somebody has: the key that only that pupil's page knows, the name, the browser, and the pages that are open on it."""
+    """A seat that somebody has: the key that only that pupil's page knows, the name, the browser, and the page that is open on it."""
 
     def __init__(self, number, name, browser=None, key=None):
         self.number, self.name, self.browser, self.key = number, name, browser, key or new_secret()
-        self.pages, self.played, self.waiting, self.seen = [], 0, 0, time.monotonic()
+        self.page, self.played, self.waiting, self.seen = None, 0, 0, time.monotonic()
         self.bucket = Bucket(AT_ONCE, IN_A_SECOND)
 
     def takes(self):
@@ -97,9 +120,16 @@ class Follower:
 
 
 def clean(name):
-    """A name as it is shown: what can be printed of it, on one line. The letter that joins others to one sign stays."""
-    shown = "".join(letter if letter.isprintable() or letter == JOINER else " " if letter.isspace() else "" for letter in name)
-    return " ".join(shown.split())[:MOST_NAME].strip()
+    """A name as it is shown: what can be seen of it, on one line, with few marks on a letter. The letter that joins others to one sign
+    stays."""
+    shown = "".join(letter if (letter.isprintable() and letter not in UNSEEN) or letter == JOINER else " " if letter.isspace() else ""
+                    for letter in name)
+    return MARKS.sub(r"\1", " ".join(shown.split()))[:MOST_NAME].strip()
+
+
+def seen(name):
+    """What eyes tell apart in a name."""
+    return re.sub("[%s\ufe00-\ufe0f]" % JOINER, "", unicodedata.normalize("NFKC", name)).casefold()
 
 
 class Classroom:
@@ -111,14 +141,16 @@ class Classroom:
         kept = keeper.found if keeper else {}
         self.tables, self.seats, self.keeper, self.teacher_here = tables, seats, keeper, teacher_here
         self.secret, self.teacher = kept.get("secret") or new_secret(), kept.get("teacher") or new_secret()
-        self.short, self.tries = kept.get("short") or new_secret().replace("-", "")[:SHORT], Bucket(TRIES, TRIES_IN_A_SECOND)
+        self.short, self.tries = kept.get("short") or new_secret().replace("-", "")[:SHORT], Limit(*TRIES)
+        self.joins = Limit(*SEATS)
         self.taken, self.barred = {}, set(kept.get("barred", ()))
         for number, name, browser, key in kept.get("seats", ()):
             if number <= seats:
                 self.taken[number] = Seat(number, name, browser, key)
         self.paused, self.is_open, self.over, self.shown = False, kept.get("open", True), False, kept.get("shown", "all")
         self.followers, self.soon, self.last, self.changes, self.told_state = set(), None, 0.0, 0, (None, b"")
-        self.address, self.port = "", 0
+        # Where others find this: by a place, and by more from which the teacher chooses.
+        self.place, self.places, self.port = "", list, 0
         self.set_tables(tables[:1], kept.get("size", size), 1)
         self.may = {**dict.fromkeys(SWITCHES, False), "questions": True, **dict.fromkeys(IN_ROOMS, self.size > 0), **kept.get("may", {})}
         if keeper:
@@ -187,6 +219,11 @@ class Classroom:
         return {"feed": feed.key, "room": feed.room, "turn": self.turn, "name": tables[0].name, "tables": [table.text for table in tables],
                 "layout": tables[0].layout}
 
+    @property
+    def address(self):
+        """The pupils' address."""
+        return "http://%s/%s/" % (self.place, self.secret)
+
     # What all are told.
 
     def changed(self):
@@ -219,22 +256,22 @@ class Classroom:
     def state(self):
         """Who is there, and what goes on, as an event. All pages share its bytes."""
         if self.told_state[0] != self.changes:
-            names = {seat.number: {"name": seat.name, "here": len(seat.pages), "room": self.number_of(seat)}
+            names = {seat.number: {"name": seat.name, "here": seat.page is not None, "room": self.number_of(seat)}
                      for seat in self.taken.values()}
             self.told_state = self.changes, event("state", {
                 "names": names, "paused": self.paused, "open": self.is_open, "may": self.may, "size": self.size, "shown": self.shown,
-                "over": self.over, "ends": {room.number: room.end for room in self.rooms.values() if room.end}})
+                "address": self.address, "over": self.over, "ends": {room.number: room.end for room in self.rooms.values() if room.end}})
         return self.told_state[1]
 
     async def events(self, gone, mark, seat):
         """The table, the state and the entries, from a mark on, as they come, until the page has gone, or its seat was freed or is open
-        in too many other pages. A mark is the key of a feed and a number; of another feed all is told."""
+        in a newer one. A mark is the key of a feed and a number; of another feed all is told."""
         follower, (key, number), seen = Follower(gone), mark, -1
         self.followers.add(follower)
         if seat:
-            seat.pages.append(follower)
-            for old in seat.pages[:-MOST_PAGES]:
-                old.end("asleep")
+            if seat.page:
+                seat.page.end("asleep")
+            seat.page = follower
             self.changed()
         try:
             while follower.goes_on():
@@ -250,16 +287,15 @@ class Classroom:
                     yield said
                 elif follower.is_due:
                     follower.is_due = False
-                    yield KEEP_OPEN
+                    yield BEAT
                 else:
                     await follower.sleep()
             if not gone.done():
                 yield event(follower.word, {})
         finally:
             self.followers.discard(follower)
-            if seat:
-                seat.pages.remove(follower)
-                seat.seen = time.monotonic()
+            if seat and seat.page is follower:
+                seat.page, seat.seen = None, time.monotonic()
                 self.changed()
 
     # Requests.
@@ -270,8 +306,8 @@ class Classroom:
         knows = teaches or same(request.parts[0], self.secret)
         if len(request.parts) == 1 and knows:
             return forward(request, request.parts[0])
-        if len(request.parts) == 1 and self.is_short(request.parts[0]):
-            return forward(request, self.secret)
+        if len(request.parts) == 1 and self.is_open and request.method == "GET":
+            return self.at_the_door(request)
         if not knows or len(request.parts) != 2:
             raise Nothing
         asked = request.parts[1]
@@ -283,20 +319,28 @@ class Classroom:
         given = await request.json(MOST_TABLE if teaches else MOST_BODY)
         return await (self.teachers(asked, given) if teaches else self.pupils(asked, given, request))
 
-    def is_short(self, word):
-        """Whether a word is the short code, which leads to the pupils' address while the door is open. Few wrong ones are looked at."""
-        if not self.is_open or not word or not self.tries.has():
-            return False
-        right = same(word, self.short)
-        if not right:
-            self.tries.takes()
-        return right
+    def at_the_door(self, request):
+        """What is said to an address of one part while the door is open: the short code leads to the pupils' address, and what may have been
+        meant for it to a page with a field. Few wrong codes are looked at."""
+        word = request.query.get("code", request.parts[0])
+        if word == "page.css":
+            return asset(word)
+        is_code = COUNTED.match(word.replace("-", "")) and self.tries.has(request.peer)
+        if is_code and same(word, self.short):
+            return forward(request, self.secret)
+        if is_code:
+            self.tries.takes(request.peer)
+        if not MEANT.match(word):
+            raise Nothing
+        return 404, "text/html", filled("wrong.html", {"title": "The dollar game"}).encode()
 
     def given(self, asked, request, teaches):
         """What a page gets that plays nothing."""
         if asked == "start":
             return as_json({"role": "teacher" if teaches else "pupil", "seats": self.seats, "address": self.address,
-                            "short": self.short, "code": code(self.address), **self.told_first(self.feed)})
+                            "short": self.short, "code": code(self.address), "places": self.places() if teaches else [],
+                            "kept": self.keeper is not None,
+                            **self.told_first(self.feed)})
         if asked == "events":
             mark, seat = begin_at(request), None
             if "key" in request.query and not teaches:
@@ -320,10 +364,12 @@ class Classroom:
     async def pupils(self, asked, given, request):
         if asked == "join":
             browser = text_in(given, "browser", 64) if "browser" in given else None
-            return self.join(clean(text_in(given, "name", 200)), browser)
-        if asked not in ("line", "undo", "redo", "hint"):
+            return self.join(text_in(given, "name", 200), browser, request.peer)
+        if asked not in ("line", "undo", "redo", "hint", "rename", "leave"):
             raise Nothing
         seat = self.seat_of(text_in(given, "key", 64))
+        if asked in ("rename", "leave"):
+            return self.renamed(seat, text_in(given, "name", 200)) if asked == "rename" else self.left(seat)
         room = self.room_of(seat)
         if given.get("feed", room.feed.key) != room.feed.key:
             raise NewTable
@@ -332,24 +378,47 @@ class Classroom:
         self.permits("hints" if asked == "hint" else "undo")
         acts = {"undo": lambda: room.undo(seat.name), "redo": lambda: room.redo(seat.name),
                 "hint": lambda: asyncio.to_thread(hint, room.now())}
-        return as_json({asked: await self.done(seat, room, request, acts[asked])})
+        return await self.done(asked, seat, room, request, acts[asked])
 
     def permits(self, switch):
         """Refuses what the teacher does not permit."""
         if not self.may[switch]:
             raise Refused(409, "The teacher has switched off %s. Nothing was played." % SWITCHES[switch][1])
 
-    def join(self, name, browser):
+    def join(self, name, browser, peer):
         """Gives a free seat: of those the one that was used least, so that nobody finds the look of another on it. A browser that has a
         seat keeps it."""
-        if browser in self.barred:
+        if owner_of(browser) in self.barred:
             raise Refused(409, "The teacher lets this browser take no seat.")
         own = next((seat for seat in self.taken.values() if browser and seat.browser == browser), None)
         if own is None:
             number = self.free_number()
-            own = self.taken[number] = Seat(number, name or "Seat %d" % number, browser)
+            named = self.name_for(name, number)
+            if not self.joins.takes(peer):
+                raise Refused(429, "Many are taking seats from here. Wait a moment.")
+            own = self.taken[number] = Seat(number, named, browser)
             self.changed()
         return as_json({"seat": own.number, "key": own.key, "name": own.name})
+
+    def name_for(self, wanted, number):
+        """A name for a seat: a second Anna is Anna 2. Raises Refused if nobody can see it."""
+        name, others = clean(wanted), {seen(seat.name) for seat in self.taken.values() if seat.number != number}
+        if wanted.strip() and not any(unicodedata.category(letter)[0] in "LNPS" for letter in name):
+            raise Refused(409, "Nobody can see this name. Choose another.")
+        named = [name or "Seat %d" % number, *("%s %d" % (name[:MOST_NAME - 3], count) for count in range(2, self.seats + 2))]
+        return next(each for each in named if seen(each) not in others)
+
+    def renamed(self, seat, wanted):
+        if not seat.bucket.takes():
+            raise Refused(429, "That is too fast; wait a moment.")
+        seat.name = self.name_for(wanted, seat.number)
+        self.changed()
+        return as_json({"name": seat.name})
+
+    def left(self, seat):
+        self.free(seat.number, False)
+        self.changed()
+        return as_json({})
 
     def free_number(self):
         if not self.is_open:
@@ -357,7 +426,7 @@ class Classroom:
         free = [number for number in range(1, self.seats + 1) if number not in self.taken]
         if not free:
             late = time.monotonic() - UNUSED
-            idle = [seat for seat in self.taken.values() if not seat.pages and not seat.played and seat.seen < late]
+            idle = [seat for seat in self.taken.values() if not seat.page and not seat.played and seat.seen < late]
             if not idle:
                 raise Refused(409, "All %d seats are taken. The teacher can free one." % self.seats)
             free = [idle[0].number]
@@ -374,10 +443,11 @@ class Classroom:
         for switch, (words, _) in SWITCHES.items():
             if line.split(" ")[0] in words:
                 self.permits(switch)
-        return as_json({"answer": await self.done(seat, room, request, lambda: self.play(seat, room, line))})
+        return await self.done("answer", seat, room, request, lambda: self.play(seat, room, line))
 
-    async def done(self, seat, room, request, act):
-        """What comes of an act of a seat in its room, if it may act now. It goes on also if who asked has gone meanwhile."""
+    async def done(self, called, seat, room, request, act):
+        """What comes of an act of a seat in its room, if it may act now, with how many items its page has to draw until it shows that. It
+        goes on also if who asked has gone meanwhile."""
         if self.paused:
             raise Refused(409, "The teacher has paused the game. This line was not played.")
         if not seat.takes():
@@ -394,7 +464,7 @@ class Classroom:
             raise NewTable
         if came is None:
             raise Refused(503, "The game has ended. This line was not played, unless the list has it.")
-        return came
+        return as_json({called: came, "items": len(room.feed.items)})
 
     async def play(self, seat, room, line):
         answer = await room.ask(seat.number, line, seat.name)
@@ -415,6 +485,10 @@ class Classroom:
             self.may = {switch: given.get(switch, now) is True for switch, now in self.may.items()}
         elif asked == "show":
             self.shown = text_in(given, "what", 8)
+        elif asked == "place":
+            if given.get("place") not in self.places():
+                raise Refused(409, "This machine does not have this address any more.")
+            self.place = given["place"]
         elif asked == "end":
             self.over = True
             await self.stop()
@@ -441,9 +515,9 @@ class Classroom:
         if seat is None:
             raise Refused(409, "Nobody has this seat.")
         if bar and seat.browser:
-            self.barred.add(seat.browser)
-        for follower in seat.pages:
-            follower.end("freed")
+            self.barred.add(owner_of(seat.browser))
+        if seat.page:
+            seat.page.end("freed")
 
     async def again(self):
         """Starts the programs that have ended again, with all entries that there were."""
@@ -513,6 +587,11 @@ class Classroom:
         room = self.rooms[number]
         room.saved = len(room.entries)
         return room.steps() if name == "steps.txt" else room.history()
+
+
+def owner_of(browser):
+    """The browser to which a name of one belongs: on a shared laptop each of its pupils has a name of it, with an own end after a dot."""
+    return browser and browser.partition(".")[0]
 
 
 def begin_at(request):

@@ -33,7 +33,7 @@ from dollar.board.classroom import Classroom
 from dollar.board.game import MOST_SEATS, Table
 from dollar.board.keeping import Keeper
 from dollar.board.pages import forward
-from dollar.board.server import ANY, Server, address_of, is_loopback, new_secret
+from dollar.board.server import ANY, Server, addresses_of, is_loopback, new_secret
 from dollar.program import Fault, printed, typed
 from dollar.table import EXAMPLES, shown_name, text_of
 
@@ -158,18 +158,26 @@ async def serve_class(given, tables):
     await room.start()
     try:
         await begun(server, keeper.found.get("port", 0) if keeper else 0)
-        name = address_of(host)
-        places = given.name or ["[%s]" % name if ":" in name else name]
-        base = "http://%s/" % (places[0] if re.search(":[0-9]+$", places[0]) else "%s:%d" % (places[0], server.port))
-        room.address, room.port = base + room.secret + "/", server.port
+        room.places, room.port = lambda: places_of(given.name, host, server), server.port
+        room.place, *others = room.places()
         room.changed()
-        desk = base_of(host, server) if given.teacher_here else base
-        told = "can be opened on this machine alone" if is_here_alone(host) else "can be opened from other machines of this network"
-        print("The table %s.\n\nFor the pupils:    %s\nFor the teacher:   %s%s/\n\nCtrl-D or Ctrl-C ends it."
-              % (told, room.address, desk, room.teacher), flush=True)
+        alone = is_here_alone(host) or not given.name and not addresses_of(host)
+        told = "can be opened %s" % ("on this machine alone" if alone else "from other machines of this network")
+        desk = base_of(host, server) if given.teacher_here else "http://%s/" % room.place
+        more = "Other addresses:   %s. The teacher's page can choose.\n" % ", ".join(others) if others else ""
+        print("The table %s.\n\nFor the pupils:    %s\nFor the teacher:   %s%s/\n%s\nCtrl-D or Ctrl-C ends it."
+              % (told, room.address, desk, room.teacher, more), flush=True)
         await until_ended(given, server, host, room.teacher, ending)
     finally:
         await room.stop()
+
+
+def places_of(names, host, server):
+    """Where others may find the server, the likeliest first: by the names that were given, and by the addresses of this machine. If it has
+    none for others, it is found from here alone."""
+    own = [] if names and is_here_alone(host) else addresses_of(host)
+    places = [*names, *("[%s]" % each if ":" in each else each for each in own)]
+    return [each if re.search(":[0-9]+$", each) else "%s:%d" % (each, server.port) for each in places] or [base_of(host, server)[7:-1]]
 
 
 def is_here_alone(host):

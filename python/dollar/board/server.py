@@ -1,10 +1,11 @@
 """A small web server for the pages: it answers those who know a secret, and holds against those who don't.
 
 Each connection brings one request and gets one answer. Whoever is slow, sends too much or sends nonsense is dropped. Strangers and
-guests, who know the secret, are counted apart: when there are too many of either, the oldest of them makes room. Whatever is asked
+guests, who know the secret, are counted apart: when there are too many of either, the address that has most makes room. Whatever is asked
 without the secret, from another origin or for another host is answered alike: there is nothing here."""
 import asyncio
 import contextlib
+import fcntl
 import hmac
 import ipaddress
 import json
@@ -13,6 +14,8 @@ import re
 import resource
 import secrets
 import socket
+import struct
+from collections import Counter
 
 MOST_HEAD, MOST_HEADERS, MOST_STRANGERS, MOST_GUESTS, MOST_FILES = 8192, 64, 300, 600, 4096
 TO_ASK, TO_SEND, TO_TAKE = 5.0, 8.0, 20.0
@@ -20,7 +23,7 @@ TOKEN = re.compile(r"[A-Za-z0-9!#$%&'*+.^_`|~-]{1,64}\Z")
 VALUE = re.compile(r"[\t -~]*\Z")
 TARGET = re.compile(r"(GET|POST) (/[A-Za-z0-9/._~?=&-]*) HTTP/1\.[01]\Z")
 POLICY = ("default-src 'none'; script-src 'self'; style-src 'self'; img-src 'self' data:; connect-src 'self'; "
-          "base-uri 'none'; form-action 'none'; frame-ancestors 'none'")
+          "base-uri 'none'; form-action 'self'; frame-ancestors 'none'")
 ALWAYS = {
     "Content-Security-Policy": POLICY, "X-Content-Type-Options": "nosniff", "X-Frame-Options": "DENY",
     "Referrer-Policy": "no-referrer", "Cross-Origin-Resource-Policy": "same-origin", "Cross-Origin-Opener-Policy": "same-origin",
@@ -30,6 +33,10 @@ REASONS = {200: "OK", 400: "Bad Request", 404: "Not Found", 409: "Conflict", 413
            503: "Service Unavailable"}
 HOST = re.compile(r"(\[[0-9a-f:.]+\]|[^:\[\]]+)(?::([0-9]{1,5}))?\Z")
 ANY = "0.0.0.0", "::"
+# What Linux is asked for the address of a network card and for its state, the state of one that is on, and how the names of bridges and
+# tunnels begin.
+ADDRESS_OF, FLAGS_OF, IS_UP = 0x8915, 0x8913, 1
+APART = "br", "docker", "lxc", "ppp", "tailscale", "tap", "tun", "veth", "virbr", "wg", "zt"
 LETTERS, LONG = "abcdefghijkmnpqrstuvwxyz23456789", 26
 
 
@@ -44,17 +51,33 @@ def same(given, secret):
     return hmac.compare_digest(given.replace("-", "").lower().encode(), secret.replace("-", "").encode())
 
 
-def address_of(host):
-    """The address at which others find a server that listens on a host: on 0.0.0.0 that of this machine in its network."""
+def addresses_of(host):
+    """The addresses at which others may find a server that listens on a host, the likeliest first: on 0.0.0.0 those that this machine has
+    in its networks. There are none if it has only those that no other machine reaches."""
     if host not in ANY:
-        return host
+        return [host]
+    found, way_out = {}, None
     with socket.socket(socket.AF_INET6 if host == "::" else socket.AF_INET, socket.SOCK_DGRAM) as probe:
-        try:
+        for _, card in socket.if_nameindex() if host != "::" else ():
+            with contextlib.suppress(OSError):
+                asked = struct.pack("40s", card.encode())
+                if struct.unpack_from("H", fcntl.ioctl(probe, FLAGS_OF, asked), 16)[0] & IS_UP:
+                    found[socket.inet_ntoa(fcntl.ioctl(probe, ADDRESS_OF, asked)[20:24])] = card
+        with contextlib.suppress(OSError):
             # No packet is sent: this only asks the system which of its addresses it would send from.
             probe.connect(("2001:db8::1" if host == "::" else "192.0.2.1", 9))
-            return probe.getsockname()[0]
-        except OSError:
-            return "::1" if host == "::" else "127.0.0.1"
+            way_out = probe.getsockname()[0]
+            found.setdefault(way_out, "")
+    return sorted((place for place in found if not is_loopback([place])), key=lambda place: unlikely(place, found[place], place == way_out))
+
+
+def unlikely(place, card, leads_out):
+    """How unlikely it is that a class finds this machine at an address: a real network card is likelier than one that was made up, and
+    that than a bridge or a tunnel. Of several cards it is one that does not lead to the internet: somebody has made a network for the
+    class. Of several bridges it is the one that does."""
+    is_apart = card.startswith(APART)
+    made_up = 2 if is_apart else 0 if os.path.exists("/sys/class/net/%s/device" % card) else 1
+    return made_up, not ipaddress.ip_address(place).is_private, leads_out != is_apart
 
 
 class Refused(Exception):
@@ -81,7 +104,7 @@ class Request:
         # To be called once it has the secret, and once it is known whose the request is.
         self.is_guest, self.known = is_guest, known
         # Whether it comes from this machine, and through no tunnel; and whether from a program of this user.
-        self.is_local, self.is_own = False, lambda: False
+        self.is_local, self.is_own, self.peer = False, lambda: False, ""
         self.query = dict(pair.partition("=")[::2] for pair in query.split("&") if pair)
 
     async def json(self, most):
@@ -122,15 +145,22 @@ class Crowd:
         self.most, self.writers = most, {}
 
     def take(self, task, writer):
-        """Takes one more, and drops the oldest if there are too many."""
-        self.writers[task] = writer
+        """Takes one more. If there are too many, the address of the network that has most of them loses its oldest."""
+        self.writers[task] = writer, peer_of(writer)
         if len(self.writers) > self.most:
-            oldest = next(iter(self.writers))
-            self.writers.pop(oldest).transport.abort()
+            most = Counter(peer for _, peer in self.writers.values()).most_common(1)[0][0]
+            oldest = next(task for task, (_, peer) in self.writers.items() if peer == most)
+            self.writers.pop(oldest)[0].transport.abort()
             oldest.cancel()
 
     def leave(self, task):
         self.writers.pop(task, None)
+
+
+def peer_of(writer):
+    """The address of the network from which a connection comes; of the sixth version the half that is the network's."""
+    peer = (writer.get_extra_info("peername") or [""])[0]
+    return ":".join(ipaddress.ip_address(peer.partition("%")[0]).exploded.split(":")[:4]) if ":" in peer else peer
 
 
 class Server:
@@ -233,6 +263,7 @@ class Server:
         if headers.get("sec-fetch-site", "none") not in ("none", "same-origin") and headers.get("sec-fetch-dest") != "document":
             raise Nothing
         request = Request(*target.groups(), headers, reader, lambda: self.welcome(task, writer), lambda: self.leave(task))
+        request.peer = peer_of(writer)
         request.is_own = lambda: is_own(*map(writer.get_extra_info, ("peername", "sockname")))
         request.is_local = not self.is_front(headers["host"]) and all(
             is_loopback(writer.get_extra_info(end)) for end in ("peername", "sockname"))

@@ -4,19 +4,20 @@ import { Questions } from "./ask.js";
 import { SVG, draw } from "./board.js";
 import { Editor } from "./edit.js";
 import { Hands } from "./hand.js";
-import { fewest, post, save, startPage, store, stored, sure } from "./page.js";
+import { Link, fewest, save, startPage, store, stored, sure } from "./page.js";
 import { layoutOf, placesText } from "./places.js";
 import { Viewer, bind, choose, element } from "./viewer.js";
 import { Game, besideWords, linesOf } from "./words.js";
 
 const SOON = 400, EDITED = "an edited table";
 export let table, fileName, examples, viewer, hands, questions, editor;
-let turn = Promise.resolve(), key = null, keeping = null, undone = false;
+const link = new Link();
+let key = null, keeping = null, undone = false;
 
 /* What the program says to a question: its status, its answer and its fault. */
 
 async function ask(question) {
-  const said = await post("ask", question);
+  const said = await link.post("ask", question);
   return said.refused ? { status: said.status, out: "", err: said.refused } : said;
 }
 
@@ -26,8 +27,7 @@ const stepsText = (length) => textOf(viewer.game.steps.slice(0, length).map(({ l
 /* Lines are played one after another, each on what came of the one before. */
 
 export function play(line) {
-  turn = turn.then(() => playNow(line));
-  return turn;
+  return link.inTurn(() => playNow(line));
 }
 
 async function playNow(line) {

@@ -4,7 +4,7 @@
 import { Board, draw } from "./board.js";
 import { Editor } from "./edit.js";
 import { Hands } from "./hand.js";
-import { fewest, post, save, startPage, store, stored, sure } from "./page.js";
+import { Link, fewest, post, save, startPage, store, stored, sure } from "./page.js";
 import { fitted, layoutOf } from "./places.js";
 import { Viewer, bind, button, element, made, say } from "./viewer.js";
 import { Game, besideWords, faultWords, movesWords } from "./words.js";
@@ -14,42 +14,72 @@ const CHANGES = ["moved", "given", "joined"];
 const FILES = { "take-table": "table.json", "take-steps": "steps.txt", "take-history": "history.txt" };
 const SWITCHES = ["gifts", "edges", "questions", "undo", "hints"];
 const KEPT = `dollar ${location.pathname.replaceAll("-", "").toLowerCase()}`;
-export let given, viewer, hands, editor, source, me = null, state = null, waiting = [], received = 0, shownRoom = 1;
-const MEANWHILE = 200;
-let preview = [140, 110], frame = null, took = 0, last = 0, stopped = false, broken = false, missed = false;
+export let given, viewer, hands, editor, me = null, state = null, waiting = [], received = 0, shownRoom = 1;
+const MEANWHILE = 200, PATIENCE = 10000;
+let known = [], preview = [140, 110], frame = null, took = 0, last = 0, stopped = false, missed = false;
 export const entries = new Map(), rooms = new Map();
 
 const teaches = () => given.role === "teacher";
 const watches = () => teaches() || me === null;
 
-/* A seat of one's own, which is kept over a reload. A browser has one seat, however often it asks. */
+/* A seat of one's own, which is kept over a reload. A browser has one seat, however often it asks; but in a class that goes on another day
+   it may be shared, and a new window asks who is there. */
 
 function keep(seat) {
+  known = [...(seat ? [seat] : []), ...known.filter(({ key }) => !me || key !== me.key)];
   me = seat;
-  store("localStorage", KEPT, seat);
+  store("localStorage", KEPT, known);
+  store("sessionStorage", KEPT, me && me.key);
+}
+
+function askName() {
+  element("watch").hidden = Boolean(me);
+  document.querySelector("#join [type=submit]").textContent = me ? "Change the name" : "Take a seat";
+  element("known").hidden = Boolean(me) || known.length === 0;
+  element("known").replaceChildren("Who is there? ", ...known.map((seat) => button(seat.name, () => {
+    keep(seat);
+    sit();
+  })));
+  element("entrance").hidden = false;
+  element("your-name").value = me ? me.name : "";
+  element("your-name").focus();
 }
 
 function browser() {
   const own = stored("localStorage", "dollar browser")
     || [...crypto.getRandomValues(new Uint8Array(LETTERS))].map((byte) => (byte % 36).toString(36)).join("");
   store("localStorage", "dollar browser", own);
-  return own;
+  return known.length ? `${own}.${Math.random().toString(36).slice(2, 8)}` : own;
 }
 
 async function join() {
   const submit = document.querySelector("#join [type=submit]");
   submit.disabled = true;
-  const got = await post("join", { name: element("your-name").value, browser: browser() });
+  const timer = setTimeout(() => say("join-refused", "Many are coming in. Your seat comes in a moment."), 1000);
+  const name = element("your-name").value, before = me;
+  const got = await (before ? link.post("rename", { name, key: me.key }) : link.post("join", { name, browser: browser() }));
+  clearTimeout(timer);
   submit.disabled = false;
   say("join-refused", got.refused);
   if (got.refused) return;
-  keep(got);
-  sit();
+  keep({ ...before, ...got });
+  if (before) element("entrance").hidden = true;
+  else sit();
+}
+
+async function leave() {
+  if (await sure("Leave this seat? Somebody else can take it then.")) link.post("leave", { key: me.key });
+}
+
+/* Lets somebody else take the place before the screen. */
+function changeOver() {
+  store("sessionStorage", KEPT, null);
+  location.reload();
 }
 
 function leaveSeat(words) {
   keep(null);
-  if (source) source.close();
+  link.close();
   // What is still to be drawn says nothing over these words.
   state = null;
   enter(false);
@@ -61,6 +91,7 @@ function enter(inside) {
   document.body.classList.toggle("outside", !inside);
   viewer.refit();
   notice("");
+  if (!inside) askName();
 }
 
 /* A page without a seat, which shows the way in as well. */
@@ -70,48 +101,39 @@ function watch() {
   element("hands").hidden = true;
   document.body.classList.add("watching");
   showWay();
-  listen("events?");
+  link.listen(() => place("events?"));
 }
 
 function sit() {
   enter(true);
-  listen(`events?key=${encodeURIComponent(me.key)}&`);
+  const { key } = me;
+  link.listen(() => place(`events?key=${key}&`));
 }
 
 /* What comes from the server. */
 
-function listen(path) {
-  if (source) source.close();
-  source = new EventSource(`${path}from=${given.feed}.${received}`);
-  source.addEventListener("table", (event) => handed(JSON.parse(event.data)));
-  source.addEventListener("entries", (event) => taken(...JSON.parse(event.data)));
-  source.addEventListener("state", (event) => {
-    state = JSON.parse(event.data);
+const NO_LINK = "There is no connection to the game. The page tries again.";
+const place = (path) => `${path}from=${given.feed}.${received}`;
+
+export const link = new Link(PATIENCE, {
+  table: handed, entries: (come) => taken(...come), beat() {},
+  state(now) {
+    state = now;
     scheduleFlush();
-  });
-  source.addEventListener("freed", () => leaveSeat("Your seat was freed. You can take another."));
-  source.addEventListener("asleep", () => {
-    source.close();
-    notice("This seat is open in too many pages. This page shows nothing new until you load it again.");
-  });
-  source.addEventListener("open", () => {
-    if (broken && hands) hands.tell("");
-    broken = false;
-    scheduleFlush();
-  });
-  source.addEventListener("error", () => {
-    broken = true;
-    if (source.readyState !== EventSource.CLOSED) notice("There is no connection to the game. The page tries again.");
-    else checkSeat(path);
-  });
-}
+  },
+  freed: () => leaveSeat("Your seat was freed. You can take another."),
+  asleep() {
+    link.close();
+    notice("Your seat is open in another page now. To play here, load this page again.");
+  },
+}, (refused) => (refused ? checkSeat() : notice(NO_LINK)));
 
 /* A page that was not let in: its seat was freed, or the game is gone. Only the server itself can say so; what a network puts between is
    tried again. */
 
 const AGAIN = 2000;
 
-async function checkSeat(path) {
+async function checkSeat() {
   try {
     const got = await fetch("start");
     if (got.ok && me) return leaveSeat("This is no longer your seat. You can take another.");
@@ -119,8 +141,8 @@ async function checkSeat(path) {
   } catch {
     /* It is tried again. */
   }
-  notice("There is no connection to the game. The page tries again.");
-  setTimeout(() => listen(path), AGAIN);
+  notice(NO_LINK);
+  setTimeout(() => link.source && link.listen(link.place), AGAIN);
   return null;
 }
 
@@ -194,6 +216,7 @@ function flush() {
   missed = false;
   if (leapt && hands) hands.note(leapt);
   if (state) showState();
+  link.drew();
   last = performance.now();
   took = last - start;
 }
@@ -225,17 +248,16 @@ function leap(room, { left, name }) {
 
 function showState() {
   const { over, ends, paused, names } = state, end = over ? { status: 0 } : ends[shownRoom];
-  const pages = me && names[me.seat] ? names[me.seat].here : 1;
   if (stopped && !paused && !end && hands) hands.tell("");
   stopped = paused || Boolean(end);
   if (end) notice(endWords(end));
   else if (paused) notice("The teacher has paused the game.");
-  else if (pages > 1) notice(`This seat is open in ${pages} pages. All of them play for it.`);
   else notice("");
   showNames(names);
   if (hands) permit();
   if (teaches()) showCommands(Boolean(end), end);
   if (watches()) showRooms();
+  if (watches() && state.address !== given.address) renewWay();
   // The way in is shown until all are in, and small once somebody plays.
   document.body.classList.toggle("begun", given.turn > 1 || [...rooms.values()].some(({ game }) => game.length > 0));
   element("way").classList.toggle("full", !state.open || Object.keys(names).length >= given.seats);
@@ -258,7 +280,9 @@ function showNames(names) {
 function rowOf(seat, name, who) {
   const row = made("li", "", { value: seat, "data-who": who });
   row.append(made("b", name), made("span", ""));
-  if (me && Number(seat) === me.seat) row.append("(you) ");
+  if (me && Number(seat) === me.seat) {
+    row.append("(you) ", button("rename", askName), " ", button("leave", leave), ...(given.kept ? [" ", button("somebody else", changeOver)] : []));
+  }
   if (teaches()) row.append(freeing(seat, name), " ", freeing(seat, name, true));
   return row;
 }
@@ -351,13 +375,16 @@ function enlarge(number) {
 /* What a seat plays. */
 
 export async function play(line) {
+  if (viewer.now < viewer.game.length) {
+    viewer.go(viewer.game.length);
+    return hands.note("You were at an earlier step, so this was not played. This is the board now.");
+  }
   return sent("line", { line });
 }
 
 /* Whether the board can be won: a look, and the verdict on it. */
 async function ask() {
-  await play("look");
-  if (element("refused").hidden) await play("commit");
+  if ((await play("look")) && element("refused").hidden) await play("commit");
 }
 
 /* One move that helps. */
@@ -368,12 +395,21 @@ async function hint() {
   hands.hint(got.hint);
 }
 
-async function sent(path, thing) {
+/* Nothing is played while the page does not hear what comes of it, and each line only when the one before it is drawn. */
+
+function sent(path, thing) {
   if (!me) return hands.tell("Take a seat first.");
-  const got = await hands.patient(post(path, { key: me.key, feed: given.feed, ...thing }));
-  if (got.status === 404) return checkSeat(`events?key=${encodeURIComponent(me.key)}&`);
-  if (got.status === null) return hands.tell(`${got.refused} The list shows whether the line was played.`);
+  if (!link.hears) return hands.tell("This page does not hear the game just now. This was not played.");
+  const { feed } = given;
+  return link.inTurn(() => me && hands.patient(sentNow(path, { key: me.key, feed, ...thing })));
+}
+
+async function sentNow(path, thing) {
+  const got = await link.post(path, thing);
+  if (got.status === 404) return checkSeat();
+  if (got.status === null) return hands.tell(`${got.refused} The list shows whether the line was played. Later clicks were not.`);
   if (got.refused) return hands.tell(got.refused);
+  await link.until(() => given.feed !== thing.feed || received - waiting.length >= got.items);
   const bad = got.answer && got.answer.startsWith("bad ");
   hands.tell(bad ? faultWords(got.answer) : "", bad ? got.answer : "");
   if (!bad) hands.unchoose();
@@ -410,11 +446,14 @@ function showCommands(ended, end) {
     box.replaceChildren(...wanted.map(([value, text]) => new Option(text, value)));
   }
   box.value = shown;
+  element("which").value = state.address.split("/")[2];
 }
 
 function showWay() {
   const box = element("code"), lines = given.code;
+  box.replaceChildren();
   element("way").hidden = false;
+  element("here").hidden = !/^http:\/\/(localhost|127\.|\[::1\])/.test(given.address);
   element("address").textContent = given.address;
   element("short").textContent = `${new URL(given.address).origin}/${given.short}`;
   if (!lines) return;
@@ -423,6 +462,13 @@ function showWay() {
   const dots = lines.flatMap((line, y) => [...line].flatMap((dot, x) => (dot === "1" ? [`M${x} ${y}h1v1h-1z`] : [])));
   draw("path", { d: dots.join(""), class: "dot" }, box);
   box.removeAttribute("hidden");
+}
+
+/* The address that the teacher has chosen, which the page may have to be told again. */
+async function renewWay() {
+  const { address, code } = await (await fetch("start")).json();
+  Object.assign(given, { address, code });
+  showWay();
 }
 
 /* The next table: one of those that were named, a puzzle on a graph, or a file. */
@@ -520,12 +566,15 @@ function teach() {
     target.value = "";
   });
   element("show").addEventListener("change", () => command("show", { what: element("show").value }));
+  element("which").append(...given.places.map((each) => new Option(each, each)));
+  element("which").addEventListener("change", () => command("place", { place: element("which").value }));
+  element("which").parentElement.hidden = given.places.length < 2;
   for (const name of SWITCHES) {
     element(`may-${name}`).addEventListener("change", ({ target }) => command("may", { [name]: target.checked }));
   }
   drawTables();
   offer();
-  listen("events?");
+  link.listen(() => place("events?"));
 }
 
 async function start() {
@@ -544,11 +593,9 @@ async function start() {
   hands = teaches() ? null : new Hands(viewer, play);
   if (teaches()) return teach();
   bind({ join, watch, undo: () => sent("undo", {}), redo: () => sent("redo", {}), hint, ask });
-  me = stored("localStorage", KEPT);
-  if (me) return sit();
-  enter(false);
-  element("your-name").focus();
-  return null;
+  known = [stored("localStorage", KEPT) || []].flat();
+  me = (given.kept ? known.find(({ key }) => key === stored("sessionStorage", KEPT)) : known[0]) || null;
+  return me ? sit() : enter(false);
 }
 
 startPage(start);

@@ -2,16 +2,92 @@
 
 import { element, made } from "./viewer.js";
 
+// In milliseconds: the program itself is given two minutes.
+const LONG = 150000, SILENT = 10000, LATE = 2000, RETRY = 250, LOOK = 1000, TOO_FAST = 429;
 const NO_ANSWER = "There is no answer from board/play: it may have ended, or the network is gone.";
 
 /* What the server says to a request: a thing, or its words if it refuses. */
 
-export async function post(path, thing) {
+export async function post(path, thing, patience = LONG) {
+  const given = { method: "POST", headers: { "Content-Type": "application/json" }, body: JSON.stringify(thing) };
+  // Old browsers know no such signal, and wait.
+  if (AbortSignal.timeout) given.signal = AbortSignal.timeout(patience);
   try {
-    const got = await fetch(path, { method: "POST", headers: { "Content-Type": "application/json" }, body: JSON.stringify(thing) });
+    const got = await fetch(path, given);
     return got.ok ? await got.json() : { refused: await got.text(), status: got.status };
   } catch {
     return { refused: NO_ANSWER, status: null };
+  }
+}
+
+/* The link of a page to its server: what the player does goes there one after another, and if the page listens, what comes is a stream.
+   A network may forget a connection without a word, but the server says something every five seconds. If it does not, or if what was
+   played does not come soon, the page listens again. */
+
+export class Link {
+  /* How long an answer may take, what is done at each kind of event, and what is called when the stream breaks, with whether the server
+     has refused it. */
+  constructor(patience = LONG, told = {}, lost = null) {
+    Object.assign(this, { patience, told, lost, turn: Promise.resolve(), fails: 0, source: null, heard: 0, hears: false, drew: () => {} });
+    const look = () => Date.now() - this.heard > SILENT && this.breaks();
+    setInterval(look, LOOK);
+    document.addEventListener("visibilitychange", look);
+  }
+
+  /* Does something after all that was to be done before it, but not after something that got no answer. */
+  inTurn(act) {
+    const { fails } = this;
+    this.turn = this.turn.catch(() => {}).then(() => (fails === this.fails ? act() : null));
+    return this.turn;
+  }
+
+  async post(path, thing) {
+    const got = await post(path, thing, this.patience);
+    if (got.status === null) {
+      this.fails++;
+      this.breaks();
+    }
+    if (got.status !== TOO_FAST) return got;
+    await new Promise((done) => setTimeout(done, RETRY));
+    return this.post(path, thing);
+  }
+
+  /* Waits until the page has drawn what was played. */
+  async until(held) {
+    const late = setTimeout(() => this.source && this.listen(this.place), LATE);
+    while (this.source && !held()) await new Promise((done) => Object.assign(this, { drew: done }));
+    clearTimeout(late);
+  }
+
+  /* Listens at an address, which is asked for each time. */
+  listen(place) {
+    const { hears } = this;
+    this.close();
+    const source = new EventSource(place());
+    Object.assign(this, { place, source, hears, heard: Date.now() });
+    for (const [kind, act] of Object.entries(this.told)) {
+      source.addEventListener(kind, (event) => {
+        Object.assign(this, { heard: Date.now(), hears: true });
+        act(event.data && JSON.parse(event.data));
+      });
+    }
+    source.addEventListener("error", () => {
+      this.hears = false;
+      this.lost(source.readyState === EventSource.CLOSED);
+    });
+  }
+
+  breaks() {
+    if (!this.source) return;
+    this.hears = false;
+    this.lost(false);
+    this.listen(this.place);
+  }
+
+  close() {
+    if (this.source) this.source.close();
+    Object.assign(this, { source: null, hears: false });
+    this.drew();
   }
 }
 

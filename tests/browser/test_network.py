@@ -1,0 +1,186 @@
+"""A class on a network that forgets connections without a word, and on computers with several addresses."""
+import contextlib
+import itertools
+import json
+import os
+import re
+import shutil
+import socket
+import subprocess
+import tempfile
+import threading
+import unittest
+
+import firefox
+from browser import READY, Page, at, needed
+from common import EXAMPLES, PATIENCE, PLAY, played
+from helpers import equal, expect, tests_of
+from visitors import PagePupil, Place, Pupil, taken
+
+
+class Network:
+    """What lies between pages and a server. Whenever its age grows it forgets its connections: they stay open, and nothing comes."""
+
+    def __init__(self):
+        self.listener, self.age = socket.create_server(("127.0.0.1", 0), backlog=64), 0
+        with socket.create_server(("127.0.0.1", 0)) as free:
+            self.port, self.to = (each.getsockname()[1] for each in (self.listener, free))
+        threading.Thread(target=self.run, daemon=True).start()
+
+    def run(self):
+        with contextlib.suppress(OSError):
+            while True:
+                ends = self.listener.accept()[0], socket.create_connection(("127.0.0.1", self.to))
+                for one, other in ends, ends[::-1]:
+                    threading.Thread(target=self.carry, args=[self.age, one, other], daemon=True).start()
+
+    def carry(self, age, one, other):
+        with contextlib.suppress(OSError):
+            data = True
+            while data:
+                data = one.recv(1 << 16)
+                if self.age == age:
+                    other.sendall(data) if data else other.shutdown(socket.SHUT_WR)
+
+
+@contextlib.contextmanager
+def through(network, browsers, *words):
+    """A class behind a network, as its addresses. The browsers that look at it are left as they were."""
+    for browser in browsers:
+        browser.asked.clear()
+    with played(EXAMPLES / "houses.json", "--class", "4", "--port", str(network.to), "--name", f"127.0.0.1:{network.port}", *words) as (_, found):
+        yield found
+        for browser in browsers:
+            browser.harmless(Place(found[0]).origin)
+            browser.go("about:blank")
+            browser.asked.clear()
+
+
+def dying_connections(folder, browsers):
+    """Connections die: all that is played is drawn, in its order, on the pupil's page and on the wall."""
+    one, two, _ = browsers
+    network = Network()
+    with through(network, browsers) as (pupils, teacher):
+        ann, wall = PagePupil(one, pupils, "Ann", folder), Page(two, pupils, os.path.join(folder, "wall"))
+        wall.click("#watch")
+        wall.until("state !== null")
+        other = Pupil(pupils, "other", events=False)
+        ann.click(at("cyd"))
+        ann.has(1)
+        network.age += 1
+        for name in "bob", "cyd", "dan":
+            ann.click(at(name))
+        ann.has(4)
+        network.age += 1
+        other.play("borrow cyd")
+        for page in ann, wall:
+            page.has(5)
+            page.until("$('#notice').hidden")
+        ann.value("for (let i = 0; i < 40; i++) play(`${i % 3 ? 'lend' : 'borrow'} ${'abcd'[i % 4]}${['nn', 'ob', 'yd', 'an'][i % 4]}`)")
+        ann.has(45)
+        steps, history = taken(Place(teacher), folder)
+        wanted = [f"{'lend' if i % 3 else 'borrow'} {('ann', 'bob', 'cyd', 'dan')[i % 4]}" for i in range(40)]
+        equal([step.split(" ", 1)[1] for step in steps], ["lend cyd", "lend bob", "lend cyd", "lend dan", "borrow cyd", *wanted], "the steps")
+        for page in ann, wall:
+            page.has(45)
+            equal(page.value("viewer.game.replies.map(({ line }) => line)"), history, "what a page has drawn")
+        equal(ann.value("[state.names[me.seat].here, $('#refused').hidden]"), [True, True], "who is here, and what is refused")
+        with socket.create_server(("127.0.0.1", 0)) as silent:
+            real, network.to, network.age = network.to, silent.getsockname()[1], network.age + 1
+            ann.click(at("cyd"))
+            ann.click(at("cyd"))
+            ann.until("$('#refused').textContent.includes('Later clicks were not.') && !$('#notice').hidden")
+            ann.click(at("cyd"))
+            ann.until("$('#refused').textContent.includes('does not hear the game just now.')")
+            network.to = real
+        ann.until("$('#notice').hidden && link.hears")
+        ann.click(at("cyd"))
+        for page in ann, wall:
+            page.has(46)
+
+
+CARD = "ip link add {0} type {1} && ip addr add {2} dev {0} && ip link set {0} up"
+OWN, OPEN = CARD.format("class", "veth", "10.5.0.7/24"), "can be opened from other machines of this network."
+MORE = [CARD.format("docker0", "bridge", "172.17.0.1/16"), CARD.format("stick", "veth", "172.31.9.9/24"), "ip route add default via 172.31.9.1"]
+COMPUTERS = [("in no network", [], ["127.0.0.1"], "can be opened on this machine alone."),
+             ("with a network of the class's own, which leads nowhere", [OWN], ["10.5.0.7"], OPEN),
+             ("with a stick that leads to the internet as well, and a bridge", [*MORE, OWN], ["10.5.0.7", "172.31.9.9", "172.17.0.1"], OPEN)]
+
+
+def computers(folder):
+    """The likeliest address of a computer is shown and the others are told, whatever networks it is in."""
+    apart = ["unshare", "-rn", "sh", "-ec"]
+    if not shutil.which("ip") or subprocess.run([*apart, OWN], capture_output=True).returncode:
+        raise unittest.SkipTest("the addresses of other computers, for want of network namespaces")
+    for what, cards, (first, *others), words in COMPUTERS:
+        given = [*PLAY, EXAMPLES / "houses.json", "--class", "2", "--host", "0.0.0.0", "--port", "4000"]
+        child = subprocess.Popen([*apart, "\n".join(["ip link set lo up", *cards, 'exec "$@"']), "sh", *given], stdin=subprocess.DEVNULL,
+                                 stdout=subprocess.PIPE, text=True)
+        said = "".join(itertools.takewhile(lambda line: "ends it" not in line, child.stdout))
+        child.terminate()
+        equal(child.wait(PATIENCE), 0, f"the end on a computer {what}")
+        told = f"Other addresses:   {', '.join(f'{each}:4000' for each in others)}. The teacher's page can choose."
+        expect(words in said and [Place(each).host for each in re.findall(r"http://\S+", said)] == [first, first], f"a computer {what}: {said}")
+        expect(told in said if others else "Other" not in said, f"the other addresses of a computer {what}: {said}")
+
+
+def chosen(folder):
+    """Somebody who mistypes the code is let in, and the teacher chooses which address is shown."""
+    one, two, _ = browsers = needed()
+    network = Network()
+    with through(network, browsers, "--name", "vm:8080") as (pupils, teacher):
+        desk, wall = Page(one, teacher, os.path.join(folder, "desk")), Page(two, pupils, os.path.join(folder, "wall"))
+        wall.value(f"void (location.href = '/{desk.text('#short').rpartition('/')[2][::-1]}')")
+        wall.until("document.readyState === 'complete' && $('[role=alert]').textContent.startsWith('There is no such code.')")
+        wall.write(desk.text("#short").rpartition("/")[2], into="input")
+        wall.click("button")
+        wall.until(f"location.href === {json.dumps(pupils)} && {READY}")
+        wall.click("#watch")
+        for page in desk, wall:
+            page.until("state !== null")
+        before = wall.value("$('#code').innerHTML")
+        equal(desk.value("texts('#which option')"), [f"127.0.0.1:{network.port}", "vm:8080"], "the addresses to choose from")
+        equal([page.value("$('#here').hidden") for page in (desk, wall)], [False, False], "a word on an address of this computer alone")
+        desk.value("($('#which').value = 'vm:8080', $('#which').dispatchEvent(new Event('change')))")
+        for page in desk, wall:
+            page.until(f"$('#address').textContent === 'http://vm:8080/{Place(pupils).secret}/' && $('#here').hidden")
+        expect(wall.text("#short").startswith("http://vm:8080/") and wall.value("$('#code').innerHTML") != before, "the short address and the code")
+        equal(Place(teacher).post("place", {"place": "evil.example"}), (409, "This machine does not have this address any more."), "another")
+
+
+def shared_laptop(folder):
+    """In a class that goes on another day a laptop asks who is there."""
+    one, *_ = needed()
+    with played(EXAMPLES / "houses.json", "--class", "4", "--keep", os.path.join(folder, "kept")) as (_, (pupils, _)):
+        ann = PagePupil(one, pupils, "Ann", folder)
+        ann.click("#names button")
+        ann.types("#your-name", "Anne")
+        ann.click("#join button")
+        ann.until("texts('#names li b').join() === 'Anne' && me.name === 'Anne' && $('#entrance').hidden")
+        ann.visit(pupils, "me && state !== null")
+        for name in "Bob", "Cem":
+            ann.click("#names li button:last-child")
+            ann.until(f"{READY} && me === null && !$('#known').hidden")
+            ann.join(name, "Enter")
+        ann.click("#names li:nth-child(3) button:last-child")
+        ann.until(f"{READY} && me === null && texts('#known button').join() === 'Cem,Bob,Anne'")
+        ann.click("#known button:last-child")
+        ann.until("me.name === 'Anne' && state !== null && texts('#names li b').join() === 'Anne,Bob,Cem'")
+        ann.click("#names li:nth-child(1) button:nth-of-type(2)")
+        ann.answered(True)
+        ann.told("Your seat was freed.")
+        equal(ann.value("[me, texts('#known button')]"), [None, ["Cem", "Bob"]], "who is known after somebody left")
+        one.harmless(pupils)
+        one.go("about:blank")
+        one.asked.clear()
+
+
+def in_chromium(folder):
+    dying_connections(folder, needed())
+
+
+def in_firefox(folder):
+    dying_connections(folder, firefox.needed())
+
+
+load_tests = tests_of(computers, chosen, shared_laptop, in_chromium, in_firefox, given=tempfile.TemporaryDirectory)
