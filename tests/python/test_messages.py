@@ -254,7 +254,7 @@ dollar.Verdict(True, {"a": 0}, {"a": 0}).check(t)
 dollar.RankTest(True, 1).check()
     ValueError: an answer from a history knows no table: say which one it is about
 dollar.example("nosuch")
-    FileNotFoundError: there is no example nosuch beside this package: /tmp/w/py/examples/nosuch.json
+    FileNotFoundError: there is no example nosuch beside this package:
 dollar.find_program("/nowhere/dollar")
     ProgramNotFound: the parameter `program` names /nowhere/dollar, and no program is there
 dollar.history(["1 won"])
