@@ -89,7 +89,7 @@ def are_arrows_right(shown, table, lent):
         math.dist(at[getter], place) < math.dist(at[giver], place) for (giver, getter), place in zip(wanted, shown["arrows"]))
 
 
-def compare(browser, where, index, table, amounts, step, line):
+def compare(browser, where, index, table, amounts, step, line, added):
     """Compares what a page shows at a step with the step and the line of the history."""
     shown, names, reply = browser.value(SHOWN), table["vertices"], answer(line.split(" ", 1)[1]) if line else (None,)
     debts, is_verdict = [name for name in names if amounts[name] < 0], reply[0] in ("winnable", "unwinnable")
@@ -97,7 +97,7 @@ def compare(browser, where, index, table, amounts, step, line):
     wanted = {
         "asked": step, "said": line, "amounts": [[name, amounts[name]] for name in names], "debts": debts, "hatched": debts,
         "label": "The board: " + ", ".join(f"{name} {amount}" for name, amount in amounts.items()), "slider": index,
-        "marks": [index] * (index > 0), "list": [index] * (index > 0), "added": table.get("added", 0), "differs": None,
+        "marks": [index] * (index > 0), "list": [index] * (index > 0), "added": added, "differs": None,
         "edges": sum(count if count <= 8 else 1 for _, _, count in pairs), "open": is_verdict,
         "script": [[name, often(reply[1][name]), str(amounts[name]), str(reply[2][name])] for name in names] if is_verdict
         else []}
@@ -113,16 +113,16 @@ def compare(browser, where, index, table, amounts, step, line):
 
 
 def states(table, steps, lines):
-    """For each place of the slider the table with its edges, the amounts, the step and its line."""
-    amounts = dict(zip(table["vertices"], table["amounts"]))
-    yield table, amounts, "", ""
+    """For each place of the slider the table with its edges, the amounts, the step, its line, and how many edges were added."""
+    amounts, added = dict(zip(table["vertices"], table["amounts"])), 0
+    yield table, amounts, "", "", added
     for step, line in zip(steps, lines):
         reply = answer(line.split(" ", 1)[1])
         if reply[0] == "joined":
-            table = dict(joined(table, *step.split(" ")[2:]), added=table.get("added", 0) + 1)
+            table, added = joined(table, *step.split(" ")[2:]), added + 1
         if reply[0] in WITH_AMOUNTS:
             amounts = reply[-1]
-        yield table, amounts, step, line
+        yield table, amounts, step, line, added
 
 
 def by_keys(browser, place, table, steps):

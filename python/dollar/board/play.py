@@ -104,12 +104,13 @@ def base_of(host, server):
 
 
 def told_once():
-    """What is called with what goes wrong in the loop, as when a flood leaves no room for more connections: it tells each once."""
+    """What is called with what goes wrong in the loop, as when a flood leaves no room for more connections: it tells each once. That a page
+    or a program has gone is no news here."""
     said = set()
 
     def tell(_, context):
         words = context.get("message", "something went wrong")
-        if words not in said:
+        if words not in said and not isinstance(context.get("exception"), ConnectionError):
             said.add(words)
             print("%s: %s: %s" % (typed("board"), words, context.get("exception", "")), file=sys.stderr, flush=True)
     return tell
