@@ -4,13 +4,12 @@
 --   block_wins       if all of the box win, so do all trials of the block
 --   block_loses      the first loss of the box, after the base, is the first of the block
 --   block_begun      if the first trial of a block loses, it is the first loss
-use Rattle.dg_rank.proofs.Common.{◌≡◌, ◌≢◌, ℕ, ◌+◌, ◌-◌, ◌<◌, ◌≤◌, List, ◌++◌, length, take, drop, arith, refl, sym, ap, subst, ◌∙◌, ⊎_elim, slice_index, sum, cases_eq, cases_lt, ints, get_or_append_left, get_or-append_right, get_or-take, get_or-drop, get_or_past, length-take-le, length-drop, sum_by-take-drop, pos, ◌-ℤ◌, Multigraph, Amounts, degree, only_at, AreEquivalent, less, degree-less, degree-only_at, only_at-here, only_at-other, sum_below-zero, equivalent-winnable, win_more, Vector, at, amounts_of, IsTrial, ComesBefore, IsWithinLimits, WinsWithout, AllWin, IsFirstLossIn, IsFrom, WinFrom, IsFirstFrom, IsEffectiveDivisor, IsGraph, unsigned_abs, ◌≤ℤ◌, ◌*◌, sum_below-at_most, within_abs, get_or-le-sum_by, length-append}
+use Rattle.dg_rank.proofs.Common.{◌≡◌, ◌≢◌, ℕ, ◌+◌, ◌-◌, ◌<◌, ◌≤◌, List, ◌++◌, length, take, drop, arith, refl, sym, ap, subst, ◌∙◌, ⊎_elim, slice_index, sum, cases_eq, cases_lt, ints, get_or_append_left, get_or-append_right, get_or-take, get_or-drop, get_or_past, length-take-le, length-drop, sum_by-take-drop, pos, ◌-ℤ◌, Multigraph, Amounts, degree, only_at, AreEquivalent, less, degree-less, degree-only_at, only_at-here, only_at-other, sum_below-zero, equivalent-winnable, win_more, Vector, at, amounts_of, IsTrial, ComesBefore, IsWithinLimits, WinsWithout, AllWin, IsFirstLossIn, IsFrom, WinFrom, IsFirstFrom, get_or-le-sum_by, length-append}
 use Rattle.std.proofs.Math.IntN.{◌+ℤ◌}
 use Rattle.dg_rank.specs.Numbering.{trial_count, nth_trial}
 use Rattle.dg_rank.proofs.Numbering.{numbered, some_trial, limits_trial, limits_count}
 use Rattle.dg_rank.proofs.TrialLists.{degree-trial, degree-take}
 use Rattle.std.proofs.lemmas.Grind.{same_number_lists}
-use Rattle.dg_rank.proofs.Elsewhere.{degree-given, form_degree}
 use Rattle.dg_rank.proofs.Leaps.{IsSplit, IsAmong, among}
 
 abbrev pub base : ℕ → ℕ → List ℕ → Amounts
@@ -201,29 +200,6 @@ joined d E F E' inside sizes places before after =
     after v past (omega arith) ∙ sym (get_or-append_right (take d E) (drop d F) d v 0 front past
     ∙ get_or-drop d F (v - d) 0 ∙ ap (slice_index F) there))
     (cases_lt v d))
-
-pub block_led : (g : Multigraph) (D : Amounts) (r : ℕ) (E : List ℕ) (x y : Vector) →
-    IsEffectiveDivisor g (less D (amounts_of E)) x →
-    ((v : ℕ) → at y v ≡ at x v +ℤ only_at (g.size - 1) (pos r) v) →
-    AreEquivalent g (λ v. less D (amounts_of E) v +ℤ only_at (g.size - 1) (pos r) v) (at y)
-block_led g D r E x y form given =
-    let (s, leads) = form.led in
-    (s, λ v below. omega (arith, ints, given v, leads v below))
-
-pub block_small : (g : Multigraph) (D : Amounts) (r : ℕ) (E : List ℕ) (x y : Vector) → IsGraph g → 0 < g.size → r ≤ 1000 →
-    ((v : ℕ) → v < g.size → unsigned_abs (D v) ≤ 1999000) → IsEffectiveDivisor g (less D (amounts_of E)) x →
-    ((v : ℕ) → at y v ≡ at x v +ℤ only_at (g.size - 1) (pos r) v) → degree g.size (at y) ≤ℤ pos 32000000
-block_small g D r E x y graph some few range form given =
-    let total : degree g.size (less D (amounts_of E)) ≤ℤ pos (g.size * 1999000) =
-    sum_below-at_most g.size 1999000 (less D (amounts_of E))
-    (λ w below. omega (arith, ints, (within_abs (D w) 1999000 (range w below)).1)) in
-    omega (
-      arith,
-      ints,
-      degree-given g.size (at x) (at y) (g.size - 1) r (omega arith) given,
-      form_degree g (less D (amounts_of E)) x graph.multigraph form,
-      graph.few,
-    )
 
 pub last_few : (n k c i : ℕ) (E : List ℕ) → IsWithinLimits n k c → i < c → E ≡ nth_trial n k i →
     (length E ≡ n) × (slice_index E (n - 1) ≤ 1000)

@@ -5,6 +5,7 @@
 --   rich_small      amounts that add up to at most M, without a debt, are within M
 --   degree-given    what is given to a vertex changes the degree by as much
 --   form_degree     what amounts are fired to has their degree
+--   given_back      dollars given to a vertex are given to what can be fired there
 --   told_by         what repaying tells of amounts it tells of all that are equivalent to them
 --   trial_small     a trial's amounts are at most 1,000
 --   left_small      small amounts less a trial's are small
@@ -34,17 +35,12 @@ rich_small n A M w rich total below =
 pub owed_small : (n : ℕ) (A B : Amounts) (v M k : ℕ) → IsEffective n A → degree n A ≤ℤ pos M →
     ((w : ℕ) → B w ≡ A w -ℤ only_at v (pos k) w) → (w : ℕ) → w < n → unsigned_abs (B w) ≤ M + k
 owed_small n A B v M k rich total less w below =
-    let low : pos 0 ≤ℤ A w = rich w below in
-    let high : A w ≤ℤ degree n A = sum_below-one n w A below (λ u inside _. rich u inside) in
-    let here : B w ≡ A w -ℤ only_at v (pos k) w = less w in
-    ⊎_elim
-    (λ (same : w ≡ v).
-    let taken : only_at v (pos k) w ≡ pos k = ap (only_at v (pos k)) same ∙ only_at-here v (pos k) in
-    abs_within (B w) (M + k) (omega (arith, ints)) (omega (arith, ints)))
-    (λ (other : w ≡ v → ⊥).
-    let taken : only_at v (pos k) w ≡ pos 0 = only_at-other v (pos k) w other in
-    abs_within (B w) (M + k) (omega (arith, ints)) (omega (arith, ints)))
-    (cases_eq w v)
+    let (low, high) = within_abs (A w) M (rich_small n A M w rich total below) in
+    let few : only_at v (pos k) w ≤ℤ pos k = ⊎_elim
+    (λ (same : w ≡ v). rw same (omega (arith, ints, only_at-here v (pos k))))
+    (λ (other : w ≡ v → ⊥). omega (arith, ints, only_at-other v (pos k) w other))
+    (cases_eq w v) in
+    abs_within (B w) (M + k) (omega (arith, ints, rich w below, less w)) (omega (arith, ints, less w, only_at-more v k w))
 
 pub degree-given : (n : ℕ) (A B : Amounts) (v k : ℕ) → v < n → ((w : ℕ) → B w ≡ A w +ℤ only_at v (pos k) w) →
     degree n B ≡ degree n A +ℤ pos k
@@ -55,6 +51,17 @@ degree-given n A B v k below more =
 pub form_degree : (g : Multigraph) (A : Amounts) (x : Vector) → IsMultigraph g → IsEffectiveDivisor g A x →
     degree g.size (at x) ≡ degree g.size A
 form_degree g A x graph form = sym (equivalent-degree g A (at x) graph form.led)
+
+pub given_back : (g : Multigraph) (A B : Amounts) (x y : Vector) (v k : ℕ) → IsEffectiveDivisor g A x →
+    y.size ≡ x.size → ((w : ℕ) → B w ≡ A w +ℤ only_at v (pos k) w) →
+    ((w : ℕ) → at y w ≡ at x w +ℤ only_at v (pos k) w) → IsEffectiveDivisor g B y
+given_back g A B x y v k form size more given =
+    let (s, leads) = form.led in
+    record {
+      size = size ∙ form.size;
+      effective = λ w below. omega (arith, ints, form.effective w below, given w, only_at-more v k w);
+      led = (s, λ w below. omega (arith, ints, leads w below, given w, more w));
+    }
 
 pub told_by : (b : Bool) (g : Multigraph) (A B : Amounts) (z : Vector) → AreEquivalent g A B →
     MatchBool b (IsEffectiveDivisor g B z) (¬ IsWinnable g B) → MatchBool b (IsEffectiveDivisor g A z) (¬ IsWinnable g A)
@@ -67,7 +74,7 @@ told_by false g A B z same lost = λ win. lost ((equivalent-winnable g A B same)
 
 pub left_degree : (g : Multigraph) (D : Amounts) (E : List ℕ) (x : Vector) → IsGraph g →
     ((v : ℕ) → v < g.size → unsigned_abs (D v) ≤ 1999000) → IsEffectiveDivisor g (less D (amounts_of E)) x →
-    degree g.size (at x) ≤ℤ pos 32000000
+    degree g.size (at x) ≤ℤ pos 31984000
 left_degree g D E x graph range form =
     let same : degree g.size (at x) ≡ degree g.size (less D (amounts_of E)) =
     form_degree g (less D (amounts_of E)) x graph.multigraph form in

@@ -1,5 +1,5 @@
 //! A search for a loss by boxes: at each vertex so much may be taken, and in all so many dollars.
-ghost use Rattle.std.specs.Prelude.{◌≡◌, ◌<◌, ◌≤◌, true, pos, MatchOption, MatchResult};
+ghost use Rattle.std.specs.Prelude.{◌≡◌, ℕ, ◌<◌, ◌≤◌, true, pos, ◌≤ℤ◌, ◌<ℤ◌, min, slice_index, MatchOption, MatchResult};
 ghost use Rattle.dg_theory.specs.Firing.{only_at, IsEffective};
 ghost use Rattle.dg_theory.specs.Play.{IsWinnable};
 ghost use Rattle.dg_theory.specs.Rank.{less};
@@ -19,6 +19,7 @@ pub(crate) struct Stopped;
 /// A loss in a box: at most so many dollars in all, and at each vertex at most what there is room for, without which what is
 /// left can't be won. `None` if all of the box can be lost. Where each vertex has as much left as may be taken there, they
 /// can. At any other a loss takes more than is left, or no more: the former are searched, and then the box is closed there.
+/// Once a dollar more was taken and paid back, another divisor of the class is at hand: it is taken where it lacks less.
 ///
 /// A search that stops does so after so many more boxes; the number is counted down.
 pub(crate) fn find_in_box(
@@ -48,13 +49,21 @@ pub(crate) fn find_in_box(
     }
     *boxes = boxes.saturating_sub(1);
     let mut open = *room;
-    for v in 0..size {
-        let held = held_at(left, v);
-        if held < open[v].min(dollars) {
-            let taken = held + 1;
-            let Some(other) = left_after(graph, left, v, taken) else {
-                return Ok(Some(Trial::at_last(size, 0).with_more(v, taken)));
-            };
+    let mut best = *left;
+    let mut lack = lack_of(&best, &open, dollars);
+    'lacking: while let Some(v) = most_lacking(&best, &open, dollars) {
+        let held = held_at(&best, v);
+        let taken = held + 1;
+        let Some(other) = left_after(graph, &best, v, taken) else {
+            return Ok(Some(Trial::at_last(size, 0).with_more(v, taken)));
+        };
+        let mut fuller = other;
+        fuller.give(v, taken);
+        let fewer = lack_of(&fuller, &open, dollars);
+        if fewer < lack {
+            best = fuller;
+            lack = fewer;
+        } else {
             let mut beyond = open;
             beyond[v] -= taken;
             match find_in_box(graph, &other, &beyond, dollars - taken, stops, boxes) {
@@ -62,9 +71,45 @@ pub(crate) fn find_in_box(
                 Ok(None) => open[v] = held,
                 Err(stopped) => return Err(stopped),
             }
+            lack = lack_of(&best, &open, dollars);
         }
     }
     Ok(None)
+}
+
+/// The vertex that has the most dollars less than may be taken there; `None` if each has as many.
+fn most_lacking(left: &EffectiveDivisor, room: &[u32; 16], dollars: u32) -> Option<usize>
+    requires size { left.now.size ≤ 16 }
+    requires effective { IsEffective left.now.size (at left.now) }
+    ensures { MatchOption result
+        ((v : ℕ) → v < left.now.size → pos (min (slice_index room.now v) dollars) ≤ℤ at left.now v)
+        (λ v. (v < left.now.size)
+        × (at left.now v <ℤ pos (min (slice_index room.now v) dollars))) }
+{
+    let mut found = None;
+    let mut most = 0;
+    for v in 0..left.size() {
+        let lack = room[v].min(dollars).saturating_sub(held_at(left, v));
+        if lack > most {
+            found = Some(v);
+            most = lack;
+        }
+    }
+    found
+}
+
+/// How much is lacking in a box: the sum of the squares of what each vertex has less than may be taken there.
+fn lack_of(left: &EffectiveDivisor, room: &[u32; 16], dollars: u32) -> u32
+    requires size { left.now.size ≤ 16 }
+    requires effective { IsEffective left.now.size (at left.now) }
+    requires few { dollars ≤ 1000 }
+{
+    let mut sum: u32 = 0;
+    for v in 0..left.size() {
+        let lack = room[v].min(dollars).saturating_sub(held_at(left, v));
+        sum = sum.saturating_add(lack * lack);
+    }
+    sum
 }
 
 /// What is left once so many dollars are taken at a vertex and paid back; `None` if that can't be won.

@@ -1,6 +1,6 @@
 //! Amounts without debts, from which dollars are taken.
 
-ghost use Rattle.std.specs.Prelude.{◌≡◌, ℕ, ◌<◌, ◌≤◌, ◌^◌, ◌-◌, pos, ◌+ℤ◌, ◌-ℤ◌, if◌then◌else◌, MatchBool, MatchOption, slice_index};
+ghost use Rattle.std.specs.Prelude.{◌≡◌, ℕ, ◌<◌, ◌≤◌, ◌^◌, ◌-◌, pos, ◌+ℤ◌, ◌-ℤ◌, ◌<ℤ◌, if◌then◌else◌, MatchBool, MatchOption, slice_index};
 ghost use Rattle.std.specs.List.{slice_index_or};
 ghost use Rattle.std.specs.Int.RustNames.{unsigned_abs};
 ghost use Rattle.dg_theory.specs.Multigraph.{valence};
@@ -12,11 +12,11 @@ ghost use Rattle.dg_graph.specs.Sets.{in_set};
 ghost use Rattle.dg_chips.specs.Vector.{at};
 ghost use Rattle.dg_burn.specs.Fires.{IsHeldForBurning};
 ghost use Rattle.dg_reduce.specs.Effective.{IsEffectiveDivisor};
-ghost use Rattle.dg_reduce.specs.Rests.{IsRest};
+ghost use Rattle.dg_reduce.specs.Rests.{HasDollarsOut, IsRest};
 
 use dg_burn::{BurnCounts, burn_counted};
 use dg_chips::Wide;
-use dg_graph::Graph;
+use dg_graph::{Graph, contains};
 use std::marker::Model;
 use std::simd::prelude::*;
 
@@ -120,6 +120,7 @@ impl EffectiveDivisor {
     fn pay(&mut self, graph: &Graph, v: usize) -> bool
         requires size { self.old.size ≡ graph.now.size }
         requires vertex { v < graph.now.size }
+        requires owes { at self.old v <ℤ pos 0 }
         requires no_debt { HasNoDebtOff graph.now v (at self.old) }
         requires range { (w : ℕ) → w < graph.now.size → unsigned_abs (at self.old w) ≤ 2 ^ 26 }
         ensures { MatchBool result
@@ -128,44 +129,37 @@ impl EffectiveDivisor {
     {
         // For the prover: `size` says that the graph is within its limits.
         let _size = graph.size();
+        let Some(mut rest) = self.rest(graph, v) else {
+            return false;
+        };
         'paying: while self.get(v) < 0 {
-            let Some(rest) = self.rest(graph, v) else {
-                return false;
-            };
+            // Burning takes longer than this test, and the same set often lends many times.
+            if !self.can_lend(graph, &rest) {
+                let Some(next) = self.rest(graph, v) else {
+                    return false;
+                };
+                rest = next;
+            }
             self.fire(graph, &rest);
         }
         true
     }
 
-    /// Makes amounts without debts reduced for a vertex: the vertices that burning from it leaves lend, until it leaves none.
-    #[inline(never)]
-    pub fn reduce(&mut self, graph: &Graph, v: usize)
-        requires size { self.old.size ≡ graph.now.size }
-        requires vertex { v < graph.now.size }
-        requires effective { IsEffective graph.now.size (at self.old) }
-        requires range { (w : ℕ) → w < graph.now.size → unsigned_abs (at self.old w) ≤ 2 ^ 26 }
-        ensures form { IsEffectiveDivisor graph.now (at self.old) self.new }
-        ensures reduced { IsReduced graph.now v (at self.new) }
-    {
-        // For the prover: `size` says that the graph is within its limits.
-        let _size = graph.size();
-        'reducing: while let Some(rest) = self.rest(graph, v) {
-            self.fire(graph, &rest);
-        }
-    }
-
-    /// Whether the amounts are reduced for a vertex: whether burning from it leaves nothing.
-    pub fn is_reduced(&self, graph: &Graph, v: usize) -> bool
-        requires size { self.now.size ≡ graph.now.size }
-        requires vertex { v < graph.now.size }
-        requires no_debt { HasNoDebtOff graph.now v (at self.now) }
+    /// Whether each vertex that burning left has a dollar for each of its edges that lead out of what is left.
+    #[inline(always)]
+    fn can_lend(&self, graph: &Graph, rest: &BurnCounts) -> bool
+        requires { self.now.size ≡ graph.now.size }
         ensures { MatchBool result
-            (IsReduced graph.now v (at self.now))
-            (¬ IsReduced graph.now v (at self.now)) }
+            (HasDollarsOut graph.now.size (at self.now) rest.now)
+            (¬ HasDollarsOut graph.now.size (at self.now) rest.now) }
     {
-        let _size = graph.size();
-        let seen = burn_counted(graph, v, &self.held());
-        seen.burnt.unburnt == 0
+        let amounts = &self.amounts;
+        for v in 0..graph.size() {
+            if contains(rest.burnt.unburnt, v) && amounts[v] < i32::from(rest.joined[v]) {
+                return false;
+            }
+        }
+        true
     }
 
     /// What burning from a vertex leaves, with its counts, if it leaves something.

@@ -1,24 +1,75 @@
-use Rattle.dg_rank.proofs.Common.{◌+◌, ◌-◌, ◌<◌, Some, None, length, length-set, set, slice_index, ◌∙◌, amounts_of, arith, ints, pos, only_at, less, at}
-use Rattle.dg_rank.proofs.LossBoxes.{in_few, rich_box, box_split, box_told, loss_beyond, loss_wider, nothing_lost, none_held, closed_few, closed_rich, rich_more, taken_small}
+use Rattle.dg_rank.proofs.Common.{◌+◌, ◌-◌, ◌<◌, ◌≤◌, Some, None, length-set, set, slice_index, ◌∙◌, amounts_of, arith, ints, unsigned_abs, pos, only_at, less, at}
+use Rattle.dg_rank.proofs.Elsewhere.{given_back, rich_small}
+use Rattle.dg_rank.proofs.LossBoxes.{in_few, rich_box, box_told, box_opened, loss_beyond, nothing_lost, none_held, class_small, taken_small}
 use Rattle.dg_rank.proofs.boxes.+find_in_box.Goals as goal
-use Rattle.dg_rank.proofs.boxes.+find_in_box.Goals.{then-held-min+in-Some+in-Ok-None, else-held-min}
 
 pub returns-then-dollars-eq0 : goal.returns-then-dollars-eq0
 returns-then-dollars-eq0 t c =
     rich_box c.args.graph.now (at c.args.left.now) c.args.room.now c.args.dollars
     (λ v below. omega (arith, ints, c.requires.effective v below))
 
+pub returns-in_default-left_after : goal.returns-in_default-left_after
+returns-in_default-left_after t c =
+    let g = c.args.graph.now in
+    let v = c.in-Some.v in
+    let taken = c.held_at-held.result + 1 in
+    let below : v < g.size = omega (arith, c.in-Some.ensures.0, c.lacking.invariant.size) in
+    c.lacking.invariant.tells (Some c.with_more.result)
+    (loss_beyond g (at c.lacking.best) c.lacking.open c.args.dollars v taken c.with_more.result c.at_last.result below
+    (omega (arith, c.lacking.invariant.places, c.size-size.ensures.graph.few))
+    (omega (arith, ints, c.in-Some.ensures.1, c.held_at-held.ensures))
+    (omega (arith, ints, c.in-Some.ensures.1, c.held_at-held.ensures))
+    (nothing_lost g (less (at c.lacking.best) (only_at v (pos taken)))
+    (set c.lacking.open v (slice_index c.lacking.open v - taken)) (c.args.dollars - taken) c.at_last.result
+    (c.at_last.ensures.places ∙ c.size-size.ensures.size)
+    (none_held g.size c.at_last.result (rw c.size-size.ensures.size at c.at_last.ensures.held)
+    (rw c.size-size.ensures.size at c.at_last.ensures.empty))
+    c.in_default-left_after.ensures)
+    c.with_more.ensures)
+
+pub give-requires-clause-range : goal.give-requires-clause-range
+give-requires-clause-range t c =
+    let g = c.args.graph.now in
+    let v = c.in-Some.v in
+    let form = c.in-Some-left_after.ensures in
+    let below : v < g.size = omega (arith, c.in-Some.ensures.0, c.lacking.invariant.size) in
+    let small : unsigned_abs (at c.in-Some-left_after.other v) ≤ 32000000 =
+    rich_small g.size (at c.in-Some-left_after.other) 32000000 v form.effective
+    (taken_small g (at c.lacking.best) c.in-Some-left_after.other v (c.held_at-held.result + 1)
+    c.size-size.ensures.graph.multigraph below c.lacking.invariant.small form)
+    below in
+    omega arith
+
+pub lacking-preserved-then-fewer-lack : goal.lacking-preserved-then-fewer-lack
+lacking-preserved-then-fewer-lack t c =
+    let g = c.args.graph.now in
+    let v = c.in-Some.v in
+    let taken = c.held_at-held.result + 1 in
+    let form = given_back g (less (at c.lacking.best) (only_at v (pos taken))) (at c.lacking.best)
+    c.in-Some-left_after.other c.give.new.self v taken c.in-Some-left_after.ensures c.give.ensures.size
+    (λ w. omega (arith, ints)) c.give.ensures.amounts in
+    record {
+      places = c.lacking.invariant.places;
+      size = form.size;
+      effective = form.effective;
+      small = class_small g (at c.lacking.best) c.give.new.self c.size-size.ensures.graph.multigraph
+          c.lacking.invariant.small form;
+      tells = λ o told. c.lacking.invariant.tells o (box_told o g (at c.lacking.best) (at c.give.new.self) c.lacking.open
+          c.args.dollars form.led told);
+    }
+
 pub find_in_box-requires : goal.find_in_box-requires
 find_in_box-requires t c =
-    let form = c.in-Some.ensures in (
-      omega arith,
+    let form = c.in-Some-left_after.ensures in (
+      omega (arith, ints, c.in-Some.ensures.1, c.held_at-held.ensures),
       (
         form.size,
         (
           form.effective,
           (
-            taken_small c.args.graph.now (at c.args.left.now) c.in-Some.other c.loop-v.v (c.held_at-held.result + 1)
-                c.size-size.ensures.graph.multigraph (omega (arith, c.size-size.ensures.size)) c.requires.small form,
+            taken_small c.args.graph.now (at c.lacking.best) c.in-Some-left_after.other c.in-Some.v
+                (c.held_at-held.result + 1) c.size-size.ensures.graph.multigraph
+                (omega (arith, c.in-Some.ensures.0, c.lacking.invariant.size)) c.lacking.invariant.small form,
             omega (arith, c.requires.few),
           ),
         ),
@@ -28,80 +79,58 @@ find_in_box-requires t c =
 pub with_more-requires-in-Ok-Some-clause-few : goal.with_more-requires-in-Ok-Some-clause-few
 with_more-requires-in-Ok-Some-clause-few t c =
     let held = c.held_at-held.result in
+    let v = c.in-Some.v in
     let told = rw c.in-Ok-Some.field-0-is at c.in-Ok-Some.ensures in
-    let most = in_few c.args.graph.now.size (c.args.dollars - (held + 1)) c.loop-v.v
-    (set c.loop-v.open c.loop-v.v (slice_index c.loop-v.open c.loop-v.v - (held + 1))) (amounts_of c.in-Ok-Some.trial)
-    told.inside (omega (arith, c.size-size.ensures.size)) in
+    let most = in_few c.args.graph.now.size (c.args.dollars - (held + 1)) v
+    (set c.lacking.open v (slice_index c.lacking.open v - (held + 1))) (amounts_of c.in-Ok-Some.trial)
+    told.inside (omega (arith, c.in-Some.ensures.0, c.lacking.invariant.size)) in
     omega (arith, ints, most, c.requires.few)
-
-pub returns-in_default : goal.returns-in_default
-returns-in_default t c =
-    let g = c.args.graph.now in
-    let A = at c.args.left.now in
-    let v = c.loop-v.v in
-    let taken = c.held_at-held.result + 1 in
-    loss_wider g A c.loop-v.open c.args.room.now c.args.dollars c.with_more.result c.loop-v.invariant.fewer
-    (loss_beyond g A c.loop-v.open c.args.dollars v taken c.with_more.result c.at_last.result
-    (omega (arith, c.size-size.ensures.size))
-    (omega (arith, c.loop-v.invariant.places, c.size-size.ensures.graph.few, c.size-size.ensures.size))
-    (omega arith) (omega arith)
-    (nothing_lost g (less A (only_at v (pos taken))) (set c.loop-v.open v (slice_index c.loop-v.open v - taken))
-    (c.args.dollars - taken) c.at_last.result (c.at_last.ensures.places ∙ c.size-size.ensures.size)
-    (none_held g.size c.at_last.result (rw c.size-size.ensures.size at c.at_last.ensures.held)
-    (rw c.size-size.ensures.size at c.at_last.ensures.empty))
-    c.in_default.ensures)
-    c.with_more.ensures)
 
 pub returns-in-Ok-Some : goal.returns-in-Ok-Some
 returns-in-Ok-Some t c =
     let g = c.args.graph.now in
-    let A = at c.args.left.now in
-    let v = c.loop-v.v in
+    let v = c.in-Some.v in
     let taken = c.held_at-held.result + 1 in
-    loss_wider g A c.loop-v.open c.args.room.now c.args.dollars c.with_more-in-Ok-Some.result c.loop-v.invariant.fewer
-    (loss_beyond g A c.loop-v.open c.args.dollars v taken c.with_more-in-Ok-Some.result c.in-Ok-Some.trial
-    (omega (arith, c.size-size.ensures.size))
-    (omega (arith, c.loop-v.invariant.places, c.size-size.ensures.graph.few, c.size-size.ensures.size))
-    (omega arith) (omega arith)
-    (box_told (Some c.in-Ok-Some.trial) g (less A (only_at v (pos taken))) (at c.in-Some.other)
-    (set c.loop-v.open v (slice_index c.loop-v.open v - taken)) (c.args.dollars - taken) c.in-Some.ensures.led
-    (rw c.in-Ok-Some.field-0-is at c.in-Ok-Some.ensures))
+    let below : v < g.size = omega (arith, c.in-Some.ensures.0, c.lacking.invariant.size) in
+    c.lacking.invariant.tells (Some c.with_more-in-Ok-Some.result)
+    (loss_beyond g (at c.lacking.best) c.lacking.open c.args.dollars v taken c.with_more-in-Ok-Some.result
+    c.in-Ok-Some.trial below
+    (omega (arith, c.lacking.invariant.places, c.size-size.ensures.graph.few))
+    (omega (arith, ints, c.in-Some.ensures.1, c.held_at-held.ensures))
+    (omega (arith, ints, c.in-Some.ensures.1, c.held_at-held.ensures))
+    (box_told (Some c.in-Ok-Some.trial) g (less (at c.lacking.best) (only_at v (pos taken)))
+    (at c.in-Some-left_after.other) (set c.lacking.open v (slice_index c.lacking.open v - taken))
+    (c.args.dollars - taken) c.in-Some-left_after.ensures.led (rw c.in-Ok-Some.field-0-is at c.in-Ok-Some.ensures))
     c.with_more-in-Ok-Some.ensures)
 
-pub loop-v-preserved : goal.loop-v-preserved
-loop-v-preserved t c =
+pub lacking-preserved : goal.lacking-preserved
+lacking-preserved t c =
     let g = c.args.graph.now in
-    let A = at c.args.left.now in
-    let v = c.loop-v.v in
+    let B = at c.lacking.best in
+    let v = c.in-Some.v in
     let held = c.held_at-held.result in
-    let open' = c.loop-v.open in
-    let below : v < g.size = omega (arith, c.size-size.ensures.size) in
-    let placed : v < length open' =
-    omega (arith, c.loop-v.invariant.places, c.size-size.ensures.graph.few, c.size-size.ensures.size) in
-    elim c.if-held-min.branch [
-      | then-held-min+in-Some+in-Ok-None w ↦ record {
-        places = rw w.open-is (length-set open' v held ∙ c.loop-v.invariant.places);
-        fewer = λ u. rw w.open-is
-            (closed_few open' c.args.room.now v held placed (omega arith) c.loop-v.invariant.fewer u);
-        closed = λ wins. c.loop-v.invariant.closed
-            (box_split g A open' c.args.dollars v held below placed
-            (box_told None g (less A (only_at v (pos (held + 1)))) (at w.in-Some.other)
-            (set open' v (slice_index open' v - (held + 1))) (c.args.dollars - (held + 1)) w.in-Some.ensures.led
-            (rw w.in-Ok-None.field-0-is at w.in-Ok-None.ensures)) (rw w.open-is at wins));
-        rich = λ u low. rw w.open-is
-            (closed_rich open' A c.args.dollars v held placed (omega (arith, ints, c.held_at-held.ensures))
-            c.loop-v.invariant.rich u low);
-      }
-      | else-held-min w ↦ record {
-        places = rw w.open-is c.loop-v.invariant.places;
-        fewer = λ u. rw w.open-is (c.loop-v.invariant.fewer u);
-        closed = λ wins. c.loop-v.invariant.closed (rw w.open-is at wins);
-        rich = λ u low. rw w.open-is
-            (rich_more open' A c.args.dollars v (omega (arith, ints, c.held_at-held.ensures)) c.loop-v.invariant.rich u low);
-      }
-    ]
+    let open' = c.lacking.open in
+    record {
+      places = length-set open' v held ∙ c.lacking.invariant.places;
+      size = c.lacking.invariant.size;
+      effective = c.lacking.invariant.effective;
+      small = c.lacking.invariant.small;
+      tells = λ o told. c.lacking.invariant.tells o (box_opened o g B open' c.args.dollars v held
+          (omega (arith, c.in-Some.ensures.0, c.lacking.invariant.size))
+          (omega (
+            arith,
+            c.in-Some.ensures.0,
+            c.lacking.invariant.size,
+            c.lacking.invariant.places,
+            c.size-size.ensures.graph.few,
+          ))
+          (omega (arith, ints, c.in-Some.ensures.1, c.held_at-held.ensures))
+          (box_told None g (less B (only_at v (pos (held + 1)))) (at c.in-Some-left_after.other)
+          (set open' v (slice_index open' v - (held + 1))) (c.args.dollars - (held + 1)) c.in-Some-left_after.ensures.led
+          (rw c.in-Ok-None.field-0-is at c.in-Ok-None.ensures)) told);
+    }
 
 pub returns : goal.returns
 returns t c =
-    c.loop-v.invariant.closed (rich_box c.args.graph.now (at c.args.left.now) c.loop-v.open c.args.dollars
-    (λ u low. c.loop-v.invariant.rich u (omega (arith, c.size-size.ensures.size))))
+    c.lacking.invariant.tells None (rich_box c.args.graph.now (at c.lacking.best) c.lacking.open c.args.dollars
+    (λ u low. c.in_default.ensures u (omega (arith, c.lacking.invariant.size))))

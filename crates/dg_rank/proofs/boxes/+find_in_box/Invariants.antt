@@ -1,14 +1,19 @@
-use Rattle.dg_rank.proofs.Common.{◌≡◌, length, ℕ, ◌<◌, ◌≤◌, ◌≤ℤ◌, pos, slice_index, at, BoxWins}
-use Rattle.std.proofs.Common.{min}
+use Rattle.dg_rank.proofs.Common.{◌≡◌, length, List, Option, MatchOption, ℕ, ◌+◌, ◌*◌, ◌≤ℤ◌, pos, sum, degree, IsEffective, at, BoxWins, IsBoxLoss}
 use Rattle.dg_rank.proofs.boxes.+find_in_box.Given as goal
 
 abbrev pub decreases-find_in_box : goal.decreases-find_in_box
 decreases-find_in_box l = l.dollars
 
-abbrev pub invariant-loop-v : goal.invariant-loop-v
-invariant-loop-v l = record {
+abbrev pub decreases-lacking : goal.decreases-lacking
+decreases-lacking l = sum l.open * 4294967296 + l.lack
+
+abbrev pub invariant-lacking : goal.invariant-lacking
+invariant-lacking l = record {
   places : length l.open ≡ 16;
-  fewer : (u : ℕ) → slice_index l.open u ≤ slice_index l.room u;
-  closed : BoxWins l.graph (at l.left) l.open l.dollars → BoxWins l.graph (at l.left) l.room l.dollars;
-  rich : (u : ℕ) → u < l.v → pos (min (slice_index l.open u) l.dollars) ≤ℤ at l.left u;
+  size : l.best.size ≡ l.graph.size;
+  effective : IsEffective l.graph.size (at l.best);
+  small : degree l.graph.size (at l.best) ≤ℤ pos 32000000;
+  tells : (o : Option (List ℕ)) →
+      MatchOption o (BoxWins l.graph (at l.best) l.open l.dollars) (IsBoxLoss l.graph (at l.best) l.open l.dollars) →
+      MatchOption o (BoxWins l.graph (at l.left) l.room l.dollars) (IsBoxLoss l.graph (at l.left) l.room l.dollars);
 }

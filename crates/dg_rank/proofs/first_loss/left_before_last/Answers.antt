@@ -1,6 +1,5 @@
 use Rattle.dg_rank.proofs.Common.{◌≡◌, ◌-◌, slice_index, ◌≤◌, arith, refl, ◌∙◌, ◌≤ℤ◌, unsigned_abs, pos, ints, AgreeOn, AreEquivalent, less, equivalent-refl, equivalent-trans, effective_from, reduced_decides, at, IsEffectiveDivisor, amounts_of}
-use Rattle.dg_rank.proofs.Elsewhere.{left_degree, left_small, form_kept, rich_small, trial_small, only_at-more}
-use Rattle.dg_rank.proofs.Blocks.{block_led, block_small}
+use Rattle.dg_rank.proofs.Elsewhere.{degree-given, given_back, left_degree, left_small, form_kept, rich_small, trial_small}
 use Rattle.dg_rank.proofs.first_loss.left_before_last.Goals as goal
 use Rattle.dg_rank.proofs.first_loss.left_before_last.Goals.{After-size-last, After-less, After-reduce_certified-reduced, After-of-left}
 
@@ -60,8 +59,8 @@ of-left-requires c = record {
       (less (at c.args.chips.now) (amounts_of c.args.trial.now)) c.reduce_certified-reduced.result.reduced.divisor =
       form (goal.at.of-left-requires c).After-reduce_certified-reduced (left (goal.at.of-left-requires c).After-less)
       (omega (arith, ints)) in
-      let small : unsigned_abs (at c.reduce_certified-reduced.result.reduced.divisor v) ≤ 32000000 =
-      rich_small c.args.graph.now.size (at c.reduce_certified-reduced.result.reduced.divisor) 32000000 v rich.effective
+      let small : unsigned_abs (at c.reduce_certified-reduced.result.reduced.divisor v) ≤ 31984000 =
+      rich_small c.args.graph.now.size (at c.reduce_certified-reduced.result.reduced.divisor) 31984000 v rich.effective
       (left_degree c.args.graph.now
       (at c.args.chips.now) c.args.trial.now c.reduce_certified-reduced.result.reduced.divisor c.requires.graph
       c.requires.range rich) (omega (arith, c.reduce_certified-reduced.ensures.reduction.sizes.0)) in
@@ -83,8 +82,8 @@ last c = trial_small c.args.trial.now (c.args.graph.now.size - 1) c.requires.few
 pub give-requires-clause-range : goal.give-requires-clause-range
 give-requires-clause-range c =
     let rich = good (goal.at.give-requires-clause-range c).After-of-left (omega (arith, ints)) in
-    let small : unsigned_abs (at c.of-left.result (c.size-last.result - 1)) ≤ 32000000 =
-    rich_small c.args.graph.now.size (at c.of-left.result) 32000000 (c.size-last.result - 1) rich.effective
+    let small : unsigned_abs (at c.of-left.result (c.size-last.result - 1)) ≤ 31984000 =
+    rich_small c.args.graph.now.size (at c.of-left.result) 31984000 (c.size-last.result - 1) rich.effective
     (left_degree c.args.graph.now (at c.args.chips.now) c.args.trial.now c.of-left.result c.requires.graph c.requires.range
     rich)
     (omega (arith, c.size-last.ensures.size, c.requires.graph.some)) in
@@ -102,16 +101,16 @@ returns c =
     let g = c.args.graph.now in
     let E = c.args.trial.now in
     let rich = good (goal.at.returns c).After-of-left (omega (arith, ints)) in
-    let more = only_at-more (g.size - 1) (slice_index E (g.size - 1)) in
     let given = rw (c.get-2.ensures, c.size-last.ensures.size) at c.give.ensures.amounts in
     record {
-      left = record {
-        size = c.give.ensures.size ∙ rich.size;
-        effective = λ v below. omega (arith, ints, given v, rich.effective v below, more v);
-        led = block_led g (at c.args.chips.now) (slice_index E (g.size - 1)) E c.of-left.result c.give.new.self
-            rich given;
-      };
-      few = block_small g (at c.args.chips.now) (slice_index E (g.size - 1)) E c.of-left.result c.give.new.self
-          c.requires.graph c.requires.graph.some
-          (last (goal.at.returns c).After-size-last) c.requires.range rich given;
+      left = given_back g (less (at c.args.chips.now) (amounts_of E)) _ c.of-left.result c.give.new.self (g.size - 1)
+          (slice_index E (g.size - 1)) rich c.give.ensures.size (λ v. refl) given;
+      few = omega (
+        arith,
+        ints,
+        degree-given g.size (at c.of-left.result) (at c.give.new.self) (g.size - 1) (slice_index E (g.size - 1))
+            (omega (arith, c.requires.graph.some)) given,
+        left_degree g (at c.args.chips.now) E c.of-left.result c.requires.graph c.requires.range rich,
+        last (goal.at.returns c).After-size-last,
+      );
     }
