@@ -11,6 +11,4 @@ pub use commits::{commit, commit_look, commit_rank, commit_stale};
 pub use laws::stale_looks_are_committed;
 pub use looking::look;
 pub use looks::Look;
-pub use reckoning::{
-    Reckoned, Tried, reckon, reckon_with_inverse, try_rank, try_rank_alone, try_rank_by,
-};
+pub use reckoning::{Reckoned, Tried, reckon, try_rank, try_rank_by};

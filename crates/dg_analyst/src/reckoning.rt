@@ -8,9 +8,8 @@ ghost use Rattle.dg_rules.specs.Look.{IsFoundFor};
 use crate::looks::Look;
 use dg_log::Name;
 use dg_rank::{Gate, OpenGate, RankFault, rank_at_least, rank_with};
-use dg_reduce::InverseLaplacian;
 use dg_rules::Finding;
-use dg_verdict::{RankVerdict, Verdict, judge_with_inverse};
+use dg_verdict::{RankVerdict, Verdict, judge};
 use std::marker::Model;
 use std::sync::Wait;
 use std::thread::Threads;
@@ -94,17 +93,7 @@ impl<N: Name> Tried<N> {
 pub fn reckon<N: Name>(look: Look<N>) -> Reckoned<N>
     ensures { IsReckoned N.table.start.q look result }
 {
-    let inverse = InverseLaplacian::new(&look.shown.graph, look.q);
-    reckon_with_inverse(look, &inverse)
-}
-
-/// The verdict as `reckon` gives it, whatever inverse it is given: that of the look's table saves the time to make one anew,
-/// if no edge was added before the look.
-pub fn reckon_with_inverse<N: Name>(look: Look<N>, inverse: &InverseLaplacian) -> Reckoned<N>
-    ensures { IsReckoned N.table.start.q look result }
-{
-    let q = look.q;
-    let verdict = judge_with_inverse(&look.shown.graph, inverse, q, &look.shown.position);
+    let verdict = judge(&look.shown.graph, look.q, &look.shown.position);
     Reckoned { look, verdict }
 }
 
@@ -131,27 +120,10 @@ pub fn try_rank<N: Name, R: Threads + Wait, G: Gate>(
     }
 }
 
-/// The rank test of degree k as `try_rank` makes it with one worker and no gate, by the thread that calls: it waits for
-/// nothing, and needs no memory.
+/// The rank test of degree k as `try_rank` makes it with so many workers and no gate. One worker is the thread that calls: it
+/// waits for nothing, and needs no memory.
 ///
-/// Refused with `TooMany` alone. The look comes back.
-pub fn try_rank_alone<N: Name>(look: Look<N>, k: u32) -> Result<Tried<N>, (Look<N>, RankFault)>
-    ensures tried { MatchResult result
-        (λ t. (t.look ≡ look) × IsTried look k 1 t.verdict)
-        (λ e. (e.0 ≡ look) × IsRankFault look.shown.graph.size k 1 e.1) }
-    ensures too_many { IfErr result (λ e. e.1 ≡ RankFault.TooMany) }
-{
-    let position = &look.shown.position;
-    match rank_at_least(&look.shown.graph, look.q, position, k) {
-        Ok(verdict) => Ok(Tried { look, verdict }),
-        Err(_) => Err((look, RankFault::TooMany)),
-    }
-}
-
-/// The rank test of degree k as `try_rank` makes it with so many workers and no gate. One worker is the thread that calls, so
-/// none is started.
-///
-/// Refused as `try_rank`, and with `Spawn` only if there are two workers or more. The look comes back.
+/// Refused as `try_rank`, but by one worker with `TooMany` alone. The look comes back.
 pub fn try_rank_by<N: Name, R: Threads + Wait>(
     rt: &R,
     look: Look<N>,
@@ -164,9 +136,11 @@ pub fn try_rank_by<N: Name, R: Threads + Wait>(
     ensures alone { workers ≡ 1 → IfErr result (λ e. e.1 ≡ RankFault.TooMany) }
     ensures spawn { IfErr result (λ e. e.1 ≡ RankFault.Spawn → 2 ≤ workers) }
 {
-    if workers == 1 {
-        try_rank_alone(look, k)
-    } else {
-        try_rank(rt, look, k, workers, &OpenGate)
+    if workers != 1 {
+        return try_rank(rt, look, k, workers, &OpenGate);
+    }
+    match rank_at_least(&look.shown.graph, look.q, &look.shown.position, k) {
+        Ok(verdict) => Ok(Tried { look, verdict }),
+        Err(_) => Err((look, RankFault::TooMany)),
     }
 }

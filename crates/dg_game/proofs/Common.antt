@@ -17,10 +17,11 @@ pub use Rattle.dg_rules.specs.declared.step.Command.{Command}
 pub use Rattle.dg_rules.specs.declared.step.Command.TheVariants.{Call, Commit, Rank}
 pub use Rattle.dg_rules.specs.declared.step.Step.{Step}
 pub use Rattle.dg_rank.specs.Limits.{ArePastTrialLimits}
-pub use Rattle.dg_game.specs.Rehearsal.{IsPlaying, KeepsLook}
+pub use Rattle.dg_game.specs.Rehearsal.{IsPlaying, KeepsLook, PlaysOn, StopsPlay}
 pub use Rattle.dg_game.specs.Schedule.{AreGoodBefore, HasLook, ScheduleHasTrials, IsAsked, IsEntryOf, IsGood, IsKept, StepUsesKeptLook, UsesUp}
 pub use Rattle.dg_game.specs.ScheduleFaults.{IsFirstFault}
 pub use Rattle.dg_game.specs.declared.schedule.Rehearsal.{Rehearsal}
+pub use Rattle.dg_game.specs.declared.schedule.RehearseFault.{RehearseFault}
 pub use Rattle.dg_game.specs.declared.schedule.RehearseFault.TheVariants.{TooMany}
 pub use Rattle.dg_theory.specs.Multigraph.{Multigraph}
 pub use Rattle.std.proofs.Common.{Err, List, None, Ok, Option, Result, Some, [], ap, arith, inl, inr, length, length-append, length-set, refl, replicate, rules, set, slice_get, subst, sym, vec_capacity, ℕ, ◌++◌, ◌+◌, ◌<◌, ◌∙◌, ◌∷◌, ◌≡◌, ◌≤◌}

@@ -11,8 +11,9 @@
 --   entered        what is asked on the seat's look plays the schedule on when it is entered
 --   aimed          the schedule goes on with any inverse
 --   past_limits    a rank test past the limits is the first fault, where the seat keeps a look
+--   plays_at, stops_at   a step is played, or stops the play, as its command
 --   told_err       a refusal that is handed on tells what it told before
-use Rattle.dg_game.proofs.Common.{◌≡◌, ℕ, ◌+◌, ◌<◌, List, [], ◌∷◌, ◌++◌, length, length-append, slice_get, Option, Some, None, Result, Ok, Err, set, arith, refl, sym, ap, ◌∙◌, inl, inr, length-set, replicate, slice_index_or, MatchResult, IsErrAnd, cases_lt, cases_eq, get_or-set_same, get_or-set_other, get_or-replicate, length-replicate, StartData, ArePastTrialLimits, IsSeat, IsLegal, KeepsLook, IsPlaying, asked, UsesUp, StepUsesKeptLook, IsKept, IsAsked, IsEntryOf, HasLook, ScheduleHasTrials, IsGood, AreGoodBefore, IsFirstFault, LeadsTo, Entry, Plain, MAX_ENTRIES, LookData, Rehearsal, TooMany, Command, Call, Commit, Rank, Step, more_holds, legal_none, look_new}
+use Rattle.dg_game.proofs.Common.{◌≡◌, ℕ, ◌+◌, ◌<◌, List, [], ◌∷◌, ◌++◌, length, length-append, slice_get, Option, Some, None, Result, Ok, Err, set, arith, refl, sym, ap, subst, ◌∙◌, inl, inr, length-set, replicate, slice_index_or, MatchResult, IsErrAnd, cases_lt, cases_eq, get_or-set_same, get_or-set_other, get_or-replicate, length-replicate, StartData, ArePastTrialLimits, IsSeat, IsLegal, KeepsLook, IsPlaying, PlaysOn, StopsPlay, RehearseFault, asked, UsesUp, StepUsesKeptLook, IsKept, IsAsked, IsEntryOf, HasLook, ScheduleHasTrials, IsGood, AreGoodBefore, IsFirstFault, LeadsTo, Entry, Plain, MAX_ENTRIES, LookData, Rehearsal, TooMany, Command, Call, Commit, Rank, Step, more_holds, legal_none, look_new}
 use Rattle.dg_rules.specs.declared.entry.Plain.TheVariants as plain
 use Rattle.dg_game.proofs.KeptLaws.{keeps_more, keeps_new, keeps_none}
 
@@ -176,3 +177,11 @@ pub told_err : {X E : Type 0} (r : Result X E) (fault : E) (P : X → Type 0) (Q
     Q fault → MatchResult r P Q
 told_err (Ok x) fault P Q err told = absurd err
 told_err (Err e) fault P Q err told = rw err told
+
+-- a step that has a command is played, and stops the play, as that command
+module _ {r : Rehearsal} (step : Step) {command : Command} (is : step.command ≡ command) where
+  pub plays_at : {e : Entry} {t : Rehearsal} → PlaysOn r (record step { command = command }) e t → PlaysOn r step e t
+  plays_at {e} {t} plays = subst (λ (k : Command). PlaysOn r (record step { command = k }) e t) (sym is) plays
+
+  pub stops_at : {fault : RehearseFault} → StopsPlay r (record step { command = command }) fault → StopsPlay r step fault
+  stops_at {fault} stops = subst (λ (k : Command). StopsPlay r (record step { command = k }) fault) (sym is) stops

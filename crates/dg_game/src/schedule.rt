@@ -17,7 +17,7 @@ use dg_rank::{RankFault, trials};
 use dg_reduce::InverseLaplacian;
 use dg_rules::{
     BLANK, Command, Entry, Finding, Game, LookData, MAX_ENTRIES, MAX_SEATS, Plain, Question, Step,
-    judge_look_with_inverse, renew_looks_inverse,
+    judge_look, renew_looks_inverse,
 };
 use std::alloc::Allocator;
 use thiserror::Error;
@@ -174,7 +174,7 @@ impl Rehearsal {
         }
         let q = self.q();
         renew_looks_inverse(&mut self.inverse, q, &look);
-        let finding = judge_look_with_inverse(&self.inverse, q, &look);
+        let finding = judge_look(&self.inverse, q, &look);
         self.enter_finding(seat, &look, &finding, entry);
         Ok(())
     }
@@ -193,40 +193,16 @@ impl Rehearsal {
         let Some(look) = self.kept(seat) else {
             return Err(RehearseFault::NoLook(i));
         };
-        if look.gifts != self.game.gifts() {
-            return self.rank_stale(seat, &look, k, entry);
+        if look.gifts != self.game.gifts()
+            && let Some(_) = trials(look.graph.size(), k)
+        {
+            self.enter_stale(seat, &look, &Question::Rank(k), entry);
+            return Ok(());
         }
         let Ok(finding) = rank_look(self.q(), &look, k) else {
             return Err(RehearseFault::TooMany(i));
         };
         self.enter_finding(seat, &look, &finding, entry);
-        Ok(())
-    }
-
-    /// Enters the rank test of degree k as stale, on the look that a seat keeps, which is used up; or why it can't be entered.
-    fn rank_stale(
-        &mut self,
-        seat: u8,
-        look: &LookData,
-        k: u32,
-        entry: &mut Entry,
-    ) -> Result<(), RehearseFault>
-        requires playing { IsInPlay self.old }
-        requires kept { (o : StartData) (H : List Entry) (steps : List Step) →
-            IsPlaying o steps H self.old → KeepsLook o H steps seat (Some look.now) }
-        requires stale { look.now.gifts ≢ self.old.game.gifts }
-        requires room { self.old.game.entries < MAX_ENTRIES }
-        requires seat { IsSeat seat }
-        ensures plays { MatchResult result
-            (λ _. PlaysOn self.old (record { seat = seat; command = Rank k }) entry.new self.new)
-            (StopsPlay self.old (record { seat = seat; command = Rank k })) }
-        ensures same { OnErr result ((self.new ≡ self.old) × (entry.new ≡ entry.old)) }
-    {
-        let i = self.game.entries() as usize;
-        let Some(_) = trials(look.graph.size(), k) else {
-            return Err(RehearseFault::TooMany(i));
-        };
-        self.enter_stale(seat, look, &Question::Rank(k), entry);
         Ok(())
     }
 

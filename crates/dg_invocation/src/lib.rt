@@ -11,4 +11,4 @@ pub use args_fault::ArgsFault;
 pub use invocation::{Invocation, PartyTask, ServeTask, Task};
 pub use limits::{MAX_CAPACITY, MAX_SEATS, MAX_TURNS, MAX_WORKERS};
 pub use numbered::{GreedyTask, RankTask};
-pub use question::{Question, SweepTask};
+pub use question::{Form, Question, SweepTask, VerdictForm};

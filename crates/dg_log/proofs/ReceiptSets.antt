@@ -13,6 +13,7 @@
 --   cells_more     the cells of one item more
 --   stands         what a receipt_set says stands in the history, where it agrees with what the pen knows
 --   began          a history that a pen wrote once is the beginning of a longer one, where they agree
+--   seen_length, began_seen, stands_seen   so it is of what a contract sees of these
 --   begins_itself  a history begins with itself
 --   longer_second, longer_first   of a history and its beginning, it is the longer
 use Rattle.dg_log.proofs.Common.{◌≡◌, ℕ, zero, suc, ◌+◌, ◌<◌, ◌≤◌, List, [], ◌∷◌, ◌++◌, length, map, take, slice_get, Some, arith, refl, sym, ap, subst, ◌∙◌, length-append, slice_get_within, length-map, append-nil, Entry, AgreesWith, Agree, ReceiptsAreBelow, StandIn, IsPrefixOf, IsLonger, entries_of_receipts, AreReceiptsNamed, IsReceiptSetEnd}
@@ -128,6 +129,26 @@ began (c ∷ row) (x ∷ items) (y ∷ others) agree cells more few =
     let same : x.1 ≡ y.1 = cc in
     begins_more x.2 y.2 _ _ (first_agrees x y others agree.0 same)
     (began row items others (agree_past items y others agree.1) (cc) (cc) (omega arith))
+
+-- what a contract sees of tokens is as long as they are many
+pub seen_length : (items : List (ℕ × ℕ × Entry)) {K : List Entry} → map (λ x. x.2) items ≡ K → length items ≡ length K
+seen_length items is = sym (length-map items (λ (x : ℕ × ℕ × Entry). x.2)) ∙ ap length is
+
+pub began_seen : (row : List ℕ) (items others : List (ℕ × ℕ × Entry)) {K H : List Entry} → map (λ x. x.2) items ≡ K →
+    map (λ x. x.2) others ≡ H → Agree items others → map (λ y. y.1) items ≡ take (length items) row →
+    map (λ y. y.1) others ≡ take (length others) row → length K ≤ length H → IsPrefixOf K H
+began_seen row items others {K} first second agree cells more few =
+    subst (IsPrefixOf K) second (subst (λ L. IsPrefixOf L (map (λ x. x.2) others)) first
+    (began row items others agree cells more (omega (arith, few, seen_length items first, seen_length others second))))
+
+pub stands_seen : (row : List ℕ) (items others : List (ℕ × ℕ × Entry)) {ps : List (ℕ × Entry)} {H : List Entry} →
+    entries_of_receipts items ≡ ps → map (λ x. x.2) others ≡ H → Agree items others → AreReceiptsNamed row items →
+    map (λ y. y.1) others ≡ take (length others) row → ReceiptsAreBelow (length H) ps → StandIn H ps
+stands_seen row items others {ps} {H} first second agree named cells below =
+    subst (StandIn H) first (subst (λ L. StandIn L (entries_of_receipts items)) second
+    (stands row items others agree named cells
+    (subst (λ L. ReceiptsAreBelow (length L) (entries_of_receipts items)) (sym second)
+    (subst (ReceiptsAreBelow (length H)) (sym first) below))))
 
 pub begins_itself : (H : List Entry) → IsPrefixOf H H
 begins_itself H = ([], sym (append-nil H))

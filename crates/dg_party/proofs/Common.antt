@@ -22,6 +22,7 @@ pub use Rattle.dg_table.specs.Seats.{SeatView, entries_of}
 pub use Rattle.dg_table.specs.declared.audit.Audit.{Audit}
 pub use Rattle.dg_party.specs.Printed.{entries_text, seat_text, totals_text}
 pub use Rattle.std.proofs.Common.{List, Result, Some, [], ap, arith, codes, decimal, length, map, refl, rules, slice_get, subst, suc, sym, take, unwrap_or, zero, ℕ, ◌*◌, ◌++◌, ◌+◌, ◌<◌, ◌∙◌, ◌∷◌, ◌≡◌, ◌≤◌}
+pub use Rattle.std.proofs.lemmas.List.{length-map}
 pub use Rattle.std.proofs.Math.Seq.{take-append_seam}
 pub use Rattle.std.proofs.lemmas.Result.{IfErr-weaker, IfOk-weaker}
 pub use Rattle.std.proofs.lemmas.Option.{none-some}

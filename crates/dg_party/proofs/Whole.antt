@@ -1,14 +1,15 @@
 -- A party, from what its calls ensure.
 --   number_kept      a session leaves its seat the number
---   session_at       the seat, before and after, of the session at a place
---   ends_count       there are as many ends as scripts
+--   AreAlong, along  there are as many ends as scripts, the seats keep their numbers, and each session has its own, before
+--                    and after
 --   calls_are        the calls that were counted are those of the history
 --   contents_count   each script has its bytes
 --   shown_size       the amounts after a history are as many as the graph's vertices
+--   seats_back       seats that were lent as the front of a list come back there
 --   whole            sessions of fresh seats, which a table was closed with, are a party
 --   whole_lent       so are they where the seats were lent as the front of a list
 --   party_unclosed   where the table was not closed with them, there is no party for that
-use Rattle.dg_party.proofs.Common.{◌≡◌, ℕ, zero, suc, ◌+◌, ◌<◌, ◌≤◌, List, [], ◌∷◌, ◌++◌, length, map, take, slice_get, Some, arith, refl, sym, ap, subst, ◌∙◌, Result, codes, decimal, unwrap_or, slice_index, Vec, none-some, take-append_seam, StartData, Vector, at, Shows, position_after, gifts_in, pairs, Entry, vertices_stay, SeatView, entries_of, AreFresh, IsClosed, AreTotals, IsCloseRefused, all_there, none_missing, Ghosts, Audit, SessionEnd, IsSessionOver, contents, entries_text, seat_text, totals_text, IsParty, IsPartyRefused, Log, TableData}
+use Rattle.dg_party.proofs.Common.{◌≡◌, ℕ, zero, suc, ◌+◌, ◌<◌, ◌≤◌, List, [], ◌∷◌, ◌++◌, length, map, take, slice_get, Some, arith, refl, sym, ap, subst, ◌∙◌, Result, codes, decimal, unwrap_or, slice_index, Vec, none-some, take-append_seam, length-map, StartData, Vector, at, Shows, position_after, gifts_in, pairs, Entry, vertices_stay, SeatView, entries_of, AreFresh, IsClosed, AreTotals, IsCloseRefused, all_there, none_missing, Ghosts, Audit, SessionEnd, IsSessionOver, contents, entries_text, seat_text, totals_text, IsParty, IsPartyRefused, Log, TableData}
 use Rattle.dg_party.specs.Sessions.{AreSessions}
 use Rattle.dg_party.specs.Printed.{seats_text, calls_text}
 
@@ -26,39 +27,46 @@ record IsSessionAt (table : TableData) (names : List (List ℕ)) (xs ys : List S
   last : slice_get ys i ≡ Some after
   session : IsSessionOver table names script before after end
 
-session_at : (table : TableData) (names scripts : List (List ℕ)) (xs ys : List SeatView)
-    (ends : List (Result ℕ SessionEnd))
-    → AreSessions table names scripts xs ys ends → (i : ℕ) (script : List ℕ) (end : Result ℕ SessionEnd)
-    → slice_get scripts i ≡ Some script → slice_get ends i ≡ Some end → IsSessionAt table names xs ys i script end
-unfolding AreSessions
-session_at table names (c ∷ cs) (x ∷ xs) (y ∷ ys) (e ∷ es) are zero script end there told =
-    let same : c ≡ script = ap (λ t. unwrap_or t c) there in
-    let told_so : e ≡ end = ap (λ t. unwrap_or t e) told in
-    record { before = x; after = y; first = refl; last = refl; session = rw (← same, ← told_so) are.0 }
-session_at table names (c ∷ cs) (x ∷ xs) (y ∷ ys) (e ∷ es) are (suc i) script end there told =
-    let s = session_at table names cs xs ys es are.1 i script end there told in
-    record { before = s.before; after = s.after; first = s.first; last = s.last; session = s.session }
-session_at table names [] [] [] [] are i script end there told = absurd (none-some script there)
-session_at table names [] [] [] (e ∷ es) are i script end there told = elim are [ ]
-session_at table names [] [] (y ∷ ys) ends are i script end there told = elim are [ ]
-session_at table names [] (x ∷ xs) ys ends are i script end there told = elim are [ ]
-session_at table names (c ∷ cs) [] ys ends are i script end there told = elim are [ ]
-session_at table names (c ∷ cs) (x ∷ xs) [] ends are i script end there told = elim are [ ]
-session_at table names (c ∷ cs) (x ∷ xs) (y ∷ ys) [] are i script end there told = elim are [ ]
+-- what sessions side by side come to
+record AreAlong (table : TableData) (names scripts : List (List ℕ)) (xs ys : List SeatView)
+    (ends : List (Result ℕ SessionEnd)) : Type 0 where
+  count : length ends ≡ length scripts
+  numbers : map (λ (y : SeatView). y.number) ys ≡ map (λ (x : SeatView). x.number) xs
+  each : (i : ℕ) (script : List ℕ) (end : Result ℕ SessionEnd) → slice_get scripts i ≡ Some script
+      → slice_get ends i ≡ Some end → IsSessionAt table names xs ys i script end
 
-ends_count : (table : TableData) (names scripts : List (List ℕ)) (xs ys : List SeatView)
-    (ends : List (Result ℕ SessionEnd))
-    → AreSessions table names scripts xs ys ends → length ends ≡ length scripts
+along : (table : TableData) (names scripts : List (List ℕ)) (xs ys : List SeatView) (ends : List (Result ℕ SessionEnd))
+    → AreSessions table names scripts xs ys ends → AreAlong table names scripts xs ys ends
 unfolding AreSessions
-ends_count table names (c ∷ cs) (x ∷ xs) (y ∷ ys) (e ∷ es) are =
-    ap suc (ends_count table names cs xs ys es are.1)
-ends_count table names [] [] [] [] are = refl
-ends_count table names [] [] [] (e ∷ es) are = elim are [ ]
-ends_count table names [] [] (y ∷ ys) ends are = elim are [ ]
-ends_count table names [] (x ∷ xs) ys ends are = elim are [ ]
-ends_count table names (c ∷ cs) [] ys ends are = elim are [ ]
-ends_count table names (c ∷ cs) (x ∷ xs) [] ends are = elim are [ ]
-ends_count table names (c ∷ cs) (x ∷ xs) (y ∷ ys) [] are = elim are [ ]
+along table names (c ∷ cs) (x ∷ xs) (y ∷ ys) (e ∷ es) are =
+    let rest = along table names cs xs ys es are.1 in
+    record {
+      count = ap suc rest.count;
+      numbers =
+          ap (λ n. n ∷ map (λ (y : SeatView). y.number) ys) (number_kept are.0)
+          ∙ ap (λ ns. x.number ∷ ns) rest.numbers;
+      each = each rest.each;
+    }
+  where
+    each : ((i : ℕ) (script : List ℕ) (end : Result ℕ SessionEnd) → slice_get cs i ≡ Some script
+        → slice_get es i ≡ Some end → IsSessionAt table names xs ys i script end)
+        → (i : ℕ) (script : List ℕ) (end : Result ℕ SessionEnd) → slice_get (c ∷ cs) i ≡ Some script
+        → slice_get (e ∷ es) i ≡ Some end → IsSessionAt table names (x ∷ xs) (y ∷ ys) i script end
+    each later zero script end there told =
+        let same : c ≡ script = ap (λ t. unwrap_or t c) there in
+        let told_so : e ≡ end = ap (λ t. unwrap_or t e) told in
+        record { before = x; after = y; first = refl; last = refl; session = rw (← same, ← told_so) are.0 }
+    each later (suc i) script end there told =
+        let s = later i script end there told in
+        record { before = s.before; after = s.after; first = s.first; last = s.last; session = s.session }
+along table names [] [] [] [] are =
+    record { count = refl; numbers = refl; each = λ i script end there told. absurd (none-some script there) }
+along table names [] [] [] (e ∷ es) are = elim are [ ]
+along table names [] [] (y ∷ ys) ends are = elim are [ ]
+along table names [] (x ∷ xs) ys ends are = elim are [ ]
+along table names (c ∷ cs) [] ys ends are = elim are [ ]
+along table names (c ∷ cs) (x ∷ xs) [] ends are = elim are [ ]
+along table names (c ∷ cs) (x ∷ xs) (y ∷ ys) [] are = elim are [ ]
 
 calls_are : (H : List Entry) (s n : ℕ) (calls : List ℕ) → n ≤ length calls
     → ((k : ℕ) → k < n → slice_index calls k ≡ length (entries_of (s + k) H))
@@ -109,12 +117,13 @@ whole : {N : Type 0} {named : Ghosts N} (table : TableData) (names scripts : Lis
     → IsParty table names scripts ends text
 whole table names scripts xs ys ends a text many fresh are closed totals enough printed =
     let H = a.pen.entries in
+    let all = along table names scripts xs ys ends are in
     record {
       history = H;
       is = closed.history;
-      count = ends_count table names scripts xs ys ends are;
+      count = all.count;
       sessions = λ i script end there told.
-          let s = session_at table names scripts xs ys ends are i script end there told in
+          let s = all.each i script end there told in
           let number : s.after.number ≡ i + 1 = number_kept s.session ∙ fresh.number i s.before s.first in
           record {
             before = s.before;
@@ -139,34 +148,13 @@ whole table names scripts xs ys ends a text many fresh are closed totals enough 
           ∙ ap (λ k. seats_text 1 k H) (sym many));
     }
 
-seats_kept : (table : TableData) (names scripts : List (List ℕ)) (xs ys : List SeatView)
-    (ends : List (Result ℕ SessionEnd))
-    → AreSessions table names scripts xs ys ends → length ys ≡ length xs
-unfolding AreSessions
-seats_kept table names (c ∷ cs) (x ∷ xs) (y ∷ ys) (e ∷ es) are =
-    ap suc (seats_kept table names cs xs ys es are.1)
-seats_kept table names [] [] [] [] are = refl
-seats_kept table names [] [] [] (e ∷ es) are = elim are [ ]
-seats_kept table names [] [] (y ∷ ys) ends are = elim are [ ]
-seats_kept table names [] (x ∷ xs) ys ends are = elim are [ ]
-seats_kept table names (c ∷ cs) [] ys ends are = elim are [ ]
-seats_kept table names (c ∷ cs) (x ∷ xs) [] ends are = elim are [ ]
-seats_kept table names (c ∷ cs) (x ∷ xs) (y ∷ ys) [] are = elim are [ ]
-
-numbers_kept : (table : TableData) (names scripts : List (List ℕ)) (xs ys : List SeatView)
-    (ends : List (Result ℕ SessionEnd)) → AreSessions table names scripts xs ys ends
-    → map (λ (y : SeatView). y.number) ys ≡ map (λ (x : SeatView). x.number) xs
-unfolding AreSessions
-numbers_kept table names (c ∷ cs) (x ∷ xs) (y ∷ ys) (e ∷ es) are =
-    ap (λ n. n ∷ map (λ (y : SeatView). y.number) ys) (number_kept are.0)
-    ∙ ap (λ ns. x.number ∷ ns) (numbers_kept table names cs xs ys es are.1)
-numbers_kept table names [] [] [] [] are = refl
-numbers_kept table names [] [] [] (e ∷ es) are = elim are [ ]
-numbers_kept table names [] [] (y ∷ ys) ends are = elim are [ ]
-numbers_kept table names [] (x ∷ xs) ys ends are = elim are [ ]
-numbers_kept table names (c ∷ cs) [] ys ends are = elim are [ ]
-numbers_kept table names (c ∷ cs) (x ∷ xs) [] ends are = elim are [ ]
-numbers_kept table names (c ∷ cs) (x ∷ xs) (y ∷ ys) [] are = elim are [ ]
+-- seats that were lent as the front of a list come back there
+pub seats_back : (len : ℕ) (xs ys rest : List SeatView) → length xs ≡ len
+    → map (λ (x : SeatView). x.number) ys ≡ map (λ (x : SeatView). x.number) xs → take len (ys ++ rest) ≡ ys
+seats_back len xs ys rest whole numbers =
+    let number : SeatView → ℕ = λ x. x.number in
+    let all : length ys ≡ len = sym (length-map ys number) ∙ ap length numbers ∙ length-map xs number ∙ whole in
+    ap (λ k. take k (ys ++ rest)) (sym all) ∙ take-append_seam ys rest
 
 pub whole_lent : {N : Type 0} {named : Ghosts N} (table : TableData) (names scripts : List (List ℕ)) (n len : ℕ)
     (opened xs ys rest : List SeatView)
@@ -179,8 +167,8 @@ pub whole_lent : {N : Type 0} {named : Ghosts N} (table : TableData) (names scri
     → IsParty table names scripts ends text
 whole_lent table names scripts n len opened xs ys rest ends a text many same fresh lent counted are closed enough
     printed =
-    let all : length ys ≡ len = seats_kept table names scripts xs ys ends are ∙ ap length lent ∙ sym counted in
-    let front : take len (ys ++ rest) ≡ ys = ap (λ k. take k (ys ++ rest)) (sym all) ∙ take-append_seam ys rest in
+    let numbers = (along table names scripts xs ys ends are).numbers in
+    let front = seats_back len xs ys rest (ap length lent ∙ sym counted) numbers in
     whole table names scripts xs ys ends a text (many ∙ same)
     (subst (λ k. AreFresh k xs) same (rw lent fresh)) are (rw (← front) closed.0) (rw (← front) closed.1)
     (subst (λ k. k ≤ length a.calls) same enough)
@@ -194,11 +182,11 @@ pub party_unclosed : (table : TableData) (names scripts : List (List ℕ)) (n le
     → AreSessions table names scripts xs ys ends → IsCloseRefused table (take len (ys ++ rest)) zs seat
     → IsPartyRefused table names scripts Log
 party_unclosed table names scripts n len opened xs ys rest zs ends seat same fresh lent counted are refused =
-    let all : length ys ≡ len = seats_kept table names scripts xs ys ends are ∙ ap length lent ∙ sym counted in
-    let front : take len (ys ++ rest) ≡ ys = ap (λ k. take k (ys ++ rest)) (sym all) ∙ take-append_seam ys rest in
+    let numbers = (along table names scripts xs ys ends are).numbers in
+    let front = seats_back len xs ys rest (ap length lent ∙ sym counted) numbers in
     let begun : AreFresh table.seats xs = subst (λ k. AreFresh k xs) same (rw lent fresh) in
     let unclosed = subst (λ (ws : List SeatView). IsCloseRefused table ws zs seat) front refused in
-    let complete = all_there table.seats xs ys begun (numbers_kept table names scripts xs ys ends are) in
+    let complete = all_there table.seats xs ys begun numbers in
     let none = none_missing table ys zs seat complete unclosed in
     record {
       before = xs;

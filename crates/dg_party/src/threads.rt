@@ -12,25 +12,15 @@ use std::alloc::Global;
 use std::sync::Wait;
 use std::thread::Threads;
 
-// What all sessions of a table share.
+// What all sessions of a table share: there is a name for each vertex.
+#[derive(Drop)]
 struct PartyContext<'a, N: Name, R, G> {
     rt: &'a R,
     alloc: Global,
     table: &'a Table<N>,
     names: &'a Names,
     gate: &'a G,
-}
-
-impl<'a, N: Name, R, G> Drop for PartyContext<'a, N, R, G> {
-    fn drop(self) {
-        let Self {
-            rt: _,
-            alloc: _,
-            table: _,
-            names: _,
-            gate: _,
-        } = self;
-    }
+    ghost named: { length names.now ≡ N.table.start.graph.size },
 }
 
 /// Sessions of the seats of a table, all at once, each over the script at its place: a thread for each seat enters the gate with
@@ -80,7 +70,6 @@ fn play_alone<'a, N: Name, R: Threads + Wait, G: Gate>(
 ) -> Result<Vec<Result<u32, SessionEnd>>, Shortage>
     requires one { length scripts.now ≡ 1 }
     requires scripts { length scripts.now ≡ length seats.old }
-    requires names { length context.now.names.now ≡ N.table.start.graph.size }
     ensures ok { IfOk result
         (λ v. AreSessions N.table context.now.names.now (contents scripts.now)
         seats.old seats.new v.items) }
@@ -107,7 +96,6 @@ fn play_in_parallel<'a, N: Name + Send + Sync, R: Threads + Wait + Sync, G: Gate
     seats: &mut [Seat<N>],
 ) -> Result<Vec<Result<u32, SessionEnd>>, Shortage>
     requires scripts { length scripts.now ≡ length seats.old }
-    requires names { length context.now.names.now ≡ N.table.start.graph.size }
     ensures ok { IfOk result
         (λ v. AreSessions N.table context.now.names.now (contents scripts.now)
         seats.old seats.new v.items) }
@@ -123,13 +111,11 @@ fn play_in_parallel<'a, N: Name + Send + Sync, R: Threads + Wait + Sync, G: Gate
     };
     let bytes = script.as_slice();
     let mut first = || -> Result<u32, SessionEnd>
-        requires { length context.now.names.now ≡ N.table.start.graph.size }
         ensures { IsSessionOver N.table context.entry.now.names.now
             bytes.entry.now seat.entry.now seat.exit.now result }
     { run_session(context, bytes, seat) };
     let mut others = || -> Result<Vec<Result<u32, SessionEnd>>, Shortage>
-        requires { (length left.now ≡ length rest.now)
-            × (length context.now.names.now ≡ N.table.start.graph.size) }
+        requires { length left.now ≡ length rest.now }
         ensures { IfOk result
             (λ v. AreSessions N.table context.entry.now.names.now
             (contents left.entry.now) rest.entry.now rest.exit.now v.items)
@@ -150,7 +136,6 @@ fn run_session<'a, N: Name, R: Threads + Wait, G: Gate>(
     script: &[u8],
     seat: &mut Seat<N>,
 ) -> Result<u32, SessionEnd>
-    requires { length context.now.names.now ≡ N.table.start.graph.size }
     ensures { IsSessionOver N.table context.now.names.now script.now seat.old
         seat.new result }
 {

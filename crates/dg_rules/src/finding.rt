@@ -52,20 +52,10 @@ impl Finding {
     }
 }
 
-/// The verdict on the amounts that a look showed, computed from the vertex q of its graph. The conditions are that the
-/// look showed an amount for each vertex of its graph, and that q is one of them.
-pub fn judge_look(q: usize, look: &LookData) -> Finding
-    requires size { look.now.position.size ≡ look.now.graph.size }
-    requires vertex { q < look.now.graph.size }
-    ensures found { IsFoundFor q look.now result }
-    ensures asks { (i : ℕ) → asked_for i result ≡ JudgeRequest i }
-{
-    judge_look_with_inverse(&InverseLaplacian::new(&look.graph, q), q, look)
-}
-
-/// The finding as `judge_look` gives it, whatever inverse it is given: one that was made for the graph and q saves the time to
-/// make it anew.
-pub fn judge_look_with_inverse(inverse: &InverseLaplacian, q: usize, look: &LookData) -> Finding
+/// The verdict on the amounts that a look showed, computed from the vertex q of its graph, whatever inverse it is given: one
+/// that was made for the graph and q saves the time to make it anew. The conditions are that the look showed an amount for
+/// each vertex of its graph, and that q is one of them.
+pub fn judge_look(inverse: &InverseLaplacian, q: usize, look: &LookData) -> Finding
     requires size { look.now.position.size ≡ look.now.graph.size }
     requires vertex { q < look.now.graph.size }
     ensures found { IsFoundFor q look.now result }

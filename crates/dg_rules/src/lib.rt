@@ -9,7 +9,7 @@ mod look;
 mod step;
 
 pub use entry::{BLANK, Entry, MAX_GIFT, MAX_SEATS, Plain, Refusal, Reply, Request};
-pub use finding::{Finding, Question, judge_look, judge_look_with_inverse, renew_looks_inverse};
+pub use finding::{Finding, Question, judge_look, renew_looks_inverse};
 pub use game::{Game, MAX_ENTRIES};
 pub use laws::{law_of_histories, law_of_legal_histories};
 pub use look::LookData;

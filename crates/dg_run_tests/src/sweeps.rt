@@ -1,6 +1,6 @@
 //! Sweeps over lines: what stands in no clause, that they end well, and laws before limits on tables computed by hand.
 
-use dg_invocation::Question;
+use dg_invocation::{Form, Question, VerdictForm};
 use dg_sweep::{SweepEnd, sweep};
 use dg_system::{Input, Output};
 use std::alloc::Global;
@@ -60,22 +60,30 @@ impl<'a> Read for Flow<'a> {
 
 // Questions about texts, and what is answered.
 static ANSWERS: [(Question, &str, &str); 7] = [
-    (Question::Judge { ordered: false }, LINES, JUDGED),
-    (Question::Rank(1), LINES, TESTED),
-    (Question::RiemannRoch, LINES, NUMBERED),
     (
-        Question::Rank(12),
+        Question::Judge(VerdictForm::Words { ordered: false }),
+        LINES,
+        JUDGED,
+    ),
+    (Question::Rank(1, Form::Words), LINES, TESTED),
+    (Question::RiemannRoch(Form::Words), LINES, NUMBERED),
+    (
+        Question::Rank(12, Form::Words),
         LARGE,
         "rank at least 12\nrank below 12 at ?\nrefused too many trials\n",
     ),
     (
-        Question::RiemannRoch,
+        Question::RiemannRoch(Form::Words),
         LARGE,
         "degree 20 genus 0 rank 20 dual -1\ndegree 11 genus 0 rank 11 dual -1\ndegree 480 genus 481 rank ? dual ?\n",
     ),
-    (Question::Judge { ordered: false }, "", ""),
     (
-        Question::Judge { ordered: false },
+        Question::Judge(VerdictForm::Words { ordered: false }),
+        "",
+        "",
+    ),
+    (
+        Question::Judge(VerdictForm::Words { ordered: false }),
         "\n",
         "refused not JSON\n",
     ),
@@ -134,7 +142,7 @@ fn a_line_has_a_mebibyte_at_most(rt: HostRuntime) -> Result<(), Fail> {
     is_answered_in_any_parts(
         &rt,
         rt.alloc(),
-        Question::Judge { ordered: false },
+        Question::Judge(VerdictForm::Words { ordered: false }),
         &most,
         b"refused not JSON\n",
     );
@@ -142,7 +150,7 @@ fn a_line_has_a_mebibyte_at_most(rt: HostRuntime) -> Result<(), Fail> {
     is_answered_in_any_parts(
         &rt,
         rt.alloc(),
-        Question::Judge { ordered: false },
+        Question::Judge(VerdictForm::Words { ordered: false }),
         &long,
         b"refused file too long\n",
     );
@@ -160,7 +168,7 @@ fn a_stream_may_fail(rt: HostRuntime) -> Result<(), Fail> {
     let end = sweep(
         &rt,
         rt.alloc(),
-        Question::Judge { ordered: false },
+        Question::Judge(VerdictForm::Words { ordered: false }),
         1,
         &mut input,
         &mut output,
@@ -195,7 +203,7 @@ fn any_number_of_workers_answers_as_one(rt: HostRuntime) -> Result<(), Fail> {
             is_answered(
                 &rt,
                 rt.alloc(),
-                Question::Judge { ordered: false },
+                Question::Judge(VerdictForm::Words { ordered: false }),
                 workers,
                 &text,
                 most,

@@ -4,7 +4,7 @@ use dg_chips::{MoveFault, ScriptFault, StartFault};
 use dg_file::read_table;
 use dg_game::RehearseFault;
 use dg_graph::JoinFault;
-use dg_invocation::Question;
+use dg_invocation::{Question, VerdictForm};
 use dg_lines::{LineFault, StepsFault};
 use dg_log::LogFault;
 use dg_observer::ObserverFault;
@@ -182,7 +182,7 @@ fn a_sweep_answers_what_is_said_of_a_file(rt: HostRuntime) -> Result<(), Fail> {
         };
         answer_line(
             rt.alloc(),
-            Question::Judge { ordered: false },
+            Question::Judge(VerdictForm::Words { ordered: false }),
             text.as_bytes(),
             &mut answer,
         )?;
@@ -199,7 +199,7 @@ fn a_sweep_answers_what_is_said_of_a_long_file(rt: HostRuntime) -> Result<(), Fa
     let mut answer = Vec::new(rt.alloc());
     answer_line(
         rt.alloc(),
-        Question::Judge { ordered: false },
+        Question::Judge(VerdictForm::Words { ordered: false }),
         line.as_slice(),
         &mut answer,
     )?;

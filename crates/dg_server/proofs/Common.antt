@@ -4,7 +4,7 @@ pub use Rattle.dg_rules.specs.declared.entry.Entry.{Entry}
 pub use Rattle.dg_rules.specs.declared.entry.TheConstants.{MAX_SEATS}
 pub use Rattle.dg_invocation.specs.declared.invocation.PartyTask.{PartyTask}
 pub use Rattle.dg_log.specs.Tables.{table_data_of}
-pub use Rattle.dg_party.proofs.Whole.{contents_count}
+pub use Rattle.dg_party.proofs.Whole.{contents_count, seats_back}
 pub use Rattle.dg_party.specs.Parties.{IsParty, IsPartyRefused}
 pub use Rattle.dg_party.specs.Sessions.{contents}
 pub use Rattle.dg_party.specs.declared.ending.PartyRefusal.{PartyRefusal}

@@ -1,24 +1,15 @@
 -- Seats that are lent and come back, and the parties that may be.
---   seats_back     seats that were lent whole come back whole
 --   held_count     files that are held are as many as their names
 --   may_play       scripts that are held are as many as may have seats
 --   served         a session whose table is closed served it
 --   unclosed       a session whose table is not closed, though all its seats were handed in
 --   party_on       a party over files that are held is that of the table that one of them describes
---   refused_on     so is one that is refused
---   refused_lent   so is it where the start and the names were lent
+--   refused_lent   so is one that is refused, where the start and the names were lent
 --   as_it_was      what nobody writes to is as it was
 --   reader_anew, writer_anew   a reader, and a writer, to which nothing has happened
 use Rattle.dg_system.specs.Growth.{StreamReading, StreamWriting, reading_anew, writing_anew}
 use Rattle.std.specs.Prelude.{false}
 use Rattle.dg_server.proofs.Common.{◌≡◌, ℕ, suc, ◌≤◌, List, [], ◌∷◌, ◌++◌, length, take, map, Option, None, Some, refl, sym, ap, subst, ◌∙◌, Bor, Vec, Global, length-map, take-append_seam, MAX_SEATS, MayHaveSeats, SeatView, Held, StartData, Entry, IsClosed, IsCloseRefused, all_there, none_missing, entered_all, full_at_close, Setup, Passage, IsHeard, IsServed, IsUnclosed, SessionEnd, contents, IsParty, IsPartyRefused, contents_count, PartyRefusal, PartyTask, DescribesTable, MayHoldAll, Keeps, names_in, IsPartyOn, IsRefusedOn, table_data_of, Result}
-
-pub seats_back : (len : ℕ) (xs ys rest : List SeatView) → length xs ≡ len
-    → map (λ (x : SeatView). x.number) ys ≡ map (λ (x : SeatView). x.number) xs → take len (ys ++ rest) ≡ ys
-seats_back len xs ys rest whole numbers =
-    let number : SeatView → ℕ = λ x. x.number in
-    let all : length ys ≡ len = sym (length-map ys number) ∙ ap length numbers ∙ length-map xs number ∙ whole in
-    ap (λ k. take k (ys ++ rest)) (sym all) ∙ take-append_seam ys rest
 
 pub held_count : (held : List ℕ → Held) (names all : List (List ℕ)) → MayHoldAll held names all
     → length all ≡ length names
@@ -86,11 +77,13 @@ party_on held task o names all ends text table known party =
       );
     }
 
-pub refused_on : (held : List ℕ → Held) (task : PartyTask) (o : StartData) (names : List (List ℕ))
-    (all : List (Vec ℕ Global)) (refusal : PartyRefusal) → DescribesTable (held task.file.now) o names →
-    MayHoldAll held (names_in task) (map (λ script. script.items) all)
-    → IsPartyRefused (table_data_of o (length all) task.capacity) names (contents all) refusal → IsRefusedOn held task refusal
-refused_on held task o names all refusal table known refused =
+pub refused_lent : (held : List ℕ → Held) (task : PartyTask) {o o' : StartData} {names names' : List (List ℕ)}
+    (all : List (Vec ℕ Global)) (refusal : PartyRefusal) → o' ≡ o → names' ≡ names → DescribesTable (held task.file.now) o names
+    → MayHoldAll held (names_in task) (map (λ script. script.items) all)
+    → IsPartyRefused (table_data_of o' (length all) task.capacity) names' (contents all) refusal → IsRefusedOn held task refusal
+refused_lent held task {o} {o'} {names} {names'} all refusal opened named table known refused =
+    let at : ℕ → StartData → List (List ℕ) → Type 0 =
+    λ n x ns. IsPartyRefused (table_data_of x n task.capacity) ns (contents all) refusal in
     record {
       start = o;
       names = names;
@@ -98,20 +91,10 @@ refused_on held task o names all refusal table known refused =
       holds = (
         contents all,
         known,
-        subst (λ n. IsPartyRefused (table_data_of o n task.capacity) names (contents all) refusal) (sym (contents_count all))
-            refused,
+        subst (λ n. at n o names) (sym (contents_count all))
+            (subst (λ x. at (length all) x names) opened (subst (at (length all) o') named refused)),
       );
     }
-
-pub refused_lent : (held : List ℕ → Held) (task : PartyTask) {o o' : StartData} {names names' : List (List ℕ)}
-    (all : List (Vec ℕ Global)) (refusal : PartyRefusal) → o' ≡ o → names' ≡ names → DescribesTable (held task.file.now) o names
-    → MayHoldAll held (names_in task) (map (λ script. script.items) all)
-    → IsPartyRefused (table_data_of o' (length all) task.capacity) names' (contents all) refusal → IsRefusedOn held task refusal
-refused_lent held task {o} {o'} {names} {names'} all refusal opened named table known refused =
-    refused_on held task o names all refusal table known
-    (subst (λ (x : StartData). IsPartyRefused (table_data_of x (length all) task.capacity) names (contents all) refusal) opened
-    (subst (λ (x : List (List ℕ)). IsPartyRefused (table_data_of o' (length all) task.capacity) x (contents all) refusal) named
-    refused))
 
 pub as_it_was : (held : Option (List ℕ)) → Keeps held held
 as_it_was None = tt

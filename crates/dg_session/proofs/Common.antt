@@ -35,9 +35,11 @@ pub use Rattle.dg_session.specs.Order.{AnswersAscendFrom, ComeAfter}
 pub use Rattle.dg_session.specs.Refusing.{CallsTable, RefusesCommand, RefusesLine}
 pub use Rattle.dg_session.specs.Saying.{AnswersCommand, AnswersLine, Enters, Gains, speakers_kept_after, speakers_look_after}
 pub use Rattle.dg_session.specs.Setup.{Setup, setup}
-pub use Rattle.dg_session.specs.SoFar.{Goes, Halts, Handles, Hears, AnswersAreCleared, IsReady, IsSaid, IsWritten, Obeys, RefusesPart, SoFar, Speaker, StaysAt, StopsIn, Takes, TakesEnd, TellsSpeaker, beginning, heard, round, so_far}
+pub use Rattle.dg_session.specs.SoFar.{Goes, Halts, Handles, Hears, AnswersAreCleared, IsReady, IsSaid, IsWritten, Obeys, RefusesPart, SoFar, Speaker, StaysAt, StopsIn, Takes, TakesEnd, TellsSpeaker, answer_entries, answer_text, beginning, heard, keeping, round, so_far, speaker}
 pub use Rattle.dg_session.specs.Speakers.{AnswersLineOf, GoesOn, IsFor, IsForNone, RefusesLineOf, Replaces, Speakers, kept_number, newcomers, speakers}
 pub use Rattle.dg_session.specs.Streams.{AreSessionLines, IsLine, Passage, passage}
+pub use Rattle.dg_session.specs.declared.answering.Answer.{Answer}
+pub use Rattle.dg_session.specs.declared.answering.Answer.TheVariants.{BadLine, Made, NoLook}
 pub use Rattle.dg_session.specs.declared.ends.SessionEnd.{SessionEnd}
 pub use Rattle.dg_session.specs.declared.ends.SessionEnd.TheVariants.{LongLine, Memory, Read, Spawn, Table, Turns, Write}
 pub use Rattle.dg_session.specs.declared.ends.TheConstants.{MAX_LINE, MAX_LINES, READ_SIZE}

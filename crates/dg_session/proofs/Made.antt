@@ -8,13 +8,11 @@
 --   stale_made      so by that of a question on a stale look
 --   rank_within     a rank test that was made is within the limits
 --   rank_past       and one with too many trials is not
---   named           there are names for its amounts
---   entered, words_said, call_refused   a command is obeyed: by an entry that stands, by words, and by a table that
---       refuses
+--   entered, call_refused   a command is obeyed: by an entry that stands, and by a table that refuses
 --   obeys_after     a command that is obeyed to a seat after it met a longer history is obeyed to it
---   with_look, with_none   so it is with the look that is kept, and with none
+--   unlooked, at_look   so it is with none, and with the look that is kept
 --   call_keeps      a call that is no look keeps the look
-use Rattle.dg_session.proofs.Common.{◌≡◌, ◌≢◌, ℕ, inl, inr, List, [], ◌∷◌, ◌++◌, length, Option, Some, None, slice_get, Result, Ok, Err, OnOk, refl, sym, ap, subst, ◌∙◌, append-nil, codes, arith, StartData, IsWithin, ArePastTrialLimits, past_within, RankVerdict, AtLeast, Below, degree_found, asked_for, asked_on, asked, Entry, Plain, Request, Ranked, Finding, Question, Command, LookView, IsTaken, IsTried, HasNames, entry_text, HasSize, legal_sized, slice_get-seam, begins_on, begins_length, SeatView, Keeps, RefusesCall, Fault, entering, IsEnteredAfter, IsAnswered, IsSettled, IsStale, Gains, Enters, speakers_kept_after, speakers_look_after, AnswersCommand, SessionEnd, Table, kept_number, CallsTable, RefusesCommand, Setup, Speaker, TellsSpeaker, Obeys, TableData}
+use Rattle.dg_session.proofs.Common.{◌≡◌, ◌≢◌, ℕ, inl, inr, List, [], ◌∷◌, ◌++◌, length, Option, Some, None, slice_get, Result, Ok, Err, OnOk, refl, sym, ap, subst, ◌∙◌, append-nil, codes, arith, StartData, IsWithin, ArePastTrialLimits, past_within, RankVerdict, AtLeast, Below, degree_found, asked_for, asked_on, asked, Entry, Plain, Request, Ranked, Finding, Question, Command, LookView, IsTaken, IsTried, entry_text, HasSize, legal_sized, slice_get-seam, begins_on, begins_length, SeatView, Keeps, RefusesCall, Fault, entering, IsEnteredAfter, IsAnswered, IsSettled, IsStale, Gains, Enters, speakers_kept_after, speakers_look_after, AnswersCommand, SessionEnd, Table, kept_number, CallsTable, RefusesCommand, Setup, Speaker, speaker, keeping, answer_entries, answer_text, Answer, Made, NoLook, Obeys, TableData}
 use Rattle.dg_rules.specs.declared.entry.Plain.TheVariants as plain
 use Rattle.dg_rules.specs.declared.entry.Request.TheVariants.{Rank as RankRequest}
 use Rattle.dg_session.proofs.Coming.{gained_met, command_met}
@@ -39,26 +37,19 @@ gains_same x = gains_none x x (record {
   met = ([], sym (append-nil x.met));
 })
 
-pub obeys_after : {B : Type 0} {t : Setup} {command : Command} {x y : SeatView} {kept : Option ℕ}
-    {said : Option (List ℕ)} {new : Speaker} {result : Result B SessionEnd} → Keeps x y →
-    Obeys t command (record { seat = y; kept = kept; said = said }) new result →
-    Obeys t command (record { seat = x; kept = kept; said = said }) new result
-obeys_after {new = new} {result = Ok b} keeps obeys = record {
+pub obeys_after : {N : Type 0} {t : Setup} {command : Command} {x y : SeatView} {kept : Option ℕ} {new : Speaker}
+    {result : Result (Answer N) SessionEnd} → Keeps x y → Obeys t command (keeping kept y) new result
+    → Obeys t command (keeping kept x) new result
+obeys_after {new = new} {result = Ok answer} keeps obeys = record {
   done = record {
-    made = obeys.done.made;
-    text = obeys.done.text;
     answers = obeys.done.answers;
-    gained = gained_met keeps new.seat obeys.done.made obeys.done.gained;
-    said = obeys.done.said;
+    gained = gained_met keeps new.seat (answer_entries answer) obeys.done.gained;
+    named = obeys.done.named;
   };
   refused = tt;
-  unsaid = tt;
 }
-obeys_after {t = t} {command} {kept = kept} {new = new} {result = Err end} keeps obeys = record {
-  done = tt;
-  refused = command_met keeps t kept command new.seat end obeys.refused;
-  unsaid = obeys.unsaid;
-}
+obeys_after {t = t} {command} {kept = kept} {new = new} {result = Err end} keeps obeys =
+    record { done = tt; refused = command_met keeps t kept command new.seat end obeys.refused }
 
 pub record Stands (o : StartData) (request : Request) (r : ℕ × Entry) (x y : SeatView) : Type 0 where
   pub asked' : r.1.request ≡ request
@@ -123,104 +114,45 @@ pub rank_past : {o : StartData} {look : LookView} {k : ℕ} → IsTaken o look �
     → IsWithin o.graph.size k → ⊥
 rank_past {o} {k = k} taken prefix = past_within o.graph.size k (subst (λ n. ArePastTrialLimits n k) taken.vertices.0 prefix)
 
-pub named : {o : StartData} {request : Request} {r : ℕ × Entry} {x y : SeatView} (names : List (List ℕ))
-    → length names ≡ o.graph.size
-    → Stands o request r x y → HasNames names r.1.reply
-named {r = r} names size stands = subst (λ n. HasSize n r.1.reply) (sym size) stands.sized
-
--- the entry stands, and its line is said, or is not for want of memory
-pub entered : {B : Type 0} {t : Setup} {command : Command} {request : Request} {r : ℕ × Entry} {old new : Speaker}
-    {result : Result B SessionEnd} → Stands t.table.start request r old.seat new.seat
-    → ((made : List (ℕ × Entry)) (after : Option ℕ) (text : List ℕ) → Enters t.names old.kept request made after text
-    → AnswersCommand t old.kept command made after text)
-    → OnOk result (new.kept ≡ speakers_look_after old.kept r.0 request)
-    → TellsSpeaker (entry_text t.names r.0 r.1.reply) old.said new.said result → Obeys t command old new result
-entered {t = t} {r = r} {old} {new} {result = Ok b} stands opens keeps told = record {
+-- the entry stands, and its line is to be said
+pub entered : {N : Type 0} {t : Setup} {command : Command} {request : Request} {r : ℕ × Entry} {old new : Speaker}
+    → length t.names ≡ t.table.start.graph.size → Stands t.table.start request r old.seat new.seat
+    → ((text : List ℕ) → Enters t.names old.kept request (r ∷ []) new.kept text
+    → AnswersCommand t old.kept command (r ∷ []) new.kept text)
+    → new.kept ≡ speakers_look_after old.kept r.0 request
+    → Obeys {N = N} t command old new (Ok (Made r))
+entered {t = t} {r = r} {old} size stands opens keeps = record {
   done = record {
-    made = r ∷ [];
-    text = entry_text t.names r.0 r.1.reply;
-    answers = opens (r ∷ []) new.kept (entry_text t.names r.0 r.1.reply)
+    answers = opens (entry_text t.names r.0 r.1.reply)
         (r, stands.asked', refl, keeps ∙ sym (ap (speakers_look_after old.kept r.0) stands.asked'), refl);
     gained = stands.gained;
-    said = told;
+    named = subst (λ n. HasSize n r.1.reply) (sym size) stands.sized;
   };
   refused = tt;
-  unsaid = tt;
-}
-entered {t = t} {command} {r = r} {old} {new} {result = Err end} stands opens keeps told = record {
-  done = tt;
-  refused = subst (RefusesCommand t old.kept command old.seat new.seat) (sym told.0)
-      (record {
-        more = r ∷ [];
-        next = inr (
-          speakers_kept_after old.kept r,
-          entry_text t.names r.0 r.1.reply,
-          opens (r ∷ []) (speakers_kept_after old.kept r) (entry_text t.names r.0 r.1.reply)
-              (r, stands.asked', refl, refl, refl),
-        );
-        gained = stands.gained;
-      });
-  unsaid = told.1;
-}
-
--- nothing is made, and some words are said, or are not for want of memory
-pub words_said : {B : Type 0} {t : Setup} {command : Command} {x : SeatView} {kept after : Option ℕ}
-    {old new : Option (List ℕ)} {result : Result B SessionEnd} (words : List ℕ) → OnOk result
-    (AnswersCommand t kept command [] after words)
-    → TellsSpeaker words old new result
-    → Obeys t command (record { seat = x; kept = kept; said = old }) (record { seat = x; kept = after; said = new })
-    result
-words_said {x = x} {result = Ok b} words answers told = record {
-  done = record { made = []; text = words; answers = answers; gained = gains_same x; said = told };
-  refused = tt;
-  unsaid = tt;
-}
-words_said {t = t} {command} {x} {kept} {result = Err end} words answers told = record {
-  done = tt;
-  refused = subst (RefusesCommand t kept command x x) (sym told.0)
-      (record { more = []; next = inl refl; gained = gains_same x });
-  unsaid = told.1;
 }
 
 -- nothing is made, since the table refuses the call
-pub call_refused : {B : Type 0} {t : Setup} {command : Command} {x y : SeatView} {kept after : Option ℕ}
-    {said : Option (List ℕ)} {fault : Fault}
-    {result : Result B SessionEnd} → CallsTable t.table.start.graph.size kept command → Keeps x y
-    → RefusesCall t.table y fault → result ≡ Err (Table fault)
-    → Obeys t command (record { seat = x; kept = kept; said = said }) (record { seat = y; kept = after; said = said })
-    result
-call_refused {t = t} {command} {x} {y} {kept} {after} {said} calls keeps refused is =
-    subst (Obeys t command (record { seat = x; kept = kept; said = said })
-    (record { seat = y; kept = after; said = said })) (sym is)
-    (record { done = tt; refused = (calls, refused, gains_none x y keeps); unsaid = refl })
+pub call_refused : {N : Type 0} {t : Setup} {command : Command} {old new : Speaker} {fault : Fault}
+    → CallsTable t.table.start.graph.size old.kept command → Keeps old.seat new.seat → RefusesCall t.table new.seat fault
+    → Obeys {N = N} t command old new (Err (Table fault))
+call_refused {old = old} {new} calls keeps refused =
+    record { done = tt; refused = (calls, refused, gains_none old.seat new.seat keeps) }
 
-pub any_ok : {B P : Type 0} (result : Result B SessionEnd) → P → OnOk result P
-any_ok (Ok b) p = p
-any_ok (Err end) p = tt
+-- a command that needs a look finds none
+pub unlooked : {N : Type 0} {t : Setup} {command : Command} {x : SeatView} {kept after : Option LookView} → kept ≡ None
+    → after ≡ None → AnswersCommand t None command [] None (answer_text {N = N} t.names NoLook)
+    → Obeys {N = N} t command (speaker x kept) (speaker x after) (Ok NoLook)
+unlooked {N} {t} {command} {x} p q answers = rw (p, q) (record {
+  done = record { answers = answers; gained = gains_same x; named = tt };
+  refused = tt;
+})
 
--- with the look that is kept, or with none
-pub with_look : {B : Type 0} {t : Setup} {command : Command} {x : SeatView} {kept : Option LookView} {look : LookView}
-    {said : Option (List ℕ)}
-    {new : Speaker} {result : Result B SessionEnd} → kept ≡ Some look
-    → Obeys t command (record { seat = x; kept = Some look.receipt.0; said = said }) new result
-    → Obeys t command (record { seat = x; kept = kept_number kept; said = said }) new result
-with_look {t = t} {command} {x} {said = said} {new} {result} is obeys =
-    subst (λ (k : Option LookView). Obeys t command (record { seat = x; kept = kept_number k; said = said }) new
-    result) (sym is) obeys
-
-pub with_none : {B : Type 0} {t : Setup} {command : Command} {x : SeatView} {kept after : Option LookView}
-    {old new : Option (List ℕ)}
-    {result : Result B SessionEnd} → kept ≡ None → after ≡ None
-    → AnswersCommand t None command [] None (codes "bad look\n")
-    → TellsSpeaker (codes "bad look\n") old new result
-    → Obeys t command (record { seat = x; kept = kept_number kept; said = old })
-    (record { seat = x; kept = kept_number after; said = new }) result
-with_none {t = t} {command} {x} {kept} {after} {old} {new} {result} p q answers told =
-    subst (λ (k : Option LookView). Obeys t command (record { seat = x; kept = kept_number k; said = old })
-    (record { seat = x; kept = kept_number after; said = new }) result) (sym p)
-    (subst (λ (k : Option LookView). Obeys t command (record { seat = x; kept = None; said = old })
-    (record { seat = x; kept = kept_number k; said = new }) result) (sym q)
-    (words_said (codes "bad look\n") (any_ok result answers) told))
+-- the look that is kept, if one is
+pub at_look : {N : Type 0} {t : Setup} {command : Command} {x : SeatView} {kept look : Option LookView} {new : Speaker}
+    {result : Result (Answer N) SessionEnd} → kept ≡ look → Obeys t command (speaker x look) new result
+    → Obeys t command (speaker x kept) new result
+at_look {t = t} {command} {x} {new = new} {result} is obeys =
+    subst (λ (k : Option LookView). Obeys t command (speaker x k) new result) (sym is) obeys
 
 pub call_keeps : (kept : Option ℕ) (n : ℕ) (call : Plain) → call ≢ plain.Look → speakers_look_after kept n (asked call) ≡ kept
 call_keeps kept n plain.Look other = absurd (other refl)
@@ -229,6 +161,7 @@ call_keeps kept n (plain.Gift v x) other = refl
 call_keeps kept n (plain.Join u v) other = refl
 call_keeps kept n plain.Claim other = refl
 
-pub at_command : {B : Type 0} {t : Setup} {command other : Command} {old new : Speaker} {result : Result B SessionEnd}
+pub at_command : {N : Type 0} {t : Setup} {command other : Command} {old new : Speaker}
+    {result : Result (Answer N) SessionEnd}
     → command ≡ other → Obeys t other old new result → Obeys t command old new result
 at_command {t = t} {old = old} {new} {result} is obeys = subst (λ c. Obeys t c old new result) (sym is) obeys

@@ -1,11 +1,11 @@
 -- Lines of the seats that they are for.
 --   seat_past     a line that begins with a seat that is too large is for none
---   spoken        a line that its seat hears
+--   spoken, unspoken   a line that its seat hears, and is told the answer, or not
 --   IsLineEnd, ends_by   a line ends a session for what the table, the memory or a thread refused
 --   sizes_kept    a line leaves as many seats, and as many looks
 --   numbers       the numbers of the seats
 --   numbers_said, numbers_left   a line leaves each seat its number
-use Rattle.dg_session.proofs.Common.{◌≡◌, ℕ, zero, suc, ◌+◌, ◌<◌, ◌≤◌, inl, inr, List, [], ◌∷◌, ◌++◌, length, length-set, map, Option, Some, Result, Ok, Err, refl, sym, ap, ◌∙◌, arith, slice_get, ⊤, slice_set, slice_index_or, map-set, Entry, SeatView, Meets, LookView, IsSeated, seated_parts, RefusesLine, Gains, Setup, Speakers, speakers, kept_number, IsFor, IsForNone, Replaces, GoesOn, AnswersLineOf, RefusesLineOf, Hears, Handles, BySeat, SessionEnd, Table, Memory, Spawn}
+use Rattle.dg_session.proofs.Common.{◌≡◌, ℕ, zero, suc, ◌+◌, ◌<◌, ◌≤◌, inl, inr, List, [], ◌∷◌, ◌++◌, length, length-set, map, Option, Some, Result, Ok, Err, refl, sym, ap, subst, ◌∙◌, arith, slice_get, ⊤, slice_set, slice_index_or, map-set, Entry, SeatView, Meets, LookView, IsSeated, seated_parts, RefusesLine, Gains, Setup, Speakers, speakers, kept_number, IsFor, IsForNone, Replaces, GoesOn, AnswersLineOf, RefusesLineOf, Hears, Handles, Answer, TellsSpeaker, answer_entries, answer_text, speaker, BySeat, SessionEnd, Table, Memory, Spawn}
 use Rattle.dg_session.proofs.Coming.{comes_from, met_keeps, gained_met, line_met, line_one, refused_made}
 
 pub seat_past : (n seat : ℕ) (text line : List ℕ) → IsSeated seat text line → (seat ≤ n → ⊥) → IsForNone BySeat n line
@@ -70,46 +70,15 @@ went_on {H} {x = x} {m} {y} xs ys ks ls made meets latest follows gained one = r
   entered = follows m.mine made (ap length meets.mine) gained.mine one;
 }
 
-pub spoken : {B : Type 0} {t : Setup} {line text : List ℕ} {old new : Option (List ℕ)} {result : Result B SessionEnd}
-    (xs : List SeatView) (ks : List (Option LookView)) (i : ℕ) (d m y : SeatView) (e l : Option LookView)
-    (H L : List Entry) (ps qs : List (ℕ × Entry)) → IsFor t.how (length xs) line i text
-    → i < length xs → length ks ≡ length xs → Meets H (slice_index_or xs i d) m → L ≡ y.met
-    → Follows (slice_index_or xs i d) y ps qs
-    → Hears t text (record { seat = m; kept = kept_number (slice_index_or ks i e); said = old })
-    (record { seat = y; kept = kept_number l; said = new }) result
-    → Handles t line (record { who = speakers xs ks H ps; said = old })
-    (record { who = speakers (slice_set xs i y) (slice_set ks i l) L qs; said = new }) result
-spoken {t = t} {text = text} {result = Ok b} xs ks i d m y e l H L ps qs for low size meets latest follows h = record {
-  done = record {
-    text = h.done.text;
-    holds = inr (
-      i,
-      _,
-      for,
-      record {
-        x = slice_index_or xs i d;
-        y = y;
-        kept = kept_number (slice_index_or ks i e);
-        after = kept_number l;
-        seat = seat_turned xs i d y low;
-        look = look_turned ks i e l (omega (arith, low, size));
-        made = h.done.made;
-        answers = h.done.answers;
-        gained = gained_met (met_keeps meets) y h.done.made h.done.gained;
-        goes_on = went_on xs (slice_set xs i y) ks (slice_set ks i l) h.done.made meets latest follows h.done.gained
-            (line_one t _ text h.done.made _ h.done.text h.done.answers);
-      },
-    );
-    said = h.done.said;
-  };
-  refused = tt;
-  unsaid = tt;
-}
-spoken {t = t} {text = text} {result = Err end} xs ks i d m y e l H L ps qs for low size meets latest follows h =
-    let (made, gained, one) = refused_made t (kept_number (slice_index_or ks i e)) text m y end h.refused in
-    record {
-      done = tt;
-      refused = inr (
+module _ {t : Setup} (line text : List ℕ) (xs : List SeatView) (ks : List (Option LookView)) (i : ℕ) (d m y : SeatView)
+    (e l : Option LookView) (H L : List Entry) (ps qs : List (ℕ × Entry)) (for : IsFor t.how (length xs) line i text)
+    (low : i < length xs) (size : length ks ≡ length xs) (meets : Meets H (slice_index_or xs i d) m) (latest : L ≡ y.met)
+    (follows : Follows (slice_index_or xs i d) y ps qs) where
+  line_refused_to : (end : SessionEnd) → RefusesLine t (kept_number (slice_index_or ks i e)) text m y end
+      → RefusesLineOf t (speakers xs ks H ps) line (speakers (slice_set xs i y) (slice_set ks i l) L qs) end
+  line_refused_to end refused =
+      let (made, gained, one) = refused_made t (kept_number (slice_index_or ks i e)) text m y end refused in
+      inr (
         i,
         _,
         for,
@@ -120,14 +89,62 @@ spoken {t = t} {text = text} {result = Err end} xs ks i d m y e l H L ps qs for 
           after = kept_number l;
           seat = seat_turned xs i d y low;
           look = look_turned ks i e l (omega (arith, low, size));
-          refused = line_met (met_keeps meets) t (kept_number (slice_index_or ks i e)) text y end h.refused;
+          refused = line_met (met_keeps meets) t (kept_number (slice_index_or ks i e)) text y end refused;
           made = made;
           gained = gained_met (met_keeps meets) y made gained;
           goes_on = went_on xs (slice_set xs i y) ks (slice_set ks i l) made meets latest follows gained one;
         },
+      )
+
+  pub unspoken : {N B : Type 0} {said : Option (List ℕ)} {end : SessionEnd}
+      → Hears {N = N} t text (speaker m (slice_index_or ks i e)) (speaker y l) (Err end)
+      → Handles {B = B} t line (record { who = speakers xs ks H ps; said = said })
+      (record { who = speakers (slice_set xs i y) (slice_set ks i l) L qs; said = said }) (Err end)
+  unspoken {end = end} h = record { done = tt; refused = line_refused_to end h.refused; unsaid = refl }
+
+  pub spoken : {N B : Type 0} {old new : Option (List ℕ)} {answer : Answer N} {result : Result B SessionEnd}
+      → Hears t text (speaker m (slice_index_or ks i e)) (speaker y l) (Ok answer)
+      → TellsSpeaker (answer_text t.names answer) old new result
+      → Handles t line (record { who = speakers xs ks H ps; said = old })
+      (record { who = speakers (slice_set xs i y) (slice_set ks i l) L qs; said = new }) result
+  spoken {answer = answer} {result = Ok b} h told = record {
+    done = record {
+      text = answer_text t.names answer;
+      holds = inr (
+        i,
+        _,
+        for,
+        record {
+          x = slice_index_or xs i d;
+          y = y;
+          kept = kept_number (slice_index_or ks i e);
+          after = kept_number l;
+          seat = seat_turned xs i d y low;
+          look = look_turned ks i e l (omega (arith, low, size));
+          made = answer_entries answer;
+          answers = h.done.answers;
+          gained = gained_met (met_keeps meets) y (answer_entries answer) h.done.gained;
+          goes_on = went_on xs (slice_set xs i y) ks (slice_set ks i l) (answer_entries answer) meets latest follows
+              h.done.gained
+              (line_one t _ text (answer_entries answer) _ (answer_text t.names answer) h.done.answers);
+        },
       );
-      unsaid = h.unsaid;
-    }
+      said = told;
+    };
+    refused = tt;
+    unsaid = tt;
+  }
+  spoken {answer = answer} {result = Err end} h told = record {
+    done = tt;
+    refused = subst (RefusesLineOf t (speakers xs ks H ps) line (speakers (slice_set xs i y) (slice_set ks i l) L qs))
+        (sym told.0)
+        (line_refused_to Memory (record {
+          more = answer_entries answer;
+          next = inr (kept_number l, answer_text t.names answer, h.done.answers);
+          gained = h.done.gained;
+        }));
+    unsaid = told.1;
+  }
 
 -- a line that is refused ends a session for what the table, the memory or a thread refused
 pub ends_by : (t : Setup) (s z : Speakers) (line : List ℕ) (end : SessionEnd) → RefusesLineOf t s line z end

@@ -11,7 +11,7 @@
 --   session_reads    it ends where a read fails
 --   session_halts    it ends in what was read
 --   session_ends, session_closes   it ends with its input, or at the last line
---   not_read, write_failed   what ended was no read; and where the writer took no more it has failed
+--   not_by           what halts ends by no read and no write
 --   numbers_of       each seat has its number at the end
 --   session_alone    a session of the seat that is alone
 --   one_more         what holds of each seat so far, and of the next
@@ -296,25 +296,10 @@ module _ {t : Setup} {input rest old : Option (List ℕ)} {xs : List SeatView} {
       over_end far text to.who read over answered (grown text done)
       (refl, over, sym all, omega (arith, size, counted, far.goes.counted))
 
--- what ended, where all is written or the writer took no more
-abbrev pub over_by : SessionEnd → Result ℕ SessionEnd
-over_by end = Err end
-
-pub not_read : {B : Type 0} {P : SessionEnd → Type 0} (taken : Result B SessionEnd) (text : List ℕ) (w w' : StreamWriting)
-    (end : SessionEnd) → IfErr taken P → ((e : SessionEnd) → P e → IsHalt e) → IsWritten taken text w w' (Err end)
-    → over_by end ≡ over_by Read → ⊥
-not_read {B} {P} taken text w w' end halted by written is = let same : end ≡ Read = cc in elim written [
-  | inl so ↦ subst IsHalt same (by end (subst (λ r. IfErr r P) so.0 halted))
-  | inr stuck ↦ (let wrong : end ≡ Write = cc in cc)
-]
-
-pub write_failed : {B : Type 0} {P : SessionEnd → Type 0} (taken : Result B SessionEnd) (text : List ℕ) (w w' : StreamWriting)
-    (end : SessionEnd) → IfErr taken P → ((e : SessionEnd) → P e → IsHalt e) → IsWritten taken text w w' (Err end)
-    → over_by end ≡ over_by Write → w'.has_failed ≡ true
-write_failed {B} {P} taken text w w' end halted by written is = let same : end ≡ Write = cc in elim written [
-  | inl so ↦ absurd (subst IsHalt same (by end (subst (λ r. IfErr r P) so.0 halted)))
-  | inr stuck ↦ stuck.2
-]
+-- what halts ends by no read and no write
+pub not_by : {B : Type 0} {P : SessionEnd → Type 0} {taken : Result B SessionEnd} (end : SessionEnd) → IfErr taken P
+    → ((e : SessionEnd) → P e → IsHalt e) → taken ≡ Err end → IsHalt end
+not_by {P = P} end halted by is = by end (subst (λ r. IfErr r P) is halted)
 
 -- each seat has its number at the end
 numbers_answered : (t : Setup) (ls : List (List ℕ)) (s z : Speakers) (text : List ℕ) → Answers t s ls z text

@@ -11,7 +11,7 @@ pub use Rattle.dg_lines.specs.Cuts.{lines}
 pub use Rattle.dg_lines.specs.LineFaults.{IsLineFault, fault_text}
 pub use Rattle.dg_lines.specs.Steps.{IsSeated}
 pub use Rattle.dg_lines.specs.Streams.{Begins, HasNoNewline, LinesHaveCome, last_line, with_newline}
-pub use Rattle.dg_lines.specs.Texts.{entry_text}
+pub use Rattle.dg_lines.specs.Texts.{HasNames, entry_text}
 pub use Rattle.dg_lines.specs.declared.line.LineFault.{LineFault}
 pub use Rattle.dg_lines.specs.declared.line.LineFault.TheVariants.{Seat}
 pub use Rattle.dg_log.specs.Numbered.{IsPrefixOf, StandIn}

@@ -1,14 +1,18 @@
 -- How far a session is, and how it goes on: what each floor, from the bytes that are read down to
 -- one command, promises of its states before and after. No public contract speaks of it.
 --   heard text == what was said, if it is kept: nobody hears the others
---   Speaker    == how far a seat is: the seat, the number of the look that it keeps, if it keeps
---                 one, and what was said, if it is kept
+--   Speaker    == how far a seat is: the seat, and the number of the look that it keeps, if it keeps
+--                 one
+--   answer_entries a, answer_text names a == the entries that the answer says were made, at most
+--                 one, and its line
+--   AnswerHasNames names a == there are names for what it says
 --   Talk       == how far all seats are: who speaks, and what was said
 --   SoFar      == how far the session is: what came after the last newline, how many lines are
 --                 answered, and who speaks
 --   TellsSpeaker words old new result == the words are said; or memory is refused, and nothing is
---   Obeys t command old new result == the speaker's command is done and answered; or the session
---                 ends so at it, and nothing is said
+--   Gives t A old new a == the answer is one that A admits, and the speaker has gained its entries
+--   Obeys t command old new result == the speaker's command is done, and is to be answered so; or the
+--                 session ends so at it
 --   Hears t line old new result    == so is the speaker's line
 --   Handles t line old new result  == so is a line, of the seat that it is for
 --   IsReady at == the session can go on: what is pending may be of a line, and a look may be kept
@@ -32,10 +36,10 @@
 --   AnswersAreCleared old new == it is kept as before, and is nothing now
 --   IsWritten taken text old new result == all that was said is written, and it ends as the taking
 --                 did; or a front of it is, and the writer took no more
-use Rattle.std.specs.Prelude.{◌≡◌, ◌≢◌, ℕ, ◌+◌, ◌<◌, ◌≤◌, ◌⊎◌, List, [], ◌∷◌, ◌++◌, length, true, Option, None, Some, Result, Ok, Err, OnOk, OnErr, IfErr, ⊤}
+use Rattle.std.specs.Prelude.{◌≡◌, ◌≢◌, ℕ, ◌+◌, ◌<◌, ◌≤◌, ◌⊎◌, List, [], ◌∷◌, ◌++◌, length, true, codes, Option, None, Some, Result, Ok, Err, OnOk, OnErr, IfOk, IfErr, ⊤}
 use Rattle.std.specs.Global.{Vec}
 use Rattle.std.specs.Io.KnownBytes.{Appends, append_known}
-use Rattle.dg_session.specs.Common.{Entry, Command, SeatView, LookView, StreamWriting, AppendsFront, Begins, last_line}
+use Rattle.dg_session.specs.Common.{Entry, Command, SeatView, LookView, StreamWriting, AppendsFront, Begins, last_line, entry_text, fault_text, HasNames}
 use Rattle.dg_session.specs.Setup.{Setup}
 use Rattle.dg_session.specs.EntriesSoFar.{EntriesSoFarView}
 use Rattle.dg_session.specs.Streams.{IsLine, AreSessionLines, Passage}
@@ -43,6 +47,8 @@ use Rattle.dg_session.specs.Saying.{Gains, AnswersCommand, AnswersLine}
 use Rattle.dg_session.specs.Refusing.{RefusesCommand, RefusesLine}
 use Rattle.dg_session.specs.Speakers.{Speakers, speakers, newcomers, kept_number, AnswersLineOf, RefusesLineOf}
 use Rattle.dg_session.specs.Ends.{Answers, IsTooLong}
+use Rattle.dg_session.specs.declared.answering.Answer.{Answer}
+use Rattle.dg_session.specs.declared.answering.Answer.TheVariants.{Made, NoLook, TooMany, BadLine}
 use Rattle.dg_session.specs.declared.answering.AnswerBuffer.{AnswerBuffer}
 use Rattle.dg_session.specs.declared.taking.SessionProgress.{SessionProgress}
 use Rattle.dg_session.specs.declared.ends.TheConstants.{MAX_LINE, MAX_LINES}
@@ -56,10 +62,26 @@ heard (Some text) = Some text.items
 pub record Speaker : Type 0 where
   pub seat : SeatView
   pub kept : Option ℕ
-  pub said : Option (List ℕ)
 
-abbrev pub speaker : SeatView → Option LookView → AnswerBuffer → Speaker
-speaker x look said = record { seat = x; kept = kept_number look; said = heard said.text }
+abbrev pub keeping : Option ℕ → SeatView → Speaker
+keeping kept x = record { seat = x; kept = kept }
+
+abbrev pub speaker : SeatView → Option LookView → Speaker
+speaker x look = keeping (kept_number look) x
+
+abbrev pub answer_entries : {N : Type 0} → Answer N → List (ℕ × Entry)
+answer_entries (Made r) = r ∷ []
+answer_entries answer = []
+
+abbrev pub answer_text : {N : Type 0} → List (List ℕ) → Answer N → List ℕ
+answer_text names (Made r) = entry_text names r.0 r.1.reply
+answer_text names NoLook = codes "bad look\n"
+answer_text names TooMany = codes "bad trials\n"
+answer_text names (BadLine fault) = fault_text fault
+
+abbrev pub AnswerHasNames : {N : Type 0} → List (List ℕ) → Answer N → Type 0
+AnswerHasNames names (Made r) = HasNames names r.1.reply
+AnswerHasNames names answer = ⊤
 
 pub record Talk : Type 0 where
   pub who : Speakers
@@ -84,32 +106,28 @@ so_far p xs = record {
 abbrev pub beginning : List SeatView → SoFar
 beginning xs = record { pending = []; count = 0; who = newcomers xs }
 
-pub record IsDone (A : List (ℕ × Entry) → Option ℕ → List ℕ → Type 0)
-    (old new : Speaker) : Type 0 where
-  pub made : List (ℕ × Entry)
-  pub text : List ℕ
-  pub answers : A made new.kept text
-  pub gained : Gains old.seat new.seat made
-  pub said : new.said ≡ append_known old.said text
-
 abbrev pub TellsSpeaker : {B : Type 0} → List ℕ → Option (List ℕ) → Option (List ℕ)
     → Result B SessionEnd → Type 0
 TellsSpeaker words old new (Ok b) = new ≡ append_known old words
 TellsSpeaker words old new (Err end) = (end ≡ Memory) × (new ≡ old)
 
-pub record Obeys {B : Type 0} (t : Setup) (command : Command) (old new : Speaker)
-    (result : Result B SessionEnd) : Type 0 where
-  pub done : OnOk result (IsDone (AnswersCommand t old.kept command) old new)
+pub record Gives {N : Type 0} (t : Setup) (A : List (ℕ × Entry) → Option ℕ → List ℕ → Type 0)
+    (old new : Speaker) (answer : Answer N) : Type 0 where
+  pub answers : A (answer_entries answer) new.kept (answer_text t.names answer)
+  pub gained : Gains old.seat new.seat (answer_entries answer)
+  pub named : AnswerHasNames t.names answer
+
+pub record Obeys {N : Type 0} (t : Setup) (command : Command) (old new : Speaker)
+    (result : Result (Answer N) SessionEnd) : Type 0 where
+  pub done : IfOk result (Gives t (AnswersCommand t old.kept command) old new)
   pub refused : IfErr result
       (RefusesCommand t old.kept command old.seat new.seat)
-  pub unsaid : OnErr result (new.said ≡ old.said)
 
-pub record Hears {B : Type 0} (t : Setup) (line : List ℕ) (old new : Speaker)
-    (result : Result B SessionEnd) : Type 0 where
-  pub done : OnOk result (IsDone (AnswersLine t old.kept line) old new)
+pub record Hears {N : Type 0} (t : Setup) (line : List ℕ) (old new : Speaker)
+    (result : Result (Answer N) SessionEnd) : Type 0 where
+  pub done : IfOk result (Gives t (AnswersLine t old.kept line) old new)
   pub refused : IfErr result
       (RefusesLine t old.kept line old.seat new.seat)
-  pub unsaid : OnErr result (new.said ≡ old.said)
 
 pub record IsAnswered (t : Setup) (line : List ℕ) (old new : Talk) : Type 0 where
   pub text : List ℕ

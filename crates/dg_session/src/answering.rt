@@ -1,15 +1,15 @@
 //! Answering one line of a seat.
-ghost use Rattle.std.specs.Prelude.{◌≡◌, ◌≢◌, length, codes};
+ghost use Rattle.std.specs.Prelude.{◌≡◌, ◌≢◌, ℕ, List, length, Option};
 ghost use Rattle.dg_rank.specs.Ranks.{MayHaveWorkers};
 ghost use Rattle.dg_rules.specs.declared.step.Command.TheVariants.{Call, Commit, Rank};
 ghost use Rattle.dg_lines.specs.Texts.{HasNames, entry_text};
 ghost use Rattle.dg_session.specs.Setup.{setup};
-ghost use Rattle.dg_session.specs.SoFar.{heard, speaker, TellsSpeaker, Hears, Obeys};
+ghost use Rattle.dg_session.specs.SoFar.{answer_text, heard, keeping, speaker, AnswerHasNames, TellsSpeaker, Hears, Obeys};
 
 use crate::ends::SessionEnd;
 use crate::line_format::LineFormat;
 use dg_analyst::{Look, commit_look, commit_rank, commit_stale, look, try_rank_by};
-use dg_lines::{parse_line, push_entry};
+use dg_lines::{LineFault, parse_line, push_entry};
 use dg_log::{Name, Receipt};
 use dg_rank::{RankFault, trials};
 use dg_reduce::InverseLaplacian;
@@ -33,6 +33,19 @@ pub(crate) struct Shared<'a, N: Name, R: Threads + Wait> {
     ghost helped: { MayHaveWorkers workers },
 }
 
+/// What a line is answered with.
+#[derive(Drop)]
+pub(crate) enum Answer<N: Name> {
+    /// The line of the entry that it made.
+    Made(Receipt<N>),
+    /// That its seat keeps no look.
+    NoLook,
+    /// That its rank test is past the limits.
+    TooMany,
+    /// What is wrong with it.
+    BadLine(LineFault),
+}
+
 /// What was said and is not written yet, always whole lines; and what serves to find what is said.
 #[derive(Drop)]
 pub(crate) struct AnswerBuffer {
@@ -45,8 +58,27 @@ pub(crate) struct AnswerBuffer {
 }
 
 impl AnswerBuffer {
+    /// Says an answer. If memory is refused, nothing more is said.
+    pub(crate) fn say<N: Name>(
+        &mut self,
+        table: &Table<N>,
+        names: &Names,
+        answer: &Answer<N>,
+    ) -> Result<(), SessionEnd>
+        requires { AnswerHasNames names.now answer.now }
+        ensures { TellsSpeaker (answer_text names.now answer.now)
+            (heard self.old.text) (heard self.new.text) result }
+    {
+        match answer {
+            Answer::Made(receipt) => self.say_entry(table, names, receipt),
+            Answer::NoLook => self.say_words(b"bad look\n"),
+            Answer::TooMany => self.say_words(b"bad trials\n"),
+            Answer::BadLine(fault) => self.say_words(fault.line().as_bytes()),
+        }
+    }
+
     /// Says the words. If memory is refused, nothing more is said.
-    pub(crate) fn say(&mut self, words: &[u8]) -> Result<(), SessionEnd>
+    fn say_words(&mut self, words: &[u8]) -> Result<(), SessionEnd>
         ensures { TellsSpeaker words.now (heard self.old.text) (heard self.new.text) result }
     {
         let Some(text) = &mut self.text else {
@@ -89,45 +121,45 @@ impl AnswerBuffer {
     }
 }
 
-/// Answers a line of a seat: says what is wrong with it, or carries out its command.
+/// Answers a line of a seat, which keeps a look or none: carries out its command, or finds what is wrong with it.
 #[inline(always)]
 pub(crate) fn answer_seat<N: Name, R: Threads + Wait>(
     shared: &Shared<N, R>,
     kept: &mut Option<Look<N>>,
-    said: &mut AnswerBuffer,
+    inverse: &mut InverseLaplacian,
     seat: &mut Seat<N>,
     line: &[u8],
-) -> Result<(), SessionEnd>
+) -> Result<Answer<N>, SessionEnd>
     ensures { Hears (setup shared.now.how N.table shared.now.names.now shared.now.workers)
-        line.now (speaker seat.old kept.old said.old) (speaker seat.new kept.new said.new) result }
+        line.now (speaker seat.old kept.old) (speaker seat.new kept.new) result }
 {
     match parse_line(line, shared.names) {
-        Ok(command) => obey(shared, kept, said, seat, &command),
-        Err(fault) => said.say(fault.line().as_bytes()),
+        Ok(command) => obey(shared, kept, inverse, seat, &command),
+        Err(fault) => Ok(Answer::BadLine(fault)),
     }
 }
 
-/// Carries out a command, and says the line of its entry, or why there is none.
+/// Carries out a command.
 #[inline(never)]
 fn obey<N: Name, R: Threads + Wait>(
     shared: &Shared<N, R>,
     kept: &mut Option<Look<N>>,
-    said: &mut AnswerBuffer,
+    inverse: &mut InverseLaplacian,
     seat: &mut Seat<N>,
     command: &Command,
-) -> Result<(), SessionEnd>
+) -> Result<Answer<N>, SessionEnd>
     ensures { Obeys (setup shared.now.how N.table shared.now.names.now shared.now.workers)
-        command.now (speaker seat.old kept.old said.old) (speaker seat.new kept.new said.new) result }
+        command.now (speaker seat.old kept.old) (speaker seat.new kept.new) result }
 {
     match command {
         Command::Call(plain) => match plain {
-            Plain::Look => take_look(shared, kept, said, seat),
+            Plain::Look => take_look(shared, kept, seat),
             Plain::Move(_) | Plain::Gift(..) | Plain::Join(..) | Plain::Claim => {
-                call(shared, kept, said, seat, plain)
+                call(shared, seat, plain)
             }
         },
-        Command::Commit => enter_verdict(shared, kept, said, seat),
-        Command::Rank(k) => enter_rank(shared, kept, said, seat, *k),
+        Command::Commit => enter_verdict(shared, kept, inverse, seat),
+        Command::Rank(k) => enter_rank(shared, kept, seat, *k),
     }
 }
 
@@ -135,40 +167,34 @@ fn obey<N: Name, R: Threads + Wait>(
 fn take_look<N: Name, R: Threads + Wait>(
     shared: &Shared<N, R>,
     kept: &mut Option<Look<N>>,
-    said: &mut AnswerBuffer,
     seat: &mut Seat<N>,
-) -> Result<(), SessionEnd>
+) -> Result<Answer<N>, SessionEnd>
     ensures { Obeys (setup shared.now.how N.table shared.now.names.now shared.now.workers)
-        (Call Plain.Look) (speaker seat.old kept.old said.old)
-        (speaker seat.new kept.new said.new) result }
+        (Call Plain.Look) (speaker seat.old kept.old) (speaker seat.new kept.new) result }
 {
     match look(shared.table, shared.rt, shared.alloc, seat) {
-        Ok(look) => match said.say_entry(shared.table, shared.names, look.receipt()) {
-            Ok(()) => {
-                *kept = Some(look);
-                Ok(())
-            }
-            Err(end) => Err(end),
-        },
+        Ok(look) => {
+            let receipt = look.receipt().again();
+            *kept = Some(look);
+            Ok(Answer::Made(receipt))
+        }
         Err(fault) => Err(SessionEnd::Table(fault)),
     }
 }
 
-/// Makes a call other than a look.
+/// Makes a call other than a look, whatever look is kept.
 fn call<N: Name, R: Threads + Wait>(
     shared: &Shared<N, R>,
-    kept: &mut Option<Look<N>>,
-    said: &mut AnswerBuffer,
     seat: &mut Seat<N>,
     plain: &Plain,
-) -> Result<(), SessionEnd>
+) -> Result<Answer<N>, SessionEnd>
     requires { plain.now ≢ Plain.Look }
-    ensures { Obeys (setup shared.now.how N.table shared.now.names.now shared.now.workers)
-        (Call plain.now) (speaker seat.old kept.old said.old) (speaker seat.new kept.new said.new)
-        result }
+    ensures { (kept : Option ℕ) →
+        Obeys (setup shared.now.how N.table shared.now.names.now shared.now.workers)
+        (Call plain.now) (keeping kept seat.old) (keeping kept seat.new) result }
 {
     match shared.table.call(shared.rt, shared.alloc, seat, *plain) {
-        Ok(receipt) => said.say_entry(shared.table, shared.names, &receipt),
+        Ok(receipt) => Ok(Answer::Made(receipt)),
         Err(fault) => Err(SessionEnd::Table(fault)),
     }
 }
@@ -177,58 +203,28 @@ fn call<N: Name, R: Threads + Wait>(
 fn enter_verdict<N: Name, R: Threads + Wait>(
     shared: &Shared<N, R>,
     kept: &mut Option<Look<N>>,
-    said: &mut AnswerBuffer,
+    inverse: &mut InverseLaplacian,
     seat: &mut Seat<N>,
-) -> Result<(), SessionEnd>
+) -> Result<Answer<N>, SessionEnd>
     ensures { Obeys (setup shared.now.how N.table shared.now.names.now shared.now.workers)
-        Commit (speaker seat.old kept.old said.old) (speaker seat.new kept.new said.new) result }
-{
-    if let Some(look) = kept {
-        match commit_stale(
-            shared.table,
-            shared.rt,
-            shared.alloc,
-            seat,
-            look,
-            &Question::Judge,
-        ) {
-            Ok(Some(receipt)) => {
-                *kept = None;
-                return said.say_entry(shared.table, shared.names, &receipt);
-            }
-            Ok(None) => return reckon_verdict(shared, kept, said, seat),
-            Err(fault) => return Err(SessionEnd::Table(fault)),
-        }
-    }
-    reckon_verdict(shared, kept, said, seat)
-}
-
-/// Computes the verdict on the look that is kept, enters it, and uses the look up.
-fn reckon_verdict<N: Name, R: Threads + Wait>(
-    shared: &Shared<N, R>,
-    kept: &mut Option<Look<N>>,
-    said: &mut AnswerBuffer,
-    seat: &mut Seat<N>,
-) -> Result<(), SessionEnd>
-    ensures { Obeys (setup shared.now.how N.table shared.now.names.now shared.now.workers)
-        Commit (speaker seat.old kept.old said.old) (speaker seat.new kept.new said.new) result }
+        Commit (speaker seat.old kept.old) (speaker seat.new kept.new) result }
 {
     let Some(look) = kept else {
-        return said.say(b"bad look\n");
+        return Ok(Answer::NoLook);
     };
-    let _receipt = look.receipt();
-    match commit_look(
-        shared.table,
-        shared.rt,
-        shared.alloc,
-        seat,
-        look,
-        &mut said.inverse,
-    ) {
-        Ok(receipt) => {
+    let (table, rt, alloc) = (shared.table, shared.rt, shared.alloc);
+    match commit_stale(table, rt, alloc, seat, look, &Question::Judge) {
+        Ok(Some(receipt)) => {
             *kept = None;
-            said.say_entry(shared.table, shared.names, &receipt)
+            Ok(Answer::Made(receipt))
         }
+        Ok(None) => match commit_look(table, rt, alloc, seat, look, inverse) {
+            Ok(receipt) => {
+                *kept = None;
+                Ok(Answer::Made(receipt))
+            }
+            Err(fault) => Err(SessionEnd::Table(fault)),
+        },
         Err(fault) => Err(SessionEnd::Table(fault)),
     }
 }
@@ -238,65 +234,54 @@ fn reckon_verdict<N: Name, R: Threads + Wait>(
 fn enter_rank<N: Name, R: Threads + Wait>(
     shared: &Shared<N, R>,
     kept: &mut Option<Look<N>>,
-    said: &mut AnswerBuffer,
     seat: &mut Seat<N>,
     k: u32,
-) -> Result<(), SessionEnd>
+) -> Result<Answer<N>, SessionEnd>
     ensures { Obeys (setup shared.now.how N.table shared.now.names.now shared.now.workers)
-        (Rank k) (speaker seat.old kept.old said.old) (speaker seat.new kept.new said.new) result }
+        (Rank k) (speaker seat.old kept.old) (speaker seat.new kept.new) result }
 {
     if let Some(look) = kept
         && let Some(_) = trials(look.graph().size(), k)
     {
         let _receipt = look.receipt();
-        match commit_stale(
-            shared.table,
-            shared.rt,
-            shared.alloc,
-            seat,
-            look,
-            &Question::Rank(k),
-        ) {
+        let (table, rt, alloc) = (shared.table, shared.rt, shared.alloc);
+        match commit_stale(table, rt, alloc, seat, look, &Question::Rank(k)) {
             Ok(Some(receipt)) => {
                 *kept = None;
-                return said.say_entry(shared.table, shared.names, &receipt);
+                return Ok(Answer::Made(receipt));
             }
-            Ok(None) => return try_kept(shared, kept, said, seat, k),
+            Ok(None) => return try_kept(shared, kept, seat, k),
             Err(fault) => return Err(SessionEnd::Table(fault)),
         }
     }
-    try_kept(shared, kept, said, seat, k)
+    try_kept(shared, kept, seat, k)
 }
 
 /// Tries a rank on the look that is kept, enters the answer, and uses the look up. If there would be too many trials, it stays.
 fn try_kept<N: Name, R: Threads + Wait>(
     shared: &Shared<N, R>,
     kept: &mut Option<Look<N>>,
-    said: &mut AnswerBuffer,
     seat: &mut Seat<N>,
     k: u32,
-) -> Result<(), SessionEnd>
+) -> Result<Answer<N>, SessionEnd>
     ensures { Obeys (setup shared.now.how N.table shared.now.names.now shared.now.workers)
-        (Rank k) (speaker seat.old kept.old said.old) (speaker seat.new kept.new said.new) result }
+        (Rank k) (speaker seat.old kept.old) (speaker seat.new kept.new) result }
 {
     let Some(look) = kept.take() else {
-        return said.say(b"bad look\n");
+        return Ok(Answer::NoLook);
     };
     let _receipt = look.receipt();
     match try_rank_by(shared.rt, look, k, shared.workers) {
         Ok(tried) => match commit_rank(shared.table, shared.rt, shared.alloc, seat, tried) {
-            Ok(receipt) => said.say_entry(shared.table, shared.names, &receipt),
+            Ok(receipt) => Ok(Answer::Made(receipt)),
             Err((_, fault)) => Err(SessionEnd::Table(fault)),
         },
-        Err((look, RankFault::TooMany)) => match said.say(b"bad trials\n") {
-            Ok(()) => {
-                *kept = Some(look);
-                Ok(())
-            }
-            Err(end) => Err(end),
-        },
+        Err((look, RankFault::TooMany)) => {
+            *kept = Some(look);
+            Ok(Answer::TooMany)
+        }
         Err((_, RankFault::Workers)) => unreachable!(),
-        Err((_, RankFault::OutOfMemory)) => Err(SessionEnd::Memory),
+        Err((_, RankFault::OutOfMemory)) => unreachable!(),
         Err((_, RankFault::Spawn)) => Err(SessionEnd::Spawn),
     }
 }

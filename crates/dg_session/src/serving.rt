@@ -183,17 +183,22 @@ fn serve_lines<N: Name, R: Threads + Wait, I: Read, O: Write>(
     }
 }
 
-/// Writes the answers and clears them, if anybody hears them. Then it returns `taken`, or `Write`.
+/// Writes the answers and clears them, if anybody hears them. Then it returns `taken`, which ended by no read and no write, or
+/// `Write`.
 fn write_said<O: Write>(
     writer: &mut Output<O>,
     said: &mut AnswerBuffer,
     taken: Result<(), SessionEnd>,
 ) -> Result<(), SessionEnd>
-    requires { heard said.old.text ≡ None → writer.old.contents ≡ None }
+    requires unknown { heard said.old.text ≡ None → writer.old.contents ≡ None }
+    requires not_read { taken ≢ Err SessionEnd.Read }
+    requires not_written { taken ≢ Err SessionEnd.Write }
     ensures written { (text : List ℕ) → IsSaid (heard said.old.text) text →
         IsWritten taken text writer.old writer.new result }
     ensures cleared { OnOk result (AnswersAreCleared (heard said.old.text) (heard said.new.text)) }
     ensures still { heard said.old.text ≡ None → writer.new ≡ writer.old }
+    ensures read { result ≢ Err SessionEnd.Read }
+    ensures write { result ≡ Err SessionEnd.Write → writer.new.has_failed ≡ true }
 {
     let Some(text) = &mut said.text else {
         return taken;

@@ -3,7 +3,7 @@ ghost use Rattle.std.specs.Prelude.{◌≡◌, ◌≤◌, length};
 ghost use Rattle.dg_session.specs.Setup.{setup};
 ghost use Rattle.dg_session.specs.SoFar.{talk, Handles};
 
-use crate::answering::{AnswerBuffer, Shared, answer_seat};
+use crate::answering::{Answer, AnswerBuffer, Shared, answer_seat};
 use crate::ends::SessionEnd;
 use crate::entries_so_far::EntriesSoFar;
 use crate::line_format::addressed;
@@ -32,12 +32,19 @@ pub(crate) fn answer_line<N: Name, R: Threads + Wait>(
         (talk seats.new kept.new entries_so_far.new said.new) result }
 {
     let Some((place, text)) = addressed(shared.how, seats.len(), line) else {
-        return said.say(LineFault::Seat.line().as_bytes());
+        return said.say(
+            shared.table,
+            shared.names,
+            &Answer::BadLine(LineFault::Seat),
+        );
     };
     let seat = &mut seats[place];
     let calls = seat.calls();
     entries_so_far.tell(seat);
-    let ended = answer_seat(shared, &mut kept[place], said, seat, text);
+    let answered = answer_seat(shared, &mut kept[place], &mut said.inverse, seat, text);
     entries_so_far.follow(seat, calls);
-    ended
+    match answered {
+        Ok(answer) => said.say(shared.table, shared.names, &answer),
+        Err(end) => Err(end),
+    }
 }

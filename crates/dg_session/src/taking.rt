@@ -107,36 +107,7 @@ fn whole_line<'a>(pending: &'a mut Vec<u8>, part: &'a [u8]) -> Result<&'a [u8], 
     }
 }
 
-/// Answers the line that is pending, with the part that ends it.
-#[inline(always)]
-fn answer_pending<N: Name, R: Threads + Wait>(
-    shared: &Shared<N, R>,
-    progress: &mut SessionProgress<N>,
-    seats: &mut [Seat<N>],
-    part: &[u8],
-) -> Result<(), SessionEnd>
-    requires { IsReady (so_far progress.old seats.old) }
-    ensures handled { Handles
-        (setup shared.now.how N.table shared.now.names.now shared.now.workers)
-        (progress.old.pending.items ++ part.now)
-        (talk seats.old progress.old.kept.items progress.old.entries_so_far progress.old.said)
-        (talk seats.new progress.new.kept.items progress.new.entries_so_far progress.new.said) result }
-    ensures count { progress.new.count ≡ progress.old.count }
-{
-    match whole_line(&mut progress.pending, part) {
-        Ok(line) => answer_line(
-            shared,
-            progress.kept.as_mut_slice(),
-            &mut progress.entries_so_far,
-            &mut progress.said,
-            seats,
-            line,
-        ),
-        Err(end) => Err(end),
-    }
-}
-
-/// The same; and the line is then counted, and no longer pending.
+/// Answers the line that is pending, with the part that ends it. The line is then counted, and no longer pending.
 #[inline(always)]
 fn end_line<N: Name, R: Threads + Wait>(
     shared: &Shared<N, R>,
@@ -154,7 +125,18 @@ fn end_line<N: Name, R: Threads + Wait>(
     ensures pending { OnOk result (progress.new.pending.items ≡ []) }
     ensures count { OnOk result (progress.new.count ≡ progress.old.count + 1) }
 {
-    match answer_pending(shared, progress, seats, part) {
+    let line = match whole_line(&mut progress.pending, part) {
+        Ok(line) => line,
+        Err(end) => return Err(end),
+    };
+    match answer_line(
+        shared,
+        progress.kept.as_mut_slice(),
+        &mut progress.entries_so_far,
+        &mut progress.said,
+        seats,
+        line,
+    ) {
         Ok(()) => {
             progress.pending.clear();
             progress.count += 1;

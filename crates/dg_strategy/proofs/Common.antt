@@ -27,7 +27,7 @@ pub use Rattle.dg_log.specs.Tables.{TableData}
 pub use Rattle.dg_strategy.specs.Choices.{BorrowsAtLeast, BorrowsInDebt, Choosing, IsLeastInDebt}
 pub use Rattle.dg_strategy.specs.Greedy.{AllChosenMoves, AreGreedy, EndsSo, EndsTurn, IsGreedyCall, IsGreedyGame, IsGreedyTurn}
 pub use Rattle.dg_strategy.specs.GreedyLaws.{GreedyGameIsOne, IsGreedyChoice, StrategyIsAloneAt, SettlingOutIsGreedy}
-pub use Rattle.dg_strategy.specs.Plays.{AreMoves, Gains, IsClaimed, ChoiceIsMadeOrPastRange, IsChosenMove, IsPlayed, IsPlayedOut, IsSettlerTurn, IsStopped, IsStrategyTurn, IsTurnBy}
+pub use Rattle.dg_strategy.specs.Plays.{AreMoves, Gains, IsClaimed, ChoiceIsMadeOrPastRange, IsChosenMove, IsPlayed, IsPlayedOut, IsSettlerTurn, IsStopped, IsStrategyTurn, IsTurnBy, Plays}
 pub use Rattle.dg_strategy.specs.declared.playing.Ended.{Ended}
 pub use Rattle.dg_strategy.specs.declared.playing.Ended.TheVariants.{Settled, Turns}
 pub use Rattle.dg_table.proofs.Entries.{entries_enumerated, enumerate_from-more, own_alone}
@@ -36,7 +36,7 @@ pub use Rattle.dg_table.specs.Seats.{AreOfTableSeats, Keeps, SeatView, entries_o
 pub use Rattle.dg_rules.specs.Requests.{request_for}
 pub use Rattle.dg_table.specs.declared.fault.Fault.{Fault}
 pub use Rattle.dg_theory.specs.Firing.{IsEffective}
-pub use Rattle.std.proofs.Common.{Bool, List, None, Option, Some, [], ap, append-nil, append_assoc, arith, false, inl, inr, is_some, length, length-append, map, not, refl, rules, subst, sym, take, true, ℕ, ⊎_elim, ◌++◌, ◌+◌, ◌-◌, ◌<◌, ◌∙◌, ◌∷◌, ◌≡◌, ◌≤◌, ◌⊎◌}
+pub use Rattle.std.proofs.Common.{Bool, List, None, Option, Some, [], ap, append-nil, append_assoc, arith, false, inl, inr, is_some, length, length-append, map, not, refl, rules, subst, sym, take, true, ℕ, ⊎_elim, ◌++◌, ◌+◌, ◌-◌, ◌<◌, ◌∙◌, ◌∷◌, ◌≡◌, ◌≤◌, ◌⊎◌, Result, Ok, Err}
 pub use Rattle.std.proofs.Math.IntN.{pos}
 pub use Rattle.std.proofs.Math.Seq.{take-append_seam}
 pub use Rattle.std.proofs.lemmas.Bool.{both_ways, cases_lt}

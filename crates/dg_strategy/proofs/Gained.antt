@@ -6,8 +6,8 @@
 --   claimed_by       a turn that is a claim
 --   stopped_by       a turn that is refused
 --   played_out       turns that were all moves
---   gained_as, played_as, stopped_as   turns that are each of another kind too
-use Rattle.dg_strategy.proofs.Common.{◌≡◌, ℕ, ◌+◌, ◌<◌, List, [], ◌∷◌, ◌++◌, length, length-append, Option, Some, None, append_assoc, append-nil, arith, refl, sym, ap, subst, ◌∙◌, FoldsTo-push, FoldsTo, Move, Entry, Claim, RefusesCall, request_for, SeatView, Keeps, Fault, Choosing, IsTurnBy, IsChosenMove, AreMoves, Gains, IsPlayedOut, IsClaimed, IsPlayed, IsStopped, Ended, Settled, Turns, TableData}
+--   gained_as, plays_as   turns that are each of another kind too
+use Rattle.dg_strategy.proofs.Common.{◌≡◌, ℕ, ◌+◌, ◌<◌, List, [], ◌∷◌, ◌++◌, length, length-append, Option, Some, None, append_assoc, append-nil, arith, refl, sym, ap, subst, ◌∙◌, FoldsTo-push, FoldsTo, Move, Entry, Claim, RefusesCall, request_for, SeatView, Keeps, Fault, Choosing, IsTurnBy, IsChosenMove, AreMoves, Gains, IsPlayedOut, IsClaimed, IsStopped, Plays, Result, Ok, Err, Ended, Settled, Turns, TableData}
 
 -- the seat y is the seat x with the entries es
 pub record Left (x : SeatView) (es : List (ℕ × Entry)) (y : SeatView) : Type 0 where
@@ -114,25 +114,22 @@ module _ (T S : SeatView → ℕ × Entry → SeatView → Type 0)
     told = gained.told;
   }
 
-  pub played_as : {N : Type 0} (n : ℕ) (x y : SeatView) (ended : Ended N) → IsPlayed T n x y ended →
-      IsPlayed S n x y ended
-  played_as n x y (Settled r) played = record {
+  pub plays_as : {N : Type 0} (table : TableData) (n : ℕ) (x y : SeatView) (result : Result (Ended N) Fault) →
+      Plays T table n x y result → Plays S table n x y result
+  plays_as table n x y (Ok (Settled r)) played = record {
     entries = played.entries;
     gained = gained_as x (played.entries ++ r ∷ []) y played.gained;
     moves = played.moves;
     few = played.few;
     claim = played.claim;
   }
-  played_as n x y Turns played = record {
+  plays_as table n x y (Ok Turns) played = record {
     entries = played.entries;
     gained = gained_as x played.entries y played.gained;
     moves = played.moves;
     count = played.count;
   }
-
-  pub stopped_as : (table : TableData) (n : ℕ) (x y : SeatView) (fault : Fault) →
-      IsStopped T table n x y fault → IsStopped S table n x y fault
-  stopped_as table n x y fault stopped = record {
+  plays_as table n x y (Err fault) stopped = record {
     entries = stopped.entries;
     gained = gained_as x stopped.entries y stopped.gained;
     moves = stopped.moves;

@@ -14,8 +14,8 @@
 --   least_settling_out   a greedy game is made
 --   least_turn       a turn of a settler whose choices are greedy is one of the greedy settler
 --   settling_out_is_greedy   a greedy game is made by each such settler
-use Rattle.dg_strategy.proofs.Common.{◌≡◌, ℕ, ◌+◌, ◌<◌, List, [], ◌∷◌, ◌++◌, length, map, Some, Option, None, arith, refl, sym, ap, subst, ◌∙◌, append_assoc, append-nil, FoldsTo, enumerate_from, take-append_seam, slice_get_within, IsEffective, StartData, Move, position_after, IsLegal, Position, Replies, Entry, Request, Claim, Won, legal_none, slice_get-append, slice_get-seam, TableData, SeatView, AreOfTableSeats, entries_of, request_for, enumerate_from-more, entries_enumerated, own_alone, BorrowsAtLeast, Choosing, IsGreedyChoice, IsGreedyCall, AreGreedy, AllChosenMoves, StrategyIsAloneAt, SettlingOutIsGreedy, AreMoves, IsTurnBy, IsSettlerTurn, Gains, Settled, Turns}
-use Rattle.dg_strategy.proofs.Gained.{played_as}
+use Rattle.dg_strategy.proofs.Common.{Ok, ◌≡◌, ℕ, ◌+◌, ◌<◌, List, [], ◌∷◌, ◌++◌, length, map, Some, Option, None, arith, refl, sym, ap, subst, ◌∙◌, append_assoc, append-nil, FoldsTo, enumerate_from, take-append_seam, slice_get_within, IsEffective, StartData, Move, position_after, IsLegal, Position, Replies, Entry, Request, Claim, Won, legal_none, slice_get-append, slice_get-seam, TableData, SeatView, AreOfTableSeats, entries_of, request_for, enumerate_from-more, entries_enumerated, own_alone, BorrowsAtLeast, Choosing, IsGreedyChoice, IsGreedyCall, AreGreedy, AllChosenMoves, StrategyIsAloneAt, SettlingOutIsGreedy, AreMoves, IsTurnBy, IsSettlerTurn, Gains, Settled, Turns}
+use Rattle.dg_strategy.proofs.Gained.{plays_as}
 use Rattle.dg_strategy.proofs.Turned.{claim_won}
 
 abbrev LeastDebtors : Choosing
@@ -191,4 +191,5 @@ least_turn A table greedy x r y settles =
 pub settling_out_is_greedy : (N : Type 0) (A : Choosing) (table : TableData) → SettlingOutIsGreedy N A table
 settling_out_is_greedy N A table n x y ended greedy new played =
     least_settling_out N table n x y ended (λ g d m size least. least) new
-    (played_as (IsSettlerTurn A table) (IsSettlerTurn LeastDebtors table) (least_turn A table greedy) n x y ended played)
+    (plays_as (IsSettlerTurn A table) (IsSettlerTurn LeastDebtors table) (least_turn A table greedy) table n x y (Ok ended)
+    played)

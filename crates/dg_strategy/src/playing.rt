@@ -56,10 +56,7 @@ pub fn play<N: Name, F: Fn(&Graph, &Divisor) -> Option<Move>>(
         N.table turns seat.old seat.new result }
 {
     let _graph = table.start().graph();
-    match turns_by(rt, alloc, table, seat, &strategy.choice, turns) {
-        Ok(ended) => Ok(ended),
-        Err(fault) => Err(fault),
-    }
+    turns_by(rt, alloc, table, seat, &strategy.choice, turns)
 }
 
 /// Plays so many turns as the settler says, or until it claims: each move is a borrowing by a vertex in debt, and the claim is
@@ -81,10 +78,7 @@ pub fn settle_out<N: Name, F: Fn(&Graph, &Divisor) -> Option<Move>>(
         N.table turns seat.old seat.new result }
 {
     let _graph = table.start().graph();
-    match turns_by(rt, alloc, table, seat, &settler.choice, turns) {
-        Ok(ended) => Ok(ended),
-        Err(fault) => Err(fault),
-    }
+    turns_by(rt, alloc, table, seat, &settler.choice, turns)
 }
 
 /// So many turns as the choice says, or until it claims.
@@ -132,13 +126,5 @@ fn turn_by<N: Name, F: Fn(&Graph, &Divisor) -> Option<Move>>(
 fn is_claim_of_strategy(entry: &Entry) -> bool
     ensures { IsTrue result ↔ (entry.now.request ≡ ClaimRequest) }
 {
-    match entry.request {
-        Request::Claim => true,
-        Request::Move(_)
-        | Request::Gift(..)
-        | Request::Join(..)
-        | Request::Look
-        | Request::Judge(_)
-        | Request::Rank(..) => false,
-    }
+    matches!(entry.request, Request::Claim)
 }

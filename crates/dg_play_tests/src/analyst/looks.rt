@@ -2,7 +2,7 @@
 
 use crate::table_tests::{TableTest, on_a_table};
 use crate::tables::triangle;
-use dg_analyst::{Look, commit, commit_look, commit_stale, look, reckon_with_inverse};
+use dg_analyst::{Look, commit, commit_look, commit_stale, look, reckon};
 use dg_log::Name;
 use dg_rules::{Plain, Question, Reply, Request};
 use dg_table::{Seat, Table};
@@ -26,7 +26,7 @@ pub(crate) fn enters_in_less_time<N: Name, R: Wait + Abort>(
     second: &mut Seat<N>,
 ) -> Result<(), Fail> {
     let taken = look(table, rt, alloc, first)?;
-    let reckoned = reckon_with_inverse(taken, table.inverse());
+    let reckoned = reckon(taken);
     let receipt = commit(table, rt, alloc, second, reckoned)
         .ok()
         .ok_or("an entry")?;

@@ -1,5 +1,5 @@
-use Rattle.dg_server.proofs.Common.{rules, sym, subst, AreFresh, IsClosed, IsCloseRefused}
-use Rattle.dg_server.proofs.Serving.{seats_back, served, unclosed}
+use Rattle.dg_server.proofs.Common.{rules, sym, subst, AreFresh, IsClosed, IsCloseRefused, seats_back}
+use Rattle.dg_server.proofs.Serving.{served, unclosed}
 use Rattle.dg_server.proofs.serve.serve_on.Goals as goal
 
 pub returns-in-Ok-ended-clause-done : goal.returns-in-Ok-ended-clause-done

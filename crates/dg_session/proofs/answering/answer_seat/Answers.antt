@@ -5,6 +5,4 @@ pub returns-in-Ok : goal.returns-in-Ok
 returns-in-Ok g c = heard c.in-Ok.ensures.command c.obey.ensures
 
 pub returns-in-Err : goal.returns-in-Err
-returns-in-Err g c =
-    bad_heard c.in-Err.fault c.in-Err.ensures.refused
-    (rw (c.as_bytes.ensures.value, c.line.ensures) at c.say.ensures)
+returns-in-Err g c = bad_heard c.in-Err.fault c.in-Err.ensures.refused

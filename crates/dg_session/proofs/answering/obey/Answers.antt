@@ -1,4 +1,4 @@
-use Rattle.dg_session.proofs.Common.{◌∙◌, ap, Call}
+use Rattle.dg_session.proofs.Common.{◌∙◌, ap, Call, kept_number}
 use Rattle.dg_session.proofs.Made.{at_command}
 use Rattle.dg_session.proofs.answering.obey.Goals as goal
 
@@ -6,4 +6,4 @@ pub returns-in-Look : goal.returns-in-Look
 returns-in-Look g c = at_command (c.in-Call.is ∙ ap Call c.in-Look.is) c.take_look.ensures
 
 pub returns-in-Move : goal.returns-in-Move
-returns-in-Move g c = at_command c.in-Call.is c.call.ensures
+returns-in-Move g c = at_command c.in-Call.is (c.call.ensures (kept_number c.args.kept.now))

@@ -1,5 +1,5 @@
-use Rattle.dg_session.proofs.Common.{◌<◌, ◌∙◌, length, refl, ap, arith, chunk_size, read_chunk, read_nothing, heard}
-use Rattle.dg_session.proofs.Sessions.{so_far_new, so_far_more, session_unsaid, session_reads, session_ends, session_closes, session_halts, written_ok, not_read, write_failed, halts_by, fewer_left}
+use Rattle.dg_session.proofs.Common.{◌<◌, ◌∙◌, length, refl, ap, arith, chunk_size, read_chunk, read_nothing, heard, Read, Write}
+use Rattle.dg_session.proofs.Sessions.{so_far_new, so_far_more, session_unsaid, session_reads, session_ends, session_closes, session_halts, written_ok, not_by, halts_by, fewer_left}
 use Rattle.dg_session.proofs.Spoken.{said_whole, cleared_whole, unheard, silent}
 use Rattle.dg_session.proofs.serving.serve_lines.Goals as goal
 
@@ -47,22 +47,6 @@ returns-in-Err-clause-session g c =
     (said_whole (heard c.args.text) _ c.requires.said c.reads.invariant.1
     c.take_end-taken.ensures.grown))
 
-pub returns-in-Err-clause-read : goal.returns-in-Err-clause-read
-returns-in-Err-clause-read g c e =
-    absurd (not_read c.take_end-taken.result _ c.reads.writer c.write_said.new.writer c.in-Err.end
-    c.take_end-taken.ensures.halted
-    (λ end. halts_by end) (c.in-Err.ensures.written c.take_end-taken.ensures.text
-    (said_whole (heard c.args.text) _ c.requires.said c.reads.invariant.1
-    c.take_end-taken.ensures.grown)) e)
-
-pub returns-in-Err-clause-write : goal.returns-in-Err-clause-write
-returns-in-Err-clause-write g c e =
-    write_failed c.take_end-taken.result _ c.reads.writer c.write_said.new.writer c.in-Err.end
-    c.take_end-taken.ensures.halted
-    (λ end. halts_by end) (c.in-Err.ensures.written c.take_end-taken.ensures.text
-    (said_whole (heard c.args.text) _ c.requires.said c.reads.invariant.1
-    c.take_end-taken.ensures.grown)) e
-
 pub reads-preserved : goal.reads-preserved
 reads-preserved g c =
     let (goes, written) = written_ok c.take_bytes-taken.result _ c.reads.writer c.write_said-in-reads.new.writer
@@ -103,32 +87,29 @@ returns-in-Err-write_said-clause-session g c =
     (said_whole (heard c.args.text) _ c.requires.said c.reads.invariant.1
     c.take_bytes-taken.ensures.grown))
 
-pub returns-in-Err-write_said-clause-read : goal.returns-in-Err-write_said-clause-read
-returns-in-Err-write_said-clause-read g c e =
-    absurd (not_read c.take_bytes-taken.result _ c.reads.writer c.write_said-in-reads.new.writer c.in-Err-write_said.end
-    c.take_bytes-taken.ensures.halted (λ end. halts_by end) (c.in-Err-write_said.ensures.written
-    c.take_bytes-taken.ensures.text
-    (said_whole (heard c.args.text) _ c.requires.said c.reads.invariant.1
-    c.take_bytes-taken.ensures.grown)) e)
-
-pub returns-in-Err-write_said-clause-write : goal.returns-in-Err-write_said-clause-write
-returns-in-Err-write_said-clause-write g c e =
-    write_failed c.take_bytes-taken.result _ c.reads.writer c.write_said-in-reads.new.writer c.in-Err-write_said.end
-    c.take_bytes-taken.ensures.halted (λ end. halts_by end) (c.in-Err-write_said.ensures.written
-    c.take_bytes-taken.ensures.text
-    (said_whole (heard c.args.text) _ c.requires.said c.reads.invariant.1
-    c.take_bytes-taken.ensures.grown)) e
-
 -- a session that nobody hears leaves the writer as it was
-pub write_said-requires : goal.write_said-requires
-write_said-requires g c none =
+pub write_said-requires-clause-unknown : goal.write_said-requires-clause-unknown
+write_said-requires-clause-unknown g c none =
     let silent = unheard (heard c.args.text) _ c.reads.invariant.1 c.take_end-taken.ensures.grown none in
     ap (λ w. w.contents) (c.reads.invariant.2 silent) ∙ c.requires.unknown silent
 
-pub write_said-requires-in-reads : goal.write_said-requires-in-reads
-write_said-requires-in-reads g c none =
+pub write_said-requires-in-reads-clause-unknown : goal.write_said-requires-in-reads-clause-unknown
+write_said-requires-in-reads-clause-unknown g c none =
     let silent = unheard (heard c.args.text) _ c.reads.invariant.1 c.take_bytes-taken.ensures.grown none in
     ap (λ w. w.contents) (c.reads.invariant.2 silent) ∙ c.requires.unknown silent
+
+pub write_said-requires-clause-not_read : goal.write_said-requires-clause-not_read
+write_said-requires-clause-not_read g c = not_by Read c.take_end-taken.ensures.halted (λ end. halts_by end)
+
+pub write_said-requires-clause-not_written : goal.write_said-requires-clause-not_written
+write_said-requires-clause-not_written g c = not_by Write c.take_end-taken.ensures.halted (λ end. halts_by end)
+
+pub write_said-requires-in-reads-clause-not_read : goal.write_said-requires-in-reads-clause-not_read
+write_said-requires-in-reads-clause-not_read g c = not_by Read c.take_bytes-taken.ensures.halted (λ end. halts_by end)
+
+pub write_said-requires-in-reads-clause-not_written : goal.write_said-requires-in-reads-clause-not_written
+write_said-requires-in-reads-clause-not_written g c =
+    not_by Write c.take_bytes-taken.ensures.halted (λ end. halts_by end)
 
 pub returns-in-Ok-write_said-clause-still : goal.returns-in-Ok-write_said-clause-still
 returns-in-Ok-write_said-clause-still g c none =

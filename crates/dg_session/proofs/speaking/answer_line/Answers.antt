@@ -1,9 +1,19 @@
 use Rattle.dg_session.proofs.Common.{sym, ◌∙◌}
-use Rattle.dg_session.proofs.Seated.{spoken}
+use Rattle.dg_session.proofs.Seated.{spoken, unspoken}
 use Rattle.dg_session.proofs.speaking.answer_line.Goals as goal
 
-pub returns : goal.returns
-returns g c =
-    spoken c.args.seats.now c.args.kept.now c.in-Some.place _ _ _ _ _ _ _ _ _ c.in-Some.ensures.one
+pub say-requires-in-Ok : goal.say-requires-in-Ok
+say-requires-in-Ok g c = c.in-Ok.ensures.done.named
+
+pub returns-in-Ok : goal.returns-in-Ok
+returns-in-Ok g c =
+    spoken _ _ c.args.seats.now c.args.kept.now c.in-Some.place _ _ _ _ _ _ _ _ _ c.in-Some.ensures.one
     c.in-Some.ensures.there c.requires.each c.tell.ensures c.follow.ensures.latest (λ before made sized is few.
-    c.follow.ensures.entered before made (sized ∙ sym c.calls-calls.ensures) is few) c.answer_seat-ended.ensures
+    c.follow.ensures.entered before made (sized ∙ sym c.calls-calls.ensures) is few) c.in-Ok.ensures
+    c.say-in-Ok.ensures
+
+pub returns-in-Err : goal.returns-in-Err
+returns-in-Err g c =
+    unspoken _ _ c.args.seats.now c.args.kept.now c.in-Some.place _ _ _ _ _ _ _ _ _ c.in-Some.ensures.one
+    c.in-Some.ensures.there c.requires.each c.tell.ensures c.follow.ensures.latest (λ before made sized is few.
+    c.follow.ensures.entered before made (sized ∙ sym c.calls-calls.ensures) is few) c.in-Err.ensures

@@ -1,6 +1,20 @@
-use Rattle.dg_game.proofs.Common.{◌≡◌, arith, rules, ap, ◌∙◌, Multigraph, Rank, look_fits, look_vertices, vertices_stay}
+use Rattle.dg_game.proofs.Common.{◌≡◌, arith, rules, refl, ap, ◌∙◌, Multigraph, Rank, look_fits, look_vertices, vertices_stay}
 use Rattle.dg_game.proofs.RehearsalLaws.{past_limits}
 use Rattle.dg_game.proofs.schedule.Rehearsal.rank.Goals as goal
+
+pub enter_stale-requires-clause-playing : goal.enter_stale-requires-clause-playing
+enter_stale-requires-clause-playing c =
+    let (o, H, steps, playing) = c.requires.playing in
+    (o, H, steps, playing, c.in-Some.ensures o H steps playing)
+
+pub returns-clause-plays : goal.returns-clause-plays
+returns-clause-plays c = λ o H steps playing there.
+    let keeps = c.in-Some.ensures o H steps playing in
+    let size : c.size.result ≡ o.graph.size =
+    c.size.ensures.size ∙ look_vertices o H _ _ playing.leads keeps.1
+    ∙ ap (λ (g : Multigraph). g.size) playing.leads.graph ∙ vertices_stay o H in
+    c.enter_stale.ensures o H steps (Rank c.args.k) playing keeps there tt (_, rw size at c.in-Some-trials.ensures)
+    (c.in-Some.look.number, keeps.0, refl)
 
 pub rank_look-requires-clause-size : goal.rank_look-requires-clause-size
 rank_look-requires-clause-size c =
@@ -37,8 +51,8 @@ returns-in_default-rank_look-clause-plays c = (
       c.requires.seat kept (rw size at past),
 )
 
-pub returns-clause-plays : goal.returns-clause-plays
-returns-clause-plays c = λ o H steps playing there.
+pub returns-2-clause-plays : goal.returns-2-clause-plays
+returns-2-clause-plays c = λ o H steps playing there.
     let keeps = c.in-Some.ensures o H steps playing in
     let (within, found, asks) = c.in-Ok.ensures in
     let size : c.in-Some.look.graph.size ≡ o.graph.size =

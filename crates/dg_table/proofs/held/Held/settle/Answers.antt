@@ -1,15 +1,12 @@
-use Rattle.dg_table.proofs.Common.{◌<◌, length, rules, slice_get_within, KeepsFinding}
+use Rattle.dg_table.proofs.Common.{rules, slice_get_within, KeepsFinding}
 use Rattle.dg_table.proofs.Findings.{look_stands}
 use Rattle.dg_table.proofs.Steps.{settling_refused, settled}
 use Rattle.dg_table.proofs.held.Held.settle.Goals as goal
 
 pub answer_finding-requires-clause-look : goal.answer_finding-requires-clause-look
 answer_finding-requires-clause-look g c =
-    let H = c.args.self.now.entries in
     let held = rw c.self.view_is at c.self.invariant.0 in
-    let look = look_stands g.N.Name.table.start H c.args.look.now c.args.shown.now held.legal c.requires.look
-    c.in-Ok.ensures.1 in
-    (g.N.Name.table.start, H, held.game', look)
+    (_, _, held.game', look_stands _ _ _ _ held.legal c.requires.look c.in-Ok.ensures.1)
 
 pub answer_finding-requires-clause-found : goal.answer_finding-requires-clause-found
 answer_finding-requires-clause-found g c =
@@ -18,30 +15,21 @@ answer_finding-requires-clause-found g c =
 
 pub enter-requires-clause-replies : goal.enter-requires-clause-replies
 enter-requires-clause-replies g c =
-    let H = c.args.self.now.entries in
     let held = rw c.self.view_is at c.self.invariant.0 in
-    let look = look_stands g.N.Name.table.start H c.args.look.now c.args.shown.now held.legal c.requires.look
-    c.in-Ok.ensures.1 in
-    c.answer_finding.ensures.replies g.N.Name.table.start H held.game' look
+    c.answer_finding.ensures.replies _ _ held.game' (look_stands _ _ _ _ held.legal c.requires.look c.in-Ok.ensures.1)
 
 pub enter-requires-clause-legal : goal.enter-requires-clause-legal
 enter-requires-clause-legal g c =
-    let H = c.args.self.now.entries in
     let held = rw c.self.view_is at c.self.invariant.0 in
-    let look = look_stands g.N.Name.table.start H c.args.look.now c.args.shown.now held.legal c.requires.look
-    c.in-Ok.ensures.1 in
-    c.answer_finding.ensures.legal g.N.Name.table.start H held.game' look held.legal
-    (rw c.number.ensures c.in-Ok.ensures.0.seat)
+    c.answer_finding.ensures.legal _ _ held.game' (look_stands _ _ _ _ held.legal c.requires.look c.in-Ok.ensures.1)
+    held.legal (rw c.number.ensures c.in-Ok.ensures.0.seat)
 
 pub returns-in_err-receipt-clause-refused : goal.returns-in_err-receipt-clause-refused
 returns-in_err-receipt-clause-refused g c =
-    let H = c.args.self.now.entries in
-    let ready = c.in-Ok.ensures.0 in
-    let stands = c.in-Ok.ensures.1 in
-    let read : c.args.look.now.0 < length H = slice_get_within H c.args.look.now.0 c.args.look.now.1 stands in
-    let step = c.in_err-receipt.ensures.refused in
+    let (ready, stands) = c.in-Ok.ensures in
     let refused = settling_refused g.N.Name.table c.args.self.now c.enter.new.self c.args.look.now.0 c.args.seat.now
-    c.in_err-receipt.field-0.0 ready.admissible read step.2 in
+    c.in_err-receipt.field-0.0 ready.admissible (slice_get_within c.args.self.now.entries _ c.args.look.now.1 stands)
+    c.in_err-receipt.ensures.refused.2 in
     search rules
 
 pub returns-clause-settled : goal.returns-clause-settled

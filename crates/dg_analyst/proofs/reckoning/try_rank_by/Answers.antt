@@ -1,5 +1,5 @@
 use Rattle.dg_analyst.proofs.Common.{◌≡◌, refl, ap, LookView}
-use Rattle.dg_analyst.proofs.reckoning.try_rank_alone.Goals as goal
+use Rattle.dg_analyst.proofs.reckoning.try_rank_by.Goals as goal
 
 pub returns-in-Err-clause-tried : goal.returns-in-Err-clause-tried
 returns-in-Err-clause-tried g c =
