@@ -6,11 +6,15 @@
 --   HasFile rows file                == the file is the word for `file`
 --   HasLines rows                    == the flag `--lines` is there
 --   HasOrder rows                    == the flag `--order` is there
+--   HasNumbers rows                  == the flag `--numbers` is there
 --   IsOrdered rows ordered           == the order of burning is asked for exactly if that flag is there
+--   IsInForm rows form               == numbers are asked for exactly if their flag is there
+--   IsInVerdictForm rows form        == the same for verdicts, of which numbers have no order
 --   divisors_of rows                 == the name of the file of amounts, if there is one
 --   LinesAre rows divisors           == there are lines, of one kind: the flag is there exactly if no
 --                                       file of amounts is named
 --   HasOneTable rows                 == there are no lines
+--   IsInWords rows                   == there are no lines, and so no numbers
 --   HasNumber name low high rows n   == the word of that argument is there, and is n, from low to high
 --   HasDegree rows n                 == so many dollars are lost, from 0 to 2^32 - 1
 --   HasWorkers rows n                == so many workers are given, from 1 to 16; or 1, if none are
@@ -18,7 +22,7 @@
 --   AsksRank, AsksGreedy, AsksSweep, AsksServe, AsksParty
 --                                    == the rows have the file and the numbers of the task, and what
 --                                       else it has
---   IsAlone rows                     == there are no lines, and no workers, which share lines
+--   IsAlone rows                     == there are no lines, no numbers and no workers, which share lines
 --   AsksQuestion name rows question  == the command of that name asks this of each line
 --   AsksTask name rows task          == the command of that name asks for the task
 --   AsksFor name rows asked          == the command of that name asks for this
@@ -37,10 +41,14 @@ use Rattle.dg_invocation.specs.declared.invocation.Task.TheVariants.{Rehearse, J
 use Rattle.dg_invocation.specs.declared.limits.TheConstants.{MAX_CAPACITY, MAX_SEATS, MAX_TURNS, MAX_WORKERS}
 use Rattle.dg_invocation.specs.declared.numbered.GreedyTask.{GreedyTask}
 use Rattle.dg_invocation.specs.declared.numbered.RankTask.{RankTask}
+use Rattle.dg_invocation.specs.declared.question.Form.{Form}
 use Rattle.dg_invocation.specs.declared.question.Question.{Question}
 use Rattle.dg_invocation.specs.declared.question.SweepTask.{SweepTask}
+use Rattle.dg_invocation.specs.declared.question.VerdictForm.{VerdictForm}
 use Rattle.dg_invocation.specs.declared.invocation.Invocation.TheVariants as asked
+use Rattle.dg_invocation.specs.declared.question.Form.TheVariants as form
 use Rattle.dg_invocation.specs.declared.question.Question.TheVariants as question
+use Rattle.dg_invocation.specs.declared.question.VerdictForm.TheVariants as verdict
 use Rattle.dg_cli.specs.Commands.{dollar}
 use Rattle.dg_cli.specs.Numbers.{IsNumber, IsGiven, IsGivenOr}
 
@@ -56,8 +64,19 @@ HasLines rows = word_of (codes "lines") rows ≡ Some (codes "true")
 abbrev pub HasOrder : List Row → Type 0
 HasOrder rows = word_of (codes "order") rows ≡ Some (codes "true")
 
+abbrev pub HasNumbers : List Row → Type 0
+HasNumbers rows = word_of (codes "numbers") rows ≡ Some (codes "true")
+
 abbrev pub IsOrdered : List Row → Bool → Type 0
 IsOrdered rows ordered = IsTrue ordered ↔ HasOrder rows
+
+abbrev pub IsInForm : List Row → Form → Type 0
+IsInForm rows form.Words = HasNumbers rows → ⊥
+IsInForm rows form.Numbers = HasNumbers rows
+
+abbrev pub IsInVerdictForm : List Row → VerdictForm → Type 0
+IsInVerdictForm rows (verdict.Words ordered) = (HasNumbers rows → ⊥) × IsOrdered rows ordered
+IsInVerdictForm rows verdict.Numbers = HasNumbers rows × (HasOrder rows → ⊥)
 
 abbrev pub divisors_of : List Row → Option Text
 divisors_of rows = word_of (codes "divisors") rows
@@ -68,6 +87,9 @@ LinesAre rows (Some name) = HasLines rows → ⊥
 
 abbrev pub HasOneTable : List Row → Type 0
 HasOneTable rows = (HasLines rows → ⊥) × (divisors_of rows ≡ None)
+
+abbrev pub IsInWords : List Row → Type 0
+IsInWords rows = HasOneTable rows × (HasNumbers rows → ⊥)
 
 abbrev pub HasFile : List Row → Text → Type 0
 HasFile rows file = word_of (codes "file") rows ≡ Some file
@@ -105,9 +127,11 @@ pub record AsksParty (rows : List Row) (task : PartyTask) : Type 0 where
   pub capacity : HasCapacity rows task.capacity
 
 abbrev pub AsksQuestion : Text → List Row → Question → Type 0
-AsksQuestion name rows (question.Judge ordered) = (name ≡ codes "judge") × IsOrdered rows ordered
-AsksQuestion name rows (question.Rank degree) = (name ≡ codes "rank") × HasDegree rows degree
-AsksQuestion name rows question.RiemannRoch = name ≡ codes "rr"
+AsksQuestion name rows (question.Judge form) =
+    (name ≡ codes "judge") × IsInVerdictForm rows form
+AsksQuestion name rows (question.Rank degree form) =
+    (name ≡ codes "rank") × HasDegree rows degree × IsInForm rows form
+AsksQuestion name rows (question.RiemannRoch form) = (name ≡ codes "rr") × IsInForm rows form
 
 pub record AsksSweep (name : Text) (rows : List Row) (task : SweepTask) : Type 0 where
   pub divisors : option_map (λ name. name.now) task.divisors ≡ divisors_of rows
@@ -117,14 +141,14 @@ pub record AsksSweep (name : Text) (rows : List Row) (task : SweepTask) : Type 0
   pub workers : HasWorkers rows task.workers
 
 abbrev pub IsAlone : List Row → Type 0
-IsAlone rows = HasOneTable rows × (word_of (codes "workers") rows ≡ None)
+IsAlone rows = IsInWords rows × (word_of (codes "workers") rows ≡ None)
 
 abbrev pub AsksTask : Text → List Row → Task → Type 0
 AsksTask name rows (Judge file ordered) =
     (name ≡ codes "judge") × HasFile rows file.now × IsAlone rows × IsOrdered rows ordered
 AsksTask name rows (RiemannRoch file) = (name ≡ codes "rr") × HasFile rows file.now × IsAlone rows
 AsksTask name rows (Rank task) =
-    (name ≡ codes "rank") × AsksRank rows task × HasOneTable rows
+    (name ≡ codes "rank") × AsksRank rows task × IsInWords rows
 AsksTask name rows (Greedy task) = (name ≡ codes "greedy") × AsksGreedy rows task
 AsksTask name rows (Rehearse file steps) =
     (name ≡ codes "rehearse") × HasFile rows file.now

@@ -34,16 +34,16 @@ command name arguments = record (new_shape name) { rules = arguments }
 abbrev pub judge : Shape
 judge = command (codes "judge")
     (word (codes "file") ∷ flag (codes "lines") ∷ option (codes "divisors") ∷ flag (codes "order")
-    ∷ option (codes "workers") ∷ [])
+    ∷ flag (codes "numbers") ∷ option (codes "workers") ∷ [])
 
 abbrev pub rank : Shape
 rank = command (codes "rank")
-    (word (codes "file") ∷ flag (codes "lines") ∷ option (codes "divisors")
+    (word (codes "file") ∷ flag (codes "lines") ∷ option (codes "divisors") ∷ flag (codes "numbers")
     ∷ word (codes "degree") ∷ option (codes "workers") ∷ [])
 
 abbrev pub riemann_roch : Shape
 riemann_roch = command (codes "rr")
-    (word (codes "file") ∷ flag (codes "lines") ∷ option (codes "divisors")
+    (word (codes "file") ∷ flag (codes "lines") ∷ option (codes "divisors") ∷ flag (codes "numbers")
     ∷ option (codes "workers") ∷ [])
 
 abbrev pub greedy : Shape

@@ -4,7 +4,8 @@ ghost use Rattle.dg_cli.specs.Building.{IsArgument, rule_by, rule_for};
 
 use crate::help_texts::{
     CAPACITY_HELP, DEGREE_HELP, DIVISORS_HELP, FILE_HELP, LINE_WORKERS_HELP, LINES_HELP,
-    ORDER_HELP, RANK_WORKERS_HELP, SCRIPT_HELP, SEATS_HELP, STEPS_HELP, TURNS_HELP, WORKERS_HELP,
+    NUMBERS_HELP, ORDER_HELP, RANK_WORKERS_HELP, SCRIPT_HELP, SEATS_HELP, STEPS_HELP, TURNS_HELP,
+    WORKERS_HELP,
 };
 use clap::{Arg, ArgAction};
 use std::alloc::Global;
@@ -28,6 +29,8 @@ pub(crate) enum Argument {
     Divisors,
     /// Whether the order in which the vertices burn is printed.
     Order,
+    /// Whether answers are bare numbers.
+    Numbers,
     /// How many seats lines name.
     Seats,
     /// How many entries there may be.
@@ -84,6 +87,7 @@ impl Argument {
             Argument::Lines => "lines",
             Argument::Divisors => "divisors",
             Argument::Order => "order",
+            Argument::Numbers => "numbers",
             Argument::Seats => "seats",
             Argument::Capacity => "cap",
             Argument::Workers | Argument::RankWorkers | Argument::LineWorkers => "workers",
@@ -97,7 +101,7 @@ impl Argument {
         match self {
             Argument::File | Argument::Steps | Argument::Degree | Argument::Turns => Form::Word,
             Argument::Scripts => Form::Words,
-            Argument::Lines | Argument::Order => Form::Flag,
+            Argument::Lines | Argument::Order | Argument::Numbers => Form::Flag,
             Argument::Divisors
             | Argument::Seats
             | Argument::Capacity
@@ -115,7 +119,7 @@ impl Argument {
             Argument::Scripts => "SCRIPT",
             Argument::Degree => "K",
             Argument::Turns => "TURNS",
-            Argument::Lines | Argument::Order => "",
+            Argument::Lines | Argument::Order | Argument::Numbers => "",
             Argument::Divisors => "LINES",
             Argument::Seats
             | Argument::Capacity
@@ -136,6 +140,7 @@ impl Argument {
             Argument::Lines => LINES_HELP,
             Argument::Divisors => DIVISORS_HELP,
             Argument::Order => ORDER_HELP,
+            Argument::Numbers => NUMBERS_HELP,
             Argument::Seats => SEATS_HELP,
             Argument::Capacity => CAPACITY_HELP,
             Argument::Workers => WORKERS_HELP,

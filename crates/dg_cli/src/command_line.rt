@@ -97,7 +97,7 @@ fn kind_for(refusal: &Refusal<'_>) -> ErrorKind
         Refusal::Memory => ErrorKind::OutOfMemory,
         Refusal::Command => ErrorKind::MissingSubcommand,
         Refusal::Lines => ErrorKind::MissingRequiredArgument,
-        Refusal::Both => ErrorKind::ArgumentConflict,
+        Refusal::Both | Refusal::OrderedNumbers => ErrorKind::ArgumentConflict,
         Refusal::Number(..) => ErrorKind::ValueValidation,
     }
 }

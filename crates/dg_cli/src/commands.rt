@@ -159,6 +159,7 @@ const JUDGE_ARGUMENTS: &[Argument] = &[
     Argument::Lines,
     Argument::Divisors,
     Argument::Order,
+    Argument::Numbers,
     Argument::LineWorkers,
 ];
 
@@ -166,6 +167,7 @@ const LINES_ARGUMENTS: &[Argument] = &[
     Argument::File,
     Argument::Lines,
     Argument::Divisors,
+    Argument::Numbers,
     Argument::LineWorkers,
 ];
 
@@ -173,6 +175,7 @@ const RANK_ARGUMENTS: &[Argument] = &[
     Argument::File,
     Argument::Lines,
     Argument::Divisors,
+    Argument::Numbers,
     Argument::Degree,
     Argument::RankWorkers,
 ];

@@ -40,6 +40,8 @@ pub(crate) const DIVISORS_HELP: &str = "Each line of LINES has amounts for the t
 
 pub(crate) const ORDER_HELP: &str = "Verdicts end with the order in which vertices burn";
 
+pub(crate) const NUMBERS_HELP: &str = "Answers to lines are columns of bare numbers";
+
 pub(crate) const CAPACITY_HELP: &str = "How many entries there may be, 1 to 65536; default 65536";
 
 pub(crate) const MORE: &str =
@@ -130,6 +132,14 @@ with these amounts, or with the fault that they would have in a table file:
 The faults in their order are `shape of amounts` if a word is not a whole
 number, `number of amounts`, and `amount of vertex v`, the first out of range,
 from 0.
+
+With --numbers, an answer is 1 or 0 for winnable or not, the script, and the
+dollars after that. A refused line keeps its words:
+
+    $ dollar judge triangle.json --divisors amounts.txt --numbers
+    1 0 -1 -1 0 0 0
+    1 0 -1 -1 2 0 0
+    refused number of amounts
 ";
 
 pub(crate) const RANK_MORE: &str = "\
@@ -184,6 +194,15 @@ with these amounts, or with the fault that they would have in a table file:
 The faults in their order are `shape of amounts` if a word is not a whole
 number, `number of amounts`, and `amount of vertex v`, the first out of range,
 from 0.
+
+With --numbers, an answer is 1 or 0 for the rank being at least K or not, and
+the first loss, with NA at each vertex if there is none. A refused line keeps
+its words:
+
+    $ dollar rank triangle.json 1 --divisors amounts.txt --numbers
+    0 0 0 1
+    1 NA NA NA
+    refused number of amounts
 ";
 
 pub(crate) const RIEMANN_ROCH_MORE: &str = "\
@@ -241,6 +260,14 @@ with these amounts, or with the fault that they would have in a table file:
 The faults in their order are `shape of amounts` if a word is not a whole
 number, `number of amounts`, and `amount of vertex v`, the first out of range,
 from 0.
+
+With --numbers, an answer has the four numbers alone, with NA for `?`. A refused
+line keeps its words:
+
+    $ dollar rr triangle.json --divisors amounts.txt --numbers
+    0 1 0 0
+    2 1 1 -1
+    refused number of amounts
 ";
 
 pub(crate) const GREEDY_MORE: &str = "\

@@ -13,9 +13,11 @@ ghost use Rattle.dg_cli.specs.Asks.{
   AsksSweep,
   AsksTask,
   HasLines,
+  HasNumbers,
   HasOrder,
   HasOneTable,
-  IsAlone,
+  IsInForm,
+  IsInVerdictForm,
   word_of,
   words_of,
   HasNumber,
@@ -25,8 +27,8 @@ ghost use Rattle.dg_cli.specs.Telling.{TellsCommand, least, most, name_of, rows_
 
 use clap::ArgMatches;
 use dg_invocation::{
-    ArgsFault, GreedyTask, Invocation, MAX_CAPACITY, MAX_SEATS, MAX_TURNS, MAX_WORKERS, PartyTask,
-    Question, RankTask, ServeTask, SweepTask, Task,
+    ArgsFault, Form, GreedyTask, Invocation, MAX_CAPACITY, MAX_SEATS, MAX_TURNS, MAX_WORKERS,
+    PartyTask, Question, RankTask, ServeTask, SweepTask, Task, VerdictForm,
 };
 use dg_tokens::natural;
 use std::alloc::Global;
@@ -111,12 +113,15 @@ pub(crate) enum Refusal<'a> {
     /// The word is no number of the argument.
     #[error("invalid value '{1}' for {0}")]
     Number(NumberArgument, &'a str),
-    /// There are workers, but no lines.
+    /// There are workers or numbers, but no lines.
     #[error("the following required arguments were not provided:\n  --lines")]
     Lines,
     /// Lines are both tables and amounts.
     #[error("the argument '--lines' cannot be used with '--divisors <LINES>'")]
     Both,
+    /// Numbers have no order of burning.
+    #[error("the argument '--order' cannot be used with '--numbers'")]
+    OrderedNumbers,
 }
 
 /// What the words ask for, by the command that they name.
@@ -210,21 +215,52 @@ fn question_in<'a>(name: &str, inner: &ArgMatches<'a>) -> Result<Question, Refus
     ensures { TellsCommand (AsksQuestion name.now (rows_in inner.now)) result }
 {
     match name {
-        "judge" => Ok(Question::Judge {
-            ordered: has_order(inner),
-        }),
-        "rank" => Ok(Question::Rank(number_in(inner, NumberArgument::Degree)?)),
-        "rr" => Ok(Question::RiemannRoch),
+        "judge" => Ok(Question::Judge(verdict_form_in(inner)?)),
+        "rank" => {
+            let degree = number_in(inner, NumberArgument::Degree)?;
+            Ok(Question::Rank(degree, form_in(inner)))
+        }
+        "rr" => Ok(Question::RiemannRoch(form_in(inner))),
         _ => Err(Refusal::Command),
     }
 }
 
+/// How verdicts are printed.
+///
+/// Refused if both numbers and the order of burning are asked for.
+fn verdict_form_in<'a>(inner: &ArgMatches<'a>) -> Result<VerdictForm, Refusal<'a>>
+    ensures { TellsCommand (IsInVerdictForm (rows_in inner.now)) result }
+{
+    let ordered = has_order(inner);
+    match form_in(inner) {
+        Form::Words => Ok(VerdictForm::Words { ordered }),
+        Form::Numbers if ordered => Err(Refusal::OrderedNumbers),
+        Form::Numbers => Ok(VerdictForm::Numbers),
+    }
+}
+
+/// How other answers are printed.
+fn form_in(inner: &ArgMatches<'_>) -> Form
+    ensures { IsInForm (rows_in inner.now) result }
+{
+    if has_numbers(inner) {
+        Form::Numbers
+    } else {
+        Form::Words
+    }
+}
+
 /// The task of a command that may have lines, if it has none.
+///
+/// Refused if there are numbers, which are for lines.
 fn task_in<'a>(name: &str, inner: &ArgMatches<'a>) -> Result<Task<'a>, Refusal<'a>>
     requires lines { HasOneTable (rows_in inner.now) }
     requires others { (name.now ≢ codes "greedy") × (name.now ≢ codes "rehearse") }
     ensures { TellsCommand (AsksTask name.now (rows_in inner.now)) result }
 {
+    if has_numbers(inner) {
+        return Err(Refusal::Lines);
+    }
     match name {
         "judge" => Ok(Task::Judge {
             file: file_alone_in(inner)?,
@@ -298,6 +334,13 @@ fn has_order(inner: &ArgMatches<'_>) -> bool
     ensures { IsTrue result ↔ HasOrder (rows_in inner.now) }
 {
     matches!(text_in(inner, "order"), Some("true"))
+}
+
+/// Whether the flag for bare numbers is there.
+fn has_numbers(inner: &ArgMatches<'_>) -> bool
+    ensures { IsTrue result ↔ HasNumbers (rows_in inner.now) }
+{
+    matches!(text_in(inner, "numbers"), Some("true"))
 }
 
 /// The name of the file of amounts, if there is one.

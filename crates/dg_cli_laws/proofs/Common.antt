@@ -12,16 +12,18 @@ pub use Rattle.clap.specs.declared.builder.action.ArgAction.{ArgAction}
 pub use Rattle.clap.specs.declared.builder.action.ArgAction.TheVariants.{Append, Count, Help, HelpLong, HelpShort, Set, SetFalse, SetTrue, Version}
 pub use Rattle.clap.specs.declared.builder.value_parser.ValueParser.{ValueParser}
 pub use Rattle.clap.specs.declared.error.kind.ErrorKind.{ErrorKind}
-pub use Rattle.dg_cli.specs.Asks.{Asks, AsksFor, AsksQuestion, CallsForHelp, HasOneTable, IsOrdered, LinesAre, divisors_of, word_of, words_of}
+pub use Rattle.dg_cli.specs.Asks.{Asks, AsksFor, AsksQuestion, CallsForHelp, HasOneTable, IsInForm, IsInVerdictForm, IsOrdered, LinesAre, divisors_of, word_of, words_of}
 pub use Rattle.dg_cli.specs.Numbers.{IsGiven, IsGivenOr, IsNumber}
 pub use Rattle.dg_cli.specs.Refusals.{HasFault, Refuses}
-pub use Rattle.dg_cli_laws.specs.OneMeaning.{CommandLinesHaveOneMeaning, lines_words, order_words, question_words, seats_words, written}
+pub use Rattle.dg_cli_laws.specs.OneMeaning.{CommandLinesHaveOneMeaning, form_words, lines_words, order_words, question_words, seats_words, verdict_words, written}
 pub use Rattle.dg_invocation.specs.declared.invocation.Invocation.{Invocation}
 pub use Rattle.dg_invocation.specs.declared.limits.TheConstants.{MAX_CAPACITY}
 pub use Rattle.dg_invocation.specs.declared.args_fault.ArgsFault.{ArgsFault}
 pub use Rattle.dg_invocation.specs.declared.args_fault.ArgsFault.TheVariants.{CommandLine, NotText, OutOfMemory}
+pub use Rattle.dg_invocation.specs.declared.question.Form.{Form}
 pub use Rattle.dg_invocation.specs.declared.question.Question.{Question}
 pub use Rattle.dg_invocation.specs.declared.question.Question.TheVariants.{Judge, Rank, RiemannRoch}
+pub use Rattle.dg_invocation.specs.declared.question.VerdictForm.{VerdictForm}
 pub use Rattle.std.proofs.Common.{Bool, IsSomeAnd, List, None, Option, Some, [], ap, codes, cond, decimal, false, inl, inr, length, map, not, refl, subst, suc, sym, true, true≢false, zero, ℕ, ◌&&◌, ◌*◌, ◌++◌, ◌+◌, ◌∙◌, ◌∷◌, ◌≡◌, ◌⊎◌}
 pub use Rattle.std.proofs.lemmas.Slice.Eq.{bytes_eq-Decides}
 pub use Rattle.std.specs.Option.{option_map_or}

@@ -1,11 +1,13 @@
 -- Two things that the rows of one command ask for are written alike: each as the rows tell.
 --   told name rows     == the words that the rows of the command of that name tell
 --   asks-told          what is asked for is written as the rows tell
-use Rattle.dg_cli_laws.proofs.Common.{◌≡◌, ◌∙◌, ◌+◌, ◌*◌, ℕ, Bool, true, false, cond, List, [], ◌∷◌, ◌++◌, Option, None, Some, IsSomeAnd, true≢false, codes, decimal, map, refl, sym, ap, slice_index, unwrap_or, is_some, option_map_or, bytes_eq, bytes_eq-Decides, Invocation, Question, Judge, Rank, RiemannRoch, MAX_CAPACITY, IsGiven, IsGivenOr, IsNumber, AsksFor, AsksQuestion, HasOneTable, IsOrdered, LinesAre, divisors_of, word_of, words_of, lines_words, order_words, question_words, seats_words, written}
+use Rattle.dg_cli_laws.proofs.Common.{◌≡◌, ◌∙◌, ◌+◌, ◌*◌, ℕ, Bool, true, false, cond, List, [], ◌∷◌, ◌++◌, Option, None, Some, IsSomeAnd, true≢false, codes, decimal, map, refl, sym, ap, slice_index, unwrap_or, is_some, option_map_or, bytes_eq, bytes_eq-Decides, Form, VerdictForm, Invocation, Question, Judge, Rank, RiemannRoch, MAX_CAPACITY, IsGiven, IsGivenOr, IsNumber, AsksFor, AsksQuestion, HasOneTable, IsInForm, IsInVerdictForm, IsOrdered, LinesAre, divisors_of, word_of, words_of, form_words, lines_words, order_words, question_words, verdict_words, seats_words, written}
 use Rattle.std.proofs.Common.{◌==◌}
 use Rattle.clap.specs.Words.{Row, Text}
 use Rattle.dg_invocation.specs.declared.invocation.Invocation.TheVariants as asked
 use Rattle.dg_invocation.specs.declared.invocation.Task.TheVariants as task
+use Rattle.dg_invocation.specs.declared.question.Form.TheVariants as form
+use Rattle.dg_invocation.specs.declared.question.VerdictForm.TheVariants as verdict
 
 -- whether the word of a flag is that it is set
 abbrev is_set : Option Text → Bool
@@ -31,10 +33,16 @@ key name = slice_index name 0 * 256 + slice_index name 1
 abbrev order_told : List Row → List Text
 order_told rows = order_words (is_set (word_of (codes "order") rows))
 
+abbrev form_told : List Row → List Text
+form_told rows = cond (is_set (word_of (codes "numbers") rows)) (codes "--numbers" ∷ []) []
+
+abbrev verdict_told : List Row → List Text
+verdict_told rows = cond (is_set (word_of (codes "numbers") rows)) (codes "--numbers" ∷ []) (order_told rows)
+
 abbrev question_told : ℕ → List Row → List Text
 question_told n rows =
-    cond (n == 27253) (codes "judge" ∷ order_told rows)
-    (cond (n == 29281) (codes "rank" ∷ the (codes "degree") rows ∷ []) (codes "rr" ∷ []))
+    cond (n == 27253) (codes "judge" ∷ verdict_told rows)
+    (cond (n == 29281) (codes "rank" ∷ the (codes "degree") rows ∷ form_told rows) (codes "rr" ∷ form_told rows))
 
 abbrev sweep_told : ℕ → List Row → List Text
 sweep_told n rows =
@@ -121,6 +129,20 @@ an-order rows true h = ap order_words (sym (set (word_of (codes "order") rows) (
 an-order rows false h =
     ap order_words (sym (not-set (word_of (codes "order") rows) (λ is. true≢false (sym (h.1 is)))))
 
+a-form : (rows : List Row) (form : Form) → IsInForm rows form → form_words form ≡ form_told rows
+a-form rows form.Words h =
+    ap (λ (b : Bool). cond b (codes "--numbers" ∷ []) []) (sym (not-set (word_of (codes "numbers") rows) h))
+a-form rows form.Numbers h =
+    ap (λ (b : Bool). cond b (codes "--numbers" ∷ []) []) (sym (set (word_of (codes "numbers") rows) h))
+
+a-verdict-form : (rows : List Row) (form : VerdictForm) → IsInVerdictForm rows form → verdict_words form ≡ verdict_told rows
+a-verdict-form rows (verdict.Words ordered) h =
+    an-order rows ordered h.1
+    ∙ ap (λ (b : Bool). cond b (codes "--numbers" ∷ []) (order_told rows))
+    (sym (not-set (word_of (codes "numbers") rows) h.0))
+a-verdict-form rows verdict.Numbers h =
+    ap (λ (b : Bool). cond b (codes "--numbers" ∷ []) (order_told rows)) (sym (set (word_of (codes "numbers") rows) h.0))
+
 by-table : (n : ℕ) (name : Text) (rows : List Row) → key name ≡ n → of_lines n ≡ true → HasOneTable rows
     → table_told n rows ≡ told name rows
 by-table n name rows is lined alone =
@@ -142,17 +164,24 @@ by-other n name rows is lined =
 
 a-question : (name : Text) (rows : List Row) (question : Question) → AsksQuestion name rows question
     → (n : ℕ) × (key name ≡ n) × (of_lines n ≡ true) × (question_words question ≡ question_told n rows)
-a-question name rows (Judge ordered) h =
-    (27253, ap key h.0, refl, ap (λ (ws : List Text). codes "judge" ∷ ws) (an-order rows ordered h.1))
-a-question name rows (Rank k) h =
-    (29281, ap key h.0, refl, ap (λ (t : Text). codes "rank" ∷ t ∷ []) (a-number _ _ k (word_of (codes "degree") rows) h.1))
-a-question name rows RiemannRoch h = (29298, ap key h, refl, refl)
+a-question name rows (Judge form) h =
+    (27253, ap key h.0, refl, ap (λ (ws : List Text). codes "judge" ∷ ws) (a-verdict-form rows form h.1))
+a-question name rows (Rank k form) h = (
+  29281,
+  ap key h.0,
+  refl,
+  ap (λ (t : Text). codes "rank" ∷ t ∷ form_words form)
+      (a-number _ _ k (word_of (codes "degree") rows) h.1)
+      ∙ ap (λ (ws : List Text). codes "rank" ∷ the (codes "degree") rows ∷ ws) (a-form rows form h.2),
+)
+a-question name rows (RiemannRoch form) h =
+    (29298, ap key h.0, refl, ap (λ (ws : List Text). codes "rr" ∷ ws) (a-form rows form h.1))
 
 pub asks-told : (name : Text) (rows : List Row) (it : Invocation) → AsksFor name rows it → written it ≡ told name rows
 asks-told name rows (asked.Task (task.Judge file ordered)) h =
     ap (λ (t : Text). codes "judge" ∷ t ∷ order_words ordered) (a-word (codes "file") rows file.now h.1)
     ∙ ap (λ (ws : List Text). codes "judge" ∷ the (codes "file") rows ∷ ws) (an-order rows ordered h.3)
-    ∙ by-table 27253 name rows (ap key h.0) refl h.2.0
+    ∙ by-table 27253 name rows (ap key h.0) refl h.2.0.0
 asks-told name rows (asked.Task (task.Rank test)) h =
     ap (λ (t : Text). codes "rank" ∷ t ∷ decimal test.degree ∷ decimal test.workers ∷ [])
     (a-word (codes "file") rows test.file.now h.1.file)
@@ -160,10 +189,10 @@ asks-told name rows (asked.Task (task.Rank test)) h =
     (a-number _ _ test.degree (word_of (codes "degree") rows) h.1.degree)
     ∙ ap (λ (t : Text). codes "rank" ∷ the (codes "file") rows ∷ the (codes "degree") rows ∷ t ∷ [])
     (a-default _ _ _ test.workers (word_of (codes "workers") rows) h.1.workers)
-    ∙ by-table 29281 name rows (ap key h.0) refl h.2
+    ∙ by-table 29281 name rows (ap key h.0) refl h.2.0
 asks-told name rows (asked.Task (task.RiemannRoch file)) h =
     ap (λ (t : Text). codes "rr" ∷ t ∷ []) (a-word (codes "file") rows file.now h.1)
-    ∙ by-table 29298 name rows (ap key h.0) refl h.2.0
+    ∙ by-table 29298 name rows (ap key h.0) refl h.2.0.0
 asks-told name rows (asked.Task (task.Greedy play)) h =
     ap (λ (t : Text). codes "greedy" ∷ t ∷ decimal play.turns ∷ []) (a-word (codes "file") rows play.file.now h.1.file)
     ∙ ap (λ (t : Text). codes "greedy" ∷ the (codes "file") rows ∷ t ∷ [])

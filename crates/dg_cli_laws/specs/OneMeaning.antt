@@ -1,6 +1,8 @@
 -- A command line means one thing.
 --   lines_words divisors == the flag for lines, or the option with the file of amounts
 --   order_words ordered  == the flag for the order of burning, if it is asked for
+--   form_words form      == the flag for numbers, if they are asked for
+--   verdict_words form   == the same, or else the flag for the order of burning
 --   question_words question == the command that asks this of each line
 --   written asked        == the words that say what is asked for: the command, the files and the
 --                           numbers, also those that nobody gave. The text of a help is left out
@@ -14,6 +16,10 @@ use Rattle.dg_cli.specs.Refusals.{Refuses}
 use Rattle.dg_invocation.specs.declared.invocation.Invocation.{Invocation}
 use Rattle.dg_invocation.specs.declared.args_fault.ArgsFault.{ArgsFault}
 use Rattle.dg_invocation.specs.declared.args_fault.ArgsFault.TheVariants.{OutOfMemory}
+use Rattle.dg_invocation.specs.declared.question.Form.{Form}
+use Rattle.dg_invocation.specs.declared.question.Form.TheVariants as form
+use Rattle.dg_invocation.specs.declared.question.VerdictForm.{VerdictForm}
+use Rattle.dg_invocation.specs.declared.question.VerdictForm.TheVariants as verdict
 use Rattle.dg_invocation.specs.declared.question.Question.{Question}
 use Rattle.dg_invocation.specs.declared.question.Question.TheVariants.{Judge, Rank, RiemannRoch}
 use Rattle.dg_invocation.specs.declared.invocation.Invocation.TheVariants as asked
@@ -27,10 +33,18 @@ abbrev pub order_words : Bool → List Text
 order_words true = codes "--order" ∷ []
 order_words false = []
 
+abbrev pub form_words : Form → List Text
+form_words form.Words = []
+form_words form.Numbers = codes "--numbers" ∷ []
+
+abbrev pub verdict_words : VerdictForm → List Text
+verdict_words (verdict.Words ordered) = order_words ordered
+verdict_words verdict.Numbers = codes "--numbers" ∷ []
+
 abbrev pub question_words : Question → List Text
-question_words (Judge ordered) = codes "judge" ∷ order_words ordered
-question_words (Rank k) = codes "rank" ∷ decimal k ∷ []
-question_words RiemannRoch = codes "rr" ∷ []
+question_words (Judge form) = codes "judge" ∷ verdict_words form
+question_words (Rank k form) = codes "rank" ∷ decimal k ∷ form_words form
+question_words (RiemannRoch form) = codes "rr" ∷ form_words form
 
 abbrev pub seats_words : Option ℕ → List Text
 seats_words None = []

@@ -14,6 +14,7 @@ pub mod Decimals
 pub mod SeatDigits
 pub mod Schedule
 pub mod Pairs
+pub mod Rows
 pub mod OneText
 pub mod Signs
 pub mod Joining

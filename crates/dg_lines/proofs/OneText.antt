@@ -4,9 +4,12 @@
 --   script_same    one script
 --   verdict_same   and one text
 --   test_same      so have right rank tests of one degree
-use Rattle.dg_lines.proofs.Common.{◌≡◌, ℕ, ◌+◌, ◌<◌, Bool, true, false, List, [], ◌∷◌, ◌++◌, length, codes, arith, refl, sym, ap, ◌∙◌, ◌↔◌, decimal, ints, Multigraph, IsMultigraph, Amounts, AgreeOn, IsWinnable, same_by_constant, equivalent-sym, equivalent-trans, loss_once, loss_bounds_rank, reduced_once, Vector, at, IsRight, IsRankTest, Verdict, RankVerdict, AtLeast, Below, pair, verdict_word, verdict_text, rank_text}
+--   verdict_row_same, loss_row_same   a verdict has one row, and so has a first loss
+use Rattle.dg_lines.proofs.Common.{◌≡◌, ℕ, ◌+◌, ◌<◌, Bool, true, false, List, [], ◌∷◌, ◌++◌, length, codes, arith, refl, sym, ap, ◌∙◌, ◌↔◌, decimal, ints, Multigraph, IsMultigraph, Amounts, AgreeOn, IsWinnable, same_by_constant, equivalent-sym, equivalent-trans, loss_once, loss_bounds_rank, reduced_once, Some, Vector, at, IsRight, IsRankTest, Verdict, RankVerdict, AtLeast, Below, pair, verdict_word, verdict_text, rank_text}
 use Rattle.std.proofs.Math.IntN.{ℤ}
+use Rattle.dg_lines.specs.Columns.{columns, rank_row, truth, vector_columns, verdict_row}
 use Rattle.dg_lines.specs.Texts.{more_pairs, pairs}
+use Rattle.dg_lines.proofs.Rows.{columns_same}
 
 more_same : (names : List (List ℕ)) (x y : Amounts) (n : ℕ)
     → ((v : ℕ) → v < n + length names → x v ≡ y v) → more_pairs names x n ≡ more_pairs names y n
@@ -70,3 +73,28 @@ module _ (names : List (List ℕ)) (g : Multigraph) (D : Amounts) (fit : length 
       ap (λ (n : ℕ). codes "rank below " ++ decimal n ++ codes " at " ++ pairs names (at d)) (first.0 ∙ sym second.0)
       ∙ ap (λ (ps : List ℕ). codes "rank below " ++ decimal j ++ codes " at " ++ ps)
       (shown_same d e (loss_once g D k (at d) (at e) first.2 second.2))
+
+module _ (g : Multigraph) (D : Amounts) where
+  vector_same : (d e : Vector) → d.size ≡ g.size → e.size ≡ g.size → AgreeOn g.size (at d) (at e)
+      → vector_columns d ≡ vector_columns e
+  vector_same d e one other same =
+      columns_same (at d) (at e) 0 d.size (λ v below. same v (omega (arith, below, one)))
+      ∙ ap (columns (at e) 0) (one ∙ sym other)
+
+  pub verdict_row_same : (names : List (List ℕ)) → length names ≡ g.size → (q : ℕ) → IsMultigraph g → q < g.size
+      → (x y : Verdict) → IsRight g q D x → IsRight g q D y → verdict_row x ≡ verdict_row y
+  verdict_row_same names fit q graph vertex x y first second =
+      ap (λ (w : Bool). truth w ++ vector_columns x.script ++ vector_columns x.reduced ++ codes "\n")
+      (win_once (IsWinnable g D) x.winnable y.winnable first.winnable second.winnable)
+      ∙ ap (λ (l : List ℕ). truth y.winnable ++ l ++ vector_columns x.reduced ++ codes "\n")
+      (vector_same x.script y.script first.script_size second.script_size
+      (script_same names g D fit q graph vertex x y first second))
+      ∙ ap (λ (l : List ℕ). truth y.winnable ++ vector_columns y.script ++ l ++ codes "\n")
+      (vector_same x.reduced y.reduced first.reduced_size second.reduced_size
+      (reduced_same names g D fit q vertex x y first second))
+
+  pub loss_row_same : (n k : ℕ) (holds : Bool) (d e : Vector) → IsRankTest g D k (Below k d) → IsRankTest g D k (Below k e)
+      → rank_row n holds (Some d) ≡ rank_row n holds (Some e)
+  loss_row_same n k holds d e first second =
+      ap (λ (l : List ℕ). truth holds ++ l ++ codes "\n")
+      (vector_same d e first.1 second.1 (loss_once g D k (at d) (at e) first.2 second.2))

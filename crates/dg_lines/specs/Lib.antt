@@ -9,5 +9,6 @@ pub mod Schedules
 pub mod LineLaws
 pub mod Texts
 pub mod Judgements
+pub mod Columns
 -- What serves the reading alone.
 pub mod Keywords

@@ -2,6 +2,7 @@
 ghost use Rattle.std.specs.Prelude.{◌≡◌, ◌+◌, ◌<◌, ◌≤◌, ◌++◌, length, drop};
 ghost use Rattle.std.specs.Fmt.{signed_decimal};
 ghost use Rattle.dg_chips.specs.Vector.{Vector, at};
+ghost use Rattle.dg_graph.specs.declared.limits.TheConstants.{MAX_VERTICES};
 
 use crate::digits::{MAX_DIGITS, write_number, write_wide};
 use dg_chips::{Divisor, Script, Wide};
@@ -9,6 +10,11 @@ use dg_chips::{Divisor, Script, Wide};
 /// A whole number for each vertex.
 pub(crate) trait Amounts {
     ghost numbers: { Self → Vector };
+
+    /// How many vertices there are.
+    fn size(&self) -> usize
+        ensures size { result ≡ (numbers self.now).size }
+        ensures few { result ≤ MAX_VERTICES };
 
     /// Writes the number of a vertex so that it ends at `end`, and says where it starts.
     fn write(&self, v: usize, line: &mut [u8], end: usize) -> usize
@@ -25,6 +31,11 @@ impl Amounts for Divisor {
     ghost numbers = { λ x. x };
 
     #[inline(always)]
+    fn size(&self) -> usize {
+        self.size()
+    }
+
+    #[inline(always)]
     fn write(&self, v: usize, line: &mut [u8], end: usize) -> usize {
         write_number(self.get(v), line, end)
     }
@@ -34,6 +45,11 @@ impl Amounts for Script {
     ghost numbers = { λ x. x };
 
     #[inline(always)]
+    fn size(&self) -> usize {
+        self.size()
+    }
+
+    #[inline(always)]
     fn write(&self, v: usize, line: &mut [u8], end: usize) -> usize {
         write_number(self.get(v), line, end)
     }
@@ -41,6 +57,11 @@ impl Amounts for Script {
 
 impl Amounts for Wide {
     ghost numbers = { λ x. x };
+
+    #[inline(always)]
+    fn size(&self) -> usize {
+        self.size()
+    }
 
     #[inline(always)]
     fn write(&self, v: usize, line: &mut [u8], end: usize) -> usize {

@@ -2,6 +2,7 @@
 #![tactic(auto)]
 
 mod amounts;
+mod columns;
 mod command;
 mod cuts;
 mod digits;
@@ -14,6 +15,7 @@ mod steps_file;
 mod text;
 mod word;
 
+pub use columns::{push_rank_row, push_verdict_row};
 pub use cuts::cut;
 pub use judgement::push_judgement;
 pub use laws::{lines_have_one_meaning, numerals_are_decimals, steps_have_one_meaning};

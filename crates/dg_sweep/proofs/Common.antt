@@ -10,6 +10,8 @@ pub use Rattle.dg_file.specs.FileLaws.{FilesHaveOneMeaning}
 pub use Rattle.dg_file.specs.TableFiles.{IsTable}
 pub use Rattle.dg_file.specs.declared.fault.FileFault.TheVariants.{Chip}
 pub use Rattle.dg_file.specs.declared.fault.FileFault.{FileFault}
+pub use Rattle.dg_invocation.specs.declared.question.Form.TheVariants.{Numbers, Words}
+pub use Rattle.dg_invocation.specs.declared.question.Form.{Form}
 pub use Rattle.dg_invocation.specs.declared.question.Question.TheVariants.{Judge, Rank, RiemannRoch}
 pub use Rattle.dg_invocation.specs.declared.question.Question.{Question}
 pub use Rattle.dg_lines.proofs.Cutting.{none_left, pieces_left, pieces_next}
@@ -25,7 +27,7 @@ pub use Rattle.dg_lines.specs.Texts.{verdict_text}
 pub use Rattle.dg_rank.proofs.AskedVertices.{asked_within}
 pub use Rattle.dg_rank.proofs.Numbering.{past_within}
 pub use Rattle.dg_sweep.specs.AnswerLaws.{AmountsHaveOneAnswer, AmountLinesHaveOneMeaning, TablesHaveOneAnswer}
-pub use Rattle.dg_sweep.specs.Answers.{AnswersLine, AnswersRankLine, AnswersTable, AnswersTableWithin, AreRanks, AreUntested, IsBelow, IsRefused, IsTested, answer_number, degree_and_genus_words, refusal_line}
+pub use Rattle.dg_sweep.specs.Answers.{AnswersLine, AnswersRankLine, AnswersTable, AnswersTableWithin, AreRanks, AreUntested, IsBelow, IsRefused, IsTested, rank_line, ranks_line, refusal_line}
 pub use Rattle.dg_sweep.specs.DivisorLaws.{with_amounts_of_line}
 pub use Rattle.dg_sweep.specs.Divisors.{AnswersAmounts, HasAmountsOf, RefusesAmounts, SpellsAmounts, SpellsNoAmounts}
 pub use Rattle.dg_sweep.specs.FaultTexts.{file_fault_words}
@@ -39,6 +41,7 @@ pub use Rattle.dg_system.proofs.Growing.{appends_more, appends_none}
 pub use Rattle.dg_system.proofs.InputReads.{chunk_size, consumes_kept, consumes_more, consumes_none, read_chunk, read_nothing}
 pub use Rattle.dg_system.specs.Growth.{AppendsFront}
 pub use Rattle.dg_system.specs.declared.shortage.Shortage.TheVariants.{OutOfMemory}
+pub use Rattle.dg_theory.proofs.LossLaws.{loss_bounds_rank}
 pub use Rattle.dg_theory.proofs.RankNumbers.{rank_once}
 pub use Rattle.dg_theory.specs.Burning.{BurnsInOrder, BurnsNext, MayBurn, among, edges_into}
 pub use Rattle.dg_theory.specs.Firing.{AgreeOn, Amounts}
@@ -48,7 +51,7 @@ pub use Rattle.dg_tokens.proofs.Signs.{one_rest}
 pub use Rattle.dg_tokens.specs.Decimals.{BeginsWith, HasDigitFirst}
 pub use Rattle.dg_verdict.specs.RankTests.{IsRankTest}
 pub use Rattle.dg_verdict.specs.Right.{IsVerdictOn}
-pub use Rattle.dg_verdict.specs.declared.rank_verdict.RankVerdict.TheVariants.{AtLeast}
+pub use Rattle.dg_verdict.specs.declared.rank_verdict.RankVerdict.TheVariants.{AtLeast, Below}
 pub use Rattle.dg_verdict.specs.declared.rank_verdict.RankVerdict.{RankVerdict}
 pub use Rattle.dg_verdict.specs.declared.verdict.Verdict.{Verdict}
 pub use Rattle.std.proofs.Common.{All, Bool, Bor, Err, FitsSigned, List, None, Ok, Option, Result, [], ap, append-nil, append_assoc, arith, codes, drop, false, flat_map, get_or, inl, inr, length, map, neg_ℤ, negsuc, of_z, pos, refl, rules, subst, suc, sym, take, tests, to_z, to_z-of_z, true, w64, zero, ℕ, ℤ, ◌*◌, ◌++◌, ◌+◌, ◌-◌, ◌<◌, ◌==◌, ◌^◌, ◌∙◌, ◌∷◌, ◌≡◌, ◌≢◌, ◌≤◌, ◌⊎◌}

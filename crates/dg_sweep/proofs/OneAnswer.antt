@@ -2,62 +2,74 @@
 --   answer_once    a table has one answer
 --   table_once, amounts_once   so has a line of a table, and one of amounts
 --   tables_have_one_answer, amounts_have_one_answer   the laws of dg_sweep
-use Rattle.dg_sweep.proofs.Common.{◌≡◌, ℕ, ◌<◌, ◌⊎◌, inl, inr, List, ◌++◌, length, codes, sym, ap, ◌∙◌, arith, subst, Multigraph, IsMultigraph, less, canonical, rank_once, StartData, IsStart, at, IsRankTest, RankVerdict, past_within, FilesHaveOneMeaning, RefusesFile, FileFault, Question, Judge, Rank, RiemannRoch, TablesHaveOneAnswer, AmountsHaveOneAnswer, IsTested, IsBelow, AnswersRankLine, answer_number, degree_and_genus_words, AreRanks, AreUntested, AnswersTable, refusal_line, IsRefused, AnswersTableWithin, AnswersLine, RefusesAmounts, AnswersAmounts, file_fault_words}
+use Rattle.dg_sweep.proofs.Common.{◌≡◌, ℕ, ◌<◌, ◌⊎◌, inl, inr, List, ◌++◌, length, codes, sym, ap, ◌∙◌, arith, subst, Multigraph, IsMultigraph, less, canonical, rank_once, StartData, IsStart, at, IsRankTest, RankVerdict, AtLeast, Below, false, refl, signed_decimal, loss_bounds_rank, past_within, FilesHaveOneMeaning, RefusesFile, FileFault, Form, Words, Numbers, Question, Judge, Rank, RiemannRoch, TablesHaveOneAnswer, AmountsHaveOneAnswer, IsTested, IsBelow, AnswersRankLine, rank_line, ranks_line, AreRanks, AreUntested, AnswersTable, refusal_line, IsRefused, AnswersTableWithin, AnswersLine, RefusesAmounts, AnswersAmounts, file_fault_words}
 use Rattle.std.proofs.Math.IntN.{ℤ}
 use Rattle.dg_lines.proofs.Given.{vertex_named}
 use Rattle.dg_sweep.proofs.OneMeaning.{amount_lines_have_one_meaning}
-use Rattle.dg_lines.proofs.OneText.{test_same}
+use Rattle.dg_lines.proofs.OneText.{loss_row_same, test_same, verdict_row_same}
+use Rattle.dg_invocation.specs.declared.question.VerdictForm.TheVariants as verdict
 use Rattle.dg_sweep.proofs.OneText.{judgement_same}
 
 module _ (o : StartData) (names : List (List ℕ)) (graph : IsMultigraph o.graph) (vertex : o.q < o.graph.size)
     (fit : length names ≡ o.graph.size) where
-  tested_below : (k : ℕ) (text other : List ℕ) → IsTested o k names text → IsBelow o k other → ⊥
-  tested_below k text other tested below = elim tested.named [
+  tested_below : (k : ℕ) (form : Form) (text other : List ℕ) → IsTested o k form names text → IsBelow o k form other → ⊥
+  tested_below k form text other tested below = elim tested.named [
     | inl within ↦ past_within o.graph.size k below.past within
     | inr most ↦
         below.below (subst (λ (x : RankVerdict). IsRankTest o.graph (at o.divisor) k x) most tested.right).1
   ]
 
-  rank_once_more : (k : ℕ) (text other : List ℕ) → AnswersRankLine o k names text → AnswersRankLine o k names other
-      → text ≡ other
-  rank_once_more k text other (inl a) (inl b) =
-      a.printed
-      ∙ ap (λ (t : List ℕ). t ++ codes "\n")
-      (test_same names o.graph (at o.divisor) fit k a.verdict b.verdict a.right b.right)
-      ∙ sym b.printed
-  rank_once_more k text other (inl a) (inr (inl b)) = absurd (tested_below k text other a b)
-  rank_once_more k text other (inl a) (inr (inr b)) = absurd (a.told b.untold)
-  rank_once_more k text other (inr (inl a)) (inl b) = absurd (tested_below k other text b a)
-  rank_once_more k text other (inr (inl a)) (inr (inl b)) = a.printed ∙ sym b.printed
-  rank_once_more k text other (inr (inl a)) (inr (inr b)) = absurd (a.told b.untold)
-  rank_once_more k text other (inr (inr a)) (inl b) = absurd (b.told a.untold)
-  rank_once_more k text other (inr (inr a)) (inr (inl b)) = absurd (b.told a.untold)
-  rank_once_more k text other (inr (inr a)) (inr (inr b)) = a.printed ∙ sym b.printed
+  line_same : (k : ℕ) (form : Form) (x y : RankVerdict) → IsRankTest o.graph (at o.divisor) k x
+      → IsRankTest o.graph (at o.divisor) k y → rank_line form names x ≡ rank_line form names y
+  line_same k Words x y first second =
+      ap (λ (t : List ℕ). t ++ codes "\n") (test_same names o.graph (at o.divisor) fit k x y first second)
+  line_same k Numbers (AtLeast i) (AtLeast j) first second = refl
+  line_same k Numbers (AtLeast i) (Below j e) first second =
+      absurd (loss_bounds_rank o.graph (at o.divisor) k (at e) second.2 first.1)
+  line_same k Numbers (Below i d) (AtLeast j) first second =
+      absurd (loss_bounds_rank o.graph (at o.divisor) k (at d) first.2 second.1)
+  line_same k Numbers (Below i d) (Below j e) first second =
+      loss_row_same o.graph (at o.divisor) (length names) k false d e (refl, first.1, first.2) (refl, second.1, second.2)
 
-  ranks_once : (text other : List ℕ) → AreRanks o text ⊎ AreUntested o text → AreRanks o other ⊎ AreUntested o other
-      → text ≡ other
-  ranks_once text other (inl a) (inl b) =
+  rank_once_more : (k : ℕ) (form : Form) (text other : List ℕ) → AnswersRankLine o k form names text
+      → AnswersRankLine o k form names other → text ≡ other
+  rank_once_more k form text other (inl a) (inl b) =
+      a.printed ∙ line_same k form a.verdict b.verdict a.right b.right ∙ sym b.printed
+  rank_once_more k form text other (inl a) (inr (inl b)) = absurd (tested_below k form text other a b)
+  rank_once_more k form text other (inl a) (inr (inr b)) = absurd (a.told b.untold)
+  rank_once_more k form text other (inr (inl a)) (inl b) = absurd (tested_below k form other text b a)
+  rank_once_more k form text other (inr (inl a)) (inr (inl b)) = a.printed ∙ sym b.printed
+  rank_once_more k form text other (inr (inl a)) (inr (inr b)) = absurd (a.told b.untold)
+  rank_once_more k form text other (inr (inr a)) (inl b) = absurd (b.told a.untold)
+  rank_once_more k form text other (inr (inr a)) (inr (inl b)) = absurd (b.told a.untold)
+  rank_once_more k form text other (inr (inr a)) (inr (inr b)) = a.printed ∙ sym b.printed
+
+  ranks_once : (form : Form) (text other : List ℕ) → AreRanks o form text ⊎ AreUntested o form text
+      → AreRanks o form other ⊎ AreUntested o form other → text ≡ other
+  ranks_once form text other (inl a) (inl b) =
       a.printed
-      ∙ ap (λ (z : ℤ). degree_and_genus_words o ++ answer_number (codes " rank ") z
-      ++ answer_number (codes " dual ") a.dual_rank ++ codes "\n")
+      ∙ ap (λ (z : ℤ). ranks_line form o (signed_decimal z) (signed_decimal a.dual_rank))
       (rank_once o.graph (at o.divisor) a.rank b.rank a.of_divisor b.of_divisor)
-      ∙ ap (λ (z : ℤ). degree_and_genus_words o ++ answer_number (codes " rank ") b.rank
-      ++ answer_number (codes " dual ") z ++ codes "\n")
+      ∙ ap (λ (z : ℤ). ranks_line form o (signed_decimal b.rank) (signed_decimal z))
       (rank_once o.graph (less (canonical o.graph) (at o.divisor)) a.dual_rank b.dual_rank a.of_dual b.of_dual)
       ∙ sym b.printed
-  ranks_once text other (inl a) (inr b) = absurd (a.told b.past)
-  ranks_once text other (inr a) (inl b) = absurd (b.told a.past)
-  ranks_once text other (inr a) (inr b) = a.printed ∙ sym b.printed
+  ranks_once form text other (inl a) (inr b) = absurd (a.told b.past)
+  ranks_once form text other (inr a) (inl b) = absurd (b.told a.past)
+  ranks_once form text other (inr a) (inr b) = a.printed ∙ sym b.printed
 
   answer_once : (question : Question) (text other : List ℕ) → AnswersTable question o names text
       → AnswersTable question o names other → text ≡ other
-  answer_once (Judge ordered) text other a b =
+  answer_once (Judge (verdict.Words ordered)) text other a b =
       a.printed
       ∙ ap (λ (t : List ℕ). t ++ codes "\n")
       (judgement_same names o.graph (at o.divisor) fit o.q graph vertex ordered a.verdict b.verdict a.found b.found)
       ∙ sym b.printed
-  answer_once (Rank k) text other a b = rank_once_more k text other a b
-  answer_once RiemannRoch text other a b = ranks_once text other a b
+  answer_once (Judge verdict.Numbers) text other a b =
+      a.printed
+      ∙ verdict_row_same o.graph (at o.divisor) names fit o.q graph vertex a.verdict b.verdict a.found.right b.found.right
+      ∙ sym b.printed
+  answer_once (Rank k form) text other a b = rank_once_more k form text other a b
+  answer_once (RiemannRoch form) text other a b = ranks_once form text other a b
 
 refused_once : (refuses : FileFault → Type 0) (text other : List ℕ) (a : IsRefused refuses text)
     (b : IsRefused refuses other) → a.fault ≡ b.fault → text ≡ other

@@ -1,16 +1,24 @@
 -- What the line of a table is answered.
---   IsTested o k names text == the text is that of a rank verdict of degree k which is right for
+-- In words it is as for one table; in numbers it has one column for each number.
+--   IsVerdictRow o text    == the text is the row of the verdict on the amounts of o, computed from
+--                             its vertex q
+--   rank_line form names x == the answer that is a rank verdict, and a newline
+--   unnamed_line form n k  == the answer that the rank is below k, without the first loss
+--   IsTested o k form names text == the text is that of a rank verdict of degree k which is right for
 --                         the amounts of o, and a newline; something tells it, and if it names a
 --                         loss, the test is within the limits
---   IsBelow o k text       == the rank of the amounts is below k, and that the text says; something
+--   IsBelow o k form text  == the rank of the amounts is below k, and that the text says; something
 --                             tells it, but there are too many trials to name the first loss
 --   IsUntested o k text    == nothing tells whether the rank is at least k, and that the text says
---   AnswersRankLine o k names text == one of these
---   answer_number label z  == the label and the number
---   degree_and_genus_words o == the degree of the amounts and the genus of the graph
---   AreRanks o text        == the text is that of the rank of the amounts and that of their residual;
+--   AnswersRankLine o k form names text == one of these
+--   label form words       == the words, if the answer is in words
+--   mark form              == what stands for a number that nothing tells
+--   field form words z     == the label and the number, and a space
+--   front form o           == the degree of the amounts and the genus of the graph
+--   ranks_line form o rank dual == these, and two texts for the ranks
+--   AreRanks o form text   == the text is that of the rank of the amounts and that of their residual;
 --                             no test is needed that nothing tells
---   AreUntested o text     == all rank tests are passed before one that nothing tells; the text has
+--   AreUntested o form text == all rank tests are passed before one that nothing tells; the text has
 --                             marks in the place of the ranks
 --   AnswersTable question o names text == the text answers the question for the start o with
 --                         these names
@@ -24,58 +32,88 @@
 --                         refused unread
 --   AnswersTableLine question line text == the text answers the line of a table so
 --   AnswersLines right ls text == the text is the answers to the lines ls, one after another
-use Rattle.std.specs.Prelude.{◌≡◌, ◌≢◌, ℕ, ◌<◌, ◌≤◌, ◌⊎◌, ℤ, List, [], ◌∷◌, ◌++◌, length, codes, decimal}
+use Rattle.std.specs.Prelude.{◌≡◌, ◌≢◌, ℕ, ◌<◌, ◌≤◌, ◌⊎◌, ℤ, true, false, List, [], ◌∷◌, ◌++◌, None, Some, length, codes, decimal}
 use Rattle.std.specs.Fmt.{signed_decimal}
-use Rattle.dg_sweep.specs.Common.{genus, degree, less, canonical, HasRankAtLeast, IsRank, StartData, at, ArePastTrialLimits, IsRankTest, IsWithin, IsUntold, NeedsPastTests, RankVerdict, AtLeast, IsJudgement, text_of, IsTableFile, RefusesFile, FileFault, OutOfMemory, Question, Judge, Rank, RiemannRoch}
+use Rattle.dg_sweep.specs.Common.{genus, degree, less, canonical, HasRankAtLeast, IsRank, StartData, at, ArePastTrialLimits, IsRankTest, IsWithin, IsUntold, NeedsPastTests, RankVerdict, AtLeast, Below, IsJudgement, IsVerdictOn, Verdict, rank_row, verdict_row, text_of, IsTableFile, RefusesFile, FileFault, OutOfMemory, Form, Words, Numbers, Question, Judge, Rank, RiemannRoch}
+use Rattle.dg_invocation.specs.declared.question.VerdictForm.TheVariants as verdict
 use Rattle.dg_rules.specs.declared.entry.Reply.TheVariants.{Rank as Tested}
 use Rattle.dg_sweep.specs.FaultTexts.{file_fault_words}
 use Rattle.dg_sweep.specs.declared.ends.TheConstants.{MAX_LINE}
 
-pub record IsTested (o : StartData) (k : ℕ) (names : List (List ℕ)) (text : List ℕ) : Type 0 where
+pub record IsVerdictRow (o : StartData) (text : List ℕ) : Type 0 where
+  pub verdict : Verdict
+  pub found : IsVerdictOn o.graph o.q (at o.divisor) verdict
+  pub printed : text ≡ verdict_row verdict
+
+abbrev pub rank_line : Form → List (List ℕ) → RankVerdict → List ℕ
+rank_line Words names x = text_of names (Tested x) ++ codes "\n"
+rank_line Numbers names (AtLeast k) = rank_row (length names) true None
+rank_line Numbers names (Below k loss) = rank_row (length names) false (Some loss)
+
+abbrev pub unnamed_line : Form → ℕ → ℕ → List ℕ
+unnamed_line Words n k = codes "rank below " ++ decimal k ++ codes " at ?\n"
+unnamed_line Numbers n k = rank_row n false None
+
+pub record IsTested (o : StartData) (k : ℕ) (form : Form) (names : List (List ℕ)) (text : List ℕ)
+    : Type 0 where
   pub verdict : RankVerdict
   pub right : IsRankTest o.graph (at o.divisor) k verdict
   pub told : ¬ IsUntold o.graph (at o.divisor) k
   pub named : IsWithin o.graph.size k ⊎ (verdict ≡ AtLeast k)
-  pub printed : text ≡ text_of names (Tested verdict) ++ codes "\n"
+  pub printed : text ≡ rank_line form names verdict
 
-pub record IsBelow (o : StartData) (k : ℕ) (text : List ℕ) : Type 0 where
+pub record IsBelow (o : StartData) (k : ℕ) (form : Form) (text : List ℕ) : Type 0 where
   pub past : ArePastTrialLimits o.graph.size k
   pub told : ¬ IsUntold o.graph (at o.divisor) k
   pub below : ¬ HasRankAtLeast o.graph (at o.divisor) k
-  pub printed : text ≡ codes "rank below " ++ decimal k ++ codes " at ?\n"
+  pub printed : text ≡ unnamed_line form o.graph.size k
 
 pub record IsUntested (o : StartData) (k : ℕ) (text : List ℕ) : Type 0 where
   pub untold : IsUntold o.graph (at o.divisor) k
   pub printed : text ≡ codes "refused too many trials\n"
 
-abbrev pub AnswersRankLine : StartData → ℕ → List (List ℕ) → List ℕ → Type 0
-AnswersRankLine o k names text = IsTested o k names text ⊎ IsBelow o k text ⊎ IsUntested o k text
+abbrev pub AnswersRankLine : StartData → ℕ → Form → List (List ℕ) → List ℕ → Type 0
+AnswersRankLine o k form names text =
+    IsTested o k form names text ⊎ IsBelow o k form text ⊎ IsUntested o k text
 
-abbrev pub answer_number : List ℕ → ℤ → List ℕ
-answer_number label z = label ++ signed_decimal z
+abbrev pub label : Form → List ℕ → List ℕ
+label Words words = words
+label Numbers words = []
 
-abbrev pub degree_and_genus_words : StartData → List ℕ
-degree_and_genus_words o =
-    answer_number (codes "degree ") (degree o.graph.size (at o.divisor))
-    ++ answer_number (codes " genus ") (genus o.graph)
+abbrev pub mark : Form → List ℕ
+mark Words = codes "?"
+mark Numbers = codes "NA"
 
-pub record AreRanks (o : StartData) (text : List ℕ) : Type 0 where
+abbrev pub field : Form → List ℕ → ℤ → List ℕ
+field form words z = label form words ++ signed_decimal z ++ codes " "
+
+abbrev pub front : Form → StartData → List ℕ
+front form o =
+    field form (codes "degree ") (degree o.graph.size (at o.divisor))
+    ++ field form (codes "genus ") (genus o.graph)
+
+abbrev pub ranks_line : Form → StartData → List ℕ → List ℕ → List ℕ
+ranks_line form o rank dual =
+    front form o ++ label form (codes "rank ") ++ rank ++ codes " " ++ label form (codes "dual ")
+    ++ dual ++ codes "\n"
+
+pub record AreRanks (o : StartData) (form : Form) (text : List ℕ) : Type 0 where
   pub told : ¬ NeedsPastTests o.graph (at o.divisor)
   pub rank : ℤ
   pub of_divisor : IsRank o.graph (at o.divisor) rank
   pub dual_rank : ℤ
   pub of_dual : IsRank o.graph (less (canonical o.graph) (at o.divisor)) dual_rank
-  pub printed : text ≡ degree_and_genus_words o ++ answer_number (codes " rank ") rank
-      ++ answer_number (codes " dual ") dual_rank ++ codes "\n"
+  pub printed : text ≡ ranks_line form o (signed_decimal rank) (signed_decimal dual_rank)
 
-pub record AreUntested (o : StartData) (text : List ℕ) : Type 0 where
+pub record AreUntested (o : StartData) (form : Form) (text : List ℕ) : Type 0 where
   pub past : NeedsPastTests o.graph (at o.divisor)
-  pub printed : text ≡ degree_and_genus_words o ++ codes " rank ? dual ?\n"
+  pub printed : text ≡ ranks_line form o (mark form) (mark form)
 
 abbrev pub AnswersTable : Question → StartData → List (List ℕ) → List ℕ → Type 0
-AnswersTable (Judge ordered) o names text = IsJudgement o names ordered text
-AnswersTable (Rank k) o names text = AnswersRankLine o k names text
-AnswersTable RiemannRoch o names text = AreRanks o text ⊎ AreUntested o text
+AnswersTable (Judge (verdict.Words ordered)) o names text = IsJudgement o names ordered text
+AnswersTable (Judge verdict.Numbers) o names text = IsVerdictRow o text
+AnswersTable (Rank k form) o names text = AnswersRankLine o k form names text
+AnswersTable (RiemannRoch form) o names text = AreRanks o form text ⊎ AreUntested o form text
 
 abbrev pub refusal_line : List ℕ → List ℕ
 refusal_line words = codes "refused " ++ words ++ codes "\n"

@@ -12,8 +12,11 @@ pub use Rattle.dg_file.specs.declared.fault.FileFault.TheVariants.{Chip, Graph, 
 pub use Rattle.dg_file.specs.declared.fault.Shape.TheVariants.{Amounts, Edge, Edges, Q, Top, Vertices}
 pub use Rattle.dg_graph.specs.declared.fault.GraphFault.{GraphFault}
 pub use Rattle.dg_graph.specs.declared.fault.GraphFault.TheVariants.{Loop, Multiplicity, NoVertex, NotConnected, Size, Valence}
+pub use Rattle.dg_invocation.specs.declared.question.Form.{Form}
+pub use Rattle.dg_invocation.specs.declared.question.Form.TheVariants.{Numbers, Words}
 pub use Rattle.dg_invocation.specs.declared.question.Question.{Question}
 pub use Rattle.dg_invocation.specs.declared.question.Question.TheVariants.{Judge, Rank, RiemannRoch}
+pub use Rattle.dg_lines.specs.Columns.{rank_row, verdict_row}
 pub use Rattle.dg_lines.specs.Cuts.{lines, words}
 pub use Rattle.dg_lines.specs.Judgements.{IsJudgement}
 pub use Rattle.dg_lines.specs.Streams.{Begins, HasNoNewline, LinesHaveCome, last_line}
@@ -25,5 +28,7 @@ pub use Rattle.dg_theory.specs.Firing.{degree}
 pub use Rattle.dg_theory.specs.Multigraph.{genus}
 pub use Rattle.dg_theory.specs.Rank.{HasRankAtLeast, IsRank, canonical, less}
 pub use Rattle.dg_verdict.specs.RankTests.{IsRankTest}
+pub use Rattle.dg_verdict.specs.Right.{IsVerdictOn}
 pub use Rattle.dg_verdict.specs.declared.rank_verdict.RankVerdict.{RankVerdict}
-pub use Rattle.dg_verdict.specs.declared.rank_verdict.RankVerdict.TheVariants.{AtLeast}
+pub use Rattle.dg_verdict.specs.declared.rank_verdict.RankVerdict.TheVariants.{AtLeast, Below}
+pub use Rattle.dg_verdict.specs.declared.verdict.Verdict.{Verdict}

@@ -7,7 +7,7 @@ ghost use Rattle.dg_lines.specs.Judgements.{IsJudgement};
 ghost use Rattle.dg_lines.specs.Texts.{HasNames, text_of};
 ghost use Rattle.dg_sweep.specs.FaultTexts.{file_fault_words};
 ghost use Rattle.dg_sweep.specs.Subjects.{start_of};
-ghost use Rattle.dg_sweep.specs.Answers.{AnswersLine, AnswersTableLine, AnswersTable, refusal_line};
+ghost use Rattle.dg_sweep.specs.Answers.{AnswersLine, AnswersTableLine, AnswersTable, IsVerdictRow, refusal_line};
 
 use crate::ends::MAX_LINE;
 use crate::fault_words::push_file_fault_words;
@@ -16,8 +16,8 @@ use crate::tables::Tables;
 use dg_chips::Divisor;
 use dg_file::FileFault;
 use dg_graph::Graph;
-use dg_invocation::Question;
-use dg_lines::{push_judgement, push_reply};
+use dg_invocation::{Question, VerdictForm};
+use dg_lines::{push_judgement, push_reply, push_verdict_row};
 use dg_reduce::InverseLaplacian;
 use dg_rules::Reply;
 use dg_tokens::Names;
@@ -86,15 +86,15 @@ pub(crate) struct Subject<'a> {
     pub(crate) graph: &'a Graph,
     pub(crate) divisor: &'a Divisor,
     pub(crate) q: usize,
+    /// What serves the answers for the graph, if it was made for more than one.
+    pub(crate) inverse: Option<&'a InverseLaplacian>,
 }
 
-/// The answer for a subject whose vertices have these names, into an empty buffer. An inverse that `inverse_for` made of its
-/// graph saves the time to make one.
+/// The answer for a subject whose vertices have these names, into an empty buffer.
 pub(crate) fn push_answer(
     question: Question,
     subject: &Subject<'_>,
     names: &Names,
-    inverse: Option<&InverseLaplacian>,
     answer: &mut Vec<u8>,
 ) -> Result<(), AllocError>
     requires start { IsStart (start_of subject.now) }
@@ -103,9 +103,12 @@ pub(crate) fn push_answer(
     ensures { OnOk result (AnswersTable question (start_of subject.now) names.now answer.new.items) }
 {
     match question {
-        Question::Judge { ordered } => push_verdict(subject, names, inverse, ordered, answer),
-        Question::Rank(k) => push_rank(subject, names, k, inverse, answer),
-        Question::RiemannRoch => push_ranks(subject, inverse, answer),
+        Question::Judge(VerdictForm::Words { ordered }) => {
+            push_verdict(subject, names, ordered, answer)
+        }
+        Question::Judge(VerdictForm::Numbers) => push_columns(subject, answer),
+        Question::Rank(k, form) => push_rank(subject, names, k, form, answer),
+        Question::RiemannRoch(form) => push_ranks(subject, form, answer),
     }
 }
 
@@ -113,7 +116,6 @@ pub(crate) fn push_answer(
 fn push_verdict(
     subject: &Subject<'_>,
     names: &Names,
-    inverse: Option<&InverseLaplacian>,
     ordered: bool,
     answer: &mut Vec<u8>,
 ) -> Result<(), AllocError>
@@ -122,17 +124,27 @@ fn push_verdict(
     requires empty { answer.old.items ≡ [] }
     ensures { OnOk result (IsJudgement (start_of subject.now) names.now ordered answer.new.items) }
 {
-    let verdict = verdict_on(subject, inverse);
+    let verdict = verdict_on(subject);
     push_judgement(answer, names, &verdict, ordered)
 }
 
+/// The verdict on a subject in columns of numbers, into an empty buffer.
+fn push_columns(subject: &Subject<'_>, answer: &mut Vec<u8>) -> Result<(), AllocError>
+    requires start { IsStart (start_of subject.now) }
+    requires empty { answer.old.items ≡ [] }
+    ensures { OnOk result (IsVerdictRow (start_of subject.now) answer.new.items) }
+{
+    let verdict = verdict_on(subject);
+    push_verdict_row(answer, &verdict)
+}
+
 /// The verdict on a subject.
-fn verdict_on(subject: &Subject<'_>, inverse: Option<&InverseLaplacian>) -> Verdict
+fn verdict_on(subject: &Subject<'_>) -> Verdict
     requires { IsStart (start_of subject.now) }
     ensures { IsVerdictOn subject.now.graph.now subject.now.q (at subject.now.divisor.now) result }
 {
     let q = subject.q;
-    match inverse {
+    match subject.inverse {
         Some(inverse) => judge_with_inverse(subject.graph, inverse, q, subject.divisor),
         None => judge(subject.graph, q, subject.divisor),
     }

@@ -41,8 +41,8 @@ impl<'a> Divisors<'a> {
 /// The inverse by which a question for a start is answered soonest: verdicts are computed from q, ranks from the first vertex.
 fn inverse_for(question: Question, start: &Start) -> InverseLaplacian {
     let vertex = match question {
-        Question::Judge { .. } => start.q(),
-        Question::Rank(_) | Question::RiemannRoch => 0,
+        Question::Judge(_) => start.q(),
+        Question::Rank(_, _) | Question::RiemannRoch(_) => 0,
     };
     InverseLaplacian::new(start.graph(), vertex)
 }
@@ -60,9 +60,9 @@ impl LineKind for Divisors<'_> {
                     graph: start.graph(),
                     divisor: &divisor,
                     q: start.q(),
+                    inverse: Some(&self.inverse),
                 };
-                let names = self.table.names();
-                push_answer(self.question, &subject, names, Some(&self.inverse), answer)
+                push_answer(self.question, &subject, self.table.names(), answer)
             }
             Err(FileFault::OutOfMemory) => Err(AllocError),
             Err(fault) => push_refusal(&fault, answer),

@@ -1,17 +1,19 @@
 //! Rank tests, and the four numbers of Riemann-Roch: laws come before limits.
 ghost use Rattle.std.specs.Prelude.{◌≡◌, ◌<◌, ◌++◌, ◌⊎◌, [], length, codes, decimal, OnOk, MatchOption};
+ghost use Rattle.std.specs.Fmt.{signed_decimal};
 ghost use Rattle.dg_chips.specs.Starts.{IsStart};
 ghost use Rattle.dg_chips.specs.Vector.{at};
+ghost use Rattle.dg_lines.specs.Texts.{HasNames};
 ghost use Rattle.dg_rank.specs.Ladders.{AnswersRankTest};
 ghost use Rattle.dg_rank.specs.Ranks.{AreBothRanks, NeedsPastTests};
-ghost use Rattle.dg_sweep.specs.Answers.{AnswersRankLine, AreRanks, AreUntested, answer_number, degree_and_genus_words};
+ghost use Rattle.dg_sweep.specs.Answers.{AnswersRankLine, AreRanks, AreUntested, field, front, label, mark, rank_line, ranks_line, unnamed_line};
 ghost use Rattle.dg_sweep.specs.Subjects.{start_of};
+ghost use Rattle.dg_rules.specs.declared.entry.Reply.TheVariants.{Rank};
 
 use crate::answering::{Subject, push_verdict_line};
-use dg_chips::Divisor;
-use dg_graph::Graph;
+use dg_invocation::Form;
+use dg_lines::push_rank_row;
 use dg_rank::{RankFault, both_ranks, both_ranks_by, has_rank, rank_at_least, rank_at_least_by};
-use dg_reduce::InverseLaplacian;
 use dg_rules::Reply;
 use dg_tokens::Names;
 use dg_verdict::RankVerdict;
@@ -24,72 +26,101 @@ pub(crate) fn push_rank(
     subject: &Subject<'_>,
     names: &Names,
     k: u32,
-    inverse: Option<&InverseLaplacian>,
+    form: Form,
     answer: &mut Vec<u8>,
 ) -> Result<(), AllocError>
     requires start { IsStart (start_of subject.now) }
     requires names { length names.now ≡ subject.now.graph.now.size }
     requires empty { answer.old.items ≡ [] }
-    ensures { OnOk result (AnswersRankLine (start_of subject.now) k names.now answer.new.items) }
+    ensures { OnOk result
+        (AnswersRankLine (start_of subject.now) k form names.now answer.new.items) }
 {
-    let q = subject.q;
-    let (graph, divisor) = (subject.graph, subject.divisor);
-    if let Ok(verdict) = rank_on(graph, inverse, q, divisor, k) {
-        push_verdict_line(answer, &Reply::Rank(verdict), names)?;
+    if let Ok(verdict) = rank_on(subject, k) {
+        push_test(answer, form, &verdict, names)?;
         return Ok(());
     }
-    let Ok(passes) = has_rank(graph, q, divisor, k) else {
+    let Ok(passes) = has_rank(subject.graph, subject.q, subject.divisor, k) else {
         answer.extend_from_slice(b"refused too many trials\n")?;
         return Ok(());
     };
     if passes {
         let verdict = RankVerdict::AtLeast(k);
-        push_verdict_line(answer, &Reply::Rank(verdict), names)?;
+        push_test(answer, form, &verdict, names)?;
         return Ok(());
     }
-    push_below(k, answer)?;
+    push_below(k, form, names.len(), answer)?;
     Ok(())
 }
 
-/// The rank test, by an inverse if there is one.
-fn rank_on(
-    graph: &Graph,
-    inverse: Option<&InverseLaplacian>,
-    q: usize,
-    divisor: &Divisor,
-    k: u32,
-) -> Result<RankVerdict, RankFault>
-    requires size { divisor.now.size ≡ graph.now.size }
-    requires vertex { q < graph.now.size }
-    ensures { AnswersRankTest graph.now (at divisor.now) k result }
+/// The answer that is a rank test, into an empty buffer.
+fn push_test(
+    answer: &mut Vec<u8>,
+    form: Form,
+    verdict: &RankVerdict,
+    names: &Names,
+) -> Result<(), AllocError>
+    requires names { HasNames names.now (Rank verdict.now) }
+    requires empty { answer.old.items ≡ [] }
+    ensures { OnOk result (answer.new.items ≡ rank_line form names.now verdict.now) }
 {
-    match inverse {
-        Some(inverse) => rank_at_least_by(graph, inverse, divisor, k),
-        None => rank_at_least(graph, q, divisor, k),
+    match form {
+        Form::Words => push_verdict_line(answer, &Reply::Rank(*verdict), names),
+        Form::Numbers => push_test_row(answer, verdict, names),
     }
 }
 
-/// Both ranks, by an inverse if there is one.
-fn ranks_on(
-    graph: &Graph,
-    inverse: Option<&InverseLaplacian>,
-    q: usize,
-    divisor: &Divisor,
-) -> Option<(i64, i64)>
-    requires size { divisor.now.size ≡ graph.now.size }
-    requires vertex { q < graph.now.size }
+/// The rank test in columns of numbers, into an empty buffer.
+fn push_test_row(
+    answer: &mut Vec<u8>,
+    verdict: &RankVerdict,
+    names: &Names,
+) -> Result<(), AllocError>
+    requires { answer.old.items ≡ [] }
+    ensures { OnOk result (answer.new.items ≡ rank_line Form.Numbers names.now verdict.now) }
+{
+    match verdict {
+        RankVerdict::AtLeast(_) => push_rank_row(answer, names.len(), true, None),
+        RankVerdict::Below(_, loss) => push_rank_row(answer, names.len(), false, Some(loss)),
+    }
+}
+
+/// The rank test of a subject.
+fn rank_on(subject: &Subject<'_>, k: u32) -> Result<RankVerdict, RankFault>
+    requires { IsStart (start_of subject.now) }
+    ensures { AnswersRankTest subject.now.graph.now (at subject.now.divisor.now) k result }
+{
+    match subject.inverse {
+        Some(inverse) => rank_at_least_by(subject.graph, inverse, subject.divisor, k),
+        None => rank_at_least(subject.graph, subject.q, subject.divisor, k),
+    }
+}
+
+/// Both ranks of a subject.
+fn ranks_on(subject: &Subject<'_>) -> Option<(i64, i64)>
+    requires { IsStart (start_of subject.now) }
     ensures { MatchOption result
-        (NeedsPastTests graph.now (at divisor.now))
-        (AreBothRanks graph.now (at divisor.now)) }
+        (NeedsPastTests subject.now.graph.now (at subject.now.divisor.now))
+        (AreBothRanks subject.now.graph.now (at subject.now.divisor.now)) }
 {
-    match inverse {
-        Some(inverse) => both_ranks_by(graph, inverse, divisor),
-        None => both_ranks(graph, q, divisor),
+    match subject.inverse {
+        Some(inverse) => both_ranks_by(subject.graph, inverse, subject.divisor),
+        None => both_ranks(subject.graph, subject.q, subject.divisor),
     }
 }
 
-/// That the rank is below k, with a mark in place of the first loss.
-fn push_below(k: u32, answer: &mut Vec<u8>) -> Result<(), AllocError>
+/// That the rank is below k, with marks in place of the first loss, into an empty buffer.
+fn push_below(k: u32, form: Form, size: usize, answer: &mut Vec<u8>) -> Result<(), AllocError>
+    requires { answer.old.items ≡ [] }
+    ensures { OnOk result (answer.new.items ≡ unnamed_line form size k) }
+{
+    match form {
+        Form::Words => push_below_words(k, answer),
+        Form::Numbers => push_rank_row(answer, size, false, None),
+    }
+}
+
+/// The same in words.
+fn push_below_words(k: u32, answer: &mut Vec<u8>) -> Result<(), AllocError>
     requires { answer.old.items ≡ [] }
     ensures { OnOk result (answer.new.items ≡ codes "rank below " ++ decimal k ++ codes " at ?\n") }
 {
@@ -102,68 +133,114 @@ fn push_below(k: u32, answer: &mut Vec<u8>) -> Result<(), AllocError>
 /// within the limits tells.
 pub(crate) fn push_ranks(
     subject: &Subject<'_>,
-    inverse: Option<&InverseLaplacian>,
+    form: Form,
     answer: &mut Vec<u8>,
 ) -> Result<(), AllocError>
     requires start { IsStart (start_of subject.now) }
     requires empty { answer.old.items ≡ [] }
-    ensures { OnOk result (AreRanks (start_of subject.now) answer.new.items
-        ⊎ AreUntested (start_of subject.now) answer.new.items) }
+    ensures { OnOk result (AreRanks (start_of subject.now) form answer.new.items
+        ⊎ AreUntested (start_of subject.now) form answer.new.items) }
 {
-    let q = subject.q;
-    let Some((rank, dual_rank)) = ranks_on(subject.graph, inverse, q, subject.divisor) else {
-        push_untold_answer(subject, answer)?;
+    let Some((rank, dual_rank)) = ranks_on(subject) else {
+        push_line(subject, form, mark_of(form), mark_of(form), answer)?;
         return Ok(());
     };
-    push_told(subject, rank, dual_rank, answer)?;
+    push_told(subject, form, rank, dual_rank, answer)?;
     Ok(())
+}
+
+/// What stands in the place of a rank that is not told.
+fn mark_of(form: Form) -> &'static str
+    ensures { result.now ≡ mark form }
+{
+    match form {
+        Form::Words => "?",
+        Form::Numbers => "NA",
+    }
 }
 
 /// The line of a subject with these two ranks, into an empty buffer.
 fn push_told(
     subject: &Subject<'_>,
+    form: Form,
     rank: i64,
     dual_rank: i64,
     answer: &mut Vec<u8>,
 ) -> Result<(), AllocError>
     requires start { IsStart (start_of subject.now) }
     requires empty { answer.old.items ≡ [] }
-    ensures { OnOk result (answer.new.items ≡ degree_and_genus_words (start_of subject.now)
-        ++ answer_number (codes " rank ") rank ++ answer_number (codes " dual ") dual_rank
-        ++ codes "\n") }
+    ensures { OnOk result (answer.new.items
+        ≡ ranks_line form (start_of subject.now) (signed_decimal rank) (signed_decimal dual_rank)) }
 {
-    push_numbers(subject, answer)?;
-    push_answer_number(answer, " rank ", rank)?;
-    push_answer_number(answer, " dual ", dual_rank)?;
+    let (mut first, mut second) = (Buffer::new(), Buffer::new());
+    push_line(
+        subject,
+        form,
+        first.format(rank),
+        second.format(dual_rank),
+        answer,
+    )
+}
+
+/// The degree and the genus of a subject and two texts for its ranks, into an empty buffer.
+fn push_line(
+    subject: &Subject<'_>,
+    form: Form,
+    rank: &str,
+    dual_rank: &str,
+    answer: &mut Vec<u8>,
+) -> Result<(), AllocError>
+    requires start { IsStart (start_of subject.now) }
+    requires empty { answer.old.items ≡ [] }
+    ensures { OnOk result
+        (answer.new.items ≡ ranks_line form (start_of subject.now) rank.now dual_rank.now) }
+{
+    push_front(subject, form, answer)?;
+    push_labelled(answer, form, "rank ", rank)?;
+    answer.push(b' ')?;
+    push_labelled(answer, form, "dual ", dual_rank)?;
     answer.push(b'\n')?;
     Ok(())
 }
 
-/// Puts `degree D genus G rank ? dual ?` into an empty buffer.
-fn push_untold_answer(subject: &Subject<'_>, answer: &mut Vec<u8>) -> Result<(), AllocError>
+/// The degree and the genus of a subject, with a space after each, into an empty buffer.
+fn push_front(subject: &Subject<'_>, form: Form, answer: &mut Vec<u8>) -> Result<(), AllocError>
     requires start { IsStart (start_of subject.now) }
     requires empty { answer.old.items ≡ [] }
-    ensures { OnOk result (answer.new.items
-        ≡ degree_and_genus_words (start_of subject.now) ++ codes " rank ? dual ?\n") }
+    ensures { OnOk result (answer.new.items ≡ front form (start_of subject.now)) }
 {
-    push_numbers(subject, answer)?;
-    answer.extend_from_slice(b" rank ? dual ?\n")
+    push_number(answer, form, "degree ", subject.divisor.degree())?;
+    push_number(answer, form, "genus ", i64::from(subject.graph.genus()))
 }
 
-/// The degree and the genus of a subject, into an empty buffer.
-fn push_numbers(subject: &Subject<'_>, answer: &mut Vec<u8>) -> Result<(), AllocError>
-    requires start { IsStart (start_of subject.now) }
-    requires empty { answer.old.items ≡ [] }
-    ensures { OnOk result (answer.new.items ≡ degree_and_genus_words (start_of subject.now)) }
+/// A number after its label, and a space.
+fn push_number(answer: &mut Vec<u8>, form: Form, words: &str, number: i64) -> Result<(), AllocError>
+    ensures { OnOk result (answer.new.items ≡ answer.old.items ++ field form words.now number) }
 {
-    push_answer_number(answer, "degree ", subject.divisor.degree())?;
-    push_answer_number(answer, " genus ", i64::from(subject.graph.genus()))
+    push_labelled(answer, form, words, Buffer::new().format(number))?;
+    answer.push(b' ')?;
+    Ok(())
 }
 
-/// A label and a number, after the text.
-fn push_answer_number(text: &mut Vec<u8>, label: &str, number: i64) -> Result<(), AllocError>
-    ensures { OnOk result (text.new.items ≡ text.old.items ++ answer_number label.now number) }
+/// A text after its label, which stands in words alone.
+fn push_labelled(
+    answer: &mut Vec<u8>,
+    form: Form,
+    words: &str,
+    text: &str,
+) -> Result<(), AllocError>
+    ensures { OnOk result (answer.new.items ≡ answer.old.items ++ (label form words.now ++ text.now)) }
 {
-    text.extend_from_slice(label.as_bytes())?;
-    text.extend_from_slice(Buffer::new().format(number).as_bytes())
+    push_label(answer, form, words)?;
+    answer.extend_from_slice(text.as_bytes())
+}
+
+/// The label of a text, in words alone.
+fn push_label(answer: &mut Vec<u8>, form: Form, words: &str) -> Result<(), AllocError>
+    ensures { OnOk result (answer.new.items ≡ answer.old.items ++ label form words.now) }
+{
+    match form {
+        Form::Words => answer.extend_from_slice(words.as_bytes()),
+        Form::Numbers => Ok(()),
+    }
 }

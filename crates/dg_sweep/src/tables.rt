@@ -25,8 +25,9 @@ impl LineKind for Tables {
                     graph: start.graph(),
                     divisor: start.divisor(),
                     q: start.q(),
+                    inverse: None,
                 };
-                push_answer(self.question, &subject, table.names(), None, answer)
+                push_answer(self.question, &subject, table.names(), answer)
             }
             Err(FileFault::OutOfMemory) => Err(AllocError),
             Err(fault) => push_refusal(&fault, answer),
