@@ -7,7 +7,8 @@ them may be lost.
 prints the gonality of the graph of each line of FILE, a table each; what it holds does not matter.
 
 Equivalent divisors have one rank, so of each class only the reduced divisor is tried, if it has a dollar at q: otherwise none can be lost
-there. Each degree takes one run of the program, over the tables of all graphs that are left.
+there. Nor can one be lost at a vertex without dollars from which all burns. Each degree takes one run of the program, over the tables of
+all graphs that are left.
 
     >>> gonality(graph(5, [(0, 1), (1, 2), (1, 3), (3, 4)])), gonality(graph(7, [(i, (i + 1) % 7) for i in range(7)]))
     (1, 2)
@@ -40,10 +41,28 @@ def graph(size, edges):
     return dollar.Table(matrix)
 
 
+def all_burns(edges, amounts, first):
+    """Whether a fire at a vertex burns all others."""
+    left, burnt = list(amounts), [first]
+    left[first] = -1
+    for vertex in burnt:
+        for other, count in edges[vertex]:
+            if left[other] >= 0:
+                left[other] -= count
+                if left[other] < 0:
+                    burnt.append(other)
+    return len(burnt) == len(left)
+
+
 def tried(table, degree):
     """The divisors of a degree, one of each class, that may have rank 1: how many dollars q has does not make one reduced."""
-    one = dollar.Table(table, {table.q: 1})
-    return (one + each for each in one.reduced_divisors(degree - 1, winnable=True))
+    places = {vertex: place for place, vertex in enumerate(table.vertices)}
+    edges = [[(places[other], count) for other, count in near.items()] for near in dollar.edges(table).values()]
+    q = places[table.q]
+    for amounts in table.reduced_divisors(degree - 1, winnable=True).amounts():
+        held = [*amounts[:q], amounts[q] + 1, *amounts[q + 1:]]
+        if not any(all_burns(edges, held, place) for place, amount in enumerate(held) if amount == 0):
+            yield dollar.Table(table, held)
 
 
 def gonalities(tables):

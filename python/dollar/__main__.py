@@ -5,6 +5,7 @@
     python3 -m dollar replay FILE STEPS      a page that shows a game
     python3 -m dollar sweep judge FILE CSV   the verdicts on the tables of a file, or other answers, by all processors
     python3 -m dollar json                   the program's lines from a pipe, as lines of JSON
+    python3 -m dollar names                  a page of all names of the package
 
 Each has --help. In a clone where the package is not installed, `python3 python/dollar` does the same."""
 
@@ -24,7 +25,7 @@ from dollar.drawing import verdict_picture
 from dollar.table import shown_name, text_of
 
 COMMANDS = {"board": "dollar.board.play", "replay": "dollar.board.replay", "sweep": "dollar.cluster",
-            "json": "dollar.as_json"}
+            "json": "dollar.as_json", "names": "dollar.names"}
 
 
 def draw(words: "list[str]") -> int:

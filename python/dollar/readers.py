@@ -1,106 +1,112 @@
-"""What reads the answers of a sweep quickly: for one table the names in them are known, so that one pattern reads a line as strictly as
-the general one does. And what writes many divisors as lines."""
+"""What reads the numbers of a sweep, with numpy and without. And what writes many divisors as lines."""
 
 from __future__ import annotations
 
 import functools
 import importlib
 import itertools
-import marshal
 import re
-import sys
-from typing import Any, Callable, Iterable, Iterator, List, Optional, Pattern, Sequence, Tuple
+from array import array
+from typing import Any, Callable, Iterable, Iterator, List, NamedTuple, Pattern, Sequence, Tuple
 
-from dollar.answers import RankTest, Verdict, no_answer, rank_test_of, verdict_of, vertices_of
-from dollar.looking import verdict_look
+from dollar.answers import RankTest, RiemannRoch, Verdict
 from dollar.table import Table
-from dollar.vertices import Dollars, Fixed, Pairs, Vertices
+from dollar.vertices import Dollars, Vertices
 
-NUMBER = r"(0|-?[1-9]\d*)"
-# How many divisors are written at once; the numbers that are written by numpy, by the bytes that each takes with what ends it; and how
-# many bytes it does not pay to read by it.
-BATCH, WRITTEN, LEAST_QUICK = 2_000, {4: (-99, 999), 8: (-9_999, 9_999)}, 4096
-
-
-def amounts_form(names: Sequence[str]) -> str:
-    return " ".join("%s=%s" % (name, NUMBER) for name in names)
+# What stands where there is no number; how many digits a number has at most; how many divisors are written at once; and the numbers that
+# are written by numpy, by the bytes that each takes with what ends it.
+MARK, MOST_DIGITS, BATCH, WRITTEN = b"NA", 18, 1_000, {4: (-99, 999), 8: (-9_999, 9_999)}
 
 
-@functools.lru_cache(maxsize=1024)
-def verdict_form(names: Tuple[str, ...]) -> Pattern[str]:
-    """What reads a verdict on a table with these names."""
-    return re.compile("(un)?winnable by {0} to {0}".format(amounts_form(names)), re.ASCII)
+@functools.lru_cache(maxsize=64)
+def lines_form(size: int, is_told: bool) -> Pattern[bytes]:
+    """The form of lines of so many numbers, with one space between two; `is_told` if the first is 0 or 1."""
+    number = b"(?:0|-?[1-9][0-9]{0,%d})" % (MOST_DIGITS - 1)
+    return re.compile(b"(?:%b(?: %b){%d}\\n)*" % (b"[01]" if is_told else number, number, size - 1))
 
 
-@functools.lru_cache(maxsize=1024)
-def rank_test_form(names: Tuple[str, ...]) -> Pattern[str]:
-    """What reads a rank test that has its first loss, or holds."""
-    return re.compile("rank (?:at least|below) (0|[1-9][0-9]*)(?: at %s)?" % amounts_form(names), re.ASCII)
+def numbers_of(piece: bytes, size: int, is_told: bool, numpy: Any = None) -> Any:
+    """The numbers of lines of this form, in an array of numpy if that is given, or of the module `array`; or None if a line has another.
+
+    >>> numbers_of(b"1 0 -1\\n0 20 0\\n", 3, True)
+    array('q', [1, 0, -1, 0, 20, 0])
+    >>> numbers_of(b"1 0 -01\\n", 3, True), numbers_of(b"2 0 0\\n", 3, True), numbers_of(b"1 0\\n", 3, True)
+    (None, None, None)
+    """
+    if numpy:
+        return numbers_by_numpy(numpy, piece, size, is_told)
+    return array("q", map(int, piece.split())) if lines_form(size, is_told).fullmatch(piece) else None
 
 
-def read_verdict(text: str, kept: Any) -> Verdict:
-    """The verdict with this text, on what was kept of the table."""
-    vertices = vertices_of(kept)
-    return verdict_of(text, kept) if vertices is None else verdict_reader(vertices)(text, kept)
-
-
-@functools.lru_cache(maxsize=1024)
-def verdict_reader(vertices: Vertices) -> Callable[[str, Any], Verdict]:
-    """What reads verdicts on tables with these vertices."""
-    match, size, keyed, are_names, given = (
-        verdict_form(vertices.names).fullmatch, len(vertices.names), vertices.keyed, vertices.are_names, vertices.given)
-
-    def read(text: str, kept: Any) -> Verdict:
-        found = match(text)
-        if found is None:
-            raise no_answer(text)
-        word, *texts = found.groups()
-        numbers = list(map(int, texts))
-        if are_names:
-            return verdict_on(kept, word is None, Fixed(zip(given, numbers[:size])), Fixed(zip(given, numbers[size:])))
-        return verdict_on(kept, word is None, keyed(numbers[:size]), keyed(numbers[size:]))
-
-    return read
-
-
-def verdicts_reader(vertices: Vertices) -> Callable[[bytes], Optional[Iterator[Tuple[Any, ...]]]]:
-    """What reads the verdicts of many lines by numpy, if that is used already: for each whether the table can be won, the script and the
-    reduced divisor; None if it is not used, or a line is another answer."""
-    numpy, size, keyed, are_names, given = (
-        sys.modules.get("numpy"), len(vertices.names), vertices.keyed, vertices.are_names, vertices.given)
-    look = verdict_look(numpy, vertices.names) if numpy else None
-
-    def read(piece: bytes) -> Optional[Iterator[Tuple[Any, ...]]]:
-        found = look.read(piece) if look is not None and len(piece) > LEAST_QUICK else None
-        if found is None:
+def numbers_by_numpy(numpy: Any, piece: bytes, size: int, is_told: bool) -> Any:
+    """The same by numpy, which looks at all numbers at once, digit by digit."""
+    text = numpy.frombuffer(piece, dtype=numpy.uint8)
+    ends = numpy.flatnonzero(text <= ord(" "))
+    if len(ends) % size or not len(ends) or ends[-1] != len(text) - 1:
+        return None
+    if (text[ends].reshape(-1, size) != numpy.frombuffer(b" " * (size - 1) + b"\n", dtype=numpy.uint8)).any():
+        return None
+    at = numpy.concatenate(([0], ends[:-1] + 1))
+    is_less = text[at] == ord("-")
+    at += is_less
+    lengths, digits = ends - at, text[at] - numpy.uint8(ord("0"))
+    values = digits.astype(numpy.int64)
+    if (digits > 9).any() or ((digits == 0) & (is_less | (lengths > 1))).any() or lengths.max() > MOST_DIGITS:
+        return None
+    # The places of those numbers that have one more digit.
+    more = numpy.flatnonzero(lengths > 1)
+    for place in range(1, int(lengths.max())):
+        more = more[lengths[more] > place]
+        digits = text[at[more] + place] - numpy.uint8(ord("0"))
+        if (digits > 9).any():
             return None
-        winnable, values = found[0].tolist(), found[1].tolist()
-        if are_names:
-            return ((is_won, Fixed(zip(given, row[:size])), Fixed(zip(given, row[size:]))) for is_won, row in zip(winnable, values))
-        return ((is_won, keyed(row[:size]), keyed(row[size:])) for is_won, row in zip(winnable, values))
-
-    return read
+        values[more] = values[more] * 10 + digits
+    numpy.negative(values, out=values, where=is_less)
+    return None if is_told and ((values[::size] < 0) | (values[::size] > 1)).any() else values
 
 
-def verdict_on(kept: Any, winnable: bool, script: Pairs, reduced: Pairs) -> Verdict:
-    """A verdict with these parts."""
-    verdict = object.__new__(Verdict)
-    object.__setattr__(verdict, "__dict__", {"winnable": winnable, "script": script, "reduced": reduced, "_table": kept})
-    return verdict
+def tests_of(piece: bytes, size: int, numpy: Any = None) -> Any:
+    """The same of rank tests: one that holds has 0 in the place of each mark."""
+    good, zeros = b"1" + (b" " + MARK) * (size - 1) + b"\n", b"1" + b" 0" * (size - 1) + b"\n"
+    found = numbers_of(piece.replace(good, zeros), size, True, numpy)
+    return found if found is not None and sum(found[::size].tolist()) == piece.count(good) else None
 
 
-def read_rank_test(text: str, kept: Any) -> RankTest:
-    """The same of a rank test."""
-    vertices = vertices_of(kept)
-    found = None if vertices is None else rank_test_form(vertices.names).fullmatch(text)
-    if vertices is None or found is None or (found[2] is None) != text.startswith("rank at least"):
-        return rank_test_of(text, kept, vertices)
-    degree, *texts = found.groups()
-    test = object.__new__(RankTest)
-    object.__setattr__(test, "__dict__", {
-        "holds": found[2] is None, "degree": int(degree), "loss": None if found[2] is None else vertices.keyed(map(int, texts)),
-        "_table": kept})
-    return test
+class Form(NamedTuple):
+    """Lines of numbers: how many each has, what reads them, and what makes the answer of the numbers of one, on what was kept of a table."""
+
+    size: int
+    read: Callable[[bytes, Any], Any]
+    made: Callable[[List[int], Any], Any]
+
+
+def made(kind: Any, kept: Any, **parts: Any) -> Any:
+    """An answer with these parts, on what was kept of a table."""
+    answer = object.__new__(kind)
+    parts["_table"] = kept
+    object.__setattr__(answer, "__dict__", parts)
+    return answer
+
+
+@functools.lru_cache(maxsize=1024)
+def verdict_form(vertices: Vertices) -> Form:
+    """Verdicts on tables with these vertices."""
+    keyed, last = vertices.keyed, len(vertices.names) + 1
+    return Form(2 * last - 1, lambda piece, numpy: numbers_of(piece, 2 * last - 1, True, numpy), lambda numbers, kept: made(
+        Verdict, kept, winnable=numbers[0] == 1, script=keyed(numbers[1:last]), reduced=keyed(numbers[last:])))
+
+
+@functools.lru_cache(maxsize=1024)
+def rank_test_form(vertices: Vertices, degree: int) -> Form:
+    """Rank tests on tables with these vertices. If there is one number alone, the test does not hold, and no loss is named."""
+    keyed, size = vertices.keyed, len(vertices.names) + 1
+    return Form(size, lambda piece, numpy: tests_of(piece, size, numpy), lambda numbers, kept: made(
+        RankTest, kept, holds=numbers[0] == 1, degree=degree, loss=keyed(numbers[1:]) if numbers[0] == 0 and numbers[1:] else None))
+
+
+def riemann_roch_form() -> Form:
+    """The four numbers of tables."""
+    return Form(4, lambda piece, numpy: numbers_of(piece, 4, False, numpy), lambda numbers, _: RiemannRoch(*numbers))
 
 
 def numpy_or_none() -> Any:
@@ -155,12 +161,11 @@ def divisors_by_batches(table: Table, divisors: Any) -> Iterator[Tuple[int, byte
             yield len(batch) // size, lines_of(numpy, batch, size)
         return
     for rows in batches_of(table, divisors):
-        numbers = small_ints(numpy, rows, size) if numpy else None
-        if numbers is None:
-            numbers = [each for at, row in enumerate(rows) for each in row_of(table, row, number + at)]
-            yield len(rows), lines_of_ints(numbers, size)
-        else:
-            yield len(rows), lines_of(numpy, numbers, size)
+        is_plain = set(map(type, rows)) <= {list, tuple} and set(map(len, rows)) == {size}
+        numbers = tuple(itertools.chain.from_iterable(rows)) if is_plain else ()
+        if set(map(type, numbers)) != {int}:
+            numbers = tuple(each for at, row in enumerate(rows) for each in row_of(table, row, number + at))
+        yield len(rows), lines_of_ints(numbers, size)
         number += len(rows)
 
 
@@ -188,7 +193,7 @@ def row_of(table: Table, row: Any, number: int) -> Tuple[int, ...]:
         raise type(error)("divisor %d: %s" % (number, error)) from None
 
 
-def lines_of_ints(numbers: List[int], size: int) -> bytes:
+def lines_of_ints(numbers: Sequence[int], size: int) -> bytes:
     """The lines of some numbers, so many on each.
 
     >>> lines_of_ints([1, -20, 0, 7], 2)
@@ -196,25 +201,6 @@ def lines_of_ints(numbers: List[int], size: int) -> bytes:
     """
     form = b" ".join([b"%d"] * size) + b"\n"
     return form * (len(numbers) // size) % tuple(numbers)
-
-
-def small_ints(numpy: Any, rows: Sequence[Any], size: int) -> Any:
-    """The numbers of some lists or tuples of so many ints, as an array; None if another thing is in them, or an int of more than 32 bits.
-    The module marshal writes an int as the letter i and four bytes, and a list as a bracket and its length in as many, and begins nothing
-    else with these: so this looks at types, lengths and values at once."""
-    try:
-        text = marshal.dumps(rows if type(rows) is list else list(rows), 2)
-    except ValueError:
-        return None
-    if len(text) != 5 + 5 * len(rows) * (size + 1):
-        return None
-    found = numpy.frombuffer(text, dtype=[("type", "u1"), ("number", "<i4")], offset=5)
-    kinds = found["type"].reshape(len(rows), size + 1)
-    wanted = numpy.array([ord("(" if type(rows[0]) is tuple else "["), *[ord("i")] * size], dtype=numpy.uint8)
-    if (kinds != wanted).any():
-        return None
-    numbers = found["number"].reshape(len(rows), size + 1)
-    return numbers[:, 1:].astype(numpy.intp).ravel() if (numbers[:, 0] == size).all() else None
 
 
 @functools.lru_cache(maxsize=None)

@@ -3,26 +3,28 @@
 from __future__ import annotations
 
 import itertools
+import json
 import os
 import select
 import subprocess
 import sys
 import tempfile
 import time
+from array import array
 from collections import deque
 from collections.abc import Mapping as AbstractMapping
 from typing import (
     Any, Callable, Deque, Generic, Iterable, Iterator, List, Literal, Mapping, NamedTuple, Optional, Sequence, Tuple, TypeVar, Union,
     overload)
 
-from dollar.answers import RankTest, RefusedRankTest, RefusedRiemannRoch, RefusedVerdict, RiemannRoch, Verdict, refusal, riemann_roch_of
+from dollar.answers import (
+    RankTest, RefusedRankTest, RefusedRiemannRoch, RefusedVerdict, RiemannRoch, Verdict, no_answer, refusal, vertices_of)
 from dollar.columns import (
     AnyInts, AnyTruths, ArrayInts, Columns, NumpyInts, NumpyTruths, RankTestColumns, RiemannRochColumns, VerdictColumns)
 from dollar.commands import MOST_DEGREE, TOO_MANY, beside, option
 from dollar.program import Fault, Place, command_line, ended_by, fault_of
 from dollar.readers import (
-    divisors_by_batches, divisors_one_by_one, numpy_or_none, ordered, read_rank_test, read_verdict, rows_of, verdict_on, verdict_reader,
-    verdicts_reader)
+    Form, divisors_by_batches, divisors_one_by_one, numpy_or_none, ordered, rank_test_form, riemann_roch_form, rows_of, verdict_form)
 from dollar.table import Graph, Table, one_line
 from dollar.vertices import Dollars, Vertices, within
 
@@ -177,7 +179,8 @@ class Lines(NamedTuple):
 
 
 class Job(NamedTuple):
-    """What a sweep is asked, and how it is done."""
+    """What a sweep is asked, and how it is done. `form` has the form of an answer by what was kept of its table, and `one` that of all, if
+    they have one."""
 
     lines: Lines
     program: Optional[Place]
@@ -185,41 +188,53 @@ class Job(NamedTuple):
     progress: bool
     errors: str
     refused: Callable[..., Any]
-    read: Callable[[str, Any], Any]
-    many: Optional[Callable[[bytes], Optional[Iterator[Tuple[Any, ...]]]]] = None
+    form: Callable[[Any], Form]
+    one: Optional[Form]
+
+    def answers(self, piece: bytes, number: int, take: Callable[[], Any]) -> Iterator[Any]:
+        """The answers of some lines, of which the first has this number."""
+        found = self.one and self.one.read(piece, sys.modules.get("numpy"))
+        if self.one is not None and found is not None:
+            numbers, size, made = found.tolist(), self.one.size, self.one.made
+            return (made(numbers[at:at + size], take()) for at in range(0, len(numbers), size))
+        texts = piece.decode().split("\n")[:-1]
+        return (self.answer(text, place, take()) for place, text in enumerate(texts, number))
 
     def answer(self, text: str, number: int, kept: Any) -> Any:
         """The answer with this text and number. A table that was refused has a row, if it is not raised, and so have four numbers of which
         two are not known."""
-        is_cut = text.endswith("dual ?")
+        is_cut = self.refused is RefusedRiemannRoch and text.endswith(" NA NA")
         if not is_cut and not text.startswith("refused "):
-            return self.read(text, kept)
-        known = dict(zip(("degree", "genus"), map(int, text.split(" ")[1:4:2]))) if is_cut else {}
+            return self.told(text, kept)
+        known = dict(zip(("degree", "genus"), map(int, text.split(" ")[:2]))) if is_cut else {}
         reason = TOO_MANY if is_cut else text[len("refused "):]
         row = refusal(self.refused, reason, number, beside(reason, kept), **known)
         if self.errors == "raise":
             raise Fault(row.text, row.status, number, row.more)
         return row
 
+    def told(self, text: str, kept: Any) -> Any:
+        """The answer of one line of numbers."""
+        form = self.one or self.form(kept)
+        found = form.read(text.encode() + b"\n", None)
+        if found is None and self.refused is RefusedRankTest and text == "0" + " NA" * (form.size - 1):
+            # The rank is below the degree, and no loss is named.
+            found = array("q", [0])
+        if found is None:
+            raise no_answer(text)
+        return form.made(found.tolist(), kept)
+
 
 def answers_one_by_one(job: Job, number: int, over: List[bool]) -> Iterator[Any]:
     """The answers, of which the first has this number. It is noted in `over` that they have come to their end."""
     sweep = Sweep(job.lines.words, job.lines.one_by_one, job.program, job.ahead)
-    progress, answer, take = Progress(job.progress), job.answer, sweep.waiting.popleft
+    progress = Progress(job.progress)
     try:
         for piece in sweep.pieces():
             if piece.count(b"\n") > len(sweep.waiting):
                 raise Fault("more answers came than tables were sent", 0)
-            found = None if job.many is None else job.many(piece)
-            if found is not None:
-                for parts in found:
-                    yield verdict_on(take(), *parts)
-                    number += 1
-                    progress.add(1)
-                continue
-            for text in piece.decode().split("\n")[:-1]:
-                yield answer(text, number, take())
-                number += 1
+            for found in job.answers(piece, number + progress.count, sweep.waiting.popleft):
+                yield found
                 progress.add(1)
         sweep.end(progress.count)
         over.append(True)
@@ -332,7 +347,7 @@ def asked(command: str, given: Sequence[str], tables: Any, divisors: Optional[Di
     """What a command over lines is asked."""
     if errors not in ("row", "raise"):
         raise ValueError("errors are either 'row' or 'raise', and not %r" % (errors,))
-    rest = [*given, *option("workers", workers)]
+    rest = [*given, "--numbers", *option("workers", workers)]
     if divisors is None:
         one_by_one = tables_one_by_one(tables)
         return Lines([command, "--lines", "/dev/stdin", *rest], one_by_one, ((1, line) for _, line in one_by_one), None)
@@ -343,6 +358,11 @@ def asked(command: str, given: Sequence[str], tables: Any, divisors: Optional[Di
     divisors = ordered(table, divisors)
     return Lines([command, file, "--divisors", "/dev/stdin", *rest], divisors_one_by_one(table, rows_of(divisors)),
                  divisors_by_batches(table, divisors), table._vertices)
+
+
+def vertices_kept(kept: Any) -> Vertices:
+    """The vertices of a table, by what was kept of it, which may be its line."""
+    return vertices_of(kept) or Vertices(json.loads(kept)["vertices"])
 
 
 def of_one_table(columns: Callable[[Vertices, Any], Columns]) -> Callable[[Optional[Vertices], Any], Columns]:
@@ -394,8 +414,9 @@ def judge_all(tables: Tables, *, workers: Optional[int] = None, errors: Errors =
     [False, False, True, True]
     """
     lines = asked("judge", [], tables, divisors, workers, errors)
-    one, many = (read_verdict, None) if lines.vertices is None else (verdict_reader(lines.vertices), verdicts_reader(lines.vertices))
-    return Answers(Job(lines, program, ahead, progress, errors, RefusedVerdict, one, many), of_one_table(VerdictColumns))
+    one = None if lines.vertices is None else verdict_form(lines.vertices)
+    return Answers(Job(lines, program, ahead, progress, errors, RefusedVerdict, lambda kept: verdict_form(vertices_kept(kept)), one),
+                   of_one_table(VerdictColumns))
 
 
 @overload
@@ -420,9 +441,11 @@ def rank_test_all(tables: Tables, degree: int, *, workers: Optional[int] = None,
     >>> [str(test) for test in rank_test_all(pair, 2, divisors=[[2, 0], {1: 1}])]
     ['rank at least 2', 'rank below 2 at 0=0 1=2']
     """
-    lines = asked("rank", [str(within(degree, "the degree", 0, MOST_DEGREE))], tables, divisors, workers, errors)
-    return Answers(Job(lines, program, ahead, progress, errors, RefusedRankTest, read_rank_test),
-                   of_one_table(lambda vertices, numpy: RankTestColumns(vertices, numpy, degree)))
+    degree = within(degree, "the degree", 0, MOST_DEGREE)
+    lines = asked("rank", [str(degree)], tables, divisors, workers, errors)
+    one = None if lines.vertices is None else rank_test_form(lines.vertices, degree)
+    return Answers(Job(lines, program, ahead, progress, errors, RefusedRankTest, lambda kept: rank_test_form(vertices_kept(kept), degree), one),
+                   of_one_table(RankTestColumns))
 
 
 @overload
@@ -449,4 +472,5 @@ def rr_all(tables: Tables, *, workers: Optional[int] = None, errors: Errors = "r
     [0, 1, 1, 2]
     """
     lines = asked("rr", [], tables, divisors, workers, errors)
-    return Answers(Job(lines, program, ahead, progress, errors, RefusedRiemannRoch, lambda text, _: riemann_roch_of(text)), RiemannRochColumns)
+    form = riemann_roch_form()
+    return Answers(Job(lines, program, ahead, progress, errors, RefusedRiemannRoch, lambda kept: form, form), RiemannRochColumns)

@@ -7,6 +7,7 @@ import shutil
 import subprocess
 
 import dollar
+from dollar import names
 from helpers import ROOT, Test, each, needed
 from pages import shown
 
@@ -34,7 +35,8 @@ class OfPages(Test):
 
     def test_the_help_and_the_page_have_each_name(self):
         self.assertEqual([name for name in dollar.__all__ if not re.search(r"`%s\b" % name, dollar.__doc__)], [])
-        self.assertEqual([name for name in dollar.__all__ if not re.search(r"`(dollar\.)?%s\b|dollar\.%s\b" % (name, name), PAGE)], [])
+        page = "\n".join(names.page())
+        self.assertEqual([name for name in dollar.__all__ if not re.search(r"(?m)^## `%s\b.*\n\n\S" % name, page)], [])
 
     def test_each_name_has_an_example(self):
         """In its own description, or in the one to which that sends."""

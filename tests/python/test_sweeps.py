@@ -102,7 +102,7 @@ class OfSweeps(Test):
         self.assertEqual((descriptors(), threading.active_count()), (before, threads))
 
     def test_a_program_that_ends_early_is_a_fault(self):
-        program = self.script("#!/bin/sh\nread line\necho 'winnable by 0=0 1=0 to 0=0 1=0'\necho 'dollar: out of memory' >&2\nexit 4\n")
+        program = self.script("#!/bin/sh\nread line\necho '1 0 0 0 0'\necho 'dollar: out of memory' >&2\nexit 4\n")
         got = []
         with self.assertRaisesRegex(Fault, "out of memory") as caught:
             for verdict in dollar.judge_all(pairs(50_000), program=program):
