@@ -43,9 +43,11 @@ WHERE = """(() => {
   return [location.href, document.readyState, Boolean(at), Boolean(at && at.viewer), kept.slice(0, 600)].join(" | ");
 })()"""
 LISTED = "$$('#whole li').map((at) => [...at.querySelectorAll('code')].map((code) => code.textContent))"
-MIDDLE = """(() => {
-  const at = $(%s);
+MIDDLE = """(async () => {
+  const at = $(%s), doors = $$("details:not([open])").filter((door) => at && door.contains(at) && at.parentElement !== door);
   if (!at) return null;
+  doors.forEach((door) => { door.open = true; });
+  if (doors.length) await new Promise((done) => setTimeout(() => requestAnimationFrame(() => requestAnimationFrame(done))));
   at.scrollIntoView({ block: "nearest" });
   const box = at.getBoundingClientRect();
   return [box.x + box.width / 2, box.y + box.height / 2];
@@ -324,7 +326,6 @@ class Page:
         self.browser, self.folder = browser, pathlib.Path(folder)
         self.folder.mkdir(exist_ok=True)
         self.visit(address)
-        browser.save_in(folder)
 
     def __getattr__(self, name):
         return getattr(self.browser, name)
@@ -357,11 +358,11 @@ class Page:
         """The text of a file that a button saves."""
         place = self.folder / name
         place.unlink(missing_ok=True)
+        self.browser.save_in(self.folder)
         self.value("$$('#tables details').forEach((at) => { at.open = true; })")
         self.click(button)
-        if not waited(place.exists, 10):
+        if not waited(lambda: place.exists() and place.stat().st_size):
             raise TimeoutError(f"{name} is not saved")
-        time.sleep(0.05)
         return text_of(place)
 
     def answered(self, yes):

@@ -10,7 +10,8 @@ from pathlib import Path
 
 from helpers import EXAMPLES, PACKAGE, ROOT, expect, program
 
-PATIENCE = 30
+# So long is waited for what is to come: longer than the busiest machine takes.
+PATIENCE = 120
 PLAY = [sys.executable, "-B", ROOT / "board" / "play", "--no-browser"]
 TRIANGLE = EXAMPLES / "triangle.json"
 
@@ -33,12 +34,6 @@ def written(folder, name, text):
 def swings(name, count):
     """Steps of seat 1, which lends and borrows in turn."""
     return "".join(f"1 {'borrow' if number % 2 else 'lend'} {name}\n" for number in range(count))
-
-
-def tell(text):
-    """Prints a number that was measured, if somebody wants to know."""
-    if os.environ.get("TOLD"):
-        print(text)
 
 
 def waited(held, seconds=PATIENCE):

@@ -3,8 +3,8 @@
 import { GRAMMAR } from "./grammar.js";
 import { fitted, freePlace, layoutOf, placesText, shortened, vertexAhead, vertexAt, wordsPlace } from "./places.js";
 import {
-  CAUSES, FAULTS, Game, KINDS, answerOf, besideWords, commandWords, faultWords, flows, legendWords, linesOf, markOf, mostTelling,
-  movesWords, nameWords, numbersOf, numbersWords, rankWords, replyOf, replyWords, startWords, stepOf,
+  CAUSES, FAULTS, Game, KINDS, answerOf, besideWords, commandWords, faultWords, firstWords, flows, legendWords, linesOf, markOf, mostTelling,
+  movesWords, nameWords, numbersOf, numbersWords, rankWords, reachedWords, replyOf, replyWords, startWords, stepOf,
 } from "./words.js";
 
 const failures_ = [];
@@ -111,8 +111,22 @@ function games() {
   rich.add("1 lend a", "0 moved b=3 a=-2 2=1");
   rich.add("1 borrow a", "1 moved b=1 a=1 2=0");
   equal([0, 1, 2].map((index) => rich.isWon(index)), [false, false, false], "a table on which nobody owed");
+  rich.add("1 script a=2,b=-1", "2 moved b=0 a=0 2=2");
+  rich.add("1 fire a,b", "3 moved b=0 a=-1 2=3");
+  equal(rich.states.map(({ moves }) => moves), [0, 1, 2, 5, 7], "how many moves a script and a set are");
+  rich.help();
+  equal(rich.states.every(({ helped }) => helped), true, "a game with help");
+  const reached = [{ won: true, moves: 5, best: 3, least: 3 }, { won: true, moves: 2, helped: true, least: 2 }, { moves: 0, best: 1 },
+    { moves: 4 }, { won: true, moves: 4, best: 4, least: 3 }, { moves: 1, right: true }];
+  equal(reached.map(reachedWords), ["Solved in 5 moves: nobody owes a dollar. Your best: 3. It can't be done in fewer.",
+    "Solved in 2 moves: nobody owes a dollar. With help, so it is no best. It can be done in 2.", "Solved before, in 1 move.", "",
+    "Solved in 4 moves: nobody owes a dollar. It can be done in 3.", "Right: it can't be done."], "what was reached");
   equal([movesWords(1), movesWords(0), faultWords("?", "x")], ["1 move", "0 moves", "x"], "words of numbers and faults");
   equal([startWords(0), startWords(1), startWords(2)], ["Start. No moves yet.", "Start, before 1 step", "Start, before 2 steps"], "starts");
+  odd.add("1 lend a", "1 moved b=2 a=-2 2=0");
+  equal([firstWords(new Game(TABLE), 0), firstWords(odd, 1), firstWords(odd, 2), firstWords(rich, 1).split(".")[0], firstWords(rich, 3)],
+    ["Click b: it sends a dollar along each of its edges.", "a lends. Go on until nobody owes. To let one borrow, press it longer, or tick the "
+      + "box first.", "", "a lends", ""], "the first minute");
   equal([linesOf("a\nb\n"), linesOf("a\nb"), linesOf("")], [["a", "b"], ["a", "b"], []], "lines of texts");
 }
 

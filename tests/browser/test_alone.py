@@ -8,32 +8,17 @@ import time
 
 import firefox
 from browser import CTRL, LISTED, READY, SHIFT, Page, at, needed
-from common import EXAMPLES, asked, by_line, played, swings, tell, text_of, written
+from common import EXAMPLES, asked, by_line, played, swings, text_of, written
 from helpers import equal, expect, tests_of
 
 RANDOM_LINES, LONG = 80, 60_000
-NO_LOOK = "Look first: this seat has no look to use."
+NO_LOOK, LEAST = "Look first: this seat has no look to use.", "It can't be done in fewer."
 TOO_MANY = "The command has too many words or too few, or an extra space."
 NO_NAME, NO_WORD = "It names a vertex that is not there, or one twice.", "There is no such command."
-# Seconds that a line takes on the page, from its click until it is drawn, at the median.
-MEDIAN = """(async () => {
-  const took = [];
-  for (let i = 0; i < 10; i++) {
-    const start = performance.now();
-    await play(i % 2 ? 'borrow a' : 'lend a');
-    took.push(performance.now() - start);
-  }
-  return took.sort((x, y) => x - y)[took.length >> 1] / 1000;
-})()"""
-DROP = """(() => {
-  const data = new DataTransfer();
-  data.items.add(new File([%s], 'dropped.json'));
-  document.dispatchEvent(new DragEvent('drop', { dataTransfer: data, bubbles: true, cancelable: true }));
-})()"""
 SMALL = """$$('button, select, input, summary').filter((at) =>
   at.offsetParent && Math.min(at.offsetWidth, at.offsetHeight) < 16).map((at) => at.id || at.textContent)"""
 SAID = "$$('#board .vertex:has(.says)').map((at) => [at.dataset.name, at.querySelector('.says').textContent])"
-ENDS = "$$('#told-script tbody tr').map(({ children: [name, , , end] }) => [name.textContent, end.textContent])"
+BURNING = "viewer.board.picture.burnt.map((name, i) => [name, $$('#board .badge')[i].textContent])"
 # Who has the focus, and whether that can be seen.
 FOCUSED = """(() => {
   const at = document.activeElement;
@@ -71,7 +56,6 @@ class Player(Page):
         self.value("questions.clear()")
         self.click(button)
         self.until("$('#told-printed').textContent !== ''")
-        time.sleep(0.15)
         return self.text("#told-words"), self.text("#told-printed")
 
     def open_example(self, name, asks=True):
@@ -80,6 +64,10 @@ class Player(Page):
         if asks:
             self.answered(True)
         self.until(f"viewer.game.length === 0 && fileName === '{name}.json'")
+
+    def ends(self, words):
+        """Waits until the page says what was reached."""
+        self.until(f"$('#won').textContent === {json.dumps(words)}")
 
     def now(self):
         """A file of the table as it stands."""
@@ -98,7 +86,7 @@ class Player(Page):
 
 def with_focus(player):
     """Whoever goes on by Tab sees where he is, and comes to each control."""
-    player.open_example("houses")
+    player.open_example("houses", asks=False)
     player.value("$$('details').forEach((at) => { at.open = true; })")
     seen = {}
     for _ in range(60):
@@ -141,6 +129,10 @@ def by_mouse(player):
         player.click(selector)
     equal(player.value(chosen), [], "chosen twice")
     player.click("#choosing")
+    player.click("#borrowing")
+    player.does("1 borrow cyd", player.click, at("cyd"))
+    player.does("1 lend cyd", player.click, at("cyd"), SHIFT)
+    player.click("#borrowing")
     length, (x, y) = player.length(), player.middle(at("ann"))
     player.drag(at("ann"), [x + 130, y - 90])
     time.sleep(0.2)
@@ -191,12 +183,10 @@ def by_keys(player):
     player.press("ArrowUp")
     player.does("1 join ann bob", player.press, "j")
     player.press("Escape")
-    player.value("$('#hands details').open = true, $('#gift-to').value = 'cyd'")
-    player.types("#gift-amount", "-2")
-    player.does("1 gift cyd -2", player.press, "Enter")
-    player.focus("#line-in")
-    player.write("script ann=1,cyd=-2")
-    player.does("1 script ann=1,cyd=-2", player.press, "Enter")
+    player.value("$('#more').open = true")
+    for line in "gift cyd -2", "script ann=1,cyd=-2":
+        player.types("#line-in", line)
+        player.does(f"1 {line}", player.press, "Enter")
     player.value("document.activeElement.blur()")
     player.press("ArrowLeft")
     equal(player.value("viewer.now"), player.length() - 1, "the arrow key off the board")
@@ -211,14 +201,16 @@ def by_seats(player):
     for number, word in (3, "look"), (64, "look"), (3, "commit"):
         sit(number)
         player.does(f"{number} {word}", player.click, "#" + word)
-    player.does(None, player.click, "#gift-form button")
+    player.types("#line-in", "gift ann 1")
+    player.does("3 gift ann 1", player.click, "#line-form button")
     sit(64)
     player.does("64 commit", player.click, "#commit")
     expect(re.search(r" stale \d+$", player.text("#said")), f"a look before a gift is not stale: {player.text('#said')}")
     expect("Stale" in player.text("#answer"), "the page does not say that it is stale")
     equal(player.refused(player.click, "#commit"), (NO_LOOK, "dollar: bad look"), "no look")
     player.does("64 look", player.click, "#look")
-    player.does(None, player.click, "#rank-form button")
+    player.types("#line-in", "rank 1")
+    player.does("64 rank 1", player.click, "#line-form button")
     expect("rank" in player.text("#said"), f"no rank test: {player.text('#said')}")
     sit(1)
     player.does("1 claim", player.click, "#claim")
@@ -248,9 +240,7 @@ def with_questions(player):
         words, printed = player.told("#ask-won")
         equal(printed, judged, f"whether it can be won at {index}")
         expect(("can be won" in words) == judged.startswith("winnable"), f"the words {words} for {judged}")
-        script, reduced = re.fullmatch(r"\w+ by (.*) to (.*) burning .*\n", judged).groups()
-        rows = player.value(ENDS)
-        equal(rows, [pair.split("=") for pair in reduced.split(" ")], f"the script's end at {index}")
+        script = re.fullmatch(r"\w+ by (.*) to .* burning .*\n", judged)[1]
         says = player.value("$$('#board .vertex .says').length")
         equal(says, sum(not pair.endswith("=0") for pair in script.split(" ")), f"the script on the board at {index}")
         equal(player.told("#ask-rr")[1], numbers, f"the four numbers at {index}")
@@ -310,6 +300,9 @@ def with_fire(player):
     """The fire goes as docs/play.md tells it: from ann to bob, dan and cyd."""
     # The game before was won, and nobody is asked whether to leave it.
     player.open_example("kind_houses", asks=False)
+    player.click("#cant")
+    player.ends("Right: it can't be done.")
+    equal(player.value("$('#next').hidden"), False, "the next puzzle after the right answer")
     _, printed = player.told("#ask-won")
     kind = "unwinnable by ann=0 bob=0 cyd=0 dan=-1 to ann=-1 bob=0 cyd=1 dan=1 burning ann bob dan cyd\n"
     equal(printed, kind, "the verdict on the kind houses")
@@ -318,8 +311,11 @@ def with_fire(player):
     lines = player.value("texts('#told-fire li')")
     equal([line.split(" ")[0] for line in lines], ["ann", "bob", "dan", "cyd", "All"], "the order of the fire")
     equal(lines[1], "bob burns: 1 burning edge, 0 dollars. So bob can't be one of those that lend most.", "why bob burns")
-    equal(player.value("viewer.board.burnt"), ["ann", "bob", "dan", "cyd"], "who burns on the board")
-    equal(player.value("texts('#board .amount')"), ["-1", "0", "1", "1"], "the amounts under the fire")
+    for size in (1280, 800), (700, 900):
+        player.size(*size)
+        equal(player.value(BURNING), [["ann", "1"], ["bob", "2"], ["dan", "3"], ["cyd", "4"]], f"who burns on a page of {size}")
+        equal(player.value("texts('#board .amount')"), ["-1", "0", "1", "1"], f"the amounts under the fire on a page of {size}")
+    player.size()
     equal(player.text("#answer"), "In debt: ann owes 1.", "what is told beside the fire")
     equal(player.length(), 0, "the entries after a fire")
     player.value("viewer.go(0)")
@@ -330,7 +326,7 @@ def with_fire(player):
     player.click("#show-fire")
     player.until("$$('#told-fire li').length === 17")
     equal(player.text("#told-words"), words, "the verdict beside its fire")
-    equal(player.value("viewer.board.burnt.length"), 16, "who burns of sixteen")
+    equal(player.value("names('#board .burnt').length"), 16, "who burns of sixteen")
 
 
 NO_TABLES = [
@@ -350,9 +346,6 @@ def with_tables(player):
         expect(said.startswith(words), f"{own}: {said}")
         equal(code, f"dollar: {own}", "the program's own words")
         equal(player.value("fileName"), "own.json", "the table after one that was refused")
-    player.value(DROP % json.dumps(text_of(EXAMPLES / "cube.json")))
-    player.until("fileName === 'dropped.json' && viewer.game.names.length === 8")
-
     for graph, level in ("", "easy"), ("Cube", "unwinnable"), ("random", "hard"):
         before = player.value("table")
         player.value(f"($('#puzzle-graph').value = '{graph}', $('#puzzle-level').value = '{level}')")
@@ -380,28 +373,31 @@ def with_an_end(player):
     for line in "1 lend cyd", "1 lend bob", "1 borrow dan", "1 lend dan":
         _, word, name = line.split(" ")
         player.does(line, player.click, at(name), SHIFT if word == "borrow" else 0)
-    equal(player.text("#won"), "Solved in 5 moves: nobody owes a dollar. Your best: 3.", "the end")
+    player.ends(f"Solved in 5 moves: nobody owes a dollar. Your best: 3. {LEAST}")
     equal(player.value("$('#next').hidden"), False, "the next puzzle is offered at the end")
     player.value("viewer.go(0)")
     player.value("hands.tell('')")
     player.click("#hint")
-    player.until("$('#note').textContent !== ''")
-    equal([player.text("#note"), player.value(SAID)], ["Let cyd lend once.", [["cyd", "to lend 1"]]], "a hint")
-    equal(player.length(), 5, "the steps after a hint")
+    player.until("$('#note').textContent === 'Let cyd lend once. In all 3 moves will do.'")
+    equal([player.value(SAID), player.length()], [[["cyd", "to lend 1"]], 5], "a hint, and the steps after it")
     player.click("#ask-won")
     player.until("!$('#show-script').hidden")
     player.click("#show-script")
     player.answered(True)
     player.has(1)
-    equal(player.text("#won"), "Solved in 1 move: nobody owes a dollar.", "an end with fewer moves")
+    player.ends(f"Solved in 3 moves: nobody owes a dollar. With help, so it is no best. {LEAST}")
     player.open_example("triangle", asks=False)
     player.open_example("houses", asks=False)
     for name in "cyd", "cyd", "bob":
         player.does(None, player.click, at(name))
-    equal(player.text("#won"), "Solved in 3 moves: nobody owes a dollar. Your best: 1.", "an end with more moves")
+    player.ends(f"Solved in 3 moves: nobody owes a dollar. {LEAST}")
+    player.does(None, player.click, at("cyd"))
+    player.ends(f"Solved before, in 3 moves. {LEAST}")
+    player.click("#cant")
+    player.until("$('#note').textContent === 'It can be done. Try on!'")
     before = player.value("table")
     player.click("#next")
-    player.until(f"table !== {json.dumps(before)} && viewer.game.length === 0 && $('#won').hidden")
+    player.until(f"table !== {json.dumps(before)} && viewer.game.length === 0 && $('#won').hidden && document.activeElement.dataset.name")
 
 
 KEPT_WITH_A_DRAFT = """play("claim").then(() => {
@@ -522,17 +518,13 @@ def on_a_phone(player):
 
 
 def with_takings(player):
-    """The picture and the page that are saved are what they should be."""
+    """The page that is saved is what it should be."""
     table, steps = player.compare("an edited table")
-    svg = player.saved("#take-picture", "board.svg")
-    expect(svg.startswith("<svg") and "zoe" in svg and "script" not in svg.lower(), f"the picture is {svg:.80}")
     player.saved("#take-page", "game.html")
     address = player.value("location.href")
     player.open(player.folder / "game.html")
     shown = player.value("viewer.game.replies.map(({ line }) => line)")
     equal(shown, asked("rehearse", table, steps)[0].splitlines(), "the page that is saved")
-    player.open(written(player.folder, "board.html", '<!doctype html><img src="board.svg">'))
-    player.until("document.querySelector('img').naturalWidth > 0")
     before = text_of(table), text_of(steps)
     player.visit(address + "#%3Cimg%20src=x%20onerror=p()%3E", "viewer.game.length > 0")
     equal(tuple(map(text_of, player.compare("after a reload"))), before, "the files after a reload")
@@ -540,24 +532,17 @@ def with_takings(player):
 
 
 def with_a_long_game(player):
-    """Late in a long game a line takes about as long as at its beginning, and going back far and on from there is quick too."""
+    """A long game is there again after a reload, and goes on from an earlier place."""
     player.open_example("triangle")
-    early = player.value(MEDIAN)
-    time.sleep(1)
+    # What is kept is written a while later, and would be written over the long game.
+    player.until("JSON.parse(sessionStorage.getItem(`dollar ${location.pathname}`)).fileName === 'triangle.json'")
     game = f"{{ table, fileName, steps: {json.dumps(swings('a', LONG))}, places: 'a 0 0\\nb 1 0\\nc 0 1\\n' }}"
     player.value(f"sessionStorage.setItem(`dollar ${{location.pathname}}`, JSON.stringify({game})), location.reload()")
     player.until(f"{READY} && viewer.game.length === {LONG}")
-    late = player.value(MEDIAN)
-    # The bench has the number. This machine may be busy: a game that was played again at each line took 90 ms more.
-    said = f"a line takes {1000 * late:.1f} ms after {LONG} steps, and {1000 * early:.1f} ms at first"
-    expect(late < 3 * early + 0.03, said)
-    tell(said)
-    start = time.monotonic()
     player.value(f"(viewer.go({LONG - 100}), void play('claim'))")
     player.answered(True)
     player.has(LONG - 99)
     equal(player.text("#said"), f"{LONG - 100} not won", "a claim on an earlier place")
-    expect(time.monotonic() - start < 5, f"going on from an earlier place took {time.monotonic() - start:.1f} s")
 
 
 PARTS = (in_sizes, by_mouse, by_touch, by_a_voice, by_keys, by_seats, with_refusals, with_questions, with_many_lines, with_script,

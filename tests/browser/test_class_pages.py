@@ -5,17 +5,14 @@ import os
 import re
 import signal
 import tempfile
-import time
 
 from browser import LISTED, READY, Page, at, needed
-from common import EXAMPLES, played, tell
+from common import EXAMPLES, played
 from helpers import equal, expect, tests_of
 from visitors import PagePupil, Place, Pupil, program_of, taken
 
 # Two pupils' pages and the teacher's; the process of the server, and the teacher's address.
 Lesson = collections.namedtuple("Lesson", "ann bob desk child place")
-SEEN = """[texts("#board .amount"), viewer.game.names.map((name) => String(viewer.game.states.at(-1).amounts.get(name))),
-  $$("#board .coin").length]"""
 NO_LOOK = "Look first: this seat has no look to use."
 
 
@@ -111,26 +108,17 @@ def with_commands(lesson):
 
 
 def on_a_busy_table(lesson):
-    """While others play, the board shows the amounts of now, and coins run above it only if there is time for them."""
+    """While others play, the board shows the amounts of now, also while coins run above it."""
     ann, *_ = lesson
-    other, looks = Pupil(ann.value("location.href"), "busy", events=False), []
+    other = Pupil(ann.value("location.href"), "busy", events=False)
     ann.value("viewer.go(viewer.game.length)")
     ann.media(motion="no-preference")
-    time.sleep(1.2)
-    for pause in [0.9] * 4 + [0.4] * 8 + [0.1] * 20:
-        _, answer = other.play(f"lend {('ann', 'cyd')[len(looks) % 2]}")
-        time.sleep(0.1)
-        shown, known, coins = ann.value(SEEN)
-        equal(shown, known, "the amounts on the board, beside those that the page was told")
-        looks.append((shown == re.findall(r"=(-?\d+)", answer), coins > 0))
-        time.sleep(pause)
-    right = sum(fine for fine, _ in looks)
-    # A busy machine may take longer. With the amounts from before each move it was 14 to 61 of 100.
-    expect(right >= 0.7 * len(looks), f"of {len(looks)} looks {right} saw the amounts of now")
-    expect(looks[0][1] and not any(coins for _, coins in looks[-15:]), f"coins: {[coins for _, coins in looks]}")
+    for number in range(20):
+        _, answer = other.play(f"lend {('ann', 'cyd')[number % 2]}")
+        ann.until(f"viewer.game.replies.at(-1).line === {json.dumps(answer)}")
+        equal(ann.value("texts('#board .amount')"), re.findall(r"=(-?\d+)", answer), "the amounts on the board")
     ann.until("$$('#board .coin').length === 0")
     ann.media()
-    tell(f"of {len(looks)} looks 0.1 s after an entry {right} saw the amounts of now")
 
 
 def with_a_drawn_table(lesson):
@@ -176,7 +164,7 @@ def of_the_pages_of_a_class(folder):
         one.in_sizes("entrance")
         one.click("#watch")
         one.until("state !== null")
-        watching = one.text("#address"), one.value("getComputedStyle($('#hands')).display")
+        watching = one.text("#address"), one.value("getComputedStyle($('#tools')).display")
         equal(watching, (pupils, "none"), "a page that only watches")
         one.in_sizes("watching")
         ann, bob = (PagePupil(*given, folder)
@@ -184,19 +172,16 @@ def of_the_pages_of_a_class(folder):
         page = Page(desk, teacher, os.path.join(folder, "desk"))
         page.until("state !== null")
         for switch in "gifts", "edges":
-            page.value("$$('#teacher details').forEach((at) => { at.open = true; })")
             page.click(f"#may-{switch}")
-            ann.until(f"state.may.{switch} && !$('#gift-form').hidden")
+            ann.until(f"state.may.{switch} && $('#draw-hint').hidden !== state.may.edges")
         for part in with_entries, with_seats, with_commands, on_a_busy_table, with_a_drawn_table:
             part(Lesson(ann, bob, page, child, Place(teacher)))
         one.in_sizes("pupil")
         desk.in_sizes("teacher")
         equal(desk.text("#address"), pupils, "the address on the teacher's page")
-        page.value("$$('#teacher details').forEach((at) => { at.open = true; })")
         page.click("#move")
         page.until(f"{READY} && state !== null && location.href !== {json.dumps(teacher)}")
         equal(Place(teacher).get("start"), (404, "there is nothing here"), "the address of the teacher's page after it was changed")
-        page.value("$$('#teacher details').forEach((at) => { at.open = true; })")
         confirmed(page, "#end")
         ann.told("The teacher has ended the game.")
         for browser in browsers:

@@ -1,5 +1,6 @@
-"""A lesson in Chromium: thirty pupils, one of them on a page as small as a phone, the teacher's page and the projector; three tables
-under one address, one shared and two in rooms of one; a win; and an accident of the server in between."""
+"""The lesson of docs/play.md with thirty pupils, by the page and the handout, in Chromium and in Firefox: one of them on a phone, the
+teacher on a laptop, and the wall. The computer has two addresses, the network forgets connections without a word, five pupils mistype
+the code, and the server has an accident. Nobody is left out, and no move is lost or unseen."""
 import json
 import os
 import re
@@ -9,10 +10,17 @@ import firefox
 from browser import READY, Page, at, needed
 from common import EXAMPLES, PATIENCE, addresses, asked, started, written
 from helpers import equal, expect, tests_of
+from test_network import Network
 from visitors import PagePupil, Place, Pupil, taken
 
 OTHERS = 29
-SMALL = "$$('.room').map((at) => [Number(at.dataset.room), at.querySelector('.how').textContent])"
+HOW = "$$('.room').map((at) => at.querySelector('.how').textContent)"
+# What a pupil sees without scrolling while the door is shut.
+BELOW = """(scrollTo(0, 0), ['#board svg', '#undo', '#hint', '#cant', '#count', '#say', '#more summary'].filter((name) => {
+  const { top, bottom, width, height } = $(name).getBoundingClientRect();
+  return top < 0 || bottom > innerHeight || !width || !height;
+}))"""
+SIZES = {"phone": (360, 640), "side": (640, 320), "laptop": (1366, 768)}
 
 
 def picture(browser, name, whole=False):
@@ -21,131 +29,194 @@ def picture(browser, name, whole=False):
         browser.picture(f"{os.environ['PICTURES']}/lesson-{name}.png", whole)
 
 
-def handed(desk, table, level, size):
-    """The teacher hands a table out."""
+def handed(desk, table, level="easy", asks=True):
+    """The teacher hands out the next table, or several."""
     desk.value(f"($('#next-table').value = {json.dumps(table)}, $('#next-table').dispatchEvent(new Event('change')),"
-               f" $('#next-level').value = '{level}', $('#next-size').value = '{size}')")
+               f" $('#next-level').value = '{level}')")
+    turn = desk.value("given.turn")
     desk.click("#hand-form button")
-    desk.answered(True)
-    desk.until(f"state.size === {size} && [...rooms.values()].every(({{ game }}) => game.length === 0)")
+    if asks:
+        desk.answered(True)
+    desk.until(f"given.turn === {turn + 1} && [...rooms.values()].every(({{ game }}) => game.length === 0)")
 
 
-def on_one_board(folder, ann, others, desk, wall):
-    """All play on one board."""
+def lines_for(folder, table):
+    """Single moves that win a table, by the program's script, or none if it can't be won."""
+    word, _, script = asked("judge", written(folder, "t.json", table))[0].split(" to ")[0].partition(" by ")
+    pairs = [pair.split("=") for pair in script.split(" ")] if word == "winnable" else []
+    return [f"{'borrow' if int(count) < 0 else 'lend'} {name}" for name, count in pairs for _ in range(abs(int(count)))]
+
+
+def coming_in(folder, browsers, networks, pupils, teacher):
+    """Thirty come in, five of whom mistype the code first; the wall shows a code of half its height until all are there."""
+    one, two, three = browsers
+    for browser, size in zip(browsers, ((360, 640), (1366, 768), (1920, 1080))):
+        browser.size(*size)
+    desk, wall = Page(two, teacher, os.path.join(folder, "desk")), Page(three, pupils, os.path.join(folder, "wall"))
+    wall.click("#watch")
+    desk.until("state !== null")
+    desk.value(f"($('#which').value = '127.0.0.1:{networks[1].port}', $('#which').dispatchEvent(new Event('change')))")
+    wall.until(f"$('#short').textContent.includes(':{networks[1].port}/')")
+    picture(wall, "wall-empty")
+    place, code = Place(f"http://127.0.0.1:{networks[0].to}{Place(pupils).path}"), wall.text("#short").rpartition("/")[2]
+    wrong = code[::-1] if code != code[::-1] else code[1:] + "0"
+    for _ in range(4):
+        equal("There is no such code." in place.get("/" + wrong)[1], True, "what a mistyped code is told")
+    one.go(f"http://127.0.0.1:{networks[1].port}/{wrong}")
+    one.until("document.readyState === 'complete' && Boolean($('input[name=code]'))")
+    picture(one, "phone-mistyped")
+    one.write(code, into="input")
+    one.click("button")
+    one.until(f"location.pathname === '{place.path}' && {READY}")
+    ann = PagePupil(one, one.value("location.href"), "Ann", folder)
+    ann.value("$('#more').open = false")
+    others = [Pupil(place.address, f"pupil {number}") for number in range(OTHERS - 1)]
+    others[0].play("lend cyd")
+    wall.until(f"Object.keys(state.names).length === {OTHERS} && document.body.classList.contains('begun')")
+    expect(wall.value("$('#code').getBoundingClientRect().height > innerHeight / 3"), "the code on the wall while a seat is free")
+    picture(wall, "wall-free")
+    others.append(Pupil(place.address, "the last"))
+    wall.until("$('#way').classList.contains('full')")
+    return ann, others, desk, wall
+
+
+def first_table(ann, others, desk, wall, networks):
+    """The four houses: the first minute teaches, and what is played while connections die is played and drawn."""
+    equal(ann.text("#note"), "Click cyd: it sends a dollar along each of its edges.", "the first minute")
+    for name, size in SIZES.items():
+        ann.size(*size)
+        equal(ann.value(BELOW), [], f"what can't be seen on a {name}")
+        picture(ann, name)
+    ann.size(*SIZES["phone"])
     ann.touch(at("cyd"))
-    others[0].play("borrow dan")
-    for page in ann, desk, wall:
-        page.has(2)
-    ann.click("#ask")
-    ann.has(4)
-    said = asked("judge", written(folder, "now.json", json.dumps(ann.value("viewer.game.tableAt(2)"))))[0]
-    equal(ann.value("viewer.game.replies.at(-1).line"), f"3 {said.strip()}", "whether it can be won")
-    equal(wall.value("getComputedStyle($('#rooms')).display"), "none", "small boards where there is one")
-    picture(ann, "phone-shared")
-    picture(desk, "teacher-shared")
-    picture(wall, "projector-shared")
-
-
-def winning(folder, table):
-    """The line that wins a table."""
-    script = asked("judge", written(folder, "won.json", table))[0].split(" by ")[1].split(" to ")[0]
-    return "script " + ",".join(pair for pair in script.strip().split(" ") if not pair.endswith("=0"))
-
-
-def unsolved(table):
-    """A vertex that owes, and so does after it has lent."""
-    made = json.loads(table)
-    return next(name for name, amount in zip(made["vertices"], made["amounts"]) if amount < 0)
-
-
-def a_win(folder, ann, others, desk, wall):
-    """Each has a puzzle of his own; some win it, and their page, the teacher's and the projector say so."""
-    equal(ann.value("['undo', 'redo', 'hint', 'look', 'gift-form'].map((id) => $(`#${id}`).hidden)"), [False] * 4 + [True], "what is offered")
-    tables = desk.value("given.tables")
-    equal([len(tables), ann.value("given.tables")], [OTHERS + 1, [tables[ann.seat - 1]]], "the puzzles")
-    ann.click("#hint")
-    ann.until("$('#note').textContent !== ''")
-    expect(re.fullmatch("Let [a-e] (lend|borrow) once.", ann.text("#note")), f"a hint: {ann.text('#note')}")
-    picture(ann, "phone-hint")
-    ann.value(f"play({json.dumps(winning(folder, tables[ann.seat - 1]))})")
-    ann.until("!$('#won').hidden")
-    equal([ann.text("#won"), ann.text("#note")], ["Solved in 1 move: nobody owes a dollar.", ""], "a pupil's end")
-    for pupil in others[:10]:
-        equal(pupil.play(winning(folder, tables[pupil.seat - 1]))[0], 200, "a line of another")
-    for pupil in others[10:]:
-        equal(pupil.play(f"lend {unsolved(tables[pupil.seat - 1])}")[0], 200, "a line of another")
-    for page in desk, wall:
-        page.until(f"$$('.room.done').length === 11 && $$('.room').length === {OTHERS + 1}")
-        equal(page.value(SMALL)[ann.seat - 1], [ann.seat, "done in 1 move"], "the room of who is done")
-        equal(page.text("#done"), f"Done: 11 of {OTHERS + 1}", "how many are done")
+    ann.until("viewer.game.length === 1 && $('#note').textContent.startsWith('cyd lends. Go on until nobody owes.')")
+    for network in networks:
+        network.age += 1
+    for name in "cyd", "bob":
+        ann.touch(at(name))
+    for pupil in others:
+        for name in ("cyd", "cyd", "bob")[:pupil.seat % 4]:
+            equal(pupil.play(f"lend {name}")[0], 200, "a move of another")
+    ann.has(3)
+    ann.until("$('#won').textContent === \"Solved in 3 moves: nobody owes a dollar. It can't be done in fewer.\"")
     picture(ann, "phone-won")
+    done = 1 + sum(pupil.seat % 4 == 3 for pupil in others)
+    for page in desk, wall:
+        page.until(f"$('#done').textContent === 'Done: {done} of {OTHERS + 1}'")
+    # One more move, out of joy.
+    ann.touch(at("ann"))
+    for page in desk, wall:
+        page.until(f"{HOW}[{ann.seat - 1}] === 'done in 3 moves' && rooms.get({ann.seat}).game.length === 4")
+    equal(ann.text("#won"), "Solved before, in 3 moves. It can't be done in fewer.", "what was reached stays")
+    equal(others[0].play("script cyd=2,bob=1"),
+          (409, "The teacher has switched off looks, verdicts, rank tests and scripts. Nothing was played."), "a script of a pupil")
+    picture(wall, "wall-rooms")
     picture(desk, "teacher-rooms", whole=True)
-    picture(wall, "projector-rooms")
-    desk.value("($('#show').value = 'done', $('#show').dispatchEvent(new Event('change')))")
-    wall.until("$('#rooms').classList.contains('list')")
-    picture(wall, "projector-done")
-    desk.click(f".room[data-room='{others[0].seat}']")
-    equal(desk.value("[shownRoom, viewer.game.length]"), [others[0].seat, 1], "a board that the teacher has large")
-    desk.value(f"($('#show').value = '{ann.seat}', $('#show').dispatchEvent(new Event('change')))")
-    wall.until(f"shownRoom === {ann.seat} && !$('#won').hidden && getComputedStyle($('#rooms')).display === 'none'")
-    picture(wall, "projector-one")
-    ann.click("#undo")
-    ann.until("viewer.game.length === 0 && $('#won').hidden && !$('#redo').disabled")
-    ann.click("#redo")
+
+
+def kind_houses(ann, others, desk, wall):
+    """What can't be won: to say so is an answer, which is right or wrong."""
+    handed(desk, "named kind_houses.json")
     for page in ann, wall:
-        page.until("viewer.game.length === 1 && !$('#won').hidden")
-    ann.until("$('#redo').disabled && $('#note').textContent === 'You have played the move again.'")
-    ann.click("#undo")
-    wall.until("viewer.game.length === 0")
-    desk.until("$$('.room.done').length === 10")
-    equal(desk.value(SMALL)[ann.seat - 1], [ann.seat, "0 moves, 2 taken back"], "the room of who took a move back")
+        page.until("given.name === 'kind_houses.json'")
+    others[0].play("lend ann")
+    ann.touch("#cant")
+    ann.until("$('#won').textContent === \"Right: it can't be done.\"")
+    for page in desk, wall:
+        page.until(f"$('#done').textContent === 'Done: 1 of {OTHERS + 1}' && {HOW}[{ann.seat - 1}] === \"done: it can't be\"")
+    picture(ann, "phone-right")
+    for selector in f".room[data-room='{ann.seat}']", "#ask-won", "#show-fire":
+        desk.until(f"$({json.dumps(selector)}) && !$({json.dumps(selector)}).hidden")
+        desk.click(selector)
+    wall.until("names('#board .burnt').length === 4 && $('#note').textContent.startsWith(\"It can't be won\")")
+    for page in desk, wall:
+        equal(page.value("[shownRoom, texts('#board .amount'), texts('#board .badge'), $('#now').hidden]"),
+              [ann.seat, ["-1", "0", "1", "1"], ["1", "2", "3", "4"], True], "the fire, and nothing else said beside it")
+    picture(wall, "wall-fire")
+    picture(desk, "teacher-fire")
     desk.value("($('#show').value = 'all', $('#show').dispatchEvent(new Event('change')))")
+    wall.until("document.body.classList.contains('all-rooms')")
 
 
-def lesson(one, two, three, folder):
-    for browser in one, two, three:
+def at_own_speed(folder, ann, others, desk, wall):
+    """Puzzles from easy to hard: each board goes on by itself, and the wall shows where it is."""
+    handed(desk, "graph Wheel of 5", "easy to hard")
+    ann.until("given.name === 'Wheel of 5, easy' && given.later.length === 5 && $('#next').hidden")
+    tables = [[json.loads(text) for text in stage] for stage in desk.value("[given, ...given.later].map(({ tables }) => tables)")]
+    ann.touch("#cant")
+    ann.until("$('#note').textContent === \"Ann: it can't be done. That is wrong: it can.\"")
+    ann.touch("#hint")
+    ann.until("/^Let [a-e] (lend|borrow) once. In all \\d+ moves? will do.$/.test($('#note').textContent)")
+    equal(ann.value(BELOW), [], "what can't be seen beside a hint")
+    picture(ann, "phone-hint")
+    wins = [lines_for(folder, json.dumps(stage[ann.seat - 1])) for stage in tables]
+    equal([bool(lines) for lines in wins], [True, True, True, False, True, True], "which puzzles can be won")
+    for line in wins[0]:
+        ann.value(f"play('{line}')")
+    ann.until("$('#won').textContent.includes('With help, so it is no best.') && !$('#next').hidden")
+    ann.touch("#next")
+    ann.until("rooms.get(me.seat).stage === 1 && viewer.game.length === 0 && $('#title').textContent.endsWith('2 of 6, Wheel of 5, easy')")
+    for pupil in others[:10]:
+        for line in lines_for(folder, json.dumps(tables[0][pupil.seat - 1])):
+            equal(pupil.play(line)[0], 200, "a move of another")
+        equal(pupil.place.post("next", {"key": pupil.key, "stage": 0})[1], {"next": True}, "who goes on")
+        equal(pupil.place.post("line", {"key": pupil.key, "line": "lend a", "stage": 0}),
+              (409, "There is a new table. This line was not played."), "a line for the table before")
+    for page in desk, wall:
+        page.until(f"$('#done').textContent === 'Done: 11 of {6 * (OTHERS + 1)}' && {HOW}[{ann.seat - 1}] === '2 of 6, 0 moves'")
+    for line in wins[1]:
+        ann.value(f"play('{line}')")
+    ann.until(f"$('#won').textContent.startsWith('Solved in {len(wins[1])} move')")
+    ann.until("/It can('t be done in fewer| be done in [0-9]+)[.]$/.test($('#won').textContent)")
+    said = re.search(r"be done in (\d+)", ann.text("#won"))
+    expect(not said or int(said[1]) < len(wins[1]), f"in how few moves it can be done, after {len(wins[1])}: {ann.text('#won')}")
+    picture(wall, "wall-list")
+    return len(wins[1])
+
+
+def results(desk, moves):
+    """Who did what, as a table to take along, also after the teacher's page was loaded again."""
+    desk.visit(desk.value("location.href"), f"state !== null && rooms.size === {OTHERS + 1}")
+    rows = [line.split('","') for line in desk.saved("#take-results", "results.csv").splitlines()]
+    equal(rows[0][:4], ['"pupils', "table", "done", "fewest moves"], "the head of the results")
+    own = [row[1:6] for row in rows if row[0] == '"Ann']
+    equal(own, [["houses.json", "yes", "3", "0", "0"], ["kind_houses.json", "yes", "can't be done", "0", "0"],
+                ["Wheel of 5, easy", "yes", "", "1", "1"], ["Wheel of 5, easy", "yes", str(moves), "0", "0"]], "what Ann did")
+    equal(len(rows), 1 + 3 * (OTHERS + 1) + 11, "the rows of all")
+
+
+def lesson(browsers, folder):
+    for browser in browsers:
         browser.media()
         browser.asked.clear()
-    words = EXAMPLES / "houses.json", "--class", str(OTHERS + 1), "--keep", os.path.join(folder, "kept")
+    networks = Network(), Network()
+    networks[1].to = networks[0].to
+    named = [word for network in networks for word in ("--name", f"127.0.0.1:{network.port}")]
+    words = [EXAMPLES / "houses.json", EXAMPLES / "kind_houses.json", "--class", str(OTHERS + 1), "--rooms", "1", "--port",
+             str(networks[0].to), "--keep", os.path.join(folder, "kept"), *named]
     child = started(*words)
     pupils, teacher = addresses(child)
     try:
-        two.size(1280, 800)
-        three.size(1920, 1080)
-        desk, wall = Page(two, teacher, os.path.join(folder, "desk")), Page(three, pupils, os.path.join(folder, "wall"))
-        three.go(desk.text("#short"))
-        three.until(f"location.href === {json.dumps(pupils)} && {READY}")
-        wall.click("#watch")
-        picture(wall, "projector-empty")
-        one.size(360, 740)
-        ann = PagePupil(one, pupils, "Ann", folder)
-        others = [Pupil(pupils, f"pupil {number}", events=number < 3) for number in range(OTHERS)]
-        on_one_board(folder, ann, others, desk, wall)
-        handed(desk, "graph Wheel of 5", "medium", 1)
-        ann.until("given.name === 'Wheel of 5, medium' && viewer.game.names.length === 5 && state.size === 1 && !$('#undo').hidden")
-        a_win(folder, ann, others, desk, wall)
+        ann, others, desk, wall = coming_in(folder, browsers, networks, pupils, teacher)
+        first_table(ann, others, desk, wall, networks)
+        kind_houses(ann, others, desk, wall)
+        results(desk, at_own_speed(folder, ann, others, desk, wall))
         child.kill()
         child.communicate()
         ann.told("There is no connection to the game.")
+        picture(ann, "phone-lost")
         child = started(*words)
-        equal(addresses(child), [pupils, teacher], "the addresses after an accident")
+        equal(len(addresses(child)), 2, "the addresses after an accident")
         for page in ann, desk, wall:
-            page.until("$('#notice').hidden && given.name === 'Wheel of 5, medium'")
-        desk.until("$$('.room.done').length === 10")
-        equal(desk.value(SMALL)[ann.seat - 1], [ann.seat, "0 moves, 2 taken back"], "what was taken back before the accident")
-        ann.until("!$('#redo').disabled")
-        ann.click("#redo")
-        ann.until("viewer.game.length === 1 && !$('#won').hidden")
-        handed(desk, "graph random", "easy", 1)
+            page.until(f"$('#notice').hidden && rooms.get({ann.seat}).stage === 1 && rooms.get({ann.seat}).is_done")
+        ann.touch("#next")
         for page in ann, desk, wall:
-            page.until("given.name === 'a random graph, easy' && state.size === 1")
-        ann.click(at("b"))
+            page.until(f"rooms.get({ann.seat}).stage === 2")
+        ann.touch(at("b"))
         ann.has(1)
-        equal(taken(Place(teacher), folder, ann.seat)[0], [f"{ann.seat} lend b"], "the steps on the third table")
-        picture(ann, "phone-third")
-        picture(wall, "projector-third")
-        picture(desk, "teacher-third", whole=True)
-        for browser in one, two, three:
+        steps, history = taken(Place(f"http://127.0.0.1:{networks[0].to}{Place(teacher).path}"), folder, ann.seat)
+        equal([steps, ann.value("viewer.game.replies.map(({ line }) => line)")], [[f"{ann.seat} lend b"], history], "the steps after it")
+        for browser in browsers:
             expect(browser.value("document.documentElement.scrollWidth <= innerWidth"), "a page of a lesson is too wide")
             equal(browser.thrown, [], "what pages have thrown")
             browser.size()
@@ -153,17 +224,18 @@ def lesson(one, two, three, folder):
         child.terminate()
         _, said = child.communicate(timeout=PATIENCE)
         equal((child.returncode, said), (0, ""), "the end of board/play")
-        for browser in one, two, three:
+        for browser in browsers:
             browser.go("about:blank")
+            browser.until("location.href === 'about:blank'")
             browser.asked.clear()
 
 
 def in_chromium(folder):
-    lesson(*needed(), folder)
+    lesson(needed(), folder)
 
 
 def in_firefox(folder):
-    lesson(*firefox.needed(), folder)
+    lesson(firefox.needed(), folder)
 
 
 load_tests = tests_of(in_chromium, in_firefox, given=tempfile.TemporaryDirectory)

@@ -10,7 +10,7 @@ import unittest
 from pathlib import Path
 
 from browser import browsers
-from common import written
+from common import PATIENCE, written
 from dollar.board.pages import ROOTS, WEB, one_script, part
 from helpers import equal, tests_of
 
@@ -45,10 +45,25 @@ def whole_scripts(folder):
         equal((done.returncode, done.stderr), (0, ""), f"the script of {name}")
 
 
-def modules(folder):
-    place = shutil.copytree(WEB, Path(folder, "modules"))
-    shutil.copy(Path(__file__).with_name("pure.js"), place)
+def copied(folder, name):
+    """A copy of the modules in a folder."""
+    place = shutil.copytree(WEB, Path(folder, name))
     written(place, "grammar.js", part("grammar.js"))
+    return place
+
+
+def types(folder):
+    """A compiler that only checks finds nothing in the modules."""
+    if not shutil.which("tsc"):
+        raise unittest.SkipTest("the types of the pages' modules, for want of tsc")
+    words = "tsc --checkJs --allowJs --noEmit --target es2022 --moduleResolution node --lib es2022,dom,dom.iterable".split()
+    done = subprocess.run([*words, *copied(folder, "typed").glob("*.js")], stdout=subprocess.PIPE, text=True, timeout=4 * PATIENCE)
+    equal((done.returncode, done.stdout), (0, ""), "what a compiler says")
+
+
+def modules(folder):
+    place = copied(folder, "modules")
+    shutil.copy(Path(__file__).with_name("pure.js"), place)
     written(place, "package.json", '{"type": "module"}')
     if not shutil.which("node") and not browsers():
         raise unittest.SkipTest("the tests of the pages' modules, for want of node and Chromium")
@@ -58,4 +73,4 @@ def modules(folder):
         equal(in_browser(place, browser), [], "the modules in a browser")
 
 
-load_tests = tests_of(modules, whole_scripts, given=tempfile.TemporaryDirectory)
+load_tests = tests_of(modules, types, whole_scripts, given=tempfile.TemporaryDirectory)

@@ -3,10 +3,9 @@ import json
 import math
 import re
 import tempfile
-import time
 
 from browser import LISTED, needed
-from common import EXAMPLES, TRIANGLE, lines_of, refused, script, tell, text_of, written
+from common import EXAMPLES, TRIANGLE, lines_of, refused, script, text_of, written
 from dollar import answer, edges, example, joined
 from dollar.grammar import GRAMMAR
 from helpers import equal, expect, tests_of
@@ -16,7 +15,7 @@ OTHERS = ("sixty_three_edges", "no_room_for_an_edge"), ("rich_triangle", "to_the
 # The words of replies that have the amounts of all vertices.
 WITH_AMOUNTS = [form.split(" ")[0] for form in GRAMMAR["replies"] if re.fullmatch("[a-z]+( g)? P", form)]
 MOST_BYTES, SIZES = 100_000, [(wide, 800) for wide in (320, 360, 1280, 1920)]
-LONGEST, OPENS_IN, STEPS_IN = 65536, 4.0, 0.25
+LONGEST = 65536
 SHOWN = """(() => {
   const text = (id) => document.getElementById(id).textContent;
   const vertices = $$("#board .vertex"), has = (test) => vertices.filter(test).map((at) => at.dataset.name);
@@ -194,15 +193,12 @@ def of_session(browser, folder, name):
 
 
 def of_long_game(browser, folder):
-    """The page of the longest game: it opens soon and steps at once, has marks where there is room for them, of the steps that
+    """The page of the longest game: it has marks where there is room for them, of the steps that
     tell most, and lists a part of its lines."""
     asked = ["1 lend a", "1 borrow a"] * (LONGEST // 2)
     for place in 500, 60000:
         asked[place:place + 2] = ["2 look", "2 commit"]
-    place, start = page_of(folder, TRIANGLE, written(folder, "steps", "\n".join(asked))), time.monotonic()
-    browser.open(place)
-    opened = time.monotonic() - start
-    expect(opened < OPENS_IN, f"{LONGEST} steps open in {opened:.1f} s")
+    browser.open(page_of(folder, TRIANGLE, written(folder, "steps", "\n".join(asked))))
     for wide in 400, 1920:
         browser.size(wide, 800)
         browser.until(f"innerWidth === {wide} && $$('#marks button').length === viewer.markedSteps().length")
@@ -212,13 +208,9 @@ def of_long_game(browser, folder):
         browser.value("$('#marks [data-index=\"60002\"]').click()")
         equal(browser.value("[viewer.now, $('#asked').textContent]"), [60002, "2 commit"], "a click at a mark")
         equal(browser.value("$('#whole [aria-current]').dataset.index"), "60002", "its line in the list")
-    start = time.monotonic()
     for _ in range(20):
         browser.press("ArrowRight")
-    each = (time.monotonic() - start) / 20
     equal(browser.value("viewer.now"), 60022, "20 steps further")
-    expect(each < STEPS_IN, f"of {LONGEST} steps each takes {each:.2f} s")
-    tell(f"{LONGEST} steps open in {opened:.2f} s, and each takes {each:.3f} s")
     browser.press("End")
     equal(browser.value("[viewer.now, $$('#whole li').length]"), [LONGEST, 400], "the last step")
     browser.value("$('#earlier').click()")

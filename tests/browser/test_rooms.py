@@ -316,7 +316,7 @@ def an_accident(folder):
     room = [Pupil(pupils, name, events=False) for name in ("ann", "bob", "cem")]
     room[0].play("lend ann")
     Place(teacher).post("table", {"table": TRIANGLE, "name": "three", "size": 1})
-    Place(teacher).post("may", {"gifts": True})
+    Place(teacher).post("may", {"gifts": True, "questions": True})
     Place(teacher).post("door", {"open": False})
     for pupil in room:
         for line in ("borrow b", "look", "gift a 1")[:pupil.seat]:

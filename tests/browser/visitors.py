@@ -119,6 +119,10 @@ class Listener:
         """An entry, or how many entries a game has since some were taken back, or played again."""
         if item["kind"] == "played":
             self.entries.append([item["seat"], item["line"], item["answer"]])
+        elif item["kind"] == "onward":
+            self.entries, self.undone = [], []
+        elif item["kind"] in ("helped", "judged"):
+            pass
         elif item["left"] < len(self.entries):
             self.undone.append(self.entries[item["left"]:])
             del self.entries[item["left"]:]
@@ -185,12 +189,6 @@ class Pupil(Listener):
             if self.play(line)[0] == 503:
                 return
 
-    def timed(self, line, what):
-        """The seconds until a line is answered, which has to be taken."""
-        start = time.monotonic()
-        equal(self.play(line)[0], 200, what)
-        return time.monotonic() - start
-
 
 class PagePupil(Page):
     """A pupil whose lines a page in Chromium plays."""
@@ -238,7 +236,7 @@ class PagePupil(Page):
 
 
 @contextlib.contextmanager
-def a_class(folder, seats, *names, options=(), may=("gifts", "edges")):
+def a_class(folder, seats, *names, options=(), may=("gifts", "edges", "questions")):
     """A class at a table: the process of the server, its places for pupils and for the teacher, and a pupil of each name, who
     leave at the end. What the teacher has to permit is permitted."""
     table = written(folder, "table.json", json.dumps(TABLE))

@@ -1,12 +1,15 @@
 """Playing alone: the page keeps the table and the steps, and each of its questions goes to the program."""
+from __future__ import annotations
+
 import asyncio
 import json
+from typing import Any, Callable, Iterable
 
-from dollar.board.game import MOST_LINE, Game
+from dollar.board.game import MOST_LINE, Game, Table
 from dollar.board.pages import asset, forward, page
 from dollar.board.puzzles import GRAPHS, hint, puzzles
 from dollar.board.replay import page as replay_page
-from dollar.board.server import Nothing, Refused, as_json, new_secret, same, text_in
+from dollar.board.server import Answer, Nothing, Refused, Request, as_json, new_secret, same, text_in
 from dollar.drawing import USUAL, layout
 from dollar.program import PATIENCE, Fault, call, fault_of
 from dollar.table import EXAMPLES, text_of
@@ -19,17 +22,18 @@ MOST = {"command": 16, "table": 1 << 21, "tables": 1 << 21, "places": 1 << 21, "
 ASKED = {"judge": (["judge", "--order", "--"], ["table"]), "rehearse": (["rehearse", "--"], ["table", "steps"]),
          "judge --lines": (["judge", "--lines"], ["tables"])}
 # What it is asked for the table as a line, whose answer reaches past the limits of one test: with the texts after the table.
-BY_LINE = {"rr": [], "rank": ["degree"]}
+BY_LINE: dict[str, list[str]] = {"rr": [], "rank": ["degree"]}
 
 
 class OwnGame(Game):
     """The game of one page: the lines that were entries, each with its seat."""
 
-    def __init__(self, text):
+    def __init__(self, text: str) -> None:
         super().__init__(text)
-        self.lines, self.turn = [], asyncio.Lock()
+        self.turn = asyncio.Lock()
+        self.lines: list[str] = []
 
-    async def begin(self, lines):
+    async def begin(self, lines: Iterable[str]) -> dict[str, Any]:
         """What the program says to these lines, from the start of the game."""
         self.lines = list(lines)
         answers = await self.start(self.lines)
@@ -38,7 +42,7 @@ class OwnGame(Game):
             return {"status": 0, "out": "".join(answer + "\n" for answer in answers), "err": ""}
         return {"status": 3, "out": "", "err": wrong} if wrong else await self.ended()
 
-    async def play(self, count, line):
+    async def play(self, count: int, line: str) -> dict[str, Any]:
         """What the program says to a line after the first so many entries. Those that follow are dropped, and the game is begun again
         without them."""
         async with self.turn:
@@ -54,7 +58,7 @@ class OwnGame(Game):
             self.lines.append(line)
             return {"status": 0, "out": answer + "\n", "err": ""}
 
-    async def ended(self):
+    async def ended(self) -> dict[str, Any]:
         """What the program has said at its end. If it was ended here, the page begins the game again."""
         await self.close()
         status, text = self.end["status"], self.end["text"]
@@ -64,11 +68,12 @@ class OwnGame(Game):
 class Alone:
     """Answers the requests of the page for one player. The program judges each table and each step."""
 
-    def __init__(self, secret, table):
+    def __init__(self, secret: str, table: Table) -> None:
         self.secret, self.table = secret, table
-        self.turns, self.games = asyncio.Semaphore(AT_ONCE), {}
+        self.turns = asyncio.Semaphore(AT_ONCE)
+        self.games: dict[str, OwnGame] = {}
 
-    async def answer(self, request):
+    async def answer(self, request: Request) -> Answer:
         """What the server says to a request."""
         if not same(request.parts[0], self.secret) or len(request.parts) > 2:
             raise Nothing
@@ -89,21 +94,17 @@ class Alone:
             return asset(request.parts[1])
         raise Nothing
 
-    async def asked(self, given):
+    async def asked(self, given: dict[str, Any]) -> dict[str, Any]:
         """What the program says to a question of the page, or a thing that is made of a table that it takes for one."""
-        def text(name):
+        def text(name: str) -> str:
             return text_in(given, name, MOST[name])
 
         command = text("command")
         if command == "play":
             return await self.play(text("key"), given.get("count"), text("line"))
+        if command in ASKED or command in BY_LINE:
+            return await question(text)
         table = text("table")
-        if command in ASKED:
-            words, names = ASKED[command]
-            return await run(*words, *(text(name).encode() for name in names))
-        if command in BY_LINE:
-            line = table.replace("\n", " ").encode() + b"\n"
-            return of_line(await run(command, "--lines", "--", line, *map(text, BY_LINE[command])))
         if command == "begin":
             return await self.begin(table, [line for line in text("steps").split("\n") if line])
         if command == "layout":
@@ -116,7 +117,7 @@ class Alone:
             return await made(lambda: {"out": json.dumps(hint(table))})
         raise Refused(400, "there is no such question")
 
-    async def begin(self, table, steps):
+    async def begin(self, table: str, steps: list[str]) -> dict[str, Any]:
         """Begins a game of a page with some steps. It is known by a key; of too many games the oldest ends."""
         game = OwnGame(table)
         try:
@@ -132,7 +133,7 @@ class Alone:
             await self.games.pop(next(iter(self.games))).close()
         return said
 
-    async def play(self, key, count, line):
+    async def play(self, key: str, count: Any, line: str) -> dict[str, Any]:
         """What the program says to a line of a page, or None for the status if the game is not there any more."""
         game = self.games.get(key)
         if "\n" in line or not isinstance(count, int) or count < 0:
@@ -143,12 +144,12 @@ class Alone:
             return {"status": None, "out": "", "err": "the game is gone", "gone": True}
         return await asyncio.shield(game.play(count, line))
 
-    async def stop(self):
+    async def stop(self) -> None:
         """Ends all games."""
         for game in self.games.values():
             await game.close()
 
-    async def layout(self, table, own):
+    async def layout(self, table: str, own: str | None) -> dict[str, Any]:
         """The verdict on a table, and if there is one, the places of its vertices."""
         said = await run("judge", table.encode())
         if said["status"] == 0:
@@ -159,15 +160,15 @@ class Alone:
                 raise Refused(400, str(error)) from None
         return said
 
-    async def puzzle(self, graph, level, now):
+    async def puzzle(self, graph: str, level: str, now: str) -> dict[str, Any]:
         """A puzzle, as its name and its table."""
-        def make():
+        def make() -> dict[str, Any]:
             name, (table,) = puzzles(graph, level, now)
             return {"name": name, "table": table}
 
         return await made(make)
 
-    async def replay(self, table, steps, name):
+    async def replay(self, table: str, steps: str, name: str) -> dict[str, Any]:
         """The page that shows the game again."""
         said = await run("rehearse", table.encode(), steps.encode())
         if said["status"] == 0:
@@ -175,7 +176,19 @@ class Alone:
         return said
 
 
-async def made(make):
+async def question(text: Callable[[str], str]) -> dict[str, Any]:
+    """What the program says to a question about a table, whose texts are asked for by their names."""
+    command, table = text("command"), text("table")
+    if command in ASKED:
+        words, names = ASKED[command]
+        return await run(*words, *(text(name).encode() for name in names))
+    if command not in BY_LINE:
+        raise Nothing
+    line = table.replace("\n", " ").encode() + b"\n"
+    return of_line(await run(command, "--lines", "--", line, *map(text, BY_LINE[command])))
+
+
+async def made(make: Callable[[], dict[str, Any]]) -> dict[str, Any]:
     """What is made by runs of the program, or its fault."""
     try:
         return {"status": 0, "out": "", "err": "", **await asyncio.to_thread(make)}
@@ -185,13 +198,13 @@ async def made(make):
         raise Refused(409, str(error)) from None
 
 
-def of_line(said):
+def of_line(said: dict[str, Any]) -> dict[str, Any]:
     """What a run of one line says, as a run for one table says it: what is refused is a fault."""
     refused, fault = said["out"].startswith("refused "), said["out"][len("refused "):].rstrip("\n")
     return {"status": 3, "out": "", "err": fault} if refused else said
 
 
-async def run(*words):
+async def run(*words: str | bytes) -> dict[str, Any]:
     """The program's status, its answer and its fault. A word as bytes stands for a file."""
     try:
         out, said, status = await asyncio.to_thread(call, words, None, PATIENCE)

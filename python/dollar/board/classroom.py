@@ -1,19 +1,24 @@
 """A class: pupils with seats, and the tables that the teacher hands out to them one after another. All share one, or so many are in a
 room, perhaps one alone. A click is a line, and what is drawn is what came back; the lines of a room are put to its program one
 after another, and its pages see each entry as it comes. The pages of the teacher and of those who only watch see all rooms."""
+from __future__ import annotations
+
 import asyncio
 import re
 import time
 import unicodedata
 from collections import Counter
+from typing import Any, AsyncIterator, Awaitable, Callable
 
+from dollar.board.alone import question
 from dollar.board.game import MOST_LINE, Table, tables_of
 from dollar.board.pages import asset, filled, forward, page
-from dollar.board.puzzles import graphs, hint, puzzles
+from dollar.board.puzzles import RISING, graphs, hint, puzzles
 from dollar.board.qr import code
 from dollar.board.replay import page as replay_page
 from dollar.board.room import Feed, Room, event
-from dollar.board.server import LETTERS, Nothing, Refused, as_json, new_secret, same, text_in
+from dollar.board.keeping import Keeper
+from dollar.board.server import LETTERS, Answer, Nothing, Refused, Request, as_json, new_secret, same, text_in
 from dollar.program import PATIENCE, Fault, printed
 
 MOST_BODY, MOST_TABLE, MOST_NAME, MOST_PEERS = 1 << 14, 1 << 22, 24, 1000
@@ -32,8 +37,8 @@ BEAT, JOINER = event("beat", {}), "\u200d"
 # Letters that look like nothing, and a row of marks on a letter of which three are enough.
 UNSEEN, MARKS = "\u115f\u1160\u2800\u3164\uffa0", re.compile("([\u0300-\u036f]{3})[\u0300-\u036f]+")
 # What the teacher permits, the first words of the lines that fall under it, and what it is called.
-SWITCHES = {"gifts": (["gift"], "gifts and levies"), "edges": (["join"], "new edges"),
-            "questions": (["look", "commit", "rank"], "looks, commits and rank tests"), "undo": ([], "undo and redo"),
+SWITCHES: dict[str, tuple[list[str], str]] = {"gifts": (["gift"], "gifts and levies"), "edges": (["join"], "new edges"),
+            "questions": (["look", "commit", "rank", "script"], "looks, verdicts, rank tests and scripts"), "undo": ([], "undo and redo"),
             "hints": ([], "hints")}
 # What is permitted at first on boards that not all share.
 IN_ROOMS = "undo", "hints"
@@ -42,16 +47,16 @@ IN_ROOMS = "undo", "hints"
 class Bucket:
     """Permits so many acts at once, and then so many in a second."""
 
-    def __init__(self, most, each):
+    def __init__(self, most: int, each: float) -> None:
         self.most, self.each, self.left, self.filled = most, each, float(most), time.monotonic()
 
-    def has(self):
+    def has(self) -> bool:
         """Whether there is one more."""
         now = time.monotonic()
         self.left, self.filled = min(self.most, self.left + (now - self.filled) * self.each), now
         return self.left >= 1
 
-    def takes(self):
+    def takes(self) -> bool:
         """Takes one, if there is one."""
         if not self.has():
             return False
@@ -62,16 +67,17 @@ class Bucket:
 class Limit:
     """A bucket for each address of the network, beside a wide one for all."""
 
-    def __init__(self, own, whole):
-        self.own, self.whole, self.buckets = own, Bucket(*whole), {}
+    def __init__(self, own: tuple[int, float], whole: tuple[int, float]) -> None:
+        self.own, self.whole = own, Bucket(*whole)
+        self.buckets: dict[str, Bucket] = {}
 
-    def has(self, peer):
+    def has(self, peer: str) -> bool:
         """Whether there is one more for an address."""
         if peer not in self.buckets and len(self.buckets) >= MOST_PEERS:
             self.buckets.pop(next(iter(self.buckets)))
         return self.buckets.setdefault(peer, Bucket(*self.own)).has() and self.whole.has()
 
-    def takes(self, peer):
+    def takes(self, peer: str) -> bool:
         """Takes one for an address, if there is one."""
         return self.has(peer) and self.buckets[peer].takes() and self.whole.takes()
 
@@ -79,19 +85,20 @@ class Limit:
 class NewTable(Refused):
     """What a line gets that was meant for the table before."""
 
-    def __init__(self):
+    def __init__(self) -> None:
         super().__init__(409, "There is a new table. This line was not played.")
 
 
 class Seat:
     """A seat that somebody has: the key that only that pupil's page knows, the name, the browser, and the page that is open on it."""
 
-    def __init__(self, number, name, browser=None, key=None):
+    def __init__(self, number: int, name: str, browser: str | None = None, key: str | None = None) -> None:
         self.number, self.name, self.browser, self.key = number, name, browser, key or new_secret()
-        self.page, self.played, self.waiting, self.seen = None, 0, 0, time.monotonic()
+        self.page: Follower | None = None
+        self.played, self.waiting, self.seen = 0, 0, time.monotonic()
         self.bucket = Bucket(AT_ONCE, IN_A_SECOND)
 
-    def takes(self):
+    def takes(self) -> bool:
         """Whether the seat may play a line now."""
         return self.waiting < MOST_WAITING and self.bucket.takes()
 
@@ -99,27 +106,28 @@ class Seat:
 class Follower:
     """A page that follows what goes on. It sleeps until there is something to tell it, or it has gone, or it is ended by a word."""
 
-    def __init__(self, gone):
-        self.gone, self.word, self.is_due, self.woken = gone, None, False, None
+    def __init__(self, gone: asyncio.Future[Any]) -> None:
+        self.gone, self.word, self.is_due = gone, "", False
+        self.woken: asyncio.Future[None] | None = None
         gone.add_done_callback(lambda _: self.wake())
 
-    def goes_on(self):
-        return self.word is None and not self.gone.done()
+    def goes_on(self) -> bool:
+        return not self.word and not self.gone.done()
 
-    async def sleep(self):
+    async def sleep(self) -> None:
         self.woken = asyncio.get_running_loop().create_future()
         await self.woken
 
-    def wake(self):
+    def wake(self) -> None:
         if self.woken and not self.woken.done():
             self.woken.set_result(None)
 
-    def end(self, word):
+    def end(self, word: str) -> None:
         self.word = self.word or word
         self.wake()
 
 
-def clean(name):
+def clean(name: str) -> str:
     """A name as it is shown: what can be seen of it, on one line, with few marks on a letter. The letter that joins others to one sign
     stays."""
     shown = "".join(letter if (letter.isprintable() and letter not in UNSEEN) or letter == JOINER else " " if letter.isspace() else ""
@@ -127,146 +135,160 @@ def clean(name):
     return MARKS.sub(r"\1", " ".join(shown.split()))[:MOST_NAME].strip()
 
 
-def seen(name):
+def seen(name: str) -> str:
     """What eyes tell apart in a name."""
     return re.sub("[%s\ufe00-\ufe0f]" % JOINER, "", unicodedata.normalize("NFKC", name)).casefold()
 
 
 class Classroom:
     """Answers the requests of pupils, who know one secret, and of the teacher, who knows another. `tables` are those that were named,
-    and the first of them is handed out. A room is for so many seats; if that is 0, one is for all. `handed` has the tables of the rooms,
-    one for all or one for each. The teacher may be heard from this machine alone."""
+    and the first of them is handed out. A room is for so many seats; if that is 0, one is for all. `handed` has what rooms play on one
+    after another: the tables of each stage, one for all rooms or one for each. The teacher may be heard from this machine alone."""
 
-    def __init__(self, tables, seats, size=0, keeper=None, teacher_here=False):
+    def __init__(self, tables: list[Table], seats: int, size: int = 0, keeper: Keeper | None = None, teacher_here: bool = False) -> None:
         kept = keeper.found if keeper else {}
         self.tables, self.seats, self.keeper, self.teacher_here = tables, seats, keeper, teacher_here
         self.secret, self.teacher = kept.get("secret") or new_secret(), kept.get("teacher") or new_secret()
         self.short, self.tries = kept.get("short") or new_secret().replace("-", "")[:SHORT], Limit(*TRIES)
         self.joins = Limit(*SEATS)
-        self.taken, self.barred = {}, set(kept.get("barred", ()))
+        self.taken: dict[int, Seat] = {}
+        self.barred = set(kept.get("barred", ()))
         for number, name, browser, key in kept.get("seats", ()):
             if number <= seats:
                 self.taken[number] = Seat(number, name, browser, key)
         self.paused, self.is_open, self.over, self.shown = False, kept.get("open", True), False, kept.get("shown", "all")
-        self.followers, self.soon, self.last, self.changes, self.told_state = set(), None, 0.0, 0, (None, b"")
+        self.followers: set[Follower] = set()
+        self.told_state: tuple[int, bytes] = -1, b""
+        self.soon: asyncio.TimerHandle | None = None
+        self.last, self.changes = 0.0, 0
         # Where others find this: by a place, and by more from which the teacher chooses.
-        self.place, self.places, self.port = "", list, 0
-        self.set_tables(tables[:1], kept.get("size", size), 1)
-        self.may = {**dict.fromkeys(SWITCHES, False), "questions": True, **dict.fromkeys(IN_ROOMS, self.size > 0), **kept.get("may", {})}
+        self.place, self.port = "", 0
+        self.places: Callable[[], list[str]] = list
+        self.set_tables([tables[:1]], kept.get("size", size), 1)
+        self.may = {**dict.fromkeys(SWITCHES, False), **usual(self.size), **kept.get("may", {})}
         if keeper:
-            self.find(kept)
+            self.find(keeper, kept)
 
-    def set_tables(self, handed, size, turn):
-        self.handed, self.size, self.turn, self.rooms, self.feed = handed, size, turn, {}, Feed()
+    def set_tables(self, handed: list[list[Table]], size: int, turn: int) -> None:
+        self.handed, self.size, self.turn, self.feed = handed, size, turn, Feed()
+        self.rooms: dict[int, Room] = {}
+        self.picture: dict[str, Any] | None = None
 
-    def table(self, number):
-        """The table of a room."""
-        return self.handed[(number - 1) % len(self.handed)]
+    def table(self, number: int) -> Table:
+        """The table on which a room is."""
+        return self.tables_of(number)[self.rooms[number].stage if number in self.rooms else 0]
 
-    def find(self, kept):
+    def tables_of(self, number: int) -> list[Table]:
+        """The tables of a room, one after another."""
+        return [tables[(number - 1) % len(tables)] for tables in self.handed]
+
+    def find(self, keeper: Keeper, kept: dict[str, Any]) -> None:
         """Goes on with what was kept. Raises ValueError if that was another table, or has been changed."""
-        first, turn = self.keeper.tables(1), kept.get("turn", 1)
-        if first and first != [self.tables[0].text]:
-            raise ValueError("%s keeps a class on another table" % self.keeper.folder)
+        first, turn = keeper.stages(1), kept.get("turn", 1)
+        if first and first[0][1] != [self.tables[0].text]:
+            raise ValueError("%s keeps a class on another table" % keeper.folder)
         if turn > 1:
-            texts = self.keeper.tables(turn)
-            if not texts:
-                raise ValueError("%s has lost its table %d" % (self.keeper.folder, turn))
-            self.set_tables(tables_of(kept["table"], texts), self.size, turn)
-        for number in self.keeper.rooms(turn):
+            stages = keeper.stages(turn)
+            if not stages:
+                raise ValueError("%s has lost its table %d" % (keeper.folder, turn))
+            self.set_tables([tables_of(*stage) for stage in stages], self.size, turn)
+        for number in keeper.rooms(turn):
             self.room(number)
 
-    async def start(self):
+    async def start(self) -> None:
         """Begins, with all that was kept."""
         self.beat()
         for room in list(self.rooms.values()):
             if room.entries:
                 await room.begin()
-        if self.keeper and not self.keeper.tables(self.turn):
-            self.keep_tables()
+        if self.keeper and not self.keeper.stages(self.turn):
+            self.keep_tables(self.keeper)
 
-    def keep_tables(self):
-        self.keeper.hand_out(self.turn, [table.text for table in self.handed])
+    def keep_tables(self, keeper: Keeper) -> None:
+        keeper.hand_out(self.turn, [[tables[0].name, [table.text for table in tables]] for tables in self.handed])
 
-    async def stop(self):
+    async def stop(self) -> None:
         for room in list(self.rooms.values()):
             await room.finish()
 
-    def last_words(self):
+    def last_words(self) -> str:
         """What is to be said before the games are lost."""
         lost = sum(len(room.entries) - room.saved for room in self.rooms.values() if not (room.kept and room.kept.is_kept))
-        return lost and "Entries that were not saved from the teacher's page: %d. Once more ends the game, and drops them." % lost
+        return "" if not lost else "Entries that were not saved from the teacher's page: %d. Once more ends the game, and drops them." % lost
 
     # Rooms.
 
-    def room(self, number):
+    def room(self, number: int) -> Room:
         """The room of a number. It is made when it is asked for first."""
         if number not in self.rooms:
             kept = self.keeper and self.keeper.room(self.turn, number, self.seats)
-            self.rooms[number] = Room(number, self.table(number).text, self.seats, self.feed, self.told, self.changed, kept)
+            texts = [table.text for table in self.tables_of(number)]
+            self.rooms[number] = Room(number, texts, self.seats, self.feed, self.told, self.changed, kept)
         return self.rooms[number]
 
-    def number_of(self, seat):
+    def number_of(self, seat: Seat) -> int:
         """The number of the room of a seat."""
         return (seat.number - 1) // self.size + 1 if self.size else 1
 
-    def room_of(self, seat):
+    def room_of(self, seat: Seat) -> Room:
         return self.room(self.number_of(seat))
 
-    def told_first(self, feed):
+    def told_first(self, feed: Feed) -> dict[str, Any]:
         """What a page needs to draw the games of a feed from their beginning: the tables of the rooms, or that of its own."""
-        tables = [self.table(feed.room)] if feed.room else self.handed
-        return {"feed": feed.key, "room": feed.room, "turn": self.turn, "name": tables[0].name, "tables": [table.text for table in tables],
-                "layout": tables[0].layout}
+        stages = [[table] for table in self.tables_of(feed.room)] if feed.room else self.handed
+        told, *later = [{"name": tables[0].name, "tables": [table.text for table in tables], "layout": tables[0].layout} for tables in stages]
+        return {"feed": feed.key, "room": feed.room, "turn": self.turn, **told, "later": later}
 
     @property
-    def address(self):
+    def address(self) -> str:
         """The pupils' address."""
         return "http://%s/%s/" % (self.place, self.secret)
 
     # What all are told.
 
-    def changed(self):
+    def changed(self) -> None:
         """There is something new beside entries."""
         self.changes += 1
         self.told()
         if self.keeper:
             seats = [[seat.number, seat.name, seat.browser, seat.key] for seat in self.taken.values()]
             self.keeper.save({"secret": self.secret, "teacher": self.teacher, "short": self.short, "port": self.port,
-                              "turn": self.turn, "size": self.size, "table": self.handed[0].name, "may": self.may, "shown": self.shown,
+                              "turn": self.turn, "size": self.size, "table": self.handed[0][0].name, "may": self.may, "shown": self.shown,
                               "open": self.is_open, "barred": sorted(self.barred), "seats": seats})
 
-    def told(self):
+    def told(self) -> None:
         """Wakes the pages: at once, or a little later if they were just told something, so that many entries are told together."""
         if self.soon is None:
             self.soon = asyncio.get_running_loop().call_later(max(0, self.last + TOGETHER - time.monotonic()), self.tell)
 
-    def tell(self):
+    def tell(self) -> None:
         self.soon, self.last = None, time.monotonic()
         for follower in self.followers:
             follower.wake()
 
-    def beat(self):
+    def beat(self) -> None:
         """Has something be sent to all pages now and then, so that a connection that is gone is noticed."""
         for follower in self.followers:
             follower.is_due = True
             follower.wake()
         asyncio.get_running_loop().call_later(HEARTBEAT, self.beat)
 
-    def state(self):
+    def state(self) -> bytes:
         """Who is there, and what goes on, as an event. All pages share its bytes."""
         if self.told_state[0] != self.changes:
             names = {seat.number: {"name": seat.name, "here": seat.page is not None, "room": self.number_of(seat)}
                      for seat in self.taken.values()}
             self.told_state = self.changes, event("state", {
                 "names": names, "paused": self.paused, "open": self.is_open, "may": self.may, "size": self.size, "shown": self.shown,
-                "address": self.address, "over": self.over, "ends": {room.number: room.end for room in self.rooms.values() if room.end}})
+                "address": self.address, "over": self.over, "picture": self.picture,
+                "ends": {room.number: room.end for room in self.rooms.values() if room.end}})
         return self.told_state[1]
 
-    async def events(self, gone, mark, seat):
+    async def events(self, gone: asyncio.Future[Any], mark: tuple[str | None, int], seat: Seat | None) -> AsyncIterator[bytes]:
         """The table, the state and the entries, from a mark on, as they come, until the page has gone, or its seat was freed or is open
         in a newer one. A mark is the key of a feed and a number; of another feed all is told."""
-        follower, (key, number), seen = Follower(gone), mark, -1
+        follower, seen = Follower(gone), -1
+        key, number = mark
         self.followers.add(follower)
         if seat:
             if seat.page:
@@ -300,7 +322,7 @@ class Classroom:
 
     # Requests.
 
-    async def answer(self, request):
+    async def answer(self, request: Request) -> Answer:
         """What the server says to a request."""
         teaches = same(request.parts[0], self.teacher) and (request.is_local or not self.teacher_here)
         knows = teaches or same(request.parts[0], self.secret)
@@ -319,7 +341,7 @@ class Classroom:
         given = await request.json(MOST_TABLE if teaches else MOST_BODY)
         return await (self.teachers(asked, given) if teaches else self.pupils(asked, given, request))
 
-    def at_the_door(self, request):
+    def at_the_door(self, request: Request) -> Answer:
         """What is said to an address of one part while the door is open: the short code leads to the pupils' address, and what may have been
         meant for it to a page with a field. Few wrong codes are looked at."""
         word = request.query.get("code", request.parts[0])
@@ -334,12 +356,12 @@ class Classroom:
             raise Nothing
         return 404, "text/html", filled("wrong.html", {"title": "The dollar game"}).encode()
 
-    def given(self, asked, request, teaches):
+    def given(self, asked: str, request: Request, teaches: bool) -> Answer:
         """What a page gets that plays nothing."""
         if asked == "start":
             return as_json({"role": "teacher" if teaches else "pupil", "seats": self.seats, "address": self.address,
-                            "short": self.short, "code": code(self.address), "places": self.places() if teaches else [],
-                            "kept": self.keeper is not None,
+                            "short": self.short, "code": code("http://%s/%s" % (self.place, self.short)), "size": self.size,
+                            "kept": self.keeper is not None, "places": self.places() if teaches else [],
                             **self.told_first(self.feed)})
         if asked == "events":
             mark, seat = begin_at(request), None
@@ -353,7 +375,7 @@ class Classroom:
 
     # Pupils.
 
-    def seat_of(self, key):
+    def seat_of(self, key: str) -> Seat:
         """The seat of a key."""
         found = next((seat for seat in self.taken.values() if same(key, seat.key)), None)
         if found is None:
@@ -361,31 +383,37 @@ class Classroom:
         found.seen = time.monotonic()
         return found
 
-    async def pupils(self, asked, given, request):
+    async def pupils(self, asked: str, given: dict[str, Any], request: Request) -> Answer:
         if asked == "join":
             browser = text_in(given, "browser", 64) if "browser" in given else None
             return self.join(text_in(given, "name", 200), browser, request.peer)
-        if asked not in ("line", "undo", "redo", "hint", "rename", "leave"):
+        if asked not in ("line", "undo", "redo", "hint", "cant", "next", "measure", "rename", "leave"):
             raise Nothing
         seat = self.seat_of(text_in(given, "key", 64))
         if asked in ("rename", "leave"):
             return self.renamed(seat, text_in(given, "name", 200)) if asked == "rename" else self.left(seat)
         room = self.room_of(seat)
-        if given.get("feed", room.feed.key) != room.feed.key:
+        stage = given.get("stage", room.stage)
+        if given.get("feed", room.feed.key) != room.feed.key or stage != room.stage:
             raise NewTable
         if asked == "line":
             return await self.line(seat, room, text_in(given, "line", MOST_BODY), request)
-        self.permits("hints" if asked == "hint" else "undo")
-        acts = {"undo": lambda: room.undo(seat.name), "redo": lambda: room.redo(seat.name),
-                "hint": lambda: asyncio.to_thread(hint, room.now())}
-        return await self.done(asked, seat, room, request, acts[asked])
+        self.permits({"hint": "hints", "undo": "undo", "redo": "undo"}.get(asked))
+        acts: dict[str, Callable[[str], Awaitable[Any]]] = {
+            "undo": room.undo, "redo": room.redo, "hint": room.hint, "cant": room.judge, "measure": lambda _: self.measure(room),
+            "next": lambda name: room.onward(name, stage)}
+        return await self.done(asked, seat, room, request, lambda: acts[asked](seat.name))
 
-    def permits(self, switch):
+    async def measure(self, room: Room) -> Any:
+        """In how few moves the table of a room can be won, once it is done."""
+        return room.is_done and (await asyncio.to_thread(hint, room.text))["left"]
+
+    def permits(self, switch: str | None) -> None:
         """Refuses what the teacher does not permit."""
-        if not self.may[switch]:
+        if switch and not self.may[switch]:
             raise Refused(409, "The teacher has switched off %s. Nothing was played." % SWITCHES[switch][1])
 
-    def join(self, name, browser, peer):
+    def join(self, name: str, browser: str | None, peer: str) -> Answer:
         """Gives a free seat: of those the one that was used least, so that nobody finds the look of another on it. A browser that has a
         seat keeps it."""
         if owner_of(browser) in self.barred:
@@ -400,7 +428,7 @@ class Classroom:
             self.changed()
         return as_json({"seat": own.number, "key": own.key, "name": own.name})
 
-    def name_for(self, wanted, number):
+    def name_for(self, wanted: str, number: int) -> str:
         """A name for a seat: a second Anna is Anna 2. Raises Refused if nobody can see it."""
         name, others = clean(wanted), {seen(seat.name) for seat in self.taken.values() if seat.number != number}
         if wanted.strip() and not any(unicodedata.category(letter)[0] in "LNPS" for letter in name):
@@ -408,19 +436,19 @@ class Classroom:
         named = [name or "Seat %d" % number, *("%s %d" % (name[:MOST_NAME - 3], count) for count in range(2, self.seats + 2))]
         return next(each for each in named if seen(each) not in others)
 
-    def renamed(self, seat, wanted):
+    def renamed(self, seat: Seat, wanted: str) -> Answer:
         if not seat.bucket.takes():
             raise Refused(429, "That is too fast; wait a moment.")
         seat.name = self.name_for(wanted, seat.number)
         self.changed()
         return as_json({"name": seat.name})
 
-    def left(self, seat):
+    def left(self, seat: Seat) -> Answer:
         self.free(seat.number, False)
         self.changed()
         return as_json({})
 
-    def free_number(self):
+    def free_number(self) -> int:
         if not self.is_open:
             raise Refused(409, "The door is shut. The teacher can open it.")
         free = [number for number in range(1, self.seats + 1) if number not in self.taken]
@@ -434,7 +462,7 @@ class Classroom:
         used = Counter(entry[0] for room in self.rooms.values() for entry in room.entries)
         return min(free, key=lambda number: (used[number], number))
 
-    async def line(self, seat, room, line, request):
+    async def line(self, seat: Seat, room: Room, line: str, request: Request) -> Answer:
         """Plays a line of a seat, and gives the answer."""
         if "\n" in line:
             raise Refused(400, "A line has no newline in it. This one was not played.")
@@ -443,9 +471,10 @@ class Classroom:
         for switch, (words, _) in SWITCHES.items():
             if line.split(" ")[0] in words:
                 self.permits(switch)
-        return await self.done("answer", seat, room, request, lambda: self.play(seat, room, line))
+        stage = room.stage
+        return await self.done("answer", seat, room, request, lambda: self.play(seat, room, line, stage))
 
-    async def done(self, called, seat, room, request, act):
+    async def done(self, called: str, seat: Seat, room: Room, request: Request, act: Callable[[], Awaitable[Any]]) -> Answer:
         """What comes of an act of a seat in its room, if it may act now, with how many items its page has to draw until it shows that. It
         goes on also if who asked has gone meanwhile."""
         if self.paused:
@@ -454,27 +483,28 @@ class Classroom:
             raise Refused(429, "That is too fast. This line was not played; wait a moment.")
         request.known()
         seat.waiting += 1
+        stage = room.stage
         try:
             came = None if self.over else await asyncio.shield(asyncio.ensure_future(act()))
         except (OSError, ValueError, Fault) as error:
             raise Refused(503, "The program can't be started: %s." % error) from None
         finally:
             seat.waiting -= 1
-        if came is None and self.rooms.get(room.number) is not room:
+        if came is None and (self.rooms.get(room.number) is not room or stage != room.stage):
             raise NewTable
         if came is None:
             raise Refused(503, "The game has ended. This line was not played, unless the list has it.")
         return as_json({called: came, "items": len(room.feed.items)})
 
-    async def play(self, seat, room, line):
-        answer = await room.ask(seat.number, line, seat.name)
+    async def play(self, seat: Seat, room: Room, line: str, stage: int) -> str | None:
+        answer = await room.ask(seat.number, line, seat.name, stage)
         if answer is not None and answer[:1].isdigit():
             seat.played += 1
         return answer
 
     # The teacher.
 
-    async def teachers(self, asked, given):
+    async def teachers(self, asked: str, given: dict[str, Any]) -> Answer:
         if asked == "free":
             self.free(given.get("seat"), given.get("bar") is True)
         elif asked == "pause":
@@ -484,7 +514,12 @@ class Classroom:
         elif asked == "may":
             self.may = {switch: given.get(switch, now) is True for switch, now in self.may.items()}
         elif asked == "show":
-            self.shown = text_in(given, "what", 8)
+            self.shown, self.picture = text_in(given, "what", 8), None
+        elif asked == "ask":
+            return as_json(await question(lambda name: text_in(given, name, MOST_TABLE)))
+        elif asked == "picture":
+            # What the teacher has asked about a board is shown on the wall, and the board is large there.
+            self.picture, self.shown = given, str(room_in(given.get("room", 1))) if self.size else "all"
         elif asked == "place":
             if given.get("place") not in self.places():
                 raise Refused(409, "This machine does not have this address any more.")
@@ -497,7 +532,7 @@ class Classroom:
         elif asked == "table":
             await self.hand_out(given)
         elif asked == "layout":
-            (table,) = await self.checked(given, self.size)
+            ((table,),) = await self.checked(given, self.size)
             return as_json({"layout": table.layout})
         elif asked == "move":
             self.teacher = new_secret()
@@ -510,8 +545,8 @@ class Classroom:
         self.changed()
         return as_json({})
 
-    def free(self, number, bar):
-        seat = self.taken.pop(number, None) if isinstance(number, int) else None
+    def free(self, number: Any, bar: bool) -> None:
+        seat = self.taken.pop(number, None) if type(number) is int else None
         if seat is None:
             raise Refused(409, "Nobody has this seat.")
         if bar and seat.browser:
@@ -519,7 +554,7 @@ class Classroom:
         if seat.page:
             seat.page.end("freed")
 
-    async def again(self):
+    async def again(self) -> None:
         """Starts the programs that have ended again, with all entries that there were."""
         if not self.over and not any(room.end for room in self.rooms.values()):
             raise Refused(409, "The game goes on.")
@@ -530,7 +565,7 @@ class Classroom:
             raise Refused(503, "The game can't be restarted: %s." % error) from None
         self.over = False
 
-    async def hand_out(self, given):
+    async def hand_out(self, given: dict[str, Any]) -> None:
         """Hands out another table: one that was named, a puzzle, one whose text is given, or the same again. The games on the one before
         end."""
         size, old = given.get("size", self.size), list(self.rooms.values())
@@ -538,35 +573,38 @@ class Classroom:
             raise Refused(400, "there is no such room")
         handed = await self.checked(given, size)
         if (size > 0) != (self.size > 0):
-            self.may.update(dict.fromkeys(IN_ROOMS, size > 0))
+            self.may.update(usual(size))
         self.set_tables(handed, size, self.turn + 1)
         self.over, self.shown = False, "all" if self.shown.isdigit() else self.shown
         if self.keeper:
-            self.keep_tables()
+            self.keep_tables(self.keeper)
         self.changed()
         for room in old:
             await room.finish()
 
-    async def checked(self, given, size):
+    async def checked(self, given: dict[str, Any], size: int) -> list[list[Table]]:
         """The tables that are wanted, if the program takes them."""
         try:
             return await asyncio.to_thread(self.wanted, given, size)
         except (Fault, ValueError) as fault:
             raise Refused(409, fault.text if isinstance(fault, Fault) else str(fault)) from None
 
-    def wanted(self, given, size):
-        """The tables that are wanted, for rooms of a size. Raises a Fault where one is none."""
+    def wanted(self, given: dict[str, Any], size: int) -> list[list[Table]]:
+        """The tables that are wanted, of each stage, for rooms of a size. Raises a Fault where one is none."""
         if "graph" in given:
             count = -(-self.seats // size) if given.get("each") is True and size else 1
-            return tables_of(*puzzles(text_in(given, "graph", 40), text_in(given, "level", 20), self.handed[0].text, count))
+            graph, level = text_in(given, "graph", 40), text_in(given, "level", 20)
+            return [tables_of(*puzzles(graph, each, self.handed[0][0].text, count)) for each in (RISING if level == "easy to hard" else [level])]
         if "table" in given:
             text = text_in(given, "table", MOST_TABLE)
             printed("judge", text.encode(), patience=PATIENCE)
             places = text_in(given, "places", MOST_TABLE) if "places" in given else None
-            return [Table(clean(text_in(given, "name", 200)) or "A table", text, places)]
-        return [table for table in self.tables if table.name == given.get("named")][:1] or self.handed
+            return [[Table(clean(text_in(given, "name", 200)) or "A table", text, places)]]
+        if given.get("all") is True:
+            return [[table] for table in self.tables]
+        return [[table] for table in self.tables if table.name == given.get("named")][:1] or self.handed
 
-    async def replay(self, number):
+    async def replay(self, number: int) -> Answer:
         """The page that shows the game of a room."""
         steps, history = self.file("steps.txt", number), self.file("history.txt", number)
         try:
@@ -578,7 +616,7 @@ class Classroom:
             raise Refused(409, "The program does not play the game again: %s" % fault) from None
         return as_json({"page": made})
 
-    def file(self, name, number):
+    def file(self, name: str, number: int) -> str:
         """The text of a file that is taken along, of a room."""
         if name == "table.json":
             return self.table(number).text
@@ -589,21 +627,26 @@ class Classroom:
         return room.steps() if name == "steps.txt" else room.history()
 
 
-def owner_of(browser):
+def usual(size: int) -> dict[str, bool]:
+    """What is permitted at first: on boards that not all share, what helps a pupil alone, and no words that show how it is done."""
+    return {**dict.fromkeys(IN_ROOMS, size > 0), "questions": size == 0}
+
+
+def owner_of(browser: str | None) -> str | None:
     """The browser to which a name of one belongs: on a shared laptop each of its pupils has a name of it, with an own end after a dot."""
     return browser and browser.partition(".")[0]
 
 
-def begin_at(request):
+def begin_at(request: Request) -> tuple[str | None, int]:
     """The mark from which on a page wants to be told: after a break the one after the last that it had."""
-    mark = request.headers.get("last-event-id") or request.query.get("from", "0")
+    mark = request.headers.get("last-event-id") or str(request.query.get("from", "0"))
     found = re.match(r"(?:([a-z0-9-]{1,12})\.)?([0-9]{1,6})\Z", mark)
     if not found:
         raise Nothing
     return found[1], int(found[2])
 
 
-def room_in(word):
+def room_in(word: Any) -> int:
     """The number of a room."""
     if not re.match(r"[0-9]{1,2}\Z", str(word)):
         raise Nothing

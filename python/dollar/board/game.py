@@ -1,7 +1,10 @@
 """A game on a live program, which the pages of one player and of a class share."""
+from __future__ import annotations
+
 import asyncio
 import contextlib
 import json
+from typing import Any, Callable, Sequence
 
 from dollar.drawing import USUAL, layout
 from dollar.grammar import limit
@@ -14,12 +17,12 @@ PIECE = 1 << 16
 class Table:
     """A table to play on: its name, its text, and where its vertices stand."""
 
-    def __init__(self, name, text, own=None, laid=None):
+    def __init__(self, name: str, text: str, own: str | None = None, laid: Any = None) -> None:
         made = json.loads(text)
         self.name, self.text, self.own, self.layout = name, text, own, laid or layout(made, made["amounts"] + USUAL, own)
 
 
-def tables_of(name, texts):
+def tables_of(name: str, texts: list[str]) -> list[Table]:
     """Tables of these texts, which are on the same graph."""
     first = Table(name, texts[0])
     return [first, *(Table(name, text, laid=first.layout) for text in texts[1:])]
@@ -28,11 +31,14 @@ def tables_of(name, texts):
 class Game:
     """A `dollar serve --seats N` at the other end of a pipe. `end` says how it has ended, if it has."""
 
-    def __init__(self, text, seats=MOST_SEATS):
+    def __init__(self, text: str, seats: int = MOST_SEATS) -> None:
         self.text, self.seats = text, seats
-        self.child, self.watching, self.end = None, None, None
+        # There once it was started.
+        self.child: Any = None
+        self.watching: Any = None
+        self.end: Any = None
 
-    async def start(self, lines=(), ended=lambda: None):
+    async def start(self, lines: Sequence[str] = (), ended: Callable[[], None] = lambda: None) -> list[str]:
         """Starts the program, again if it was started before, and gives its answers to some lines, all of which are written at once. If it
         ends before that, there are fewer. `ended` is called when it ends later."""
         await self.close()
@@ -44,7 +50,7 @@ class Game:
         self.watching = asyncio.ensure_future(self.watch(self.child, ended))
         return await self.answers(lines)
 
-    async def watch(self, child, ended):
+    async def watch(self, child: Any, ended: Callable[[], None]) -> None:
         """Waits for the end of the program."""
         said = await child.stderr.read()
         status = await child.wait()
@@ -52,7 +58,7 @@ class Game:
             self.end = {"status": status, "text": fault_of(said, status).text}
             ended()
 
-    async def answers(self, lines):
+    async def answers(self, lines: Sequence[str]) -> list[str]:
         """The answers to some lines. They are read while the lines are written, since a pipe holds only so much."""
         writing = asyncio.ensure_future(self.write("".join(line + "\n" for line in lines).encode()))
         pieces, left = [], len(lines)
@@ -70,16 +76,16 @@ class Game:
         # What has no newline is no whole answer.
         return b"".join(pieces).decode().split("\n")[:-1]
 
-    async def write(self, data):
+    async def write(self, data: bytes) -> None:
         with contextlib.suppress(ConnectionError):
             self.child.stdin.write(data)
             await self.child.stdin.drain()
 
-    async def answer(self, line):
+    async def answer(self, line: str) -> str | None:
         """The answer to a line of one of the seats, or None at the end of the game."""
         return next(iter(await self.answers([line])), None)
 
-    async def close(self):
+    async def close(self) -> None:
         """Ends the input of the program, and with it the game."""
         if self.child is None:
             return

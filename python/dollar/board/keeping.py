@@ -2,13 +2,16 @@
 
 A folder has `class.json`, which its owner alone can read, and for each turn, in which something was handed out, a folder with the tables
 of its rooms, and a record of each room."""
+from __future__ import annotations
+
 import fcntl
 import json
 import os
 import re
 import sys
+from typing import Any, TextIO
 
-from dollar.board.room import Played, Rewound
+from dollar.board.room import Item, Noted, Played, Rewound
 from dollar.program import typed
 from dollar.table import text_of
 
@@ -18,7 +21,7 @@ KINDS = {"played": Played, "rewound": Rewound}
 KINDS_OF_1_1 = {4: Played, 2: Rewound}
 
 
-def read(place):
+def read(place: str) -> str:
     """The text of a file; nothing if there is none."""
     return text_of(place) if os.path.exists(place) else ""
 
@@ -26,13 +29,14 @@ def read(place):
 class Kept:
     """The record of a room: a line of JSON for each item of its feed, also for what was taken back and played again."""
 
-    def __init__(self, place, seats):
-        self.place, self.file, self.is_kept = place, None, True
+    def __init__(self, place: str, seats: int) -> None:
+        self.place, self.is_kept = place, True
+        self.file: TextIO | None = None
         # Nobody was told what was not written to its end.
         whole, end, _ = read(place).rpartition("\n")
         self.items, self.size = items_in(place, whole, seats), len((whole + end).encode())
 
-    def add(self, thing):
+    def add(self, thing: Any) -> None:
         """Keeps an item, as it is in JSON. If the disk does not take it, the game goes on and this is told."""
         if not self.is_kept:
             return
@@ -48,14 +52,14 @@ class Kept:
             self.is_kept = False
 
 
-def item_of(thing):
+def item_of(thing: Any) -> Any:
     """The item that something in JSON is."""
     if isinstance(thing, list):
         return KINDS_OF_1_1[len(thing)](*thing)
-    return KINDS[thing.pop("kind")](**thing)
+    return Noted(**thing) if "number" in thing else KINDS[thing.pop("kind")](**thing)
 
 
-def items_in(place, lines, seats):
+def items_in(place: str, lines: str, seats: int) -> list[Item]:
     """The items of the lines of a record. Raises ValueError if it is none, or has a seat that there is not."""
     try:
         items = [item_of(thing) for thing in json.loads("[%s]" % lines.replace("\n", ","))]
@@ -72,7 +76,7 @@ def items_in(place, lines, seats):
 class Keeper:
     """A folder in which a class is kept. No other command may use it meanwhile; else a ValueError says so."""
 
-    def __init__(self, folder):
+    def __init__(self, folder: str) -> None:
         self.folder = folder
         os.makedirs(folder, mode=0o700, exist_ok=True)
         self.lock = os.open(self.place("lock"), os.O_RDWR | os.O_CREAT | os.O_CLOEXEC, 0o600)
@@ -82,14 +86,14 @@ class Keeper:
             raise ValueError("%s is in use by a command that still runs" % folder) from None
         self.found = json.loads(read(self.place(CLASS)) or "{}")
 
-    def place(self, *names):
+    def place(self, *names: str) -> str:
         return os.path.join(self.folder, *names)
 
-    def save(self, thing):
+    def save(self, thing: Any) -> None:
         """Keeps what is not a game."""
         self.put(thing, 0o600, CLASS)
 
-    def put(self, thing, mode, *names):
+    def put(self, thing: Any, mode: int, *names: str) -> None:
         """Writes a file anew, so that whoever is interrupted leaves the old one. If the disk does not take it, the class goes on and this is
         told."""
         place = self.place(*names)
@@ -101,18 +105,20 @@ class Keeper:
         except OSError as error:
             print("%s: %s: %s" % (typed("board"), place, error.strerror), file=sys.stderr)
 
-    def tables(self, turn):
-        """The texts of the tables that were handed out at a turn: none if none were."""
-        return json.loads(read(self.place("table%d" % turn, TABLES)) or "[]")
+    def stages(self, turn: int) -> Any:
+        """What was handed out at a turn, one after another, each as its name and the texts of its tables. Version 1.1 kept one, with its name
+        elsewhere."""
+        kept = json.loads(read(self.place("table%d" % turn, TABLES)) or "[]")
+        return [[self.found.get("table"), kept]] if kept and isinstance(kept[0], str) else kept
 
-    def hand_out(self, turn, texts):
-        """Keeps the tables of a turn."""
-        self.put(texts, 0o644, "table%d" % turn, TABLES)
+    def hand_out(self, turn: int, stages: Any) -> None:
+        """Keeps what was handed out at a turn."""
+        self.put(stages, 0o644, "table%d" % turn, TABLES)
 
-    def room(self, turn, number, seats):
+    def room(self, turn: int, number: int, seats: int) -> Kept:
         return Kept(self.place("table%d" % turn, "room%d.jsonl" % number), seats)
 
-    def rooms(self, turn):
+    def rooms(self, turn: int) -> list[int]:
         """The numbers of the rooms that have a game at a turn."""
         folder = self.place("table%d" % turn)
         found = map(RECORD.match, os.listdir(folder) if os.path.isdir(folder) else [])

@@ -1,11 +1,14 @@
 """The pages and their parts, as they stand in the folder `web`."""
+from __future__ import annotations
+
 import functools
 import html
 import json
 import os
 import re
+from typing import Mapping
 
-from dollar.board.server import Nothing
+from dollar.board.server import Answer, Nothing, Request
 from dollar.grammar import GRAMMAR
 from dollar.table import text_of
 
@@ -16,7 +19,7 @@ ROOTS = {"alone.js", "class.js"}
 ASSETS = {"grammar.js", *(name for name in os.listdir(WEB) if name.rpartition(".")[2] in KINDS)}
 
 
-def part(name):
+def part(name: str) -> str:
     """The text of a file of the pages. The grammar is a module that is made of its data."""
     if name == "grammar.js":
         return "export const GRAMMAR = %s;\n" % json.dumps(GRAMMAR, indent=1)
@@ -27,12 +30,12 @@ IMPORT = re.compile(r'^import [^;]*? from "\./([\w.]+)";\n', re.M)
 
 
 @functools.lru_cache(maxsize=None)
-def one_script(name, exports=False):
+def one_script(name: str, exports: bool = False) -> str:
     """A module and all that it needs as one: what they import of each other stands before them, so their names are all different. With
     `exports` the module itself still exports what it does."""
     needed = []
 
-    def visit(module):
+    def visit(module: str) -> None:
         text = part(module)
         for other in IMPORT.findall(text):
             if other not in needed:
@@ -41,21 +44,21 @@ def one_script(name, exports=False):
             needed.append(module)
         texts[module] = IMPORT.sub("", text)
 
-    texts = {}
+    texts: dict[str, str] = {}
     visit(name)
     return "\n" + "\n".join(texts[module] if exports and module == name else re.sub(r"^export ", "", texts[module], flags=re.M)
                             for module in needed)
 
 
-def filled(name, words):
+def filled(name: str, words: Mapping[str, str]) -> str:
     """A page with texts, or else other parts of pages, in the places of their names."""
-    def text_of_name(found):
+    def text_of_name(found: re.Match[str]) -> str:
         return words[found[1]] if found[1] in words else filled(found[1] + ".html", words)
 
     return re.sub("{{([a-z]+)}}", text_of_name, part(name))
 
 
-def asset(name):
+def asset(name: str) -> Answer:
     """A script or a style as an answer. The script of a page has all its modules in it, so that a page needs few requests."""
     if name not in ASSETS:
         raise Nothing
@@ -63,12 +66,12 @@ def asset(name):
     return 200, KINDS[name.rpartition(".")[2]], text.encode()
 
 
-def page(name):
+def page(name: str) -> Answer:
     """A page as an answer."""
     return 200, "text/html", filled(name, {"title": html.escape("The dollar game")}).encode()
 
 
-def forward(request, secret):
+def forward(request: Request, secret: str) -> Answer:
     """A page that leads on, for an address without its last slash, or a short one."""
     if request.method != "GET":
         raise Nothing

@@ -18,6 +18,8 @@ same command again, even after a crash.
 With --places PLACES each line 'name x y' of a file is the place of a vertex; x goes to the right, and y down. With --no-browser no
 browser is opened, and with --port PORT the address has that port. In a clone the command is `board/play`, and once installed it is
 `dollar-board`."""
+from __future__ import annotations
+
 import argparse
 import asyncio
 import os
@@ -27,20 +29,21 @@ import socket
 import sys
 import threading
 import webbrowser
+from typing import Any, Callable
 
 from dollar.board.alone import Alone
 from dollar.board.classroom import Classroom
 from dollar.board.game import MOST_SEATS, Table
 from dollar.board.keeping import Keeper
 from dollar.board.pages import forward
-from dollar.board.server import ANY, Server, addresses_of, is_loopback, new_secret
+from dollar.board.server import ANY, Answer, Request, Server, addresses_of, is_loopback, new_secret
 from dollar.program import Fault, printed, typed
 from dollar.table import EXAMPLES, shown_name, text_of
 
 LOOPBACK = "127.0.0.1"
 
 
-def arguments(words):
+def arguments(words: list[str]) -> argparse.Namespace:
     """The command line."""
     usage, _, more = __doc__.partition("\n\n")
     parser = argparse.ArgumentParser(prog=typed("board"), description=usage, epilog=more,
@@ -66,28 +69,28 @@ def arguments(words):
     return given
 
 
-def number_to(most):
+def number_to(most: int) -> Callable[[str], int]:
     """A number from 1 to the most, for the command line."""
-    def number(word):
+    def number(word: str) -> int:
         if not (word.isascii() and word.isdigit() and 1 <= int(word) <= most):
             raise argparse.ArgumentTypeError("%r is not a number from 1 to %d" % (word, most))
         return int(word)
     return number
 
 
-def name_of_host(word):
+def name_of_host(word: str) -> str:
     """A name of a host, maybe with a port, for the command line."""
     if not re.match(r"[A-Za-z0-9.-]{1,253}(:[0-9]{1,5})?\Z", word):
         raise argparse.ArgumentTypeError("%r is not the name of a host" % word)
     return word.lower()
 
 
-def open_browser(server, host, secret):
+def open_browser(server: Server, host: str, secret: str) -> None:
     """Opens the browser at a page. The command line of a browser can be read by all on this machine, so the address in it has no secret:
     it leads to the page once, and only a program of the same user."""
     once, answer = new_secret(), server.answer
 
-    async def leading(request):
+    async def leading(request: Request) -> Answer:
         if request.parts != [once] or not request.is_own():
             return await answer(request)
         server.answer = answer
@@ -97,18 +100,18 @@ def open_browser(server, host, secret):
     threading.Thread(target=webbrowser.open, args=("%s%s" % (base_of(host, server), once),), daemon=True).start()
 
 
-def base_of(host, server):
+def base_of(host: str, server: Server) -> str:
     """Where this machine finds a server that listens on a host."""
     host = {"0.0.0.0": LOOPBACK, "::": "::1"}.get(host, host)
     return "http://%s:%d/" % ("[%s]" % host if ":" in host else host, server.port)
 
 
-def told_once():
+def told_once() -> Callable[[Any, dict[str, Any]], None]:
     """What is called with what goes wrong in the loop, as when a flood leaves no room for more connections: it tells each once. That a page
     or a program has gone is no news here."""
     said = set()
 
-    def tell(_, context):
+    def tell(_: Any, context: dict[str, Any]) -> None:
         words = context.get("message", "something went wrong")
         if words not in said and not isinstance(context.get("exception"), ConnectionError):
             said.add(words)
@@ -120,7 +123,7 @@ class Ending:
     """Ctrl-C, SIGTERM and the end of what is typed. If there are last words, who ends it is told them first, and has to end it once
     more."""
 
-    def __init__(self, last_words=lambda: ""):
+    def __init__(self, last_words: Callable[[], Any] = lambda: "") -> None:
         loop, self.ended, self.last_words, self.warned = asyncio.get_running_loop(), asyncio.Event(), last_words, False
         loop.set_exception_handler(told_once())
         loop.add_signal_handler(signal.SIGTERM, self.ended.set)
@@ -128,7 +131,7 @@ class Ending:
         if sys.stdin is not None and sys.stdin.isatty():
             loop.add_reader(sys.stdin, lambda: None if os.read(sys.stdin.fileno(), 4096) else self.end())
 
-    def end(self):
+    def end(self) -> None:
         words = "" if self.warned else self.last_words()
         self.warned = True
         if words:
@@ -137,7 +140,7 @@ class Ending:
             self.ended.set()
 
 
-async def serve_alone(given, tables):
+async def serve_alone(given: argparse.Namespace, tables: list[Table]) -> None:
     """Serves one player until it is ended."""
     ending, secret, (table,) = Ending(), new_secret(), tables
     alone = Alone(secret, table)
@@ -150,7 +153,7 @@ async def serve_alone(given, tables):
         await alone.stop()
 
 
-async def serve_class(given, tables):
+async def serve_class(given: argparse.Namespace, tables: list[Table]) -> None:
     """Serves a class until it is ended."""
     keeper = Keeper(given.keep) if given.keep else None
     room = Classroom(tables, given.seats, given.rooms, keeper, given.teacher_here)
@@ -173,7 +176,7 @@ async def serve_class(given, tables):
         await room.stop()
 
 
-def places_of(names, host, server):
+def places_of(names: list[str], host: str, server: Server) -> list[str]:
     """Where others may find the server, the likeliest first: by the names that were given, and by the addresses of this machine. If it has
     none for others, it is found from here alone."""
     own = [] if names and is_here_alone(host) else addresses_of(host)
@@ -181,12 +184,12 @@ def places_of(names, host, server):
     return [each if re.search(":[0-9]+$", each) else "%s:%d" % (each, server.port) for each in places] or [base_of(host, server)[7:-1]]
 
 
-def is_here_alone(host):
+def is_here_alone(host: str) -> bool:
     """Whether an address that the server listens on, or a name of one, leads to this machine alone."""
     return all(is_loopback(place) for *_, place in socket.getaddrinfo(host, None))
 
 
-async def begun(server, port):
+async def begun(server: Server, port: int) -> None:
     """Starts a server, at the port that it had before if that is free, so that open pages find it again."""
     if port and not server.port:
         server.port = port
@@ -197,7 +200,7 @@ async def begun(server, port):
     return await server.start()
 
 
-async def until_ended(given, server, host, secret, ending):
+async def until_ended(given: argparse.Namespace, server: Server, host: str, secret: str, ending: Ending) -> None:
     """Opens the browser, and waits until the server is ended."""
     if not given.no_browser:
         open_browser(server, host, secret)
@@ -207,7 +210,7 @@ async def until_ended(given, server, host, secret, ending):
         await server.stop()
 
 
-def main(words):
+def main(words: list[str]) -> int:
     given = arguments(words)
     own = None if given.places is None else text_of(given.places)
     texts = {shown_name(file): text_of(file) for file in given.files}

@@ -1,16 +1,20 @@
 """QR codes of addresses: of texts of up to 106 bytes, as squares of 0 and 1."""
+from __future__ import annotations
+
 import functools
 import itertools
+from typing import Any, Callable
 
 # How many bytes of data there are in each size from 1 on, and of the check after them; at the least level of correction, L, they are
 # one block.
 SIZES = [(19, 7), (34, 10), (55, 15), (80, 20), (108, 26)]
-MASKS = [lambda x, y: (x + y) % 2, lambda x, y: y % 2, lambda x, y: x % 3, lambda x, y: (x + y) % 3, lambda x, y: (x // 3 + y // 2) % 2,
+MASKS: list[Callable[[int, int], int]] = [
+         lambda x, y: (x + y) % 2, lambda x, y: y % 2, lambda x, y: x % 3, lambda x, y: (x + y) % 3, lambda x, y: (x // 3 + y // 2) % 2,
          lambda x, y: x * y % 2 + x * y % 3, lambda x, y: (x * y % 2 + x * y % 3) % 2, lambda x, y: ((x + y) % 2 + x * y % 3) % 2]
 FORMAT, FORMAT_MASK, LEVEL = 0x537, 0x5412, 1
 
 
-def times(x, y):
+def times(x: int, y: int) -> int:
     """The product in the field of 256 elements whose polynomial is 0x11d."""
     product = 0
     for bit in range(8):
@@ -22,7 +26,7 @@ def times(x, y):
     return product
 
 
-def check_bytes(data, count):
+def check_bytes(data: list[int], count: int) -> list[int]:
     """The remainder of the data, by which errors are corrected."""
     divisor, root = [1], 1
     for _ in range(count):
@@ -36,7 +40,7 @@ def check_bytes(data, count):
     return rest[-count:]
 
 
-def words(text, size):
+def words(text: bytes, size: int) -> list[int]:
     """The bytes of a code of a size: the mode, the length, the text, what fills it up, and the check."""
     most, checked = SIZES[size - 1]
     bits = "0100" + format(len(text), "08b") + "".join(format(byte, "08b") for byte in text) + "0000"
@@ -45,7 +49,7 @@ def words(text, size):
     return data + check_bytes(data, checked)
 
 
-def fixed(size):
+def fixed(size: int) -> Any:
     """The dots that every code of a size has, by their places (x, y), and 0 at those of the format."""
     wide, dots = 17 + 4 * size, {}
     for i in range(wide):
@@ -64,14 +68,14 @@ def fixed(size):
     return dots
 
 
-def format_places(wide):
+def format_places(wide: int) -> Any:
     """Where the bits of the format stand, twice, from the lowest on."""
     ends = [0, 1, 2, 3, 4, 5, 7, 8]
     yield [(8, y) for y in ends] + [(x, 8) for x in reversed(ends[:-1])]
     yield [(wide - 1 - i, 8) for i in range(8)] + [(8, wide - 7 + i) for i in range(7)]
 
 
-def format_bits(mask):
+def format_bits(mask: int) -> Any:
     """The bits of the format, with their check."""
     rest = data = LEVEL << 3 | mask
     for _ in range(10):
@@ -79,7 +83,7 @@ def format_bits(mask):
     return (data << 10 | rest) ^ FORMAT_MASK
 
 
-def free_places(wide, taken):
+def free_places(wide: int, taken: Any) -> Any:
     """The places of the bits, in their order: up and down in columns of two."""
     up = True
     for right in [*range(wide - 1, 6, -2), *range(5, 0, -2)]:
@@ -88,7 +92,7 @@ def free_places(wide, taken):
         up = not up
 
 
-def penalty(rows):
+def penalty(rows: Any) -> int:
     """How hard a code is to read: runs and squares of one colour, what looks like a corner, and how far black is from the half."""
     lines, found = [*rows, *map("".join, zip(*rows))], 0
     for line in lines:
@@ -101,7 +105,7 @@ def penalty(rows):
 
 
 @functools.lru_cache(maxsize=None)
-def code(text, mask=None):
+def code(text: str, mask: int | None = None) -> list[str] | None:
     """The code of a text, as rows of 0 and 1, or None if the text is too long."""
     data = text.encode()
     size = next((number for number, (most, _) in enumerate(SIZES, 1) if len(data) + 2 <= most), None)
@@ -109,9 +113,9 @@ def code(text, mask=None):
         return None
     wide, dots = 17 + 4 * size, fixed(size)
     bits = "".join(format(byte, "08b") for byte in words(data, size))
-    free = list(itertools.zip_longest(free_places(wide, dots), map(int, bits), fillvalue=0))
+    free: list[Any] = list(itertools.zip_longest(free_places(wide, dots), map(int, bits), fillvalue=0))
 
-    def rows_of(number):
+    def rows_of(number: int) -> list[str]:
         made = {**dots, **{(x, y): bit ^ (MASKS[number](x, y) == 0) for (x, y), bit in free}}
         for places in format_places(wide):
             made.update({place: format_bits(number) >> i & 1 for i, place in enumerate(places)})

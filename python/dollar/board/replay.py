@@ -2,6 +2,8 @@
 
 The page is one file for a browser, and asks no network for anything. The table, the steps and the history are in it unchanged, and the
 page draws them. It computes only how many dollars a move sends along which edges; all amounts are the program's."""
+from __future__ import annotations
+
 import argparse
 import base64
 import hashlib
@@ -9,6 +11,7 @@ import html
 import json
 import re
 import sys
+from typing import Any, Iterable, Mapping, cast
 
 from dollar.answers import numbered
 from dollar.board.pages import filled, one_script, part
@@ -21,21 +24,21 @@ USAGE = """%(prog)s FILE STEPS > GAME.html            the history is what `dolla
        %(prog)s FILE --greedy TURNS > GAME.html   a game of `dollar greedy FILE TURNS`; its steps are those of the rule"""
 
 
-def in_page(text):
+def in_page(text: str) -> str:
     """A text as it stands within an element <script> that is no script: JSON, in which an escape stands for what would end it."""
     return text.replace("<", "\\u003c")
 
 
-def digest(text):
+def digest(text: str) -> str:
     """What a page's policy calls a script or a style of this text."""
     return "'sha256-%s'" % base64.b64encode(hashlib.sha256(text.encode()).digest()).decode()
 
 
-def greedy_game(text, turns):
+def greedy_game(text: str, turns: str) -> Any:
     """The steps of a greedy game, as its rule has them, and what is printed of its history."""
     lines = printed("greedy", text.encode(), turns).splitlines(keepends=True)
     lines = lines[:-1] if lines[-1:] == ["turns\n"] else lines
-    amounts, steps = held(json.loads(text)), []
+    steps, amounts = [], cast(Mapping[Any, int], held(json.loads(text)))
     for line in lines:
         poor = next((name for name, amount in amounts.items() if amount < 0), None)
         steps.append("1 borrow %s\n" % poor if poor else "1 claim\n")
@@ -43,7 +46,7 @@ def greedy_game(text, turns):
     return "".join(steps), "".join(lines)
 
 
-def differences(lines, given):
+def differences(lines: Any, given: Any) -> Any:
     """For each line, counted from 1, in which a given history is another than what the program prints, what is printed."""
     lines, given = lines.splitlines(), given.splitlines()
     if len(lines) != len(given):
@@ -51,7 +54,7 @@ def differences(lines, given):
     return {number: line for number, (line, other) in enumerate(zip(lines, given), 1) if line != other}
 
 
-def page(title, text, steps, lines, history=None, own=None, names=()):
+def page(title: str, text: str, steps: Any, lines: Any, history: Any = None, own: str | None = None, names: Iterable[str] = ()) -> str:
     """The text of the page for a table, steps, and what the program prints of them, or another history that was given. `names` are
     those of the players, step by step."""
     shown = lines if history is None else history
@@ -70,7 +73,7 @@ def page(title, text, steps, lines, history=None, own=None, names=()):
         "script": code})
 
 
-def main(words):
+def main(words: list[str]) -> int:
     """Prints the page that the words of a command line ask for."""
     reader = argparse.ArgumentParser(prog=typed("replay"), usage=USAGE, description=__doc__.partition("\n\n")[0], epilog=__doc__.partition("\n\n")[2])
     reader.add_argument("--greedy", metavar="TURNS", help=argparse.SUPPRESS)

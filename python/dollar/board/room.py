@@ -1,19 +1,23 @@
 """The rooms of a class: each has a game on a program of its own, which is started when it is needed."""
+from __future__ import annotations
+
 import asyncio
 import contextlib
 import json
-from typing import NamedTuple
+from typing import Any, Callable, NamedTuple, Sequence, Union
 
-from dollar.answers import numbered
+from dollar.answers import numbered, verdict_of
 from dollar.board.game import Game
+from dollar.board.puzzles import hint
 from dollar.board.server import new_secret
+from dollar.program import PATIENCE, printed
 
 BATCH, LETTERS = 400, 9
 # The replies to what has changed the board.
 CHANGES = "moved", "given", "joined"
 
 
-def event(kind, thing, number=None):
+def event(kind: str, thing: Any, number: Any = None) -> bytes:
     """An event for a page, with the mark at which it goes on after a break."""
     name = "" if number is None else "id: %s\n" % number
     return ("%sevent: %s\ndata: %s\n\n" % (name, kind, json.dumps(thing))).encode()
@@ -35,7 +39,19 @@ class Rewound(NamedTuple):
     name: str
 
 
-def as_thing(item):
+class Noted(NamedTuple):
+    """Somebody was `helped` by a hint, `judged` that it can't be done, which is right if the number is 1, or went `onward` to the table of a
+    number."""
+
+    number: int
+    kind: str
+    name: str
+
+
+Item = Union[Played, Rewound, Noted]
+
+
+def as_thing(item: Item) -> dict[str, Any]:
     """An item as it is in JSON."""
     return {"kind": "played" if isinstance(item, Played) else "rewound", **item._asdict()}
 
@@ -43,10 +59,12 @@ def as_thing(item):
 class Feed:
     """What has come, in its order, for the pages that follow it: items, each with the number of its room."""
 
-    def __init__(self, room=None):
-        self.room, self.items, self.key, self.said = room, [], new_secret()[:LETTERS], (None, b"")
+    def __init__(self, room: int | None = None) -> None:
+        self.room, self.key = room, new_secret()[:LETTERS]
+        self.items: list[tuple[int, Item]] = []
+        self.said: tuple[Any, bytes] = None, b""
 
-    def event(self, number):
+    def event(self, number: int) -> tuple[int, bytes]:
         """The next items from a number on as an event, and the number after them. Pages that are equally far share its bytes."""
         end = min(len(self.items), number + BATCH)
         if self.said[0] != (number, end):
@@ -56,13 +74,17 @@ class Feed:
 
 
 class Room(Game):
-    """A game of some pupils with its entries. What was taken back can be played again until there is another entry. `told` is called when
-    there is something new, and `changed` when the game has ended."""
+    """A game of some pupils with its entries, on the first of some tables, and then on the next ones. What was taken back can be played
+    again until there is another entry. `told` is called when there is something new, and `changed` when the game has ended."""
 
-    def __init__(self, number, text, seats, whole, told, changed, kept=None):
-        super().__init__(text, seats)
+    def __init__(self, number: int, texts: list[str], seats: int, whole: Feed, told: Callable[[], None],
+                 changed: Callable[[], None], kept: Any = None) -> None:
+        super().__init__(texts[0], seats)
+        self.texts, self.stage, self.is_done = texts, 0, False
         self.number, self.feeds, self.told, self.changed, self.kept = number, [Feed(number), whole], told, changed, kept
-        self.entries, self.undone, self.turn, self.saved, self.restarts = [], [], asyncio.Lock(), 0, False
+        self.turn, self.saved, self.restarts = asyncio.Lock(), 0, False
+        self.entries: list[Played] = []
+        self.undone: list[list[Played]] = []
         try:
             for item in kept.items if kept else []:
                 self.take(item)
@@ -70,14 +92,20 @@ class Room(Game):
             raise ValueError("%s is not a record of a game" % kept.place) from None
 
     @property
-    def feed(self):
+    def feed(self) -> Feed:
         return self.feeds[0]
 
-    def take(self, item):
+    def take(self, item: Item) -> None:
         """Takes an item of a feed."""
         if isinstance(item, Played):
             self.entries.append(item)
             self.undone.clear()
+            self.is_done = self.is_done or is_won(self.text, item)
+        elif isinstance(item, Noted):
+            self.is_done = self.is_done or item == (1, "judged", item.name)
+            if item.kind == "onward":
+                self.stage, self.text, self.is_done = item.number, self.texts[item.number], False
+                self.entries, self.undone = [], []
         elif item.left < len(self.entries):
             self.undone.append(self.entries[item.left:])
             del self.entries[item.left:]
@@ -86,14 +114,14 @@ class Room(Game):
         for feed in self.feeds:
             feed.items.append((self.number, item))
 
-    def comes(self, item):
+    def comes(self, item: Item) -> None:
         """Takes an item, keeps it, and tells it."""
         self.take(item)
         if self.kept:
             self.kept.add(as_thing(item))
         self.told()
 
-    async def begin(self, entries=None):
+    async def begin(self, entries: list[Played] | None = None) -> None:
         """Starts the program with all entries that there were, or with some. Raises ValueError if it answers them otherwise."""
         entries = self.entries if entries is None else entries
         self.restarts = True
@@ -105,33 +133,33 @@ class Room(Game):
                 self.changed()
         await self.agrees(answers, entries)
 
-    async def agrees(self, answers, entries):
+    async def agrees(self, answers: list[str], entries: list[Played]) -> None:
         """Ends the program and raises ValueError if its answers are not those of the entries."""
         if answers != [entry.answer for entry in entries]:
             await self.close()
             raise ValueError("the program does not answer the lines of the game as it did")
 
-    def has_ended(self):
+    def has_ended(self) -> None:
         if not self.restarts:
             self.changed()
 
-    async def goes_on(self):
+    async def goes_on(self) -> bool:
         """Starts the program if it has not been needed before, and says whether it has not ended."""
         if self.child is None:
             await self.begin()
         return not self.end
 
-    async def ask(self, seat, line, name):
-        """The answer to a line of a seat, which is kept if it is an entry; None if the game ended instead."""
+    async def ask(self, seat: int, line: str, name: str, stage: int) -> str | None:
+        """The answer to a line of a seat, which is kept if it is an entry; None if the game ended instead, or is on another table."""
         async with self.turn:
-            if not await self.goes_on():
+            if stage != self.stage or not await self.goes_on():
                 return None
             answer = await self.answer("%d %s" % (seat, line))
             if answer is not None and answer[:1].isdigit():
                 self.comes(Played(seat, line, answer, name))
             return answer
 
-    async def undo(self, name):
+    async def undo(self, name: str) -> bool | None:
         """Takes back the last entry that changed the board, with those that came after it: the game begins again without them. Says whether
         there was one."""
         async with self.turn:
@@ -143,7 +171,7 @@ class Room(Game):
                 self.comes(Rewound(changes[-1], name))
             return bool(changes)
 
-    async def redo(self, name):
+    async def redo(self, name: str) -> bool | None:
         """Plays again what was taken back last. Says whether there was something."""
         async with self.turn:
             if not await self.goes_on():
@@ -154,39 +182,70 @@ class Room(Game):
                 self.comes(Rewound(len(self.entries) + len(again), name))
             return bool(again)
 
-    async def again(self):
+    async def hint(self, name: str) -> dict[str, Any]:
+        """A move that helps."""
+        async with self.turn:
+            found = await asyncio.to_thread(hint, self.now())
+            if found["count"]:
+                self.comes(Noted(found["left"], "helped", name))
+            return found
+
+    async def judge(self, name: str) -> bool:
+        """Says whether it is right that it can't be done as it stands."""
+        async with self.turn:
+            said = await asyncio.to_thread(printed, "judge", self.now().encode(), patience=PATIENCE)
+            self.comes(Noted(int(not verdict_of(said.rstrip("\n"))), "judged", name))
+            return self.is_done
+
+    async def onward(self, name: str, stage: int) -> bool:
+        """Goes on to the next table, if this one is done and there is one."""
+        async with self.turn:
+            if stage != self.stage or not self.is_done or stage + 1 == len(self.texts):
+                return False
+            self.restarts = True
+            await self.close()
+            self.child, self.end, self.restarts = None, None, False
+            self.comes(Noted(stage + 1, "onward", name))
+            return True
+
+    async def again(self) -> None:
         """Starts the program again, if it has ended, with all entries that there were."""
         async with self.turn:
             if self.end:
                 await self.begin()
 
-    async def finish(self):
+    async def finish(self) -> None:
         """Ends the game after the line that is being answered."""
         async with self.turn:
             with contextlib.suppress(OSError):
                 await self.close()
 
-    def now(self):
+    def now(self) -> str:
         """The text of the table as it stands."""
         made, changes = json.loads(self.text), [entry for entry in self.entries if has_changed(entry)]
         made["edges"] += [[*entry.line.split(" ")[1:], 1] for entry in changes if entry.line.startswith("join ")]
         if changes:
-            amounts = numbered(changes[-1].answer).amounts
+            amounts = numbered(changes[-1].answer).amounts or {}
             made["amounts"] = [amounts[name] for name in made["vertices"]]
         return json.dumps(made)
 
-    def steps(self):
+    def steps(self) -> str:
         return "".join("%s\n" % line for line in lines_of(self.entries))
 
-    def history(self):
+    def history(self) -> str:
         return "".join("%s\n" % entry.answer for entry in self.entries)
 
 
-def lines_of(entries):
+def lines_of(entries: Sequence[Played]) -> list[str]:
     """The lines that the program is given for entries."""
     return ["%d %s" % (entry.seat, entry.line) for entry in entries]
 
 
-def has_changed(entry):
+def is_won(text: str, entry: Played) -> bool:
+    """Whether nobody owes after an entry that has changed the board, and somebody did at the start."""
+    return has_changed(entry) and min(json.loads(text)["amounts"]) < 0 <= min((numbered(entry.answer).amounts or {}).values())
+
+
+def has_changed(entry: Played) -> bool:
     """Whether an entry has changed the board."""
     return entry.answer.split(" ")[1] in CHANGES

@@ -3,6 +3,8 @@
 Each connection brings one request and gets one answer. Whoever is slow, sends too much or sends nonsense is dropped. Strangers and
 guests, who know the secret, are counted apart: when there are too many of either, the address that has most makes room. Whatever is asked
 without the secret, from another origin or for another host is answered alike: there is nothing here."""
+from __future__ import annotations
+
 import asyncio
 import contextlib
 import fcntl
@@ -16,6 +18,7 @@ import secrets
 import socket
 import struct
 from collections import Counter
+from typing import Any, Awaitable, Callable, Iterable, Tuple, cast
 
 MOST_HEAD, MOST_HEADERS, MOST_STRANGERS, MOST_GUESTS, MOST_FILES = 8192, 64, 300, 600, 4096
 TO_ASK, TO_SEND, TO_TAKE = 5.0, 8.0, 20.0
@@ -37,21 +40,24 @@ ANY = "0.0.0.0", "::"
 # tunnels begin.
 ADDRESS_OF, FLAGS_OF, IS_UP = 0x8915, 0x8913, 1
 APART = "br", "docker", "lxc", "ppp", "tailscale", "tap", "tun", "veth", "virbr", "wg", "zt"
+# A status, a kind of content, and the content.
+Answer = Tuple[int, str, Any]
+Answers = Callable[["Request"], Awaitable[Answer]]
 LETTERS, LONG = "abcdefghijkmnpqrstuvwxyz23456789", 26
 
 
-def new_secret():
+def new_secret() -> str:
     """A secret of 130 bits, as it stands in an address: in groups of letters and digits that are not easily taken for others."""
     letters = "".join(secrets.choice(LETTERS) for _ in range(LONG))
     return "-".join(letters[i:i + 4] for i in range(0, LONG, 4))
 
 
-def same(given, secret):
+def same(given: str, secret: str) -> bool:
     """Whether a text is the secret, in a time that does not tell how much of it is right. Capitals and dashes don't count."""
     return hmac.compare_digest(given.replace("-", "").lower().encode(), secret.replace("-", "").encode())
 
 
-def addresses_of(host):
+def addresses_of(host: str) -> list[str]:
     """The addresses at which others may find a server that listens on a host, the likeliest first: on 0.0.0.0 those that this machine has
     in its networks. There are none if it has only those that no other machine reaches."""
     if host not in ANY:
@@ -71,7 +77,7 @@ def addresses_of(host):
     return sorted((place for place in found if not is_loopback([place])), key=lambda place: unlikely(place, found[place], place == way_out))
 
 
-def unlikely(place, card, leads_out):
+def unlikely(place: str, card: str, leads_out: bool) -> tuple[int, bool, bool]:
     """How unlikely it is that a class finds this machine at an address: a real network card is likelier than one that was made up, and
     that than a bridge or a tunnel. Of several cards it is one that does not lead to the internet: somebody has made a network for the
     class. Of several bridges it is the one that does."""
@@ -83,7 +89,7 @@ def unlikely(place, card, leads_out):
 class Refused(Exception):
     """A request that gets a status and words in place of what it asked."""
 
-    def __init__(self, status, words):
+    def __init__(self, status: int, words: str) -> None:
         super().__init__(status, words)
         self.status, self.words = status, words
 
@@ -91,23 +97,25 @@ class Refused(Exception):
 class Nothing(Refused):
     """What all get who must not learn more."""
 
-    def __init__(self):
+    def __init__(self) -> None:
         super().__init__(404, "there is nothing here")
 
 
 class Request:
     """What was asked: the method, the parts of the path, what stands after `?`, and a way to read the body."""
 
-    def __init__(self, method, target, headers, reader, is_guest, known):
+    def __init__(self, method: str, target: str, headers: dict[str, str], reader: asyncio.StreamReader,
+                 is_guest: Callable[[], None], known: Callable[[], None]) -> None:
         path, _, query = target.partition("?")
         self.method, self.parts, self.headers, self.reader = method, path.split("/")[1:], headers, reader
         # To be called once it has the secret, and once it is known whose the request is.
         self.is_guest, self.known = is_guest, known
         # Whether it comes from this machine, and through no tunnel; and whether from a program of this user.
-        self.is_local, self.is_own, self.peer = False, lambda: False, ""
+        self.is_local, self.peer = False, ""
+        self.is_own: Callable[[], bool] = lambda: False
         self.query = dict(pair.partition("=")[::2] for pair in query.split("&") if pair)
 
-    async def json(self, most):
+    async def json(self, most: int) -> dict[str, Any]:
         """The body, an object of JSON with at most so many bytes."""
         length = self.headers.get("content-length", "")
         if not re.match(r"[0-9]{1,9}\Z", length):
@@ -126,7 +134,7 @@ class Request:
         return given
 
 
-def text_in(given, name, most):
+def text_in(given: dict[str, Any], name: str, most: int) -> str:
     """A text of a request, of at most so many letters. Raises Refused where there is none."""
     text = given.get(name)
     if not isinstance(text, str) or len(text) > most:
@@ -141,10 +149,11 @@ def text_in(given, name, most):
 class Crowd:
     """Connections by their tasks, no more than so many."""
 
-    def __init__(self, most):
-        self.most, self.writers = most, {}
+    def __init__(self, most: int) -> None:
+        self.most = most
+        self.writers: dict[asyncio.Task[Any], tuple[asyncio.StreamWriter, str]] = {}
 
-    def take(self, task, writer):
+    def take(self, task: asyncio.Task[Any], writer: asyncio.StreamWriter) -> None:
         """Takes one more. If there are too many, the address of the network that has most of them loses its oldest."""
         self.writers[task] = writer, peer_of(writer)
         if len(self.writers) > self.most:
@@ -153,13 +162,13 @@ class Crowd:
             self.writers.pop(oldest)[0].transport.abort()
             oldest.cancel()
 
-    def leave(self, task):
+    def leave(self, task: asyncio.Task[Any]) -> None:
         self.writers.pop(task, None)
 
 
-def peer_of(writer):
+def peer_of(writer: asyncio.StreamWriter) -> str:
     """The address of the network from which a connection comes; of the sixth version the half that is the network's."""
-    peer = (writer.get_extra_info("peername") or [""])[0]
+    peer = str((writer.get_extra_info("peername") or [""])[0])
     return ":".join(ipaddress.ip_address(peer.partition("%")[0]).exploded.split(":")[:4]) if ":" in peer else peer
 
 
@@ -169,25 +178,28 @@ class Server:
     gives an iterator over bytes that come by and by. `names` are other names of this host, and `fronts` names, maybe with their ports,
     of what leads here, as a tunnel does."""
 
-    def __init__(self, answer, address, port=0, names=(), fronts=()):
-        self.answer, self.address, self.port, self.names = answer, address, port, {name.lower() for name in [*names, *fronts]}
+    def __init__(self, answer: Answers, address: str, port: int = 0, names: Iterable[str] = (),
+                 fronts: Iterable[str] = ()) -> None:
+        self.answer: Answers = answer
+        self.address, self.port, self.names = address, port, {name.lower() for name in [*names, *fronts]}
         self.fronts = set(fronts)
-        self.strangers, self.guests, self.tasks, self.listener = Crowd(MOST_STRANGERS), Crowd(MOST_GUESTS), set(), None
+        self.strangers, self.guests, self.listener = Crowd(MOST_STRANGERS), Crowd(MOST_GUESTS), cast(asyncio.AbstractServer, None)
+        self.tasks: set[asyncio.Task[Any]] = set()
 
-    async def start(self):
+    async def start(self) -> None:
         more_files()
-        self.listener = await asyncio.start_server(self.serve, self.address, self.port, limit=MOST_HEAD, backlog=1024)
-        self.port = self.listener.sockets[0].getsockname()[1]
+        listener = self.listener = await asyncio.start_server(self.serve, self.address, self.port, limit=MOST_HEAD, backlog=1024)
+        self.port = listener.sockets[0].getsockname()[1]
 
-    async def stop(self):
+    async def stop(self) -> None:
         self.listener.close()
         for task in list(self.tasks):
             task.cancel()
         await asyncio.gather(*self.tasks, return_exceptions=True)
 
-    async def serve(self, reader, writer):
+    async def serve(self, reader: asyncio.StreamReader, writer: asyncio.StreamWriter) -> None:
         """One connection, from its request to its end."""
-        task = asyncio.current_task()
+        task = cast("asyncio.Task[Any]", asyncio.current_task())
         self.tasks.add(task)
         writer.transport.set_write_buffer_limits(high=0)
         self.strangers.take(task, writer)
@@ -202,17 +214,17 @@ class Server:
                 writer.transport.abort()
             writer.close()
 
-    def leave(self, task):
+    def leave(self, task: asyncio.Task[Any]) -> None:
         """A connection is in no crowd any more."""
         self.strangers.leave(task)
         self.guests.leave(task)
 
-    def welcome(self, task, writer):
+    def welcome(self, task: asyncio.Task[Any], writer: asyncio.StreamWriter) -> None:
         """A connection that had the secret is one of the guests."""
         self.leave(task)
         self.guests.take(task, writer)
 
-    async def exchange(self, task, reader, writer):
+    async def exchange(self, task: asyncio.Task[Any], reader: asyncio.StreamReader, writer: asyncio.StreamWriter) -> None:
         try:
             request = await asyncio.wait_for(self.request(task, reader, writer), TO_ASK)
             status, kind, content = await self.answer(request)
@@ -241,13 +253,13 @@ class Server:
             writer.write_eof()
         await asyncio.wait_for(self.swallow(reader), 1.0)
 
-    async def swallow(self, reader):
+    async def swallow(self, reader: asyncio.StreamReader) -> None:
         """Lets go of what the other side still sends, so that it may read the answer."""
         left = 1 << 20
         while left > 0 and (got := await reader.read(MOST_HEAD)):
             left -= len(got)
 
-    async def request(self, task, reader, writer):
+    async def request(self, task: asyncio.Task[Any], reader: asyncio.StreamReader, writer: asyncio.StreamWriter) -> Request:
         """The request of a connection. Raises Refused where it is none for this host from this origin."""
         data = await reader.readuntil(b"\r\n\r\n")
         try:
@@ -262,18 +274,18 @@ class Server:
             raise Nothing
         if headers.get("sec-fetch-site", "none") not in ("none", "same-origin") and headers.get("sec-fetch-dest") != "document":
             raise Nothing
-        request = Request(*target.groups(), headers, reader, lambda: self.welcome(task, writer), lambda: self.leave(task))
+        request = Request(target[1], target[2], headers, reader, lambda: self.welcome(task, writer), lambda: self.leave(task))
         request.peer = peer_of(writer)
         request.is_own = lambda: is_own(*map(writer.get_extra_info, ("peername", "sockname")))
         request.is_local = not self.is_front(headers["host"]) and all(
             is_loopback(writer.get_extra_info(end)) for end in ("peername", "sockname"))
         return request
 
-    def is_front(self, host):
+    def is_front(self, host: str) -> bool:
         """Whether a Host is a name, maybe with a port, that was given for what leads here."""
         return host.lower() in self.fronts
 
-    def is_here(self, host, writer):
+    def is_here(self, host: str | None, writer: asyncio.StreamWriter) -> bool:
         """Whether a Host names this server: by the address that was called, or by a name that was given to it."""
         if self.is_front(host or ""):
             return True
@@ -290,12 +302,12 @@ class Server:
             return False
 
 
-def is_loopback(place):
+def is_loopback(place: Any) -> bool:
     """Whether an address, as a socket has it, is one that only this machine has."""
     return ipaddress.ip_address(place[0].partition("%")[0]).is_loopback
 
 
-def is_own(peer, here):
+def is_own(peer: Any, here: Any) -> bool:
     """Whether the other end of a connection is on this machine, and of this user."""
     ends = ["%04X" % place[1] for place in (peer, here)]
     for table in "/proc/net/tcp", "/proc/net/tcp6":
@@ -306,7 +318,7 @@ def is_own(peer, here):
     return False
 
 
-def headers_of(lines):
+def headers_of(lines: list[str]) -> dict[str, str]:
     """The headers by their names in small letters. Raises Refused where a line is none, or one comes twice."""
     if len(lines) > MOST_HEADERS:
         raise Nothing
@@ -319,21 +331,21 @@ def headers_of(lines):
     return headers
 
 
-def head(status, kind, length):
+def head(status: int, kind: str, length: int | None) -> bytes:
     """The head of an answer; without a length it goes on until the connection ends."""
-    headers = {"Content-Type": kind + "; charset=utf-8", **ALWAYS, **({} if length is None else {"Content-Length": length})}
+    headers = {"Content-Type": kind + "; charset=utf-8", **ALWAYS, **({} if length is None else {"Content-Length": str(length)})}
     lines = ["HTTP/1.1 %d %s" % (status, REASONS[status]), *("%s: %s" % pair for pair in headers.items())]
     return ("\r\n".join(lines) + "\r\n\r\n").encode()
 
 
-def more_files():
+def more_files() -> None:
     """Lets this process have as many connections as there may be, if the system permits it."""
     now, most = resource.getrlimit(resource.RLIMIT_NOFILE)
     if now != resource.RLIM_INFINITY and now < MOST_FILES:
         resource.setrlimit(resource.RLIMIT_NOFILE, (MOST_FILES if most == resource.RLIM_INFINITY else min(MOST_FILES, most), most))
 
 
-async def drained(writer):
+async def drained(writer: asyncio.StreamWriter) -> None:
     """Waits until the other side has taken what was written, and drops it if that takes too long."""
     if not writer.transport.get_write_buffer_size() and not writer.transport.is_closing():
         return
@@ -344,6 +356,6 @@ async def drained(writer):
         raise
 
 
-def as_json(thing):
+def as_json(thing: Any) -> Answer:
     """An answer of JSON."""
     return 200, "application/json", json.dumps(thing).encode()

@@ -1,18 +1,17 @@
 /* Playing alone: the page keeps the table and the steps, and the program answers each question of it. */
 
 import { Questions } from "./ask.js";
-import { SVG, draw } from "./board.js";
 import { Editor } from "./edit.js";
 import { Hands } from "./hand.js";
 import { Link, fewest, save, startPage, store, stored, sure } from "./page.js";
 import { layoutOf, placesText } from "./places.js";
 import { Viewer, bind, choose, element } from "./viewer.js";
-import { Game, besideWords, linesOf } from "./words.js";
+import { Game, answerOf, besideWords, firstWords, linesOf } from "./words.js";
 
 const SOON = 400, EDITED = "an edited table";
 export let table, fileName, examples, viewer, hands, questions, editor;
 const link = new Link();
-let key = null, keeping = null, undone = false;
+let key = null, keeping = null, undone = false, shortest = null, right = false;
 
 /* What the program says to a question: its status, its answer and its fault. */
 
@@ -47,7 +46,31 @@ async function playNow(line) {
   if (dropped) viewer.reset(game, now + 1);
   else viewer.grown(true);
   keep();
+  if (shortest === null && game.isWon(now + 1)) measure();
   return null;
+}
+
+/* What is known of the table beside the game, which may have reached so many moves. */
+const reached = (moves) => ({ best: fewest(table, moves), least: shortest, right });
+
+const isDone = () => right || viewer.game.states.some((_, index) => viewer.game.isWon(index));
+
+/* In how few moves the table can be won. */
+async function measure() {
+  const asked = table, said = await ask({ command: "hint", table });
+  if (said.status !== 0 || asked !== table) return;
+  shortest = JSON.parse(said.out).left || null;
+  viewer.showText();
+}
+
+/* The player says that it can't be done. */
+async function cant() {
+  const said = await questions.answer({ command: "judge" });
+  if (said === null) return;
+  right = answerOf(linesOf(said)[0]).kind === "unwinnable";
+  viewer.showText();
+  showWays();
+  hands.note(right ? "" : "It can be done. Try on!");
 }
 
 /* What the program says to a step after the first so many. The server has the game of this page at a live program; if it has it no
@@ -113,20 +136,22 @@ function showWays() {
   const { game, now } = viewer;
   element("undo").disabled = now === 0;
   element("redo").disabled = now === game.length;
-  element("next").hidden = !game.isWon(now);
+  element("next").hidden = !isDone();
 }
 
 function shown() {
   undone = false;
   questions.clear();
-  hands.note("");
+  hands.note(firstWords(viewer.game, viewer.now));
   showWays();
 }
 
 /* One move that helps. */
 async function hint() {
   const said = await questions.answer({ command: "hint" });
-  if (said !== null) hands.hint(JSON.parse(said));
+  if (said === null) return;
+  viewer.game.help();
+  hands.hint(JSON.parse(said));
 }
 
 /* Another table. What the program refuses is told, and nothing changes. */
@@ -136,7 +161,7 @@ export async function openTable(text, file, places) {
   if (said.status !== 0) return said.err;
   const { length } = viewer.game;
   const lost = `The steps of this game are lost with its table (${length}). Change the table?`;
-  if (length && !viewer.game.isWon(viewer.now) && !(await sure(lost))) return null;
+  if (length && !isDone() && !(await sure(lost))) return null;
   [table, fileName, key] = [text, file, null];
   begin(layoutOf(said.layout));
   keep();
@@ -145,20 +170,20 @@ export async function openTable(text, file, places) {
 
 function begin(layout) {
   const game = new Game(JSON.parse(table));
+  [shortest, right] = [null, false];
   element("title").textContent = document.title = `The dollar game: ${fileName}`;
   if (viewer) {
     hands.forget();
-    hands.names(game.names);
     questions.clear();
     viewer.reset(game, 0, layout);
   } else {
-    viewer = new Viewer(game, layout, { hands: true, fewest: (moves) => fewest(table, moves) });
+    viewer = new Viewer(game, layout, { hands: true, reached, who: (seat) => (seat === "1" ? "You" : `Seat ${seat}`) });
     hands = new Hands(viewer, play);
-    questions = new Questions(viewer, ask, play);
+    questions = new Questions(viewer, ask, play, () => viewer.game.help());
     editor = new Editor(viewer, hands, (text, places) => openTable(text, EDITED, places), find);
     viewer.filled(0);
     viewer.afterShow = shown;
-    showWays();
+    shown();
   }
 }
 
@@ -185,18 +210,15 @@ async function puzzle() {
   return null;
 }
 
-/* Take along. */
-
-function picture() {
-  const svg = viewer.board.svg.cloneNode(true), { width, height } = viewer.board.layout;
-  for (const [key, value] of Object.entries({ xmlns: SVG, width, height })) svg.setAttribute(key, value);
-  for (const at of svg.querySelectorAll(".reach, .drawn")) at.remove();
-  const rules = [...document.styleSheets].flatMap((sheet) => [...sheet.cssRules]).map((rule) => rule.cssText);
-  const colours = rules.find((rule) => rule.startsWith(":root")).replace("light dark", "light");
-  const drawing = rules.filter((rule) => rule.startsWith("svg ")).join("\n").replaceAll("svg ", "");
-  svg.prepend(draw("style", {}, svg, `${colours}\n${drawing}`));
-  return new XMLSerializer().serializeToString(svg);
+/* After a puzzle that was solved the next is harder. The button goes, and the focus with it to the board. */
+async function next() {
+  const level = element("puzzle-level"), { helped } = viewer.game.states[viewer.now];
+  if (!helped && / (easy|medium)$/.test(fileName)) level.selectedIndex += 1;
+  await puzzle();
+  viewer.board.focus(viewer.game.names[0]);
 }
+
+/* Take along. */
 
 async function takePage() {
   const said = await ask({ command: "replay", table, steps: stepsText(viewer.game.length), name: fileName });
@@ -210,7 +232,6 @@ function bindTaking() {
     "take-steps": () => save("steps.txt", stepsText(viewer.game.length)),
     "take-now": () => save("now.json", questions.now()),
     "take-places": () => save("places.txt", placesText(viewer.board.layout)),
-    "take-picture": () => save("board.svg", picture(), "image/svg+xml"),
     "take-page": takePage,
     print: () => window.print(),
   });
@@ -227,14 +248,9 @@ function bindTables() {
     await openFile(event.target.files[0]);
     event.target.value = "";
   });
-  document.addEventListener("dragover", (event) => event.preventDefault());
-  document.addEventListener("drop", (event) => {
-    event.preventDefault();
-    openFile(event.dataTransfer.files[0]);
-  });
   bind({
     edit: () => editor.open(),
-    "puzzle-form": puzzle, next: puzzle, undo: goBack, redo: goOn, hint,
+    "puzzle-form": puzzle, next, undo: goBack, redo: goOn, hint, cant,
   });
 }
 

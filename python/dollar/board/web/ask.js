@@ -12,9 +12,10 @@ function edgesTo(name, burning, edges) {
 }
 
 export class Questions {
-  /* `ask` puts a question to the program, and `play` plays a line. */
-  constructor(viewer, ask, play) {
-    Object.assign(this, { viewer, ask, play, table: null, reply: null });
+  viewer; ask; play; shown; table; reply;
+  /* `ask` puts a question to the program, `play` plays a line, and `shown` is called with what is drawn of an answer. */
+  constructor(viewer, ask, play, shown) {
+    Object.assign(this, { viewer, ask, play, shown, table: null, reply: null });
     bind({ "ask-won": () => this.won(), "ask-rank": () => this.rank(), "ask-rr": () => this.numbers(),
       "show-script": () => this.showScript(), "show-fire": () => this.fire() });
   }
@@ -34,7 +35,6 @@ export class Questions {
     element("told-line").hidden = !printed;
     element("told-fire").replaceChildren();
     element("show-script").hidden = element("show-fire").hidden = true;
-    this.viewer.showScript(element("told-script"), {}, new Map());
   }
 
   /* The answer to a question, or null after the fault was told. */
@@ -48,10 +48,13 @@ export class Questions {
   }
 
   mark(counts, words) {
-    const { board, game, now } = this.viewer;
-    board.burnt = [];
     this.viewer.showText();
-    board.show(game.states[now], game.table.q, below(counts, words));
+    this.show({ says: below(counts, words) });
+  }
+
+  show(given) {
+    this.viewer.board.show(this.viewer.picture(given));
+    this.shown(this.viewer.board.picture);
   }
 
   async won() {
@@ -62,7 +65,6 @@ export class Questions {
     this.reply = reply;
     element("show-script").hidden = below(reply.script, planned).size === 0;
     element("show-fire").hidden = reply.kind === "winnable";
-    this.viewer.showScript(element("told-script"), reply, amounts);
     this.mark(reply.script, planned);
   }
 
@@ -85,13 +87,12 @@ export class Questions {
   async numbers() {
     const printed = await this.answer({ command: "rr" });
     if (printed === null) return;
-    this.tell(numbersWords(numbersOf(linesOf(printed)[0])), printed);
+    this.tell(numbersWords(/** @type {any} */ (numbersOf(linesOf(printed)[0]))), printed);
   }
 
   /* The fire, in the order that the program tells. */
   async fire() {
-    const { game } = this.viewer, { burning, reduced } = this.reply, { edges } = game.states[this.viewer.now], asked = this.reply;
-    const state = { edges, added: new Map(), amounts: reduced };
+    const { burning, reduced } = this.reply, { edges } = this.viewer.picture(), asked = this.reply;
     element("show-fire").hidden = true;
     element("step").textContent = "After the script, before the fire";
     element("answer").textContent = debtWords(reduced);
@@ -100,8 +101,7 @@ export class Questions {
       if (this.reply !== asked) return;
       const hot = edgesTo(next, burning.slice(0, count), edges), has = dollars(reduced.get(next));
       const why = count === 0 ? "it owes, and who lends most gets nothing" : `${hot === 1 ? "1 burning edge" : `${hot} burning edges`}, ${has}`;
-      this.viewer.board.burnt = burning.slice(0, count + 1);
-      this.viewer.board.show(state, game.table.q);
+      this.show({ amounts: reduced, burnt: burning.slice(0, count + 1) });
       this.line(`${next} burns: ${why}. So ${next} can't be one of those that lend most.`);
     }
     this.line("All burn: nobody can lend most, so no lendings help.");

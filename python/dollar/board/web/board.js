@@ -3,7 +3,10 @@
 import { shortened, wordsPlace } from "./places.js";
 import { dollars, flows } from "./words.js";
 
-export const SVG = "http://www.w3.org/2000/svg";
+// What a picture may have beside amounts, edges and added edges: q, what is said at vertices, a move whose arrows are drawn, and those that burn.
+const BARE = { q: null, says: new Map(), script: null, burnt: [] };
+
+const SVG = "http://www.w3.org/2000/svg";
 export const still = window.matchMedia("(prefers-reduced-motion: reduce)");
 const TRAVEL = 1100, LETTER = 7, BESIDE = 13;
 let boards = 0;
@@ -21,27 +24,36 @@ function amountWords(name, amount) {
 }
 
 export class Board {
+  svg; hands; layout; turn; until; chosen; picture; hatch;
   /* A board in an element <svg>. The layout says where the vertices stand; `hands` is true if they can be clicked. */
   constructor(svg, hands = false) {
-    Object.assign(this, { svg, hands, layout: null, turn: 0, until: 0, chosen: new Set(), burnt: [], hatch: `hatch${boards++ || ""}` });
+    Object.assign(this, { svg, hands, layout: null, turn: 0, until: 0, chosen: new Set(), picture: BARE, hatch: `hatch${boards++ || ""}` });
   }
 
   place(name) {
     return this.layout.places.get(name);
   }
 
-  /* Draws a state of a game, with words below vertices. Whoever had the focus keeps it. */
-  show(state, q, says = new Map()) {
+  /* Shows a picture until there is another. */
+  show(picture) {
+    this.picture = { ...BARE, ...picture };
+    this.draw();
+  }
+
+  /* Draws the picture, in the layout as it is. Whoever had the focus keeps it. */
+  draw() {
+    const { picture } = this;
     this.turn++;
-    const held = this.svg.contains(document.activeElement) ? document.activeElement.dataset.name : null;
+    const active = /** @type {any} */ (document.activeElement), held = this.svg.contains(active) ? active.dataset.name : null;
     this.svg.replaceChildren();
     this.svg.setAttribute("viewBox", `0 0 ${this.layout.width} ${this.layout.height}`);
-    this.label(state.amounts);
+    this.label(picture.amounts);
     this.signs();
-    this.edges(state);
-    const pairs = [...state.edges.keys()].map((key) => key.split(" "));
-    for (const [name, amount] of state.amounts) this.vertex(name, amount, name === q, says.get(name), pairs);
-    this.burnt.forEach((name, i) => this.badge(name, i + 1));
+    this.edges(picture);
+    const pairs = [...picture.edges.keys()].map((key) => key.split(" "));
+    for (const [name, amount] of picture.amounts) this.vertex(name, amount, pairs);
+    picture.burnt.forEach((name, i) => this.badge(name, i + 1));
+    if (picture.script) this.arrows(picture);
     if (held) this.focus(held);
   }
 
@@ -82,9 +94,9 @@ export class Board {
     }
   }
 
-  vertex(name, amount, isQ, says, pairs) {
-    const [x, y] = this.place(name), r = this.layout.radius;
-    const kinds = ["vertex", amount < 0 && "debt", this.chosen.has(name) && "chosen", this.burnt.includes(name) && "burnt"];
+  vertex(name, amount, pairs) {
+    const [x, y] = this.place(name), r = this.layout.radius, { q, burnt, says: all } = this.picture, isQ = name === q, says = all.get(name);
+    const kinds = ["vertex", amount < 0 && "debt", this.chosen.has(name) && "chosen", burnt.includes(name) && "burnt"];
     const label = `${amountWords(name, amount)}${isQ ? ", q" : ""}${says ? `, ${says}` : ""}${this.chosen.has(name) ? ", chosen" : ""}`;
     const hands = { tabindex: 0, role: "button", "aria-label": label };
     const given = { class: kinds.filter(Boolean).join(" "), "data-name": name, ...(this.hands && hands) };
@@ -115,8 +127,8 @@ export class Board {
   }
 
   /* The ways that dollars take in a move, which run from who lends. */
-  ways(state, script) {
-    return flows(state.edges, script).flatMap(({ from, key, each, count }) => {
+  ways({ edges, script }) {
+    return flows(edges, script).flatMap(({ from, key, each, count }) => {
       const drawn = [...this.svg.querySelectorAll("path.edge")].filter((path) => path.dataset.pair === key);
       const label = drawn.length < count ? each * count : each;
       return drawn.map((path) => ({ path, label, back: key.split(" ")[0] !== from, length: path.getTotalLength() }));
@@ -127,8 +139,8 @@ export class Board {
     return path.getPointAtLength(length * (back ? 1 - part : part));
   }
 
-  arrows(state, script) {
-    for (const way of this.ways(state, script)) {
+  arrows(picture) {
+    for (const way of this.ways(picture)) {
       const place = this.pointOn(way, 0.62), ahead = this.pointOn(way, 0.64);
       const turn = (Math.atan2(ahead.y - place.y, ahead.x - place.x) * 180) / Math.PI;
       const transform = `translate(${place.x} ${place.y}) rotate(${turn})`;
@@ -143,8 +155,8 @@ export class Board {
     return [x + side * (w - y), y - side * (z - x)];
   }
 
-  coins(state, script) {
-    return this.ways(state, script).map((way) => {
+  coins() {
+    return this.ways(this.picture).map((way) => {
       const coin = draw("g", { class: "coin" }, this.svg), text = String(way.label);
       draw("circle", { r: Math.max(8, 3 + 3.4 * text.length) }, coin);
       draw("text", { y: 4, "font-size": 11 }, coin, text);
@@ -154,11 +166,11 @@ export class Board {
 
   /* Lets the dollars of a move go along the edges, above the board as it is after the move. While moves come faster than their
      dollars go, none go. */
-  travel(state, script) {
+  travel() {
     const start = performance.now(), busy = start < this.until, { turn } = this;
     this.until = start + TRAVEL;
     if (busy) return;
-    const coins = this.coins(state, script);
+    const coins = this.coins();
     const move = (time) => {
       if (turn !== this.turn) return;
       const part = Math.min(1, Math.max(0, (time - start) / TRAVEL));

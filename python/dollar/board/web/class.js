@@ -1,22 +1,23 @@
 /* A class: a click is a line, and the board shows what came back. A pupil's page shows the board of its room; those of the teacher and of
    people who only watch show all boards small, and one of them large. */
 
+import { Questions } from "./ask.js";
 import { Board, draw } from "./board.js";
 import { Editor } from "./edit.js";
 import { Hands } from "./hand.js";
-import { Link, fewest, post, save, startPage, store, stored, sure } from "./page.js";
+import { Link, post, save, startPage, store, stored, sure } from "./page.js";
 import { fitted, layoutOf } from "./places.js";
 import { Viewer, bind, button, element, made, say } from "./viewer.js";
-import { Game, besideWords, faultWords, movesWords } from "./words.js";
+import { Game, besideWords, faultWords, firstWords, movesWords } from "./words.js";
 
 const SOON = 16, LETTERS = 24, WORDS_HIGH = 85, TITLE_HIGH = 60, GROUPS = [0, 1, 2, 3, 4, 5, 6];
 const CHANGES = ["moved", "given", "joined"];
 const FILES = { "take-table": "table.json", "take-steps": "steps.txt", "take-history": "history.txt" };
 const SWITCHES = ["gifts", "edges", "questions", "undo", "hints"];
 const KEPT = `dollar ${location.pathname.replaceAll("-", "").toLowerCase()}`;
-export let given, viewer, hands, editor, me = null, state = null, waiting = [], received = 0, shownRoom = 1;
+export let given, viewer, hands, editor, questions = null, me = null, state = null, waiting = [], received = 0, shownRoom = 1;
 const MEANWHILE = 200, PATIENCE = 10000;
-let known = [], preview = [140, 110], frame = null, took = 0, last = 0, stopped = false, missed = false;
+let known = [], preview = [140, 110], frame = null, took = 0, last = 0, stopped = false, missed = false, pictured_ = "null";
 export const entries = new Map(), rooms = new Map();
 
 const teaches = () => given.role === "teacher";
@@ -34,7 +35,7 @@ function keep(seat) {
 
 function askName() {
   element("watch").hidden = Boolean(me);
-  document.querySelector("#join [type=submit]").textContent = me ? "Change the name" : "Take a seat";
+  element("take-seat").textContent = me ? "Change the name" : "Take a seat";
   element("known").hidden = Boolean(me) || known.length === 0;
   element("known").replaceChildren("Who is there? ", ...known.map((seat) => button(seat.name, () => {
     keep(seat);
@@ -53,7 +54,7 @@ function browser() {
 }
 
 async function join() {
-  const submit = document.querySelector("#join [type=submit]");
+  const submit = element("take-seat");
   submit.disabled = true;
   const timer = setTimeout(() => say("join-refused", "Many are coming in. Your seat comes in a moment."), 1000);
   const name = element("your-name").value, before = me;
@@ -98,10 +99,16 @@ function enter(inside) {
 
 function watch() {
   enter(true);
-  element("hands").hidden = true;
-  document.body.classList.add("watching");
+  onlySees("watching");
   showWay();
   link.listen(() => place("events?"));
+}
+
+/* A page that plays nothing has the names beside the board. */
+function onlySees(kind) {
+  element("tools").hidden = true;
+  element("now").after(element("class"));
+  document.body.classList.add(kind);
 }
 
 function sit() {
@@ -146,23 +153,28 @@ async function checkSeat() {
   return null;
 }
 
-/* A table that was handed out: all games on it begin. */
+/* What was handed out: a table, or several, on which each room goes on at its own speed. All games begin. */
 
 function handed(thing) {
-  Object.assign(given, thing);
+  if (thing.turn !== given.turn) past.push(...rowsNow());
+  store("sessionStorage", `${KEPT} results`, past);
+  Object.assign(given, { later: [] }, thing);
   [received, waiting] = [0, []];
   entries.clear();
   clearRooms();
   if (editor && editor.draft) editor.leave();
   shownRoom = thing.room || 1;
-  element("title").textContent = document.title = `${teaches() ? "For the teacher" : "The dollar game"}: ${given.name}`;
-  const { game } = roomOf(shownRoom);
+  begins();
+}
+
+/* The room that is shown is on another table. */
+function begins() {
+  const { game, stage } = roomOf(shownRoom), { name, layout } = stages()[stage], place = given.later.length ? `${stageWords(stage)}, ` : "";
+  element("title").textContent = document.title = `${teaches() ? "For the teacher" : "The dollar game"}: ${place}${name}`;
   viewer.board.chosen.clear();
-  viewer.reset(game, 0, layoutOf(given.layout));
-  if (hands) {
-    hands.forget();
-    hands.names(game.names);
-  }
+  viewer.reset(game, game.length, layoutOf(layout));
+  if (hands) hands.forget();
+  if (questions) questions.clear();
 }
 
 function clearRooms() {
@@ -170,13 +182,19 @@ function clearRooms() {
   element("rooms").replaceChildren();
 }
 
-const tableOf = (number) => given.tables[(number - 1) % given.tables.length];
+const stages = () => [given, ...given.later];
+const stageWords = (stage) => `${stage + 1} of ${stages().length}`;
 
-/* The room of a number: its game, with the items that made it, and what was taken back, and how often. */
+/* A room on one of the tables that were handed out: its game, with the items that made it, what was taken back, how often, and what was
+   reached. */
+function roomOn(stage, number, results = []) {
+  const { tables } = stages()[stage], game = new Game(JSON.parse(tables[(number - 1) % tables.length]));
+  return { number, stage, results, game, items: [], undone: [], backs: 0, hints: 0, wrongs: 0, is_done: false, best: Infinity, right: false,
+    least: null, is_new: true };
+}
+
 function roomOf(number) {
-  if (!rooms.has(number)) {
-    rooms.set(number, { number, game: new Game(JSON.parse(tableOf(number))), items: [], undone: [], backs: 0, is_new: true });
-  }
+  if (!rooms.has(number)) rooms.set(number, roomOn(0, number));
   return rooms.get(number);
 }
 
@@ -198,11 +216,12 @@ function scheduleFlush() {
 function flush() {
   frame = null;
   const start = performance.now(), follows = viewer.now === viewer.game.length;
-  let grown = false, leapt = null;
+  let grown = false, leapt = null, turned = false;
   for (const item of waiting) {
-    const room = roomOf(item.room), words = item.kind === "rewound" ? leap(room, item) : take(room, item);
+    const room = roomOf(item.room), words = ITEMS[item.kind](room, item);
     room.is_new = true;
-    if (item.room === shownRoom) [grown, leapt] = [true, words || leapt];
+    if (item.room === shownRoom) [grown, leapt, turned] = [true, words || leapt, turned || item.kind === "onward"];
+    missed = missed || (item.room === shownRoom && item.kind === "rewound");
   }
   waiting = [];
   // What comes while the teacher draws a table is shown after it.
@@ -211,9 +230,11 @@ function flush() {
     frame = setTimeout(flush, MEANWHILE);
     return;
   }
-  if (leapt || missed) viewer.reset(viewer.game, viewer.game.length);
+  if (turned) begins();
+  else if (missed) viewer.reset(viewer.game, viewer.game.length);
   else if (grown) viewer.grown(follows);
   missed = false;
+  if (grown && me) measure(roomOf(shownRoom));
   if (leapt && hands) hands.note(leapt);
   if (state) showState();
   link.drew();
@@ -228,9 +249,61 @@ function take(room, item) {
   entries.set(seat, (entries.get(seat) || 0) + 1);
 }
 
-function add({ game, items }, item) {
+function add(room, item) {
+  const { game, items } = room;
   game.add(`${item.seat} ${item.line}`, item.answer);
   items.push(item);
+  const { moves, helped } = game.states[game.length];
+  if (!game.isWon(game.length)) return;
+  room.is_done = true;
+  if (!helped) room.best = Math.min(room.best, moves);
+}
+
+/* What comes to a room beside entries. */
+const ITEMS = {
+  played: take, rewound: leap,
+  helped(room) {
+    room.game.help();
+    room.hints += 1;
+  },
+  judged(room, { number, name }) {
+    Object.assign(room, number ? { is_done: true, right: true } : { wrongs: room.wrongs + 1 });
+    return number ? null : `${name}: it can't be done. That is wrong: it can.`;
+  },
+  onward(room, { number }) {
+    Object.assign(room, roomOn(number, room.number, [...room.results, resultOf(room)]));
+  },
+};
+
+/* In how few moves the table can be won, once the room has done it; 0 if that is not known. */
+async function measure(room) {
+  const { stage } = room;
+  if (!room.is_done || room.least !== null) return;
+  room.least = 0;
+  const got = await link.post("measure", { key: me.key, feed: given.feed, stage });
+  // The room may have gone on meanwhile.
+  if (room.stage !== stage) return;
+  room.least = got.refused ? null : got.measure;
+  viewer.showText();
+}
+
+/* Who has done what, in how many moves. */
+
+const past = stored("sessionStorage", `${KEPT} results`) || [];
+
+function resultOf({ number, stage, game, items, is_done, right, best, hints, wrongs, backs }) {
+  const moves = right ? "can't be done" : best < Infinity ? best : "";
+  return [playersOf(number).join(" and "), stages()[stage].name, is_done ? "yes" : "no", moves, hints, wrongs, backs, items.length];
+}
+
+function rowsNow() {
+  return state ? [...rooms.values()].filter(({ number }) => playersOf(number).length).flatMap((room) => [...room.results, resultOf(room)]) : [];
+}
+
+function resultsText() {
+  const head = ["pupils", "table", "done", "fewest moves", "hints", "wrong answers", "taken back", "entries"];
+  const cell = (value) => `"${String(value).replace(/^(?=[=+@-])/, "'").replaceAll('"', '""')}"`;
+  return [head, ...past, ...rowsNow()].map((row) => `${row.map(cell).join(",")}\n`).join("");
 }
 
 /* Goes back or on to so many entries, and says who has done it. */
@@ -256,12 +329,23 @@ function showState() {
   showNames(names);
   if (hands) permit();
   if (teaches()) showCommands(Boolean(end), end);
-  if (watches()) showRooms();
   if (watches() && state.address !== given.address) renewWay();
   // The way in is shown until all are in, and small once somebody plays.
   document.body.classList.toggle("begun", given.turn > 1 || [...rooms.values()].some(({ game }) => game.length > 0));
   element("way").classList.toggle("full", !state.open || Object.keys(names).length >= given.seats);
+  if (watches()) showRooms();
+  if (watches() && !teaches()) showPicture(JSON.stringify(state.picture));
   viewer.showText();
+}
+
+/* What the teacher shows of an answer is drawn until the board changes. */
+function showPicture(told) {
+  const { room, amounts, says, burnt, words } = (told !== pictured_ && JSON.parse(told)) || {};
+  pictured_ = told;
+  if (room !== shownRoom) return;
+  viewer.board.show(viewer.picture({ amounts: new Map(amounts), says: new Map(says), burnt }));
+  element("now").hidden = true;
+  hands.note(words);
 }
 
 /* Who plays. A row stays as long as its seat has the same pupil, so that its buttons can be clicked while others play. */
@@ -289,9 +373,9 @@ function rowOf(seat, name, who) {
 
 /* What the teacher does not permit is not offered. */
 function permit() {
-  const { gifts, edges, questions, undo, hints } = state.may, { game, undone } = roomOf(shownRoom);
-  const parts = { "gift-form": gifts, "join-form": edges, "draw-hint": edges, look: questions, commit: questions, ask: questions,
-    "rank-form": questions, undo, redo: undo, hint: hints };
+  const { edges, questions, undo, hints } = state.may, { game, undone, is_done, stage } = roomOf(shownRoom);
+  const next = is_done && stage < given.later.length;
+  const parts = { "draw-hint": edges, look: questions, commit: questions, undo, redo: undo, hint: hints, next };
   for (const [id, permitted] of Object.entries(parts)) element(id).hidden = !permitted;
   hands.joins = edges;
   element("undo").disabled = !game.replies.some(({ kind }) => CHANGES.includes(kind));
@@ -318,8 +402,8 @@ const playersOf = (number) => Object.values(state.names).filter(({ room }) => ro
 function showRooms() {
   const shown = teaches() ? "all" : state.shown, { size } = state, box = element("rooms");
   const numbers = [...new Set([...rooms.keys(), ...Object.values(state.names).map(({ room }) => room)])].sort((one, other) => one - other);
-  const done = numbers.map(roomOf).filter(({ game }) => game.isWon(game.length)).length, one = Number(shown);
-  element("done").textContent = `Done: ${done} of ${numbers.length}`;
+  const done = numbers.map(roomOf).reduce((sum, room) => sum + room.stage + room.is_done, 0), one = Number(shown);
+  element("done").textContent = `Done: ${done} of ${numbers.length * stages().length}`;
   box.hidden = size === 0;
   element("done").hidden = size === 0 || Boolean(one);
   if (size === 0) return;
@@ -344,7 +428,7 @@ function spread(box, count) {
 }
 
 function showRoom(room, listed) {
-  const { game, number, backs } = room, state_ = game.states[game.length], won = game.isWon(game.length);
+  const { game, number, stage, backs, is_done, best, right, hints } = room, state_ = game.states[game.length];
   if (!room.part) {
     room.part = button("", () => enlarge(number), { class: "room", "data-room": number });
     room.part.append(draw("svg", { "aria-hidden": "true" }, room.part), made("span", "", { class: "who" }), made("span", "", { class: "how" }));
@@ -352,12 +436,14 @@ function showRoom(room, listed) {
   }
   const [who, how] = room.part.querySelectorAll("span"), names = playersOf(number).join(", ") || `Room ${number}`;
   who.textContent = names;
-  how.textContent = `${won ? "done in " : ""}${movesWords(state_.moves)}${backs ? `, ${backs} taken back` : ""}`;
-  room.part.classList.toggle("done", won);
+  const done = right ? "done: it can't be" : best < Infinity ? `done in ${movesWords(best)}` : is_done && "done with help";
+  how.textContent = [given.later.length && stageWords(stage), done || movesWords(state_.moves), hints && `hints: ${hints}`,
+    backs && `${backs} taken back`].filter(Boolean).join(", ");
+  room.part.classList.toggle("done", is_done);
   room.part.setAttribute("aria-current", number === shownRoom);
   if (room.is_new && !listed) {
-    room.board.layout = fitted(layoutOf(given.layout), ...preview);
-    room.board.show(state_, game.table.q);
+    room.board.layout = fitted(layoutOf(stages()[stage].layout), ...preview);
+    room.board.show({ ...state_, q: game.table.q });
     room.is_new = false;
   }
   return room.part;
@@ -366,8 +452,7 @@ function showRoom(room, listed) {
 /* Shows the board of a room large. */
 function enlarge(number) {
   shownRoom = number;
-  const { game } = roomOf(number);
-  viewer.reset(game, game.length);
+  begins();
   for (const [id, file] of Object.entries(FILES)) element(id).href = `${file}?room=${number}`;
   scheduleFlush();
 }
@@ -380,11 +465,6 @@ export async function play(line) {
     return hands.note("You were at an earlier step, so this was not played. This is the board now.");
   }
   return sent("line", { line });
-}
-
-/* Whether the board can be won: a look, and the verdict on it. */
-async function ask() {
-  if ((await play("look")) && element("refused").hidden) await play("commit");
 }
 
 /* One move that helps. */
@@ -400,8 +480,8 @@ async function hint() {
 function sent(path, thing) {
   if (!me) return hands.tell("Take a seat first.");
   if (!link.hears) return hands.tell("This page does not hear the game just now. This was not played.");
-  const { feed } = given;
-  return link.inTurn(() => me && hands.patient(sentNow(path, { key: me.key, feed, ...thing })));
+  const { feed } = given, { stage } = roomOf(shownRoom);
+  return link.inTurn(() => me && hands.patient(sentNow(path, { key: me.key, feed, stage, ...thing })));
 }
 
 async function sentNow(path, thing) {
@@ -423,6 +503,11 @@ function freeing(seat, name, bars = false) {
   return button(bars ? "bar" : "free", async () => {
     if (await sure(asked)) command("free", { seat: Number(seat), bar: bars });
   }, { "aria-label": bars ? `Bar ${name}` : `Free the seat of ${name}` });
+}
+
+async function ask(question) {
+  const said = await post("ask", question);
+  return said.refused ? { status: said.status, out: "", err: said.refused } : said;
 }
 
 async function command(path, thing) {
@@ -480,16 +565,17 @@ function sizeWords(size) {
 
 async function offer() {
   const { named, graphs } = await (await fetch("tables")).json(), box = element("next-table");
+  const all = named.length > 1 ? [["all these, one after another", "all"]] : [];
   const group = (label, options) => {
     const part = made("optgroup", undefined, { label });
     part.append(...options.map(([text, value]) => new Option(text, value)));
     return part;
   };
-  box.replaceChildren(group("Tables", [["the same again", "again"], ...named.map((name) => [name, `named ${name}`])]),
+  box.replaceChildren(group("Tables", [["the same again", "again"], ...all, ...named.map((name) => [name, `named ${name}`])]),
     group("Puzzles", [["on the same graph", "graph "], ["on a random graph", "graph random"],
       ...graphs.map(({ name }) => [name, `graph ${name}`])]));
-  element("next-size").replaceChildren(...GROUPS.map((size) => new Option(sizeWords(size), size)));
-  if (state) element("next-size").value = state.size;
+  element("next-size").replaceChildren(...GROUPS.map((size) => new Option(sizeWords(size), String(size))));
+  element("next-size").value = (state || given).size;
   document.querySelector("#graphs .gallery").replaceChildren(...graphs.map(pictured));
   choosesTable();
 }
@@ -504,7 +590,7 @@ function pictured({ name, table, layout }) {
   part.append(draw("svg", { "aria-hidden": "true" }, part), made("span", name));
   const board = new Board(part.querySelector("svg"));
   board.layout = layoutOf(layout);
-  board.show(new Game(table).states[0], null);
+  board.show(new Game(table).states[0]);
   return part;
 }
 
@@ -536,13 +622,12 @@ function drawTables() {
 function handOutChosen() {
   const [, kind, name] = /^(\w+) ?(.*)$/.exec(element("next-table").value);
   if (kind === "graph") return handOut({ graph: name, level: element("next-level").value, each: element("next-each").checked });
-  return handOut(kind === "named" ? { named: name } : {});
+  return handOut({ named: { named: name }, all: { all: true } }[kind] || {});
 }
 
 function teach() {
   element("teacher").hidden = false;
-  element("hands").hidden = true;
-  document.body.classList.add("teaching");
+  onlySees("teaching");
   enter(true);
   showWay();
   bind({
@@ -559,6 +644,7 @@ function teach() {
       const got = await command("replay", { room: shownRoom });
       if (got.page) save("game.html", got.page, "text/html");
     },
+    "take-results": () => save("results.csv", resultsText(), "text/csv"),
   });
   for (const id of ["next-table", "next-size"]) element(id).addEventListener("change", choosesTable);
   element("next-file").addEventListener("change", async ({ target }) => {
@@ -572,27 +658,40 @@ function teach() {
   for (const name of SWITCHES) {
     element(`may-${name}`).addEventListener("change", ({ target }) => command("may", { [name]: target.checked }));
   }
+  questions = new Questions(viewer, ask, () => {}, ({ amounts, says, burnt }) => {
+    element("now").hidden = true;
+    command("picture", { room: shownRoom, amounts: [...amounts], says: [...says], burnt, words: element("told-words").textContent });
+  });
   drawTables();
   offer();
   link.listen(() => place("events?"));
 }
 
 async function start() {
-  given = await (await fetch("start")).json();
+  given = { later: [], ...await (await fetch("start")).json() };
   const { game } = roomOf(1);
   viewer = new Viewer(game, layoutOf(given.layout), {
-    hands: !teaches(), who: (seat, index) => roomOf(shownRoom).items[index - 1].name, speaks: (step) => me && Number(step.seat) === me.seat,
-    fewest: (moves) => (me ? fewest(tableOf(shownRoom), moves) : null),
+    hands: !teaches(), who: (seat, index) => roomOf(shownRoom).items[index - 1].name, speaks: (step) => me !== null && Number(step.seat) === me.seat,
+    reached() {
+      const { best, least, right } = roomOf(shownRoom);
+      return { best, least: least || null, right };
+    },
   });
   viewer.filled(0);
   viewer.afterShow = () => {
-    if (hands) hands.note("");
+    // The words of a step are not said beside the picture of an answer.
+    element("now").hidden = false;
+    if (hands) hands.note(me ? firstWords(viewer.game, viewer.now) : "");
   };
   element("title").textContent = document.title = `${teaches() ? "For the teacher" : "The dollar game"}: ${given.name}`;
   element("seats").hidden = true;
   hands = teaches() ? null : new Hands(viewer, play);
   if (teaches()) return teach();
-  bind({ join, watch, undo: () => sent("undo", {}), redo: () => sent("redo", {}), hint, ask });
+  bind({ join, watch, undo: () => sent("undo", {}), redo: () => sent("redo", {}), hint, cant: () => sent("cant", {}),
+    async next() {
+      await sent("next", {});
+      viewer.board.focus(viewer.game.names[0]);
+    } });
   known = [stored("localStorage", KEPT) || []].flat();
   me = (given.kept ? known.find(({ key }) => key === stored("sessionStorage", KEPT)) : known[0]) || null;
   return me ? sit() : enter(false);

@@ -8,6 +8,7 @@ import { Game, nameWords } from "./words.js";
 const MOST_VERTICES = GRAMMAR.limits["dg_graph::MAX_VERTICES"], ROOM = [620, 440], STEP = 10;
 
 export class Editor {
+  viewer; hands; done; find; draft; kept; handled;
   /* `done` is called with the text of the table and the places, and gives what the program refuses, null if it is done, or false if it
      is not. */
   constructor(viewer, hands, done, find) {
@@ -25,12 +26,11 @@ export class Editor {
     [this.kept, this.handled] = [board.layout, board.hands];
     board.hands = true;
     board.layout = this.wider(board.layout.original || board.layout);
-    board.burnt = [];
     this.draft = structuredClone(game.tableAt(now));
     this.hands.other = this;
     this.shown(true);
     this.fill();
-    document.querySelector("input[name=tool]:checked").focus({ preventScroll: true });
+    this.tool().focus({ preventScroll: true });
     // What stood above the button is hidden now, and the board may be out of sight. Firefox scrolls once the shorter page was drawn.
     requestAnimationFrame(() => requestAnimationFrame(() => element("board").scrollIntoView({ block: "nearest" })));
   }
@@ -73,7 +73,7 @@ export class Editor {
   }
 
   async finish() {
-    const bad = document.querySelector("#edit-vertices :invalid");
+    const bad = element("edit-vertices").querySelector(":invalid");
     if (bad) return bad.reportValidity();
     const refused = await this.done(this.text(), placesText(this.viewer.board.layout));
     if (refused === false) return null;
@@ -100,17 +100,17 @@ export class Editor {
   /* On the board. */
 
   tool() {
-    return document.querySelector("input[name=tool]:checked").value;
+    return element("editor").querySelector("input[name=tool]:checked");
   }
 
   drag(press, at) {
     if (press.name === null) return;
-    if (this.tool() === "edge") return this.hands.line(this.viewer.board.place(press.name), at);
-    if (this.tool() === "move") this.move(press.name, at);
+    if (this.tool().value === "edge") return this.hands.line(this.viewer.board.place(press.name), at);
+    if (this.tool().value === "move") this.move(press.name, at);
   }
 
   up(press, at, to) {
-    const tool = this.tool();
+    const tool = this.tool().value;
     if (tool === "edge" && press.name !== null && to !== null && to !== press.name) this.addEdge(press.name, to);
     if (tool === "remove" && press.name !== null && !press.moved) this.removeVertex(press.name);
     if (tool === "move" && press.name === null && !press.moved) this.addVertex(at);
@@ -130,7 +130,7 @@ export class Editor {
   }
 
   draw() {
-    this.viewer.board.show(new Game(this.draft).states[0], this.draft.q);
+    this.viewer.board.show({ ...new Game(this.draft).states[0], q: this.draft.q });
   }
 
   /* In the lists. A row stays where it is, so that the focus does; what it shows is that of its number. */
@@ -145,7 +145,7 @@ export class Editor {
   }
 
   rows(id, count, row, show) {
-    const body = document.querySelector(`#${id} tbody`), held = body.contains(document.activeElement);
+    const body = element(id).tBodies[0], held = body.contains(document.activeElement);
     while (body.rows.length > count) body.deleteRow(-1);
     while (body.rows.length < count) body.append(row(body.rows.length));
     [...body.rows].forEach(show);

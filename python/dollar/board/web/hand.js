@@ -2,22 +2,22 @@
 
 import { draw } from "./board.js";
 import { vertexAhead, vertexAt } from "./places.js";
-import { below, bind, choose, element, refuse, say } from "./viewer.js";
-import { planned } from "./words.js";
+import { below, bind, element, refuse, say } from "./viewer.js";
+import { movesWords, planned } from "./words.js";
 
 const LONG_PRESS = 550, FAR_ENOUGH = 9, PATIENT = 1000;
 
 export class Hands {
+  viewer; board; play; press; joining; other; joins;
   /* `play` is called with a line. */
   constructor(viewer, play) {
     Object.assign(this, { viewer, play, board: viewer.board, press: null, joining: null, other: null, joins: true });
     this.onBoard();
     this.onKeys();
     this.onForms();
-    this.names(viewer.game.names);
   }
 
-  /* Where a pointer is, in the picture's own measure. */
+  /** @returns {[number, number]} where a pointer is, in the picture's own measure */
   point(event) {
     const at = new DOMPoint(event.clientX, event.clientY).matrixTransform(this.board.svg.getScreenCTM().inverse());
     return [at.x, at.y];
@@ -97,7 +97,12 @@ export class Hands {
   /* A click on a vertex. */
   act(name, { ctrlKey, metaKey, shiftKey }) {
     if (ctrlKey || metaKey || element("choosing").checked) this.choose(name);
-    else this.play(`${shiftKey ? "borrow" : "lend"} ${name}`);
+    else this.moves(name, shiftKey);
+  }
+
+  /* A vertex lends, or borrows if that is wanted. */
+  moves(name, other) {
+    this.play(`${other !== element("borrowing").checked ? "borrow" : "lend"} ${name}`);
   }
 
   drop() {
@@ -109,19 +114,19 @@ export class Hands {
   choose(name) {
     const { chosen } = this.board;
     if (!chosen.delete(name)) chosen.add(name);
-    element("fire").disabled = chosen.size === 0;
-    this.viewer.rest();
+    element("fire").hidden = chosen.size === 0;
+    this.board.draw();
   }
 
   unchoose() {
     this.board.chosen.clear();
-    element("fire").disabled = true;
+    element("fire").hidden = true;
   }
 
   onKeys() {
     // Whoever uses keys sees where the focus is.
-    for (const [kind, on] of [["pointerdown", true], ["keydown", false]]) {
-      document.addEventListener(kind, () => document.body.classList.toggle("by-pointer", on), { capture: true });
+    for (const kind of ["pointerdown", "keydown"]) {
+      document.addEventListener(kind, () => document.body.classList.toggle("by-pointer", kind === "pointerdown"), { capture: true });
     }
     this.board.svg.addEventListener("keydown", (event) => {
       const name = event.target.dataset && event.target.dataset.name;
@@ -130,7 +135,7 @@ export class Hands {
       if (aside && event.shiftKey && this.other) this.other.nudge(name, aside);
       else if (aside) this.board.focus(vertexAhead(this.board.layout.places, name, aside));
       else if (this.other) return;
-      else if (event.key === "Enter") this.play(`${event.shiftKey ? "borrow" : "lend"} ${name}`);
+      else if (event.key === "Enter") this.moves(name, event.shiftKey);
       else if (event.key === " ") this.choose(name);
       else if (event.key === "j") this.join(name);
       else if (event.key === "Escape") this.escape();
@@ -159,22 +164,15 @@ export class Hands {
 
   escape() {
     this.forget();
-    this.viewer.rest();
+    this.board.draw();
   }
 
   onForms() {
-    const value = (id) => element(id).value;
     bind({
       fire: () => this.play(`fire ${this.viewer.game.names.filter((name) => this.board.chosen.has(name)).join(",")}`),
       claim: () => this.play("claim"), look: () => this.play("look"), commit: () => this.play("commit"),
-      "gift-form": () => this.play(`gift ${value("gift-to")} ${value("gift-amount")}`),
-      "join-form": () => this.play(`join ${value("join-from")} ${value("join-to")}`),
-      "rank-form": () => this.play(`rank ${value("rank-degree")}`), "line-form": () => this.play(value("line-in")),
+      "line-form": () => this.play(element("line-in").value),
     });
-  }
-
-  names(names) {
-    for (const id of ["gift-to", "join-from", "join-to"]) choose(id, names, id === "join-to" ? 1 : 0);
   }
 
   /* What is promised, and a word if that takes its time. */
@@ -193,10 +191,11 @@ export class Hands {
   }
 
   /* Shows one move: its vertex, and 1 if that lends or -1 if it borrows; 0 if nobody has to move, and null if no move helps. */
-  hint({ name, count }) {
-    const { board, viewer: { game, now } } = this, words = count === null ? "It can't be won as it stands." : "Nobody owes a dollar.";
-    this.note(count ? `Let ${name} ${count > 0 ? "lend" : "borrow"} once.` : words);
-    if (count) board.show(game.states[now], game.table.q, below(new Map([[name, count]]), planned));
+  hint({ name, count, left }) {
+    const words = count === null ? "It can't be won as it stands." : "Nobody owes a dollar.";
+    const more = left ? ` In all ${movesWords(left)} will do.` : "";
+    this.note(count ? `Let ${name} ${count > 0 ? "lend" : "borrow"} once.${more}` : words);
+    if (count) this.board.show(this.viewer.picture({ says: below(new Map([[name, count]]), planned) }));
   }
 
   /* Says why a line was not taken, with the program's own words. */

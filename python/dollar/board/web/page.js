@@ -9,9 +9,10 @@ const NO_ANSWER = "There is no answer from board/play: it may have ended, or the
 /* What the server says to a request: a thing, or its words if it refuses. */
 
 export async function post(path, thing, patience = LONG) {
-  const given = { method: "POST", headers: { "Content-Type": "application/json" }, body: JSON.stringify(thing) };
+  const given = /** @type {RequestInit} */ ({ method: "POST", headers: { "Content-Type": "application/json" }, body: JSON.stringify(thing) });
   // Old browsers know no such signal, and wait.
-  if (AbortSignal.timeout) given.signal = AbortSignal.timeout(patience);
+  const { timeout } = /** @type {any} */ (AbortSignal);
+  if (timeout) given.signal = timeout.call(AbortSignal, patience);
   try {
     const got = await fetch(path, given);
     return got.ok ? await got.json() : { refused: await got.text(), status: got.status };
@@ -25,6 +26,7 @@ export async function post(path, thing, patience = LONG) {
    played does not come soon, the page listens again. */
 
 export class Link {
+  patience; told; lost; turn; fails; source; place; heard; hears; drew;
   /* How long an answer may take, what is done at each kind of event, and what is called when the stream breaks, with whether the server
      has refused it. */
   constructor(patience = LONG, told = {}, lost = null) {
@@ -118,14 +120,14 @@ export async function startPage(start) {
   }
 }
 
-/* In how few moves a table was won in this browser, after it was won in so many. */
+/* In how few moves a table was won in this browser, after it was won in so many; Infinity if it never was. */
 
 const FEWEST = "dollar fewest", TABLES = 100;
 
-export function fewest(table, moves) {
+export function fewest(table, moves = Infinity) {
   const before = stored("localStorage", FEWEST) || [], found = before.find(([text]) => text === table);
-  const least = Math.min(moves, found ? found[1] : moves);
-  store("localStorage", FEWEST, [...before.filter((each) => each !== found), [table, least]].slice(-TABLES));
+  const least = Math.min(moves, found ? found[1] : Infinity);
+  if (moves < Infinity) store("localStorage", FEWEST, [...before.filter((each) => each !== found), [table, least]].slice(-TABLES));
   return least;
 }
 
@@ -133,7 +135,7 @@ export function fewest(table, moves) {
 
 export function stored(storage, key) {
   try {
-    return JSON.parse(window[storage].getItem(key));
+    return JSON.parse(/** @type {any} */ (window)[storage].getItem(key));
   } catch {
     return null;
   }
@@ -141,7 +143,7 @@ export function stored(storage, key) {
 
 export function store(storage, key, thing) {
   try {
-    window[storage].setItem(key, JSON.stringify(thing));
+    /** @type {any} */ (window)[storage].setItem(key, JSON.stringify(thing));
   } catch {
     /* It is not kept. */
   }

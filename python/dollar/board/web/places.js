@@ -11,6 +11,7 @@ export function placesText({ places, original }) {
   return [...places].map(([name, [x, y]]) => `${name} ${x} ${y}\n`).join("");
 }
 
+/** @type {(pairs: any[]) => any} */
 function least(pairs) {
   return pairs.reduce((best, each) => (each[0] < best[0] ? each : best), [Infinity, null]);
 }
@@ -34,7 +35,7 @@ export function vertexAhead(places, name, [right, down]) {
 export function freePlace({ places, width, height }) {
   const parts = Array.from({ length: 9 }, (_, i) => (i + 1) / 10);
   const spots = parts.flatMap((down) => parts.map((right) => [width * right, height * down]));
-  const room = ([x, y]) => Math.min(...[...places.values()].map(([u, v]) => Math.hypot(u - x, v - y)));
+  const room = (/** @type {number[]} */ [x, y]) => Math.min(...[...places.values()].map(([u, v]) => Math.hypot(u - x, v - y)));
   return least(spots.map((spot) => [-room(spot), spot]))[1];
 }
 
@@ -46,7 +47,7 @@ export function wordsPlace({ places, radius, width, height }, pairs, name, wide)
   const spots = [[0, high], [0, -high], [side, 0], [-side, 0],
     ...[[half / 2, high], [slant, radius]].flatMap(([right, down]) => [[right, down], [-right, down], [right, -down], [-right, -down]])];
   const inside = (at, reach, most) => Math.min(Math.max(at, reach), most - reach);
-  const cost = ([u, v]) => {
+  const cost = (/** @type {number[]} */ [u, v]) => {
     const beside = ([z, w], more) => Math.abs(z - u) < half + more && Math.abs(w - v) < HIGH + more;
     const apart = ([z, w]) => Math.hypot(Math.max(Math.abs(z - u) - half, 0), Math.max(Math.abs(w - v) - HIGH, 0));
     const circles = [...places.values()].filter((place) => apart(place) < radius - 1).length;

@@ -3,13 +3,11 @@
 import { Board, still } from "./board.js";
 import { fitted } from "./places.js";
 import {
-  commandWords, debtWords, faultWords, flowWords, legendWords, markOf, mostTelling, movesWords, often, planned, replyWords, startWords,
+  commandWords, debtWords, faultWords, flowWords, legendWords, markOf, mostTelling, movesWords, often, planned, reachedWords, replyWords, startWords,
 } from "./words.js";
 
-export const element = (id) => document.getElementById(id);
+export const element = (id) => /** @type {any} */ (document.getElementById(id));
 // The marks of a long game, which all are looked at for, are drawn when no more steps come for a while.
-// How much of the page's height the board has.
-const BOARD_HIGH = 0.7;
 const BETWEEN = 2200, LISTED = 400, FEW = 1000, LATER = 300;
 
 export function made(tag, text, given = {}) {
@@ -71,10 +69,12 @@ export function below(counts, words) {
 export const lost = (count) => `lost ${count}`;
 
 export class Viewer {
+  board; game; flaws; who; speaks; reached; now; timer; marking; listed; afterShow;
   /* `flaws` has what the program prints, for each step that has another line; `who` says of a step who played it, `speaks` whether a
-     screen reader is to speak of it, and `fewest` in how many moves the table was won before. */
-  constructor(game, layout, { hands = false, flaws = {}, who = (seat) => `Seat ${seat}`, speaks = () => true, fewest = () => null } = {}) {
-    Object.assign(this, { game, flaws, who, speaks, fewest, now: 0, timer: null, listed: [0, 0], afterShow: () => {} });
+     screen reader is to speak of it, and `reached` what is known of the table beside the game. */
+  constructor(game, layout, /** @type {any} */ given = {}) {
+    const { hands = false, flaws = {}, who = (seat) => `Seat ${seat}`, speaks = () => true, reached = () => ({}) } = given;
+    Object.assign(this, { game, flaws, who, speaks, reached, now: 0, timer: null, listed: [0, 0], afterShow: () => {} });
     this.board = new Board(document.querySelector("#board svg"), hands);
     this.fit(layout);
     element("marks-legend").textContent = legendWords();
@@ -88,7 +88,7 @@ export class Viewer {
     };
     const keys = { Home: ways.first, ArrowLeft: ways.back, " ": ways.play, ArrowRight: ways.on, End: ways.last };
     document.addEventListener("keydown", (event) => {
-      const at = event.target, taken = at.closest && at.closest("input:not([type=range]), select, textarea, dialog, .vertex");
+      const at = /** @type {any} */ (event.target), taken = at.closest && at.closest("input:not([type=range]), select, textarea, dialog, .vertex");
       const onButton = ["BUTTON", "SUMMARY", "A", "LABEL"].includes(at.tagName);
       if (event.ctrlKey || event.altKey || event.metaKey || !keys[event.key] || taken || (event.key === " " && onButton)) return;
       event.preventDefault();
@@ -97,12 +97,18 @@ export class Viewer {
     element("slider").addEventListener("input", () => this.go(Number(element("slider").value)));
     bind({ ...ways, earlier: () => this.list(this.listed[0] - LISTED), later: () => this.list(this.listed[1]) });
     window.addEventListener("resize", () => this.refit());
+    const door = element("more");
+    if (!door) return;
+    door.addEventListener("toggle", () => {
+      document.body.classList.toggle("open", door.open);
+      this.refit();
+    });
   }
 
-  /* Has the board fill its place on the page. */
+  /* Has the board fill its place on the page, which the style limits. */
   fit(layout) {
     const { svg } = this.board, wide = svg.parentNode.clientWidth || window.innerWidth;
-    this.board.layout = fitted(layout, wide, BOARD_HIGH * window.innerHeight);
+    this.board.layout = fitted(layout, wide, parseFloat(getComputedStyle(svg).maxHeight) || window.innerHeight);
   }
 
   /* The place has another size now. An editor's layout stays as it is. */
@@ -110,7 +116,7 @@ export class Viewer {
     this.fillMarks();
     if (!this.board.layout.original) return;
     this.fit(this.board.layout);
-    this.rest();
+    this.board.draw();
   }
 
   /* Shows another game, or the same after it has grown or was cut, at a step. */
@@ -159,22 +165,22 @@ export class Viewer {
   }
 
   show(index) {
-    const next = Math.min(Math.max(index, 0), this.game.length), { states, steps, replies } = this.game;
+    const next = Math.min(Math.max(index, 0), this.game.length), { states, replies } = this.game;
     const moving = next === this.now + 1 && replies[next - 1].kind === "moved" && !still.matches;
     this.now = next;
-    this.board.burnt = [];
     this.showText();
-    this.showScript(element("verdict"), next ? replies[next - 1] : {}, states[next].amounts);
+    this.showScript(next ? replies[next - 1] : {}, states[next].amounts);
     this.showPlace();
-    this.rest();
-    if (moving) this.board.travel(states[next], steps[next - 1].script);
+    this.board.show(this.picture());
+    if (moving) this.board.travel();
     this.afterShow();
   }
 
-  rest() {
-    const { states, steps, replies, table } = this.game;
-    this.board.show(states[this.now], table.q, this.says(this.now));
-    if (this.now && replies[this.now - 1].kind === "moved") this.board.arrows(states[this.now], steps[this.now - 1].script);
+  /* The picture of the step, with its arrows and signs, or with others. */
+  picture(given) {
+    const { states, steps, replies, table } = this.game, moved = this.now && replies[this.now - 1].kind === "moved";
+    const own = { says: this.says(this.now), script: moved ? steps[this.now - 1].script : null };
+    return { ...states[this.now], q: table.q, ...(given || own) };
   }
 
   showText() {
@@ -192,18 +198,18 @@ export class Viewer {
     element("differs").textContent = flaw === undefined ? "" : `This is not what the program prints, which is: ${flaw}`;
   }
 
-  /* Says that nobody owes, if that is so. */
+  /* Says what was reached, if anything was. */
   showEnd() {
     const { game, now } = this, won = game.isWon(now), { moves, helped } = game.states[now];
-    element("won").hidden = !won;
+    const words = reachedWords({ won, moves, helped, ...this.reached(won && !helped ? moves : Infinity) });
+    document.body.classList.toggle("joy", won);
+    element("won").hidden = !words;
+    element("won").textContent = words;
     if (element("count")) element("count").textContent = movesWords(moves);
-    if (!won) return;
-    const fewest = helped ? null : this.fewest(moves), words = `Solved in ${movesWords(moves)}: nobody owes a dollar.`;
-    element("won").textContent = fewest === null || fewest === moves ? words : `${words} Your best: ${fewest}.`;
   }
 
-  showScript(box, { script, reduced }, amounts) {
-    const rows = [...(script || [])].map(([name, count]) => [name, often(count), amounts.get(name), reduced.get(name)]);
+  showScript({ script, reduced }, amounts) {
+    const box = element("verdict"), rows = [...(script || [])].map(([name, count]) => [name, often(count), amounts.get(name), reduced.get(name)]);
     box.hidden = !script;
     box.open = Boolean(script);
     box.querySelector("tbody").replaceChildren(...rows.map(tableRow));

@@ -110,9 +110,11 @@ export class Game {
     this.replies.push(reply);
   }
 
-  stateAfter(before, step, { kind, amounts }) {
+  stateAfter(before, step, /** @type {any} */ { kind, amounts }) {
     if (!amounts) return before;
-    if (kind === "moved") return { ...before, amounts, moves: before.moves + 1 };
+    // A move counts once for each time that a vertex lends or borrows in it.
+    const count = [...(step.script || [["", 1]])].reduce((sum, [, times]) => sum + Math.abs(times), 0);
+    if (kind === "moved") return { ...before, amounts, moves: before.moves + count };
     const helped = before.helped || kind === "given" || kind === "joined";
     // A history may have been changed, so that its reply is to another step.
     if (kind !== "joined" || step.word !== "join" || step.given.length !== 2) return { ...before, amounts, helped };
@@ -123,6 +125,11 @@ export class Game {
   /* Whether nobody owes after so many steps, and somebody did at the start. */
   isWon(index) {
     return owing(this.states[index].amounts).length === 0 && owing(this.states[0].amounts).length > 0;
+  }
+
+  /* The player was helped, so that this game is no best. */
+  help() {
+    this.states = this.states.map((state) => ({ ...state, helped: true }));
   }
 
   cut(length) {
@@ -196,6 +203,23 @@ export function startWords(steps) {
 }
 
 export const movesWords = (count) => (count === 1 ? "1 move" : `${count} moves`);
+
+/* What was reached: the fewest moves without help, Infinity if there are none, and the fewest that there can be, if that is known. */
+export function reachedWords({ won, moves, helped = false, best = Infinity, least = null, right = false }) {
+  if (right && !won) return "Right: it can't be done.";
+  const done = won ? `Solved in ${movesWords(moves)}: nobody owes a dollar.` : best < Infinity ? `Solved before, in ${movesWords(best)}.` : "";
+  const own = won && helped ? " With help, so it is no best." : won && best < moves ? ` Your best: ${best}.` : "";
+  const measure = least === null ? "" : best === least ? " It can't be done in fewer." : ` It can be done in ${least}.`;
+  return done && done + own + measure;
+}
+
+/* The first minute: what is to be done at the start, and after the first move. */
+export function firstWords({ states, steps }, now) {
+  const { amounts } = states[now], [[richest]] = [...amounts].sort(([, one], [, other]) => other - one);
+  if (now > 1 || owing(amounts).length === 0 || (now === 1 && !steps[0].script)) return "";
+  if (now === 0) return `Click ${richest}: it sends a dollar along each of its edges.`;
+  return `${commandWords(steps[0])}. Go on until nobody owes. To let one borrow, press it longer, or tick the box first.`;
+}
 
 export function debtWords(amounts) {
   const told = owing(amounts).map(([name, amount]) => `${name} owes ${-amount}`);
