@@ -44,7 +44,11 @@ def rattle(words):
     fault = os.environ.get("FAULT", "") if name == "dg_rank" else ""
     if fault == "killed":
         os.kill(os.getpid(), signal.SIGKILL)
-    if fault:
+    if fault == "held":
+        (made / "held").touch()
+        while (made / "held").exists():
+            time.sleep(0.01)
+    elif fault:
         sys.exit(fault)
     wait()
     for place in (Path(word.partition("=")[2]) for word in words if "=" in word and word.endswith(".rlib")):

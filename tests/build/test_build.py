@@ -18,6 +18,8 @@ from kit import own_sum, whole_sum
 SEED = int(os.environ.get("SEED") or random.randrange(10000))
 TOOLS = ["bash", "basename", "dirname", "env", "find", "grep", "mkdir", "mv", "nice", "python3", "readlink", "rm", "sh"]
 NOBODY = 65534
+# After how many seconds a call counts as hung, also on a busy machine.
+HUNG = 900
 # A Python that other users can run too.
 PYTHON = "/usr/bin/python3" if os.path.exists("/usr/bin/python3") else sys.executable
 KEPT = "dollar: interrupted; what is proved is kept, and the next call goes on from there\n"
@@ -61,7 +63,7 @@ class OfBuilds(Test):
     def run_of(self, *words, **options):
         """What a command prints, what it says, and its status."""
         child = self.begun(*words, **options)
-        out, said = child.communicate(timeout=60)
+        out, said = child.communicate(timeout=HUNG)
         self.assertNotIn("Traceback", said)
         return out, said, child.returncode
 
@@ -90,13 +92,21 @@ class OfBuilds(Test):
         file.write_text(f"{text}// {random.random()}\n")
         return lambda: file.write_text(text)
 
+    def held(self):
+        """Starts a build, in which the process of the toolchain that makes dg_rank waits until the file is gone that this gives."""
+        child, file = self.begun(fault="held"), self.made / "held"
+        while not file.exists():
+            self.assertIsNone(child.poll())
+            time.sleep(0.01)
+        return child, file
+
     def end(self, child, number):
         """Ends a build after its first line, at a random moment, and gives what it says. Whoever has a pipe to it ends with it."""
         first = child.stderr.readline()
         time.sleep(random.uniform(0, 0.8))
         with contextlib.suppress(ProcessLookupError):
             os.killpg(child.pid, number)
-        return first + child.communicate(timeout=60)[1]
+        return first + child.communicate(timeout=HUNG)[1]
 
     def test_builds_that_are_ended_at_random_moments(self):
         random.seed(SEED)
@@ -117,7 +127,7 @@ class OfBuilds(Test):
     def test_a_build_that_is_ended_says_what_is_kept(self, number, status):
         for path in "out", "crates/dollar/out":
             shutil.rmtree(self.tree / path, ignore_errors=True)
-        child = self.begun(self.tree / "tools" / "build", pace=0.2)
+        child = self.begun(self.tree / "tools" / "build", pace=5)
         self.assertTrue(self.end(child, number).endswith(KEPT))
         self.assertEqual(child.returncode, status)
         left = len(list(self.made.glob("*.sum")))
@@ -126,14 +136,13 @@ class OfBuilds(Test):
     def test_an_edit_that_is_taken_back_after_a_kill(self):
         """The process of the toolchain lives on, and makes the crate of the edited file. Then one far above is edited."""
         self.builds()
-        back = self.edit("dg_invocation")
-        child = self.begun(pace=0.2)
-        child.stderr.readline()
-        time.sleep(0.1)
+        back = self.edit("dg_rank")
+        child, file = self.held()
         os.killpg(child.pid, signal.SIGKILL)
         child.communicate()
         back()
         self.edit("dollar")
+        file.unlink()
         self.assertIn("its crates are proved: 23 of 25, ", self.builds(pace=0.3))
 
     def test_an_edit_during_a_build(self):
@@ -149,13 +158,13 @@ class OfBuilds(Test):
         self.builds()
 
     def test_one_that_another_build_is_waited_for(self):
-        first = self.begun(pace=0.2)
-        first.stderr.readline()
+        first, file = self.held()
         second = self.begun()
         self.assertIn("another call is building the program here, and is waited for: ", second.stderr.readline())
         os.killpg(second.pid, signal.SIGINT)
         self.assertEqual((second.communicate()[1], second.returncode), (KEPT, -signal.SIGINT))
-        self.assertEqual(first.communicate(timeout=60)[1].splitlines()[-1], "dollar: 25 of 25, done")
+        file.unlink()
+        self.assertEqual(first.communicate(timeout=HUNG)[1].splitlines()[-1], "dollar: 25 of 25, done")
         self.assertEqual(self.builds(), "")
 
     def test_the_first_lines(self):
