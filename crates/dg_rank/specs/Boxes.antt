@@ -4,12 +4,13 @@
 --                           most what the list r has there
 --   BoxWins g A r j      == A less each of these is winnable
 --   IsBoxLoss g A r j E  == the trial E is one of these, and A less E is not winnable
+--   IsLackIn n A r j o   == at o A holds less than may be lost there, or nowhere if there is no o
 --   IsLossFrom g A r d E == A less E is not winnable, where E is a trial of degree at most r that
 --                           holds nothing before place d
 --   IsFrom n r d F       == F is effective, of degree r, and holds nothing before place d
 --   WinFrom g A r d      == A less each of these is winnable
 --   IsFirstFrom g A r d E == the trial E is the first of these without which A is not winnable
-use Rattle.std.specs.Prelude.{◌≡◌, ℕ, ◌<◌, pos, ◌≤ℤ◌, List, length, slice_index}
+use Rattle.std.specs.Prelude.{◌≡◌, ℕ, ◌<◌, pos, ◌<ℤ◌, ◌≤ℤ◌, List, Option, MatchOption, length, min, slice_index}
 use Rattle.dg_theory.specs.Firing.{Amounts, degree, IsEffective}
 use Rattle.dg_theory.specs.Multigraph.{Multigraph}
 use Rattle.dg_theory.specs.Play.{IsWinnable}
@@ -29,6 +30,11 @@ pub record IsBoxLoss (g : Multigraph) (A : Amounts) (r : List ℕ) (j : ℕ) (E 
   pub places : length E ≡ g.size
   pub inside : IsInBox g.size r j (amounts_of E)
   pub loses : ¬ WinsWithout g A E
+
+abbrev pub IsLackIn : ℕ → Amounts → List ℕ → ℕ → Option ℕ → Type 0
+IsLackIn n A r j o = MatchOption o
+    ((v : ℕ) → v < n → pos (min (slice_index r v) j) ≤ℤ A v)
+    (λ v. (v < n) × (A v <ℤ pos (min (slice_index r v) j)))
 
 pub record IsLossFrom (g : Multigraph) (A : Amounts) (r d : ℕ) (E : List ℕ) : Type 0 where
   pub places : length E ≡ g.size

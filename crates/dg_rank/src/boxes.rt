@@ -1,12 +1,12 @@
 //! A search for a loss by boxes: at each vertex so much may be taken, and in all so many dollars.
-ghost use Rattle.std.specs.Prelude.{◌≡◌, ℕ, ◌<◌, ◌≤◌, true, pos, ◌≤ℤ◌, ◌<ℤ◌, min, slice_index, MatchOption, MatchResult};
+ghost use Rattle.std.specs.Prelude.{◌≡◌, ℕ, ◌<◌, ◌≤◌, true, pos, ◌≤ℤ◌, MatchOption, MatchResult};
 ghost use Rattle.dg_theory.specs.Firing.{only_at, IsEffective};
 ghost use Rattle.dg_theory.specs.Play.{IsWinnable};
 ghost use Rattle.dg_theory.specs.Rank.{less};
 ghost use Rattle.dg_chips.specs.Vector.{at};
 ghost use Rattle.dg_reduce.specs.Effective.{IsEffectiveDivisor};
 ghost use Rattle.dg_rank.specs.Losses.{AddUpToFewForTrials};
-ghost use Rattle.dg_rank.specs.Boxes.{BoxWins, IsBoxLoss};
+ghost use Rattle.dg_rank.specs.Boxes.{BoxWins, IsBoxLoss, IsLackIn};
 
 use crate::enumeration::Trial;
 use dg_graph::Graph;
@@ -51,7 +51,7 @@ pub(crate) fn find_in_box(
     let mut open = *room;
     let mut best = *left;
     let mut lack = lack_of(&best, &open, dollars);
-    'lacking: while let Some(v) = most_lacking(&best, &open, dollars) {
+    'lacking: while let Some(v) = lack.vertex {
         let held = held_at(&best, v);
         let taken = held + 1;
         let Some(other) = left_after(graph, &best, v, taken) else {
@@ -60,7 +60,7 @@ pub(crate) fn find_in_box(
         let mut fuller = other;
         fuller.give(v, taken);
         let fewer = lack_of(&fuller, &open, dollars);
-        if fewer < lack {
+        if fewer.squares < lack.squares {
             best = fuller;
             lack = fewer;
         } else {
@@ -77,39 +77,33 @@ pub(crate) fn find_in_box(
     Ok(None)
 }
 
-/// The vertex that has the most dollars less than may be taken there; `None` if each has as many.
-fn most_lacking(left: &EffectiveDivisor, room: &[u32; 16], dollars: u32) -> Option<usize>
-    requires size { left.now.size ≤ 16 }
-    requires effective { IsEffective left.now.size (at left.now) }
-    ensures { MatchOption result
-        ((v : ℕ) → v < left.now.size → pos (min (slice_index room.now v) dollars) ≤ℤ at left.now v)
-        (λ v. (v < left.now.size)
-        × (at left.now v <ℤ pos (min (slice_index room.now v) dollars))) }
-{
-    let mut found = None;
-    let mut most = 0;
-    for v in 0..left.size() {
-        let lack = room[v].min(dollars).saturating_sub(held_at(left, v));
-        if lack > most {
-            found = Some(v);
-            most = lack;
-        }
-    }
-    found
+/// What is lacking in a box: the vertex that has the most dollars less than may be taken there, if one has less, and the sum
+/// of the squares of what each has less.
+#[derive(Clone, Copy)]
+struct Lack {
+    vertex: Option<usize>,
+    squares: u32,
 }
 
-/// How much is lacking in a box: the sum of the squares of what each vertex has less than may be taken there.
-fn lack_of(left: &EffectiveDivisor, room: &[u32; 16], dollars: u32) -> u32
+/// What is lacking in a box.
+fn lack_of(left: &EffectiveDivisor, room: &[u32; 16], dollars: u32) -> Lack
     requires size { left.now.size ≤ 16 }
     requires effective { IsEffective left.now.size (at left.now) }
     requires few { dollars ≤ 1000 }
+    ensures { IsLackIn left.now.size (at left.now) room.now dollars result.vertex }
 {
-    let mut sum: u32 = 0;
+    let mut vertex = None;
+    let mut squares: u32 = 0;
+    let mut most = 0;
     for v in 0..left.size() {
-        let lack = room[v].min(dollars).saturating_sub(held_at(left, v));
-        sum = sum.saturating_add(lack * lack);
+        let less = room[v].min(dollars).saturating_sub(held_at(left, v));
+        squares = squares.saturating_add(less * less);
+        if less > most {
+            vertex = Some(v);
+            most = less;
+        }
     }
-    sum
+    Lack { vertex, squares }
 }
 
 /// What is left once so many dollars are taken at a vertex and paid back; `None` if that can't be won.

@@ -6,15 +6,13 @@
 --   rest_gains       so a vertex gains its edges, if it is not in the set, less those that lead out of it
 --   gain_small       so no vertex gains or loses more than it has edges
 --   gain_past        and past the last vertex nothing is gained
---   free_again       a set that could fire can fire again if its members have a dollar for each edge that leads out
---   rest_again       so what an earlier burning left is left still
+--   rest_again       what an earlier burning left is left still, if nobody but one is in debt after one more fire of it
 --   once_more        after one more set has lent, such sets led there
 --   once_falls       the weight falls where one more set lends once
 --   once_limit       from amounts within 2^26 come amounts within 17 * 2^26
-use Rattle.dg_reduce.proofs.Common.{if◌then◌else◌, ◌≡◌, ℕ, zero, suc, ◌+◌, ◌*◌, ◌^◌, ◌<◌, ◌≤◌, Bool, true, false, arith, refl, sym, ap, ◌∙◌, ⊎_elim, unsigned_abs, cases_Bool, ints, pos, ◌-ℤ◌, ◌≤ℤ◌, total_below, Multigraph, edges_between, valence, Amounts, fired, gain, indicator, multiple, FiresTo, edges_out, edges_into, FiresFreely, HasNoDebtOff, abs_within, into-le-valence, out-le-valence, equivalent-trans, fired-cong, multiple-once, weights, levels_are_potential, led_step, led-cong, led_limit, distance_from, distance_from-is, gain-inside, gain-outside, weight_of, weight_of-cong, weight_falls_by_set, IsGraph, valence-outside, Vector, at}
-use Rattle.dg_burn.specs.declared.burning.BurnCounts.{BurnCounts}
-use Rattle.dg_graph.specs.Sets.{in_set}
-use Rattle.dg_reduce.specs.Rests.{HasDollarsOut, IsRest}
+use Rattle.dg_reduce.proofs.Common.{if◌then◌else◌, ◌≡◌, ℕ, zero, suc, ◌+◌, ◌*◌, ◌^◌, ◌<◌, ◌≤◌, Bool, true, false, List, arith, refl, sym, ap, ◌∙◌, ⊎_elim, unsigned_abs, cases_Bool, ints, pos, ℤ, ◌-ℤ◌, total_below, Multigraph, edges_between, valence, Amounts, fired, gain, indicator, multiple, FiresTo, edges_out, edges_into, FiresFreely, abs_within, into-le-valence, out-le-valence, equivalent-trans, fired-cong, multiple-once, weights, levels_are_potential, led_step, led-cong, led_limit, distance_from, distance_from-is, gain-inside, gain-outside, weight_of, weight_of-cong, weight_falls_by_set, IsGraph, valence-outside, Vector, at}
+use Rattle.dg_reduce.specs.Rests.{IsFloorOff, IsRest, StaysAbove}
+use Rattle.dg_reduce.specs.declared.effective_divisor.Rest.{Rest}
 use Rattle.dg_reduce.proofs.DebtSteps.{IsRepaying}
 
 apart : (b : Bool) (e : ℕ) → (if b then e else 0) + (if b then 0 else e) ≡ e
@@ -82,24 +80,24 @@ gain_past g S v graph past =
     let none : unsigned_abs (gain g (indicator S) v) ≤ valence g v = gain_small g S v graph in
     omega (arith, ints, valence-outside g v graph past)
 
-pub free_again : (g : Multigraph) (q : ℕ) (D E : Amounts) (S : ℕ → Bool) → FiresFreely g q D S → HasNoDebtOff g q E →
-    ((v : ℕ) → v < g.size → S v ≡ true → pos (edges_out g S v) ≤ℤ E v) → FiresFreely g q E S
-free_again g q D E S free no_debt enough = record {
-  vertices = free.vertices;
-  without = free.without;
-  no_debt = λ v below other. ⊎_elim
-      (λ (on : S v ≡ true). omega (arith, ints, rest_lends g S v on, enough v below on))
-      (λ (off : S v ≡ false). omega (arith, ints, gain-outside g S v off, no_debt v below other))
-      (cases_Bool (S v));
-}
-
-pub rest_again : (g : Multigraph) (v : ℕ) (x y : Vector) (rest : BurnCounts) → IsRepaying g v x y →
-    (D : Amounts) × IsRest g v D rest → HasDollarsOut g.size (at y) rest → IsRest g v (at y) rest
-rest_again g v x y rest state (D, before) enough = record {
-  free = free_again g v D (at y) (in_set rest.burnt.unburnt) before.free state.led.no_debt
-      (λ u below member. omega (arith, ints, enough u below member, before.joined u));
+pub rest_again : (g : Multigraph) (v : ℕ) (x y : Vector) (rest : Rest) (floor : List ℤ) → IsGraph g →
+    IsRepaying g v x y → (D : Amounts) × IsRest g v D rest → IsFloorOff v floor →
+    StaysAbove 16 floor (at y) rest → IsRest g v (at y) rest
+rest_again g v x y rest floor graph state (D, before) off stays = record {
+  free = record {
+    vertices = before.free.vertices;
+    without = before.free.without;
+    no_debt = λ w below other. omega (
+      arith,
+      ints,
+      off w other,
+      stays w (omega (arith, graph.few)),
+      before.gains w (omega (arith, graph.few)),
+    );
+  };
   member = before.member;
-  joined = before.joined;
+  gains = before.gains;
+  small = before.small;
 }
 
 once : (g : Multigraph) (D : Amounts) (S : ℕ → Bool) (w : ℕ) → w < g.size →

@@ -1,21 +1,26 @@
--- What burning leaves, with its counts.
---   IsRest g q D x == the rest of the burning x has a member and fires freely, and x counts the
---                     edges of each vertex that lead out of it
---   HasDollarsOut n D x == each of n vertices in the rest of the burning x has a dollar for each of
---                     its edges that x counts
-use Rattle.std.specs.Prelude.{◌≡◌, ℕ, ◌<◌, true, pos, ◌≤ℤ◌, slice_index}
-use Rattle.dg_burn.specs.declared.burning.BurnCounts.{BurnCounts}
+-- What burning leaves, with what it gains as it fires.
+--   IsRest g q D x == the set of the rest x has a member and fires freely, and x has what each vertex
+--                     gains as it fires once
+--   IsFloorOff q f == f is 0 at each vertex but q
+--   StaysAbove n f D x == each of n vertices has at least its number in f after such a fire
+use Rattle.std.specs.Prelude.{◌≡◌, ◌≢◌, ℕ, ◌<◌, ◌≤◌, true, List, ℤ, pos, ◌+ℤ◌, ◌≤ℤ◌}
+use Rattle.std.specs.Int.RustNames.{unsigned_abs}
+use Rattle.std.specs.List.{slice_index_or}
 use Rattle.dg_graph.specs.Sets.{in_set}
+use Rattle.dg_graph.specs.declared.limits.TheConstants.{MAX_VERTICES}
+use Rattle.dg_reduce.specs.declared.effective_divisor.Rest.{Rest}
 use Rattle.dg_theory.specs.Burning.{FiresFreely}
-use Rattle.dg_theory.specs.Firing.{Amounts}
+use Rattle.dg_theory.specs.Firing.{Amounts, gain, indicator}
 use Rattle.dg_theory.specs.Multigraph.{Multigraph}
-use Rattle.dg_theory.specs.Reduced.{edges_out}
 
-pub record IsRest (g : Multigraph) (q : ℕ) (D : Amounts) (x : BurnCounts) : Type 0 where
-  pub free : FiresFreely g q D (in_set x.burnt.unburnt)
-  pub member : (v : ℕ) × (in_set x.burnt.unburnt v ≡ true)
-  pub joined : (v : ℕ) → slice_index x.joined v ≡ edges_out g (in_set x.burnt.unburnt) v
+pub record IsRest (g : Multigraph) (q : ℕ) (D : Amounts) (x : Rest) : Type 0 where
+  pub free : FiresFreely g q D (in_set x.set)
+  pub member : (v : ℕ) × (in_set x.set v ≡ true)
+  pub gains : (v : ℕ) → v < MAX_VERTICES → slice_index_or x.gains v (pos 0) ≡ gain g (indicator (in_set x.set)) v
+  pub small : (v : ℕ) → unsigned_abs (slice_index_or x.gains v (pos 0)) ≤ 63
 
-abbrev pub HasDollarsOut : ℕ → Amounts → BurnCounts → Type 0
-HasDollarsOut n D x = (v : ℕ) → v < n → in_set x.burnt.unburnt v ≡ true →
-    pos (slice_index x.joined v) ≤ℤ D v
+abbrev pub IsFloorOff : ℕ → List ℤ → Type 0
+IsFloorOff q f = (v : ℕ) → v ≢ q → slice_index_or f v (pos 0) ≡ pos 0
+
+abbrev pub StaysAbove : ℕ → List ℤ → Amounts → Rest → Type 0
+StaysAbove n f D x = (v : ℕ) → v < n → slice_index_or f v (pos 0) ≤ℤ (D v +ℤ slice_index_or x.gains v (pos 0))

@@ -12,11 +12,11 @@ ghost use Rattle.dg_graph.specs.Sets.{in_set};
 ghost use Rattle.dg_chips.specs.Vector.{at};
 ghost use Rattle.dg_burn.specs.Fires.{IsHeldForBurning};
 ghost use Rattle.dg_reduce.specs.Effective.{IsEffectiveDivisor};
-ghost use Rattle.dg_reduce.specs.Rests.{HasDollarsOut, IsRest};
+ghost use Rattle.dg_reduce.specs.Rests.{IsRest, IsFloorOff, StaysAbove};
 
 use dg_burn::{BurnCounts, burn_counted};
 use dg_chips::Wide;
-use dg_graph::{Graph, contains};
+use dg_graph::Graph;
 use std::marker::Model;
 use std::simd::prelude::*;
 
@@ -129,12 +129,13 @@ impl EffectiveDivisor {
     {
         // For the prover: `size` says that the graph is within its limits.
         let _size = graph.size();
+        let floor = floor_off(v);
         let Some(mut rest) = self.rest(graph, v) else {
             return false;
         };
         'paying: while self.get(v) < 0 {
             // Burning takes longer than this test, and the same set often lends many times.
-            if !self.can_lend(graph, &rest) {
+            if !self.can_lend(&rest, &floor) {
                 let Some(next) = self.rest(graph, v) else {
                     return false;
                 };
@@ -145,26 +146,28 @@ impl EffectiveDivisor {
         true
     }
 
-    /// Whether each vertex that burning left has a dollar for each of its edges that lead out of what is left.
+    /// Whether each amount stays at its floor or above when a set that burning left lends once.
     #[inline(always)]
-    fn can_lend(&self, graph: &Graph, rest: &BurnCounts) -> bool
-        requires { self.now.size ≡ graph.now.size }
+    fn can_lend(&self, rest: &Rest, floor: &[i32; 16]) -> bool
+        requires small { (v : ℕ) → unsigned_abs (slice_index_or rest.now.gains v (pos 0)) ≤ 63 }
+        requires range { (v : ℕ) → v < self.now.size → unsigned_abs (at self.now v) ≤ 2 ^ 31 - 64 }
         ensures { MatchBool result
-            (HasDollarsOut graph.now.size (at self.now) rest.now)
-            (¬ HasDollarsOut graph.now.size (at self.now) rest.now) }
+            (StaysAbove MAX_VERTICES floor.now (at self.now) rest.now)
+            (¬ StaysAbove MAX_VERTICES floor.now (at self.now) rest.now) }
     {
         let amounts = &self.amounts;
-        for v in 0..graph.size() {
-            if contains(rest.burnt.unburnt, v) && amounts[v] < i32::from(rest.joined[v]) {
-                return false;
+        let mut stays = true;
+        for v in 0..16 {
+            if with_gain(amounts[v], rest.gains[v]) < floor[v] {
+                stays = false;
             }
         }
-        true
+        stays
     }
 
-    /// What burning from a vertex leaves, with its counts, if it leaves something.
+    /// What burning from a vertex leaves, if it leaves something.
     #[inline(always)]
-    fn rest(&self, graph: &Graph, v: usize) -> Option<BurnCounts>
+    fn rest(&self, graph: &Graph, v: usize) -> Option<Rest>
         requires size { self.now.size ≡ graph.now.size }
         requires vertex { v < graph.now.size }
         requires no_debt { HasNoDebtOff graph.now v (at self.now) }
@@ -177,7 +180,10 @@ impl EffectiveDivisor {
         if counted.burnt.unburnt == 0 {
             return None;
         }
-        Some(counted)
+        Some(Rest {
+            set: counted.burnt.unburnt,
+            gains: gains_of(graph, &counted),
+        })
     }
 
     /// The amounts as far as burning looks at them.
@@ -191,20 +197,20 @@ impl EffectiveDivisor {
 
     /// Lets each vertex that burning left lend once.
     #[inline(always)]
-    fn fire(&mut self, graph: &Graph, rest: &BurnCounts)
+    fn fire(&mut self, graph: &Graph, rest: &Rest)
         requires size { self.old.size ≡ graph.now.size }
-        requires rest { (v : ℕ) →
-            slice_index rest.now.joined v ≡ edges_out graph.now (in_set rest.now.burnt.unburnt) v }
+        requires gains { (v : ℕ) → v < MAX_VERTICES → slice_index_or rest.now.gains v (pos 0)
+            ≡ gain graph.now (indicator (in_set rest.now.set)) v }
+        requires small { (v : ℕ) → unsigned_abs (slice_index_or rest.now.gains v (pos 0)) ≤ 63 }
         requires range { (v : ℕ) → v < graph.now.size → unsigned_abs (at self.old v) ≤ 2 ^ 31 - 64 }
         ensures size { self.new.size ≡ graph.now.size }
-        ensures fires { FiresTo graph.now (indicator (in_set rest.now.burnt.unburnt)) (at self.old)
+        ensures fires { FiresTo graph.now (indicator (in_set rest.now.set)) (at self.old)
             (at self.new) }
     {
         let size = graph.size();
-        let gains = gains_of(graph, rest);
         let mut amounts = self.amounts;
         for v in 0..16 {
-            amounts[v] = with_gain(amounts[v], gains[v]);
+            amounts[v] = with_gain(amounts[v], rest.gains[v]);
         }
         *self = EffectiveDivisor { size, amounts };
     }
@@ -221,8 +227,25 @@ pub(crate) fn seen_by_burning(amounts: &[i32; 16]) -> [u8; 16]
     held
 }
 
+/// A set that burning left, and what each vertex gains if each of the set lends once.
+#[derive(Clone, Copy)]
+struct Rest {
+    set: u16,
+    gains: [i32; 16],
+}
+
+/// The least that each may hold while one vertex is paid back: no debt, and for that vertex any.
+fn floor_off(v: usize) -> [i32; 16]
+    requires { v < MAX_VERTICES }
+    ensures { IsFloorOff v result }
+{
+    let mut floor = [0; 16];
+    floor[v] = i32::MIN;
+    floor
+}
+
 /// What each vertex gains if each vertex that burning left lends once.
-fn gains_of(graph: &Graph, rest: &BurnCounts) -> [i8; 16]
+fn gains_of(graph: &Graph, rest: &BurnCounts) -> [i32; 16]
     requires { (v : ℕ) →
         slice_index rest.now.joined v ≡ edges_out graph.now (in_set rest.now.burnt.unburnt) v }
     ensures gains { (v : ℕ) → v < MAX_VERTICES →
@@ -234,7 +257,7 @@ fn gains_of(graph: &Graph, rest: &BurnCounts) -> [i8; 16]
     let others = outside(rest.burnt.unburnt, u8x16::from_array(*graph.valences())).to_array();
     let mut gains = [0; 16];
     for v in 0..16 {
-        gains[v] = gained(graph, rest, others[v], v);
+        gains[v] = i32::from(gained(graph, rest, others[v], v));
     }
     gains
 }
@@ -262,12 +285,12 @@ fn difference(more: u8, less: u8) -> i8
 }
 
 /// An amount with what is gained.
-fn with_gain(amount: i32, gain: i8) -> i32
+fn with_gain(amount: i32, gain: i32) -> i32
     requires amount { unsigned_abs amount ≤ 2 ^ 31 - 64 }
     requires gain { unsigned_abs gain ≤ 63 }
     ensures { result ≡ amount +ℤ gain }
 {
-    amount + i32::from(gain)
+    amount + gain
 }
 
 /// The numbers of the vertices that are not in a set, 0 at those that are.

@@ -13,12 +13,12 @@ returns-in_default-left_after t c =
     let g = c.args.graph.now in
     let v = c.in-Some.v in
     let taken = c.held_at-held.result + 1 in
-    let below : v < g.size = omega (arith, c.in-Some.ensures.0, c.lacking.invariant.size) in
+    let below : v < g.size = omega (arith, (rw c.in-Some.is at c.lacking.invariant.lack).0, c.lacking.invariant.size) in
     c.lacking.invariant.tells (Some c.with_more.result)
     (loss_beyond g (at c.lacking.best) c.lacking.open c.args.dollars v taken c.with_more.result c.at_last.result below
     (omega (arith, c.lacking.invariant.places, c.size-size.ensures.graph.few))
-    (omega (arith, ints, c.in-Some.ensures.1, c.held_at-held.ensures))
-    (omega (arith, ints, c.in-Some.ensures.1, c.held_at-held.ensures))
+    (omega (arith, ints, (rw c.in-Some.is at c.lacking.invariant.lack).1, c.held_at-held.ensures))
+    (omega (arith, ints, (rw c.in-Some.is at c.lacking.invariant.lack).1, c.held_at-held.ensures))
     (nothing_lost g (less (at c.lacking.best) (only_at v (pos taken)))
     (set c.lacking.open v (slice_index c.lacking.open v - taken)) (c.args.dollars - taken) c.at_last.result
     (c.at_last.ensures.places ∙ c.size-size.ensures.size)
@@ -32,7 +32,7 @@ give-requires-clause-range t c =
     let g = c.args.graph.now in
     let v = c.in-Some.v in
     let form = c.in-Some-left_after.ensures in
-    let below : v < g.size = omega (arith, c.in-Some.ensures.0, c.lacking.invariant.size) in
+    let below : v < g.size = omega (arith, (rw c.in-Some.is at c.lacking.invariant.lack).0, c.lacking.invariant.size) in
     let small : unsigned_abs (at c.in-Some-left_after.other v) ≤ 32000000 =
     rich_small g.size (at c.in-Some-left_after.other) 32000000 v form.effective
     (taken_small g (at c.lacking.best) c.in-Some-left_after.other v (c.held_at-held.result + 1)
@@ -54,6 +54,7 @@ lacking-preserved-then-fewer-lack t c =
       effective = form.effective;
       small = class_small g (at c.lacking.best) c.give.new.self c.size-size.ensures.graph.multigraph
           c.lacking.invariant.small form;
+      lack = c.lack_of-fewer.ensures;
       tells = λ o told. c.lacking.invariant.tells o (box_told o g (at c.lacking.best) (at c.give.new.self) c.lacking.open
           c.args.dollars form.led told);
     }
@@ -61,7 +62,7 @@ lacking-preserved-then-fewer-lack t c =
 pub find_in_box-requires : goal.find_in_box-requires
 find_in_box-requires t c =
     let form = c.in-Some-left_after.ensures in (
-      omega (arith, ints, c.in-Some.ensures.1, c.held_at-held.ensures),
+      omega (arith, ints, (rw c.in-Some.is at c.lacking.invariant.lack).1, c.held_at-held.ensures),
       (
         form.size,
         (
@@ -69,7 +70,7 @@ find_in_box-requires t c =
           (
             taken_small c.args.graph.now (at c.lacking.best) c.in-Some-left_after.other c.in-Some.v
                 (c.held_at-held.result + 1) c.size-size.ensures.graph.multigraph
-                (omega (arith, c.in-Some.ensures.0, c.lacking.invariant.size)) c.lacking.invariant.small form,
+                (omega (arith, (rw c.in-Some.is at c.lacking.invariant.lack).0, c.lacking.invariant.size)) c.lacking.invariant.small form,
             omega (arith, c.requires.few),
           ),
         ),
@@ -83,7 +84,7 @@ with_more-requires-in-Ok-Some-clause-few t c =
     let told = rw c.in-Ok-Some.field-0-is at c.in-Ok-Some.ensures in
     let most = in_few c.args.graph.now.size (c.args.dollars - (held + 1)) v
     (set c.lacking.open v (slice_index c.lacking.open v - (held + 1))) (amounts_of c.in-Ok-Some.trial)
-    told.inside (omega (arith, c.in-Some.ensures.0, c.lacking.invariant.size)) in
+    told.inside (omega (arith, (rw c.in-Some.is at c.lacking.invariant.lack).0, c.lacking.invariant.size)) in
     omega (arith, ints, most, c.requires.few)
 
 pub returns-in-Ok-Some : goal.returns-in-Ok-Some
@@ -91,13 +92,13 @@ returns-in-Ok-Some t c =
     let g = c.args.graph.now in
     let v = c.in-Some.v in
     let taken = c.held_at-held.result + 1 in
-    let below : v < g.size = omega (arith, c.in-Some.ensures.0, c.lacking.invariant.size) in
+    let below : v < g.size = omega (arith, (rw c.in-Some.is at c.lacking.invariant.lack).0, c.lacking.invariant.size) in
     c.lacking.invariant.tells (Some c.with_more-in-Ok-Some.result)
     (loss_beyond g (at c.lacking.best) c.lacking.open c.args.dollars v taken c.with_more-in-Ok-Some.result
     c.in-Ok-Some.trial below
     (omega (arith, c.lacking.invariant.places, c.size-size.ensures.graph.few))
-    (omega (arith, ints, c.in-Some.ensures.1, c.held_at-held.ensures))
-    (omega (arith, ints, c.in-Some.ensures.1, c.held_at-held.ensures))
+    (omega (arith, ints, (rw c.in-Some.is at c.lacking.invariant.lack).1, c.held_at-held.ensures))
+    (omega (arith, ints, (rw c.in-Some.is at c.lacking.invariant.lack).1, c.held_at-held.ensures))
     (box_told (Some c.in-Ok-Some.trial) g (less (at c.lacking.best) (only_at v (pos taken)))
     (at c.in-Some-left_after.other) (set c.lacking.open v (slice_index c.lacking.open v - taken))
     (c.args.dollars - taken) c.in-Some-left_after.ensures.led (rw c.in-Ok-Some.field-0-is at c.in-Ok-Some.ensures))
@@ -115,16 +116,17 @@ lacking-preserved t c =
       size = c.lacking.invariant.size;
       effective = c.lacking.invariant.effective;
       small = c.lacking.invariant.small;
+      lack = c.lack_of-lack-else-fewer-lack.ensures;
       tells = λ o told. c.lacking.invariant.tells o (box_opened o g B open' c.args.dollars v held
-          (omega (arith, c.in-Some.ensures.0, c.lacking.invariant.size))
+          (omega (arith, (rw c.in-Some.is at c.lacking.invariant.lack).0, c.lacking.invariant.size))
           (omega (
             arith,
-            c.in-Some.ensures.0,
+            (rw c.in-Some.is at c.lacking.invariant.lack).0,
             c.lacking.invariant.size,
             c.lacking.invariant.places,
             c.size-size.ensures.graph.few,
           ))
-          (omega (arith, ints, c.in-Some.ensures.1, c.held_at-held.ensures))
+          (omega (arith, ints, (rw c.in-Some.is at c.lacking.invariant.lack).1, c.held_at-held.ensures))
           (box_told None g (less B (only_at v (pos (held + 1)))) (at c.in-Some-left_after.other)
           (set open' v (slice_index open' v - (held + 1))) (c.args.dollars - (held + 1)) c.in-Some-left_after.ensures.led
           (rw c.in-Ok-None.field-0-is at c.in-Ok-None.ensures)) told);
@@ -133,4 +135,4 @@ lacking-preserved t c =
 pub returns : goal.returns
 returns t c =
     c.lacking.invariant.tells None (rich_box c.args.graph.now (at c.lacking.best) c.lacking.open c.args.dollars
-    (λ u low. c.in_default.ensures u (omega (arith, c.lacking.invariant.size))))
+    (λ u low. (rw c.in_default.is at c.lacking.invariant.lack) u (omega (arith, c.lacking.invariant.size))))

@@ -1,11 +1,12 @@
 use Rattle.dg_rank.proofs.Common.{◌≡◌, length, List, Option, MatchOption, ℕ, ◌+◌, ◌*◌, ◌≤ℤ◌, pos, sum, degree, IsEffective, at, BoxWins, IsBoxLoss}
+use Rattle.dg_rank.specs.Boxes.{IsLackIn}
 use Rattle.dg_rank.proofs.boxes.+find_in_box.Given as goal
 
 abbrev pub decreases-find_in_box : goal.decreases-find_in_box
 decreases-find_in_box l = l.dollars
 
 abbrev pub decreases-lacking : goal.decreases-lacking
-decreases-lacking l = sum l.open * 4294967296 + l.lack
+decreases-lacking l = sum l.open * 4294967296 + l.lack.squares
 
 abbrev pub invariant-lacking : goal.invariant-lacking
 invariant-lacking l = record {
@@ -13,6 +14,7 @@ invariant-lacking l = record {
   size : l.best.size ≡ l.graph.size;
   effective : IsEffective l.graph.size (at l.best);
   small : degree l.graph.size (at l.best) ≤ℤ pos 32000000;
+  lack : IsLackIn l.best.size (at l.best) l.open l.dollars l.lack.vertex;
   tells : (o : Option (List ℕ)) →
       MatchOption o (BoxWins l.graph (at l.best) l.open l.dollars) (IsBoxLoss l.graph (at l.best) l.open l.dollars) →
       MatchOption o (BoxWins l.graph (at l.left) l.room l.dollars) (IsBoxLoss l.graph (at l.left) l.room l.dollars);

@@ -8,8 +8,8 @@ past : (c : After-loop-v) (v : ℕ) → c.args.graph.now.size ≤ v → slice_in
 past c v outside =
     let wide : IsWide c.args.self.now = rw c.self.view_is at c.self.invariant in
     let before : at c.args.self.now v ≡ pos 0 = wide.inside v (rw c.requires.size outside) in
-    let none : gain c.args.graph.now (indicator (in_set c.args.rest.now.burnt.unburnt)) v ≡ pos 0 =
-    gain_past c.args.graph.now (in_set c.args.rest.now.burnt.unburnt) v c.size-size.ensures.graph outside in
+    let none : gain c.args.graph.now (indicator (in_set c.args.rest.now.set)) v ≡ pos 0 =
+    gain_past c.args.graph.now (in_set c.args.rest.now.set) v c.size-size.ensures.graph outside in
     ⊎_elim
     (λ (done : v < c.loop-v.v). omega (arith, ints, c.loop-v.invariant.same v done))
     (λ (left : c.loop-v.v ≤ v). c.loop-v.invariant.left v left ∙ before)

@@ -11,8 +11,9 @@ lends c =
     elim c.if-not-can_lend.branch [
       | then-not-can_lend+in-Some-rest w ↦ rw w.rest-is w.in-Some-rest.ensures
       | else-not-can_lend w ↦ rw w.rest-is
-          (rest_again c.args.graph.now c.args.v c.args.self.now c.paying.self c.paying.rest c.paying.invariant.repaying
-          c.paying.invariant.left w.if-not-can_lend.ensures)
+          (rest_again c.args.graph.now c.args.v c.args.self.now c.paying.self c.paying.rest c.floor_off-floor.result
+          c.size-size.ensures.graph c.paying.invariant.repaying c.paying.invariant.left c.floor_off-floor.ensures
+          w.if-not-can_lend.ensures)
     ]
 
 pub returns-in_default : goal.returns-in_default
@@ -39,12 +40,19 @@ fire-requires-clause-range c w inside =
     c.paying.invariant.repaying c.requires.range w inside in
     omega arith
 
+pub can_lend-requires-clause-range : goal.can_lend-requires-clause-range
+can_lend-requires-clause-range c w inside =
+    let small : unsigned_abs (at c.paying.self w) ≤ 17 * 2 ^ 26 =
+    once_limit c.args.graph.now c.args.v c.args.self.now c.paying.self c.size-size.ensures.graph c.requires.vertex
+    c.paying.invariant.repaying c.requires.range w (rw c.paying.invariant.repaying.size at inside) in
+    omega arith
+
 pub paying-smaller : goal.paying-smaller
 paying-smaller c =
     let rest = lends c in
     let (u, member) = rest.member in
     once_falls c.args.graph.now c.args.v
-    (in_set c.if-not-can_lend.rest.burnt.unburnt) c.args.self.now c.paying.self c.fire.new.self u
+    (in_set c.if-not-can_lend.rest.set) c.args.self.now c.paying.self c.fire.new.self u
     c.size-size.ensures.graph c.requires.vertex c.paying.invariant.repaying rest.free member c.fire.ensures.fires
 
 pub paying-preserved : goal.paying-preserved
@@ -52,7 +60,7 @@ paying-preserved c =
     let rest = lends c in
     record {
       repaying = once_more c.args.graph.now c.args.v
-          (in_set c.if-not-can_lend.rest.burnt.unburnt) c.args.self.now c.paying.self c.fire.new.self
+          (in_set c.if-not-can_lend.rest.set) c.args.self.now c.paying.self c.fire.new.self
           c.size-size.ensures.graph c.requires.vertex c.paying.invariant.repaying rest.free c.fire.ensures.size
           c.fire.ensures.fires;
       left = (at c.paying.self, rest);

@@ -36,5 +36,6 @@ returns c =
             reduced_none _ _ _ _ _ order c.burn_counted-counted.ensures.left,
           )
           (omega arith);
-      joined = c.burn_counted-counted.ensures.joined;
+      gains = c.gains_of.ensures.gains;
+      small = c.gains_of.ensures.few;
     }
