@@ -196,7 +196,7 @@ number, `number of amounts`, and `amount of vertex v`, the first out of range,
 from 0.
 
 With --numbers, an answer is 1 or 0 for the rank being at least K or not, and
-the first loss, with NA at each vertex if there is none. A refused line keeps
+the first loss, with NA at each vertex if none is named. A refused line keeps
 its words:
 
     $ dollar rank triangle.json 1 --divisors amounts.txt --numbers

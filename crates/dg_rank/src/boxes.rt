@@ -11,6 +11,7 @@ ghost use Rattle.dg_rank.specs.Boxes.{BoxWins, IsBoxLoss, IsLackIn};
 use crate::enumeration::Trial;
 use dg_graph::Graph;
 use dg_reduce::EffectiveDivisor;
+use std::simd::prelude::*;
 
 /// That a search has ended before it told anything.
 #[derive(Clone, Copy)]
@@ -89,20 +90,18 @@ struct Lack {
 fn lack_of(left: &EffectiveDivisor, room: &[u32; 16], dollars: u32) -> Lack
     requires size { left.now.size ≤ 16 }
     requires effective { IsEffective left.now.size (at left.now) }
-    requires few { dollars ≤ 1000 }
     ensures { IsLackIn left.now.size (at left.now) room.now dollars result.vertex }
 {
-    let mut vertex = None;
-    let mut squares: u32 = 0;
-    let mut most = 0;
-    for v in 0..left.size() {
-        let less = room[v].min(dollars).saturating_sub(held_at(left, v));
-        squares = squares.saturating_add(less * less);
-        if less > most {
-            vertex = Some(v);
-            most = less;
-        }
-    }
+    let lacks = left.lacks(room, dollars);
+    let lanes = u32x16::from_array(lacks);
+    let squares = (lanes * lanes).reduce_sum();
+    let most = lanes.simd_eq(u32x16::splat(lanes.reduce_max()));
+    let v = most.to_bitmask().trailing_zeros() as usize;
+    let vertex = if v < 16 && lacks[v] > 0 {
+        Some(v)
+    } else {
+        lacks.iter().position(|lack| *lack > 0)
+    };
     Lack { vertex, squares }
 }
 
