@@ -5,28 +5,38 @@ from __future__ import annotations
 import functools
 import importlib
 import itertools
-import re
+import sys
 from array import array
-from typing import Any, Callable, Iterable, Iterator, List, NamedTuple, Pattern, Sequence, Tuple
+from typing import Any, Callable, Dict, Iterable, Iterator, List, NamedTuple, Sequence, Tuple
 
 from dollar.answers import RankTest, RiemannRoch, Verdict
 from dollar.table import Table
 from dollar.vertices import Dollars, Vertices
 
-# What stands where there is no number; how many digits a number has at most; how many divisors are written at once; and the numbers that
-# are written by numpy, by the bytes that each takes with what ends it.
-MARK, MOST_DIGITS, BATCH, WRITTEN = b"NA", 18, 1_000, {4: (-99, 999), 8: (-9_999, 9_999)}
+# What stands where there is no number; how many digits always fit; how many texts are kept; how many divisors are written at once; and the
+# numbers that are written by numpy, by the bytes that each takes with what ends it.
+MARK, MOST_DIGITS, MOST_KEPT, BATCH, WRITTEN = b"NA", 18, 1 << 14, 1_000, {4: (-99, 999), 8: (-9_999, 9_999)}
 
 
-@functools.lru_cache(maxsize=64)
-def lines_form(size: int, is_told: bool) -> Pattern[bytes]:
-    """The form of lines of so many numbers, with one space between two; `is_told` if the first is 0 or 1."""
-    number = b"(?:0|-?[1-9][0-9]{0,%d})" % (MOST_DIGITS - 1)
-    return re.compile(b"(?:%b(?: %b){%d}\\n)*" % (b"[01]" if is_told else number, number, size - 1))
+class Packed(Dict[bytes, bytes]):
+    """The bytes of a number in an array, by its text. A text that no number has raises a ValueError or an OverflowError."""
+
+    def __missing__(self, text: bytes) -> bytes:
+        number = int(text)
+        if b"%d" % number != text:
+            raise ValueError("a number has another text")
+        found = number.to_bytes(8, sys.byteorder, signed=True)
+        if len(self) < MOST_KEPT:
+            self[text] = found
+        return found
+
+
+PACKED = Packed()
 
 
 def numbers_of(piece: bytes, size: int, is_told: bool, numpy: Any = None) -> Any:
-    """The numbers of lines of this form, in an array of numpy if that is given, or of the module `array`; or None if a line has another.
+    """The numbers of lines, in an array of numpy if that is given, or of the module `array`; or None if they are no lines of so many
+    numbers, with one space between two, of which the first is 0 or 1 if `is_told`.
 
     >>> numbers_of(b"1 0 -1\\n0 20 0\\n", 3, True)
     array('q', [1, 0, -1, 0, 20, 0])
@@ -35,7 +45,15 @@ def numbers_of(piece: bytes, size: int, is_told: bool, numpy: Any = None) -> Any
     """
     if numpy:
         return numbers_by_numpy(numpy, piece, size, is_told)
-    return array("q", map(int, piece.split())) if lines_form(size, is_told).fullmatch(piece) else None
+    *lines, rest = piece.split(b"\n")
+    if rest or set(map(bytes.count, lines, itertools.repeat(b" "))) != {size - 1}:
+        return None
+    try:
+        # Most numbers are small and come often: to look their texts up is far quicker than to read them again.
+        found = array("q", b"".join(map(PACKED.__getitem__, piece[:-1].replace(b"\n", b" ").split(b" "))))
+    except (ValueError, OverflowError):
+        return None
+    return None if is_told and not set(found[::size]) <= {0, 1} else found
 
 
 def numbers_by_numpy(numpy: Any, piece: bytes, size: int, is_told: bool) -> Any:
@@ -51,8 +69,11 @@ def numbers_by_numpy(numpy: Any, piece: bytes, size: int, is_told: bool) -> Any:
     at += is_less
     lengths, digits = ends - at, text[at] - numpy.uint8(ord("0"))
     values = digits.astype(numpy.int64)
-    if (digits > 9).any() or ((digits == 0) & (is_less | (lengths > 1))).any() or lengths.max() > MOST_DIGITS:
+    if (digits > 9).any() or ((digits == 0) & (is_less | (lengths > 1))).any():
         return None
+    if lengths.max() > MOST_DIGITS:
+        found = numbers_of(piece, size, is_told)
+        return None if found is None else numpy.array(found)
     # The places of those numbers that have one more digit.
     more = numpy.flatnonzero(lengths > 1)
     for place in range(1, int(lengths.max())):

@@ -2,6 +2,8 @@
 
 from __future__ import annotations
 
+import contextlib
+import fcntl
 import itertools
 import json
 import os
@@ -28,7 +30,9 @@ from dollar.readers import (
 from dollar.table import Graph, Table, one_line
 from dollar.vertices import Dollars, Vertices, within
 
-AT_ONCE, PIECE, PATIENCE, SLOW = 1 << 16, 1 << 16, 0.05, 0.001
+AT_ONCE, PIECE, PATIENCE, SLOW = 1 << 16, 1 << 17, 0.05, 0.001
+# How many bytes a wide pipe holds, and what sets that: fcntl has a name for it from Python 3.10 on.
+WIDE, SET_PIPE_SIZE = 1 << 20, 1031
 Found = TypeVar("Found", covariant=True)
 # Columns that may be of two kinds; those that are arrays of numpy; and those of the module `array`.
 Told = TypeVar("Told", bound=Columns, covariant=True)
@@ -61,6 +65,12 @@ class Sweep:
         self.unsent, self.unread = b"", b""
         self.are_all_taken = self.is_slow = False
         self.broken: Optional[BaseException] = None
+
+    def widen(self) -> None:
+        """Has both pipes hold more, so that the program and Python seldom wait for each other. The system may refuse it."""
+        with contextlib.suppress(OSError):
+            for stream in (self.input, self.output):
+                fcntl.fcntl(stream, SET_PIPE_SIZE, WIDE)
 
     def take(self) -> None:
         """Takes tables: as many as are sent at once, or as come in a short time."""
@@ -305,6 +315,7 @@ class Answers(Generic[Found, Told, OfNumpy, OfArray], Iterator[Found]):
         job, columns = self._job, self._columns(self._job.lines.vertices, numpy)
         self.close()
         sweep = Sweep(job.lines.words, job.lines.by_batches, job.program)
+        sweep.widen()
         progress, answered = Progress(job.progress), 0
         try:
             for piece in sweep.pieces():
@@ -312,7 +323,7 @@ class Answers(Generic[Found, Told, OfNumpy, OfArray], Iterator[Found]):
                 while sweep.waiting and sweep.waiting[0] <= answered:
                     answered -= sweep.waiting.popleft()
                 progress.add(columns._add(piece))
-            progress.add(columns._done())
+            columns._done()
             sweep.end(columns.count)
             if answered:
                 raise Fault("more answers came than tables were sent", 0)
