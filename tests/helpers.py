@@ -5,6 +5,7 @@ import importlib
 import os
 import subprocess
 import tempfile
+import time
 import unittest
 from pathlib import Path
 
@@ -12,6 +13,8 @@ import dollar
 
 ROOT = Path(__file__).resolve().parents[1]
 EXAMPLES, PACKAGE = ROOT / "examples", ROOT / "python"
+# How many seconds a thing may take that comes, if the machine does not hang.
+HUNG = 600
 
 
 def program():
@@ -25,6 +28,14 @@ def needed(name):
         return importlib.import_module(name)
     except ImportError:
         raise unittest.SkipTest("the tests with %s, which this Python does not have" % name) from None
+
+
+def wait_until(holds, what="what is waited for"):
+    """Waits until something holds."""
+    end = time.monotonic() + HUNG
+    while not holds():
+        assert time.monotonic() < end, "%s did not come in %d seconds" % (what, HUNG)
+        time.sleep(0.01)
 
 
 def each(cases):

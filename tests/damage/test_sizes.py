@@ -8,6 +8,7 @@ import subprocess
 from runs import SEED, TRIANGLE, WON, Run, checked, refused
 from dollar import answer, flaw
 from dollar.grammar import limit
+from helpers import HUNG
 
 DRAW = random.Random(SEED)
 print(f"SEED={SEED}")
@@ -180,7 +181,7 @@ def texts(checks):
         more = -more if abs(amount + more) > 1000000 else more
         amount += more
         child.stdin.write(b"gift a %d\n" % more)
-        came = child.stdout.readline() if select.select([child.stdout], [], [], 10)[0] else b"nothing"
+        came = child.stdout.readline() if select.select([child.stdout], [], [], HUNG)[0] else b"nothing"
         checks.same("the answer to gift %d" % gifts, b"%d given %d a=%d b=-1 c=-1\n" % (gifts - 1, gifts, amount), came)
         lengths.add(len(came))
     child.stdin.close()

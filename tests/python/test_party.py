@@ -7,7 +7,7 @@ import random
 import re
 import subprocess
 
-from helpers import Test, program
+from helpers import HUNG, Test, program
 from model import Session, entries
 
 SEATS, LINES = 64, 1024
@@ -79,7 +79,7 @@ class OfAParty(Test):
         return place
 
     def run_program(self, *words, typed=b""):
-        done = subprocess.run([program(), *words], input=typed, stdout=subprocess.PIPE, stderr=subprocess.PIPE, timeout=600)
+        done = subprocess.run([program(), *words], input=typed, stdout=subprocess.PIPE, stderr=subprocess.PIPE, timeout=HUNG)
         self.assertEqual((done.returncode, done.stderr), (0, b""))
         return done.stdout.decode("latin-1").split("\n")
 
