@@ -15,13 +15,8 @@ from dollar.as_json import read
 from dollar.grammar import GRAMMAR
 from helpers import EXAMPLES, HUNG, PACKAGE, Test, each, program, sample, wait_until
 from model import Session as Model, some_command
+from test_session import TABLE
 
-TABLE = {
-    "vertices": ["a", "b", "c", "d"],
-    "edges": [["a", "b", 1], ["b", "c", 2], ["c", "d", 1], ["a", "d", 1]],
-    "amounts": [-3, 5, 0, -1],
-    "q": "a",
-}
 PLAYER = """
 import sys
 import dollar

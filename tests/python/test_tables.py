@@ -129,14 +129,6 @@ class OfTables(Test):
         named = Table(grid, {(0, 1): 4, "r0c0": -1}, (0, 1), names=lambda vertex: "r%dc%d" % vertex)
         self.assertEqual((named.divisor, named.q, named.names), ({(0, 0): -1, (0, 1): 4}, (0, 1), ("r0c0", "r0c1")))
 
-    def test_an_answer_can_be_handed_back(self):
-        networkx = needed("networkx")
-        graph = networkx.cycle_graph(4)
-        verdict = dollar.judge(Table(graph, {0: -2, 1: 0, 2: 3, 3: 0}))
-        # Degree 1 before, and so after.
-        self.assertEqual(sum(Table(graph, verdict.reduced).amounts), 1)
-        self.assertEqual(dollar.judge(Table(graph, verdict.reduced)).reduced, verdict.reduced)
-
     @each(REFUSED)
     def test_refused(self, call, error, text):
         with self.assertRaisesRegex(error, text):
@@ -158,11 +150,6 @@ class OfTables(Test):
         # A float of numpy's that is one of Python's goes as it is, and is refused by the program.
         row, = dollar.judge_all([dict(given, amounts=[numpy.float64(2.0), 0])])
         self.assertEqual(row.refused, "shape of amounts")
-
-    def test_frames_of_pandas(self):
-        pandas = needed("pandas")
-        frame = pandas.DataFrame([[0, 2], [2, 0]])
-        self.assertEqual(Table(frame, pandas.Series({"1": -1, "0": 3})), Table([[0, 2], [2, 0]], [3, -1]))
 
     def test_pictures_stand_as_they_are_told(self):
         cube = dollar.example("cube")
