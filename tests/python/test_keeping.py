@@ -114,6 +114,7 @@ class OfKeptGames(Test):
             for _ in range(100):
                 session.ask("claim")
         self.assertEqual((caught.exception.status, caught.exception.answers), (-signal.SIGTERM, session.answers))
+        self.assertEqual(session.close(), (-signal.SIGTERM, ""))
 
 
 class OfEntries(Test):

@@ -145,15 +145,6 @@ class OfSessions(Test):
         with self.assertRaisesRegex(Ended, "status 0"):
             session.ask("claim")
 
-    def test_a_killed_program_is_told(self):
-        session = Session(TABLE)
-        session.ask("look")
-        session.child.kill()
-        with self.assertRaises(Ended):
-            for _ in range(100):
-                session.ask("look")
-        self.assertEqual(session.close(), (-signal.SIGKILL, ""))
-
     def test_a_silent_program_is_killed(self):
         session = Session(TABLE, patience=0.2, program=self.script("#!/bin/sh\nexec sleep %d\n" % HUNG))
         with self.assertRaisesRegex(TimeoutError, "nothing for 0.2 seconds"):
