@@ -319,10 +319,11 @@ class Answers(Generic[Found, Told, OfNumpy, OfArray], Iterator[Found]):
         progress, answered = Progress(job.progress), 0
         try:
             for piece in sweep.pieces():
-                answered += piece.count(b"\n")
+                count = columns._add(piece)
+                progress.add(count)
+                answered += count
                 while sweep.waiting and sweep.waiting[0] <= answered:
                     answered -= sweep.waiting.popleft()
-                progress.add(columns._add(piece))
             columns._done()
             sweep.end(columns.count)
             if answered:

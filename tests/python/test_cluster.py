@@ -190,7 +190,8 @@ class OfAClusterOfTwo(Test):
         address = next(found[0] for found in (re.search(r"tcp://\S+:\d+", line) for line in scheduler.stderr) if found)
         child = subprocess.Popen([sys.executable, "-m", "dollar", "sweep", "--scheduler", address, "judge", self.file, self.place / "gone.csv"],
                                  stderr=subprocess.PIPE, text=True, env=dict(os.environ, DOLLAR=program()))
-        self.assertIn("Client", next(line for line in scheduler.stderr if "Client" in line))
+        with needed("distributed").Client(address) as client:
+            wait_until(lambda: client.run_on_scheduler(lambda dask_scheduler: len(dask_scheduler.tasks)))
         scheduler.kill()
         said = child.communicate(timeout=HUNG)[1]
         self.assertEqual((said, child.returncode),
