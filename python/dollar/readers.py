@@ -62,27 +62,30 @@ def numbers_by_numpy(numpy: Any, piece: bytes, size: int, is_told: bool) -> Any:
     ends = numpy.flatnonzero(text <= ord(" "))
     if len(ends) % size or not len(ends) or ends[-1] != len(text) - 1:
         return None
-    if (text[ends].reshape(-1, size) != numpy.frombuffer(b" " * (size - 1) + b"\n", dtype=numpy.uint8)).any():
+    if (text.take(ends).reshape(-1, size) != numpy.frombuffer(b" " * (size - 1) + b"\n", dtype=numpy.uint8)).any():
         return None
     at = numpy.concatenate(([0], ends[:-1] + 1))
-    is_less = text[at] == ord("-")
-    at += is_less
-    lengths, digits = ends - at, text[at] - numpy.uint8(ord("0"))
-    values = digits.astype(numpy.int64)
-    if (digits > 9).any() or ((digits == 0) & (is_less | (lengths > 1))).any():
+    digits = text.take(at)
+    less = numpy.flatnonzero(digits == ord("-"))
+    at[less] += 1
+    digits[less] = text.take(at[less])
+    digits -= numpy.uint8(ord("0"))
+    lengths = ends - at
+    # The places of those numbers that have one more digit.
+    more = numpy.flatnonzero(lengths > 1)
+    if (digits > 9).any() or not digits[less].all() or not digits[more].all():
         return None
     if lengths.max() > MOST_DIGITS:
         found = numbers_of(piece, size, is_told)
         return None if found is None else numpy.array(found)
-    # The places of those numbers that have one more digit.
-    more = numpy.flatnonzero(lengths > 1)
+    values = digits.astype(numpy.int64)
     for place in range(1, int(lengths.max())):
         more = more[lengths[more] > place]
-        digits = text[at[more] + place] - numpy.uint8(ord("0"))
+        digits = text.take(at[more] + place) - numpy.uint8(ord("0"))
         if (digits > 9).any():
             return None
         values[more] = values[more] * 10 + digits
-    numpy.negative(values, out=values, where=is_less)
+    values[less] *= -1
     return None if is_told and ((values[::size] < 0) | (values[::size] > 1)).any() else values
 
 
