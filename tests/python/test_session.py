@@ -130,7 +130,7 @@ class OfSessions(Test):
                 session.ask("claim")
         # A line as bytes is sent as it is; one that is too long ends the session.
         session = Session(EXAMPLES / "triangle.json")
-        self.assertEqual(session.ask_bytes(b"x" * 1024), ("bad word",))
+        self.assertEqual(session.ask_bytes(b"x" * 1024), "bad word")
         with self.assertRaisesRegex(Ended, "^the session has ended with status 3: long line$"):
             session.ask_bytes(b"x" * 1025)
         # With a session that is refused from the start, the end of `with` tells it.
@@ -149,6 +149,8 @@ class OfSessions(Test):
         session = Session(TABLE, patience=0.2, program=self.script("#!/bin/sh\nexec sleep %d\n" % HUNG))
         with self.assertRaisesRegex(TimeoutError, "nothing for 0.2 seconds"):
             session.ask("look")
+        # To be killed may take longer than its patience.
+        wait_until(lambda: session.ended is not None)
         self.assertEqual(session.close(), (-signal.SIGKILL, "nothing for 0.2 seconds, after which it was killed"))
 
     def test_what_is_no_line(self):
