@@ -48,18 +48,18 @@ class Columns(Dict[str, Any]):
         if found is None:
             raise self._wrong(piece)
         self._parts.append(found)
-        count = len(found) // self._form.size
-        self.count += count
-        return count
+        self.count += len(found[0])
+        return len(found[0])
 
     def _done(self) -> None:
-        """Makes columns of all numbers."""
+        """Joins the columns of all parts."""
         if self._numpy:
-            numbers = self._numpy.concatenate(self._parts or [self._numpy.zeros(0, dtype=self._numpy.int64)])
+            none = self._numpy.zeros((0, self._form.size), dtype=self._numpy.int64).T
+            columns = list(self._numpy.concatenate([none, *self._parts], axis=1))
         else:
-            numbers = array("q", b"".join(self._parts))
+            columns = [array("q", b"".join(parts)) for parts in zip([b""] * self._form.size, *self._parts)]
         self._parts = []
-        self._name([numbers[place::self._form.size] for place in range(self._form.size)])
+        self._name(columns)
 
     def _name(self, columns: List[Any]) -> None:
         """Takes the columns, which have their names from here on."""

@@ -35,11 +35,11 @@ PACKED = Packed()
 
 
 def numbers_of(piece: bytes, size: int, is_told: bool, numpy: Any = None) -> Any:
-    """The numbers of lines, in an array of numpy if that is given, or of the module `array`; or None if they are no lines of so many
-    numbers, with one space between two, of which the first is 0 or 1 if `is_told`.
+    """The numbers of lines in columns, which are arrays of numpy if that is given, or of the module `array`; or None if they are no lines
+    of so many numbers, with one space between two, of which the first is 0 or 1 if `is_told`.
 
     >>> numbers_of(b"1 0 -1\\n0 20 0\\n", 3, True)
-    array('q', [1, 0, -1, 0, 20, 0])
+    [array('q', [1, 0]), array('q', [0, 20]), array('q', [-1, 0])]
     >>> numbers_of(b"1 0 -01\\n", 3, True), numbers_of(b"2 0 0\\n", 3, True), numbers_of(b"1 0\\n", 3, True)
     (None, None, None)
     """
@@ -50,10 +50,11 @@ def numbers_of(piece: bytes, size: int, is_told: bool, numpy: Any = None) -> Any
         return None
     try:
         # Most numbers are small and come often: to look their texts up is far quicker than to read them again.
-        found = array("q", b"".join(map(PACKED.__getitem__, piece[:-1].replace(b"\n", b" ").split(b" "))))
+        packed = list(map(PACKED.__getitem__, piece[:-1].replace(b"\n", b" ").split(b" ")))
     except (ValueError, OverflowError):
         return None
-    return None if is_told and not set(found[::size]) <= {0, 1} else found
+    found = [array("q", b"".join(packed[place::size])) for place in range(size)]
+    return None if is_told and not set(found[0]) <= {0, 1} else found
 
 
 def numbers_by_numpy(numpy: Any, piece: bytes, size: int, is_told: bool) -> Any:
@@ -76,8 +77,8 @@ def numbers_by_numpy(numpy: Any, piece: bytes, size: int, is_told: bool) -> Any:
     if (digits > 9).any() or not digits[less].all() or not digits[more].all():
         return None
     if lengths.max() > MOST_DIGITS:
-        found = numbers_of(piece, size, is_told)
-        return None if found is None else numpy.array(found)
+        columns = numbers_of(piece, size, is_told)
+        return None if columns is None else numpy.array(columns)
     values = digits.astype(numpy.int64)
     for place in range(1, int(lengths.max())):
         more = more[lengths[more] > place]
@@ -86,14 +87,20 @@ def numbers_by_numpy(numpy: Any, piece: bytes, size: int, is_told: bool) -> Any:
             return None
         values[more] = values[more] * 10 + digits
     values[less] *= -1
-    return None if is_told and ((values[::size] < 0) | (values[::size] > 1)).any() else values
+    found = values.reshape(-1, size).T
+    return None if is_told and ((found[0] < 0) | (found[0] > 1)).any() else found
 
 
 def tests_of(piece: bytes, size: int, numpy: Any = None) -> Any:
     """The same of rank tests: one that holds has 0 in the place of each mark."""
     good, zeros = b"1" + (b" " + MARK) * (size - 1) + b"\n", b"1" + b" 0" * (size - 1) + b"\n"
     found = numbers_of(piece.replace(good, zeros), size, True, numpy)
-    return found if found is not None and sum(found[::size].tolist()) == piece.count(good) else None
+    return found if found is not None and sum(found[0].tolist()) == piece.count(good) else None
+
+
+def lines_in(columns: Any) -> Iterator[Tuple[int, ...]]:
+    """The numbers of each line, of those of lines in columns."""
+    return zip(*(column.tolist() for column in columns))
 
 
 class Form(NamedTuple):
@@ -101,7 +108,7 @@ class Form(NamedTuple):
 
     size: int
     read: Callable[[bytes, Any], Any]
-    made: Callable[[List[int], Any], Any]
+    made: Callable[[Sequence[int], Any], Any]
 
 
 def made(kind: Any, kept: Any, **parts: Any) -> Any:

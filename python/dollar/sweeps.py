@@ -26,11 +26,11 @@ from dollar.columns import (
 from dollar.commands import MOST_DEGREE, TOO_MANY, beside, option
 from dollar.program import Fault, Place, command_line, ended_by, fault_of
 from dollar.readers import (
-    Form, divisors_by_batches, divisors_one_by_one, numpy_or_none, ordered, rank_test_form, riemann_roch_form, rows_of, verdict_form)
+    Form, divisors_by_batches, divisors_one_by_one, lines_in, numpy_or_none, ordered, rank_test_form, riemann_roch_form, rows_of, verdict_form)
 from dollar.table import Graph, Table, one_line
 from dollar.vertices import Dollars, Vertices, within
 
-AT_ONCE, PIECE, PATIENCE, SLOW = 1 << 16, 1 << 17, 0.05, 0.001
+AT_ONCE, PIECE, PATIENCE, SLOW = 1 << 16, 1 << 16, 0.05, 0.001
 # How many bytes a wide pipe holds, and what sets that: fcntl has a name for it from Python 3.10 on.
 WIDE, SET_PIPE_SIZE = 1 << 20, 1031
 Found = TypeVar("Found", covariant=True)
@@ -205,8 +205,8 @@ class Job(NamedTuple):
         """The answers of some lines, of which the first has this number."""
         found = self.one and self.one.read(piece, sys.modules.get("numpy"))
         if self.one is not None and found is not None:
-            numbers, size, made = found.tolist(), self.one.size, self.one.made
-            return (made(numbers[at:at + size], take()) for at in range(0, len(numbers), size))
+            made = self.one.made
+            return (made(numbers, take()) for numbers in lines_in(found))
         texts = piece.decode().split("\n")[:-1]
         return (self.answer(text, place, take()) for place, text in enumerate(texts, number))
 
@@ -229,10 +229,10 @@ class Job(NamedTuple):
         found = form.read(text.encode() + b"\n", None)
         if found is None and self.refused is RefusedRankTest and text == "0" + " NA" * (form.size - 1):
             # The rank is below the degree, and no loss is named.
-            found = array("q", [0])
+            found = [array("q", [0])]
         if found is None:
             raise no_answer(text)
-        return form.made(found.tolist(), kept)
+        return form.made(next(lines_in(found)), kept)
 
 
 def answers_one_by_one(job: Job, number: int, over: List[bool]) -> Iterator[Any]:

@@ -177,9 +177,8 @@ class OfColumns(Test):
                 self.assertEqual(one is None, other is None, piece)
                 taken[one is None] += 1
                 if one is not None:
-                    self.assertEqual(list(one), other.tolist())
-                    said = b"".join(b"%d %d %d %d\n" % tuple(one[at:at + 4]) for at in range(0, len(one), 4))
-                    self.assertEqual(said, piece.replace(lines[2], b"1 0 0 0\n"))
+                    self.assertEqual(list(map(list, one)), other.tolist())
+                    self.assertEqual(b"".join(b"%d %d %d %d\n" % numbers for numbers in zip(*one)), piece.replace(lines[2], b"1 0 0 0\n"))
         self.assertGreater(min(taken), 1_000)
 
 
