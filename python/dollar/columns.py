@@ -54,7 +54,7 @@ class Columns(Dict[str, Any]):
     def _done(self) -> None:
         """Joins the columns of all parts."""
         if self._numpy:
-            none = self._numpy.zeros((0, self._form.size), dtype=self._numpy.int64).T
+            none = self._numpy.zeros((self._form.size, 0), dtype=self._numpy.int64)
             columns = list(self._numpy.concatenate([none, *self._parts], axis=1))
         else:
             columns = [array("q", b"".join(parts)) for parts in zip([b""] * self._form.size, *self._parts)]
