@@ -7,7 +7,7 @@ import importlib
 import itertools
 import sys
 from array import array
-from typing import Any, Callable, Dict, Iterable, Iterator, List, NamedTuple, Sequence, Tuple
+from typing import Any, Callable, Dict, Iterable, Iterator, NamedTuple, Sequence, Tuple
 
 from dollar.answers import RankTest, RiemannRoch, Verdict
 from dollar.table import Table
