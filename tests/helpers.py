@@ -1,10 +1,14 @@
 """What tests share: the folders of the clone, the program that is tried, and small helpers beside unittest."""
 import contextlib
 import functools
+import glob
 import importlib
 import os
+import shutil
 import subprocess
+import sys
 import tempfile
+import time
 import unittest
 from pathlib import Path
 
@@ -12,11 +16,27 @@ import dollar
 
 ROOT = Path(__file__).resolve().parents[1]
 EXAMPLES, PACKAGE = ROOT / "examples", ROOT / "python"
+# How many seconds a thing may take that comes, if the machine does not hang.
+HUNG = 600
 
 
 def program():
     """The program that is tried: the one that the variable DOLLAR names, or the one of this clone."""
     return dollar.find_program()
+
+
+def pythons():
+    """The Pythons that are here and that serve, those of pyenv among them, by their versions."""
+    found = {}
+    kept = os.path.join(os.environ.get("PYENV_ROOT", os.path.expanduser("~/.pyenv")), "versions", "*", "bin", "python3")
+    for name in [sys.executable, *("python3.%d" % minor for minor in range(9, 14)), *sorted(glob.glob(kept)), "/usr/bin/python3"]:
+        if shutil.which(name):
+            said = subprocess.run([name, "-c", "import sys; print(*sys.version_info[:2])"], stdout=subprocess.PIPE, stderr=subprocess.DEVNULL,
+                                  text=True).stdout
+            version = tuple(map(int, said.split()))
+            if version >= (3, 9):
+                found.setdefault(version, name)
+    return found
 
 
 def needed(name):
@@ -25,6 +45,14 @@ def needed(name):
         return importlib.import_module(name)
     except ImportError:
         raise unittest.SkipTest("the tests with %s, which this Python does not have" % name) from None
+
+
+def wait_until(holds, what="what is waited for"):
+    """Waits until something holds."""
+    end = time.monotonic() + HUNG
+    while not holds():
+        assert time.monotonic() < end, "%s did not come in %d seconds" % (what, HUNG)
+        time.sleep(0.01)
 
 
 def each(cases):

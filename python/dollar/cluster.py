@@ -173,6 +173,14 @@ def chunks(lines: Iterator[Tuple[bytes, int]], pace: Pace) -> Iterator[List[Tupl
         yield chunk
 
 
+def threads_of(client: Any) -> int:
+    """How many threads the workers have. A scheduler that can't be asked any more is gone."""
+    try:
+        return sum(client.nthreads().values())
+    except OSError:
+        raise ValueError(GONE) from None
+
+
 def result_of(client: Any, future: Any) -> Any:
     """What comes of a run. If there is no worker, that is told, and one is waited for."""
     is_told = False
@@ -180,7 +188,7 @@ def result_of(client: Any, future: Any) -> Any:
         try:
             return future.result(timeout=PATIENCE)
         except (TimeoutError, asyncio.TimeoutError, concurrent.futures.TimeoutError):
-            if not is_told and not client.nthreads():
+            if not is_told and not threads_of(client):
                 is_told = True
                 print("%s: the scheduler has no worker, and one is waited for: `dask worker ADDRESS` begins one" % typed("sweep"), file=sys.stderr)
         except (concurrent.futures.CancelledError, asyncio.CancelledError):
@@ -205,7 +213,7 @@ def rows(client: Any, sweep: Sweep, lines: Iterator[Tuple[bytes, int]], pace: Pa
     for chunk in chunks(lines, pace):
         sent = b"".join(line for line, _ in chunk)
         under_way.append((chunk, client.submit(answered, sweep.words, sent, sweep.program, pure=False, retries=3)))
-        while under_way and (len(under_way) >= 4 * max(sum(client.nthreads().values()), 1) or under_way[0][1].done()):
+        while under_way and (len(under_way) >= 4 * max(threads_of(client), 1) or under_way[0][1].done()):
             yield from first()
     while under_way:
         yield from first()

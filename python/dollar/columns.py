@@ -27,8 +27,6 @@ Ints = TypeVar("Ints")
 Truths = TypeVar("Truths")
 AnyInts = Union[NumpyInts, ArrayInts]
 AnyTruths = Union[NumpyTruths, ArrayInts]
-# How many bytes are looked at together.
-AT_ONCE = 1 << 17
 
 
 class Columns(Dict[str, Any]):
@@ -38,44 +36,30 @@ class Columns(Dict[str, Any]):
     def __init__(self, form: Form, numpy: Any) -> None:
         """Columns of the numbers of such lines, as arrays of numpy if that is given."""
         super().__init__()
-        self._form, self._numpy = form, numpy
-        self.count = self._unread_size = 0
-        self._unread: List[bytes] = []
+        self._form, self._numpy, self.count = form, numpy, 0
         self._parts: List[Any] = []
 
     def __repr__(self) -> str:
         return "<%s: %d answers, with %s>" % (type(self).__name__, self.count, ", ".join(self))
 
     def _add(self, piece: bytes) -> int:
-        """Buffers lines, and reads all of them once they are AT_ONCE bytes. Returns how many it read."""
-        self._unread.append(piece)
-        self._unread_size += len(piece)
-        return self._flush() if self._unread_size >= AT_ONCE else 0
-
-    def _flush(self) -> int:
-        """Reads the lines that were taken, and tells how many they were."""
-        piece = b"".join(self._unread)
-        self._unread, self._unread_size = [], 0
-        if not piece:
-            return 0
+        """Takes the numbers of some lines, and tells how many lines they are."""
         found = self._form.read(piece, self._numpy)
         if found is None:
             raise self._wrong(piece)
         self._parts.append(found)
-        count = len(found) // self._form.size
-        self.count += count
-        return count
+        self.count += len(found[0])
+        return len(found[0])
 
-    def _done(self) -> int:
-        """Reads the last lines, and tells how many they were; and joins all that were read."""
-        count = self._flush()
+    def _done(self) -> None:
+        """Joins the columns of all parts."""
         if self._numpy:
-            numbers = self._numpy.concatenate(self._parts or [self._numpy.zeros(0, dtype=self._numpy.int64)])
+            none = self._numpy.zeros((self._form.size, 0), dtype=self._numpy.int64)
+            columns = list(self._numpy.concatenate([none, *self._parts], axis=1))
         else:
-            numbers = array("q", b"".join(map(bytes, self._parts)))
+            columns = [array("q", b"".join(parts)) for parts in zip([b""] * self._form.size, *self._parts)]
         self._parts = []
-        self._name([numbers[place::self._form.size] for place in range(self._form.size)])
-        return count
+        self._name(columns)
 
     def _name(self, columns: List[Any]) -> None:
         """Takes the columns, which have their names from here on."""

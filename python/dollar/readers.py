@@ -5,37 +5,56 @@ from __future__ import annotations
 import functools
 import importlib
 import itertools
-import re
+import sys
 from array import array
-from typing import Any, Callable, Iterable, Iterator, List, NamedTuple, Pattern, Sequence, Tuple
+from typing import Any, Callable, Dict, Iterable, Iterator, NamedTuple, Sequence, Tuple
 
 from dollar.answers import RankTest, RiemannRoch, Verdict
 from dollar.table import Table
 from dollar.vertices import Dollars, Vertices
 
-# What stands where there is no number; how many digits a number has at most; how many divisors are written at once; and the numbers that
-# are written by numpy, by the bytes that each takes with what ends it.
-MARK, MOST_DIGITS, BATCH, WRITTEN = b"NA", 18, 1_000, {4: (-99, 999), 8: (-9_999, 9_999)}
+# What stands where there is no number; how many digits always fit; how many texts are kept; how many divisors are written at once; and the
+# numbers that are written by numpy, by the bytes that each takes with what ends it.
+MARK, MOST_DIGITS, MOST_KEPT, BATCH, WRITTEN = b"NA", 18, 1 << 14, 1_000, {4: (-99, 999), 8: (-9_999, 9_999)}
 
 
-@functools.lru_cache(maxsize=64)
-def lines_form(size: int, is_told: bool) -> Pattern[bytes]:
-    """The form of lines of so many numbers, with one space between two; `is_told` if the first is 0 or 1."""
-    number = b"(?:0|-?[1-9][0-9]{0,%d})" % (MOST_DIGITS - 1)
-    return re.compile(b"(?:%b(?: %b){%d}\\n)*" % (b"[01]" if is_told else number, number, size - 1))
+class Packed(Dict[bytes, bytes]):
+    """The bytes of a number in an array, by its text. A text that no number has raises a ValueError or an OverflowError."""
+
+    def __missing__(self, text: bytes) -> bytes:
+        number = int(text)
+        if b"%d" % number != text:
+            raise ValueError("a number has another text")
+        found = number.to_bytes(8, sys.byteorder, signed=True)
+        if len(self) < MOST_KEPT:
+            self[text] = found
+        return found
+
+
+PACKED = Packed()
 
 
 def numbers_of(piece: bytes, size: int, is_told: bool, numpy: Any = None) -> Any:
-    """The numbers of lines of this form, in an array of numpy if that is given, or of the module `array`; or None if a line has another.
+    """The numbers of lines in columns, which are arrays of numpy if that is given, or of the module `array`; or None if they are no lines
+    of so many numbers, with one space between two, of which the first is 0 or 1 if `is_told`.
 
     >>> numbers_of(b"1 0 -1\\n0 20 0\\n", 3, True)
-    array('q', [1, 0, -1, 0, 20, 0])
+    [array('q', [1, 0]), array('q', [0, 20]), array('q', [-1, 0])]
     >>> numbers_of(b"1 0 -01\\n", 3, True), numbers_of(b"2 0 0\\n", 3, True), numbers_of(b"1 0\\n", 3, True)
     (None, None, None)
     """
     if numpy:
         return numbers_by_numpy(numpy, piece, size, is_told)
-    return array("q", map(int, piece.split())) if lines_form(size, is_told).fullmatch(piece) else None
+    *lines, rest = piece.split(b"\n")
+    if rest or set(map(bytes.count, lines, itertools.repeat(b" "))) != {size - 1}:
+        return None
+    try:
+        # Most numbers are small and come often: to look their texts up is far quicker than to read them again.
+        packed = list(map(PACKED.__getitem__, piece[:-1].replace(b"\n", b" ").split(b" ")))
+    except (ValueError, OverflowError):
+        return None
+    found = [array("q", b"".join(packed[place::size])) for place in range(size)]
+    return None if is_told and not set(found[0]) <= {0, 1} else found
 
 
 def numbers_by_numpy(numpy: Any, piece: bytes, size: int, is_told: bool) -> Any:
@@ -44,32 +63,44 @@ def numbers_by_numpy(numpy: Any, piece: bytes, size: int, is_told: bool) -> Any:
     ends = numpy.flatnonzero(text <= ord(" "))
     if len(ends) % size or not len(ends) or ends[-1] != len(text) - 1:
         return None
-    if (text[ends].reshape(-1, size) != numpy.frombuffer(b" " * (size - 1) + b"\n", dtype=numpy.uint8)).any():
+    if (text.take(ends).reshape(-1, size) != numpy.frombuffer(b" " * (size - 1) + b"\n", dtype=numpy.uint8)).any():
         return None
     at = numpy.concatenate(([0], ends[:-1] + 1))
-    is_less = text[at] == ord("-")
-    at += is_less
-    lengths, digits = ends - at, text[at] - numpy.uint8(ord("0"))
-    values = digits.astype(numpy.int64)
-    if (digits > 9).any() or ((digits == 0) & (is_less | (lengths > 1))).any() or lengths.max() > MOST_DIGITS:
-        return None
+    digits = text.take(at)
+    less = numpy.flatnonzero(digits == ord("-"))
+    at[less] += 1
+    digits[less] = text.take(at[less])
+    digits -= numpy.uint8(ord("0"))
+    lengths = ends - at
     # The places of those numbers that have one more digit.
     more = numpy.flatnonzero(lengths > 1)
+    if (digits > 9).any() or not digits[less].all() or not digits[more].all():
+        return None
+    if lengths.max() > MOST_DIGITS:
+        columns = numbers_of(piece, size, is_told)
+        return None if columns is None else numpy.array(columns)
+    values = digits.astype(numpy.int64)
     for place in range(1, int(lengths.max())):
         more = more[lengths[more] > place]
-        digits = text[at[more] + place] - numpy.uint8(ord("0"))
+        digits = text.take(at[more] + place) - numpy.uint8(ord("0"))
         if (digits > 9).any():
             return None
         values[more] = values[more] * 10 + digits
-    numpy.negative(values, out=values, where=is_less)
-    return None if is_told and ((values[::size] < 0) | (values[::size] > 1)).any() else values
+    values[less] *= -1
+    found = values.reshape(-1, size).T
+    return None if is_told and ((found[0] < 0) | (found[0] > 1)).any() else found
 
 
 def tests_of(piece: bytes, size: int, numpy: Any = None) -> Any:
     """The same of rank tests: one that holds has 0 in the place of each mark."""
     good, zeros = b"1" + (b" " + MARK) * (size - 1) + b"\n", b"1" + b" 0" * (size - 1) + b"\n"
     found = numbers_of(piece.replace(good, zeros), size, True, numpy)
-    return found if found is not None and sum(found[::size].tolist()) == piece.count(good) else None
+    return found if found is not None and sum(found[0].tolist()) == piece.count(good) else None
+
+
+def lines_in(columns: Any) -> Iterator[Tuple[int, ...]]:
+    """The numbers of each line, of those of lines in columns."""
+    return zip(*(column.tolist() for column in columns))
 
 
 class Form(NamedTuple):
@@ -77,7 +108,7 @@ class Form(NamedTuple):
 
     size: int
     read: Callable[[bytes, Any], Any]
-    made: Callable[[List[int], Any], Any]
+    made: Callable[[Sequence[int], Any], Any]
 
 
 def made(kind: Any, kept: Any, **parts: Any) -> Any:

@@ -200,7 +200,7 @@ class Session:
         for at in range(0, len(keeping.pairs), AT_ONCE):
             pairs = keeping.pairs[at:at + AT_ONCE]
             found = self._in_time(functools.partial(self._exchange_all, [line for line, _ in pairs]))
-            if found != [answer for _, answer in pairs]:
+            if found != [answer + b"\n" for _, answer in pairs]:
                 raise ValueError("%s keeps a game that this program and table do not have" % os.fspath(keeping.place))
             for line, text in pairs:
                 self.answers += 1
@@ -261,13 +261,7 @@ class Session:
     def _exchange(self, line: bytes) -> bytes:
         if self.ended is not None:
             return b""
-        assert self.child.stdin is not None and self.child.stdout is not None
-        try:
-            self.child.stdin.write(line + b"\n")
-            self.child.stdin.flush()
-        except OSError:
-            pass  # It has ended: there is no answer to be read, and standard error says why.
-        answer = self.child.stdout.readline()
+        answer, = self._exchange_all([line])
         if self.keeping is not None and answer[:1].isdigit() and answer.endswith(b"\n"):
             try:
                 self.keeping.add(line, answer)
@@ -278,14 +272,14 @@ class Session:
         return answer
 
     def _exchange_all(self, lines: List[bytes]) -> List[bytes]:
-        """The answers to some lines, which fit a pipe."""
+        """The answers to some lines, which fit a pipe, each with its end."""
         assert self.child.stdin is not None and self.child.stdout is not None
         try:
             self.child.stdin.write(b"".join(line + b"\n" for line in lines))
             self.child.stdin.flush()
         except OSError:
-            pass
-        return [self.child.stdout.readline().rstrip(b"\n") for _ in lines]
+            pass  # It has ended: there is no answer to be read, and standard error says why.
+        return [self.child.stdout.readline() for _ in lines]
 
     def _end(self, told: Optional[str] = None) -> End:
         if self.ended is None:

@@ -2,6 +2,8 @@
 
 from __future__ import annotations
 
+import contextlib
+import fcntl
 import itertools
 import json
 import os
@@ -24,11 +26,13 @@ from dollar.columns import (
 from dollar.commands import MOST_DEGREE, TOO_MANY, beside, option
 from dollar.program import Fault, Place, command_line, ended_by, fault_of
 from dollar.readers import (
-    Form, divisors_by_batches, divisors_one_by_one, numpy_or_none, ordered, rank_test_form, riemann_roch_form, rows_of, verdict_form)
+    Form, divisors_by_batches, divisors_one_by_one, lines_in, numpy_or_none, ordered, rank_test_form, riemann_roch_form, rows_of, verdict_form)
 from dollar.table import Graph, Table, one_line
 from dollar.vertices import Dollars, Vertices, within
 
 AT_ONCE, PIECE, PATIENCE, SLOW = 1 << 16, 1 << 16, 0.05, 0.001
+# How many bytes a wide pipe holds, and what sets that: fcntl has a name for it from Python 3.10 on.
+WIDE, SET_PIPE_SIZE = 1 << 20, 1031
 Found = TypeVar("Found", covariant=True)
 # Columns that may be of two kinds; those that are arrays of numpy; and those of the module `array`.
 Told = TypeVar("Told", bound=Columns, covariant=True)
@@ -61,6 +65,12 @@ class Sweep:
         self.unsent, self.unread = b"", b""
         self.are_all_taken = self.is_slow = False
         self.broken: Optional[BaseException] = None
+
+    def widen(self) -> None:
+        """Has both pipes hold more, so that the program and Python seldom wait for each other. The system may refuse it."""
+        with contextlib.suppress(OSError):
+            for stream in (self.input, self.output):
+                fcntl.fcntl(stream, SET_PIPE_SIZE, WIDE)
 
     def take(self) -> None:
         """Takes tables: as many as are sent at once, or as come in a short time."""
@@ -195,8 +205,8 @@ class Job(NamedTuple):
         """The answers of some lines, of which the first has this number."""
         found = self.one and self.one.read(piece, sys.modules.get("numpy"))
         if self.one is not None and found is not None:
-            numbers, size, made = found.tolist(), self.one.size, self.one.made
-            return (made(numbers[at:at + size], take()) for at in range(0, len(numbers), size))
+            made = self.one.made
+            return (made(numbers, take()) for numbers in lines_in(found))
         texts = piece.decode().split("\n")[:-1]
         return (self.answer(text, place, take()) for place, text in enumerate(texts, number))
 
@@ -219,10 +229,10 @@ class Job(NamedTuple):
         found = form.read(text.encode() + b"\n", None)
         if found is None and self.refused is RefusedRankTest and text == "0" + " NA" * (form.size - 1):
             # The rank is below the degree, and no loss is named.
-            found = array("q", [0])
+            found = [array("q", [0])]
         if found is None:
             raise no_answer(text)
-        return form.made(found.tolist(), kept)
+        return form.made(next(lines_in(found)), kept)
 
 
 def answers_one_by_one(job: Job, number: int, over: List[bool]) -> Iterator[Any]:
@@ -305,14 +315,16 @@ class Answers(Generic[Found, Told, OfNumpy, OfArray], Iterator[Found]):
         job, columns = self._job, self._columns(self._job.lines.vertices, numpy)
         self.close()
         sweep = Sweep(job.lines.words, job.lines.by_batches, job.program)
+        sweep.widen()
         progress, answered = Progress(job.progress), 0
         try:
             for piece in sweep.pieces():
-                answered += piece.count(b"\n")
+                count = columns._add(piece)
+                progress.add(count)
+                answered += count
                 while sweep.waiting and sweep.waiting[0] <= answered:
                     answered -= sweep.waiting.popleft()
-                progress.add(columns._add(piece))
-            progress.add(columns._done())
+            columns._done()
             sweep.end(columns.count)
             if answered:
                 raise Fault("more answers came than tables were sent", 0)

@@ -9,11 +9,10 @@ import signal
 import subprocess
 import tempfile
 
-from helpers import equal, expect, program, tests_of
+from helpers import HUNG, equal, expect, program, tests_of
 
 TRIANGLE = b'{"vertices":["a","b","c"],"edges":[["a","b",1],["b","c",1],["a","c",1]],"amounts":[2,-1,-1],"q":"a"}'
 WON = b"winnable by a=0 b=-1 c=-1 to a=0 b=0 c=0\n"
-PATIENCE = 60
 # By which sizes and numbers are drawn.
 SEED = int(os.environ.get("SEED") or random.SystemRandom().randrange(10**6))
 
@@ -30,11 +29,11 @@ def refused(text, status, output=b""):
 def ended_run(child, before=b"", typed=None):
     """How a run ends that has printed something before."""
     try:
-        output, faults = child.communicate(typed, timeout=PATIENCE)
+        output, faults = child.communicate(typed, timeout=HUNG)
     except subprocess.TimeoutExpired:
         child.kill()
         child.communicate()
-        return Run("no end within %d s" % PATIENCE, b"", b"")
+        return Run("no end within %d s" % HUNG, b"", b"")
     return Run(child.returncode, before + (output or b""), faults or b"")
 
 

@@ -4,7 +4,7 @@ import itertools
 import json
 import resource
 
-from runs import TRIANGLE, Run, checked
+from runs import TRIANGLE, checked
 from dollar import answer, flaw
 from model import Game
 
@@ -108,21 +108,6 @@ def verdicts(checks):
             judge(checks, what, table(size, edges, amounts, (0, size - 1, size // 2)[number % 3]))
 
 
-# Two vertices with 63 edges: 63 goes 15,873 times into a million, and leaves 1.
-BY_HAND = [
-    ([-LIMIT, LIMIT], b"unwinnable by a=0 b=15873 to a=-1 b=1\n"),
-    ([LIMIT, -LIMIT], b"unwinnable by a=0 b=-15874 to a=-62 b=62\n"),
-    ([LIMIT, LIMIT], b"winnable by a=0 b=15873 to a=1999999 b=1\n"),
-    ([-LIMIT, -LIMIT], b"unwinnable by a=0 b=-15874 to a=-2000062 b=62\n"),
-]
-
-
-def by_hand(checks):
-    for amounts, printed in BY_HAND:
-        run = checks.brief("judge", checks.put("board", json.dumps(table(2, [(0, 1, 63)], amounts)).encode()))
-        checks.same("63 edges, %s" % amounts, Run(0, printed, b""), run)
-
-
 def rank_of(game, amounts, most):
     """The rank by its definition, up to a degree; -1 where nothing can be won."""
     return next((degree - 1 for degree in range(most + 1) if game.first_loss(amounts, degree) is not None), most)
@@ -190,4 +175,4 @@ def small_stacks(checks):
         checks.same("%s with a stack of 1 MiB" % " ".join(words), checks.run(*words), checks.run(*words, before=limited))
 
 
-load_tests = checked(small_stacks, by_hand, verdicts, ranks)
+load_tests = checked(small_stacks, verdicts, ranks)

@@ -8,6 +8,7 @@ import subprocess
 from runs import SEED, TRIANGLE, WON, Run, checked, refused
 from dollar import answer, flaw
 from dollar.grammar import limit
+from helpers import HUNG
 
 DRAW = random.Random(SEED)
 print(f"SEED={SEED}")
@@ -151,14 +152,6 @@ def changes(checks):
     checks.same("stale looks", Run(0, b"".join(said), b""), checks.run("serve", table, "--seats", "64", typed=b"".join(lines)))
 
 
-def steps(checks):
-    """Schedules of some lengths."""
-    table = checks.put("triangle", TRIANGLE)
-    for count in sizes(0, ENTRIES, 8):
-        run = checks.run("rehearse", table, checks.put("steps", b"1 claim\n" * count))
-        checks.same("a schedule of %d steps" % count, Run(0, claims(count), b""), run)
-
-
 def untouched_input(checks):
     """A command that plays no session leaves the input as it is."""
     table, typed = checks.put("triangle", TRIANGLE), checks.put("typed", b"claim\n" * 100)
@@ -180,7 +173,7 @@ def texts(checks):
         more = -more if abs(amount + more) > 1000000 else more
         amount += more
         child.stdin.write(b"gift a %d\n" % more)
-        came = child.stdout.readline() if select.select([child.stdout], [], [], 10)[0] else b"nothing"
+        came = child.stdout.readline() if select.select([child.stdout], [], [], HUNG)[0] else b"nothing"
         checks.same("the answer to gift %d" % gifts, b"%d given %d a=%d b=-1 c=-1\n" % (gifts - 1, gifts, amount), came)
         lengths.add(len(came))
     child.stdin.close()
@@ -189,5 +182,5 @@ def texts(checks):
     child.stderr.close()
 
 
-load_tests = checked(items_of_edges, lengths_of_amounts, names_of_files, parties, workers, capacities, seats, changes, steps,
-                     untouched_input, texts)
+load_tests = checked(items_of_edges, lengths_of_amounts, names_of_files, parties, workers, capacities, seats, changes, untouched_input,
+                     texts)

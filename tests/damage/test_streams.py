@@ -14,13 +14,16 @@ import termios
 import threading
 import time
 
-from runs import PATIENCE, TRIANGLE, WON, Run, checked, ended_run, refused
+from helpers import wait_until
+from runs import TRIANGLE, WON, Run, checked, ended_run, refused
 
 SESSION = b"look\nlend a\ncommit\ncommit\nlend z\ngift a 0\nclaim\n"
 ANSWERS = (b"0 looked 0 a=2 b=-1 c=-1\n1 moved a=0 b=0 c=0\n2 winnable by a=0 b=0 c=0 to a=0 b=0 c=0\nbad look\nbad name\n"
            b"3 refused gift\n4 won\n")
 WRITE, READ, THREAD = (refused(text, status) for text, status in ((b"write fault", 5), (b"read fault", 5), (b"no thread", 4)))
 NOBODY = 65534
+# When a run in rank tests has taken so much processor time, it is in the midst of them.
+TICKS = 5
 
 # A test of seven dollars takes some 8 ms on this path of double edges: each of its 170,544 trials wins. Two dollars at a vertex
 # can be fired to two at any other, so fourteen of them bear a loss of seven.
@@ -211,19 +214,23 @@ def interrupts(checks):
         ended = Run(-number, b"", b"")
         for words in (("rank", slow, "7"), ("rank", slow, "7", "--workers", "4")):
             interrupted_ranks(checks, number, words)
-        for what, words in (("rehearse", ("rehearse", slow, steps)), ("judge that waits for a FIFO", ("judge", fifo))):
-            child = checks.start(*words)
-            time.sleep(0.3)
+        child = checks.start("rehearse", slow, steps)
+        wait_until(lambda: told_of(child)[1] > TICKS)
+        child.send_signal(number)
+        checks.same("rehearse, interrupted", ended, ended_run(child))
+        child = checks.start("judge", fifo)
+        # It is opened when the program opens it too.
+        with open(fifo, "wb"):
             child.send_signal(number)
-            checks.same("%s, interrupted" % what, ended, ended_run(child))
-        for what, board, typed, answers, more, after in (
-                ("a session", table, SESSION + b"look\n", ANSWERS + b"5 looked 0 a=0 b=0 c=0\n", b"ran", 0),
-                ("a session in rank tests", slow, b"claim\n", b"0 won\n", b"look\nrank 7\n" * 200, 0.1)):
+            checks.same("judge that waits for a FIFO, interrupted", ended, ended_run(child))
+        for what, board, typed, answers, more, ticks in (
+                ("a session", table, SESSION + b"look\n", ANSWERS + b"5 looked 0 a=0 b=0 c=0\n", b"ran", -1),
+                ("a session in rank tests", slow, b"claim\n", b"0 won\n", b"look\nrank 7\n" * 2000, TICKS)):
             child = checks.start("serve", board, stdin=subprocess.PIPE, bufsize=0)
             child.stdin.write(typed)
             got = b"".join(child.stdout.readline() for _ in answers.splitlines())
             child.stdin.write(more)
-            time.sleep(after)
+            wait_until(lambda: told_of(child)[1] > ticks)
             child.send_signal(number)
             checks.same("%s, interrupted" % what, ended._replace(output=answers), ended_run(child, got))
 
@@ -242,14 +249,18 @@ def interrupted_ranks(checks, number, words):
     checks.holds("%s, interrupted" % " ".join(words), ended in endings and endings <= allowed, endings)
 
 
-def waits(output):
-    """Waits until nothing more comes into a pipe that nobody reads, and tells how much is in it."""
-    held, until, seen = array.array("i", [0]), time.monotonic() + PATIENCE, []
-    while time.monotonic() < until and (len(seen) < 10 or seen[-10] != seen[-1] or seen[-1] == 0):
-        time.sleep(0.03)
-        fcntl.ioctl(output, termios.FIONREAD, held)
-        seen.append(held[0])
-    return seen[-1]
+def told_of(child):
+    """What the system tells of a run: its state, S if it waits, and how many ticks of processor time it took."""
+    with open("/proc/%d/stat" % child.pid) as file:
+        fields = file.read().rpartition(")")[2].split()
+    return fields[0], int(fields[11]) + int(fields[12])
+
+
+def held_by(output):
+    """How many bytes are in a pipe."""
+    held = array.array("i", [0])
+    fcntl.ioctl(output, termios.FIONREAD, held)
+    return held[0]
 
 
 LOOKS, TURNS, TABLES = 20000, 65536, 20000
@@ -282,7 +293,8 @@ def unread_answers(checks):
         for number in (signal.SIGINT, signal.SIGTERM):
             with open(given or os.devnull, "rb") as typed:
                 child = checks.start(*words, stdin=typed)
-                held = waits(child.stdout)
+                wait_until(lambda: held_by(child.stdout) > 0 and told_of(child)[0] == "S")
+                held = held_by(child.stdout)
                 child.send_signal(number)
                 run = ended_run(child)
             what = "%s, interrupted, whose reader waits" % " ".join(words[:2] if words[1] == "--lines" else words[:1])

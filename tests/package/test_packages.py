@@ -2,7 +2,6 @@
 each Python that is here, and is the same, byte for byte. They are unpacked and installed, the commands of the pages are run in them,
 and they are removed again: the wheel in an environment of its own, and all three in a fresh tree of this Debian, if debootstrap can
 make one, which takes root and a mirror of Debian."""
-import glob
 import gzip
 import os
 import re
@@ -15,7 +14,7 @@ import time
 import urllib.request
 from pathlib import Path
 
-from helpers import EXAMPLES, ROOT, Test, program
+from helpers import EXAMPLES, ROOT, Test, program, pythons
 from pages import links, shown
 
 VERDICT = "winnable by a=0 b=-1 c=-1 to a=0 b=0 c=0\n"
@@ -39,18 +38,6 @@ def made(folder, given, *before, tool=TOOL, **options):
     """What tools/package prints that it makes."""
     said = subprocess.run([*before, tool, given, folder], stdout=subprocess.PIPE, text=True, check=True, **options).stdout
     return list(map(Path, said.splitlines()))
-
-
-def pythons():
-    """The Pythons from 3.9 on that are here, one of each version."""
-    found = {}
-    kept = os.path.join(os.environ.get("PYENV_ROOT", os.path.expanduser("~/.pyenv")), "versions", "*", "bin", "python3")
-    for name in [sys.executable, *sorted(glob.glob(kept)), "/usr/bin/python3"]:
-        if os.path.exists(name):
-            said = subprocess.run([name, "-c", "import sys; print(*sys.version_info[:2])"], stdout=subprocess.PIPE, text=True).stdout
-            if tuple(map(int, said.split())) >= (3, 9):
-                found[said] = name
-    return list(found.values())
 
 
 def dead_links(folder):
@@ -83,7 +70,7 @@ class OfPackages(Test):
     def test_they_are_the_same_each_time(self):
         shutil.copy(program(), self.place / "copy")
         time.sleep(1)
-        for python in pythons():
+        for python in pythons().values():
             for one, other in zip(self.made, made("two", "copy", python, "-B", cwd=self.place)):
                 self.assertEqual(one.name, other.name)
                 self.assertTrue(one.read_bytes() == (self.place / other).read_bytes(), f"{one.name} by {python}")

@@ -9,13 +9,12 @@ import re
 import signal
 import subprocess
 import sys
-import time
 import zlib
 from unittest import mock
 
 import dollar
 from dollar import Table, cluster
-from helpers import PACKAGE, Test, needed, program
+from helpers import HUNG, PACKAGE, Test, needed, program, wait_until
 
 SIZE, AT = 20_000, 8_000
 RING = {"vertices": ["a", "b", "c"], "edges": [["a", "b", 1], ["b", "c", 1], ["a", "c", 1]], "amounts": [0, 0, 0], "q": "a"}
@@ -53,10 +52,10 @@ def csv_of(kind, answers):
     return file.getvalue()
 
 
-# A program that is killed the first time, and takes its time.
+# A program that is killed the first time, and once there are rows goes on only when the test wants it to.
 SLOW = """#!/bin/sh
-[ -e %s ] || { : > %s; kill -9 $$; }
-sleep 0.2
+[ -e killed ] || { : > killed; kill -9 $$; }
+while [ -s kept.csv ] && ! [ -e go ]; do sleep 0.1; done
 exec %s "$@"
 """
 
@@ -66,16 +65,15 @@ class OfTwoRuns(Test):
         place, rng = self.folder(), random.Random(1)
         tables = [line(rng, number) for number in range(1, SIZE + 1)]
         (place / "tables.txt").write_text("".join(tables))
-        kept, killed = place / "kept.csv", place / "killed"
+        kept = place / "kept.csv"
         words = [sys.executable, "-m", "dollar", "sweep", "--processes", "2", "rank", place / "tables.txt", "1", kept]
-        environment = dict(os.environ, DOLLAR=self.script(SLOW % (killed, killed, program())), PYTHONPATH=str(PACKAGE))
-        child = subprocess.Popen(words, stderr=subprocess.PIPE, env=environment, start_new_session=True)
-        while not (kept.exists() and kept.stat().st_size > 100):
-            time.sleep(0.01)
-            self.assertIsNone(child.poll())
+        environment = dict(os.environ, DOLLAR=self.script(SLOW % program()), PYTHONPATH=str(PACKAGE))
+        child = subprocess.Popen(words, stderr=subprocess.PIPE, env=environment, start_new_session=True, cwd=place)
+        wait_until(lambda: child.poll() is not None or kept.exists() and kept.stat().st_size > 0)
         os.killpg(child.pid, signal.SIGINT)
-        self.assertEqual((child.communicate(timeout=20)[1], child.returncode), (b"", 130))
-        self.assertTrue(killed.exists())
+        (place / "go").touch()
+        self.assertEqual((child.communicate(timeout=HUNG)[1], child.returncode), (b"", 130))
+        self.assertTrue((place / "killed").exists())
         wanted, begun = alone("rank", ["rank", "--lines", "/dev/stdin", "1"], tables), kept.read_bytes()
         self.assertTrue(wanted.startswith(begun) and 100 < len(begun) < len(wanted))
         self.holds(words, env=dict(environment, DOLLAR=program()))
@@ -177,7 +175,7 @@ class OfAClusterOfTwo(Test):
             child = subprocess.Popen(words, stderr=subprocess.PIPE, text=True, env=dict(os.environ, DOLLAR=program()))
             first = child.stderr.readline()
             then()
-            return first, child.communicate(timeout=60)[1], child.returncode
+            return first, child.communicate(timeout=HUNG)[1], child.returncode
 
         waits = "python3 -m dollar sweep: the scheduler has no worker, and one is waited for: `dask worker ADDRESS` begins one\n"
         worker = ["dask_worker", address, "--no-nanny", "--nthreads", "1"]
@@ -192,9 +190,10 @@ class OfAClusterOfTwo(Test):
         address = next(found[0] for found in (re.search(r"tcp://\S+:\d+", line) for line in scheduler.stderr) if found)
         child = subprocess.Popen([sys.executable, "-m", "dollar", "sweep", "--scheduler", address, "judge", self.file, self.place / "gone.csv"],
                                  stderr=subprocess.PIPE, text=True, env=dict(os.environ, DOLLAR=program()))
-        self.assertIn("Client", next(line for line in scheduler.stderr if "Client" in line))
+        with needed("distributed").Client(address) as client:
+            wait_until(lambda: client.run_on_scheduler(lambda dask_scheduler: len(dask_scheduler.tasks)))
         scheduler.kill()
-        said = child.communicate(timeout=60)[1]
+        said = child.communicate(timeout=HUNG)[1]
         self.assertEqual((said, child.returncode),
                          ("python3 -m dollar sweep: the scheduler is gone; the same command goes on after the last row\n", 1))
 

@@ -12,7 +12,7 @@ from array import array
 from unittest import mock
 
 import dollar
-from dollar import Fault, Table, columns, readers, sweeps
+from dollar import Fault, Table, readers, sweeps
 from helpers import PACKAGE, Test, each, needed
 
 PETERSEN = dollar.example("petersen")
@@ -162,46 +162,23 @@ class OfColumns(Test):
         tables = [Table(RING, row) for row in divisors(RING, 200, 2)]
         self.assertEqual(ints(dollar.rr_all(tables).columns().degree), [table.degree for table in tables])
 
-    @each([with_numpy, without_numpy])
-    def test_lines_that_are_no_answers(self, given):
-        verdicts = list(dollar.judge_all(RING, divisors=divisors(RING, 40)))
-        good = [" ".join(map(str, [int(each.winnable), *each.script.values(), *each.reduced.values()])) for each in verdicts]
-        with given():
-            rng, refused = random.Random(2), 0
-            for _ in range(3_000):
-                lines = list(good)
-                at = rng.randrange(40)
-                line = lines[at]
-                place = rng.randrange(len(line))
-                lines[at] = line[:place] + rng.choice("0123456789-= vx\nNw") + line[place + rng.randint(0, 1):]
-                found = columns.VerdictColumns(RING._vertices, sweeps.numpy_or_none())
-                try:
-                    found._add("".join(line + "\n" for line in lines).encode())
-                    found._done()
-                except ValueError:
-                    refused += 1
-                    continue
-                # What is taken is what the lines say.
-                rows = [line.split(" ") for line in lines]
-                told = [found.winnable, *found.script.values(), *found.reduced.values()]
-                self.assertEqual([[str(int(each)) for each in column] for column in told], list(map(list, zip(*rows))))
-            self.assertGreater(refused, 1_000)
-
-    def test_numpy_and_python_refuse_the_same(self):
+    def test_what_is_taken_is_what_the_lines_say(self):
+        """With numpy and without; and both refuse the same."""
         numpy, rng, taken = needed("numpy"), random.Random(3), [0, 0]
         lines = [b"1 0 -1 20\n", b"0 -300 7 0\n", b"1 NA NA NA\n", b"0 999999999999999999 0 -1\n", b"refused shape of amounts\n"]
         forms = [readers.rank_test_form(Table([[0, 1, 0], [1, 0, 1], [0, 1, 0]])._vertices, 1), readers.riemann_roch_form()]
         for _ in range(10_000):
             piece = b"".join(rng.choices(lines, (9, 9, 1, 9, 0.1), k=rng.randint(1, 4)))
             place = rng.randrange(len(piece))
-            put = rng.choice([b"0", b"1", b"9", b"-", b" ", b"\n", b"\t", b"\r", b"+", b"\xff", b"NA", b""])
+            put = rng.choice([b"0", b"1", b"9", b"-", b" ", b"\n", b"\t", b"\r", b"+", b"_", b"\xff", b"NA", b""])
             piece = piece[:place] + put + piece[place + rng.randint(0, 1):]
             for form in forms:
                 one, other = form.read(piece, None), form.read(piece, numpy)
                 self.assertEqual(one is None, other is None, piece)
                 taken[one is None] += 1
                 if one is not None:
-                    self.assertEqual(list(one), other.tolist())
+                    self.assertEqual(list(map(list, one)), other.tolist())
+                    self.assertEqual(b"".join(b"%d %d %d %d\n" % numbers for numbers in zip(*one)), piece.replace(lines[2], b"1 0 0 0\n"))
         self.assertGreater(min(taken), 1_000)
 
 

@@ -1,5 +1,5 @@
 """Thousands of calls with what is nearly right: what is taken is what was meant, by a judgement that is written apart from the package, and
-all else is a TypeError, a ValueError or a Fault. And many divisors beside a program that is written apart."""
+all else is a TypeError, a ValueError or a Fault. And many divisors beside the model of the game."""
 import collections
 import decimal
 import fractions
@@ -10,6 +10,8 @@ import random
 import dollar
 from dollar import Fault, Table
 from helpers import Test, needed
+from model import Game
+from test_divisors import random_table
 
 CALLS, GRAPHS, EACH = 20_000, 200, 100
 # How many times as many divisors are compared; and what all is drawn by.
@@ -107,47 +109,6 @@ def shaped(kind, of, pandas):
     if kind < 8 or not of:
         return of
     return pandas.Series(list(of.values()), index=pandas.Index(list(of), dtype=object, tupleize_cols=False), dtype=object)
-
-
-def own_reduced(near, amounts, q):
-    """The reduced divisor and its script, by borrowing off q and firing what does not burn."""
-    held, lent = list(amounts), [0] * len(amounts)
-
-    def fire(v, times):
-        lent[v] += times
-        for u, count in enumerate(near[v]):
-            held[v] -= times * count
-            held[u] += times * count
-
-    poor = True
-    while poor:
-        poor = [v for v in range(len(held)) if v != q and held[v] < 0]
-        for v in poor:
-            fire(v, -1)
-    while True:
-        burnt = {q}
-        more = True
-        while more:
-            more = [v for v in range(len(held)) if v not in burnt and sum(near[v][u] for u in burnt) > held[v]]
-            burnt.update(more)
-        left = [v for v in range(len(held)) if v not in burnt]
-        if not left:
-            base = lent[q]
-            return [each - base for each in lent], held
-        for v in left:
-            fire(v, 1)
-
-
-def random_graph(rng):
-    size = rng.randint(2, 7)
-    near = [[0] * size for _ in range(size)]
-    for v in range(1, size):
-        u = rng.randrange(v)
-        near[u][v] = near[v][u] = rng.randint(1, 3)
-    for _ in range(rng.randint(0, 6)):
-        u, v = rng.sample(range(size), 2)
-        near[u][v] = near[v][u] = near[u][v] + 1
-    return near
 
 
 class OfFuzz(Test):
@@ -261,18 +222,12 @@ class OfWrongCalls(Test):
 
 
 class OfManyDivisors(Test):
-    def test_beside_a_program_written_apart(self):
-        rng, differ = random.Random(SEED + 3), []
+    def test_each_verdict_is_right_by_its_definition(self):
+        rng, wrong = random.Random(SEED + 3), []
         for _ in range(GRAPHS * MORE):
-            near = random_graph(rng)
-            q = rng.randrange(len(near))
-            table = Table(near, q=q)
-            rows = [[rng.randint(-6, 8) for _ in near] for _ in range(EACH)]
-            wanted = [own_reduced(near, row, q) for row in rows]
-            columns = dollar.judge_all(table, divisors=rows).columns()
-            for at, (row, verdict, (script, reduced)) in enumerate(zip(rows, dollar.judge_all(table, divisors=rows), wanted)):
-                told = [list(verdict.script.values()), list(verdict.reduced.values()), verdict.winnable]
-                column = [*([int(of[v][at]) for v in table.vertices] for of in (columns.script, columns.reduced)), bool(columns.winnable[at])]
-                if not told == column == [script, reduced, reduced[q] >= 0]:
-                    differ.append((near, q, row))
-        self.assertEqual(differ, [])
+            table = random_table(rng, 7)
+            game, rows = Game(table.to_dict()), [[rng.randint(-6, 8) for _ in table.vertices] for _ in range(EACH)]
+            for verdict, game.amounts in zip(dollar.judge_all(table, divisors=rows), rows):
+                if not game.is_verdict(str(verdict)):
+                    wrong.append(verdict.judged())
+        self.assertEqual(wrong, [])

@@ -13,15 +13,10 @@ import dollar
 from dollar import Ended, Entry, Session, Table
 from dollar.as_json import read
 from dollar.grammar import GRAMMAR
-from helpers import EXAMPLES, PACKAGE, Test, each, program, sample
+from helpers import EXAMPLES, HUNG, PACKAGE, Test, each, program, sample, wait_until
 from model import Session as Model, some_command
+from test_session import TABLE
 
-TABLE = {
-    "vertices": ["a", "b", "c", "d"],
-    "edges": [["a", "b", 1], ["b", "c", 2], ["c", "d", 1], ["a", "d", 1]],
-    "amounts": [-3, 5, 0, -1],
-    "q": "a",
-}
 PLAYER = """
 import sys
 import dollar
@@ -119,6 +114,7 @@ class OfKeptGames(Test):
             for _ in range(100):
                 session.ask("claim")
         self.assertEqual((caught.exception.status, caught.exception.answers), (-signal.SIGTERM, session.answers))
+        self.assertEqual(session.close(), (-signal.SIGTERM, ""))
 
 
 class OfEntries(Test):
@@ -167,19 +163,19 @@ class OfAsyncSessions(Test):
             return await session.close()
 
         self.assertEqual(asyncio.run(play()), (0, ""))
-        self.assertLess(threading.active_count(), 5)
+        wait_until(lambda: threading.active_count() < 5)
 
     def test_a_hundred_that_wait_stop_nothing(self):
-        silent = self.script("#!/bin/sh\nexec sleep 60\n")
+        silent = self.script("#!/bin/sh\nexec sleep %d\n" % HUNG)
 
         async def play():
-            waiting = [await dollar.AsyncSession.open(TABLE, program=silent, patience=60) for _ in range(100)]
+            waiting = [await dollar.AsyncSession.open(TABLE, program=silent, patience=None) for _ in range(100)]
             tasks = [asyncio.ensure_future(session.ask("look")) for session in waiting]
-            await asyncio.sleep(0.1)
+            await asyncio.sleep(0)
             async with dollar.AsyncSession(TABLE) as other:
-                told = await asyncio.wait_for(other.ask("look"), 5)
+                told = await asyncio.wait_for(other.ask("look"), HUNG)
             # The pool of the loop, by which names are looked up and files are read, has all its threads.
-            count = await asyncio.wait_for(asyncio.get_running_loop().run_in_executor(None, len, tasks), 5)
+            count = await asyncio.wait_for(asyncio.get_running_loop().run_in_executor(None, len, tasks), HUNG)
             undone = sum(not task.done() for task in tasks)
             for session in waiting:
                 session.session.child.kill()

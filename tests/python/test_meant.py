@@ -1,6 +1,5 @@
 """Nothing is taken for something else: vertices keep their labels, a key means one vertex, a line is one line, and a program that is not
 ours is noticed."""
-import decimal
 import os
 import pickle
 import random
@@ -12,7 +11,7 @@ import warnings
 
 import dollar
 from dollar import Fault, Table
-from helpers import PACKAGE, Test, each, needed
+from helpers import HUNG, PACKAGE, Test, each, needed
 
 TRIANGLE = {"vertices": ["a", "b", "c"], "edges": [["a", "b", 1], ["b", "c", 1], ["a", "c", 1]], "amounts": [2, -1, -1], "q": "a"}
 PATH = Table([[0, 1, 0], [1, 0, 1], [0, 1, 0]])
@@ -29,40 +28,17 @@ try:
     os.killpg(0, signal.SIGINT)
     time.sleep(10)
 except KeyboardInterrupt:
-    time.sleep(0.2)
     texts.append(str(session.ask("commit")))
 print("|".join([*texts, str(session.close().status)]))
 """
 REFUSED = [
-    (lambda: Table(PATH, b"\x02\x01\x00"), TypeError, "amounts are a list in the order of the vertices"),
-    (lambda: Table(PATH, bytearray(b"\x02\x01\x00")), TypeError, "amounts are a list"),
-    (lambda: Table(PATH, memoryview(b"\x02\x01\x00")), TypeError, "amounts are a list"),
-    (lambda: Table(PATH, 3), TypeError, "amounts are a list .* and not 3"),
-    (lambda: list(dollar.judge_all(PATH, divisors=[b"\x02\x01\x00"])), TypeError, "divisor 0: amounts are a list"),
-    (lambda: list(dollar.judge_all(PATH, divisors=[2, -1, -1])), TypeError, "divisor 0: amounts are a list .* and not 2"),
     (lambda: list(dollar.judge_all(PATH, divisors=[[1, 2, 3], [1, True, 3]])), TypeError, "divisor 1: the amount of vertex 1 is not a whole"),
     (lambda: dollar.judge_all(PATH, divisors=[[1, 2, 3], [1, True, 3]]).columns(), TypeError, "divisor 1: the amount of vertex 1 is not a whole"),
-    (lambda: dollar.judge_all(PATH, divisors=[[1, 2, 3], [1, 2.0, 3]]).columns(), TypeError, "divisor 1: the amount of vertex 1 is not a whole"),
     (lambda: dollar.judge_all(PATH, divisors=[[1, 2, 3], [1, 2]]).columns(), ValueError, "divisor 1: there are 2 amounts for 3 vertices"),
-    (lambda: Table(PATH, {True: 5}), ValueError, "there is no vertex True"),
-    (lambda: Table(PATH, {1.0: 5}), ValueError, "there is no vertex 1.0"),
-    (lambda: Table(PATH, {decimal.Decimal("1.0"): 5}), ValueError, "there is no vertex"),
-    (lambda: Table(PATH, q=True), ValueError, "there is no vertex True"),
-    (lambda: Table(PATH, q=False), ValueError, "there is no vertex False"),
-    (lambda: Table(PATH, q=1.0), ValueError, "there is no vertex 1.0"),
     (lambda: Table(PATH, q=[0]), ValueError, "there is no vertex"),
     (lambda: Table(RENAMED, {"1": 5}), ValueError, "'1' means the vertex 0 or the vertex 1: use the vertex itself"),
-    (lambda: Table(RENAMED, {3: 5}), ValueError, "there is no vertex 3"),
     (lambda: RENAMED.divisor["1"], KeyError, "1"),
-    (lambda: dollar.rehearse(TRIANGLE, ["1 look\n2 lend a"]), ValueError, "line 0 has a newline in it"),
-    (lambda: dollar.rehearse(TRIANGLE, ["1 look", None]), TypeError, "line 1 is a text, and not None"),
     (lambda: dollar.party(TRIANGLE, ["look\nlend a"]), ValueError, "line 0 has a newline in it"),
-    (lambda: dollar.party(TRIANGLE), ValueError, "the number of scripts: 0, and only 1 to 64 is possible"),
-    (lambda: dollar.rank_test(TRIANGLE, -1), ValueError, "the degree: -1, and only 0 to 4294967295 is possible"),
-    (lambda: Table(TRIANGLE) + [1, 2], ValueError, "there are 2 amounts for 3 vertices"),
-    (lambda: Table(TRIANGLE) + Table([[0, 1, 1], [1, 0, 1], [1, 1, 0]]), ValueError, "the two divisors are on different graphs"),
-    (lambda: 1.5 * Table(TRIANGLE), TypeError, "how often a divisor is taken is not a whole number: 1.5"),
-    (lambda: dollar.judge_all([], ahead=0), ValueError, "ahead: 0, and only 1 to "),
 ]
 
 
@@ -74,7 +50,7 @@ class OfMeanings(Test):
 
     def test_an_interrupt_at_the_terminal_leaves_a_session(self):
         done = subprocess.run([sys.executable, "-c", INTERRUPTED], env=dict(os.environ, PYTHONPATH=str(PACKAGE)), stdout=subprocess.PIPE,
-                              text=True, timeout=30, start_new_session=True)
+                              text=True, timeout=HUNG, start_new_session=True)
         self.assertEqual(done.stdout, "0 looked 0 0=2 1=-1|1 winnable by 0=0 1=-1 to 0=1 1=0|0\n")
 
     def test_a_forked_child_has_no_part_in_a_session(self):

@@ -1,5 +1,4 @@
 """The notebook of examples/: each of its cells runs, and mypy finds nothing in its code."""
-import importlib.util
 import json
 import sys
 
@@ -28,8 +27,7 @@ class OfTheNotebook(Test):
         self.assertTrue(all(cell.get("outputs", []) == [] for cell in NOTEBOOK["cells"]))
 
     def test_the_types(self):
-        if importlib.util.find_spec("mypy") is None:
-            self.skipTest("the types, for want of mypy")
+        needed("mypy")
         folder = self.folder()
         (folder / "notebook.py").write_text("\n\n".join(CELLS))
         self.holds([sys.executable, "-m", "mypy", "--strict", "--ignore-missing-imports", "--cache-dir", folder / "cache", folder / "notebook.py"],

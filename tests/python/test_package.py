@@ -1,6 +1,5 @@
 """The package as a whole: installed by pip for each Python that is here, with its examples and its types."""
 import doctest
-import glob
 import importlib.util
 import inspect
 import os
@@ -9,9 +8,8 @@ import subprocess
 import sys
 
 import dollar
-from helpers import EXAMPLES, PACKAGE, Test, each, needed
+from helpers import EXAMPLES, PACKAGE, Test, each, needed, pythons
 
-VERSIONS = ["3.9", "3.10", "3.11", "3.12", "3.13"]
 DOCTESTS = """
 import doctest
 import importlib
@@ -29,25 +27,12 @@ def has(python, module):
     return subprocess.run([python, "-c", look]).returncode == 0
 
 
-def pythons():
-    """The Pythons that are here, those of pyenv among them, by their versions."""
-    found = {}
-    kept = os.path.join(os.environ.get("PYENV_ROOT", os.path.expanduser("~/.pyenv")), "versions", "*", "bin", "python3")
-    for name in [sys.executable, *("python" + version for version in VERSIONS), *sorted(glob.glob(kept)), "/usr/bin/python3"]:
-        if shutil.which(name):
-            said = subprocess.run([name, "-c", "import sys; print('%d.%d' % sys.version_info[:2])"], stdout=subprocess.PIPE,
-                                  stderr=subprocess.DEVNULL, text=True).stdout.strip()
-            if said and said not in found:
-                found[said] = name
-    return found
-
-
 class OfThePackage(Test):
-    @each(VERSIONS)
-    def test_pip_installs_it_and_its_examples_hold(self, version):
-        python = pythons().get(version)
+    @each(range(9, 14))
+    def test_pip_installs_it_and_its_examples_hold(self, minor):
+        python = pythons().get((3, minor))
         if python is None:
-            self.skipTest("Python %s, which is not here" % version)
+            self.skipTest("Python 3.%d, which is not here" % minor)
         place = str(PACKAGE)
         if has(python, "pip"):
             place = str(self.folder())
@@ -68,8 +53,7 @@ class OfThePackage(Test):
         self.assertEqual((doctest.DocTestRunner().run(found).failed, len(found.examples) > 0), (0, True))
 
     def test_the_types(self):
-        if importlib.util.find_spec("mypy") is None:
-            self.skipTest("the types, for want of mypy")
+        needed("mypy")
         self.holds([sys.executable, "-m", "mypy", "--config-file", PACKAGE / "pyproject.toml", "--cache-dir", self.folder(), PACKAGE / "dollar"])
 
     def test_nothing_is_unused(self):

@@ -1,6 +1,5 @@
 """What docs/tools.md shows over several lines, or with tools that may be missing. tests/pages plays the other commands of
 the pages."""
-import csv
 import inspect
 import re
 import shutil
@@ -64,14 +63,3 @@ class OfPages(Test):
         self.assertEqual(len(frame), 853)
         self.assertEqual(set(frame.degree), {1})
         self.assertTrue((frame["rank"] - frame.dual == frame.degree + 1 - frame.genus).all())
-
-    def test_a_csv_file_without_pandas(self):
-        if not shutil.which("nauty-geng"):
-            self.skipTest("the lines with nauty-geng, which is not here")
-        self.go_to(self.folder())
-        lines = subprocess.run(["nauty-geng", "-c", "-q", "8"], stdout=subprocess.PIPE).stdout.split()
-        dollar.to_csv(dollar.rr_all(dollar.Table.graph6(line, {0: 2}) for line in lines), "ranks.csv")
-        rows = list(csv.DictReader(open("ranks.csv", newline="")))
-        # There are 11,117 connected graphs of eight vertices.
-        self.assertEqual(len(rows), 11117)
-        self.assertTrue(all(row["degree"] == "2" and not row["refused"] for row in rows))

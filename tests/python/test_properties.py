@@ -4,7 +4,6 @@ import json
 import dollar
 from dollar import Table
 from helpers import Test, needed
-from model import Game
 
 needed("hypothesis")
 from hypothesis import given, settings
@@ -72,13 +71,6 @@ class OfProperties(Test):
         limits = all(abs(amount) <= 1_000_000 for amount in verdict.reduced.values())
         if limits:
             self.assertEqual(dollar.judge(Table(given_table, verdict.reduced)), (verdict[0], dict.fromkeys(verdict.script, 0), verdict.reduced))
-
-    @QUICK
-    @given(tables(most=4, amounts=some.integers(-2, 3)), some.integers(0, 3))
-    def test_rank_tests_by_all_trials(self, given_table, degree):
-        test = dollar.rank_test(given_table, degree)
-        self.assertTrue(Game(given_table).is_rank(str(test), degree))
-        self.assertEqual(dollar.answer(str(test)), test)
 
     @QUICK
     @given(some.dictionaries(NAMES, some.integers(), min_size=1), some.integers(0))

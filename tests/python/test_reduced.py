@@ -155,10 +155,6 @@ class OfMoves(Test):
         self.assertEqual([each.amounts for each in (table.lend("1"), table.borrow("1", 2))], [(3, -3, 0), (0, 3, -3)])
         self.assertEqual(sum([table, table, table]), 3 * table)
 
-    def test_a_test_is_not_a_rank(self):
-        table = dollar.example("triangle")
-        self.assertEqual((dollar.rank(table), dollar.rank(table.to_dict()), dollar.rank_test(table, 0).holds), (0, 0, True))
-
 
 class OfNames(Test):
     def test_any_vertices_serve(self):

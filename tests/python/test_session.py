@@ -1,5 +1,4 @@
 """Sessions: never out of step, whatever is asked and whatever comes in between."""
-import collections
 import gc
 import os
 import pickle
@@ -8,10 +7,9 @@ import signal
 import subprocess
 import sys
 import threading
-import time
 
 from dollar import Ended, Session, Table
-from helpers import PACKAGE, Test, each
+from helpers import EXAMPLES, HUNG, PACKAGE, Test, each, wait_until
 from model import Session as Model, some_command
 
 TABLE = {
@@ -97,11 +95,13 @@ class OfSessions(Test):
         self.assertGreater(interrupted, 20)
 
     def test_threads_have_their_own_answers(self):
-        session, told = Session(TABLE, seats=8), collections.defaultdict(list)
+        session, model, told = Session(TABLE, seats=8), Model(TABLE, 8), []
 
         def attend(seat):
+            draw = random.Random(seat)
             for _ in range(200):
-                told[seat].append(session.ask_seat(seat, "claim").number)
+                line = some_command(draw, "abcd")
+                told.append(("%d %s" % (seat, line), session.ask_seat(seat, line)))
 
         seats = [threading.Thread(target=attend, args=(seat,)) for seat in range(1, 9)]
         for thread in seats:
@@ -109,8 +109,10 @@ class OfSessions(Test):
         for thread in seats:
             thread.join()
         self.assertEqual(session.close(), (0, ""))
-        self.assertEqual(sorted(number for numbers in told.values() for number in numbers), list(range(1600)))
-        self.assertTrue(all(numbers == sorted(numbers) for numbers in told.values()))
+        # In the order in which they were asked they are one right game.
+        told.sort(key=lambda pair: pair[1].step)
+        self.assertEqual([answer.step for _, answer in told], list(range(1, 1601)))
+        self.assertEqual([line for line, answer in told if not model.is_answer(line, str(answer))], [])
 
     def test_ends(self):
         session = Session(TABLE, cap=1)
@@ -126,6 +128,11 @@ class OfSessions(Test):
             with Session(TABLE, cap=1) as session:
                 session.ask_bytes(b"claim")
                 session.ask("claim")
+        # A line as bytes is sent as it is; one that is too long ends the session.
+        session = Session(EXAMPLES / "triangle.json")
+        self.assertEqual(session.ask_bytes(b"x" * 1024), "bad word")
+        with self.assertRaisesRegex(Ended, "^the session has ended with status 3: long line$"):
+            session.ask_bytes(b"x" * 1025)
         # With a session that is refused from the start, the end of `with` tells it.
         with self.assertRaisesRegex(Ended, "no vertex q"):
             with Session(dict(TABLE, q="z")):
@@ -138,21 +145,12 @@ class OfSessions(Test):
         with self.assertRaisesRegex(Ended, "status 0"):
             session.ask("claim")
 
-    def test_a_killed_program_is_told(self):
-        session = Session(TABLE)
-        session.ask("look")
-        session.child.kill()
-        with self.assertRaises(Ended):
-            for _ in range(100):
-                session.ask("look")
-        self.assertEqual(session.close(), (-signal.SIGKILL, ""))
-
     def test_a_silent_program_is_killed(self):
-        session = Session(TABLE, patience=0.2, program=self.script("#!/bin/sh\nexec sleep 60\n"))
-        began = time.monotonic()
+        session = Session(TABLE, patience=0.2, program=self.script("#!/bin/sh\nexec sleep %d\n" % HUNG))
         with self.assertRaisesRegex(TimeoutError, "nothing for 0.2 seconds"):
             session.ask("look")
-        self.assertLess(time.monotonic() - began, 5)
+        # To be killed may take longer than its patience.
+        wait_until(lambda: session.ended is not None)
         self.assertEqual(session.close(), (-signal.SIGKILL, "nothing for 0.2 seconds, after which it was killed"))
 
     def test_what_is_no_line(self):
@@ -174,7 +172,7 @@ class OfSessions(Test):
         words = ("import dollar, sys; table = dollar.Table([[0, 1], [1, 0]], [2, -1]); session = table.serve(); "
                  "texts = [str(dollar.judge(table)), str(next(dollar.judge_all([table]))), str(session.ask('claim'))]; "
                  "open(sys.argv[1], 'w').write('|'.join(texts))")
-        done = subprocess.run(["sh", "-c", '"$0" -c "$1" "$2" ' + closed, sys.executable, words, str(said)], timeout=30,
+        done = subprocess.run(["sh", "-c", '"$0" -c "$1" "$2" ' + closed, sys.executable, words, str(said)], timeout=HUNG,
                               env=dict(os.environ, PYTHONPATH=str(PACKAGE)))
         verdict = "winnable by 0=0 1=-1 to 0=1 1=0"
         self.assertEqual(done.returncode, 0)
@@ -187,16 +185,11 @@ class OfSessions(Test):
         children = ["/proc/%d" % session.child.pid for session in sessions]
         del session, sessions
         gc.collect()
-        until = time.monotonic() + 10
-        while (threading.active_count() > threads or any(map(os.path.exists, children))) and time.monotonic() < until:
-            time.sleep(0.01)
-        self.assertLessEqual(threading.active_count(), threads)
-        self.assertFalse(any(map(os.path.exists, children)))
+        wait_until(lambda: threading.active_count() <= threads and not any(map(os.path.exists, children)))
 
     def test_nothing_is_left_behind(self):
         before = len(os.listdir("/proc/self/fd"))
         for _ in range(20):
             with Session(TABLE) as session:
                 session.ask("claim")
-        time.sleep(0.1)
-        self.assertEqual(len(os.listdir("/proc/self/fd")), before)
+        wait_until(lambda: len(os.listdir("/proc/self/fd")) == before)

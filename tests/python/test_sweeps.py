@@ -8,7 +8,7 @@ import threading
 import time
 
 import dollar
-from dollar import Fault, Refused, Table
+from dollar import Fault, Table
 from helpers import Test, each
 
 PAIR = Table([[0, 2], [2, 0]])
@@ -77,17 +77,6 @@ class OfSweeps(Test):
             for verdict in dollar.judge_all(broken()):
                 got.append(verdict)
         self.assertEqual(got, [verdict_by_hand(table) for table in pairs(3)])
-
-    def test_refused_tables_are_raised_where_that_is_wanted(self):
-        tables = [PAIR, Table(PAIR, {"0": 1000001}), PAIR]
-        rows = list(dollar.judge_all(tables))
-        self.assertTrue(isinstance(rows[1], Refused))
-        self.assertEqual(rows[1].refused, "amount of vertex 0")
-        self.assertEqual(rows[0], rows[2])
-        with self.assertRaisesRegex(Fault, "amount of vertex 0") as caught:
-            list(dollar.judge_all(tables, errors="raise"))
-        self.assertEqual(caught.exception.table, 1)
-        self.assertFalse(isinstance(caught.exception, Refused))
 
     def test_rank_tests_past_the_limits(self):
         path = Table([[0, 1], [1, 0]])

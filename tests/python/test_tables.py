@@ -33,67 +33,31 @@ def weighted(weight):
 
 PAIR = types.SimpleNamespace(nodes=[0, 1], edges=[(0, 1)])
 REFUSED = [
-    (lambda: Table(PAIR, {7: 1}), ValueError, "no vertex 7: the vertices are 0, 1"),
-    (lambda: Table(PAIR, {"x": 1}), ValueError, "no vertex 'x'"),
-    (lambda: Table(PAIR, {1: 1}, 7), ValueError, "no vertex 7"),
     (lambda: Table(PAIR, {0: 1, "0": 1}), ValueError, "two amounts for vertex 0"),
-    (lambda: Table(PAIR, {0: 1.7}), TypeError, "the amount of vertex 0 is not a whole number: 1.7"),
     (lambda: Table(PAIR, {0: 1.0}), TypeError, "the amount of vertex 0 is not a whole number: 1.0"),
     (lambda: Table(PAIR, {1: fractions.Fraction(-1, 2)}), TypeError, r"the amount of vertex 1 is not a whole number: Fraction\(-1, 2\)"),
-    (lambda: Table(PAIR, {1: fractions.Fraction(2, 1)}), TypeError, "the amount of vertex 1 is not a whole number"),
-    (lambda: Table(PAIR, [decimal.Decimal("1.9"), 0]), TypeError, "the amount of vertex 0 is not a whole number: Decimal"),
-    (lambda: Table(PAIR, [None, 0]), TypeError, "the amount of vertex 0 is not a whole number: None"),
-    (lambda: Table(PAIR, ["1", 0]), TypeError, "the amount of vertex 0 is not a whole number: '1'"),
     (lambda: Table(PAIR, [True, 0]), TypeError, "the amount of vertex 0 is not a whole number: True"),
     (lambda: Table([[0, True], [True, 0]]), TypeError, "the number of edges from 0 to 1 is not a whole number: True"),
-    (lambda: Table(PAIR, [1]), ValueError, "there are 1 amounts for 2 vertices"),
-    (lambda: Table(PAIR, [1, 0, 0]), ValueError, "there are 3 amounts for 2 vertices"),
-    (lambda: Table(PAIR, {1, 2}), TypeError, "amounts are a list in the order of the vertices, or a dict"),
-    (lambda: Table(PAIR, "12"), TypeError, "amounts are a list"),
     (lambda: Table(directed((0, 1), (1, 0))), ValueError, "a directed graph"),
     (lambda: Table(weighted(0.5)), TypeError, "the weight of the edge from 0 to 1 is not a whole number: 0.5"),
-    (lambda: Table(weighted("x")), TypeError, "the weight of the edge from 0 to 1"),
     (lambda: Table(weighted(None)), TypeError, "the weight of the edge from 0 to 1"),
-    (lambda: Table(weighted(0)), ValueError, "the weight of the edge from 0 to 1 is not a number of edges: 0"),
     (lambda: Table(weighted(-2)), ValueError, "the weight of the edge from 0 to 1 is not a number of edges: -2"),
     (lambda: Table(types.SimpleNamespace(nodes=[0, 1], edges=[(0, 1), (1, 1)])), ValueError, "the edge from 1 to 1 is a loop"),
     (lambda: Table(types.SimpleNamespace(nodes=[0, 1], edges=[(0, 2)])), ValueError, "the edge from 0 to 2 has no vertex"),
-    (lambda: Table(types.SimpleNamespace(nodes=[0, 1], edges=[(0, 1, 3)])), ValueError,
-     r"an edge is a pair of vertices, and not \(0, 1, 3\)"),
     (lambda: Table(types.SimpleNamespace(nodes=["a", "a"], edges=[])), ValueError, "the vertex 'a' is given twice"),
-    (lambda: Table(PAIR, names=lambda vertex: "New York"), ValueError, "`names` gives vertex 0 the name 'New York': a name has 1 to 16 letters"),
     (lambda: Table(PAIR, names=lambda vertex: vertex), ValueError, "`names` gives vertex 0 the name 0: a name has"),
-    (lambda: Table(PAIR, names=lambda vertex: "x"), ValueError, "the vertices 0 and 1 have the same name, x"),
     (lambda: Table(types.SimpleNamespace(nodes=[], edges=[])), ValueError, "there is no vertex"),
-    (lambda: Table([[0, 1], [2, 0]]), ValueError, "a directed graph has no table: from 0 to 1 there are 1 edges, and 2 back"),
-    (lambda: Table([[0, -1], [-1, 0]]), ValueError, "the number of edges from 0 to 1 is -1"),
-    (lambda: Table([[1, 1], [1, 0]]), ValueError, "the edge from 0 to 0 is a loop"),
-    (lambda: Table([[0, 1.0], [1.0, 0]]), TypeError, "the number of edges from 0 to 1 is not a whole number: 1.0"),
-    (lambda: Table([[0, 1]]), ValueError, "as many columns as rows"),
-    (lambda: Table("examples/cube.json"), TypeError, "Table.read reads a file"),
-    (lambda: Table(7), TypeError, "and not of 7"),
-    (lambda: Table({"a": {"b": 1}}), ValueError, "a table has the members"),
     (lambda: Table(dict(PATH, name="x")), ValueError, "a table has the members"),
-    (lambda: Table(dict(PATH, edges=["ab1"])), ValueError, "edge 0 is not a list"),
-    (lambda: Table(dict(PATH, edges=[["a", "z", 1]])), ValueError, "the edge from a to z has no vertex"),
     (lambda: Table(dict(PATH, edges=[["a", "a", 1]])), ValueError, "the edge from a to a is a loop"),
-    (lambda: Table(dict(PATH, q="z")), ValueError, "no vertex 'z'"),
     (lambda: Table(dict(PATH, amounts=[1, 2, 3.5])), TypeError, "the amount of vertex c is not a whole number: 3.5"),
     (lambda: Table.graph6(""), ValueError, "not a line of graph6"),
-    (lambda: Table.graph6("Bx"), ValueError, "not a line of graph6: 'Bx'"),
     (lambda: Table.graph6("Bww"), ValueError, "not a line of graph6"),
     (lambda: Table.graph6(":Bw"), ValueError, "not a line of graph6: ':Bw'"),
     (lambda: Table.graph6("&Bw"), ValueError, "not a line of graph6: '&Bw'"),
     (lambda: Table.graph6("~??~"), ValueError, "more than 62 vertices"),
     (lambda: dollar.judge(PAIR), TypeError, r"Table\(graph, amounts\) makes one"),
-    (lambda: dollar.judge(7), TypeError, "and not of the type int"),
     (lambda: dollar.judge(dict(PATH, amounts=[fractions.Fraction(1, 2), 0, 0])), TypeError, ""),
-    (lambda: dollar.rank_test(PATH, 1.5), TypeError, "the degree is not a whole number: 1.5"),
-    (lambda: dollar.greedy(PATH, "3"), TypeError, "the number of turns is not a whole number: '3'"),
-    (lambda: dollar.rehearse(PATH, "1 look"), TypeError, "lines are a list of texts"),
     (lambda: list(dollar.judge_all([PATH, dict(PATH, amounts=[decimal.Decimal("-1.5")] * 3)])), TypeError, "table 1: "),
-    (lambda: list(dollar.judge_all([PATH, PAIR])), TypeError, "table 1: a table is a Table"),
-    (lambda: dollar.judge_all([], errors="ignore"), ValueError, "errors are either 'row' or 'raise'"),
 ]
 
 
@@ -165,14 +129,6 @@ class OfTables(Test):
         named = Table(grid, {(0, 1): 4, "r0c0": -1}, (0, 1), names=lambda vertex: "r%dc%d" % vertex)
         self.assertEqual((named.divisor, named.q, named.names), ({(0, 0): -1, (0, 1): 4}, (0, 1), ("r0c0", "r0c1")))
 
-    def test_an_answer_can_be_handed_back(self):
-        networkx = needed("networkx")
-        graph = networkx.cycle_graph(4)
-        verdict = dollar.judge(Table(graph, {0: -2, 1: 0, 2: 3, 3: 0}))
-        # Degree 1 before, and so after.
-        self.assertEqual(sum(Table(graph, verdict.reduced).amounts), 1)
-        self.assertEqual(dollar.judge(Table(graph, verdict.reduced)).reduced, verdict.reduced)
-
     @each(REFUSED)
     def test_refused(self, call, error, text):
         with self.assertRaisesRegex(error, text):
@@ -194,11 +150,6 @@ class OfTables(Test):
         # A float of numpy's that is one of Python's goes as it is, and is refused by the program.
         row, = dollar.judge_all([dict(given, amounts=[numpy.float64(2.0), 0])])
         self.assertEqual(row.refused, "shape of amounts")
-
-    def test_frames_of_pandas(self):
-        pandas = needed("pandas")
-        frame = pandas.DataFrame([[0, 2], [2, 0]])
-        self.assertEqual(Table(frame, pandas.Series({"1": -1, "0": 3})), Table([[0, 2], [2, 0]], [3, -1]))
 
     def test_pictures_stand_as_they_are_told(self):
         cube = dollar.example("cube")

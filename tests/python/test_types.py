@@ -1,6 +1,5 @@
 """Types: what mypy says of code that uses the package. A line whose comment begins with `error` has to be one, and `is T` is the type
 of what the line reveals."""
-import importlib.util
 import re
 import subprocess
 import sys
@@ -78,8 +77,7 @@ with table.serve() as session:
 class OfTypes(Test):
     @each(["with", "without"])
     def test_what_mypy_says(self, numpy):
-        if importlib.util.find_spec("mypy") is None:
-            self.skipTest("the types, for want of mypy")
+        needed("mypy")
         folder = self.folder()
         (folder / "sample.py").write_text(SAMPLE)
         words = ["--strict", "--hide-error-context", "--cache-dir", folder / "cache", folder / "sample.py"]
