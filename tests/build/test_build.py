@@ -12,14 +12,12 @@ import sys
 import time
 from pathlib import Path
 
-from helpers import ROOT, Test, each
+from helpers import HUNG, ROOT, Test, each, wait_until
 from kit import own_sum, whole_sum
 
 SEED = int(os.environ.get("SEED") or random.randrange(10000))
 TOOLS = ["bash", "basename", "dirname", "env", "find", "grep", "mkdir", "mv", "nice", "python3", "readlink", "rm", "sh"]
 NOBODY = 65534
-# After how many seconds a call counts as hung, also on a busy machine.
-HUNG = 900
 # A Python that other users can run too.
 PYTHON = "/usr/bin/python3" if os.path.exists("/usr/bin/python3") else sys.executable
 KEPT = "dollar: interrupted; what is proved is kept, and the next call goes on from there\n"
@@ -95,9 +93,7 @@ class OfBuilds(Test):
     def held(self):
         """Starts a build, in which the process of the toolchain that makes dg_rank waits until the file is gone that this gives."""
         child, file = self.begun(fault="held"), self.made / "held"
-        while not file.exists():
-            self.assertIsNone(child.poll())
-            time.sleep(0.01)
+        wait_until(lambda: file.exists() or child.poll() is not None)
         return child, file
 
     def end(self, child, number):
