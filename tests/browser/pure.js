@@ -1,10 +1,10 @@
-/* Tests of what the pages' modules do without a page: words, marks and places. `failures` gives what does not hold. */
+/* Tests of what the pages' modules do without a page: words and places. `failures` gives what does not hold. */
 
 import { GRAMMAR } from "./grammar.js";
 import { fitted, freePlace, layoutOf, placesText, shortened, vertexAhead, vertexAt, wordsPlace } from "./places.js";
 import {
-  CAUSES, FAULTS, Game, KINDS, answerOf, besideWords, commandWords, faultWords, firstWords, flows, legendWords, linesOf, markOf, mostTelling,
-  movesWords, nameWords, numbersOf, numbersWords, rankWords, reachedWords, replyOf, replyWords, startWords, stepOf,
+  CAUSES, FAULTS, Game, answerOf, besideWords, commandWords, faultWords, firstWords, flows, linesOf, movesWords, nameWords, numbersOf, rankWords,
+  reachedWords, replyOf, replyWords, startWords, stepOf,
 } from "./words.js";
 
 const failures_ = [];
@@ -23,12 +23,12 @@ function sample(form, parts) {
   return form.split(" ").map((part) => (part in parts ? parts[part] : part)).join(" ");
 }
 
-/* Each form of the grammar is read, and has a mark and words. */
+/* Each form of the grammar is read, and has words. */
 function replies() {
   for (const form of GRAMMAR.replies) {
     const text = sample(form, { P: "a=2 b=-1", g: 3, k: 2 }), reply = replyOf(`7 ${text}`);
     equal([reply.line, reply.kind === "unread"], [`7 ${text}`, false], `the reply ${text}`);
-    equal(Boolean(replyWords(reply, AMOUNTS, "a") && markOf(stepOf("1 gift a 1"), reply)), true, `the words and the mark of ${text}`);
+    equal(Boolean(replyWords(reply, AMOUNTS, "a")), true, `the words of ${text}`);
     for (const [part, field] of [["g", "gifts"], ["k", "degree"]]) {
       if (form.split(" ").includes(part)) equal(reply[field], { g: 3, k: 2 }[part], `${field} of ${text}`);
     }
@@ -76,18 +76,6 @@ function faults() {
   ['It is "z" here. The file is x.json.', "The file is x.json.", "The file is x.json.", "", ""], "the file beside faults");
 }
 
-function marks() {
-  equal(markOf(stepOf("1 gift a -1"), { kind: "given" }), "\u2212", "the mark of a levy");
-  for (const { mark, legend } of Object.values(KINDS)) {
-    if (legend) equal(legendWords().includes(`${mark} ${legend}`), true, `the legend of ${mark}`);
-  }
-  const kinds = ["moved", "moved", "winnable", "moved", "given", "moved"].map((kind) => ({ kind }));
-  equal(mostTelling(kinds, 2), [3, 5], "the marks in two places");
-  equal(mostTelling(kinds, 2, { 4: "0 won" }), [3, 4], "a mark of a line that is another");
-  equal(mostTelling(kinds, 100), [1, 2, 3, 4, 5, 6], "marks with room for all");
-  equal(mostTelling([], 5), [], "no marks");
-}
-
 function games() {
   const game = new Game(TABLE);
   equal([...game.states[0].amounts.keys()], TABLE.vertices, "the order of the names");
@@ -132,12 +120,6 @@ function games() {
 
 function ranks() {
   equal(numbersOf("degree 2 genus 5 rank 0 dual -1"), { degree: "2", genus: "5", rank: "0", dual: "-1" }, "the four numbers of a line");
-  const law = "By Riemann-Roch, the first rank minus the second is degree + 1 - genus.";
-  const begins = "The degree, the total of the dollars, is 17. The genus, edges minus vertices plus 1, is 9.";
-  equal(numbersWords({ degree: "17", genus: "9", rank: "8", dual: "-1" }), `${begins} The rank is 8, and the rank of K - D is -1. ${law}`,
-    "ranks");
-  equal(numbersWords({ degree: "17", genus: "9", rank: "?", dual: "?" }),
-    `${begins} Neither rank is known, since too many losses would have to be tried. ${law}`, "ranks that are not known");
   equal([rankWords("-1", new Map()), rankWords("?"), rankWords("8", undefined), rankWords("1", new Map([["b", 1], ["c", 0], ["d", 1]]))],
     ["The rank is -1. It can't be won as it stands.", "The rank is not known, since too many losses would have to be tried.",
       "The rank is 8. Some loss of 9 dollars is too much; which one is not known, since too many losses would have to be tried.",
@@ -179,6 +161,6 @@ function fits() {
 }
 
 export function failures() {
-  for (const part of [replies, commands, faults, marks, games, ranks, places, fits]) part();
+  for (const part of [replies, commands, faults, games, ranks, places, fits]) part();
   return failures_;
 }

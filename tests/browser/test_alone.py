@@ -243,7 +243,6 @@ def with_questions(player):
         script = re.fullmatch(r"\w+ by (.*) to .* burning .*\n", judged)[1]
         says = player.value("$$('#board .vertex .says').length")
         equal(says, sum(not pair.endswith("=0") for pair in script.split(" ")), f"the script on the board at {index}")
-        equal(player.told("#ask-rr")[1], numbers, f"the four numbers at {index}")
         degree = int(re.search(r" rank (-?\d+) ", numbers)[1]) + 1
         lost = by_line("rank", now, str(degree))
         player.told("#ask-rank")
@@ -273,7 +272,7 @@ def with_many_lines(player):
     expect(RANDOM_LINES / 2 < more < RANDOM_LINES, f"{more} of {RANDOM_LINES} lines")
     player.compare("many lines")
     equal(asked("rr", player.now()), ("", "dollar: too many trials\n", 3), "the four numbers of a table with millions")
-    equal(player.told("#ask-rr")[1], by_line("rr", player.now()), "what the page says of them")
+    equal(player.told("#ask-rank")[1], by_line("rr", player.now()), "what the page says of them")
     player.value("hands.tell('')")
     player.compare("houses")
 

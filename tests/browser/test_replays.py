@@ -19,7 +19,6 @@ LONGEST = 65536
 SHOWN = """(() => {
   const text = (id) => document.getElementById(id).textContent;
   const vertices = $$("#board .vertex"), has = (test) => vertices.filter(test).map((at) => at.dataset.name);
-  const current = (place) => $$(place + " [aria-current]").map((at) => Number(at.dataset.index));
   return {
     ...Object.fromEntries(["place", "step", "moves", "answer", "asked", "said"].map((id) => [id, text(id)])),
     differs: $("#differs").hidden ? null : text("differs"),
@@ -30,7 +29,7 @@ SHOWN = """(() => {
     at: vertices.map((at) => [at.dataset.name, ...["cx", "cy"].map((axis) => at.querySelector(".round")[axis].baseVal.value)]),
     arrows: $$("#board .arrow").map((at) => at.getAttribute("transform").match(/[-0-9.]+/g).slice(0, 2).map(Number)),
     edges: $$("#board .edge").length, added: $$("#board .added").length, label: $("#board svg").getAttribute("aria-label"),
-    slider: Number($("#slider").value), marks: current("#marks"), list: current("#whole"), open: $("#verdict").open,
+    slider: Number($("#slider").value), list: $$("#whole [aria-current]").map((at) => Number(at.dataset.index)), open: $("#verdict").open,
     script: $$("#verdict tbody tr").map((at) => [...at.children].map((cell) => cell.textContent)),
   };
 })()"""
@@ -96,7 +95,7 @@ def compare(browser, where, index, table, amounts, step, line, added):
     wanted = {
         "asked": step, "said": line, "amounts": [[name, amounts[name]] for name in names], "debts": debts, "hatched": debts,
         "label": "The board: " + ", ".join(f"{name} {amount}" for name, amount in amounts.items()), "slider": index,
-        "marks": [index] * (index > 0), "list": [index] * (index > 0), "added": added, "differs": None,
+        "list": [index] * (index > 0), "added": added, "differs": None,
         "edges": sum(count if count <= 8 else 1 for _, _, count in pairs), "open": is_verdict,
         "script": [[name, often(reply[1][name]), str(amounts[name]), str(reply[2][name])] for name in names] if is_verdict
         else []}
@@ -143,15 +142,14 @@ def by_keys(browser, place, table, steps):
 
 
 def by_slider(browser, steps):
-    """Moves the slider itself by keys, and goes to a step by its mark and by its line."""
+    """Moves the slider itself by keys, and goes to a step by its line."""
     browser.value("$('#slider').focus()")
     last = len(lines_of(f"{steps}.txt"))
     for key, wanted in ("ArrowRight", 1), ("ArrowRight", 2), ("ArrowLeft", 1), ("End", last), ("Home", 0):
         browser.press(key)
         equal(browser.value("viewer.now"), wanted, f"{steps}: {key} on the slider")
-    for row in "#marks", "#whole":
-        browser.value(f"$('{row} [data-index=\"3\"]').click()")
-        equal(browser.value("viewer.now"), 3, f"{steps}: a click at {row}")
+    browser.value("$('#whole [data-index=\"3\"]').click()")
+    equal(browser.value("viewer.now"), 3, f"{steps}: a click at a line")
     browser.press("Home")
 
 
@@ -193,21 +191,14 @@ def of_session(browser, folder, name):
 
 
 def of_long_game(browser, folder):
-    """The page of the longest game: it has marks where there is room for them, of the steps that
-    tell most, and lists a part of its lines."""
+    """The page of the longest game has ticks at the steps that are no moves, and lists a part of its lines."""
     asked = ["1 lend a", "1 borrow a"] * (LONGEST // 2)
     for place in 500, 60000:
         asked[place:place + 2] = ["2 look", "2 commit"]
     browser.open(page_of(folder, TRIANGLE, written(folder, "steps", "\n".join(asked))))
-    for wide in 400, 1920:
-        browser.size(wide, 800)
-        browser.until(f"innerWidth === {wide} && $$('#marks button').length === viewer.markedSteps().length")
-        marks = browser.value("$$('#marks button').map((at) => Number(at.dataset.index))")
-        expect(10 < len(marks) <= wide / 16, f"{len(marks)} marks on {wide} dots")
-        equal({502, 60002} - set(marks), set(), f"verdicts among many moves without a mark at {wide}")
-        browser.value("$('#marks [data-index=\"60002\"]').click()")
-        equal(browser.value("[viewer.now, $('#asked').textContent]"), [60002, "2 commit"], "a click at a mark")
-        equal(browser.value("$('#whole [aria-current]').dataset.index"), "60002", "its line in the list")
+    equal(browser.value("$$('#ticks option').map((at) => at.value)"), ["501", "502", "60001", "60002"], "the ticks")
+    browser.value("viewer.go(60002)")
+    equal(browser.value("[$('#asked').textContent, $('#whole [aria-current]').dataset.index]"), ["2 commit", "60002"], "its line in the list")
     for _ in range(20):
         browser.press("ArrowRight")
     equal(browser.value("viewer.now"), 60022, "20 steps further")

@@ -3,7 +3,7 @@
 
 import { still } from "./board.js";
 import { below, bind, element, lost, made } from "./viewer.js";
-import { answerOf, debtWords, dollars, faultWords, linesOf, numbersOf, numbersWords, planned, rankWords, replyWords } from "./words.js";
+import { answerOf, debtWords, dollars, faultWords, linesOf, numbersOf, planned, rankWords, replyWords } from "./words.js";
 
 /* How many edges lead from a vertex to those that burn. */
 function edgesTo(name, burning, edges) {
@@ -16,8 +16,7 @@ export class Questions {
   /* `ask` puts a question to the program, `play` plays a line, and `shown` is called with what is drawn of an answer. */
   constructor(viewer, ask, play, shown) {
     Object.assign(this, { viewer, ask, play, shown, table: null, reply: null });
-    bind({ "ask-won": () => this.won(), "ask-rank": () => this.rank(), "ask-rr": () => this.numbers(),
-      "show-script": () => this.showScript(), "show-fire": () => this.fire() });
+    bind({ "ask-won": () => this.won(), "ask-rank": () => this.rank(), "show-script": () => this.showScript(), "show-fire": () => this.fire() });
   }
 
   now() {
@@ -82,12 +81,6 @@ export class Questions {
     const { loss } = answerOf(linesOf(tested)[0]);
     this.tell(rankWords(rank, loss), printed + tested);
     this.mark(loss || new Map(), lost);
-  }
-
-  async numbers() {
-    const printed = await this.answer({ command: "rr" });
-    if (printed === null) return;
-    this.tell(numbersWords(/** @type {any} */ (numbersOf(linesOf(printed)[0]))), printed);
   }
 
   /* The fire, in the order that the program tells. */

@@ -1,14 +1,11 @@
-/* Walks through a game: the board, the step and its answer in words, a slider with marks, and the list of all lines. */
+/* Walks through a game: the board, the step and its answer in words, a slider with ticks, and the list of all lines. */
 
 import { Board, still } from "./board.js";
 import { fitted } from "./places.js";
-import {
-  commandWords, debtWords, faultWords, flowWords, legendWords, markOf, mostTelling, movesWords, often, planned, reachedWords, replyWords, startWords,
-} from "./words.js";
+import { commandWords, debtWords, faultWords, flowWords, movesWords, often, planned, reachedWords, replyWords, startWords } from "./words.js";
 
 export const element = (id) => /** @type {any} */ (document.getElementById(id));
-// The marks of a long game, which all are looked at for, are drawn when no more steps come for a while.
-const BETWEEN = 2200, LISTED = 400, FEW = 1000, LATER = 300;
+const BETWEEN = 2200, LISTED = 400;
 
 export function made(tag, text, given = {}) {
   const part = document.createElement(tag);
@@ -69,7 +66,7 @@ export function below(counts, words) {
 export const lost = (count) => `lost ${count}`;
 
 export class Viewer {
-  board; game; flaws; who; speaks; reached; now; timer; marking; listed; afterShow;
+  board; game; flaws; who; speaks; reached; now; timer; listed; afterShow;
   /* `flaws` has what the program prints, for each step that has another line; `who` says of a step who played it, `speaks` whether a
      screen reader is to speak of it, and `reached` what is known of the table beside the game. */
   constructor(game, layout, /** @type {any} */ given = {}) {
@@ -77,7 +74,6 @@ export class Viewer {
     Object.assign(this, { game, flaws, who, speaks, reached, now: 0, timer: null, listed: [0, 0], afterShow: () => {} });
     this.board = new Board(document.querySelector("#board svg"), hands);
     this.fit(layout);
-    element("marks-legend").textContent = legendWords();
     this.bind();
   }
 
@@ -113,7 +109,6 @@ export class Viewer {
 
   /* The place has another size now. An editor's layout stays as it is. */
   refit() {
-    this.fillMarks();
     if (!this.board.layout.original) return;
     this.fit(this.board.layout);
     this.board.draw();
@@ -128,10 +123,9 @@ export class Viewer {
   }
 
   filled(index) {
-    element("slider").max = this.game.length;
+    this.ticks();
     this.list(index - LISTED / 2);
     this.show(index);
-    this.fillMarks();
     const flawed = Object.keys(this.flaws).length;
     element("flawed").textContent = flawed ? `${flawed} of its lines differ from what the program prints` : "";
   }
@@ -139,7 +133,7 @@ export class Viewer {
   /* Shows a game that has grown: at its last step, if it is followed, and else where it was. */
   grown(follows) {
     const { length } = this.game, [low, high] = this.listed, list = document.querySelector("#whole ol");
-    element("slider").max = length;
+    this.ticks();
     if (length - high > LISTED) {
       if (follows) this.list(length);
     } else if (follows || length - low <= LISTED) {
@@ -150,8 +144,6 @@ export class Viewer {
     }
     element("earlier").hidden = this.listed[0] === 0;
     element("later").hidden = this.listed[1] === length;
-    clearTimeout(this.marking);
-    this.marking = setTimeout(() => this.fillMarks(), length < FEW ? 0 : LATER);
     if (follows) this.show(length);
     else this.showPlace();
   }
@@ -229,9 +221,8 @@ export class Viewer {
 
   point() {
     for (const at of document.querySelectorAll("[aria-current=step]")) at.removeAttribute("aria-current");
-    for (const at of document.querySelectorAll(`#marks [data-index="${this.now}"], #whole [data-index="${this.now}"]`)) {
-      at.setAttribute("aria-current", "step");
-    }
+    const line = document.querySelector(`#whole [data-index="${this.now}"]`);
+    if (line) line.setAttribute("aria-current", "step");
   }
 
   stop() {
@@ -255,10 +246,6 @@ export class Viewer {
     this.show(index);
   }
 
-  buttonTo(index, text, given) {
-    return button(text, () => this.go(index), { class: this.game.replies[index - 1].kind, "data-index": index, ...given });
-  }
-
   /* The list has a part of the lines, so that a long history opens at once. */
   list(from) {
     const low = Math.max(0, Math.min(from, this.game.length - LISTED)), high = Math.min(low + LISTED, this.game.length);
@@ -270,28 +257,16 @@ export class Viewer {
   }
 
   item(index) {
-    const item = made("li"), both = this.buttonTo(index + 1, "");
+    const item = made("li"), both = button("", () => this.go(index + 1), { "data-index": index + 1 });
     both.append(made("code", this.game.steps[index].line), " ", made("code", this.game.replies[index].line));
     item.append(both);
     return item;
   }
 
-  /* Marks stand where there is room: of steps that lie too near to each other, the one that tells most. */
-  markedSteps() {
-    const wide = element("marks").clientWidth, each = parseFloat(getComputedStyle(element("marks")).fontSize);
-    return mostTelling(this.game.replies, Math.max(1, Math.floor(wide / each)), this.flaws);
-  }
-
-  fillMarks() {
-    element("marks").replaceChildren(...this.markedSteps().map((index) => this.markAt(index)));
-    this.point();
-  }
-
-  markAt(index) {
-    const step = this.game.steps[index - 1], reply = this.game.replies[index - 1];
-    const words = { title: `Step ${index}: ${step.line}; ${reply.line}`, "aria-label": `Step ${index}: ${reply.kind}` };
-    const mark = this.buttonTo(index, markOf(step, reply), { tabindex: -1, ...words });
-    mark.style.left = `${(100 * index) / this.game.length}%`;
-    return mark;
+  /* The slider goes through all steps, and has ticks at some that are no moves. */
+  ticks() {
+    const { replies, length } = this.game, told = replies.flatMap(({ kind }, i) => (kind === "moved" && this.flaws[i + 1] === undefined ? [] : [i + 1]));
+    element("slider").max = length;
+    element("ticks").replaceChildren(...told.slice(0, LISTED).map((index) => made("option", undefined, { value: index })));
   }
 }

@@ -3,29 +3,23 @@
 
 import { GRAMMAR } from "./grammar.js";
 
-/* The kinds of replies, those that tell most first: the mark of each, what the legend says of it, and its words. */
+/* The kinds of replies, in words. */
 
 export const KINDS = {
-  unread: { mark: "?", words: () => "" },
-  winnable: { mark: "\u2713", legend: "can be won, or is won", words: ({ reduced }, _, q) =>
-    `It can be won: the script clears all debts, and then ${q} has ${reduced.get(q)}.` },
-  unwinnable: { mark: "\u2717", legend: "can't be won, or is not", words: ({ reduced }, _, q) =>
-    `It can't be won: the script clears every debt but one, and ${q} still owes ${-reduced.get(q)}.` },
-  won: { mark: "\u2713", words: () => "Won: nobody is in debt." },
-  refused: { mark: "!", legend: "refused", words: ({ cause }) => `Refused: ${CAUSES[cause] || cause}. Nothing changes.` },
-  stale: { mark: "~", legend: "stale", words: ({ gifts }) =>
-    `Stale: a gift, a levy or a new edge came after its look (${gifts} so far).` },
-  rank: { mark: "r", legend: "rank test", words: ({ degree, loss }) =>
-    (loss ? `The rank is below ${degree}: without ${lossWords(loss)} it can't be won.`
-      : `The rank is at least ${degree}: wherever ${dollars(degree)} are lost, it can still be won.`) },
-  joined: { mark: "=", legend: "edge added", words: ({ gifts }, amounts) => `It counts as change number ${gifts}. ${debtWords(amounts)}` },
-  given: { mark: "+", legend: "gift", levy: "\u2212", words: ({ gifts }, amounts) =>
-    `It counts as change number ${gifts}. ${debtWords(amounts)}` },
-  "not-won": { mark: "\u2717", words: (_, amounts) => `Not won. ${debtWords(amounts)}` },
-  looked: { mark: "o", legend: "look", words: ({ gifts }, amounts) =>
-    `It sees the board after ${gifts === 1 ? "1 gift, levy or new edge" : `${gifts} gifts, levies and new edges`}. `
-      + debtWords(amounts) },
-  moved: { mark: "\u00b7", words: (_, amounts) => debtWords(amounts) },
+  unread: () => "",
+  winnable: ({ reduced }, _, q) => `It can be won: the script clears all debts, and then ${q} has ${reduced.get(q)}.`,
+  unwinnable: ({ reduced }, _, q) => `It can't be won: the script clears every debt but one, and ${q} still owes ${-reduced.get(q)}.`,
+  won: () => "Won: nobody is in debt.",
+  refused: ({ cause }) => `Refused: ${CAUSES[cause] || cause}. Nothing changes.`,
+  stale: ({ gifts }) => `Stale: a gift, a levy or a new edge came after its look (${gifts} so far).`,
+  rank: ({ degree, loss }) => (loss ? `The rank is below ${degree}: without ${lossWords(loss)} it can't be won.`
+    : `The rank is at least ${degree}: wherever ${dollars(degree)} are lost, it can still be won.`),
+  joined: ({ gifts }, amounts) => `It counts as change number ${gifts}. ${debtWords(amounts)}`,
+  given: ({ gifts }, amounts) => `It counts as change number ${gifts}. ${debtWords(amounts)}`,
+  "not-won": (_, amounts) => `Not won. ${debtWords(amounts)}`,
+  looked: ({ gifts }, amounts) => `It sees the board after ${gifts === 1 ? "1 gift, levy or new edge" : `${gifts} gifts, levies and new edges`}. `
+    + debtWords(amounts),
+  moved: (_, amounts) => debtWords(amounts),
 };
 
 /* What stands for the parts of a reply's form, and what they are called: g changes and k dollars that are lost, P amounts, N the names
@@ -239,13 +233,6 @@ export function numbersOf(line) {
 
 const PAST = "too many losses would have to be tried";
 
-export function numbersWords({ degree, genus, rank, dual }) {
-  const ranks = rank === "?" && dual === "?" ? `Neither rank is known, since ${PAST}.`
-    : `The rank is ${rank}, and the rank of K - D is ${dual}.`;
-  return `The degree, the total of the dollars, is ${degree}. The genus, edges minus vertices plus 1, is ${genus}. ${ranks} `
-    + "By Riemann-Roch, the first rank minus the second is degree + 1 - genus.";
-}
-
 /* The rank, with the loss that shows that it is no more, if there is one. */
 export function rankWords(rank, loss) {
   if (rank === "?") return `The rank is not known, since ${PAST}.`;
@@ -266,32 +253,7 @@ export const CAUSES = {
 };
 
 export function replyWords(reply, amounts, q) {
-  return KINDS[reply.kind].words(reply, amounts, q);
-}
-
-export function markOf(step, reply) {
-  const { mark, levy } = KINDS[reply.kind];
-  return levy && step.given[1] && step.given[1].startsWith("-") ? levy : mark;
-}
-
-const TELLING = Object.keys(KINDS);
-
-/* The steps whose marks are shown if there is room for so many: of those in one place the one that tells most, and first of all one
-   whose line is another than the program prints. */
-export function mostTelling(replies, places, flaws = {}) {
-  const best = [], telling = (index) => (flaws[index] !== undefined ? -1 : TELLING.indexOf(replies[index - 1].kind));
-  for (let index = 1; index <= replies.length; index++) {
-    const place = Math.floor(((index - 1) * places) / replies.length);
-    if (best[place] === undefined || telling(index) < telling(best[place])) best[place] = index;
-  }
-  return best.filter((index) => index !== undefined);
-}
-
-/* What the marks mean, in a line. */
-export function legendWords() {
-  const told = Object.values(KINDS).filter(({ legend }) => legend).flatMap(({ mark, legend, levy }) =>
-    [`${mark} ${legend}`, ...(levy ? [`${levy} levy`] : [])]);
-  return `Marks: ${told.join(", ")}; a dot is a move.`;
+  return KINDS[reply.kind](reply, amounts, q);
 }
 
 const LONGEST = limits["dg_tokens::MAX_NAME"], NAMES = `A name has 1 to ${LONGEST} letters from a to z or A to Z, digits or _.`;
