@@ -16,11 +16,10 @@ from dollar.table import EXAMPLES, text_of
 
 MOST_BODY, AT_ONCE, MOST_GAMES = 1 << 24, 3, 8
 # The most letters of each text of a question.
-MOST = {"command": 16, "table": 1 << 21, "tables": 1 << 21, "places": 1 << 21, "steps": 1 << 22, "degree": 12, "name": 200,
-        "graph": 40, "level": 20, "key": 64, "line": MOST_BODY}
+MOST = {"command": 16, "table": 1 << 21, "places": 1 << 21, "steps": 1 << 22, "degree": 12, "name": 200, "graph": 40, "level": 20,
+        "key": 64, "line": MOST_BODY}
 # What the program is asked: the words of its command line, and the texts after them, each in a file but for a number.
-ASKED = {"judge": (["judge", "--order", "--"], ["table"]), "rehearse": (["rehearse", "--"], ["table", "steps"]),
-         "judge --lines": (["judge", "--lines"], ["tables"])}
+ASKED = {"judge": (["judge", "--order", "--"], ["table"]), "rehearse": (["rehearse", "--"], ["table", "steps"])}
 # What it is asked for the table as a line, whose answer reaches past the limits of one test: with the texts after the table.
 BY_LINE: dict[str, list[str]] = {"rr": [], "rank": ["degree"]}
 

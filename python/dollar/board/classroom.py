@@ -107,24 +107,19 @@ class Follower:
     """A page that follows what goes on. It sleeps until there is something to tell it, or it has gone, or it is ended by a word."""
 
     def __init__(self, gone: asyncio.Future[Any]) -> None:
-        self.gone, self.word, self.is_due = gone, "", False
-        self.woken: asyncio.Future[None] | None = None
-        gone.add_done_callback(lambda _: self.wake())
+        self.gone, self.word, self.is_due, self.woken = gone, "", False, asyncio.Event()
+        gone.add_done_callback(lambda _: self.woken.set())
 
     def goes_on(self) -> bool:
         return not self.word and not self.gone.done()
 
     async def sleep(self) -> None:
-        self.woken = asyncio.get_running_loop().create_future()
-        await self.woken
-
-    def wake(self) -> None:
-        if self.woken and not self.woken.done():
-            self.woken.set_result(None)
+        self.woken.clear()
+        await self.woken.wait()
 
     def end(self, word: str) -> None:
         self.word = self.word or word
-        self.wake()
+        self.woken.set()
 
 
 def clean(name: str) -> str:
@@ -264,13 +259,13 @@ class Classroom:
     def tell(self) -> None:
         self.soon, self.last = None, time.monotonic()
         for follower in self.followers:
-            follower.wake()
+            follower.woken.set()
 
     def beat(self) -> None:
         """Has something be sent to all pages now and then, so that a connection that is gone is noticed."""
         for follower in self.followers:
             follower.is_due = True
-            follower.wake()
+            follower.woken.set()
         asyncio.get_running_loop().call_later(HEARTBEAT, self.beat)
 
     def state(self) -> bytes:
