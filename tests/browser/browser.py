@@ -75,10 +75,10 @@ def browsers():
 
 
 def needed():
-    """Three browsers, or the test is left out."""
+    """Three browsers as they are at first, or the test is left out."""
     if not found():
         raise unittest.SkipTest("all that is seen in a browser, for want of Chromium")
-    return browsers()
+    return [browser.fresh() for browser in browsers()]
 
 
 def at(name):
@@ -186,6 +186,15 @@ class Browser:
         wanted = place if str(place).startswith("http:") else pathlib.Path(place).resolve().as_uri()
         self.go(wanted)
         self.until(f"document.readyState === 'complete' && location.href === {json.dumps(wanted)}")
+
+    def fresh(self):
+        """The browser without a page, which has asked for nothing."""
+        self.go("about:blank")
+        self.until("location.href === 'about:blank'")
+        self.media()
+        self.size()
+        self.asked.clear()
+        return self
 
     def go(self, url):
         """Begins to open an address."""
@@ -312,10 +321,10 @@ class Browser:
         self.media()
         self.size()
 
-    def harmless(self, *own, since=0):
+    def harmless(self, *own):
         """Sees that no page has thrown an error, or has asked the network for what is not its own."""
         equal(self.thrown, [], "what pages have thrown")
-        outside = [url for url in self.asked[since:] if not url.startswith((*own, "file:", "data:", "blob:", "about:"))]
+        outside = [url for url in self.asked if not url.startswith((*own, "file:", "data:", "blob:", "about:"))]
         equal(outside, [], "what pages have asked of others")
 
 

@@ -12,7 +12,7 @@ import subprocess
 import tempfile
 import unittest
 
-from browser import CTRL, INSIDE, SHIFT, Browser, opened
+from browser import CTRL, INSIDE, SHIFT, Browser, needed, opened
 from common import PATIENCE
 from helpers import needed as module
 
@@ -26,13 +26,24 @@ PREFERENCES = {"ui.prefersReducedMotion": 1, "browser.shell.checkDefaultBrowser"
 
 
 @functools.lru_cache(maxsize=None)
-def needed():
+def windows():
     """Three windows, or the test is left out."""
     program = next(filter(None, map(shutil.which, NAMES)), None)
     if not program:
         raise unittest.SkipTest("all that is seen in Firefox, for want of it")
     first = opened(Firefox(program))
     return [first, *(opened(Firefox(program, first)) for _ in range(2))]
+
+
+def in_both(test):
+    """A test that is given three browsers, as two: in Chromium and in Firefox."""
+    def in_chromium(folder):
+        test(folder, needed())
+
+    def in_firefox(folder):
+        test(folder, [window.fresh() for window in windows()])
+
+    return in_chromium, in_firefox
 
 
 def plain(value):

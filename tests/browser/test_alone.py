@@ -6,9 +6,9 @@ import re
 import tempfile
 import time
 
-import firefox
-from browser import CTRL, LISTED, READY, SHIFT, Page, at, needed
+from browser import CTRL, LISTED, READY, SHIFT, Page, at
 from common import EXAMPLES, asked, by_line, played, swings, text_of, written
+from firefox import Firefox, in_both
 from helpers import equal, expect, tests_of
 
 RANDOM_LINES, LONG = 80, 60_000
@@ -551,27 +551,17 @@ PARTS = (in_sizes, by_mouse, by_touch, by_a_voice, by_keys, by_seats, with_refus
 OF_CHROMIUM = with_editor, with_editor_by_keys, with_takings, with_a_long_game, with_focus
 
 
-def one_player(browser, folder, *left_out):
-    browser.media()
-    browser.size()
-    before = len(browser.asked)
+def one_player(folder, browsers):
+    browser, *_ = browsers
     with played(EXAMPLES / "houses.json") as (_, (address,)):
         player = Player(browser, address, folder)
         for part in PARTS:
-            if part not in left_out:
+            if part not in OF_CHROMIUM or not isinstance(browser, Firefox):
                 part(player)
-        browser.harmless(address, since=before)
+        browser.harmless(address)
     said = "There is no answer from board/play"
     browser.value("void play('claim')")
     browser.until(f"!$('#refused').hidden && $('#refused').textContent.includes({json.dumps(said)})")
 
 
-def in_chromium(folder):
-    one_player(needed()[0], folder)
-
-
-def in_firefox(folder):
-    one_player(firefox.needed()[0], folder, *OF_CHROMIUM)
-
-
-load_tests = tests_of(in_chromium, in_firefox, given=tempfile.TemporaryDirectory)
+load_tests = tests_of(*in_both(one_player), given=tempfile.TemporaryDirectory)

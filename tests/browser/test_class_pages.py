@@ -155,10 +155,6 @@ def with_a_drawn_table(lesson):
 def of_the_pages_of_a_class(folder):
     browsers = one, two, desk = needed()
     with played(EXAMPLES / "houses.json", "--class", "3") as (child, (pupils, teacher)):
-        for browser in browsers:
-            browser.media()
-            browser.size()
-            browser.asked.clear()
         one.open(pupils)
         one.until(READY)
         one.in_sizes("entrance")
@@ -186,7 +182,6 @@ def of_the_pages_of_a_class(folder):
         ann.told("The teacher has ended the game.")
         for browser in browsers:
             browser.harmless(pupils, teacher, page.value("location.href"))
-            browser.asked.clear()
     ann.told("There is no connection to the game.")
 
 

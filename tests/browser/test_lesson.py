@@ -6,9 +6,9 @@ import os
 import re
 import tempfile
 
-import firefox
-from browser import READY, Page, at, needed
+from browser import READY, Page, at
 from common import EXAMPLES, PATIENCE, addresses, asked, started, written
+from firefox import in_both
 from helpers import equal, expect, tests_of
 from test_network import Network
 from visitors import PagePupil, Place, Pupil, taken
@@ -47,6 +47,20 @@ def lines_for(folder, table):
     return [f"{'borrow' if int(count) < 0 else 'lend'} {name}" for name, count in pairs for _ in range(abs(int(count)))]
 
 
+def addresses_chosen(desk, wall, *places):
+    """The teacher chooses which address is shown."""
+    equal(desk.value("texts('#which option')"), [*places, "vm:8080"], "the addresses to choose from")
+    for place in "vm:8080", places[1]:
+        before = wall.value("$('#code').innerHTML")
+        desk.value(f"($('#which').value = '{place}', $('#which').dispatchEvent(new Event('change')))")
+        for page in desk, wall:
+            page.until(f"$('#short').textContent.includes('//{place}/') && $('#address').textContent.includes('//{place}/')")
+            equal(page.value("$('#here').hidden"), place == "vm:8080", "a word on an address of this computer alone")
+        expect(wall.value("$('#code').innerHTML") != before, "the code of another address")
+    evil = Place(desk.value("location.href")).post("place", {"place": "evil.example"})
+    equal(evil, (409, "This machine does not have this address any more."), "an address that there is not")
+
+
 def coming_in(folder, browsers, networks, pupils, teacher):
     """Thirty come in, five of whom mistype the code first; the wall shows a code of half its height until all are there."""
     one, two, three = browsers
@@ -55,8 +69,7 @@ def coming_in(folder, browsers, networks, pupils, teacher):
     desk, wall = Page(two, teacher, os.path.join(folder, "desk")), Page(three, pupils, os.path.join(folder, "wall"))
     wall.click("#watch")
     desk.until("state !== null")
-    desk.value(f"($('#which').value = '127.0.0.1:{networks[1].port}', $('#which').dispatchEvent(new Event('change')))")
-    wall.until(f"$('#short').textContent.includes(':{networks[1].port}/')")
+    addresses_chosen(desk, wall, *(f"127.0.0.1:{network.port}" for network in networks))
     picture(wall, "wall-empty")
     place, code = Place(f"http://127.0.0.1:{networks[0].to}{Place(pupils).path}"), wall.text("#short").rpartition("/")[2]
     wrong = code[::-1] if code != code[::-1] else code[1:] + "0"
@@ -185,13 +198,10 @@ def results(desk, moves):
     equal(len(rows), 1 + 3 * (OTHERS + 1) + 11, "the rows of all")
 
 
-def lesson(browsers, folder):
-    for browser in browsers:
-        browser.media()
-        browser.asked.clear()
+def lesson(folder, browsers):
     networks = Network(), Network()
     networks[1].to = networks[0].to
-    named = [word for network in networks for word in ("--name", f"127.0.0.1:{network.port}")]
+    named = [word for place in (*(f"127.0.0.1:{network.port}" for network in networks), "vm:8080") for word in ("--name", place)]
     words = [EXAMPLES / "houses.json", EXAMPLES / "kind_houses.json", "--class", str(OTHERS + 1), "--rooms", "1", "--port",
              str(networks[0].to), "--keep", os.path.join(folder, "kept"), *named]
     child = started(*words)
@@ -219,23 +229,10 @@ def lesson(browsers, folder):
         for browser in browsers:
             expect(browser.value("document.documentElement.scrollWidth <= innerWidth"), "a page of a lesson is too wide")
             equal(browser.thrown, [], "what pages have thrown")
-            browser.size()
     finally:
         child.terminate()
         _, said = child.communicate(timeout=PATIENCE)
         equal((child.returncode, said), (0, ""), "the end of board/play")
-        for browser in browsers:
-            browser.go("about:blank")
-            browser.until("location.href === 'about:blank'")
-            browser.asked.clear()
 
 
-def in_chromium(folder):
-    lesson(needed(), folder)
-
-
-def in_firefox(folder):
-    lesson(firefox.needed(), folder)
-
-
-load_tests = tests_of(in_chromium, in_firefox, given=tempfile.TemporaryDirectory)
+load_tests = tests_of(*in_both(lesson), given=tempfile.TemporaryDirectory)

@@ -271,8 +271,6 @@ def with_places(browser, folder):
 
 def of_replays(folder):
     browser, *_ = needed()
-    browser.media()
-    before = len(browser.asked)
     for table, steps in STORIES + OTHERS:
         place = page_of(folder, *files_of(table, steps))
         expect(place.stat().st_size < MOST_BYTES, f"{steps}: the page has {place.stat().st_size} bytes")
@@ -287,7 +285,7 @@ def of_replays(folder):
         of_session(browser, folder, name)
     for part in with_differences, with_strange_names, with_strangers, with_places, of_long_game:
         part(browser, folder)
-    browser.harmless("x:", since=before)
+    browser.harmless("x:")
 
 
 load_tests = tests_of(of_replays, given=tempfile.TemporaryDirectory)
