@@ -3,7 +3,7 @@
 import { GRAMMAR } from "./grammar.js";
 import { fitted, freePlace, layoutOf, placesText, shortened, vertexAhead, vertexAt, wordsPlace } from "./places.js";
 import {
-  CAUSES, FAULTS, Game, answerOf, besideWords, commandWords, faultWords, firstWords, flows, linesOf, movesWords, nameWords, numbersOf, rankWords,
+  CAUSES, FAULTS, Game, answerOf, commandWords, faultWords, firstWords, flows, linesOf, movesWords, nameWords, numbersOf, rankWords,
   reachedWords, replyOf, replyWords, startWords, stepOf,
 } from "./words.js";
 
@@ -66,14 +66,7 @@ function faults() {
   const names = ["a", "a b", "b", "_9", "x".repeat(16), "x".repeat(17), ""].map((name) => nameWords(name, ["a"]) !== "");
   equal(names, [true, true, false, false, false, true, true], "names that a vertex beside a can't have");
   equal(faultWords("edge 0 is a loop"), "Edge 1 of the list leads from a vertex to itself.", "a fault with its number");
-  const bad = JSON.stringify({ vertices: ["a", "b c", "a"], edges: [["a", "b c", 40], ["b c", "b c", 0], ["a", "a", 24]], amounts: [7], q: "z" });
-  equal(["number of vertices", "name of vertex 1", "vertex 2 named twice", "edge 1 is a loop", "valence of vertex 0", "number of amounts",
-    "amount of vertex 0", "no vertex q", "not JSON", "shape of top"].map((text) => besideWords(text, bad)),
-  ["It is 3 here.", 'It is "b c" here.', 'It is "a" here.', 'It is ["b c","b c",0] here.', "It is 64 here.", "It is 1 here.", "It is 7 here.",
-    'It is "z" here.', "", ""], "the values beside faults");
-  equal([besideWords("no vertex q", bad, "x.json"), besideWords("not JSON", "{", "x.json"), besideWords("file too long", "", "x.json"),
-    besideWords("amount of vertex 3", "[]"), besideWords("no vertex q", undefined)],
-  ['It is "z" here. The file is x.json.', "The file is x.json.", "The file is x.json.", "", ""], "the file beside faults");
+  equal(faultWords("edge 2 is empty: ['a', 'b', 0], in x.json"), "Edge 3 of the list has the number 0.", "a fault with a value and a file");
 }
 
 function games() {

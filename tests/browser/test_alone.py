@@ -332,7 +332,7 @@ NO_TABLES = [
     ("{", "This isn't a table file", "not JSON"), ("{}", "A table needs just these four", "shape of top"),
     ('{"vertices":["a","b"],"edges":[],"amounts":[0,0],"q":"a"}', "Some vertices can't be reached", "not connected"),
     ('{"vertices":["<img src=x onerror=window.pwned=1>"],"edges":[],"amounts":[0],"q":"a"}', "Vertex 1 needs another name.",
-     "name of vertex 0"),
+     "name of vertex 0: '<img src=x onerror=window.pwned=1>', and only 1 to 16 letters, digits and _ are possible"),
     (" " * (1 << 20) + "{}", "The file has more than a megabyte", "file too long")]
 
 
@@ -343,7 +343,7 @@ def with_tables(player):
     for text, words, own in NO_TABLES:
         said, code = player.refused(player.choose_file, "#open", written(player.folder, "bad.json", text))
         expect(said.startswith(words), f"{own}: {said}")
-        equal(code, f"dollar: {own}", "the program's own words")
+        equal(code, f"dollar: {own}, in bad.json", "the program's own words")
         equal(player.value("fileName"), "own.json", "the table after one that was refused")
     for graph, level in ("", "easy"), ("Cube", "unwinnable"), ("random", "hard"):
         before = player.value("table")

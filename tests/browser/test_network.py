@@ -1,7 +1,6 @@
 """A class on a network that forgets connections without a word, and on computers with several addresses."""
 import contextlib
 import itertools
-import json
 import os
 import re
 import shutil

@@ -5,6 +5,7 @@ import asyncio
 import json
 from typing import Any, Callable, Iterable
 
+from dollar.commands import beside
 from dollar.board.game import MOST_LINE, Game, Table
 from dollar.board.pages import asset, forward, page
 from dollar.board.puzzles import GRAPHS, hint, puzzles
@@ -151,6 +152,7 @@ class Alone:
     async def layout(self, table: str, own: str | None) -> dict[str, Any]:
         """The verdict on a table, and if there is one, the places of its vertices."""
         said = await run("judge", table.encode())
+        said["err"] = with_value(said["err"], table)
         if said["status"] == 0:
             try:
                 made = json.loads(table)
@@ -185,6 +187,11 @@ async def question(text: Callable[[str], str]) -> dict[str, Any]:
         raise Nothing
     line = table.replace("\n", " ").encode() + b"\n"
     return of_line(await run(command, "--lines", "--", line, *map(text, BY_LINE[command])))
+
+
+def with_value(fault: str, table: str) -> str:
+    """A fault with the value in the table, and with the limit."""
+    return ": ".join(filter(None, [fault, beside(fault, table.encode())]))
 
 
 async def made(make: Callable[[], dict[str, Any]]) -> dict[str, Any]:

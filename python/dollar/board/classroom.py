@@ -10,10 +10,10 @@ import unicodedata
 from collections import Counter
 from typing import Any, AsyncIterator, Awaitable, Callable
 
-from dollar.board.alone import question
+from dollar.board.alone import question, with_value
 from dollar.board.game import MOST_LINE, Table, tables_of
 from dollar.board.pages import asset, filled, forward, page
-from dollar.board.puzzles import RISING, graphs, hint, puzzles
+from dollar.board.puzzles import GRAPHS, RISING, hint, puzzles
 from dollar.board.qr import code
 from dollar.board.replay import page as replay_page
 from dollar.board.room import Feed, Room, event
@@ -329,8 +329,6 @@ class Classroom:
             raise Nothing
         asked = request.parts[1]
         request.known() if teaches else request.is_guest()
-        if teaches and (request.method, asked) == ("GET", "tables"):
-            return as_json({"named": [table.name for table in self.tables], "graphs": await asyncio.to_thread(graphs)})
         if request.method == "GET":
             return self.given(asked, request, teaches)
         given = await request.json(MOST_TABLE if teaches else MOST_BODY)
@@ -354,10 +352,10 @@ class Classroom:
     def given(self, asked: str, request: Request, teaches: bool) -> Answer:
         """What a page gets that plays nothing."""
         if asked == "start":
+            own = {"places": self.places(), "named": [table.name for table in self.tables], "graphs": list(GRAPHS)} if teaches else {}
             return as_json({"role": "teacher" if teaches else "pupil", "seats": self.seats, "address": self.address,
                             "short": self.short, "code": code("http://%s/%s" % (self.place, self.short)), "size": self.size,
-                            "kept": self.keeper is not None, "places": self.places() if teaches else [],
-                            **self.told_first(self.feed)})
+                            "kept": self.keeper is not None, **own, **self.told_first(self.feed)})
         if asked == "events":
             mark, seat = begin_at(request), None
             if "key" in request.query and not teaches:
@@ -582,7 +580,7 @@ class Classroom:
         try:
             return await asyncio.to_thread(self.wanted, given, size)
         except (Fault, ValueError) as fault:
-            raise Refused(409, fault.text if isinstance(fault, Fault) else str(fault)) from None
+            raise Refused(409, with_value(fault.text, given.get("table", "")) if isinstance(fault, Fault) else str(fault)) from None
 
     def wanted(self, given: dict[str, Any], size: int) -> list[list[Table]]:
         """The tables that are wanted, of each stage, for rooms of a size. Raises a Fault where one is none."""

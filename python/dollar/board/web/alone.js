@@ -6,7 +6,7 @@ import { Hands } from "./hand.js";
 import { Link, fewest, save, startPage, store, stored, sure } from "./page.js";
 import { layoutOf, placesText } from "./places.js";
 import { Viewer, bind, choose, element } from "./viewer.js";
-import { Game, answerOf, besideWords, firstWords, linesOf } from "./words.js";
+import { Game, answerOf, firstWords, linesOf } from "./words.js";
 
 const SOON = 400, EDITED = "an edited table";
 export let table, fileName, examples, viewer, hands, questions, editor;
@@ -197,7 +197,7 @@ async function find(text) {
 async function openFile(file) {
   if (!file) return;
   const text = file.size > 1 << 20 ? "" : await file.text(), fault = text ? await openTable(text, file.name) : "file too long";
-  hands.refuse(fault, fault === null ? "" : besideWords(fault, text, file.name));
+  hands.refuse(fault && `${fault}, in ${file.name}`);
 }
 
 /* A puzzle: other dollars on a graph, of which the program has said whether it can be won. */

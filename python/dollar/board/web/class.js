@@ -7,8 +7,8 @@ import { Editor } from "./edit.js";
 import { Hands } from "./hand.js";
 import { Link, post, save, startPage, store, stored, sure } from "./page.js";
 import { fitted, layoutOf } from "./places.js";
-import { Viewer, bind, button, element, made, say } from "./viewer.js";
-import { Game, besideWords, faultWords, firstWords, movesWords } from "./words.js";
+import { Viewer, bind, button, element, made, refuse, say } from "./viewer.js";
+import { Game, faultWords, firstWords, movesWords } from "./words.js";
 
 const SOON = 16, LETTERS = 24, WORDS_HIGH = 85, TITLE_HIGH = 60, GROUPS = [0, 1, 2, 3, 4, 5, 6];
 const CHANGES = ["moved", "given", "joined"];
@@ -512,7 +512,7 @@ async function ask(question) {
 
 async function command(path, thing) {
   const got = await post(path, thing);
-  say("teacher-refused", got.refused && `${faultWords(got.refused, got.refused)} ${besideWords(got.refused, thing.table, thing.name)}`.trim());
+  refuse("teacher-refused", got.refused || null);
   return got;
 }
 
@@ -563,35 +563,19 @@ function sizeWords(size) {
   return size === 1 ? "each on a board of his or her own" : `groups of ${size}`;
 }
 
-async function offer() {
-  const { named, graphs } = await (await fetch("tables")).json(), box = element("next-table");
-  const all = named.length > 1 ? [["all these, one after another", "all"]] : [];
+function offer() {
+  const { named, graphs } = given, all = named.length > 1 ? [["all these, one after another", "all"]] : [];
   const group = (label, options) => {
     const part = made("optgroup", undefined, { label });
     part.append(...options.map(([text, value]) => new Option(text, value)));
     return part;
   };
-  box.replaceChildren(group("Tables", [["the same again", "again"], ...all, ...named.map((name) => [name, `named ${name}`])]),
-    group("Puzzles", [["on the same graph", "graph "], ["on a random graph", "graph random"],
-      ...graphs.map(({ name }) => [name, `graph ${name}`])]));
+  element("next-table").replaceChildren(
+    group("Tables", [["the same again", "again"], ...all, ...named.map((name) => [name, `named ${name}`])]),
+    group("Puzzles", [["on the same graph", "graph "], ["on a random graph", "graph random"], ...graphs.map((name) => [name, `graph ${name}`])]));
   element("next-size").replaceChildren(...GROUPS.map((size) => new Option(sizeWords(size), String(size))));
-  element("next-size").value = (state || given).size;
-  document.querySelector("#graphs .gallery").replaceChildren(...graphs.map(pictured));
+  element("next-size").value = given.size;
   choosesTable();
-}
-
-function pictured({ name, table, layout }) {
-  const part = button("", () => {
-    element("next-table").value = `graph ${name}`;
-    element("graphs").open = false;
-    choosesTable();
-    element("next-table").focus();
-  });
-  part.append(draw("svg", { "aria-hidden": "true" }, part), made("span", name));
-  const board = new Board(part.querySelector("svg"));
-  board.layout = layoutOf(layout);
-  board.show(new Game(table).states[0]);
-  return part;
 }
 
 function choosesTable() {

@@ -204,7 +204,7 @@ export class Hands {
   }
 
   /* Says what the program has refused, if it has. */
-  refuse(fault, beside) {
-    refuse("refused", fault, beside);
+  refuse(fault) {
+    refuse("refused", fault);
   }
 }

@@ -44,10 +44,10 @@ export function say(id, words, own = "") {
   box.querySelector("code").textContent = own;
 }
 
-/* Says in the box what the program has refused, or else the server, or nothing if that is null; and what is to be said beside it. */
-export function refuse(id, fault, beside = "") {
+/* Says in the box what the program has refused, or else the server, or nothing if that is null. */
+export function refuse(id, fault) {
   const words = fault === null ? "" : faultWords(fault, "");
-  if (fault === null || words) say(id, words && `${words} ${beside}`.trim(), words && `dollar: ${fault}`);
+  if (fault === null || words) say(id, words, words && `dollar: ${fault}`);
   else say(id, `${fault[0].toUpperCase()}${fault.slice(1)}${fault.endsWith(".") ? "" : "."}`);
 }
 

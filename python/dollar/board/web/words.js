@@ -299,27 +299,8 @@ export const FAULTS = {
   "too many trials": "That rank test is too large.",
 };
 
-/* The value in a table that a fault is about. */
-const edgesOf = ({ vertices, edges }, i) => edges.reduce((sum, [u, v, count]) => sum + (u === vertices[i] || v === vertices[i] ? count : 0), 0);
-const VALUES = {
-  "shape of edge #": ({ edges }, i) => edges[i], "number of vertices": ({ vertices }) => vertices.length,
-  "name of vertex #": ({ vertices }, i) => vertices[i], "vertex # named twice": ({ vertices }, i) => vertices[i],
-  "edge # has no vertex": ({ edges }, i) => edges[i], "edge # is a loop": ({ edges }, i) => edges[i],
-  "edge # is empty": ({ edges }, i) => edges[i], "valence of vertex #": edgesOf, "number of amounts": ({ amounts }) => amounts.length,
-  "amount of vertex #": ({ amounts }, i) => amounts[i], "no vertex q": ({ q }) => q,
-};
-
-/* What the words of a fault don't have: the value in the text of the table, and the name of its file. */
-export function besideWords(text, table, file = "") {
-  const value = VALUES[text.replace(/\d+/, "#")], place = file && `The file is ${file}.`;
-  try {
-    return [`It is ${JSON.stringify(value(JSON.parse(table), Number(/\d+/.exec(text))))} here.`, place].filter(Boolean).join(" ");
-  } catch {
-    return place;
-  }
-}
-
+/* Beside a fault of a table the server says the value, the limit and the file. */
 export function faultWords(text, otherwise = "The program has refused this.") {
-  const words = FAULTS[text.replace(/\d+/, "#")];
-  return (typeof words === "function" ? words(Number(/\d+/.exec(text)[0])) : words) || otherwise;
+  const [fault] = text.split(/[:,] /), words = FAULTS[fault.replace(/\d+/, "#")];
+  return (typeof words === "function" ? words(Number(/\d+/.exec(fault)[0])) : words) || otherwise;
 }
