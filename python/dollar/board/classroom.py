@@ -40,6 +40,7 @@ UNSEEN, MARKS = "\u115f\u1160\u2800\u3164\uffa0", re.compile("([\u0300-\u036f]{3
 SWITCHES: dict[str, tuple[list[str], str]] = {"gifts": (["gift"], "gifts and levies"), "edges": (["join"], "new edges"),
             "questions": (["look", "commit", "rank", "script"], "looks, verdicts, rank tests and scripts"), "undo": ([], "undo and redo"),
             "hints": ([], "hints")}
+NEW_TABLE = "There is a new table. This line was not played."
 # What is permitted at first on boards that not all share.
 IN_ROOMS = "undo", "hints"
 
@@ -80,13 +81,6 @@ class Limit:
     def takes(self, peer: str) -> bool:
         """Takes one for an address, if there is one."""
         return self.has(peer) and self.buckets[peer].takes() and self.whole.takes()
-
-
-class NewTable(Refused):
-    """What a line gets that was meant for the table before."""
-
-    def __init__(self) -> None:
-        super().__init__(409, "There is a new table. This line was not played.")
 
 
 class Seat:
@@ -388,7 +382,7 @@ class Classroom:
         room = self.room_of(seat)
         stage = given.get("stage", room.stage)
         if given.get("feed", room.feed.key) != room.feed.key or stage != room.stage:
-            raise NewTable
+            raise Refused(409, NEW_TABLE)
         if asked == "line":
             return await self.line(seat, room, text_in(given, "line", MOST_BODY), request)
         self.permits({"hint": "hints", "undo": "undo", "redo": "undo"}.get(asked))
@@ -484,7 +478,7 @@ class Classroom:
         finally:
             seat.waiting -= 1
         if came is None and (self.rooms.get(room.number) is not room or stage != room.stage):
-            raise NewTable
+            raise Refused(409, NEW_TABLE)
         if came is None:
             raise Refused(503, "The game has ended. This line was not played, unless the list has it.")
         return as_json({called: came, "items": len(room.feed.items)})
@@ -527,10 +521,6 @@ class Classroom:
         elif asked == "layout":
             ((table,),) = await self.checked(given, self.size)
             return as_json({"layout": table.layout})
-        elif asked == "move":
-            self.teacher = new_secret()
-            self.changed()
-            return as_json({"secret": self.teacher})
         elif asked == "replay":
             return await self.replay(room_in(given.get("room", 1)))
         else:

@@ -620,10 +620,6 @@ function teach() {
     async end() {
       if (await sure("End the game? Save its files before you close this page.")) command("end", {});
     },
-    async move() {
-      const { secret } = await command("move", {});
-      if (secret) location.replace(`/${secret}/`);
-    },
     async "take-page"() {
       const got = await command("replay", { room: shownRoom });
       if (got.page) save("game.html", got.page, "text/html");

@@ -134,16 +134,12 @@ export class Viewer {
   grown(follows) {
     const { length } = this.game, [low, high] = this.listed, list = document.querySelector("#whole ol");
     this.ticks();
-    if (length - high > LISTED) {
-      if (follows) this.list(length);
-    } else if (follows || length - low <= LISTED) {
+    if (follows || length - low <= LISTED) {
       const over = Math.max(0, length - low - LISTED);
       for (let index = high; index < length; index++) list.append(this.item(index));
       for (let index = 0; index < over; index++) list.firstChild.remove();
       this.listed = [low + over, length];
     }
-    element("earlier").hidden = this.listed[0] === 0;
-    element("later").hidden = this.listed[1] === length;
     if (follows) this.show(length);
     else this.showPlace();
   }
@@ -220,6 +216,8 @@ export class Viewer {
   }
 
   point() {
+    element("earlier").hidden = this.listed[0] === 0;
+    element("later").hidden = this.listed[1] === this.game.length;
     for (const at of document.querySelectorAll("[aria-current=step]")) at.removeAttribute("aria-current");
     const line = document.querySelector(`#whole [data-index="${this.now}"]`);
     if (line) line.setAttribute("aria-current", "step");
@@ -251,8 +249,6 @@ export class Viewer {
     const low = Math.max(0, Math.min(from, this.game.length - LISTED)), high = Math.min(low + LISTED, this.game.length);
     document.querySelector("#whole ol").replaceChildren(...Array.from({ length: high - low }, (_, i) => this.item(low + i)));
     this.listed = [low, high];
-    element("earlier").hidden = low === 0;
-    element("later").hidden = high === this.game.length;
     this.point();
   }
 
@@ -265,8 +261,8 @@ export class Viewer {
 
   /* The slider goes through all steps, and has ticks at some that are no moves. */
   ticks() {
-    const { replies, length } = this.game, told = replies.flatMap(({ kind }, i) => (kind === "moved" && this.flaws[i + 1] === undefined ? [] : [i + 1]));
-    element("slider").max = length;
+    const told = this.game.replies.flatMap(({ kind }, i) => (kind === "moved" && this.flaws[i + 1] === undefined ? [] : [i + 1]));
+    element("slider").max = this.game.length;
     element("ticks").replaceChildren(...told.slice(0, LISTED).map((index) => made("option", undefined, { value: index })));
   }
 }
