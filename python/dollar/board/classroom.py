@@ -11,7 +11,7 @@ from collections import Counter
 from typing import Any, AsyncIterator, Awaitable, Callable
 
 from dollar.board.alone import question, with_value
-from dollar.board.game import MOST_LINE, Table, tables_of
+from dollar.board.game import MOST_LINE, MOST_SEATS, Table, tables_of
 from dollar.board.pages import asset, filled, forward, page
 from dollar.board.puzzles import GRAPHS, RISING, hint, puzzles
 from dollar.board.qr import code
@@ -136,14 +136,16 @@ class Classroom:
 
     def __init__(self, tables: list[Table], seats: int, size: int = 0, keeper: Keeper | None = None, teacher_here: bool = False) -> None:
         kept = keeper.found if keeper else {}
-        self.tables, self.seats, self.keeper, self.teacher_here = tables, seats, keeper, teacher_here
+        self.tables, self.keeper, self.teacher_here = tables, keeper, teacher_here
+        # The teacher may have made them more.
+        self.seats = max(seats, kept.get("most", 0))
         self.secret, self.teacher = kept.get("secret") or new_secret(), kept.get("teacher") or new_secret()
         self.short, self.tries = kept.get("short") or new_secret().replace("-", "")[:SHORT], Limit(*TRIES)
         self.joins = Limit(*SEATS)
         self.taken: dict[int, Seat] = {}
         self.barred = set(kept.get("barred", ()))
         for number, name, browser, key in kept.get("seats", ()):
-            if number <= seats:
+            if number <= self.seats:
                 self.taken[number] = Seat(number, name, browser, key)
         self.paused, self.is_open, self.over, self.shown = False, kept.get("open", True), False, kept.get("shown", "all")
         self.followers: set[Follower] = set()
@@ -212,7 +214,7 @@ class Classroom:
         if number not in self.rooms:
             kept = self.keeper and self.keeper.room(self.turn, number, self.seats)
             texts = [table.text for table in self.tables_of(number)]
-            self.rooms[number] = Room(number, texts, self.seats, self.feed, self.told, self.changed, kept)
+            self.rooms[number] = Room(number, texts, self.feed, self.told, self.changed, kept)
         return self.rooms[number]
 
     def number_of(self, seat: Seat) -> int:
@@ -243,7 +245,7 @@ class Classroom:
             seats = [[seat.number, seat.name, seat.browser, seat.key] for seat in self.taken.values()]
             self.keeper.save({"secret": self.secret, "teacher": self.teacher, "short": self.short, "port": self.port,
                               "turn": self.turn, "size": self.size, "table": self.handed[0][0].name, "may": self.may, "shown": self.shown,
-                              "open": self.is_open, "barred": sorted(self.barred), "seats": seats})
+                              "open": self.is_open, "barred": sorted(self.barred), "most": self.seats, "seats": seats})
 
     def told(self) -> None:
         """Wakes the pages: at once, or a little later if they were just told something, so that many entries are told together."""
@@ -269,7 +271,7 @@ class Classroom:
                      for seat in self.taken.values()}
             self.told_state = self.changes, event("state", {
                 "names": names, "paused": self.paused, "open": self.is_open, "may": self.may, "size": self.size, "shown": self.shown,
-                "address": self.address, "over": self.over, "picture": self.picture,
+                "address": self.address, "over": self.over, "picture": self.picture, "seats": self.seats,
                 "ends": {room.number: room.end for room in self.rooms.values() if room.end}})
         return self.told_state[1]
 
@@ -347,7 +349,7 @@ class Classroom:
         """What a page gets that plays nothing."""
         if asked == "start":
             own = {"places": self.places(), "named": [table.name for table in self.tables], "graphs": list(GRAPHS)} if teaches else {}
-            return as_json({"role": "teacher" if teaches else "pupil", "seats": self.seats, "address": self.address,
+            return as_json({"role": "teacher" if teaches else "pupil", "address": self.address,
                             "short": self.short, "code": code("http://%s/%s" % (self.place, self.short)), "size": self.size,
                             "kept": self.keeper is not None, **own, **self.told_first(self.feed)})
         if asked == "events":
@@ -498,6 +500,11 @@ class Classroom:
             self.paused = given.get("paused") is True
         elif asked == "door":
             self.is_open = given.get("open") is True
+        elif asked == "seats":
+            count = given.get("count")
+            if not isinstance(count, int) or not self.seats <= count <= MOST_SEATS:
+                raise Refused(409, "There may be %d to %d seats." % (self.seats, MOST_SEATS))
+            self.seats = count
         elif asked == "may":
             self.may = {switch: given.get(switch, now) is True for switch, now in self.may.items()}
         elif asked == "show":

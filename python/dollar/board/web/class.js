@@ -7,8 +7,8 @@ import { Editor } from "./edit.js";
 import { Hands } from "./hand.js";
 import { Link, post, save, startPage, store, stored, sure } from "./page.js";
 import { fitted, layoutOf } from "./places.js";
-import { Viewer, bind, button, element, made, refuse, say } from "./viewer.js";
-import { Game, faultWords, firstWords, movesWords } from "./words.js";
+import { Viewer, below, bind, button, element, made, refuse, say } from "./viewer.js";
+import { Game, commandWords, debtWords, faultWords, firstWords, linesOf, movesWords, often, replyOf, stepOf } from "./words.js";
 
 const SOON = 16, LETTERS = 24, WORDS_HIGH = 85, TITLE_HIGH = 60, GROUPS = [0, 1, 2, 3, 4, 5, 6];
 const CHANGES = ["moved", "given", "joined"];
@@ -106,7 +106,7 @@ function watch() {
 
 /* A page that plays nothing has the names beside the board. */
 function onlySees(kind) {
-  element("tools").hidden = true;
+  element("tools").hidden = !teaches();
   element("now").after(element("class"));
   document.body.classList.add(kind);
 }
@@ -173,7 +173,7 @@ function begins() {
   element("title").textContent = document.title = `${teaches() ? "For the teacher" : "The dollar game"}: ${place}${name}`;
   viewer.board.chosen.clear();
   viewer.reset(game, game.length, layoutOf(layout));
-  if (hands) hands.forget();
+  hands.forget();
   if (questions) questions.clear();
 }
 
@@ -235,7 +235,7 @@ function flush() {
   else if (grown) viewer.grown(follows);
   missed = false;
   if (grown && me) measure(roomOf(shownRoom));
-  if (leapt && hands) hands.note(leapt);
+  if (leapt) hands.note(leapt);
   if (state) showState();
   link.drew();
   last = performance.now();
@@ -321,29 +321,30 @@ function leap(room, { left, name }) {
 
 function showState() {
   const { over, ends, paused, names } = state, end = over ? { status: 0 } : ends[shownRoom];
-  if (stopped && !paused && !end && hands) hands.tell("");
+  if (stopped && !paused && !end) hands.tell("");
   stopped = paused || Boolean(end);
   if (end) notice(endWords(end));
   else if (paused) notice("The teacher has paused the game.");
   else notice("");
   showNames(names);
-  if (hands) permit();
+  permit();
   if (teaches()) showCommands(Boolean(end), end);
   if (watches() && state.address !== given.address) renewWay();
   // The way in is shown until all are in, and small once somebody plays.
   document.body.classList.toggle("begun", given.turn > 1 || [...rooms.values()].some(({ game }) => game.length > 0));
-  element("way").classList.toggle("full", !state.open || Object.keys(names).length >= given.seats);
+  element("way").classList.toggle("full", !state.open || Object.keys(names).length >= state.seats);
   if (watches()) showRooms();
   if (watches() && !teaches()) showPicture(JSON.stringify(state.picture));
   viewer.showText();
 }
 
-/* What the teacher shows of an answer is drawn until the board changes. */
+/* What the teacher shows, by an answer, a move or a house that is pointed at, is drawn until the board changes. */
 function showPicture(told) {
-  const { room, amounts, says, burnt, words } = (told !== pictured_ && JSON.parse(told)) || {};
+  const { room, amounts, says, burnt, script, chosen, words } = (told !== pictured_ && JSON.parse(told)) || {};
   pictured_ = told;
   if (room !== shownRoom) return;
-  viewer.board.show(viewer.picture({ amounts: new Map(amounts), says: new Map(says), burnt }));
+  viewer.board.chosen = new Set(chosen);
+  viewer.board.show(viewer.picture({ amounts: new Map(amounts), says: new Map(says), burnt, script: script && new Map(script) }));
   element("now").hidden = true;
   hands.note(words);
 }
@@ -376,8 +377,8 @@ function permit() {
   const { edges, questions, undo, hints } = state.may, { game, undone, is_done, stage } = roomOf(shownRoom);
   const next = is_done && stage < given.later.length;
   const parts = { "draw-hint": edges, look: questions, commit: questions, undo, redo: undo, hint: hints, next };
-  for (const [id, permitted] of Object.entries(parts)) element(id).hidden = !permitted;
-  hands.joins = edges;
+  for (const [id, permitted] of Object.entries(parts)) element(id).hidden = teaches() || !permitted;
+  hands.joins = edges && !teaches();
   element("undo").disabled = !game.replies.some(({ kind }) => CHANGES.includes(kind));
   element("redo").disabled = undone.length === 0;
 }
@@ -510,6 +511,18 @@ async function ask(question) {
   return said.refused ? { status: said.status, out: "", err: said.refused } : said;
 }
 
+/* A move for show: this page and the wall show the board after it, and no game is changed. */
+async function demonstrate(line) {
+  const trial = [...(viewer.board.picture.trial || []), line], step = stepOf(`1 ${line}`);
+  const said = await ask({ command: "rehearse", table: questions.now(), steps: trial.map((each) => `1 ${each}\n`).join("") });
+  const reply = /** @type {any} */ (said.status === 0 ? replyOf(linesOf(said.out)[trial.length - 1]) : {});
+  if (reply.kind !== "moved") return hands.refuse(said.err || "only moves can be shown");
+  hands.tell("");
+  hands.unchoose();
+  questions.tell(`${commandWords(step)}. ${debtWords(reply.amounts)}`, reply.line);
+  questions.show({ trial, amounts: reply.amounts, script: step.script, says: below(step.script, often) });
+}
+
 async function command(path, thing) {
   const got = await post(path, thing);
   refuse("teacher-refused", got.refused || null);
@@ -517,7 +530,7 @@ async function command(path, thing) {
 }
 
 function showCommands(ended, end) {
-  const { paused, open, may, shown, size, names } = state;
+  const { paused, open, may, shown, size, names, seats } = state;
   element("pause").textContent = paused ? "Resume the game" : "Pause the game";
   element("door").textContent = open ? "Shut the door" : "Open the door";
   element("pause").disabled = element("end").disabled = ended;
@@ -531,6 +544,7 @@ function showCommands(ended, end) {
     box.replaceChildren(...wanted.map(([value, text]) => new Option(text, value)));
   }
   box.value = shown;
+  element("most").value = seats;
   element("which").value = state.address.split("/")[2];
 }
 
@@ -592,13 +606,12 @@ async function handOut(thing) {
   return got.refused || null;
 }
 
-/* The editor, with a hand that does nothing else. */
 function drawTables() {
-  const drawing = new Hands(viewer, () => {}), find = async (table) => {
+  const find = async (table) => {
     const got = await post("layout", { table, name: "" });
     return got.refused ? { err: got.refused } : { layout: layoutOf(got.layout) };
   };
-  editor = new Editor(viewer, drawing, (table, places) => handOut({ table, places, name: "a table of the class" }), find);
+  editor = new Editor(viewer, hands, (table, places) => handOut({ table, places, name: "a table of the class" }), find);
   element("edit-done").textContent = "Hand it out";
   bind({ edit: () => editor.open() });
 }
@@ -632,16 +645,21 @@ function teach() {
     target.value = "";
   });
   element("show").addEventListener("change", () => command("show", { what: element("show").value }));
+  element("most").addEventListener("change", () => command("seats", { count: Number(element("most").value) }));
   element("which").append(...given.places.map((each) => new Option(each, each)));
   element("which").addEventListener("change", () => command("place", { place: element("which").value }));
   element("which").parentElement.hidden = given.places.length < 2;
   for (const name of SWITCHES) {
     element(`may-${name}`).addEventListener("change", ({ target }) => command("may", { [name]: target.checked }));
   }
-  questions = new Questions(viewer, ask, () => {}, ({ amounts, says, burnt }) => {
+  questions = new Questions(viewer, ask, () => {}, ({ amounts, says, burnt, script }) => {
+    const words = element("told-words").textContent;
     element("now").hidden = true;
-    command("picture", { room: shownRoom, amounts: [...amounts], says: [...says], burnt, words: element("told-words").textContent });
+    hands.note(words);
+    command("picture", { room: shownRoom, amounts: [...amounts], says: [...says], burnt, script: script && [...script],
+      chosen: [...viewer.board.chosen], words });
   });
+  hands.pointed = () => questions.show(viewer.board.picture);
   drawTables();
   offer();
   link.listen(() => place("events?"));
@@ -651,7 +669,7 @@ async function start() {
   given = { later: [], ...await (await fetch("start")).json() };
   const { game } = roomOf(1);
   viewer = new Viewer(game, layoutOf(given.layout), {
-    hands: !teaches(), who: (seat, index) => roomOf(shownRoom).items[index - 1].name, speaks: (step) => me !== null && Number(step.seat) === me.seat,
+    hands: true, who: (seat, index) => roomOf(shownRoom).items[index - 1].name, speaks: (step) => me !== null && Number(step.seat) === me.seat,
     reached() {
       const { best, least, right } = roomOf(shownRoom);
       return { best, least: least || null, right };
@@ -661,11 +679,11 @@ async function start() {
   viewer.afterShow = () => {
     // The words of a step are not said beside the picture of an answer.
     element("now").hidden = false;
-    if (hands) hands.note(me ? firstWords(viewer.game, viewer.now) : "");
+    hands.note(me ? firstWords(viewer.game, viewer.now) : "");
   };
   element("title").textContent = document.title = `${teaches() ? "For the teacher" : "The dollar game"}: ${given.name}`;
   element("seats").hidden = true;
-  hands = teaches() ? null : new Hands(viewer, play);
+  hands = new Hands(viewer, teaches() ? demonstrate : play);
   if (teaches()) return teach();
   bind({ join, watch, undo: () => sent("undo", {}), redo: () => sent("redo", {}), hint, cant: () => sent("cant", {}),
     async next() {

@@ -8,10 +8,10 @@ import { movesWords, planned } from "./words.js";
 const LONG_PRESS = 550, FAR_ENOUGH = 9, PATIENT = 1000;
 
 export class Hands {
-  viewer; board; play; press; joining; other; joins;
-  /* `play` is called with a line. */
+  viewer; board; play; pointed; press; joining; other; joins;
+  /* `play` is called with a line, and `pointed` when others are chosen. */
   constructor(viewer, play) {
-    Object.assign(this, { viewer, play, board: viewer.board, press: null, joining: null, other: null, joins: true });
+    Object.assign(this, { viewer, play, pointed: () => {}, board: viewer.board, press: null, joining: null, other: null, joins: true });
     this.onBoard();
     this.onKeys();
     this.onForms();
@@ -116,6 +116,7 @@ export class Hands {
     if (!chosen.delete(name)) chosen.add(name);
     element("fire").hidden = chosen.size === 0;
     this.board.draw();
+    this.pointed();
   }
 
   unchoose() {
