@@ -39,7 +39,7 @@ UNSEEN, MARKS = "\u115f\u1160\u2800\u3164\uffa0", re.compile("([\u0300-\u036f]{3
 # What the teacher permits, the first words of the lines that fall under it, and what it is called.
 SWITCHES: dict[str, tuple[list[str], str]] = {"gifts": (["gift"], "gifts and levies"), "edges": (["join"], "new edges"),
             "questions": (["look", "commit", "rank", "script"], "looks, verdicts, rank tests and scripts"), "undo": ([], "undo and redo"),
-            "hints": ([], "hints")}
+            "hints": ([], "hints"), "houses": ([], "the words house and road")}
 NEW_TABLE = "There is a new table. This line was not played."
 # What is permitted at first on boards that not all share.
 IN_ROOMS = "undo", "hints"
@@ -156,7 +156,7 @@ class Classroom:
         self.place, self.port = "", 0
         self.places: Callable[[], list[str]] = list
         self.set_tables([tables[:1]], kept.get("size", size), 1)
-        self.may = {**dict.fromkeys(SWITCHES, False), **usual(self.size), **kept.get("may", {})}
+        self.may = {**dict.fromkeys(SWITCHES, False), "houses": True, **usual(self.size), **kept.get("may", {})}
         if keeper:
             self.find(keeper, kept)
 

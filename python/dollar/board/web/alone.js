@@ -5,10 +5,11 @@ import { Editor } from "./edit.js";
 import { Hands } from "./hand.js";
 import { Link, fewest, save, startPage, store, stored, sure } from "./page.js";
 import { layoutOf, placesText } from "./places.js";
+import { speak, t } from "./texts.js";
 import { Viewer, bind, choose, element } from "./viewer.js";
 import { Game, answerOf, firstWords, linesOf } from "./words.js";
 
-const SOON = 400, EDITED = "an edited table";
+const SOON = 400, EDITED = "an edited table", WORDS_KEPT = "dollar words";
 export let table, fileName, examples, viewer, hands, questions, editor;
 const link = new Link();
 let key = null, keeping = null, undone = false, shortest = null, right = false;
@@ -31,9 +32,9 @@ export function play(line) {
 
 async function playNow(line) {
   const { game, now } = viewer;
-  if (line.includes("\n")) return hands.tell("A line has no newline in it.");
+  if (line.includes("\n")) return hands.tell(t`A line has no newline in it.`);
   const dropped = game.length - now;
-  if (dropped && !undone && !(await sure(`If you play on from here, the later steps are lost (${dropped}). Play on?`))) return null;
+  if (dropped && !undone && !(await sure(t`If you play on from here, the later steps are lost (${dropped}). Play on?`))) return null;
   const step = `${element("seat").value} ${line}`;
   const said = await hands.patient(answered(now, step));
   if (said.status !== 0) return hands.refuse(said.err);
@@ -70,7 +71,7 @@ async function cant() {
   right = answerOf(linesOf(said)[0]).kind === "unwinnable";
   viewer.showText();
   showWays();
-  hands.note(right ? "" : "It can be done. Try on!");
+  hands.note(right ? "" : t`It can be done. Try on!`);
 }
 
 /* What the program says to a step after the first so many. The server has the game of this page at a live program; if it has it no
@@ -160,7 +161,7 @@ export async function openTable(text, file, places) {
   const said = await ask({ command: "layout", table: text, places });
   if (said.status !== 0) return said.err;
   const { length } = viewer.game;
-  const lost = `The steps of this game are lost with its table (${length}). Change the table?`;
+  const lost = t`The steps of this game are lost with its table (${length}). Change the table?`;
   if (length && !isDone() && !(await sure(lost))) return null;
   [table, fileName, key] = [text, file, null];
   begin(layoutOf(said.layout));
@@ -171,13 +172,13 @@ export async function openTable(text, file, places) {
 function begin(layout) {
   const game = new Game(JSON.parse(table));
   [shortest, right] = [null, false];
-  element("title").textContent = document.title = `The dollar game: ${fileName}`;
+  element("title").textContent = document.title = t`The dollar game: ${fileName}`;
   if (viewer) {
     hands.forget();
     questions.clear();
     viewer.reset(game, 0, layout);
   } else {
-    viewer = new Viewer(game, layout, { hands: true, reached, who: (seat) => (seat === "1" ? "You" : `Seat ${seat}`) });
+    viewer = new Viewer(game, layout, { hands: true, reached, who: (seat) => (seat === "1" ? t`You` : t`Seat ${seat}`) });
     hands = new Hands(viewer, play);
     questions = new Questions(viewer, ask, play, () => viewer.game.help());
     editor = new Editor(viewer, hands, (text, places) => openTable(text, EDITED, places), find);
@@ -237,6 +238,18 @@ function bindTaking() {
   });
 }
 
+/* The words of the handout, or those of the field. */
+function chooseWords() {
+  const box = element("houses");
+  box.checked = stored("localStorage", WORDS_KEPT) === "handout";
+  box.addEventListener("change", () => {
+    store("localStorage", WORDS_KEPT, box.checked ? "handout" : "field");
+    speak(box.checked ? "handout" : "field");
+    viewer.show(viewer.now);
+  });
+  speak(box.checked ? "handout" : "field");
+}
+
 function bindTables() {
   element("example").append(...Object.keys(examples).map((file) => new Option(file, file)));
   element("example").addEventListener("change", async (event) => {
@@ -255,6 +268,7 @@ function bindTables() {
 }
 
 async function start() {
+  chooseWords();
   const given = await (await fetch("start")).json();
   ({ table, examples, name: fileName } = given);
   element("puzzle-graph").append(...given.graphs.map((name) => new Option(name, name)));

@@ -2,6 +2,7 @@
    amounts and edges that are shown, and leaves no entry. */
 
 import { still } from "./board.js";
+import { t } from "./texts.js";
 import { below, bind, element, lost, made } from "./viewer.js";
 import { answerOf, debtWords, dollars, faultWords, linesOf, numbersOf, planned, rankWords, replyWords } from "./words.js";
 
@@ -87,17 +88,17 @@ export class Questions {
   async fire() {
     const { burning, reduced } = this.reply, { edges } = this.viewer.picture(), asked = this.reply;
     element("show-fire").hidden = true;
-    element("step").textContent = "After the script, before the fire";
+    element("step").textContent = t`After the script, before the fire`;
     element("answer").textContent = debtWords(reduced);
     for (const [count, next] of burning.entries()) {
       if (count > 0 && !still.matches) await new Promise((done) => setTimeout(done, 700));
       if (this.reply !== asked) return;
       const hot = edgesTo(next, burning.slice(0, count), edges), has = dollars(reduced.get(next));
-      const why = count === 0 ? "it owes, and who lends most gets nothing" : `${hot === 1 ? "1 burning edge" : `${hot} burning edges`}, ${has}`;
+      const why = count === 0 ? t`it owes, and who lends most gets nothing` : `${hot === 1 ? t`1 burning edge` : t`${hot} burning edges`}, ${has}`;
       this.show({ amounts: reduced, burnt: burning.slice(0, count + 1) });
-      this.line(`${next} burns: ${why}. So ${next} can't be one of those that lend most.`);
+      this.line(t`${next} burns: ${why}. So ${next} can't be one of those that lend most.`);
     }
-    this.line("All burn: nobody can lend most, so no lendings help.");
+    this.line(t`All burn: nobody can lend most, so no lendings help.`);
   }
 
   line(words) {

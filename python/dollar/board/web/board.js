@@ -1,6 +1,7 @@
 /* Draws a board: circles for vertices with their dollars, lines for edges, and the dollars that move along them. */
 
 import { shortened, wordsPlace } from "./places.js";
+import { t } from "./texts.js";
 import { dollars, flows } from "./words.js";
 
 // What a picture may have beside amounts, edges and added edges: q, what is said at vertices, a move whose arrows are drawn, and those that burn.
@@ -20,7 +21,7 @@ export function draw(tag, given, parent, text) {
 }
 
 function amountWords(name, amount) {
-  return amount < 0 ? `${name} owes ${dollars(-amount)}` : `${name} has ${dollars(amount)}`;
+  return amount < 0 ? t`${name} owes ${dollars(-amount)}` : t`${name} has ${dollars(amount)}`;
 }
 
 export class Board {
@@ -63,7 +64,7 @@ export class Board {
   }
 
   label(amounts) {
-    this.svg.setAttribute("aria-label", `The board: ${[...amounts].map(([name, amount]) => `${name} ${amount}`).join(", ")}`);
+    this.svg.setAttribute("aria-label", t`The board: ${[...amounts].map(([name, amount]) => `${name} ${amount}`).join(", ")}`);
   }
 
   signs() {
@@ -89,7 +90,7 @@ export class Board {
       strands.forEach(({ path, middle }, i) => {
         const kind = `edge${count > strands.length ? " many" : ""}${i >= strands.length - added ? " added" : ""}`;
         draw("path", { class: kind, d: path, "data-pair": key }, this.svg);
-        if (count > strands.length) this.words(middle[0], middle[1] - 12, `${count} edges`);
+        if (count > strands.length) this.words(middle[0], middle[1] - 12, t`${count} edges`);
       });
     }
   }

@@ -2,6 +2,7 @@
 
 import { GRAMMAR } from "./grammar.js";
 import { freePlace, placesText } from "./places.js";
+import { t } from "./texts.js";
 import { bind, button, choose, element, made, refuse } from "./viewer.js";
 import { Game, nameWords } from "./words.js";
 
@@ -192,21 +193,21 @@ export class Editor {
     Object.assign(named, { size: 10, maxLength: 16 });
     q.name = "q";
     return this.row(named, this.number((amount) => { this.draft.amounts[i] = amount; }), q,
-      button("remove", () => this.removeVertex(this.draft.vertices[i])));
+      button(t`remove`, () => this.removeVertex(this.draft.vertices[i])));
   }
 
   showVertex(row, i) {
     const [named, dollars, q, remove] = row.querySelectorAll("input, button"), name = this.draft.vertices[i];
-    this.label(named, `The name of ${name}`, name);
+    this.label(named, t`The name of ${name}`, name);
     named.setCustomValidity("");
-    this.label(dollars, `Dollars of ${name}`, this.draft.amounts[i]);
-    this.label(q, `q is ${name}`);
-    this.label(remove, `Remove ${name}`);
+    this.label(dollars, t`Dollars of ${name}`, this.draft.amounts[i]);
+    this.label(q, t`q is ${name}`);
+    this.label(remove, t`Remove ${name}`);
     q.checked = name === this.draft.q;
   }
 
   edgeRow(i) {
-    return this.row("", this.number((count) => { this.draft.edges[i][2] = count; }), button("remove", () => {
+    return this.row("", this.number((count) => { this.draft.edges[i][2] = count; }), button(t`remove`, () => {
       this.draft.edges.splice(i, 1);
       this.fill();
     }));
@@ -215,8 +216,8 @@ export class Editor {
   showEdge(row, i) {
     const [count, remove] = row.querySelectorAll("input, button"), [u, v, times] = this.draft.edges[i], words = `${u} - ${v}`;
     row.cells[0].textContent = words;
-    this.label(count, `Edges ${words}`, times);
-    this.label(remove, `Remove ${words}`);
+    this.label(count, t`Edges ${words}`, times);
+    this.label(remove, t`Remove ${words}`);
   }
 
   rename(name, other) {

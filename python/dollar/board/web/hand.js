@@ -2,6 +2,7 @@
 
 import { draw } from "./board.js";
 import { vertexAhead, vertexAt } from "./places.js";
+import { t } from "./texts.js";
 import { below, bind, element, refuse, say } from "./viewer.js";
 import { movesWords, planned } from "./words.js";
 
@@ -148,7 +149,7 @@ export class Hands {
   join(name) {
     if (this.joining === null || this.joining === name) {
       this.joining = this.joining === name ? null : name;
-      this.tell(this.joining === null ? "" : `An edge from ${name}: go to the other vertex and press j again.`);
+      this.tell(this.joining === null ? "" : t`An edge from ${name}: go to the other vertex and press j again.`);
     } else {
       const from = this.joining;
       this.joining = null;
@@ -178,7 +179,7 @@ export class Hands {
 
   /* What is promised, and a word if that takes its time. */
   async patient(promise) {
-    const timer = setTimeout(() => this.tell("The answer is not there yet."), PATIENT);
+    const timer = setTimeout(() => this.tell(t`The answer is not there yet.`), PATIENT);
     try {
       return await promise;
     } finally {
@@ -193,9 +194,9 @@ export class Hands {
 
   /* Shows one move: its vertex, and 1 if that lends or -1 if it borrows; 0 if nobody has to move, and null if no move helps. */
   hint({ name, count, left }) {
-    const words = count === null ? "It can't be won as it stands." : "Nobody owes a dollar.";
-    const more = left ? ` In all ${movesWords(left)} will do.` : "";
-    this.note(count ? `Let ${name} ${count > 0 ? "lend" : "borrow"} once.${more}` : words);
+    const words = count === null ? t`It can't be won as it stands.` : t`Nobody owes a dollar.`;
+    const more = left ? t` In all ${movesWords(left)} will do.` : "";
+    this.note(count ? (count > 0 ? t`Let ${name} lend once.` : t`Let ${name} borrow once.`) + more : words);
     if (count) this.board.show(this.viewer.picture({ says: below(new Map([[name, count]]), planned) }));
   }
 

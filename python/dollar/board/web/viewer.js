@@ -2,6 +2,7 @@
 
 import { Board, still } from "./board.js";
 import { fitted } from "./places.js";
+import { t } from "./texts.js";
 import { commandWords, debtWords, faultWords, flowWords, movesWords, often, planned, reachedWords, replyWords, startWords } from "./words.js";
 
 export const element = (id) => /** @type {any} */ (document.getElementById(id));
@@ -63,14 +64,14 @@ export function below(counts, words) {
   return new Map([...counts].filter(([, count]) => count).map(([name, count]) => [name, words(count)]));
 }
 
-export const lost = (count) => `lost ${count}`;
+export const lost = (count) => t`lost ${count}`;
 
 export class Viewer {
   board; game; flaws; who; speaks; reached; now; timer; listed; afterShow;
   /* `flaws` has what the program prints, for each step that has another line; `who` says of a step who played it, `speaks` whether a
      screen reader is to speak of it, and `reached` what is known of the table beside the game. */
   constructor(game, layout, /** @type {any} */ given = {}) {
-    const { hands = false, flaws = {}, who = (seat) => `Seat ${seat}`, speaks = () => true, reached = () => ({}) } = given;
+    const { hands = false, flaws = {}, who = (seat) => t`Seat ${seat}`, speaks = () => true, reached = () => ({}) } = given;
     Object.assign(this, { game, flaws, who, speaks, reached, now: 0, timer: null, listed: [0, 0], afterShow: () => {} });
     this.board = new Board(document.querySelector("#board svg"), hands);
     this.fit(layout);
@@ -127,7 +128,7 @@ export class Viewer {
     this.list(index - LISTED / 2);
     this.show(index);
     const flawed = Object.keys(this.flaws).length;
-    element("flawed").textContent = flawed ? `${flawed} of its lines differ from what the program prints` : "";
+    element("flawed").textContent = flawed ? t`${flawed} of its lines differ from what the program prints` : "";
   }
 
   /* Shows a game that has grown: at its last step, if it is followed, and else where it was. */
@@ -147,7 +148,7 @@ export class Viewer {
   says(index) {
     if (index === 0) return new Map();
     const { word, given, script } = this.game.steps[index - 1], reply = this.game.replies[index - 1];
-    if (reply.kind === "given") return new Map([[given[0], Number(given[1]) < 0 ? `${-given[1]} taken` : `${given[1]} given`]]);
+    if (reply.kind === "given") return new Map([[given[0], Number(given[1]) < 0 ? t`${-given[1]} taken` : t`${given[1]} given`]]);
     if (reply.loss) return below(reply.loss, lost);
     return below(reply.script || (reply.kind === "moved" ? script : []), word === "commit" ? planned : often);
   }
@@ -176,14 +177,14 @@ export class Viewer {
     const step = game.steps[index - 1], reply = game.replies[index - 1];
     document.querySelector("#now [aria-live]").setAttribute("aria-live", !index || this.speaks(step) ? "polite" : "off");
     this.showEnd();
-    element("place").textContent = index ? `Step ${index} of ${game.length}` : startWords(game.length);
-    element("step").textContent = index ? `${this.who(step.seat, index)}: ${commandWords(step)}` : "The table at the start";
+    element("place").textContent = index ? t`Step ${index} of ${game.length}` : startWords(game.length);
+    element("step").textContent = index ? `${this.who(step.seat, index)}: ${commandWords(step)}` : t`The table at the start`;
     element("moves").textContent = index && reply.kind === "moved" ? flowWords(state.edges, step.script) : "";
     element("answer").textContent = index ? replyWords(reply, state.amounts, game.table.q) : debtWords(state.amounts);
     element("asked").textContent = index ? step.line : "";
     element("said").textContent = index ? reply.line : "";
     element("differs").hidden = flaw === undefined;
-    element("differs").textContent = flaw === undefined ? "" : `This is not what the program prints, which is: ${flaw}`;
+    element("differs").textContent = flaw === undefined ? "" : t`This is not what the program prints, which is: ${flaw}`;
   }
 
   /* Says what was reached, if anything was. */
@@ -209,7 +210,7 @@ export class Viewer {
     slider.setAttribute("aria-valuetext", `${element("place").textContent}. ${element("step").textContent}`);
     for (const id of ["first", "back"]) element(id).disabled = index === 0;
     for (const id of ["on", "last"]) element(id).disabled = index === this.game.length;
-    if (index) element("place").textContent = `Step ${index} of ${this.game.length}`;
+    if (index) element("place").textContent = t`Step ${index} of ${this.game.length}`;
     const [low, high] = this.listed;
     if ((low > 0 && index <= low) || index > high) this.list(index - LISTED / 2);
     this.point();
@@ -226,13 +227,13 @@ export class Viewer {
   stop() {
     clearInterval(this.timer);
     this.timer = null;
-    element("play").textContent = "Play";
+    element("play").textContent = t`Play`;
   }
 
   play() {
     if (this.timer !== null) return this.stop();
     if (this.now === this.game.length) this.show(0);
-    element("play").textContent = "Stop";
+    element("play").textContent = t`Stop`;
     this.timer = setInterval(() => {
       this.show(this.now + 1);
       if (this.now === this.game.length) this.stop();
