@@ -178,13 +178,8 @@ def by_keys(player):
     goes("Tab", "bob")
     player.focus("#fire")
     player.does("1 fire ann,dan", player.press, "Enter")
-    player.focus(at("ann"))
-    player.press("j")
-    player.press("ArrowUp")
-    player.does("1 join ann bob", player.press, "j")
-    player.press("Escape")
     player.value("$('#more').open = true")
-    for line in "gift cyd -2", "script ann=1,cyd=-2":
+    for line in "join ann bob", "gift cyd -2", "script ann=1,cyd=-2":
         player.types("#line-in", line)
         player.does(f"1 {line}", player.press, "Enter")
     player.value("document.activeElement.blur()")

@@ -5,7 +5,6 @@ import json
 import os
 import random
 import re
-import shutil
 import signal
 import subprocess
 import tempfile
@@ -244,19 +243,6 @@ def keeping(folder):
     refused(command, "another table", stdin=subprocess.DEVNULL)
 
 
-def kept_by_1_1(folder):
-    """A class that version 1.1 kept goes on, with what was taken back, and its record then has both forms."""
-    kept, table = Path(folder, "kept"), written(folder, "table.json", json.dumps(TABLE))
-    shutil.copytree(Path(__file__).with_name("kept_by_1.1"), kept)
-    seats = {name: key for _, name, _, key in json.loads(text_of(kept / "class.json"))["seats"]}
-    for steps in "1 look\n1 lend ann\n", "1 look\n1 lend ann\n2 lend dot\n":
-        with played(table, "--class", "3", "--rooms", "2", "--keep", kept) as (_, (pupils, teacher)):
-            desk = Place(teacher)
-            equal([desk.get(f"steps.txt?room={room}")[1] for room in (1, 2)], [steps, "3 gift cem 2\n"], "the steps that 1.1 kept")
-            Place(pupils).post("redo", {"key": seats["bob"]})
-    equal([text[0] for text in text_of(kept / "table1" / "room1.jsonl").splitlines()], ["["] * 9 + ["{"], "a record of both forms")
-
-
 def a_long_game(folder):
     """A kept game of 60,000 entries comes back."""
     table, kept = written(folder, "table.json", json.dumps(TABLE)), Path(folder, "kept", "table1")
@@ -426,5 +412,5 @@ def other_names(folder):
             equal(place.post("join", {"name": "ann", "browser": "b" * 24}, headers=given)[0], status, f"{origin} at {host}")
 
 
-load_tests = tests_of(many_pupils, network, strangers, commands, deaths, keeping, kept_by_1_1, a_long_game, full_history, floods, clicks,
+load_tests = tests_of(many_pupils, network, strangers, commands, deaths, keeping, a_long_game, full_history, floods, clicks,
                       opening, other_names, teacher_here, given=tempfile.TemporaryDirectory)

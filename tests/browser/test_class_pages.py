@@ -141,7 +141,6 @@ def with_a_drawn_table(lesson):
     equal(desk.text("#edit-refused code"), "dollar: not connected", "a table that is none")
     desk.click("#add-edge")
     desk.types("#edit-vertices tr:nth-child(2) input[type=number]", "-1")
-    desk.click("#edit-places")
     desk.click("#edit-done")
     desk.answered(True)
     for page in ann, bob, desk:

@@ -182,14 +182,6 @@ def shown_as(browser, folder, words, history):
     equal(browser.value("viewer.flaws"), {}, f"the flaws of {words}")
 
 
-def of_session(browser, folder, name):
-    """The page of a session, of its lines that made entries and of their answers."""
-    entries = [pair for pair in zip(lines_of(f"{name}.txt"), lines_of(f"{name}.out")) if pair[1][0].isdigit()]
-    steps = written(folder, "steps", "".join(f"1 {line}\n" for line, _ in entries))
-    history = written(folder, "history", "".join(f"{said}\n" for _, said in entries))
-    shown_as(browser, folder, [TRIANGLE, steps, history], [said for _, said in entries])
-
-
 def of_long_game(browser, folder):
     """The page of the longest game has ticks at the steps that are no moves, and lists a part of its lines."""
     asked = ["1 lend a", "1 borrow a"] * (LONGEST // 2)
@@ -281,8 +273,6 @@ def of_replays(folder):
             with_coins(browser, all_states, steps)
         browser.in_sizes(steps, SIZES)
     shown_as(browser, folder, [EXAMPLES / "four_cycle.json", "--greedy", "10"], lines_of("greedy_cycle.out"))
-    for name in "session", "session_past_a_gift", "session_with_joins":
-        of_session(browser, folder, name)
     for part in with_differences, with_strange_names, with_strangers, with_places, of_long_game:
         part(browser, folder)
     browser.harmless("x:")

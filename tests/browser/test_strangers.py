@@ -186,18 +186,6 @@ def ended(link):
             return True
 
 
-def without_secret(place, question):
-    """The same answer to all that has no secret, or comes from elsewhere."""
-    evil = "evil.example"
-    for request in (
-            ("GET", "/"), ("GET", "/start"), ("POST", f"/{place.secret}", question), ("GET", f"/{place.secret}/alone.py"),
-            ("GET", f"/{place.secret}/../play"), ("POST", "/ask", question),
-            ("POST", "ask", question, {"Origin": f"http://{evil}"}),
-            ("POST", "ask", question, {"Origin": None}), ("GET", "start", None, {"Host": f"{evil}:{place.port}"}),
-            ("POST", "start", {})):
-        equal(place.ask(*request), (404, "there is nothing here"), f"the request {request}")
-
-
 def questions(ask, folder, table):
     """What the page asks goes to the program, ranks as a line of a sweep."""
     steps, line = "1 look\n2 lend a\n1 commit\n", written(folder, "line", table.replace("\n", " "))
@@ -264,7 +252,10 @@ def server_of_one_player(folder):
         def ask(**given):
             return place.post("ask", given)
 
-        without_secret(place, {"command": "judge", "table": table})
+        question = {"command": "judge", "table": table}
+        for request in (("GET", "/"), ("GET", f"/{place.secret}/alone.py"), ("POST", "/ask", question), ("POST", "start", {}),
+                        ("POST", "ask", question, {"Origin": "http://evil.example"})):
+            equal(place.ask(*request), (404, "there is nothing here"), f"the request {request}")
         questions(ask, folder, table)
         no_questions(place, ask, table, live_games(ask, folder, table))
         together(*[lambda: ask(command="rr", table=rich)] * 40)

@@ -244,7 +244,7 @@ class Classroom:
         if self.keeper:
             seats = [[seat.number, seat.name, seat.browser, seat.key] for seat in self.taken.values()]
             self.keeper.save({"secret": self.secret, "teacher": self.teacher, "short": self.short, "port": self.port,
-                              "turn": self.turn, "size": self.size, "table": self.handed[0][0].name, "may": self.may, "shown": self.shown,
+                              "turn": self.turn, "size": self.size, "may": self.may, "shown": self.shown,
                               "open": self.is_open, "barred": sorted(self.barred), "most": self.seats, "seats": seats})
 
     def told(self) -> None:
@@ -525,9 +525,6 @@ class Classroom:
             await self.again()
         elif asked == "table":
             await self.hand_out(given)
-        elif asked == "layout":
-            ((table,),) = await self.checked(given, self.size)
-            return as_json({"layout": table.layout})
         elif asked == "replay":
             return await self.replay(room_in(given.get("room", 1)))
         else:

@@ -14,13 +14,7 @@ export let table, fileName, examples, viewer, hands, questions, editor;
 const link = new Link();
 let key = null, keeping = null, undone = false, shortest = null, right = false;
 
-/* What the program says to a question: its status, its answer and its fault. */
-
-async function ask(question) {
-  const said = await link.post("ask", question);
-  return said.refused ? { status: said.status, out: "", err: said.refused } : said;
-}
-
+const ask = (question) => link.ask(question);
 const textOf = (lines) => lines.map((line) => `${line}\n`).join("");
 const stepsText = (length) => textOf(viewer.game.steps.slice(0, length).map(({ line }) => line));
 
@@ -181,18 +175,11 @@ function begin(layout) {
     viewer = new Viewer(game, layout, { hands: true, reached, who: (seat) => (seat === "1" ? t`You` : t`Seat ${seat}`) });
     hands = new Hands(viewer, play);
     questions = new Questions(viewer, ask, play, () => viewer.game.help());
-    editor = new Editor(viewer, hands, (text, places) => openTable(text, EDITED, places), find);
+    editor = new Editor(viewer, hands, (text, places) => openTable(text, EDITED, places));
     viewer.filled(0);
     viewer.afterShow = shown;
     shown();
   }
-}
-
-/* A table's verdict and the places that its graph has. */
-
-async function find(text) {
-  const said = await ask({ command: "layout", table: text });
-  return said.layout ? { ...said, layout: layoutOf(said.layout) } : said;
 }
 
 async function openFile(file) {
@@ -234,7 +221,6 @@ function bindTaking() {
     "take-now": () => save("now.json", questions.now()),
     "take-places": () => save("places.txt", placesText(viewer.board.layout)),
     "take-page": takePage,
-    print: () => window.print(),
   });
 }
 

@@ -19,7 +19,7 @@ const KEPT = `dollar ${location.pathname.replaceAll("-", "").toLowerCase()}`;
 export let given, viewer, hands, editor, questions = null, me = null, state = null, waiting = [], received = 0, shownRoom = 1;
 const MEANWHILE = 200, PATIENCE = 10000;
 let known = [], preview = [140, 110], frame = null, took = 0, last = 0, stopped = false, missed = false, pictured_ = "null";
-export const entries = new Map(), rooms = new Map();
+export const rooms = new Map();
 
 const teaches = () => given.role === "teacher";
 const watches = () => teaches() || me === null;
@@ -161,7 +161,6 @@ function handed(thing) {
   store("sessionStorage", `${KEPT} results`, past);
   Object.assign(given, { later: [] }, thing);
   [received, waiting] = [0, []];
-  entries.clear();
   clearRooms();
   if (editor && editor.draft) editor.leave();
   shownRoom = thing.room || 1;
@@ -244,10 +243,8 @@ function flush() {
 }
 
 function take(room, item) {
-  const seat = String(item.seat);
   add(room, item);
   room.undone = [];
-  entries.set(seat, (entries.get(seat) || 0) + 1);
 }
 
 function add(room, item) {
@@ -351,22 +348,15 @@ function showPicture(told) {
   hands.note(words);
 }
 
-/* Who plays. A row stays as long as its seat has the same pupil, so that its buttons can be clicked while others play. */
+/* Who plays. The rows stay as long as they say the same, so that their buttons can be clicked while others play. */
 function showNames(names) {
-  const list = element("names"), old = new Map([...list.children].map((row) => [row.dataset.who, row]));
-  const rows = Object.entries(names).map(([seat, { name, here, room }]) => {
-    const who = `${seat} ${name}`, row = old.get(who) || rowOf(seat, name, who), shared = state.size > 1 ? t` in room ${room}` : "";
-    const words = t` ${entries.get(seat) || 0} played${shared}${here ? "" : t`, away`} `, part = row.querySelector("span");
-    row.className = here ? "" : "away";
-    if (part.textContent !== words) part.textContent = words;
-    return row;
-  });
-  if (rows.length !== list.children.length || rows.some((row, i) => row !== list.children[i])) list.replaceChildren(...rows);
+  const list = element("names"), rows = Object.entries(names).map(([seat, who]) => rowOf(seat, who));
+  if (list.innerHTML !== rows.map((row) => row.outerHTML).join("")) list.replaceChildren(...rows);
 }
 
-function rowOf(seat, name, who) {
-  const row = made("li", "", { value: seat, "data-who": who });
-  row.append(made("b", name), made("span", ""));
+function rowOf(seat, { name, here, room }) {
+  const row = made("li", "", { value: seat, class: here ? "" : "away" });
+  row.append(made("b", name), state.size > 1 ? t` in room ${room} ` : " ", here ? "" : t`away `);
   if (me && Number(seat) === me.seat) {
     const other = given.kept ? [" ", button(t`somebody else`, changeOver)] : [];
     row.append(t`(you) `, button(t`rename`, askName), " ", button(t`leave`, leave), ...other);
@@ -509,10 +499,7 @@ function freeing(seat, name, bars = false) {
   }, { "aria-label": bars ? t`Bar ${name}` : t`Free the seat of ${name}` });
 }
 
-async function ask(question) {
-  const said = await post("ask", question);
-  return said.refused ? { status: said.status, out: "", err: said.refused } : said;
-}
+const ask = (question) => link.ask(question);
 
 /* A move for show: this page and the wall show the board after it, and no game is changed. */
 async function demonstrate(line) {
@@ -610,11 +597,7 @@ async function handOut(thing) {
 }
 
 function drawTables() {
-  const find = async (table) => {
-    const got = await post("layout", { table, name: "" });
-    return got.refused ? { err: got.refused } : { layout: layoutOf(got.layout) };
-  };
-  editor = new Editor(viewer, hands, (table, places) => handOut({ table, places, name: "a table of the class" }), find);
+  editor = new Editor(viewer, hands, (table, places) => handOut({ table, places, name: "a table of the class" }));
   element("edit-done").textContent = t`Hand it out`;
   bind({ edit: () => editor.open() });
 }

@@ -9,15 +9,14 @@ import { Game, nameWords } from "./words.js";
 const MOST_VERTICES = GRAMMAR.limits["dg_graph::MAX_VERTICES"], ROOM = [620, 440], STEP = 10;
 
 export class Editor {
-  viewer; hands; done; find; draft; kept; handled;
+  viewer; hands; done; draft; kept; handled;
   /* `done` is called with the text of the table and the places, and gives what the program refuses, null if it is done, or false if it
      is not. */
-  constructor(viewer, hands, done, find) {
-    Object.assign(this, { viewer, hands, done, find, draft: null });
+  constructor(viewer, hands, done) {
+    Object.assign(this, { viewer, hands, done, draft: null });
     bind({
       "add-vertex": () => this.addVertex(), "add-edge": () => this.addEdge(element("edge-from").value, element("edge-to").value),
-      "edit-done": () => this.finish(), "edit-cancel": () => this.close(), "edit-places": () => this.places(),
-      "edit-clear": () => this.clear(),
+      "edit-done": () => this.finish(), "edit-cancel": () => this.close(), "edit-clear": () => this.clear(),
     });
   }
 
@@ -82,13 +81,6 @@ export class Editor {
     this.leave();
     this.viewer.board.focus(this.viewer.game.names[0]);
     return null;
-  }
-
-  async places() {
-    const found = await this.find(this.text());
-    if (!found.layout) return refuse("edit-refused", found.err);
-    this.viewer.board.layout = this.wider(found.layout);
-    return this.draw();
   }
 
   /* Begins with an empty board. */

@@ -9,10 +9,10 @@ import { movesWords, planned } from "./words.js";
 const LONG_PRESS = 550, FAR_ENOUGH = 9, PATIENT = 1000;
 
 export class Hands {
-  viewer; board; play; pointed; press; joining; other; joins;
+  viewer; board; play; pointed; press; other; joins;
   /* `play` is called with a line, and `pointed` when others are chosen. */
   constructor(viewer, play) {
-    Object.assign(this, { viewer, play, pointed: () => {}, board: viewer.board, press: null, joining: null, other: null, joins: true });
+    Object.assign(this, { viewer, play, pointed: () => {}, board: viewer.board, press: null, other: null, joins: true });
     this.onBoard();
     this.onKeys();
     this.onForms();
@@ -139,33 +139,16 @@ export class Hands {
       else if (this.other) return;
       else if (event.key === "Enter") this.moves(name, event.shiftKey);
       else if (event.key === " ") this.choose(name);
-      else if (event.key === "j") this.join(name);
-      else if (event.key === "Escape") this.escape();
+      else if (event.key === "Escape") this.forget();
       else return;
       event.preventDefault();
     });
   }
 
-  join(name) {
-    if (this.joining === null || this.joining === name) {
-      this.joining = this.joining === name ? null : name;
-      this.tell(this.joining === null ? "" : t`An edge from ${name}: go to the other vertex and press j again.`);
-    } else {
-      const from = this.joining;
-      this.joining = null;
-      this.play(`join ${from} ${name}`);
-    }
-  }
-
-  /* Forgets what was chosen and begun. */
+  /* Forgets what was chosen. */
   forget() {
-    this.joining = null;
     this.unchoose();
     this.tell("");
-  }
-
-  escape() {
-    this.forget();
     this.board.draw();
   }
 

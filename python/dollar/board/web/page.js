@@ -43,15 +43,21 @@ export class Link {
     return this.turn;
   }
 
-  async post(path, thing) {
-    const got = await post(path, thing, this.patience);
+  async post(path, thing, patience = this.patience) {
+    const got = await post(path, thing, patience);
     if (got.status === null) {
       this.fails++;
       this.breaks();
     }
     if (got.status !== TOO_FAST) return got;
     await new Promise((done) => setTimeout(done, RETRY));
-    return this.post(path, thing);
+    return this.post(path, thing, patience);
+  }
+
+  /* What the program says to a question: its status, its answer and its fault. */
+  async ask(question) {
+    const said = await this.post("ask", question, LONG);
+    return said.refused ? { status: said.status, out: "", err: said.refused } : said;
   }
 
   /* Waits until the page has drawn what was played. */
