@@ -88,6 +88,9 @@ def with_focus(player):
     """Whoever goes on by Tab sees where he is, and comes to each control."""
     player.open_example("houses", asks=False)
     player.value("$$('details').forEach((at) => { at.open = true; })")
+    for wanted in "roads", "edges":
+        player.click("#houses")
+        equal(player.text("#note"), f"Click cyd: it sends a dollar along each of its {wanted}.", "the words that are chosen")
     seen = {}
     for _ in range(60):
         player.press("Tab")

@@ -148,27 +148,6 @@ def of_another_form(place, ann, line):
         equal(place.ask("POST", "line", raw=raw)[0], wanted, f"a request of {raw!r:.40}")
 
 
-def commands(folder):
-    """The teacher stops the game for a while and ends it; what is asked then is told in words."""
-    with a_class(folder, 3, "ann") as (_, _, desk, ann):
-        equal(ann.play("look")[0], 200, "a line")
-        desk.post("pause", {"paused": True})
-        stopped = 409, "The teacher has paused the game. This line was not played."
-        equal(ann.play("commit"), stopped, "a line meanwhile")
-        ann.until(lambda pupil: pupil.states[-1]["paused"], "nobody is told of it")
-        desk.post("pause", {"paused": False})
-        expect(ann.play("commit")[1].split(" by ")[0] in ("1 winnable", "1 unwinnable"), f"a line after it: {ann.lines[-1]}")
-        desk.post("end", {})
-        equal(ann.play("claim"), (503, OVER), "a line after the end")
-        ann.until(lambda pupil: pupil.states[-1]["ends"] == {"1": {"status": 0, "text": ""}}, "nobody is told of the end")
-        equal(len(taken(desk, folder)[0]), 2, "the steps after the end")
-        desk.post("again", {})
-        equal(ann.play("claim")[0], 200, "a line after the game was begun again")
-        equal(desk.post("again", {}), (409, "The game goes on."), "begun again while it goes on")
-        page = desk.post("replay", {})[1]["page"]
-        expect(page.startswith("<!doctype html>") and "1 commit" in page, "the page of the game")
-
-
 def deaths(folder):
     """The program is killed in the middle, and the game is brought back with the looks that the seats had."""
     with a_class(folder, 5, *(f"pupil {number}" for number in range(5))) as (child, _, desk, *room):
@@ -185,13 +164,17 @@ def deaths(folder):
         first.until(lambda pupil: pupil.states[-1]["ends"] == {"1": {"status": -9, "text": ""}},
                     "nobody is told that it was killed")
         before = len(taken(desk, folder)[0])
-        equal(desk.post("again", {})[0], 200, "it is begun again")
+        equal([desk.post("again", {}) for _ in range(2)], [(200, {}), (409, "The game goes on.")], "it is begun again")
         status, answer = first.play("commit")
         expect(status == 200 and answer.split(" ")[1] in ("winnable", "unwinnable", "stale"),
                f"the look was not kept: {answer}")
         steps, history = taken(desk, folder)
         equal(len(history), before + 1, "the entries after it was begun again")
         in_order(room, steps, history)
+        desk.post("end", {})
+        equal(first.play("claim"), (503, OVER), "a line after the end")
+        first.until(lambda pupil: pupil.states[-1]["ends"] == {"1": {"status": 0, "text": ""}}, "nobody is told of the end")
+        equal([desk.post("again", {})[0], first.play("claim")[0]], [200, 200], "a line after the game was begun again")
 
 
 def entry(seat, line, answer):
@@ -412,5 +395,5 @@ def other_names(folder):
             equal(place.post("join", {"name": "ann", "browser": "b" * 24}, headers=given)[0], status, f"{origin} at {host}")
 
 
-load_tests = tests_of(many_pupils, network, strangers, commands, deaths, keeping, a_long_game, full_history, floods, clicks,
+load_tests = tests_of(many_pupils, network, strangers, deaths, keeping, a_long_game, full_history, floods, clicks,
                       opening, other_names, teacher_here, given=tempfile.TemporaryDirectory)

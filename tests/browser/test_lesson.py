@@ -6,7 +6,7 @@ import os
 import re
 import tempfile
 
-from browser import READY, Page, at
+from browser import CTRL, READY, Page, at
 from common import EXAMPLES, PATIENCE, addresses, asked, started, written
 from firefox import in_both
 from helpers import equal, expect, tests_of
@@ -95,7 +95,10 @@ def coming_in(folder, browsers, networks, pupils, teacher):
 
 def first_table(ann, others, desk, wall, networks):
     """The four houses: the first minute teaches, and what is played while connections die is played and drawn."""
-    equal(ann.text("#note"), "Click cyd: it sends a dollar along each of its edges.", "the first minute")
+    equal(ann.text("#note"), "Click cyd: it sends a dollar along each of its roads.", "the first minute")
+    for word in "edges", "roads":
+        desk.click("#may-houses")
+        ann.until(f"$('#note').textContent.endsWith(' {word}.') && $('#legend').textContent.includes(' {word[:-1]} was')")
     for name, size in SIZES.items():
         ann.size(*size)
         equal(ann.value(BELOW), [], f"what can't be seen on a {name}")
@@ -147,8 +150,23 @@ def kind_houses(ann, others, desk, wall):
               [ann.seat, ["-1", "0", "1", "1"], ["1", "2", "3", "4"], True], "the fire, and nothing else said beside it")
     picture(wall, "wall-fire")
     picture(desk, "teacher-fire")
+    shown_by_hand(ann, desk, wall)
     desk.value("($('#show').value = 'all', $('#show').dispatchEvent(new Event('change')))")
     wall.until("document.body.classList.contains('all-rooms')")
+
+
+def shown_by_hand(ann, desk, wall):
+    """The teacher plays moves for show and points at a house; the wall shows it, and no game is changed."""
+    for name, amounts in ("dan", ["0", "2", "2", "-3"]), ("cyd", ["0", "3", "0", "-2"]):
+        desk.click(at(name))
+        for page in desk, wall:
+            page.until(f"texts('#board .amount').join() === '{','.join(amounts)}' && $$('#board .arrow').length")
+    equal(wall.text("#note"), "cyd lends. In debt: dan owes 2.", "what is said of a move for show")
+    desk.click(at("bob"), CTRL)
+    for page in desk, wall:
+        page.until("names('#board .chosen').join() === 'bob'")
+    picture(wall, "wall-shown")
+    equal(ann.value("[viewer.game.length, rooms.get(me.seat).items.length]"), [0, 0], "the game after it")
 
 
 def at_own_speed(folder, ann, others, desk, wall):

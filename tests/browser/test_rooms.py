@@ -67,10 +67,6 @@ def next_tables(folder):
             equal(desk.post("table", given)[0], 200, f"the table {given}")
             ann.until(lambda pupil: pupil.tables[-1]["name"] == name and not pupil.entries, f"the table {given} does not come")
         equal((ann.play("claim")[1], bob.play("claim")[1]), ("0 not won", "1 not won"), "lines on a table that all share again")
-        for level in LEVELS:
-            equal(desk.post("table", {"graph": "Cube", "level": level, "size": 1})[0], 200, f"the puzzle {level}")
-            ann.until(lambda pupil: pupil.tables[-1]["name"] == f"Cube, {level}", f"the puzzle {level} does not come")
-            confirmed(folder, ann.tables[-1]["tables"][0], level)
         before = len(ann.tables)
         for given, said in (
                 ({"table": "{}"}, "shape of top"), ({"size": 4}, "there is no such room"), ({"size": "1"}, "there is no such room"),
@@ -225,13 +221,27 @@ def a_puzzle_each(folder):
             equal(desk.get(f"table.json?room={number}")[1], text, f"the file of room {number}")
             taken(desk, folder, number)
         watcher.leave()
+    for path, thing in ("may", {"gifts": True}), ("door", {"open": False}):
+        desk.post(path, thing)
+    undo = {"key": room[2].key}
+    equal(room[2].place.post("undo", undo)[1], {"undo": True}, "a move that is taken back before an accident")
     child.kill()
     child.communicate()
-    with played(*words) as (_, (_, teacher)):
-        desk = Place(teacher)
-        for act in "an accident", "the same again":
-            equal([desk.get(f"table.json?room={number}")[1] for number in range(1, 7)], tables, f"the puzzles after {act}")
-            desk.post("table", {"size": 1})
+    with played(*words) as (_, found):
+        equal(found, [pupils, teacher], "the addresses after an accident")
+        watcher = Watcher(desk)
+        watcher.until(lambda page: page.states and len(page.rooms) == 6, "the games do not come back")
+        state, shown = watcher.states[-1], watcher.tables[-1]
+        equal([state["names"]["3"]["name"], state["may"]["gifts"], state["open"], state["size"], shown["name"], shown["tables"]],
+              ["pupil 2", True, False, 1, "Wheel of 5, unwinnable", tables], "what comes back")
+        equal([room[2].place.post("redo", undo)[1], room[2].play("gift a 1")[0]], [{"redo": True}, 200], "the move is played again")
+        for number in range(1, 7):
+            told_all(watcher, number, *taken(desk, folder, number))
+        desk.post("table", {"size": 1})
+        equal([desk.get(f"table.json?room={number}")[1] for number in range(1, 7)], tables, "the puzzles after the same again")
+        watcher.leave()
+    (kept / "table5" / "tables.json").unlink()
+    refused(["board", "--no-browser", *words], "has lost its table 5", stdin=subprocess.DEVNULL)
 
 
 def permitted(folder):
@@ -283,12 +293,15 @@ def by_a_short_code(folder):
 
 def many_seats(folder):
     """A script takes no more seats at once than a few; everybody else has one at once."""
-    with a_class(folder, 30) as (_, place, _):
+    with a_class(folder, 30) as (_, place, desk):
         place.source = "127.0.0.66", 0
         took = [place.post("join", {"name": "x", "browser": f"b{number}"})[0] for number in range(29)]
         expect(took[:12] == [200] * 12 and set(took) == {200, 429}, f"the seats of a script: {took}")
         equal(len({Pupil(place.address, "honest", events=False).seat for _ in range(10)}), 10, "the seats of others")
         expect(waited(lambda: place.post("join", {"name": "y"})[0] == 200), "a school behind one address gets its seats one by one")
+        equal([desk.post("seats", {"count": count})[0] for count in (29, 65, "40", 40)], [409, 409, 409, 200], "other seats")
+        pupils = [Pupil(place.address, "late", events=False) for _ in range(17)]
+        equal(([pupil.seat for pupil in pupils if pupil.seat > 30], pupils[-1].play("look")[0]), (list(range(31, 41)), 200), "more seats")
 
 
 def names(folder):
@@ -307,43 +320,5 @@ def names(folder):
         anna.until(lambda pupil: "Cem" in str(pupil.states[-1:]), "the names are not told")
 
 
-def an_accident(folder):
-    """A class in rooms on its second table is killed, and comes back: addresses, names, keys, tables, rooms and switches."""
-    kept, table = Path(folder, "kept"), written(folder, "table.json", json.dumps(TABLE))
-    words = [table, "--class", "4", "--keep", kept]
-    child = started(*words)
-    pupils, teacher = addresses(child)
-    room = [Pupil(pupils, name, events=False) for name in ("ann", "bob", "cem")]
-    room[0].play("lend ann")
-    Place(teacher).post("table", {"table": TRIANGLE, "name": "three", "size": 1})
-    Place(teacher).post("may", {"gifts": True, "questions": True})
-    Place(teacher).post("door", {"open": False})
-    for pupil in room:
-        for line in ("borrow b", "look", "gift a 1")[:pupil.seat]:
-            equal(pupil.play(line)[0], 200, f"the line {line}")
-    equal(Place(pupils).post("undo", {"key": room[2].key})[1], {"undo": True}, "a move that is taken back before the accident")
-    child.kill()
-    child.communicate()
-    with played(*words) as (_, found):
-        equal(found, [pupils, teacher], "the addresses")
-        watcher = Watcher(Place(pupils))
-        equal(taken(Place(teacher), folder, 3)[0], ["3 borrow b", "3 look"], "the steps of a room that took a move back")
-        equal(Place(pupils).post("redo", {"key": room[2].key})[1], {"redo": True}, "the move is played again")
-        for pupil in room:
-            equal(pupil.play("commit" if pupil.seat == 2 else "claim")[0], 200, "a line after the accident")
-            steps, history = taken(Place(teacher), folder, pupil.seat)
-            equal(len(steps), pupil.seat + 1, f"the steps of room {pupil.seat}")
-            told_all(watcher, pupil.seat, steps, history)
-        watcher.until(lambda page: page.states, "the state does not come")
-        state, shown = watcher.states[-1], watcher.tables[-1]
-        equal(([state["names"][key]["name"] for key in "123"], state["may"]["gifts"], state["size"]), (["ann", "bob", "cem"], True, 1),
-              "the names, a switch and the size of rooms")
-        equal((shown["name"], shown["tables"], state["open"]), ("three", [TRIANGLE], False), "the table, and the door")
-        watcher.leave()
-    lost = kept / "table2" / "tables.json"
-    lost.unlink()
-    refused(["board", "--no-browser", *words], "has lost its table 2", stdin=subprocess.DEVNULL)
-
-
 load_tests = tests_of(apart, next_tables, in_the_middle, on_graphs, a_puzzle_each, taking_back, hints, permitted, by_a_short_code,
-                      many_seats, names, an_accident, given=tempfile.TemporaryDirectory)
+                      many_seats, names, given=tempfile.TemporaryDirectory)
