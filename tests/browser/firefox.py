@@ -2,19 +2,15 @@
 process."""
 import base64
 import functools
-import itertools
 import json
 import os
-import pathlib
-import re
 import shutil
-import subprocess
 import tempfile
 import unittest
+from pathlib import Path
 
 from browser import CTRL, INSIDE, SHIFT, Browser, needed, opened
-from common import PATIENCE
-from helpers import needed as module
+from common import text_of
 
 NAMES = "firefox-esr", "firefox"
 KEYS = {"Tab": "\ue004", "Enter": "\ue006", "Escape": "\ue00c", "End": "\ue010", "Home": "\ue011", "ArrowLeft": "\ue012",
@@ -64,35 +60,27 @@ class Firefox(Browser):
 
     def __enter__(self):
         if not self.other:
-            self.begin()
+            self.folder = Path(tempfile.mkdtemp())
+            lines = ("user_pref(%s, %s);\n" % tuple(map(json.dumps, pair)) for pair in PREFERENCES.items())
+            (self.folder / "user.js").write_text("".join(lines))
+            self.begin("--headless", "--no-remote", "--profile", str(self.folder))
+            self.call("session.new", capabilities={})
+            self.call("session.subscribe", events=["log.entryAdded", "network.beforeRequestSent"])
+            self.call("script.addPreloadScript", functionDeclaration="() => {%s}" % INSIDE)
         own = self.call("browser.createUserContext")["userContext"]
         self.context = self.call("browsingContext.create", type="window", userContext=own)["context"]
         return self
 
-    def begin(self):
-        """Starts the process."""
-        websocket = module("websocket")
-        self.folder, self.numbers = tempfile.mkdtemp(), itertools.count(1)
-        lines = ("user_pref(%s, %s);\n" % tuple(map(json.dumps, pair)) for pair in PREFERENCES.items())
-        pathlib.Path(self.folder, "user.js").write_text("".join(lines))
-        words = [self.program, "--headless", "--no-remote", "--remote-debugging-port=0", "--profile", self.folder]
-        self.child = subprocess.Popen(words, stdin=subprocess.DEVNULL, stdout=subprocess.DEVNULL, stderr=subprocess.PIPE, text=True)
-        found = next(filter(None, (re.search(r"ws://\S+", line) for line in self.child.stderr)))
-        self.link = websocket.create_connection(found[0] + "/session", timeout=PATIENCE, suppress_origin=True)
-        self.call("session.new", capabilities={})
-        self.call("session.subscribe", events=["log.entryAdded", "network.beforeRequestSent"])
-        self.call("script.addPreloadScript", functionDeclaration="() => {%s}" % INSIDE)
+    def address(self):
+        place = self.folder / "WebDriverBiDiServer.json"
+        try:
+            return "ws://{ws_host}:{ws_port}/session".format(**json.loads(text_of(place)))
+        except (OSError, ValueError):
+            return None
 
     def __exit__(self, *_):
         if not self.other:
-            self.link.close()
-            self.ended()
-
-    def send(self, message):
-        self.link.send(json.dumps(message))
-
-    def message(self):
-        return json.loads(self.link.recv())
+            super().__exit__()
 
     def note(self, message):
         given = message.get("params", {})
@@ -158,4 +146,4 @@ class Firefox(Browser):
 
     def picture(self, place, whole=False):
         got = self.inside("browsingContext.captureScreenshot", origin="document" if whole else "viewport")
-        pathlib.Path(place).write_bytes(base64.b64decode(got["data"]))
+        Path(place).write_bytes(base64.b64decode(got["data"]))

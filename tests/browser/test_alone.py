@@ -147,8 +147,8 @@ def by_touch(player):
     player.does("1 lend dan", player.touch, at("dan"))
     player.does("1 borrow dan", player.touch, at("dan"), 1.0)
     (x, y), length = player.middle(at("dan")), player.length()
-    player.does("1 lend dan", player.touch_drag, [x, y], [x + 11, y + 4])
-    player.touch_drag(at("ann"), at("bob"))
+    player.does("1 lend dan", lambda: player.drag([x, y], [x + 11, y + 4], finger=True))
+    player.drag(at("ann"), at("bob"), finger=True)
     time.sleep(0.3)
     equal(player.length(), length + 1, "the steps after a swipe")
 

@@ -157,11 +157,11 @@ def kind_houses(ann, others, desk, wall):
 
 def shown_by_hand(ann, desk, wall):
     """The teacher plays moves for show and points at a house; the wall shows it, and no game is changed."""
-    for name, amounts in ("dan", ["0", "2", "2", "-3"]), ("cyd", ["0", "3", "0", "-2"]):
+    for name, amounts in ("dan", ["1", "2", "3", "-5"]), ("cyd", ["1", "3", "1", "-4"]):
         desk.click(at(name))
         for page in desk, wall:
             page.until(f"texts('#board .amount').join() === '{','.join(amounts)}' && $$('#board .arrow').length")
-    equal(wall.text("#note"), "cyd lends. In debt: dan owes 2.", "what is said of a move for show")
+    equal(wall.text("#note"), "cyd lends. In debt: dan owes 4.", "what is said of a move for show")
     desk.click(at("bob"), CTRL)
     for page in desk, wall:
         page.until("names('#board .chosen').join() === 'bob'")
