@@ -9,7 +9,6 @@ import os
 import shutil
 import subprocess
 import tempfile
-import time
 import unittest
 from pathlib import Path
 
@@ -31,6 +30,9 @@ globalThis.$ = (selector) => document.querySelector(selector);
 globalThis.$$ = (selector) => [...document.querySelectorAll(selector)];
 globalThis.texts = (selector) => $$(selector).map((at) => at.textContent);
 globalThis.names = (selector) => $$(selector).map((at) => at.dataset.name);
+// A click on a busy machine is no long press.
+const later = setTimeout;
+globalThis.setTimeout = (act, time) => later(act, time === 550 ? 6000 : time);
 addEventListener("load", async () => {
   const script = $("script[type=module][src]");
   globalThis.inside = script ? await import(script.src) : { get viewer() { return $("#board").viewer; } };
@@ -100,6 +102,7 @@ class Browser:
         self.session = self.call("Target.attachToTarget", targetId=page, flatten=True)["sessionId"]
         for domain in "Page", "Runtime", "Network":
             self.call(domain + ".enable")
+        self.call("Emulation.setFocusEmulationEnabled", enabled=True)
         self.call("Page.addScriptToEvaluateOnNewDocument", source=INSIDE)
         return self
 
@@ -229,12 +232,12 @@ class Browser:
         self.call("Input.dispatchMouseEvent", type="mouse" + kind, x=place[0], y=place[1], button="left", buttons=held,
                   clickCount=1, modifiers=modifiers)
 
-    def click(self, selector, modifiers=0, hold=0):
-        """Clicks on an element with the mouse; with `hold` the button is down for so many seconds."""
+    def click(self, selector, modifiers=0, until="true"):
+        """Clicks on an element with the mouse, and lets it go once something holds."""
         place = self.middle(selector)
         self.mouse("Moved", place, modifiers, 0)
         self.mouse("Pressed", place, modifiers)
-        time.sleep(hold)
+        self.until(until)
         self.mouse("Released", place, modifiers, 0)
 
     def drag(self, *ends, finger=False):
@@ -252,10 +255,10 @@ class Browser:
         """One event of a finger at a place."""
         self.call("Input.dispatchTouchEvent", type="touch" + kind, touchPoints=[{"x": x, "y": y} for x, y in places])
 
-    def touch(self, selector, hold=0):
-        """Touches an element with a finger; with `hold` for so many seconds."""
+    def touch(self, selector, until="true"):
+        """Touches an element with a finger, until something holds."""
         self.finger("Start", self.middle(selector))
-        time.sleep(hold)
+        self.until(until)
         self.finger("End")
 
     def choose_file(self, selector, place):
@@ -330,7 +333,7 @@ class Page:
         self.until(f"viewer.game.length === {length}")
 
     def focus(self, selector):
-        self.value(f"$({json.dumps(selector)}).focus()")
+        self.until(f"(($) => {{ $.focus(); return document.activeElement === $; }})($({json.dumps(selector)}))")
 
     def types(self, selector, text):
         """Types a text into a field in place of what it has."""
@@ -341,7 +344,7 @@ class Page:
     def edit(self):
         """Opens the editor, which brings the board into view once the page was drawn."""
         self.click("#edit")
-        self.value("new Promise((done) => setTimeout(done, 100))")
+        self.value("new Promise((done) => requestAnimationFrame(() => requestAnimationFrame(() => requestAnimationFrame(done))))")
         self.until("!$('#editor').hidden && $('#board').getBoundingClientRect().y > -1")
 
     def saved(self, button, name):

@@ -108,6 +108,7 @@ class Firefox(Browser):
     def press(self, key, modifiers=0):
         # In a window that is not the active one Enter clicks on no button.
         self.inside("browsingContext.activate")
+        self.until("document.hasFocus()")
         key, held = KEYS.get(key, key), [HELD[each] for each in HELD if modifiers & each]
         self.does("key", "keys", *({"type": "keyDown", "value": each} for each in (*held, key)),
                   *({"type": "keyUp", "value": each} for each in (key, *held)))

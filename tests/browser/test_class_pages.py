@@ -24,7 +24,7 @@ def with_entries(lesson):
     ann.click(at("cyd"))
     for page in ann, bob:
         page.has(1)
-    bob.touch(at("dan"), 1.0)
+    bob.touch(at("dan"), "viewer.game.length > 1")
     ann.has(2)
     said = ann.text("#asked"), ann.text("#said")
     equal(said, ("2 borrow dan", "1 moved ann=-2 bob=1 cyd=0 dan=2"), "a long touch of another")

@@ -15,7 +15,7 @@ def ran(program, *words, **given):
     """What a program of JavaScript does, or the test is left out."""
     if not shutil.which(program):
         raise unittest.SkipTest(f"tests of the pages' modules, for want of {program}")
-    return subprocess.run([program, *words], capture_output=True, text=True, timeout=4 * PATIENCE, **given)
+    return subprocess.run([program, *words], capture_output=True, text=True, timeout=PATIENCE, **given)
 
 
 def copied(folder):

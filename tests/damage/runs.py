@@ -13,7 +13,7 @@ from helpers import equal, expect, program, tests_of
 
 TRIANGLE = b'{"vertices":["a","b","c"],"edges":[["a","b",1],["b","c",1],["a","c",1]],"amounts":[2,-1,-1],"q":"a"}'
 WON = b"winnable by a=0 b=-1 c=-1 to a=0 b=0 c=0\n"
-PATIENCE = 60
+PATIENCE = 600
 # By which sizes and numbers are drawn.
 SEED = int(os.environ.get("SEED") or random.SystemRandom().randrange(10**6))
 

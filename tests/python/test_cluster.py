@@ -53,10 +53,10 @@ def csv_of(kind, answers):
     return file.getvalue()
 
 
-# A program that is killed the first time, and takes its time.
+# A program that is killed the first time, and does not end once rows are kept.
 SLOW = """#!/bin/sh
 [ -e %s ] || { : > %s; kill -9 $$; }
-sleep 0.2
+[ $(cat %s 2>/dev/null | wc -c) -gt 100 ] && exec sleep 600
 exec %s "$@"
 """
 
@@ -68,13 +68,13 @@ class OfTwoRuns(Test):
         (place / "tables.txt").write_text("".join(tables))
         kept, killed = place / "kept.csv", place / "killed"
         words = [sys.executable, "-m", "dollar", "sweep", "--processes", "2", "rank", place / "tables.txt", "1", kept]
-        environment = dict(os.environ, DOLLAR=self.script(SLOW % (killed, killed, program())), PYTHONPATH=str(PACKAGE))
+        environment = dict(os.environ, DOLLAR=self.script(SLOW % (killed, killed, kept, program())), PYTHONPATH=str(PACKAGE))
         child = subprocess.Popen(words, stderr=subprocess.PIPE, env=environment, start_new_session=True)
         while not (kept.exists() and kept.stat().st_size > 100):
             time.sleep(0.01)
             self.assertIsNone(child.poll())
         os.killpg(child.pid, signal.SIGINT)
-        self.assertEqual((child.communicate(timeout=20)[1], child.returncode), (b"", 130))
+        self.assertEqual((child.communicate(timeout=600)[1], child.returncode), (b"", 130))
         self.assertTrue(killed.exists())
         wanted, begun = alone("rank", ["rank", "--lines", "/dev/stdin", "1"], tables), kept.read_bytes()
         self.assertTrue(wanted.startswith(begun) and 100 < len(begun) < len(wanted))
@@ -177,7 +177,7 @@ class OfAClusterOfTwo(Test):
             child = subprocess.Popen(words, stderr=subprocess.PIPE, text=True, env=dict(os.environ, DOLLAR=program()))
             first = child.stderr.readline()
             then()
-            return first, child.communicate(timeout=60)[1], child.returncode
+            return first, child.communicate(timeout=600)[1], child.returncode
 
         waits = "python3 -m dollar sweep: the scheduler has no worker, and one is waited for: `dask worker ADDRESS` begins one\n"
         worker = ["dask_worker", address, "--no-nanny", "--nthreads", "1"]
@@ -194,7 +194,7 @@ class OfAClusterOfTwo(Test):
                                  stderr=subprocess.PIPE, text=True, env=dict(os.environ, DOLLAR=program()))
         self.assertIn("Client", next(line for line in scheduler.stderr if "Client" in line))
         scheduler.kill()
-        said = child.communicate(timeout=60)[1]
+        said = child.communicate(timeout=600)[1]
         self.assertEqual((said, child.returncode),
                          ("python3 -m dollar sweep: the scheduler is gone; the same command goes on after the last row\n", 1))
 

@@ -170,16 +170,16 @@ class OfAsyncSessions(Test):
         self.assertLess(threading.active_count(), 5)
 
     def test_a_hundred_that_wait_stop_nothing(self):
-        silent = self.script("#!/bin/sh\nexec sleep 60\n")
+        silent = self.script("#!/bin/sh\nexec sleep 600\n")
 
         async def play():
-            waiting = [await dollar.AsyncSession.open(TABLE, program=silent, patience=60) for _ in range(100)]
+            waiting = [await dollar.AsyncSession.open(TABLE, program=silent, patience=600) for _ in range(100)]
             tasks = [asyncio.ensure_future(session.ask("look")) for session in waiting]
             await asyncio.sleep(0.1)
             async with dollar.AsyncSession(TABLE) as other:
-                told = await asyncio.wait_for(other.ask("look"), 5)
+                told = await asyncio.wait_for(other.ask("look"), 300)
             # The pool of the loop, by which names are looked up and files are read, has all its threads.
-            count = await asyncio.wait_for(asyncio.get_running_loop().run_in_executor(None, len, tasks), 5)
+            count = await asyncio.wait_for(asyncio.get_running_loop().run_in_executor(None, len, tasks), 300)
             undone = sum(not task.done() for task in tasks)
             for session in waiting:
                 session.session.child.kill()

@@ -27,7 +27,7 @@ session = dollar.Session(dollar.Table([[0, 1], [1, 0]], [2, -1]))
 texts = [str(session.ask("look"))]
 try:
     os.killpg(0, signal.SIGINT)
-    time.sleep(10)
+    time.sleep(600)
 except KeyboardInterrupt:
     time.sleep(0.2)
     texts.append(str(session.ask("commit")))
@@ -74,7 +74,7 @@ class OfMeanings(Test):
 
     def test_an_interrupt_at_the_terminal_leaves_a_session(self):
         done = subprocess.run([sys.executable, "-c", INTERRUPTED], env=dict(os.environ, PYTHONPATH=str(PACKAGE)), stdout=subprocess.PIPE,
-                              text=True, timeout=30, start_new_session=True)
+                              text=True, timeout=600, start_new_session=True)
         self.assertEqual(done.stdout, "0 looked 0 0=2 1=-1|1 winnable by 0=0 1=-1 to 0=1 1=0|0\n")
 
     def test_a_forked_child_has_no_part_in_a_session(self):

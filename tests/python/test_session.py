@@ -174,7 +174,7 @@ class OfSessions(Test):
         words = ("import dollar, sys; table = dollar.Table([[0, 1], [1, 0]], [2, -1]); session = table.serve(); "
                  "texts = [str(dollar.judge(table)), str(next(dollar.judge_all([table]))), str(session.ask('claim'))]; "
                  "open(sys.argv[1], 'w').write('|'.join(texts))")
-        done = subprocess.run(["sh", "-c", '"$0" -c "$1" "$2" ' + closed, sys.executable, words, str(said)], timeout=30,
+        done = subprocess.run(["sh", "-c", '"$0" -c "$1" "$2" ' + closed, sys.executable, words, str(said)], timeout=600,
                               env=dict(os.environ, PYTHONPATH=str(PACKAGE)))
         verdict = "winnable by 0=0 1=-1 to 0=1 1=0"
         self.assertEqual(done.returncode, 0)
@@ -187,7 +187,7 @@ class OfSessions(Test):
         children = ["/proc/%d" % session.child.pid for session in sessions]
         del session, sessions
         gc.collect()
-        until = time.monotonic() + 10
+        until = time.monotonic() + 600
         while (threading.active_count() > threads or any(map(os.path.exists, children))) and time.monotonic() < until:
             time.sleep(0.01)
         self.assertLessEqual(threading.active_count(), threads)
@@ -198,5 +198,7 @@ class OfSessions(Test):
         for _ in range(20):
             with Session(TABLE) as session:
                 session.ask("claim")
-        time.sleep(0.1)
+        until = time.monotonic() + 600
+        while len(os.listdir("/proc/self/fd")) != before and time.monotonic() < until:
+            time.sleep(0.01)
         self.assertEqual(len(os.listdir("/proc/self/fd")), before)
