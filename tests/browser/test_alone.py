@@ -91,9 +91,6 @@ def with_focus(player):
     """Whoever goes on by Tab sees where he is, and comes to each control."""
     player.open_example("houses", asks=False)
     player.value("$$('details').forEach((at) => { at.open = true; })")
-    for wanted in "roads", "edges":
-        player.click("#houses")
-        equal(player.text("#note"), f"Click cyd: it sends a dollar along each of its {wanted}.", "the words that are chosen")
     seen = {}
     for _ in range(60):
         player.press("Tab")
@@ -104,6 +101,9 @@ def with_focus(player):
     equal([name for name, is_shown in seen.items() if not is_shown], [], "where the focus can't be seen")
     controls = {"ann", "bob", "cyd", "dan", "ask-won", "claim", "line-in", "take-table"}
     equal(controls - set(seen), set(), "controls to which Tab does not come")
+    for wanted in "roads", "edges":
+        player.click("#houses")
+        equal(player.text("#note"), f"Click cyd: it sends a dollar along each of its {wanted}.", "the words that are chosen")
 
 
 def in_sizes(player):
@@ -270,7 +270,7 @@ def with_many_lines(player):
     expect(RANDOM_LINES / 2 < more < RANDOM_LINES, f"{more} of {RANDOM_LINES} lines")
     player.compare("many lines")
     equal(asked("rr", player.now()), ("", "dollar: too many trials\n", 3), "the four numbers of a table with millions")
-    equal(player.told("#ask-rank")[1], by_line("rr", player.now()), "what the page says of them")
+    expect(player.told("#ask-rank")[1].startswith(by_line("rr", player.now())), "what the page says of them")
     player.value("hands.tell('')")
     player.compare("houses")
 

@@ -1,11 +1,11 @@
 """The table of a class, without a browser: one legal history, whatever pupils, strangers and accidents do."""
-import asyncio
 import contextlib
 import json
 import os
 import random
 import re
 import signal
+import socket
 import subprocess
 import tempfile
 import time
@@ -16,7 +16,7 @@ from common import EXAMPLES, PATIENCE, addresses, asked, is_modest, played, refu
 from dollar.board.server import addresses_of
 from helpers import equal, expect, tests_of
 from model import some_command
-from visitors import TABLE, PagePupil, Place, Pupil, Watcher, a_class, program_of, taken
+from visitors import TABLE, PagePupil, Place, Pupil, a_class, program_of, taken, watcher
 
 LONG = 60_000
 PUPILS, LINES = 30, 100
@@ -323,50 +323,31 @@ def teacher_here(folder):
         equal(far.get(f"{pupil}start")[0], 200, "a pupil from elsewhere")
 
 
-async def opened(place, path, wait=0.05):
-    """A file as a browser far away gets it: its request comes with the connection, some time after it was sent, and so does the
-    answer. Gives its path, whether it is whole, and the files that it names."""
-    await asyncio.sleep(wait)
-    reader, writer = await asyncio.open_connection(place.host, place.port)
-    writer.write(f"GET {place.path}{path} HTTP/1.1\r\nHost: {place.host}:{place.port}\r\n\r\n".encode())
-    await asyncio.sleep(wait)
-    try:
-        data = await asyncio.wait_for(reader.read(-1), PATIENCE)
-    except OSError:
-        data = b""
-    writer.close()
-    head, _, body = data.partition(b"\r\n\r\n")
-    length = re.search(rb"Content-Length: (\d+)", head)
-    return path, bool(length) and len(body) == int(length[1]), re.findall(rb'(?:module" src|stylesheet" href)="([\w.]+)"', body)
-
-
-async def all_opened(place):
-    """What so many browsers get that open a page at once: its files, beside connections that each opens and does not use."""
-    async def browser():
-        unused = [await asyncio.open_connection(place.host, place.port) for _ in range(5)]
-        found = [await opened(place, "")]
-        found += await asyncio.gather(*(opened(place, name.decode()) for name in found[0][2]))
-        found.append(await opened(place, "start"))
-        for _, writer in unused:
-            writer.close()
-        return found
-
-    return [file for files in await asyncio.gather(*(browser() for _ in range(SEATS))) for file in files]
+def opened(place):
+    """Which files a browser far away gets whole that opens the address: each request comes some time after its connection, and there are
+    more that it does not use."""
+    unused, found = [socket.create_connection((place.host, place.port)) for _ in range(5)], []
+    for path in "", "page.css", "class.js", "start":
+        with socket.create_connection((place.host, place.port), PATIENCE) as link:
+            time.sleep(0.05)
+            link.sendall(f"GET {place.path}{path} HTTP/1.1\r\nHost: {place.host}:{place.port}\r\n\r\n".encode())
+            head, _, body = link.makefile("rb").read().partition(b"\r\n\r\n")
+        found.append(f"Content-Length: {len(body)}".encode() in head.split(b"\r\n"))
+    for link in unused:
+        link.close()
+    return found
 
 
 def opening(folder):
     """As many browsers as there are seats open the address at once: all files come whole, and who watched before goes on."""
     with a_class(folder, SEATS, "ann") as (_, place, _, ann):
-        watcher = Watcher(place)
-        watcher.until(lambda page: page.states, "a page that watches is told nothing")
-        found = asyncio.run(all_opened(place))
-        equal({path for path, _, _ in found}, {"", "page.css", "class.js", "start"}, "the files of a page")
-        cut = [path for path, whole, _ in found if not whole]
-        equal((len(found), cut), (4 * SEATS, []), "files that are cut")
+        page = watcher(place)
+        page.until(lambda page: page.states, "a page that watches is told nothing")
+        equal(together(*[lambda: opened(place)] * SEATS), [[True] * 4] * SEATS, "whole files")
         ann.play("lend ann")
-        watcher.until(lambda page: len(page.entries) == 1, "who watched before is dropped")
-        expect(not watcher.ended.is_set(), "who watched before is dropped")
-        watcher.leave()
+        page.until(lambda page: len(page.entries) == 1, "who watched before is dropped")
+        expect(not page.ended.is_set(), "who watched before is dropped")
+        page.leave()
 
 
 def network(folder):

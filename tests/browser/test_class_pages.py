@@ -146,7 +146,7 @@ def with_a_drawn_table(lesson):
     for page in ann, bob, desk:
         page.until("given.name === 'a table of the class' && viewer.game.length === 0")
         equal(page.value("viewer.game.table"), {"vertices": ["a", "b"], "edges": [["a", "b", 1]], "amounts": [0, -1], "q": "a"}, "the table")
-    equal(desk.value("[$('#editor').hidden, $$('#board [tabindex]').length]"), [True, 0], "the teacher's page after it")
+    equal(desk.value("[$('#editor').hidden, $$('#board [tabindex]').length]"), [True, 2], "the teacher's page after it")
     ann.click(at("a"))
     bob.has(1)
 

@@ -10,7 +10,7 @@ from common import EXAMPLES, addresses, asked, played, refused, started, text_of
 from dollar.board.puzzles import GRAPHS, LEVELS, puzzles, table_of
 from dollar.board.server import LETTERS
 from helpers import equal, expect, tests_of
-from visitors import TABLE, Place, Pupil, Watcher, a_class, taken
+from visitors import TABLE, Place, Pupil, a_class, taken, watcher
 
 EACH = "--rooms", "1"
 GROUPS, PUPILS, LINES = 3, 12, 40
@@ -20,8 +20,7 @@ TRIANGLE = text_of(EXAMPLES / "triangle.json")
 def told_all(listener, room, steps, history):
     """Sees that a listener is told just the entries of a room."""
     def told():
-        entries = listener.rooms.get(room, [[]])[0] if isinstance(listener, Watcher) else listener.entries
-        return [(f"{seat} {line}", answer) for seat, line, answer in entries]
+        return [(f"{seat} {line}", answer) for seat, line, answer in listener.rooms.get(room, [[]])[0]]
 
     wanted = list(zip(steps, history))
     waited(lambda: told() == wanted)
@@ -32,7 +31,7 @@ def apart(folder):
     """Pupils in rooms of three play at once: each room has one legal history, its pupils are told no other, and the teacher all."""
     names = [f"pupil {number}" for number in range(PUPILS)]
     with a_class(folder, PUPILS, *names, options=("--rooms", str(GROUPS))) as (_, _, desk, *pupils):
-        watcher = Watcher(desk)
+        page = watcher(desk)
         draw = random.Random(3)
 
         def lines():
@@ -43,10 +42,10 @@ def apart(folder):
             steps, history = taken(desk, folder, room)
             members = [pupil for pupil in pupils if (pupil.seat - 1) // GROUPS + 1 == room]
             equal({step.split(" ")[0] for step in steps}, {str(pupil.seat) for pupil in members}, f"who played in room {room}")
-            for listener in [watcher, *members]:
+            for listener in [page, *members]:
                 told_all(listener, room, steps, history)
-        equal(watcher.states[-1]["names"]["4"]["room"], 2, "the room of the fourth seat")
-        watcher.leave()
+        equal(page.states[-1]["names"]["4"]["room"], 2, "the room of the fourth seat")
+        page.leave()
 
 
 def next_tables(folder):
@@ -80,7 +79,7 @@ def next_tables(folder):
 def in_the_middle(folder):
     """Tables are handed out while all play and take back: each line is answered, and no game is spoiled."""
     with a_class(folder, 8, *(f"pupil {number}" for number in range(8)), options=("--rooms", "2")) as (_, place, desk, *pupils):
-        watcher, over = Watcher(place), []
+        page, over = watcher(place), []
 
         def hand_out():
             for number in range(12):
@@ -101,10 +100,10 @@ def in_the_middle(folder):
 
         _, *statuses = together(hand_out, *(lambda pupil=pupil: play(pupil) for pupil in pupils))
         expect(set().union(*statuses) <= {200, 409, 429}, f"the statuses {statuses}")
-        watcher.until(lambda page: page.tables[-1]["turn"] == 13, "the last table does not come")
+        page.until(lambda page: page.tables[-1]["turn"] == 13, "the last table does not come")
         equal({pupil.play("claim")[0] for pupil in pupils}, {200}, "lines after the last table")
-        told_all(watcher, 1, *taken(desk, folder, 1))
-        watcher.leave()
+        told_all(page, 1, *taken(desk, folder, 1))
+        page.leave()
 
 
 def confirmed(folder, table, level):
@@ -136,7 +135,7 @@ def taking_back(folder):
     """A room takes moves back, if the teacher permits it; what is told and kept is the game that is left."""
     kept = Path(folder, "kept")
     with a_class(folder, 2, "ann", "bob", options=(*EACH, "--keep", kept)) as (_, place, desk, ann, bob):
-        watcher = Watcher(place)
+        page = watcher(place)
 
         def undo(act="undo"):
             return place.post(act, {"key": ann.key})
@@ -158,14 +157,14 @@ def taking_back(folder):
         equal(undo("redo")[1], {"redo": False}, "what was taken back before another move")
         steps, history = taken(desk, folder)
         equal((steps, history[0].split(" ")[0]), (["1 borrow cem"], "0"), "the steps after all was taken back")
-        for listener in ann, watcher:
+        for listener in ann, page:
             told_all(listener, 1, steps, history)
-        told_all(watcher, 2, *taken(desk, folder, 2))
+        told_all(page, 2, *taken(desk, folder, 2))
         desk.post("may", {"undo": False})
         for act in "undo", "redo":
             equal(undo(act), (409, "The teacher has switched off undo and redo. Nothing was played."), f"an {act} that is not permitted")
         equal(taken(desk, folder)[0], steps, "the steps after it")
-        watcher.leave()
+        page.leave()
     with a_class(folder, 2, "ann") as (_, place, _, ann):
         ann.play("lend ann")
         equal([place.post(act, {"key": ann.key})[0] for act in ("undo", "redo", "hint")], [409] * 3, "undo on a table that all share")
@@ -205,9 +204,9 @@ def a_puzzle_each(folder):
         equal(desk.post("table", {"graph": graph, "level": level, "size": size, "each": True})[0], 200, f"puzzles on {graph}")
         for pupil in room:
             pupil.until(lambda pupil: pupil.tables[-1]["name"].endswith(level), "a puzzle of one's own does not come")
-        watcher = Watcher(desk)
-        watcher.until(lambda page: page.tables, "the puzzles do not come to the teacher")
-        tables = watcher.tables[-1]["tables"]
+        page = watcher(desk)
+        page.until(lambda page: page.tables, "the puzzles do not come to the teacher")
+        tables = page.tables[-1]["tables"]
         equal(len(set(tables)), 6 // size, f"different puzzles on {graph}")
         made = [json.loads(text) for text in tables]
         equal({(str(each["edges"]), sum(each["amounts"])) for each in made}, {(str(made[0]["edges"]), sum(made[0]["amounts"]))},
@@ -220,7 +219,7 @@ def a_puzzle_each(folder):
         for number, text in enumerate(tables, 1):
             equal(desk.get(f"table.json?room={number}")[1], text, f"the file of room {number}")
             taken(desk, folder, number)
-        watcher.leave()
+        page.leave()
     for path, thing in ("may", {"gifts": True}), ("door", {"open": False}):
         desk.post(path, thing)
     undo = {"key": room[2].key}
@@ -229,17 +228,17 @@ def a_puzzle_each(folder):
     child.communicate()
     with played(*words) as (_, found):
         equal(found, [pupils, teacher], "the addresses after an accident")
-        watcher = Watcher(desk)
-        watcher.until(lambda page: page.states and len(page.rooms) == 6, "the games do not come back")
-        state, shown = watcher.states[-1], watcher.tables[-1]
+        page = watcher(desk)
+        page.until(lambda page: page.states and len(page.rooms) == 6, "the games do not come back")
+        state, shown = page.states[-1], page.tables[-1]
         equal([state["names"]["3"]["name"], state["may"]["gifts"], state["open"], state["size"], shown["name"], shown["tables"]],
               ["pupil 2", True, False, 1, "Wheel of 5, unwinnable", tables], "what comes back")
         equal([room[2].place.post("redo", undo)[1], room[2].play("gift a 1")[0]], [{"redo": True}, 200], "the move is played again")
         for number in range(1, 7):
-            told_all(watcher, number, *taken(desk, folder, number))
+            told_all(page, number, *taken(desk, folder, number))
         desk.post("table", {"size": 1})
         equal([desk.get(f"table.json?room={number}")[1] for number in range(1, 7)], tables, "the puzzles after the same again")
-        watcher.leave()
+        page.leave()
     (kept / "table5" / "tables.json").unlink()
     refused(["board", "--no-browser", *words], "has lost its table 5", stdin=subprocess.DEVNULL)
 
