@@ -39,10 +39,7 @@ addEventListener("load", async () => {
 });"""
 READY = "document.readyState === 'complete' && Boolean(globalThis.inside && inside.viewer)"
 # What a page holds in which something never came to be true.
-WHERE = """(() => {
-  const at = globalThis.inside, kept = location.protocol === "http:" ? JSON.stringify({ ...sessionStorage }) : "";
-  return [location.href, document.readyState, Boolean(at), Boolean(at && at.viewer), kept.slice(0, 600)].join(" | ");
-})()"""
+WHERE = "`${location.href} ${document.readyState} ${Boolean(globalThis.inside)} ${document.body.innerText}`.slice(0, 600)"
 LISTED = "$$('#whole li').map((at) => [...at.querySelectorAll('code')].map((code) => code.textContent))"
 MIDDLE = """(async () => {
   const at = $(%s), doors = $$("details:not([open])").filter((door) => at && door.contains(at) && at.parentElement !== door);

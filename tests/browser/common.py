@@ -115,4 +115,3 @@ def is_modest(child, most):
     """Sees that a server has never had more memory than so many KiB."""
     had = int(re.search(r"VmHWM:\s*(\d+)", text_of(f"/proc/{child.pid}/status"))[1])
     expect(had < most, f"{had} KiB of memory")
-    return had

@@ -72,6 +72,10 @@ function faults() {
 function games() {
   const game = new Game(TABLE);
   equal([...game.states[0].amounts.keys()], TABLE.vertices, "the order of the names");
+  const strange = ["constructor", "__proto__", "2", "1", "toString"];
+  const named = new Game({ vertices: strange, edges: [["2", "__proto__", 1]], amounts: [1, -1, 0, 2, 3], q: "2" });
+  named.add("1 script __proto__=2,constructor=-1", "0 moved constructor=2 __proto__=-3 2=1 1=2 toString=3");
+  equal([named.tableAt(1).amounts, [...named.steps[0].script]], [[2, -3, 1, 2, 3], [["__proto__", 2], ["constructor", -1]]], "strange names");
   game.add("1 lend b", "0 moved b=-1 a=1 2=0");
   game.add("1 join 2 a", "1 joined 1 b=-1 a=1 2=0");
   equal(game.tableAt(1), { ...TABLE, amounts: [-1, 1, 0] }, "a table in a game");

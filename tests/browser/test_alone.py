@@ -117,7 +117,8 @@ def in_sizes(player):
 
 
 def by_mouse(player):
-    """Clicks lend, shift-clicks and long presses borrow, chosen ones fire, and a line from one to another joins."""
+    """Clicks lend, also those of a voice without a pointer; shift-clicks and long presses borrow, chosen ones fire, and a line from one to
+    another joins."""
     edges, chosen = "$$('#board .edge').length", "names('#board .chosen')"
     player.does("1 lend cyd", player.click, at("cyd"))
     equal(player.text("#said"), "0 moved ann=-1 bob=2 cyd=1 dan=-1", "the answer to a click")
@@ -142,6 +143,7 @@ def by_mouse(player):
     (x, y) = player.middle(at("ann"))
     player.drag(at("ann"), [x + 130, y - 90])
     player.does("1 lend ann", player.click, at("ann"))
+    player.does("1 lend bob", player.value, f"$({json.dumps(at('bob'))}).dispatchEvent(new MouseEvent('click', {{ bubbles: true }}))")
 
 
 def by_touch(player):
@@ -151,15 +153,6 @@ def by_touch(player):
     player.drag(at("ann"), at("bob"), finger=True)
     (x, y) = player.middle(at("dan"))
     player.does("1 lend dan", lambda: player.drag([x, y], [x + 11, y + 4], finger=True))
-
-
-def by_a_voice(player):
-    """What a screen reader sends, a click without a pointer, lends."""
-    length = player.length()
-    player.value(f"$({json.dumps(at('bob'))}).dispatchEvent(new MouseEvent('click', {{ bubbles: true, detail: 0 }}))")
-    player.has(length + 1)
-    equal(player.text("#asked"), "1 lend bob", "the step by a click without a pointer")
-    equal(player.value("$$('#board [aria-pressed]').length"), 0, "what is said to be pressed")
 
 
 def by_keys(player):
@@ -191,26 +184,21 @@ def by_keys(player):
     player.press("End")
 
 
-def by_seats(player):
-    """Looks and commits of seats in turn, of which the one before a gift is stale."""
-    def sit(number):
-        player.value(f"$('#seat').value = '{number}'")
+def with_looks(player):
+    """A look is entered once, and one before a gift is stale."""
+    def types(line):
+        player.types("#line-in", line)
+        player.does(f"1 {line}", player.click, "#line-form button")
 
-    for number, word in (3, "look"), (64, "look"), (3, "commit"):
-        sit(number)
-        player.does(f"{number} {word}", player.click, "#" + word)
-    player.types("#line-in", "gift ann 1")
-    player.does("3 gift ann 1", player.click, "#line-form button")
-    sit(64)
-    player.does("64 commit", player.click, "#commit")
-    expect(re.search(r" stale \d+$", player.text("#said")), f"a look before a gift is not stale: {player.text('#said')}")
-    expect("Stale" in player.text("#answer"), "the page does not say that it is stale")
+    for word in "look", "commit", "look":
+        player.does(f"1 {word}", player.click, "#" + word)
+    types("gift ann 1")
+    player.does("1 commit", player.click, "#commit")
+    expect(" stale " in player.text("#said") and "Stale" in player.text("#answer"), f"a look before a gift: {player.text('#said')}")
     equal(player.refused(player.click, "#commit"), (NO_LOOK, "dollar: bad look"), "no look")
-    player.does("64 look", player.click, "#look")
-    player.types("#line-in", "rank 1")
-    player.does("64 rank 1", player.click, "#line-form button")
-    expect("rank" in player.text("#said"), f"no rank test: {player.text('#said')}")
-    sit(1)
+    player.does("1 look", player.click, "#look")
+    types("rank 1")
+    expect(" rank " in player.text("#said"), f"no rank test: {player.text('#said')}")
     player.does("1 claim", player.click, "#claim")
 
 
@@ -275,26 +263,9 @@ def with_many_lines(player):
     player.compare("houses")
 
 
-def with_script(player):
-    """*Show me* plays the script of the verdict, and then nobody is in debt."""
-    player.value("viewer.go(0)")
-    player.told("#ask-won")
-    player.click("#show-script")
-    player.answered(False)
-    # If that was played, nobody is asked again.
-    player.click("#show-script")
-    player.answered(True)
-    player.has(1)
-    equal(player.text("#asked"), "1 script bob=1,cyd=2", "the script that is shown")
-    equal(player.value("$$('#board .debt').length"), 0, "who is in debt after it")
-    player.does("1 claim", player.click, "#claim")
-    equal(player.text("#said"), "1 won", "a claim after it")
-
-
 def with_fire(player):
     """The fire goes as docs/play.md tells it: from ann to bob, dan and cyd."""
-    # The game before was won, and nobody is asked whether to leave it.
-    player.open_example("kind_houses", asks=False)
+    player.open_example("kind_houses")
     player.click("#cant")
     player.ends("Right: it can't be done.")
     equal(player.value("$('#next').hidden"), False, "the next puzzle after the right answer")
@@ -377,9 +348,12 @@ def with_an_end(player):
     equal([player.value(SAID), player.length()], [[["cyd", "to lend 1"]], 5], "a hint, and the steps after it")
     player.click("#ask-won")
     player.until("!$('#show-script').hidden")
-    player.click("#show-script")
-    player.answered(True)
+    for yes in False, True:
+        # If it was played after 'no', nobody is asked again.
+        player.click("#show-script")
+        player.answered(yes)
     player.has(1)
+    equal(player.text("#asked"), "1 script bob=1,cyd=2", "the script that is shown")
     player.ends(f"Solved in 3 moves: nobody owes a dollar. With help, so it is no best. {LEAST}")
     player.open_example("triangle", asks=False)
     player.open_example("houses", asks=False)
@@ -540,7 +514,7 @@ def with_a_long_game(player):
     equal(player.text("#said"), f"{LONG - 100} not won", "a claim on an earlier place")
 
 
-PARTS = (in_sizes, by_mouse, by_touch, by_a_voice, by_keys, by_seats, with_refusals, with_questions, with_many_lines, with_script,
+PARTS = (in_sizes, by_mouse, by_touch, by_keys, with_looks, with_refusals, with_questions, with_many_lines,
          with_fire, with_tables, on_a_phone, with_an_end, with_editor, with_editor_by_keys, with_takings, with_a_long_game, with_focus)
 # The three windows of Firefox have one focus, and it comes and goes; and it may scroll once a shorter page was drawn, when the
 # board is in view already. So the focus and the editor, and what follows on its table, are looked at in Chromium.

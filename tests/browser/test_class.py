@@ -305,22 +305,26 @@ def clicks(folder):
         is_modest(child, MOST_MEMORY)
 
 
-def teacher_here(folder):
-    """With --teacher-here the teacher's address is answered on this machine alone, and through no tunnel."""
+def hosts(folder):
+    """With --host the table is open to other machines, by the address of this one and by the name that was given; with --teacher-here the
+    teacher's address is answered on this machine alone, and through no tunnel."""
     table = written(folder, "table.json", json.dumps(TABLE))
     words = "--class", "2", "--host", "0.0.0.0", "--teacher-here", "--name", "class.example"
     with played(table, *words) as (_, (pupils, teacher)):
-        desk = Place(teacher)
-        equal((desk.host, desk.get("start")[0], desk.post("pause", {"paused": True})[0]), ("127.0.0.1", 200, 200), "the teacher here")
-        far = Place(f"http://{(addresses_of('0.0.0.0') or [desk.host])[0]}:{desk.port}{desk.path}")
-        if far.host != desk.host:
-            for path in "", "start", "steps.txt":
-                equal(far.get(path)[0], 404, f"the teacher from elsewhere at {path}")
-            equal(far.post("pause", {"paused": False})[0], 404, "the teacher from elsewhere")
-        equal(desk.get("start", headers={"Host": "class.example"})[0], 404, "the teacher through a tunnel")
-        pupil = re.sub("^http://[^/]*", "", pupils)
-        equal(desk.get(f"{pupil}start", headers={"Host": "class.example"})[0], 200, "a pupil through a tunnel")
-        equal(far.get(f"{pupil}start")[0], 200, "a pupil from elsewhere")
+        desk, path = Place(teacher), re.sub("^http://[^/]*", "", pupils)
+        host = (addresses_of("0.0.0.0") or [desk.host])[0]
+        equal((desk.host, desk.get("start")[0], desk.post("pause", {"paused": False})[0]), ("127.0.0.1", 200, 200), "the teacher here")
+        far, place, near = (Place(f"http://{at}:{desk.port}{of}") for at, of in ((host, desk.path), (host, path), (desk.host, path)))
+        asked = [far.ask(*request)[0] for request in (("GET", ""), ("GET", "start"), ("GET", "steps.txt"), ("POST", "pause", {}))]
+        expect(asked == [404] * 4 or host == desk.host, f"the teacher from elsewhere: {asked}")
+        local = 200 if host == desk.host else 404
+        for of, name, status in (
+                (place, host, 200), (place, "localhost", local), (place, "evil.example", 404), (place, "0.0.0.0", 404),
+                (place, "198.51.100.7", 404), (near, near.host, 200), (near, host, local)):
+            equal(of.get("start", headers={"Host": f"{name}:{desk.port}"})[0], status, f"{name} asked at {of.host}")
+        told = [each.get("start", headers={"Host": "class.example"})[0] for each in (desk, near)]
+        equal(told, [404, 200], "the teacher and a pupil through a tunnel")
+        equal(Pupil(place.address, "ann", events=False).play("claim")[1], "0 not won", "a line from the network")
 
 
 def opened(place):
@@ -350,17 +354,6 @@ def opening(folder):
         page.leave()
 
 
-def network(folder):
-    """With --host the table is open to other machines, by the address of this one and by no other name."""
-    with a_class(folder, 2, options=("--host", "0.0.0.0")) as (_, place, _):
-        local, near = 200 if place.host == "127.0.0.1" else 404, Place(f"http://127.0.0.1:{place.port}{place.path}")
-        for of, host, status in (
-                (place, place.host, 200), (place, "localhost", local), (place, "evil.example", 404), (place, "0.0.0.0", 404),
-                (place, "198.51.100.7", 404), (near, near.host, 200), (near, place.host, local)):
-            equal(of.get("start", headers={"Host": f"{host}:{place.port}"})[0], status, f"{host} asked at {of.host}")
-        equal(Pupil(place.address, "ann", events=False).play("claim")[1], "0 not won", "a line from the network")
-
-
 def other_names(folder):
     """With --name the class answers to other names, of this machine or of a tunnel, and to no more."""
     table = written(folder, "table.json", json.dumps(TABLE))
@@ -376,5 +369,5 @@ def other_names(folder):
             equal(place.post("join", {"name": "ann", "browser": "b" * 24}, headers=given)[0], status, f"{origin} at {host}")
 
 
-load_tests = tests_of(many_pupils, network, strangers, deaths, keeping, a_long_game, full_history, floods, clicks,
-                      opening, other_names, teacher_here, given=tempfile.TemporaryDirectory)
+load_tests = tests_of(many_pupils, strangers, deaths, keeping, a_long_game, full_history, floods, clicks,
+                      opening, other_names, hosts, given=tempfile.TemporaryDirectory)

@@ -29,14 +29,13 @@ def picture(browser, name, whole=False):
         browser.picture(f"{os.environ['PICTURES']}/lesson-{name}.png", whole)
 
 
-def handed(desk, table, level="easy", asks=True):
+def handed(desk, table, level="easy"):
     """The teacher hands out the next table, or several."""
     desk.value(f"($('#next-table').value = {json.dumps(table)}, $('#next-table').dispatchEvent(new Event('change')),"
                f" $('#next-level').value = '{level}')")
     turn = desk.value("given.turn")
     desk.click("#hand-form button")
-    if asks:
-        desk.answered(True)
+    desk.answered(True)
     desk.until(f"given.turn === {turn + 1} && [...rooms.values()].every(({{ game }}) => game.length === 0)")
 
 

@@ -42,20 +42,12 @@ class Network:
                     other.sendall(data) if data else other.shutdown(socket.SHUT_WR)
 
 
-@contextlib.contextmanager
-def through(network, browsers):
-    """A class behind a network, as its addresses."""
-    with played(EXAMPLES / "houses.json", "--class", "4", "--port", str(network.to), "--name", f"127.0.0.1:{network.port}") as (_, found):
-        yield found
-        for browser in browsers:
-            browser.harmless(Place(found[0]).origin)
-
-
 def dying_connections(folder, browsers):
     """Connections die: all that is played is drawn, in its order, on the pupil's page and on the wall."""
     one, two, _ = browsers
     network = Network()
-    with through(network, browsers) as (pupils, teacher):
+    words = EXAMPLES / "houses.json", "--class", "4", "--port", str(network.to), "--name", f"127.0.0.1:{network.port}"
+    with played(*words) as (_, (pupils, teacher)):
         ann, wall = PagePupil(one, pupils, "Ann", folder), Page(two, pupils, os.path.join(folder, "wall"))
         wall.click("#watch")
         wall.until("state !== null")
@@ -92,6 +84,7 @@ def dying_connections(folder, browsers):
         ann.click(at("cyd"))
         for page in ann, wall:
             page.has(46)
+            page.harmless(Place(pupils).origin)
 
 
 CARD = "ip link add {0} type {1} && ip addr add {2} dev {0} && ip link set {0} up"

@@ -1,5 +1,4 @@
 """Pages of games that were played: at each step what stands on them is compared with the step and its printed line."""
-import json
 import math
 import re
 import tempfile
@@ -176,11 +175,10 @@ def with_coins(browser, all_states, steps):
     browser.media()
 
 
-def shown_as(browser, folder, words, history):
-    """Sees that the page of these arguments has this history, and finds no difference in it."""
-    browser.open(page_of(folder, *words))
-    equal(browser.value("viewer.game.replies.map((reply) => reply.line)"), history, f"the history of {words}")
-    equal(browser.value("viewer.flaws"), {}, f"the flaws of {words}")
+def of_a_rule(browser, folder):
+    """The page of a greedy game."""
+    browser.open(page_of(folder, EXAMPLES / "four_cycle.json", "--greedy", "10"))
+    equal(browser.value("viewer.game.replies.map((reply) => reply.line)"), lines_of("greedy_cycle.out"), "the history of a rule")
 
 
 def of_long_game(browser, folder):
@@ -197,8 +195,8 @@ def of_long_game(browser, folder):
     equal(browser.value("viewer.now"), 60022, "20 steps further")
     browser.press("End")
     equal(browser.value("[viewer.now, $$('#whole li').length]"), [LONGEST, 400], "the last step")
-    browser.value("$('#earlier').click()")
-    equal(browser.value("$('#whole li button').dataset.index"), str(LONGEST - 799), "the lines before")
+    browser.value("viewer.go(999)")
+    equal(browser.value("$('#whole li button').dataset.index"), "800", "the lines around another")
 
 
 def with_differences(browser, folder):
@@ -214,20 +212,6 @@ def with_differences(browser, folder):
               f"the flaws of a history with another line {index}")
         browser.value(f"viewer.go({index + 1})")
         expect(lines[index] in (browser.value(SHOWN)["differs"] or ""), f"a changed line {index} is not shown")
-
-
-def with_strange_names(browser, folder):
-    """Names that mean something to a browser or to its language are names like others, and stand in their order."""
-    names = ["constructor", "__proto__", "2", "1", "toString"]
-    path = [["constructor", "__proto__", 1], ["__proto__", "2", 1], ["2", "1", 1], ["1", "toString", 1]]
-    table = written(folder, "t.json", json.dumps({"vertices": names, "edges": path, "amounts": [1, -1, 0, 2, 3], "q": "2"}))
-    steps = written(folder, "s", "1 lend __proto__\n1 script 1=2,constructor=-1\n1 look\n1 commit\n")
-    browser.open(page_of(folder, table, steps))
-    for index in range(5):
-        browser.value(f"viewer.go({index})")
-        shown = browser.value(SHOWN)
-        equal([name for name, _ in shown["amounts"]], names, f"the names at {index}")
-    equal(shown["script"][1][0], "__proto__", "the second row of the script")
 
 
 def with_strangers(browser, folder):
@@ -273,8 +257,7 @@ def of_replays(folder):
             by_play(browser, steps)
             with_coins(browser, all_states, steps)
         browser.in_sizes(steps, SIZES)
-    shown_as(browser, folder, [EXAMPLES / "four_cycle.json", "--greedy", "10"], lines_of("greedy_cycle.out"))
-    for part in with_differences, with_strange_names, with_strangers, with_places, of_long_game:
+    for part in of_a_rule, with_differences, with_strangers, with_places, of_long_game:
         part(browser, folder)
     browser.harmless("x:")
 

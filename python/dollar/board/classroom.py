@@ -51,18 +51,13 @@ class Bucket:
     def __init__(self, most: int, each: float) -> None:
         self.most, self.each, self.left, self.filled = most, each, float(most), time.monotonic()
 
-    def has(self) -> bool:
-        """Whether there is one more."""
+    def takes(self, count: int = 1) -> bool:
+        """Whether there is one more; if so, takes so many."""
         now = time.monotonic()
         self.left, self.filled = min(self.most, self.left + (now - self.filled) * self.each), now
-        return self.left >= 1
-
-    def takes(self) -> bool:
-        """Takes one, if there is one."""
-        if not self.has():
-            return False
-        self.left -= 1
-        return True
+        has = self.left >= 1
+        self.left -= count if has else 0
+        return has
 
 
 class Limit:
@@ -72,15 +67,12 @@ class Limit:
         self.own, self.whole = own, Bucket(*whole)
         self.buckets: dict[str, Bucket] = {}
 
-    def has(self, peer: str) -> bool:
-        """Whether there is one more for an address."""
+    def takes(self, peer: str, count: int = 1) -> bool:
+        """Whether there is one more for an address; if so, takes so many."""
         if peer not in self.buckets and len(self.buckets) >= MOST_PEERS:
             self.buckets.pop(next(iter(self.buckets)))
-        return self.buckets.setdefault(peer, Bucket(*self.own)).has() and self.whole.has()
-
-    def takes(self, peer: str) -> bool:
-        """Takes one for an address, if there is one."""
-        return self.has(peer) and self.buckets[peer].takes() and self.whole.takes()
+        bucket = self.buckets.setdefault(peer, Bucket(*self.own))
+        return bucket.takes(0) and self.whole.takes(count) and bucket.takes(count)
 
 
 class Seat:
@@ -336,7 +328,7 @@ class Classroom:
         word = request.query.get("code", request.parts[0])
         if word == "page.css":
             return asset(word)
-        is_code = COUNTED.match(word.replace("-", "")) and self.tries.has(request.peer)
+        is_code = COUNTED.match(word.replace("-", "")) and self.tries.takes(request.peer, 0)
         if is_code and same(word, self.short):
             return forward(request, self.secret)
         if is_code:

@@ -6,10 +6,10 @@ import { Hands } from "./hand.js";
 import { Link, fewest, save, startPage, store, stored, sure } from "./page.js";
 import { layoutOf, placesText } from "./places.js";
 import { speak, t } from "./texts.js";
-import { Viewer, bind, choose, element } from "./viewer.js";
+import { Viewer, bind, element } from "./viewer.js";
 import { Game, answerOf, firstWords, linesOf } from "./words.js";
 
-const SOON = 400, EDITED = "an edited table", WORDS_KEPT = "dollar words";
+const SOON = 400, EDITED = "an edited table";
 export let table, fileName, examples, viewer, hands, questions, editor;
 const link = new Link();
 let key = null, keeping = null, undone = false, shortest = null, right = false;
@@ -29,7 +29,7 @@ async function playNow(line) {
   if (line.includes("\n")) return hands.tell(t`A line has no newline in it.`);
   const dropped = game.length - now;
   if (dropped && !undone && !(await sure(t`If you play on from here, the later steps are lost (${dropped}). Play on?`))) return null;
-  const step = `${element("seat").value} ${line}`;
+  const step = `1 ${line}`;
   const said = await hands.patient(answered(now, step));
   if (said.status !== 0) return hands.refuse(said.err);
   game.cut(now);
@@ -172,7 +172,7 @@ function begin(layout) {
     questions.clear();
     viewer.reset(game, 0, layout);
   } else {
-    viewer = new Viewer(game, layout, { hands: true, reached, who: (seat) => (seat === "1" ? t`You` : t`Seat ${seat}`) });
+    viewer = new Viewer(game, layout, { hands: true, reached, who: () => t`You` });
     hands = new Hands(viewer, play);
     questions = new Questions(viewer, ask, play, () => viewer.game.help());
     editor = new Editor(viewer, hands, (text, places) => openTable(text, EDITED, places));
@@ -224,18 +224,6 @@ function bindTaking() {
   });
 }
 
-/* The words of the handout, or those of the field. */
-function chooseWords() {
-  const box = element("houses");
-  box.checked = stored("localStorage", WORDS_KEPT) === "handout";
-  box.addEventListener("change", () => {
-    store("localStorage", WORDS_KEPT, box.checked ? "handout" : "field");
-    speak(box.checked ? "handout" : "field");
-    viewer.show(viewer.now);
-  });
-  speak(box.checked ? "handout" : "field");
-}
-
 function bindTables() {
   element("example").append(...Object.keys(examples).map((file) => new Option(file, file)));
   element("example").addEventListener("change", async (event) => {
@@ -247,6 +235,10 @@ function bindTables() {
     await openFile(event.target.files[0]);
     event.target.value = "";
   });
+  element("houses").addEventListener("change", ({ target }) => {
+    speak(target.checked ? "handout" : "field");
+    viewer.show(viewer.now);
+  });
   bind({
     edit: () => editor.open(),
     "puzzle-form": puzzle, next, undo: goBack, redo: goOn, hint, cant,
@@ -254,11 +246,10 @@ function bindTables() {
 }
 
 async function start() {
-  chooseWords();
+  speak("field");
   const given = await (await fetch("start")).json();
   ({ table, examples, name: fileName } = given);
   element("puzzle-graph").append(...given.graphs.map((name) => new Option(name, name)));
-  choose("seat", Array.from({ length: 64 }, (_, i) => i + 1));
   const before = await kept();
   if (before) ({ table, fileName } = before);
   begin(layoutOf((before || given).layout));

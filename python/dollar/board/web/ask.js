@@ -47,11 +47,6 @@ export class Questions {
     return null;
   }
 
-  mark(counts, words) {
-    this.viewer.showText();
-    this.show({ says: below(counts, words) });
-  }
-
   show(given) {
     this.viewer.board.show(this.viewer.picture(given));
     this.shown(this.viewer.board.picture);
@@ -65,7 +60,8 @@ export class Questions {
     this.reply = reply;
     element("show-script").hidden = below(reply.script, planned).size === 0;
     element("show-fire").hidden = reply.kind === "winnable";
-    this.mark(reply.script, planned);
+    this.viewer.showText();
+    this.show({ says: below(reply.script, planned) });
   }
 
   showScript() {
@@ -81,7 +77,8 @@ export class Questions {
     if (tested === null) return;
     const { loss } = answerOf(linesOf(tested)[0]);
     this.tell(rankWords(rank, loss), printed + tested);
-    this.mark(loss || new Map(), lost);
+    this.viewer.showText();
+    this.show({ says: below(loss || new Map(), lost) });
   }
 
   /* The fire, in the order that the program tells. */

@@ -669,7 +669,6 @@ async function start() {
     hands.note(me ? firstWords(viewer.game, viewer.now) : "");
   };
   element("title").textContent = document.title = `${teaches() ? t`For the teacher` : t`The dollar game`}: ${given.name}`;
-  element("seats").hidden = true;
   hands = new Hands(viewer, teaches() ? demonstrate : play);
   if (teaches()) return teach();
   bind({ join, watch, undo: () => sent("undo", {}), redo: () => sent("redo", {}), hint, cant: () => sent("cant", {}),

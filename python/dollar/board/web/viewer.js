@@ -92,7 +92,7 @@ export class Viewer {
       keys[event.key]();
     });
     element("slider").addEventListener("input", () => this.go(Number(element("slider").value)));
-    bind({ ...ways, earlier: () => this.list(this.listed[0] - LISTED), later: () => this.list(this.listed[1]) });
+    bind(ways);
     window.addEventListener("resize", () => this.refit());
     const door = element("more");
     if (!door) return;
@@ -217,8 +217,6 @@ export class Viewer {
   }
 
   point() {
-    element("earlier").hidden = this.listed[0] === 0;
-    element("later").hidden = this.listed[1] === this.game.length;
     for (const at of document.querySelectorAll("[aria-current=step]")) at.removeAttribute("aria-current");
     const line = document.querySelector(`#whole [data-index="${this.now}"]`);
     if (line) line.setAttribute("aria-current", "step");
