@@ -46,7 +46,7 @@ MIDDLE = """(async () => {
   if (!at) return null;
   doors.forEach((door) => { door.open = true; });
   if (doors.length) await new Promise((done) => setTimeout(() => requestAnimationFrame(() => requestAnimationFrame(done))));
-  at.scrollIntoView({ block: "nearest" });
+  (at.closest("svg") || at).scrollIntoView({ block: "nearest" });
   const box = at.getBoundingClientRect();
   return [box.x + box.width / 2, box.y + box.height / 2];
 })()"""

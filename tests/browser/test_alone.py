@@ -257,7 +257,6 @@ def with_many_lines(player):
     more = player.length() - before
     expect(RANDOM_LINES / 2 < more < RANDOM_LINES, f"{more} of {RANDOM_LINES} lines")
     player.compare("many lines")
-    equal(asked("rr", player.now()), ("", "dollar: too many trials\n", 3), "the four numbers of a table with millions")
     expect(player.told("#ask-rank")[1].startswith(by_line("rr", player.now())), "what the page says of them")
     player.value("hands.tell('')")
     player.compare("houses")

@@ -23,10 +23,10 @@ BELOW = """(scrollTo(0, 0), ['#board svg', '#undo', '#hint', '#cant', '#count', 
 SIZES = {"phone": (360, 640), "side": (640, 320), "laptop": (1366, 768)}
 
 
-def picture(browser, name, whole=False):
+def picture(browser, name):
     """A picture of a page, if somebody wants to look at it."""
     if os.environ.get("PICTURES"):
-        browser.picture(f"{os.environ['PICTURES']}/lesson-{name}.png", whole)
+        browser.picture(f"{os.environ['PICTURES']}/lesson-{name}.png")
 
 
 def handed(desk, table, level="easy"):
@@ -76,7 +76,6 @@ def coming_in(folder, browsers, networks, pupils, teacher):
         equal("There is no such code." in place.get("/" + wrong)[1], True, "what a mistyped code is told")
     one.go(f"http://127.0.0.1:{networks[1].port}/{wrong}")
     one.until("document.readyState === 'complete' && Boolean($('input[name=code]'))")
-    picture(one, "phone-mistyped")
     one.write(code, into="input")
     one.click("button")
     one.until(f"location.pathname === '{place.path}' && {READY}")
@@ -126,7 +125,6 @@ def first_table(ann, others, desk, wall, networks):
     equal(others[0].play("script cyd=2,bob=1"),
           (409, "The teacher has switched off looks, verdicts, rank tests and scripts. Nothing was played."), "a script of a pupil")
     picture(wall, "wall-rooms")
-    picture(desk, "teacher-rooms", whole=True)
 
 
 def kind_houses(ann, others, desk, wall):
@@ -139,7 +137,6 @@ def kind_houses(ann, others, desk, wall):
     ann.until("$('#won').textContent === \"Right: it can't be done.\"")
     for page in desk, wall:
         page.until(f"$('#done').textContent === 'Done: 1 of {OTHERS + 1}' && {HOW}[{ann.seat - 1}] === \"done: it can't be\"")
-    picture(ann, "phone-right")
     for selector in f".room[data-room='{ann.seat}']", "#ask-won", "#show-fire":
         desk.until(f"$({json.dumps(selector)}) && !$({json.dumps(selector)}).hidden")
         desk.click(selector)
@@ -200,7 +197,6 @@ def at_own_speed(folder, ann, others, desk, wall):
     ann.until("/It can('t be done in fewer| be done in [0-9]+)[.]$/.test($('#won').textContent)")
     said = re.search(r"be done in (\d+)", ann.text("#won"))
     expect(not said or int(said[1]) < len(wins[1]), f"in how few moves it can be done, after {len(wins[1])}: {ann.text('#won')}")
-    picture(wall, "wall-list")
     return len(wins[1])
 
 
@@ -231,7 +227,6 @@ def lesson(folder, browsers):
         child.kill()
         child.communicate()
         ann.told("There is no connection to the game.")
-        picture(ann, "phone-lost")
         child = started(*words)
         equal(len(addresses(child)), 2, "the addresses after an accident")
         for page in ann, desk, wall:

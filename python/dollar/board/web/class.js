@@ -13,8 +13,6 @@ import { Game, commandWords, debtWords, faultWords, firstWords, linesOf, listed,
 
 const SOON = 16, LETTERS = 24, WORDS_HIGH = 85, TITLE_HIGH = 60, GROUPS = [0, 1, 2, 3, 4, 5, 6];
 const CHANGES = ["moved", "given", "joined"];
-const FILES = { "take-table": "table.json", "take-steps": "steps.txt", "take-history": "history.txt" };
-const SWITCHES = ["gifts", "edges", "questions", "undo", "hints", "houses"];
 const KEPT = `dollar ${location.pathname.replaceAll("-", "").toLowerCase()}`;
 export let given, viewer, hands, editor, questions = null, me = null, state = null, waiting = [], received = 0, shownRoom = 1;
 const MEANWHILE = 200, PATIENCE = 10000;
@@ -447,7 +445,7 @@ function showRoom(room, listed) {
 function enlarge(number) {
   shownRoom = number;
   begins();
-  for (const [id, file] of Object.entries(FILES)) element(id).href = `${file}?room=${number}`;
+  for (const at of document.querySelectorAll("#tables a")) /** @type {any} */ (at).search = `room=${number}`;
   scheduleFlush();
 }
 
@@ -635,8 +633,8 @@ function teach() {
   element("which").append(...given.places.map((each) => new Option(each, each)));
   element("which").addEventListener("change", () => command("place", { place: element("which").value }));
   element("which").parentElement.hidden = given.places.length < 2;
-  for (const name of SWITCHES) {
-    element(`may-${name}`).addEventListener("change", ({ target }) => command("may", { [name]: target.checked }));
+  for (const box of document.querySelectorAll("[id^=may-]")) {
+    box.addEventListener("change", () => command("may", { [box.id.slice("may-".length)]: /** @type {any} */ (box).checked }));
   }
   questions = new Questions(viewer, ask, () => {}, ({ amounts, says, burnt, script }) => {
     const words = element("told-words").textContent;
