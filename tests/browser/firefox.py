@@ -10,15 +10,16 @@ import unittest
 from pathlib import Path
 
 from browser import CTRL, INSIDE, SHIFT, Browser, needed, opened
-from common import text_of
+from common import text_of, waited
 
 NAMES = "firefox-esr", "firefox"
 KEYS = {"Tab": "\ue004", "Enter": "\ue006", "Escape": "\ue00c", "End": "\ue010", "Home": "\ue011", "ArrowLeft": "\ue012",
         "ArrowUp": "\ue013", "ArrowRight": "\ue014", "ArrowDown": "\ue015"}
 HELD = {SHIFT: "\ue008", CTRL: "\ue009"}
-# Nothing moves by itself, and nobody is asked or greeted.
+# Nothing moves by itself, nobody is asked or greeted, and no panel takes the focus.
 PREFERENCES = {"ui.prefersReducedMotion": 1, "browser.shell.checkDefaultBrowser": False, "datareporting.policy.dataSubmissionEnabled": False,
-               "browser.startup.page": 0, "network.captive-portal-service.enabled": False, "network.connectivity-service.enabled": False}
+               "browser.startup.page": 0, "network.captive-portal-service.enabled": False, "network.connectivity-service.enabled": False,
+               "browser.download.alwaysOpenPanel": False}
 
 
 @functools.lru_cache(maxsize=None)
@@ -107,8 +108,7 @@ class Firefox(Browser):
 
     def press(self, key, modifiers=0):
         # In a window that is not the active one Enter clicks on no button.
-        self.inside("browsingContext.activate")
-        self.until("document.hasFocus()")
+        waited(lambda: [self.inside("browsingContext.activate"), self.value("document.hasFocus()")][1], 5)
         key, held = KEYS.get(key, key), [HELD[each] for each in HELD if modifiers & each]
         self.does("key", "keys", *({"type": "keyDown", "value": each} for each in (*held, key)),
                   *({"type": "keyUp", "value": each} for each in (key, *held)))

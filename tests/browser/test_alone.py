@@ -264,7 +264,8 @@ def with_many_lines(player):
 
 def with_fire(player):
     """The fire goes as docs/play.md tells it: from ann to bob, dan and cyd."""
-    player.open_example("kind_houses")
+    # The game before was won once, and nobody is asked whether to leave it.
+    player.open_example("kind_houses", asks=False)
     player.click("#cant")
     player.ends("Right: it can't be done.")
     equal(player.value("$('#next').hidden"), False, "the next puzzle after the right answer")

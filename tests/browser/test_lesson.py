@@ -197,7 +197,7 @@ def at_own_speed(folder, ann, others, desk, wall):
     ann.until("/It can('t be done in fewer| be done in [0-9]+)[.]$/.test($('#won').textContent)")
     said = re.search(r"be done in (\d+)", ann.text("#won"))
     expect(not said or int(said[1]) < len(wins[1]), f"in how few moves it can be done, after {len(wins[1])}: {ann.text('#won')}")
-    return len(wins[1])
+    return 1 + next(i for i, line in enumerate(ann.value("viewer.game.replies.map(({ line }) => line)")) if "-" not in line)
 
 
 def results(desk, moves):
