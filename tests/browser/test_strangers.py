@@ -263,9 +263,8 @@ def server_of_one_player(folder):
     places = written(folder, "places", "a 0 0\nb 10 0\nc 10 5\n")
     for words in [], ["--class", "2"]:
         with played(TRIANGLE, "--places", places, *words) as (_, found):
-            (ax, ay), (bx, by), (cx,
-                                 cy) = (json.loads(Place(found[0]).get("start")[1])["layout"]["places"][name] for name in "abc")
-            expect(ay == by < cy and bx == cx > ax, f"other places: {[(ax, ay), (bx, by), (cx, cy)]}")
+            at = json.loads(Place(found[0]).get("start")[1])["layout"]["places"]
+            expect(at["a"][1] == at["b"][1] < at["c"][1] and at["b"][0] == at["c"][0] > at["a"][0], f"other places: {at}")
 
 
 def command_line(folder):

@@ -15,8 +15,7 @@ const link = new Link();
 let key = null, keeping = null, undone = false, shortest = null, right = false;
 
 const ask = (question) => link.ask(question);
-const textOf = (lines) => lines.map((line) => `${line}\n`).join("");
-const stepsText = (length) => textOf(viewer.game.steps.slice(0, length).map(({ line }) => line));
+const stepsText = (length) => viewer.game.steps.slice(0, length).map(({ line }) => `${line}\n`).join("");
 
 /* Lines are played one after another, each on what came of the one before. */
 

@@ -48,7 +48,7 @@ export class Board {
     const active = /** @type {any} */ (document.activeElement), held = this.svg.contains(active) ? active.dataset.name : null;
     this.svg.replaceChildren();
     this.svg.setAttribute("viewBox", `0 0 ${this.layout.width} ${this.layout.height}`);
-    this.label(picture.amounts);
+    this.svg.setAttribute("aria-label", t`The board: ${[...picture.amounts].map((pair) => pair.join(" ")).join(", ")}`);
     this.signs();
     this.edges(picture);
     const pairs = [...picture.edges.keys()].map((key) => key.split(" "));
@@ -61,10 +61,6 @@ export class Board {
   focus(name) {
     const found = [...this.svg.querySelectorAll(".vertex")].find((at) => at.dataset.name === name);
     if (found) found.focus({ preventScroll: true });
-  }
-
-  label(amounts) {
-    this.svg.setAttribute("aria-label", t`The board: ${[...amounts].map(([name, amount]) => `${name} ${amount}`).join(", ")}`);
   }
 
   signs() {
