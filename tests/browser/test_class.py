@@ -8,6 +8,7 @@ import signal
 import socket
 import subprocess
 import tempfile
+import threading
 import time
 from pathlib import Path
 
@@ -327,10 +328,11 @@ def hosts(folder):
         equal(Pupil(place.address, "ann", events=False).play("claim")[1], "0 not won", "a line from the network")
 
 
-def opened(place):
+def opened(place, begun):
     """Which files a browser far away gets whole that opens the address: each request comes some time after its connection, and there are
-    more that it does not use."""
+    older ones that it does not use."""
     unused, found = [socket.create_connection((place.host, place.port)) for _ in range(5)], []
+    begun.wait(PATIENCE)
     for path in "", "page.css", "class.js", "start":
         with socket.create_connection((place.host, place.port), PATIENCE) as link:
             time.sleep(0.05)
@@ -347,7 +349,8 @@ def opening(folder):
     with a_class(folder, SEATS, "ann") as (_, place, _, ann):
         page = watcher(place)
         page.until(lambda page: page.states, "a page that watches is told nothing")
-        equal(together(*[lambda: opened(place)] * SEATS), [[True] * 4] * SEATS, "whole files")
+        begun = threading.Barrier(SEATS)
+        equal(together(*[lambda: opened(place, begun)] * SEATS), [[True] * 4] * SEATS, "whole files")
         ann.play("lend ann")
         page.until(lambda page: len(page.entries) == 1, "who watched before is dropped")
         expect(not page.ended.is_set(), "who watched before is dropped")

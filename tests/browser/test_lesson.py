@@ -202,7 +202,7 @@ def at_own_speed(folder, ann, others, desk, wall):
 
 def results(desk, moves):
     """Who did what, as a table to take along, also after the teacher's page was loaded again."""
-    desk.visit(desk.value("location.href"), f"state !== null && rooms.size === {OTHERS + 1}")
+    desk.visit(desk.value("location.href"), f"state !== null && $('#done').textContent === 'Done: 12 of {6 * (OTHERS + 1)}'")
     rows = [line.split('","') for line in desk.saved("#take-results", "results.csv").splitlines()]
     equal(rows[0][:4], ['"pupils', "table", "done", "fewest moves"], "the head of the results")
     own = [row[1:6] for row in rows if row[0] == '"Ann']
