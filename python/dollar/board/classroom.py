@@ -371,8 +371,10 @@ class Classroom:
         if asked not in ("line", "undo", "redo", "hint", "cant", "next", "measure", "rename", "leave"):
             raise Nothing
         seat = self.seat_of(text_in(given, "key", 64))
-        if asked in ("rename", "leave"):
-            return self.renamed(seat, text_in(given, "name", 200)) if asked == "rename" else self.left(seat)
+        if asked == "rename":
+            return self.renamed(seat, text_in(given, "name", 200))
+        if asked == "leave":
+            return await self.teachers("free", {"seat": seat.number})
         room = self.room_of(seat)
         stage = given.get("stage", room.stage)
         if given.get("feed", room.feed.key) != room.feed.key or stage != room.stage:
@@ -423,11 +425,6 @@ class Classroom:
         seat.name = self.name_for(wanted, seat.number)
         self.changed()
         return as_json({"name": seat.name})
-
-    def left(self, seat: Seat) -> Answer:
-        self.free(seat.number, False)
-        self.changed()
-        return as_json({})
 
     def free_number(self) -> int:
         if not self.is_open:

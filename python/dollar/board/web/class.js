@@ -532,7 +532,7 @@ function showCommands(ended, end) {
     box.replaceChildren(...wanted.map(([value, text]) => new Option(text, value)));
   }
   box.value = shown;
-  element("most").value = seats;
+  if (document.activeElement !== element("most")) element("most").value = seats;
   element("which").value = state.address.split("/")[2];
 }
 
@@ -667,7 +667,7 @@ async function start() {
     hands.note(me ? firstWords(viewer.game, viewer.now) : "");
   };
   element("title").textContent = document.title = `${teaches() ? t`For the teacher` : t`The dollar game`}: ${given.name}`;
-  hands = new Hands(viewer, teaches() ? demonstrate : play);
+  hands = new Hands(viewer, teaches() ? (line) => link.inTurn(() => demonstrate(line)) : play);
   if (teaches()) return teach();
   bind({ join, watch, undo: () => sent("undo", {}), redo: () => sent("redo", {}), hint, cant: () => sent("cant", {}),
     async next() {

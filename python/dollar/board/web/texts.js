@@ -3,11 +3,11 @@
    which {} stands for what is put in, to its own. */
 
 const CHOICES = {
-  field: {},
-  handout: {
-    vertex: "house", Vertex: "House", vertices: "houses", edge: "road", edges: "roads", Edge: "Road", Edges: "Roads",
-    "an edge": "a road", "An edge": "A road",
-  },
+  field: new Map(),
+  handout: new Map([
+    ["vertex", "house"], ["Vertex", "House"], ["vertices", "houses"], ["edge", "road"], ["edges", "roads"], ["Edge", "Road"],
+    ["Edges", "Roads"], ["an edge", "a road"], ["An edge", "A road"],
+  ]),
 };
 const WORDS = /\b([Aa]n (?=edge))?([Vv]ert(ex|ices)|[Ee]dges?)\b/g;
 let chosen = CHOICES.field;
@@ -15,7 +15,7 @@ const standing = [];
 
 /* A text in the words that were chosen. */
 export function inWords(text) {
-  return chosen[text] || text.replace(WORDS, (word) => chosen[word] || word);
+  return chosen.get(text) || text.replace(WORDS, (word) => chosen.get(word) || word);
 }
 
 export function t(parts, ...given) {
@@ -28,6 +28,8 @@ export function speak(words) {
   if (standing.length === 0) {
     const walk = document.createTreeWalker(document.body, NodeFilter.SHOW_TEXT);
     while (walk.nextNode()) standing.push([walk.currentNode, walk.currentNode.nodeValue]);
+    const labels = [...document.querySelectorAll("[aria-label]")].map((at) => at.getAttributeNode("aria-label"));
+    standing.push(...labels.map((label) => [label, label.nodeValue]));
   }
   if (chosen === CHOICES[words]) return false;
   chosen = CHOICES[words];
