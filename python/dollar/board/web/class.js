@@ -637,11 +637,11 @@ function teach() {
     box.addEventListener("change", () => command("may", { [box.id.slice("may-".length)]: /** @type {any} */ (box).checked }));
   }
   questions = new Questions(viewer, ask, () => {}, ({ amounts, says, burnt, script }) => {
-    const words = element("told-words").textContent;
+    const words = element("told-words").textContent, picture = { room: shownRoom, amounts: [...amounts], says: [...says], burnt,
+      script: script && [...script], chosen: [...viewer.board.chosen], words };
     element("now").hidden = true;
     hands.note(words);
-    command("picture", { room: shownRoom, amounts: [...amounts], says: [...says], burnt, script: script && [...script],
-      chosen: [...viewer.board.chosen], words });
+    link.inTurn(() => command("picture", picture));
   });
   hands.pointed = () => questions.show(viewer.board.picture);
   drawTables();
