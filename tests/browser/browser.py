@@ -1,28 +1,26 @@
-"""Drives Chromium without a window, for the tests of the pages, by the two pipes on which it takes commands and gives
-answers."""
+"""Drives Chromium without a window, for the tests of the pages."""
 import atexit
 import base64
-import fcntl
 import functools
+import importlib.util
 import itertools
 import json
 import os
-import pathlib
-import select
 import shutil
 import subprocess
 import tempfile
-import time
 import unittest
+from pathlib import Path
 
 from common import PATIENCE, text_of, waited
 from helpers import equal, expect
+from helpers import needed as module
 
 NAMES = "chromium", "chromium-browser", "google-chrome", "chrome"
 KEYS = {"ArrowLeft": 37, "ArrowUp": 38, "ArrowRight": 39, "ArrowDown": 40, "Home": 36, "End": 35, " ": 32, "Tab": 9,
         "Enter": 13, "Escape": 27}
 CTRL, SHIFT = 2, 8
-OPTIONS = ["--headless", "--remote-debugging-pipe", "--disable-gpu", "--no-first-run", "--hide-scrollbars", "--disable-sync",
+OPTIONS = ["--headless", "--disable-gpu", "--no-first-run", "--hide-scrollbars", "--disable-sync",
            "--disable-background-networking", "--disable-component-update",
            "--host-resolver-rules=MAP * ~NOTFOUND, EXCLUDE 127.0.0.1"]
 # For the expressions of the tests: short names for what is looked up, and what a page's module exports; a page of one file has
@@ -32,23 +30,23 @@ globalThis.$ = (selector) => document.querySelector(selector);
 globalThis.$$ = (selector) => [...document.querySelectorAll(selector)];
 globalThis.texts = (selector) => $$(selector).map((at) => at.textContent);
 globalThis.names = (selector) => $$(selector).map((at) => at.dataset.name);
+// A click on a busy machine is no long press.
+const later = setTimeout;
+globalThis.setTimeout = (act, time) => later(act, time === 550 ? 6000 : time);
 addEventListener("load", async () => {
   const script = $("script[type=module][src]");
   globalThis.inside = script ? await import(script.src) : { get viewer() { return $("#board").viewer; } };
 });"""
 READY = "document.readyState === 'complete' && Boolean(globalThis.inside && inside.viewer)"
 # What a page holds in which something never came to be true.
-WHERE = """(() => {
-  const at = globalThis.inside, kept = location.protocol === "http:" ? JSON.stringify({ ...sessionStorage }) : "";
-  return [location.href, document.readyState, Boolean(at), Boolean(at && at.viewer), kept.slice(0, 600)].join(" | ");
-})()"""
+WHERE = "`${location.href} ${document.readyState} ${Boolean(globalThis.inside)} ${document.body.innerText}`.slice(0, 600)"
 LISTED = "$$('#whole li').map((at) => [...at.querySelectorAll('code')].map((code) => code.textContent))"
 MIDDLE = """(async () => {
   const at = $(%s), doors = $$("details:not([open])").filter((door) => at && door.contains(at) && at.parentElement !== door);
   if (!at) return null;
   doors.forEach((door) => { door.open = true; });
   if (doors.length) await new Promise((done) => setTimeout(() => requestAnimationFrame(() => requestAnimationFrame(done))));
-  at.scrollIntoView({ block: "nearest" });
+  (at.closest("svg") || at).scrollIntoView({ block: "nearest" });
   const box = at.getBoundingClientRect();
   return [box.x + box.width / 2, box.y + box.height / 2];
 })()"""
@@ -57,8 +55,8 @@ UNNAMED = """$$("button, select, input, [role=button]").filter((at) =>
 
 
 def found():
-    """Where Chromium is, or None."""
-    return next(filter(None, map(shutil.which, NAMES)), None)
+    """Where Chromium is, or None; also if this Python can't speak to it."""
+    return next(filter(None, map(shutil.which, NAMES)), None) if importlib.util.find_spec("websocket") else None
 
 
 def opened(browser):
@@ -75,10 +73,10 @@ def browsers():
 
 
 def needed():
-    """Three browsers, or the test is left out."""
+    """Three browsers as they are at first, or the test is left out."""
     if not found():
         raise unittest.SkipTest("all that is seen in a browser, for want of Chromium")
-    return browsers()
+    return [browser.fresh() for browser in browsers()]
 
 
 def at(name):
@@ -91,37 +89,37 @@ class Browser:
     pages have thrown in `thrown`."""
 
     def __init__(self, program):
-        self.program, self.numbers, self.rest = program, itertools.count(1), b""
+        self.program, self.numbers = program, itertools.count(1)
         self.asked, self.thrown, self.session = [], [], None
 
     def __enter__(self):
-        self.folder = tempfile.mkdtemp()
-        (to_read, self.to), (self.back, to_write) = os.pipe(), os.pipe()
-        reading, writing = (fcntl.fcntl(end, fcntl.F_DUPFD_CLOEXEC, 10) for end in (to_read, to_write))
-
-        def hand_over():
-            os.dup2(reading, 3)
-            os.dup2(writing, 4)
-
-        words = [self.program, *OPTIONS, f"--user-data-dir={self.folder}", *(["--no-sandbox"] if os.geteuid() == 0 else [])]
-        self.child = subprocess.Popen(words, stdin=subprocess.DEVNULL, stdout=subprocess.DEVNULL, stderr=subprocess.DEVNULL,
-                                      close_fds=False, preexec_fn=hand_over)
-        for end in {to_read, to_write, reading, writing}:
-            os.close(end)
+        self.folder = Path(tempfile.mkdtemp())
+        self.begin(*OPTIONS, f"--user-data-dir={self.folder}", *(["--no-sandbox"] if os.geteuid() == 0 else []))
         page = self.call("Target.createTarget", url="about:blank")["targetId"]
         self.session = self.call("Target.attachToTarget", targetId=page, flatten=True)["sessionId"]
         for domain in "Page", "Runtime", "Network":
             self.call(domain + ".enable")
+        self.call("Emulation.setFocusEmulationEnabled", enabled=True)
         self.call("Page.addScriptToEvaluateOnNewDocument", source=INSIDE)
         return self
 
-    def __exit__(self, *_):
-        os.close(self.to)
-        self.ended()
-        os.close(self.back)
+    def begin(self, *words):
+        """Starts the process, and opens the link on which it takes commands."""
+        nothing = subprocess.DEVNULL
+        self.child = subprocess.Popen([self.program, *words, "--remote-debugging-port=0"], stdin=nothing, stdout=nothing, stderr=nothing)
+        if not waited(self.address):
+            raise TimeoutError("the browser does not begin")
+        self.link = module("websocket").create_connection(self.address(), timeout=PATIENCE, suppress_origin=True)
 
-    def ended(self):
+    def address(self):
+        """Where it takes commands, once it has written that down."""
+        place = self.folder / "DevToolsActivePort"
+        port, _, path = text_of(place).partition("\n") if place.exists() else ("", "", "")
+        return path and f"ws://127.0.0.1:{port}{path}"
+
+    def __exit__(self, *_):
         """Ends the process, and drops its folder."""
+        self.link.close()
         try:
             self.child.terminate()
             self.child.wait(PATIENCE)
@@ -131,22 +129,11 @@ class Browser:
         shutil.rmtree(self.folder, ignore_errors=True)
 
     def send(self, message):
-        if self.session:
-            message["sessionId"] = self.session
-        os.write(self.to, json.dumps(message).encode() + b"\0")
+        self.link.send(json.dumps({**message, **({"sessionId": self.session} if self.session else {})}))
 
     def message(self):
         """The next message of the browser."""
-        end = time.monotonic() + PATIENCE
-        while b"\0" not in self.rest:
-            if not select.select([self.back], [], [], max(0, end - time.monotonic()))[0]:
-                raise TimeoutError("the browser says nothing")
-            got = os.read(self.back, 1 << 16)
-            if not got:
-                raise EOFError("the browser has ended")
-            self.rest += got
-        whole, self.rest = self.rest.split(b"\0", 1)
-        return json.loads(whole)
+        return json.loads(self.link.recv())
 
     def note(self, message):
         """Keeps what a message tells of the network and of errors."""
@@ -183,9 +170,18 @@ class Browser:
 
     def open(self, place):
         """Opens a file as a page, or an address, and waits until it is there."""
-        wanted = place if str(place).startswith("http:") else pathlib.Path(place).resolve().as_uri()
+        wanted = place if str(place).startswith("http:") else Path(place).resolve().as_uri()
         self.go(wanted)
         self.until(f"document.readyState === 'complete' && location.href === {json.dumps(wanted)}")
+
+    def fresh(self):
+        """The browser without a page, which has asked for nothing."""
+        self.go("about:blank")
+        self.until("location.href === 'about:blank'")
+        self.media()
+        self.size()
+        self.asked.clear()
+        return self
 
     def go(self, url):
         """Begins to open an address."""
@@ -233,39 +229,33 @@ class Browser:
         self.call("Input.dispatchMouseEvent", type="mouse" + kind, x=place[0], y=place[1], button="left", buttons=held,
                   clickCount=1, modifiers=modifiers)
 
-    def click(self, selector, modifiers=0, hold=0):
-        """Clicks on an element with the mouse; with `hold` the button is down for so many seconds."""
+    def click(self, selector, modifiers=0, until="true"):
+        """Clicks on an element with the mouse, and lets it go once something holds."""
         place = self.middle(selector)
         self.mouse("Moved", place, modifiers, 0)
         self.mouse("Pressed", place, modifiers)
-        time.sleep(hold)
+        self.until(until)
         self.mouse("Released", place, modifiers, 0)
 
-    def drag(self, *ends):
-        """Draws with the mouse from an element or a place to another."""
+    def drag(self, *ends, finger=False):
+        """Draws with the mouse or a finger from an element or a place to another."""
         one, other = map(self.middle, ends)
-        self.mouse("Moved", one, 0, 0)
-        self.mouse("Pressed", one)
+        act, begin, end = (self.finger, "Start", "End") if finger else (self.mouse, "Pressed", "Released")
+        if not finger:
+            self.mouse("Moved", one, 0, 0)
+        act(begin, one)
         for part in 0.2, 0.6, 1.0:
-            self.mouse("Moved", [one[i] + part * (other[i] - one[i]) for i in (0, 1)])
-        self.mouse("Released", other, 0, 0)
+            act("Move" if finger else "Moved", [one[i] + part * (other[i] - one[i]) for i in (0, 1)])
+        act(end, *([] if finger else [other, 0, 0]))
 
     def finger(self, kind, *places):
         """One event of a finger at a place."""
         self.call("Input.dispatchTouchEvent", type="touch" + kind, touchPoints=[{"x": x, "y": y} for x, y in places])
 
-    def touch(self, selector, hold=0):
-        """Touches an element with a finger; with `hold` for so many seconds."""
+    def touch(self, selector, until="true"):
+        """Touches an element with a finger, until something holds."""
         self.finger("Start", self.middle(selector))
-        time.sleep(hold)
-        self.finger("End")
-
-    def touch_drag(self, *ends):
-        """Draws with a finger from an element or a place to another."""
-        one, other = map(self.middle, ends)
-        self.finger("Start", one)
-        for part in 0.2, 0.6, 1.0:
-            self.finger("Move", [one[i] + part * (other[i] - one[i]) for i in (0, 1)])
+        self.until(until)
         self.finger("End")
 
     def choose_file(self, selector, place):
@@ -291,7 +281,7 @@ class Browser:
     def picture(self, place, whole=False):
         """Writes a picture of the page to a PNG file: of what the window shows, or of the whole page."""
         got = self.call("Page.captureScreenshot", format="png", captureBeyondViewport=whole)
-        pathlib.Path(place).write_bytes(base64.b64decode(got["data"]))
+        Path(place).write_bytes(base64.b64decode(got["data"]))
 
     def in_sizes(self, name, sizes=((360, 740), (1280, 800), (1920, 1080), (640, 400)), prepare=lambda: None):
         """At each size, in the light, in the dark and on paper, nothing stands out to the right, and each control has a
@@ -312,10 +302,10 @@ class Browser:
         self.media()
         self.size()
 
-    def harmless(self, *own, since=0):
+    def harmless(self, *own):
         """Sees that no page has thrown an error, or has asked the network for what is not its own."""
         equal(self.thrown, [], "what pages have thrown")
-        outside = [url for url in self.asked[since:] if not url.startswith((*own, "file:", "data:", "blob:", "about:"))]
+        outside = [url for url in self.asked if not url.startswith((*own, "file:", "data:", "blob:", "about:"))]
         equal(outside, [], "what pages have asked of others")
 
 
@@ -323,7 +313,7 @@ class Page:
     """A page under test, which does what its browser does, and the folder in which it saves its files."""
 
     def __init__(self, browser, address, folder):
-        self.browser, self.folder = browser, pathlib.Path(folder)
+        self.browser, self.folder = browser, Path(folder)
         self.folder.mkdir(exist_ok=True)
         self.visit(address)
 
@@ -340,7 +330,7 @@ class Page:
         self.until(f"viewer.game.length === {length}")
 
     def focus(self, selector):
-        self.value(f"$({json.dumps(selector)}).focus()")
+        self.until(f"(($) => {{ $.focus(); return document.activeElement === $; }})($({json.dumps(selector)}))")
 
     def types(self, selector, text):
         """Types a text into a field in place of what it has."""
@@ -351,7 +341,7 @@ class Page:
     def edit(self):
         """Opens the editor, which brings the board into view once the page was drawn."""
         self.click("#edit")
-        self.value("new Promise((done) => setTimeout(done, 100))")
+        self.value("new Promise((done) => requestAnimationFrame(() => requestAnimationFrame(() => requestAnimationFrame(done))))")
         self.until("!$('#editor').hidden && $('#board').getBoundingClientRect().y > -1")
 
     def saved(self, button, name):

@@ -11,7 +11,7 @@ from pathlib import Path
 from helpers import EXAMPLES, PACKAGE, ROOT, expect, program
 
 # So long is waited for what is to come: longer than the busiest machine takes.
-PATIENCE = 120
+PATIENCE = 300
 PLAY = [sys.executable, "-B", ROOT / "board" / "play", "--no-browser"]
 TRIANGLE = EXAMPLES / "triangle.json"
 
@@ -54,7 +54,7 @@ def together(*acts):
 
 def script(*words, **given):
     """Runs a command of the package, and gives what it printed, what it said on standard error, and its status."""
-    done = subprocess.run([sys.executable, "-B", PACKAGE / "dollar", *words], capture_output=True, timeout=PATIENCE * 4,
+    done = subprocess.run([sys.executable, "-B", PACKAGE / "dollar", *words], capture_output=True, timeout=PATIENCE,
                           **given)
     return done.stdout, done.stderr.decode(errors="replace"), done.returncode
 
@@ -115,4 +115,3 @@ def is_modest(child, most):
     """Sees that a server has never had more memory than so many KiB."""
     had = int(re.search(r"VmHWM:\s*(\d+)", text_of(f"/proc/{child.pid}/status"))[1])
     expect(had < most, f"{had} KiB of memory")
-    return had

@@ -2,37 +2,45 @@
 process."""
 import base64
 import functools
-import itertools
 import json
 import os
-import pathlib
-import re
 import shutil
-import subprocess
 import tempfile
 import unittest
+from pathlib import Path
 
-from browser import CTRL, INSIDE, SHIFT, Browser, opened
-from common import PATIENCE
-from helpers import needed as module
+from browser import CTRL, INSIDE, SHIFT, Browser, needed, opened
+from common import text_of, waited
 
 NAMES = "firefox-esr", "firefox"
 KEYS = {"Tab": "\ue004", "Enter": "\ue006", "Escape": "\ue00c", "End": "\ue010", "Home": "\ue011", "ArrowLeft": "\ue012",
         "ArrowUp": "\ue013", "ArrowRight": "\ue014", "ArrowDown": "\ue015"}
 HELD = {SHIFT: "\ue008", CTRL: "\ue009"}
-# Nothing moves by itself, and nobody is asked or greeted.
+# Nothing moves by itself, nobody is asked or greeted, and no panel takes the focus.
 PREFERENCES = {"ui.prefersReducedMotion": 1, "browser.shell.checkDefaultBrowser": False, "datareporting.policy.dataSubmissionEnabled": False,
-               "browser.startup.page": 0, "network.captive-portal-service.enabled": False, "network.connectivity-service.enabled": False}
+               "browser.startup.page": 0, "network.captive-portal-service.enabled": False, "network.connectivity-service.enabled": False,
+               "browser.download.alwaysOpenPanel": False}
 
 
 @functools.lru_cache(maxsize=None)
-def needed():
+def windows():
     """Three windows, or the test is left out."""
     program = next(filter(None, map(shutil.which, NAMES)), None)
     if not program:
         raise unittest.SkipTest("all that is seen in Firefox, for want of it")
     first = opened(Firefox(program))
     return [first, *(opened(Firefox(program, first)) for _ in range(2))]
+
+
+def in_both(test):
+    """A test that is given three browsers, as two: in Chromium and in Firefox."""
+    def in_chromium(folder):
+        test(folder, needed())
+
+    def in_firefox(folder):
+        test(folder, [window.fresh() for window in windows()])
+
+    return in_chromium, in_firefox
 
 
 def plain(value):
@@ -53,35 +61,27 @@ class Firefox(Browser):
 
     def __enter__(self):
         if not self.other:
-            self.begin()
+            self.folder = Path(tempfile.mkdtemp())
+            lines = ("user_pref(%s, %s);\n" % tuple(map(json.dumps, pair)) for pair in PREFERENCES.items())
+            (self.folder / "user.js").write_text("".join(lines))
+            self.begin("--headless", "--no-remote", "--profile", str(self.folder))
+            self.call("session.new", capabilities={})
+            self.call("session.subscribe", events=["log.entryAdded", "network.beforeRequestSent"])
+            self.call("script.addPreloadScript", functionDeclaration="() => {%s}" % INSIDE)
         own = self.call("browser.createUserContext")["userContext"]
         self.context = self.call("browsingContext.create", type="window", userContext=own)["context"]
         return self
 
-    def begin(self):
-        """Starts the process."""
-        websocket = module("websocket")
-        self.folder, self.numbers = tempfile.mkdtemp(), itertools.count(1)
-        lines = ("user_pref(%s, %s);\n" % tuple(map(json.dumps, pair)) for pair in PREFERENCES.items())
-        pathlib.Path(self.folder, "user.js").write_text("".join(lines))
-        words = [self.program, "--headless", "--no-remote", "--remote-debugging-port=0", "--profile", self.folder]
-        self.child = subprocess.Popen(words, stdin=subprocess.DEVNULL, stdout=subprocess.DEVNULL, stderr=subprocess.PIPE, text=True)
-        found = next(filter(None, (re.search(r"ws://\S+", line) for line in self.child.stderr)))
-        self.link = websocket.create_connection(found[0] + "/session", timeout=PATIENCE, suppress_origin=True)
-        self.call("session.new", capabilities={})
-        self.call("session.subscribe", events=["log.entryAdded", "network.beforeRequestSent"])
-        self.call("script.addPreloadScript", functionDeclaration="() => {%s}" % INSIDE)
+    def address(self):
+        place = self.folder / "WebDriverBiDiServer.json"
+        try:
+            return "ws://{ws_host}:{ws_port}/session".format(**json.loads(text_of(place)))
+        except (OSError, ValueError):
+            return None
 
     def __exit__(self, *_):
         if not self.other:
-            self.link.close()
-            self.ended()
-
-    def send(self, message):
-        self.link.send(json.dumps(message))
-
-    def message(self):
-        return json.loads(self.link.recv())
+            super().__exit__()
 
     def note(self, message):
         given = message.get("params", {})
@@ -108,7 +108,7 @@ class Firefox(Browser):
 
     def press(self, key, modifiers=0):
         # In a window that is not the active one Enter clicks on no button.
-        self.inside("browsingContext.activate")
+        waited(lambda: [self.inside("browsingContext.activate"), self.value("document.hasFocus()")][1], 5)
         key, held = KEYS.get(key, key), [HELD[each] for each in HELD if modifiers & each]
         self.does("key", "keys", *({"type": "keyDown", "value": each} for each in (*held, key)),
                   *({"type": "keyUp", "value": each} for each in (key, *held)))
@@ -147,4 +147,4 @@ class Firefox(Browser):
 
     def picture(self, place, whole=False):
         got = self.inside("browsingContext.captureScreenshot", origin="document" if whole else "viewport")
-        pathlib.Path(place).write_bytes(base64.b64decode(got["data"]))
+        Path(place).write_bytes(base64.b64decode(got["data"]))

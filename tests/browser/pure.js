@@ -1,10 +1,10 @@
-/* Tests of what the pages' modules do without a page: words, marks and places. `failures` gives what does not hold. */
+/* Tests of what the pages' modules do without a page: words and places. `failures` gives what does not hold. */
 
 import { GRAMMAR } from "./grammar.js";
 import { fitted, freePlace, layoutOf, placesText, shortened, vertexAhead, vertexAt, wordsPlace } from "./places.js";
 import {
-  CAUSES, FAULTS, Game, KINDS, answerOf, besideWords, commandWords, faultWords, firstWords, flows, legendWords, linesOf, markOf, mostTelling,
-  movesWords, nameWords, numbersOf, numbersWords, rankWords, reachedWords, replyOf, replyWords, startWords, stepOf,
+  CAUSES, FAULTS, Game, answerOf, commandWords, faultWords, firstWords, flows, linesOf, movesWords, nameWords, numbersOf, rankWords,
+  reachedWords, replyOf, replyWords, startWords, stepOf,
 } from "./words.js";
 
 const failures_ = [];
@@ -23,12 +23,12 @@ function sample(form, parts) {
   return form.split(" ").map((part) => (part in parts ? parts[part] : part)).join(" ");
 }
 
-/* Each form of the grammar is read, and has a mark and words. */
+/* Each form of the grammar is read, and has words. */
 function replies() {
   for (const form of GRAMMAR.replies) {
     const text = sample(form, { P: "a=2 b=-1", g: 3, k: 2 }), reply = replyOf(`7 ${text}`);
     equal([reply.line, reply.kind === "unread"], [`7 ${text}`, false], `the reply ${text}`);
-    equal(Boolean(replyWords(reply, AMOUNTS, "a") && markOf(stepOf("1 gift a 1"), reply)), true, `the words and the mark of ${text}`);
+    equal(Boolean(replyWords(reply, AMOUNTS, "a")), true, `the words of ${text}`);
     for (const [part, field] of [["g", "gifts"], ["k", "degree"]]) {
       if (form.split(" ").includes(part)) equal(reply[field], { g: 3, k: 2 }[part], `${field} of ${text}`);
     }
@@ -66,31 +66,16 @@ function faults() {
   const names = ["a", "a b", "b", "_9", "x".repeat(16), "x".repeat(17), ""].map((name) => nameWords(name, ["a"]) !== "");
   equal(names, [true, true, false, false, false, true, true], "names that a vertex beside a can't have");
   equal(faultWords("edge 0 is a loop"), "Edge 1 of the list leads from a vertex to itself.", "a fault with its number");
-  const bad = JSON.stringify({ vertices: ["a", "b c", "a"], edges: [["a", "b c", 40], ["b c", "b c", 0], ["a", "a", 24]], amounts: [7], q: "z" });
-  equal(["number of vertices", "name of vertex 1", "vertex 2 named twice", "edge 1 is a loop", "valence of vertex 0", "number of amounts",
-    "amount of vertex 0", "no vertex q", "not JSON", "shape of top"].map((text) => besideWords(text, bad)),
-  ["It is 3 here.", 'It is "b c" here.', 'It is "a" here.', 'It is ["b c","b c",0] here.', "It is 64 here.", "It is 1 here.", "It is 7 here.",
-    'It is "z" here.', "", ""], "the values beside faults");
-  equal([besideWords("no vertex q", bad, "x.json"), besideWords("not JSON", "{", "x.json"), besideWords("file too long", "", "x.json"),
-    besideWords("amount of vertex 3", "[]"), besideWords("no vertex q", undefined)],
-  ['It is "z" here. The file is x.json.', "The file is x.json.", "The file is x.json.", "", ""], "the file beside faults");
-}
-
-function marks() {
-  equal(markOf(stepOf("1 gift a -1"), { kind: "given" }), "\u2212", "the mark of a levy");
-  for (const { mark, legend } of Object.values(KINDS)) {
-    if (legend) equal(legendWords().includes(`${mark} ${legend}`), true, `the legend of ${mark}`);
-  }
-  const kinds = ["moved", "moved", "winnable", "moved", "given", "moved"].map((kind) => ({ kind }));
-  equal(mostTelling(kinds, 2), [3, 5], "the marks in two places");
-  equal(mostTelling(kinds, 2, { 4: "0 won" }), [3, 4], "a mark of a line that is another");
-  equal(mostTelling(kinds, 100), [1, 2, 3, 4, 5, 6], "marks with room for all");
-  equal(mostTelling([], 5), [], "no marks");
+  equal(faultWords("edge 2 is empty: ['a', 'b', 0], in x.json"), "Edge 3 of the list has the number 0.", "a fault with a value and a file");
 }
 
 function games() {
   const game = new Game(TABLE);
   equal([...game.states[0].amounts.keys()], TABLE.vertices, "the order of the names");
+  const strange = ["constructor", "__proto__", "2", "1", "toString"];
+  const named = new Game({ vertices: strange, edges: [["2", "__proto__", 1]], amounts: [1, -1, 0, 2, 3], q: "2" });
+  named.add("1 script __proto__=2,constructor=-1", "0 moved constructor=2 __proto__=-3 2=1 1=2 toString=3");
+  equal([named.tableAt(1).amounts, [...named.steps[0].script]], [[2, -3, 1, 2, 3], [["__proto__", 2], ["constructor", -1]]], "strange names");
   game.add("1 lend b", "0 moved b=-1 a=1 2=0");
   game.add("1 join 2 a", "1 joined 1 b=-1 a=1 2=0");
   equal(game.tableAt(1), { ...TABLE, amounts: [-1, 1, 0] }, "a table in a game");
@@ -132,12 +117,6 @@ function games() {
 
 function ranks() {
   equal(numbersOf("degree 2 genus 5 rank 0 dual -1"), { degree: "2", genus: "5", rank: "0", dual: "-1" }, "the four numbers of a line");
-  const law = "By Riemann-Roch, the first rank minus the second is degree + 1 - genus.";
-  const begins = "The degree, the total of the dollars, is 17. The genus, edges minus vertices plus 1, is 9.";
-  equal(numbersWords({ degree: "17", genus: "9", rank: "8", dual: "-1" }), `${begins} The rank is 8, and the rank of K - D is -1. ${law}`,
-    "ranks");
-  equal(numbersWords({ degree: "17", genus: "9", rank: "?", dual: "?" }),
-    `${begins} Neither rank is known, since too many losses would have to be tried. ${law}`, "ranks that are not known");
   equal([rankWords("-1", new Map()), rankWords("?"), rankWords("8", undefined), rankWords("1", new Map([["b", 1], ["c", 0], ["d", 1]]))],
     ["The rank is -1. It can't be won as it stands.", "The rank is not known, since too many losses would have to be tried.",
       "The rank is 8. Some loss of 9 dollars is too much; which one is not known, since too many losses would have to be tried.",
@@ -179,6 +158,6 @@ function fits() {
 }
 
 export function failures() {
-  for (const part of [replies, commands, faults, marks, games, ranks, places, fits]) part();
+  for (const part of [replies, commands, faults, games, ranks, places, fits]) part();
   return failures_;
 }

@@ -1,14 +1,14 @@
 """The table of a class, without a browser: one legal history, whatever pupils, strangers and accidents do."""
-import asyncio
 import contextlib
 import json
 import os
 import random
 import re
-import shutil
 import signal
+import socket
 import subprocess
 import tempfile
+import threading
 import time
 from pathlib import Path
 
@@ -17,7 +17,7 @@ from common import EXAMPLES, PATIENCE, addresses, asked, is_modest, played, refu
 from dollar.board.server import addresses_of
 from helpers import equal, expect, tests_of
 from model import some_command
-from visitors import TABLE, PagePupil, Place, Pupil, Watcher, a_class, program_of, taken
+from visitors import TABLE, PagePupil, Place, Pupil, a_class, program_of, taken, watcher
 
 LONG = 60_000
 PUPILS, LINES = 30, 100
@@ -149,27 +149,6 @@ def of_another_form(place, ann, line):
         equal(place.ask("POST", "line", raw=raw)[0], wanted, f"a request of {raw!r:.40}")
 
 
-def commands(folder):
-    """The teacher stops the game for a while and ends it; what is asked then is told in words."""
-    with a_class(folder, 3, "ann") as (_, _, desk, ann):
-        equal(ann.play("look")[0], 200, "a line")
-        desk.post("pause", {"paused": True})
-        stopped = 409, "The teacher has paused the game. This line was not played."
-        equal(ann.play("commit"), stopped, "a line meanwhile")
-        ann.until(lambda pupil: pupil.states[-1]["paused"], "nobody is told of it")
-        desk.post("pause", {"paused": False})
-        expect(ann.play("commit")[1].split(" by ")[0] in ("1 winnable", "1 unwinnable"), f"a line after it: {ann.lines[-1]}")
-        desk.post("end", {})
-        equal(ann.play("claim"), (503, OVER), "a line after the end")
-        ann.until(lambda pupil: pupil.states[-1]["ends"] == {"1": {"status": 0, "text": ""}}, "nobody is told of the end")
-        equal(len(taken(desk, folder)[0]), 2, "the steps after the end")
-        desk.post("again", {})
-        equal(ann.play("claim")[0], 200, "a line after the game was begun again")
-        equal(desk.post("again", {}), (409, "The game goes on."), "begun again while it goes on")
-        page = desk.post("replay", {})[1]["page"]
-        expect(page.startswith("<!doctype html>") and "1 commit" in page, "the page of the game")
-
-
 def deaths(folder):
     """The program is killed in the middle, and the game is brought back with the looks that the seats had."""
     with a_class(folder, 5, *(f"pupil {number}" for number in range(5))) as (child, _, desk, *room):
@@ -186,13 +165,17 @@ def deaths(folder):
         first.until(lambda pupil: pupil.states[-1]["ends"] == {"1": {"status": -9, "text": ""}},
                     "nobody is told that it was killed")
         before = len(taken(desk, folder)[0])
-        equal(desk.post("again", {})[0], 200, "it is begun again")
+        equal([desk.post("again", {}) for _ in range(2)], [(200, {}), (409, "The game goes on.")], "it is begun again")
         status, answer = first.play("commit")
         expect(status == 200 and answer.split(" ")[1] in ("winnable", "unwinnable", "stale"),
                f"the look was not kept: {answer}")
         steps, history = taken(desk, folder)
         equal(len(history), before + 1, "the entries after it was begun again")
         in_order(room, steps, history)
+        desk.post("end", {})
+        equal(first.play("claim"), (503, OVER), "a line after the end")
+        first.until(lambda pupil: pupil.states[-1]["ends"] == {"1": {"status": 0, "text": ""}}, "nobody is told of the end")
+        equal([desk.post("again", {})[0], first.play("claim")[0]], [200, 200], "a line after the game was begun again")
 
 
 def entry(seat, line, answer):
@@ -242,19 +225,6 @@ def keeping(folder):
     written(folder, record, before)
     written(record.parent, "tables.json", json.dumps([text_of(EXAMPLES / "cube.json")]))
     refused(command, "another table", stdin=subprocess.DEVNULL)
-
-
-def kept_by_1_1(folder):
-    """A class that version 1.1 kept goes on, with what was taken back, and its record then has both forms."""
-    kept, table = Path(folder, "kept"), written(folder, "table.json", json.dumps(TABLE))
-    shutil.copytree(Path(__file__).with_name("kept_by_1.1"), kept)
-    seats = {name: key for _, name, _, key in json.loads(text_of(kept / "class.json"))["seats"]}
-    for steps in "1 look\n1 lend ann\n", "1 look\n1 lend ann\n2 lend dot\n":
-        with played(table, "--class", "3", "--rooms", "2", "--keep", kept) as (_, (pupils, teacher)):
-            desk = Place(teacher)
-            equal([desk.get(f"steps.txt?room={room}")[1] for room in (1, 2)], [steps, "3 gift cem 2\n"], "the steps that 1.1 kept")
-            Place(pupils).post("redo", {"key": seats["bob"]})
-    equal([text[0] for text in text_of(kept / "table1" / "room1.jsonl").splitlines()], ["["] * 9 + ["{"], "a record of both forms")
 
 
 def a_long_game(folder):
@@ -336,79 +306,55 @@ def clicks(folder):
         is_modest(child, MOST_MEMORY)
 
 
-def teacher_here(folder):
-    """With --teacher-here the teacher's address is answered on this machine alone, and through no tunnel."""
+def hosts(folder):
+    """With --host the table is open to other machines, by the address of this one and by the name that was given; with --teacher-here the
+    teacher's address is answered on this machine alone, and through no tunnel."""
     table = written(folder, "table.json", json.dumps(TABLE))
     words = "--class", "2", "--host", "0.0.0.0", "--teacher-here", "--name", "class.example"
     with played(table, *words) as (_, (pupils, teacher)):
-        desk = Place(teacher)
-        equal((desk.host, desk.get("start")[0], desk.post("pause", {"paused": True})[0]), ("127.0.0.1", 200, 200), "the teacher here")
-        far = Place(f"http://{(addresses_of('0.0.0.0') or [desk.host])[0]}:{desk.port}{desk.path}")
-        if far.host != desk.host:
-            for path in "", "start", "steps.txt":
-                equal(far.get(path)[0], 404, f"the teacher from elsewhere at {path}")
-            equal(far.post("pause", {"paused": False})[0], 404, "the teacher from elsewhere")
-        equal(desk.get("start", headers={"Host": "class.example"})[0], 404, "the teacher through a tunnel")
-        pupil = re.sub("^http://[^/]*", "", pupils)
-        equal(desk.get(f"{pupil}start", headers={"Host": "class.example"})[0], 200, "a pupil through a tunnel")
-        equal(far.get(f"{pupil}start")[0], 200, "a pupil from elsewhere")
+        desk, path = Place(teacher), re.sub("^http://[^/]*", "", pupils)
+        host = (addresses_of("0.0.0.0") or [desk.host])[0]
+        equal((desk.host, desk.get("start")[0], desk.post("pause", {"paused": False})[0]), ("127.0.0.1", 200, 200), "the teacher here")
+        far, place, near = (Place(f"http://{at}:{desk.port}{of}") for at, of in ((host, desk.path), (host, path), (desk.host, path)))
+        asked = [far.ask(*request)[0] for request in (("GET", ""), ("GET", "start"), ("GET", "steps.txt"), ("POST", "pause", {}))]
+        expect(asked == [404] * 4 or host == desk.host, f"the teacher from elsewhere: {asked}")
+        local = 200 if host == desk.host else 404
+        for of, name, status in (
+                (place, host, 200), (place, "localhost", local), (place, "evil.example", 404), (place, "0.0.0.0", 404),
+                (place, "198.51.100.7", 404), (near, near.host, 200), (near, host, local)):
+            equal(of.get("start", headers={"Host": f"{name}:{desk.port}"})[0], status, f"{name} asked at {of.host}")
+        told = [each.get("start", headers={"Host": "class.example"})[0] for each in (desk, near)]
+        equal(told, [404, 200], "the teacher and a pupil through a tunnel")
+        equal(Pupil(place.address, "ann", events=False).play("claim")[1], "0 not won", "a line from the network")
 
 
-async def opened(place, path, wait=0.05):
-    """A file as a browser far away gets it: its request comes with the connection, some time after it was sent, and so does the
-    answer. Gives its path, whether it is whole, and the files that it names."""
-    await asyncio.sleep(wait)
-    reader, writer = await asyncio.open_connection(place.host, place.port)
-    writer.write(f"GET {place.path}{path} HTTP/1.1\r\nHost: {place.host}:{place.port}\r\n\r\n".encode())
-    await asyncio.sleep(wait)
-    try:
-        data = await asyncio.wait_for(reader.read(-1), PATIENCE)
-    except OSError:
-        data = b""
-    writer.close()
-    head, _, body = data.partition(b"\r\n\r\n")
-    length = re.search(rb"Content-Length: (\d+)", head)
-    return path, bool(length) and len(body) == int(length[1]), re.findall(rb'(?:module" src|stylesheet" href)="([\w.]+)"', body)
-
-
-async def all_opened(place):
-    """What so many browsers get that open a page at once: its files, beside connections that each opens and does not use."""
-    async def browser():
-        unused = [await asyncio.open_connection(place.host, place.port) for _ in range(5)]
-        found = [await opened(place, "")]
-        found += await asyncio.gather(*(opened(place, name.decode()) for name in found[0][2]))
-        found.append(await opened(place, "start"))
-        for _, writer in unused:
-            writer.close()
-        return found
-
-    return [file for files in await asyncio.gather(*(browser() for _ in range(SEATS))) for file in files]
+def opened(place, begun):
+    """Which files a browser far away gets whole that opens the address: each request comes some time after its connection, and there are
+    older ones that it does not use."""
+    unused, found = [socket.create_connection((place.host, place.port)) for _ in range(5)], []
+    begun.wait(PATIENCE)
+    for path in "", "page.css", "class.js", "start":
+        with socket.create_connection((place.host, place.port), PATIENCE) as link:
+            time.sleep(0.05)
+            link.sendall(f"GET {place.path}{path} HTTP/1.1\r\nHost: {place.host}:{place.port}\r\n\r\n".encode())
+            head, _, body = link.makefile("rb").read().partition(b"\r\n\r\n")
+        found.append(f"Content-Length: {len(body)}".encode() in head.split(b"\r\n"))
+    for link in unused:
+        link.close()
+    return found
 
 
 def opening(folder):
     """As many browsers as there are seats open the address at once: all files come whole, and who watched before goes on."""
     with a_class(folder, SEATS, "ann") as (_, place, _, ann):
-        watcher = Watcher(place)
-        watcher.until(lambda page: page.states, "a page that watches is told nothing")
-        found = asyncio.run(all_opened(place))
-        equal({path for path, _, _ in found}, {"", "page.css", "class.js", "start"}, "the files of a page")
-        cut = [path for path, whole, _ in found if not whole]
-        equal((len(found), cut), (4 * SEATS, []), "files that are cut")
+        page = watcher(place)
+        page.until(lambda page: page.states, "a page that watches is told nothing")
+        begun = threading.Barrier(SEATS)
+        equal(together(*[lambda: opened(place, begun)] * SEATS), [[True] * 4] * SEATS, "whole files")
         ann.play("lend ann")
-        watcher.until(lambda page: len(page.entries) == 1, "who watched before is dropped")
-        expect(not watcher.ended.is_set(), "who watched before is dropped")
-        watcher.leave()
-
-
-def network(folder):
-    """With --host the table is open to other machines, by the address of this one and by no other name."""
-    with a_class(folder, 2, options=("--host", "0.0.0.0")) as (_, place, _):
-        local, near = 200 if place.host == "127.0.0.1" else 404, Place(f"http://127.0.0.1:{place.port}{place.path}")
-        for of, host, status in (
-                (place, place.host, 200), (place, "localhost", local), (place, "evil.example", 404), (place, "0.0.0.0", 404),
-                (place, "198.51.100.7", 404), (near, near.host, 200), (near, place.host, local)):
-            equal(of.get("start", headers={"Host": f"{host}:{place.port}"})[0], status, f"{host} asked at {of.host}")
-        equal(Pupil(place.address, "ann", events=False).play("claim")[1], "0 not won", "a line from the network")
+        page.until(lambda page: len(page.entries) == 1, "who watched before is dropped")
+        expect(not page.ended.is_set(), "who watched before is dropped")
+        page.leave()
 
 
 def other_names(folder):
@@ -426,5 +372,5 @@ def other_names(folder):
             equal(place.post("join", {"name": "ann", "browser": "b" * 24}, headers=given)[0], status, f"{origin} at {host}")
 
 
-load_tests = tests_of(many_pupils, network, strangers, commands, deaths, keeping, kept_by_1_1, a_long_game, full_history, floods, clicks,
-                      opening, other_names, teacher_here, given=tempfile.TemporaryDirectory)
+load_tests = tests_of(many_pupils, strangers, deaths, keeping, a_long_game, full_history, floods, clicks,
+                      opening, other_names, hosts, given=tempfile.TemporaryDirectory)

@@ -6,9 +6,9 @@ import os
 import re
 import tempfile
 
-import firefox
-from browser import READY, Page, at, needed
+from browser import CTRL, READY, Page, at
 from common import EXAMPLES, PATIENCE, addresses, asked, started, written
+from firefox import in_both
 from helpers import equal, expect, tests_of
 from test_network import Network
 from visitors import PagePupil, Place, Pupil, taken
@@ -23,20 +23,19 @@ BELOW = """(scrollTo(0, 0), ['#board svg', '#undo', '#hint', '#cant', '#count', 
 SIZES = {"phone": (360, 640), "side": (640, 320), "laptop": (1366, 768)}
 
 
-def picture(browser, name, whole=False):
+def picture(browser, name):
     """A picture of a page, if somebody wants to look at it."""
     if os.environ.get("PICTURES"):
-        browser.picture(f"{os.environ['PICTURES']}/lesson-{name}.png", whole)
+        browser.picture(f"{os.environ['PICTURES']}/lesson-{name}.png")
 
 
-def handed(desk, table, level="easy", asks=True):
+def handed(desk, table, level="easy"):
     """The teacher hands out the next table, or several."""
     desk.value(f"($('#next-table').value = {json.dumps(table)}, $('#next-table').dispatchEvent(new Event('change')),"
                f" $('#next-level').value = '{level}')")
     turn = desk.value("given.turn")
     desk.click("#hand-form button")
-    if asks:
-        desk.answered(True)
+    desk.answered(True)
     desk.until(f"given.turn === {turn + 1} && [...rooms.values()].every(({{ game }}) => game.length === 0)")
 
 
@@ -47,6 +46,20 @@ def lines_for(folder, table):
     return [f"{'borrow' if int(count) < 0 else 'lend'} {name}" for name, count in pairs for _ in range(abs(int(count)))]
 
 
+def addresses_chosen(desk, wall, *places):
+    """The teacher chooses which address is shown."""
+    equal(desk.value("texts('#which option')"), [*places, "vm:8080"], "the addresses to choose from")
+    for place in "vm:8080", places[1]:
+        before = wall.value("$('#code').innerHTML")
+        desk.value(f"($('#which').value = '{place}', $('#which').dispatchEvent(new Event('change')))")
+        for page in desk, wall:
+            page.until(f"$('#short').textContent.includes('//{place}/') && $('#address').textContent.includes('//{place}/')")
+            equal(page.value("$('#here').hidden"), place == "vm:8080", "a word on an address of this computer alone")
+        expect(wall.value("$('#code').innerHTML") != before, "the code of another address")
+    evil = Place(desk.value("location.href")).post("place", {"place": "evil.example"})
+    equal(evil, (409, "This machine does not have this address any more."), "an address that there is not")
+
+
 def coming_in(folder, browsers, networks, pupils, teacher):
     """Thirty come in, five of whom mistype the code first; the wall shows a code of half its height until all are there."""
     one, two, three = browsers
@@ -55,8 +68,7 @@ def coming_in(folder, browsers, networks, pupils, teacher):
     desk, wall = Page(two, teacher, os.path.join(folder, "desk")), Page(three, pupils, os.path.join(folder, "wall"))
     wall.click("#watch")
     desk.until("state !== null")
-    desk.value(f"($('#which').value = '127.0.0.1:{networks[1].port}', $('#which').dispatchEvent(new Event('change')))")
-    wall.until(f"$('#short').textContent.includes(':{networks[1].port}/')")
+    addresses_chosen(desk, wall, *(f"127.0.0.1:{network.port}" for network in networks))
     picture(wall, "wall-empty")
     place, code = Place(f"http://127.0.0.1:{networks[0].to}{Place(pupils).path}"), wall.text("#short").rpartition("/")[2]
     wrong = code[::-1] if code != code[::-1] else code[1:] + "0"
@@ -64,7 +76,6 @@ def coming_in(folder, browsers, networks, pupils, teacher):
         equal("There is no such code." in place.get("/" + wrong)[1], True, "what a mistyped code is told")
     one.go(f"http://127.0.0.1:{networks[1].port}/{wrong}")
     one.until("document.readyState === 'complete' && Boolean($('input[name=code]'))")
-    picture(one, "phone-mistyped")
     one.write(code, into="input")
     one.click("button")
     one.until(f"location.pathname === '{place.path}' && {READY}")
@@ -82,7 +93,10 @@ def coming_in(folder, browsers, networks, pupils, teacher):
 
 def first_table(ann, others, desk, wall, networks):
     """The four houses: the first minute teaches, and what is played while connections die is played and drawn."""
-    equal(ann.text("#note"), "Click cyd: it sends a dollar along each of its edges.", "the first minute")
+    equal(ann.text("#note"), "Click cyd: it sends a dollar along each of its roads.", "the first minute")
+    for word in "edges", "roads":
+        desk.click("#may-houses")
+        ann.until(f"$('#note').textContent.endsWith(' {word}.') && $('#legend').textContent.includes(' {word[:-1]} was')")
     for name, size in SIZES.items():
         ann.size(*size)
         equal(ann.value(BELOW), [], f"what can't be seen on a {name}")
@@ -111,7 +125,6 @@ def first_table(ann, others, desk, wall, networks):
     equal(others[0].play("script cyd=2,bob=1"),
           (409, "The teacher has switched off looks, verdicts, rank tests and scripts. Nothing was played."), "a script of a pupil")
     picture(wall, "wall-rooms")
-    picture(desk, "teacher-rooms", whole=True)
 
 
 def kind_houses(ann, others, desk, wall):
@@ -124,7 +137,6 @@ def kind_houses(ann, others, desk, wall):
     ann.until("$('#won').textContent === \"Right: it can't be done.\"")
     for page in desk, wall:
         page.until(f"$('#done').textContent === 'Done: 1 of {OTHERS + 1}' && {HOW}[{ann.seat - 1}] === \"done: it can't be\"")
-    picture(ann, "phone-right")
     for selector in f".room[data-room='{ann.seat}']", "#ask-won", "#show-fire":
         desk.until(f"$({json.dumps(selector)}) && !$({json.dumps(selector)}).hidden")
         desk.click(selector)
@@ -134,8 +146,23 @@ def kind_houses(ann, others, desk, wall):
               [ann.seat, ["-1", "0", "1", "1"], ["1", "2", "3", "4"], True], "the fire, and nothing else said beside it")
     picture(wall, "wall-fire")
     picture(desk, "teacher-fire")
+    shown_by_hand(ann, desk, wall)
     desk.value("($('#show').value = 'all', $('#show').dispatchEvent(new Event('change')))")
     wall.until("document.body.classList.contains('all-rooms')")
+
+
+def shown_by_hand(ann, desk, wall):
+    """The teacher plays moves for show and points at a house; the wall shows it, and no game is changed."""
+    for name, amounts in ("dan", ["1", "2", "3", "-5"]), ("cyd", ["1", "3", "1", "-4"]):
+        desk.click(at(name))
+        for page in desk, wall:
+            page.until(f"texts('#board .amount').join() === '{','.join(amounts)}' && $$('#board .arrow').length")
+    equal(wall.text("#note"), "cyd lends. In debt: dan owes 4.", "what is said of a move for show")
+    desk.click(at("bob"), CTRL)
+    for page in desk, wall:
+        page.until("names('#board .chosen').join() === 'bob'")
+    picture(wall, "wall-shown")
+    equal(ann.value("[viewer.game.length, rooms.get(me.seat).items.length]"), [0, 0], "the game after it")
 
 
 def at_own_speed(folder, ann, others, desk, wall):
@@ -170,13 +197,12 @@ def at_own_speed(folder, ann, others, desk, wall):
     ann.until("/It can('t be done in fewer| be done in [0-9]+)[.]$/.test($('#won').textContent)")
     said = re.search(r"be done in (\d+)", ann.text("#won"))
     expect(not said or int(said[1]) < len(wins[1]), f"in how few moves it can be done, after {len(wins[1])}: {ann.text('#won')}")
-    picture(wall, "wall-list")
-    return len(wins[1])
+    return 1 + next(i for i, line in enumerate(ann.value("viewer.game.replies.map(({ line }) => line)")) if "-" not in line)
 
 
 def results(desk, moves):
     """Who did what, as a table to take along, also after the teacher's page was loaded again."""
-    desk.visit(desk.value("location.href"), f"state !== null && rooms.size === {OTHERS + 1}")
+    desk.visit(desk.value("location.href"), f"state !== null && $('#done').textContent === 'Done: 12 of {6 * (OTHERS + 1)}'")
     rows = [line.split('","') for line in desk.saved("#take-results", "results.csv").splitlines()]
     equal(rows[0][:4], ['"pupils', "table", "done", "fewest moves"], "the head of the results")
     own = [row[1:6] for row in rows if row[0] == '"Ann']
@@ -185,13 +211,10 @@ def results(desk, moves):
     equal(len(rows), 1 + 3 * (OTHERS + 1) + 11, "the rows of all")
 
 
-def lesson(browsers, folder):
-    for browser in browsers:
-        browser.media()
-        browser.asked.clear()
+def lesson(folder, browsers):
     networks = Network(), Network()
     networks[1].to = networks[0].to
-    named = [word for network in networks for word in ("--name", f"127.0.0.1:{network.port}")]
+    named = [word for place in (*(f"127.0.0.1:{network.port}" for network in networks), "vm:8080") for word in ("--name", place)]
     words = [EXAMPLES / "houses.json", EXAMPLES / "kind_houses.json", "--class", str(OTHERS + 1), "--rooms", "1", "--port",
              str(networks[0].to), "--keep", os.path.join(folder, "kept"), *named]
     child = started(*words)
@@ -204,7 +227,6 @@ def lesson(browsers, folder):
         child.kill()
         child.communicate()
         ann.told("There is no connection to the game.")
-        picture(ann, "phone-lost")
         child = started(*words)
         equal(len(addresses(child)), 2, "the addresses after an accident")
         for page in ann, desk, wall:
@@ -219,23 +241,10 @@ def lesson(browsers, folder):
         for browser in browsers:
             expect(browser.value("document.documentElement.scrollWidth <= innerWidth"), "a page of a lesson is too wide")
             equal(browser.thrown, [], "what pages have thrown")
-            browser.size()
     finally:
         child.terminate()
         _, said = child.communicate(timeout=PATIENCE)
         equal((child.returncode, said), (0, ""), "the end of board/play")
-        for browser in browsers:
-            browser.go("about:blank")
-            browser.until("location.href === 'about:blank'")
-            browser.asked.clear()
 
 
-def in_chromium(folder):
-    lesson(needed(), folder)
-
-
-def in_firefox(folder):
-    lesson(firefox.needed(), folder)
-
-
-load_tests = tests_of(in_chromium, in_firefox, given=tempfile.TemporaryDirectory)
+load_tests = tests_of(*in_both(lesson), given=tempfile.TemporaryDirectory)

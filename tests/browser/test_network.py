@@ -1,7 +1,6 @@
 """A class on a network that forgets connections without a word, and on computers with several addresses."""
 import contextlib
 import itertools
-import json
 import os
 import re
 import shutil
@@ -11,9 +10,9 @@ import tempfile
 import threading
 import unittest
 
-import firefox
 from browser import READY, Page, at, needed
 from common import EXAMPLES, PATIENCE, PLAY, played
+from firefox import in_both
 from helpers import equal, expect, tests_of
 from visitors import PagePupil, Place, Pupil, taken
 
@@ -43,24 +42,12 @@ class Network:
                     other.sendall(data) if data else other.shutdown(socket.SHUT_WR)
 
 
-@contextlib.contextmanager
-def through(network, browsers, *words):
-    """A class behind a network, as its addresses. The browsers that look at it are left as they were."""
-    for browser in browsers:
-        browser.asked.clear()
-    with played(EXAMPLES / "houses.json", "--class", "4", "--port", str(network.to), "--name", f"127.0.0.1:{network.port}", *words) as (_, found):
-        yield found
-        for browser in browsers:
-            browser.harmless(Place(found[0]).origin)
-            browser.go("about:blank")
-            browser.asked.clear()
-
-
 def dying_connections(folder, browsers):
     """Connections die: all that is played is drawn, in its order, on the pupil's page and on the wall."""
     one, two, _ = browsers
     network = Network()
-    with through(network, browsers) as (pupils, teacher):
+    words = EXAMPLES / "houses.json", "--class", "4", "--port", str(network.to), "--name", f"127.0.0.1:{network.port}"
+    with played(*words) as (_, (pupils, teacher)):
         ann, wall = PagePupil(one, pupils, "Ann", folder), Page(two, pupils, os.path.join(folder, "wall"))
         wall.click("#watch")
         wall.until("state !== null")
@@ -97,6 +84,7 @@ def dying_connections(folder, browsers):
         ann.click(at("cyd"))
         for page in ann, wall:
             page.has(46)
+            page.harmless(Place(pupils).origin)
 
 
 CARD = "ip link add {0} type {1} && ip addr add {2} dev {0} && ip link set {0} up"
@@ -124,30 +112,6 @@ def computers(folder):
         expect(told in said if others else "Other" not in said, f"the other addresses of a computer {what}: {said}")
 
 
-def chosen(folder):
-    """Somebody who mistypes the code is let in, and the teacher chooses which address is shown."""
-    one, two, _ = browsers = needed()
-    network = Network()
-    with through(network, browsers, "--name", "vm:8080") as (pupils, teacher):
-        desk, wall = Page(one, teacher, os.path.join(folder, "desk")), Page(two, pupils, os.path.join(folder, "wall"))
-        wall.value(f"void (location.href = '/{desk.text('#short').rpartition('/')[2][::-1]}')")
-        wall.until("document.readyState === 'complete' && $('[role=alert]').textContent.startsWith('There is no such code.')")
-        wall.write(desk.text("#short").rpartition("/")[2], into="input")
-        wall.click("button")
-        wall.until(f"location.href === {json.dumps(pupils)} && {READY}")
-        wall.click("#watch")
-        for page in desk, wall:
-            page.until("state !== null")
-        before = wall.value("$('#code').innerHTML")
-        equal(desk.value("texts('#which option')"), [f"127.0.0.1:{network.port}", "vm:8080"], "the addresses to choose from")
-        equal([page.value("$('#here').hidden") for page in (desk, wall)], [False, False], "a word on an address of this computer alone")
-        desk.value("($('#which').value = 'vm:8080', $('#which').dispatchEvent(new Event('change')))")
-        for page in desk, wall:
-            page.until(f"$('#address').textContent === 'http://vm:8080/{Place(pupils).secret}/' && $('#here').hidden")
-        expect(wall.text("#short").startswith("http://vm:8080/") and wall.value("$('#code').innerHTML") != before, "the short address and the code")
-        equal(Place(teacher).post("place", {"place": "evil.example"}), (409, "This machine does not have this address any more."), "another")
-
-
 def shared_laptop(folder):
     """In a class that goes on another day a laptop asks who is there."""
     one, *_ = needed()
@@ -171,16 +135,6 @@ def shared_laptop(folder):
         ann.told("Your seat was freed.")
         equal(ann.value("[me, texts('#known button')]"), [None, ["Cem", "Bob"]], "who is known after somebody left")
         one.harmless(pupils)
-        one.go("about:blank")
-        one.asked.clear()
 
 
-def in_chromium(folder):
-    dying_connections(folder, needed())
-
-
-def in_firefox(folder):
-    dying_connections(folder, firefox.needed())
-
-
-load_tests = tests_of(computers, chosen, shared_laptop, in_chromium, in_firefox, given=tempfile.TemporaryDirectory)
+load_tests = tests_of(computers, shared_laptop, *in_both(dying_connections), given=tempfile.TemporaryDirectory)

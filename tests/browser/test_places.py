@@ -7,6 +7,7 @@ import time
 
 from common import EXAMPLES, text_of
 from dollar import places as module
+from dollar.board.puzzles import bipartite, complete, grid, petersen, prism, ring
 from dollar.drawing import USUAL, layout
 from dollar.places import places, places_of_text
 from helpers import equal, expect, tests_of
@@ -15,37 +16,14 @@ DRAW = random.Random(7)
 TIMES, MOST_SECONDS = 6, 1.0
 
 
-def ring(size):
-    return [(i, (i + 1) % size) for i in range(size)]
-
-
-def complete(size):
-    return list(itertools.combinations(range(size), 2))
-
-
-def grid(wide, high):
-    return [(y * wide + x, y * wide + x + 1) for y in range(high) for x in range(wide - 1)] + [
-        (y * wide + x, y * wide + x + wide) for y in range(high - 1) for x in range(wide)]
-
-
-def bipartite(one, other):
-    return [(i, one + j) for i in range(one) for j in range(other)]
-
-
 def tree(size):
     return [(DRAW.randrange(i), i) for i in range(1, size)]
 
 
-# Pairs of five things, joined where they have nothing in common; and lists of three digits 0 and 1, joined where they differ in
-# one.
-PAIRS = complete(5)
-PETERSEN = [(i, j) for i, j in complete(10) if not set(PAIRS[i]) & set(PAIRS[j])]
-CUBE = [(i, j) for i, j in complete(8) if bin(i ^ j).count("1") == 1]
-PRISM = ring(3) + [(i + 3, j + 3) for i, j in ring(3)] + [(i, i + 3) for i in range(3)]
 # The crossings of a drawing as people know it: the cube's two squares cross twice, Petersen's star five times.
 KNOWN = {
-    "the cube": (CUBE, 2), "Petersen's graph": (PETERSEN, 5), "K3,3": (bipartite(3, 3), 9), "K2,5": (bipartite(2, 5), 10),
-    "a prism": (PRISM, 0),
+    "the cube": (prism(4), 2), "Petersen's graph": (petersen(), 5), "K3,3": (bipartite(3, 3), 9), "K2,5": (bipartite(2, 5), 10),
+    "a prism": (prism(3), 0),
     **{f"grid {wide}x{high}": (grid(wide, high), 0) for wide, high in ((2, 3), (2, 8), (3, 3), (3, 5), (4, 4))},
     **{f"path {size}": (ring(size)[:-1], 0) for size in (3, 8, 9, 16)}}
 RINGS = {**{f"cycle {size}": (ring(size), 0) for size in (3, 4, 5, 9, 16)},

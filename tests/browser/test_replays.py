@@ -1,5 +1,4 @@
 """Pages of games that were played: at each step what stands on them is compared with the step and its printed line."""
-import json
 import math
 import re
 import tempfile
@@ -19,7 +18,6 @@ LONGEST = 65536
 SHOWN = """(() => {
   const text = (id) => document.getElementById(id).textContent;
   const vertices = $$("#board .vertex"), has = (test) => vertices.filter(test).map((at) => at.dataset.name);
-  const current = (place) => $$(place + " [aria-current]").map((at) => Number(at.dataset.index));
   return {
     ...Object.fromEntries(["place", "step", "moves", "answer", "asked", "said"].map((id) => [id, text(id)])),
     differs: $("#differs").hidden ? null : text("differs"),
@@ -30,7 +28,7 @@ SHOWN = """(() => {
     at: vertices.map((at) => [at.dataset.name, ...["cx", "cy"].map((axis) => at.querySelector(".round")[axis].baseVal.value)]),
     arrows: $$("#board .arrow").map((at) => at.getAttribute("transform").match(/[-0-9.]+/g).slice(0, 2).map(Number)),
     edges: $$("#board .edge").length, added: $$("#board .added").length, label: $("#board svg").getAttribute("aria-label"),
-    slider: Number($("#slider").value), marks: current("#marks"), list: current("#whole"), open: $("#verdict").open,
+    slider: Number($("#slider").value), list: $$("#whole [aria-current]").map((at) => Number(at.dataset.index)), open: $("#verdict").open,
     script: $$("#verdict tbody tr").map((at) => [...at.children].map((cell) => cell.textContent)),
   };
 })()"""
@@ -96,7 +94,7 @@ def compare(browser, where, index, table, amounts, step, line, added):
     wanted = {
         "asked": step, "said": line, "amounts": [[name, amounts[name]] for name in names], "debts": debts, "hatched": debts,
         "label": "The board: " + ", ".join(f"{name} {amount}" for name, amount in amounts.items()), "slider": index,
-        "marks": [index] * (index > 0), "list": [index] * (index > 0), "added": added, "differs": None,
+        "list": [index] * (index > 0), "added": added, "differs": None,
         "edges": sum(count if count <= 8 else 1 for _, _, count in pairs), "open": is_verdict,
         "script": [[name, often(reply[1][name]), str(amounts[name]), str(reply[2][name])] for name in names] if is_verdict
         else []}
@@ -143,15 +141,14 @@ def by_keys(browser, place, table, steps):
 
 
 def by_slider(browser, steps):
-    """Moves the slider itself by keys, and goes to a step by its mark and by its line."""
+    """Moves the slider itself by keys, and goes to a step by its line."""
     browser.value("$('#slider').focus()")
     last = len(lines_of(f"{steps}.txt"))
     for key, wanted in ("ArrowRight", 1), ("ArrowRight", 2), ("ArrowLeft", 1), ("End", last), ("Home", 0):
         browser.press(key)
         equal(browser.value("viewer.now"), wanted, f"{steps}: {key} on the slider")
-    for row in "#marks", "#whole":
-        browser.value(f"$('{row} [data-index=\"3\"]').click()")
-        equal(browser.value("viewer.now"), 3, f"{steps}: a click at {row}")
+    browser.value("$('#whole [data-index=\"3\"]').click()")
+    equal(browser.value("viewer.now"), 3, f"{steps}: a click at a line")
     browser.press("Home")
 
 
@@ -160,7 +157,7 @@ def by_play(browser, steps):
     browser.value("document.activeElement.blur()")
     browser.press(" ")
     equal(browser.text("#play"), "Stop", f"{steps}: the button while it plays")
-    browser.until("viewer.now === 2")
+    browser.until("viewer.now >= 2")
     browser.press(" ")
     expect(browser.value("$('#play').textContent === 'Play' && viewer.timer === null"), f"{steps}: it does not stop")
 
@@ -170,51 +167,36 @@ def with_coins(browser, all_states, steps):
     index = next(i for i, state in enumerate(all_states) if " moved " in state[3])
     browser.media(motion="no-preference")
     browser.value(f"viewer.go({index - 1})")
+    browser.value("(({ board }) => { const { coins } = board; board.coins = () => (board.sent = coins.call(board)); })(viewer)")
     browser.press("ArrowRight")
-    expect(browser.value("$$('#board .coin').length") > 0, f"{steps}: no dollars move")
+    expect(browser.value("viewer.board.sent.length") > 0, f"{steps}: no dollars move")
     browser.until("$$('#board .coin').length === 0")
     compare(browser, f"{steps} after its dollars moved", index, *all_states[index])
     browser.media()
 
 
-def shown_as(browser, folder, words, history):
-    """Sees that the page of these arguments has this history, and finds no difference in it."""
-    browser.open(page_of(folder, *words))
-    equal(browser.value("viewer.game.replies.map((reply) => reply.line)"), history, f"the history of {words}")
-    equal(browser.value("viewer.flaws"), {}, f"the flaws of {words}")
-
-
-def of_session(browser, folder, name):
-    """The page of a session, of its lines that made entries and of their answers."""
-    entries = [pair for pair in zip(lines_of(f"{name}.txt"), lines_of(f"{name}.out")) if pair[1][0].isdigit()]
-    steps = written(folder, "steps", "".join(f"1 {line}\n" for line, _ in entries))
-    history = written(folder, "history", "".join(f"{said}\n" for _, said in entries))
-    shown_as(browser, folder, [TRIANGLE, steps, history], [said for _, said in entries])
+def of_a_rule(browser, folder):
+    """The page of a greedy game."""
+    browser.open(page_of(folder, EXAMPLES / "four_cycle.json", "--greedy", "10"))
+    equal(browser.value("viewer.game.replies.map((reply) => reply.line)"), lines_of("greedy_cycle.out"), "the history of a rule")
 
 
 def of_long_game(browser, folder):
-    """The page of the longest game: it has marks where there is room for them, of the steps that
-    tell most, and lists a part of its lines."""
+    """The page of the longest game has ticks at the steps that are no moves, and lists a part of its lines."""
     asked = ["1 lend a", "1 borrow a"] * (LONGEST // 2)
     for place in 500, 60000:
         asked[place:place + 2] = ["2 look", "2 commit"]
     browser.open(page_of(folder, TRIANGLE, written(folder, "steps", "\n".join(asked))))
-    for wide in 400, 1920:
-        browser.size(wide, 800)
-        browser.until(f"innerWidth === {wide} && $$('#marks button').length === viewer.markedSteps().length")
-        marks = browser.value("$$('#marks button').map((at) => Number(at.dataset.index))")
-        expect(10 < len(marks) <= wide / 16, f"{len(marks)} marks on {wide} dots")
-        equal({502, 60002} - set(marks), set(), f"verdicts among many moves without a mark at {wide}")
-        browser.value("$('#marks [data-index=\"60002\"]').click()")
-        equal(browser.value("[viewer.now, $('#asked').textContent]"), [60002, "2 commit"], "a click at a mark")
-        equal(browser.value("$('#whole [aria-current]').dataset.index"), "60002", "its line in the list")
+    equal(browser.value("$$('#ticks option').map((at) => at.value)"), ["501", "502", "60001", "60002"], "the ticks")
+    browser.value("viewer.go(60002)")
+    equal(browser.value("[$('#asked').textContent, $('#whole [aria-current]').dataset.index]"), ["2 commit", "60002"], "its line in the list")
     for _ in range(20):
         browser.press("ArrowRight")
     equal(browser.value("viewer.now"), 60022, "20 steps further")
     browser.press("End")
     equal(browser.value("[viewer.now, $$('#whole li').length]"), [LONGEST, 400], "the last step")
-    browser.value("$('#earlier').click()")
-    equal(browser.value("$('#whole li button').dataset.index"), str(LONGEST - 799), "the lines before")
+    browser.value("viewer.go(999)")
+    equal(browser.value("$('#whole li button').dataset.index"), "800", "the lines around another")
 
 
 def with_differences(browser, folder):
@@ -230,20 +212,6 @@ def with_differences(browser, folder):
               f"the flaws of a history with another line {index}")
         browser.value(f"viewer.go({index + 1})")
         expect(lines[index] in (browser.value(SHOWN)["differs"] or ""), f"a changed line {index} is not shown")
-
-
-def with_strange_names(browser, folder):
-    """Names that mean something to a browser or to its language are names like others, and stand in their order."""
-    names = ["constructor", "__proto__", "2", "1", "toString"]
-    path = [["constructor", "__proto__", 1], ["__proto__", "2", 1], ["2", "1", 1], ["1", "toString", 1]]
-    table = written(folder, "t.json", json.dumps({"vertices": names, "edges": path, "amounts": [1, -1, 0, 2, 3], "q": "2"}))
-    steps = written(folder, "s", "1 lend __proto__\n1 script 1=2,constructor=-1\n1 look\n1 commit\n")
-    browser.open(page_of(folder, table, steps))
-    for index in range(5):
-        browser.value(f"viewer.go({index})")
-        shown = browser.value(SHOWN)
-        equal([name for name, _ in shown["amounts"]], names, f"the names at {index}")
-    equal(shown["script"][1][0], "__proto__", "the second row of the script")
 
 
 def with_strangers(browser, folder):
@@ -280,8 +248,6 @@ def with_places(browser, folder):
 
 def of_replays(folder):
     browser, *_ = needed()
-    browser.media()
-    before = len(browser.asked)
     for table, steps in STORIES + OTHERS:
         place = page_of(folder, *files_of(table, steps))
         expect(place.stat().st_size < MOST_BYTES, f"{steps}: the page has {place.stat().st_size} bytes")
@@ -291,12 +257,9 @@ def of_replays(folder):
             by_play(browser, steps)
             with_coins(browser, all_states, steps)
         browser.in_sizes(steps, SIZES)
-    shown_as(browser, folder, [EXAMPLES / "four_cycle.json", "--greedy", "10"], lines_of("greedy_cycle.out"))
-    for name in "session", "session_past_a_gift", "session_with_joins":
-        of_session(browser, folder, name)
-    for part in with_differences, with_strange_names, with_strangers, with_places, of_long_game:
+    for part in of_a_rule, with_differences, with_strangers, with_places, of_long_game:
         part(browser, folder)
-    browser.harmless("x:", since=before)
+    browser.harmless("x:")
 
 
 load_tests = tests_of(of_replays, given=tempfile.TemporaryDirectory)

@@ -82,7 +82,7 @@ class Listener:
     """What comes to a page: the table, the entries, and what else goes on."""
 
     def __init__(self, place):
-        self.place, self.entries, self.undone, self.states, self.tables, self.items = place, [], [], [], [], 0
+        self.place, self.rooms, self.states, self.tables, self.items = place, {}, [], [], 0
         self.link, self.ended = None, threading.Event()
 
     def listen(self, path):
@@ -111,23 +111,27 @@ class Listener:
                 self.take_item(item)
         elif kind == "table":
             self.tables.append(thing)
-            self.entries, self.undone, self.items = [], [], 0
+            self.rooms, self.items = {}, 0
         elif kind != "beat":
             self.states.append(thing if kind == "state" else kind)
 
     def take_item(self, item):
         """An entry, or how many entries a game has since some were taken back, or played again."""
+        entries, undone = self.rooms.setdefault(item["room"], ([], []))
         if item["kind"] == "played":
-            self.entries.append([item["seat"], item["line"], item["answer"]])
+            entries.append([item["seat"], item["line"], item["answer"]])
         elif item["kind"] == "onward":
-            self.entries, self.undone = [], []
-        elif item["kind"] in ("helped", "judged"):
-            pass
-        elif item["left"] < len(self.entries):
-            self.undone.append(self.entries[item["left"]:])
-            del self.entries[item["left"]:]
-        else:
-            self.entries += self.undone.pop()
+            del entries[:], undone[:]
+        elif item["kind"] == "rewound" and item["left"] < len(entries):
+            undone.append(entries[item["left"]:])
+            del entries[item["left"]:]
+        elif item["kind"] == "rewound":
+            entries += undone.pop()
+
+    @property
+    def entries(self):
+        """Those of the one room of which it is told."""
+        return next(iter(self.rooms.values()), [[]])[0]
 
     def until(self, wanted, what):
         """Waits until something is so of what has come."""
@@ -140,22 +144,9 @@ class Listener:
             self.link.close()
 
 
-class Watcher(Listener):
+def watcher(place):
     """A page without a seat, to which the entries of all rooms come."""
-
-    def __init__(self, place):
-        super().__init__(place)
-        self.rooms = {}
-        self.listen("events?from=0")
-
-    def take(self, kind, thing):
-        if kind == "table":
-            self.rooms = {}
-        super().take(kind, thing)
-
-    def take_item(self, item):
-        self.entries, self.undone = self.rooms.setdefault(item["room"], ([], []))
-        super().take_item(item)
+    return Listener(place).listen("events?from=0")
 
 
 class Pupil(Listener):

@@ -5,6 +5,7 @@ import asyncio
 import json
 from typing import Any, Callable, Iterable
 
+from dollar.commands import beside
 from dollar.board.game import MOST_LINE, Game, Table
 from dollar.board.pages import asset, forward, page
 from dollar.board.puzzles import GRAPHS, hint, puzzles
@@ -16,11 +17,10 @@ from dollar.table import EXAMPLES, text_of
 
 MOST_BODY, AT_ONCE, MOST_GAMES = 1 << 24, 3, 8
 # The most letters of each text of a question.
-MOST = {"command": 16, "table": 1 << 21, "tables": 1 << 21, "places": 1 << 21, "steps": 1 << 22, "degree": 12, "name": 200,
-        "graph": 40, "level": 20, "key": 64, "line": MOST_BODY}
+MOST = {"command": 16, "table": 1 << 21, "places": 1 << 21, "steps": 1 << 22, "degree": 12, "name": 200, "graph": 40, "level": 20,
+        "key": 64, "line": MOST_BODY}
 # What the program is asked: the words of its command line, and the texts after them, each in a file but for a number.
-ASKED = {"judge": (["judge", "--order", "--"], ["table"]), "rehearse": (["rehearse", "--"], ["table", "steps"]),
-         "judge --lines": (["judge", "--lines"], ["tables"])}
+ASKED = {"judge": (["judge", "--order", "--"], ["table"]), "rehearse": (["rehearse", "--"], ["table", "steps"])}
 # What it is asked for the table as a line, whose answer reaches past the limits of one test: with the texts after the table.
 BY_LINE: dict[str, list[str]] = {"rr": [], "rank": ["degree"]}
 
@@ -152,6 +152,7 @@ class Alone:
     async def layout(self, table: str, own: str | None) -> dict[str, Any]:
         """The verdict on a table, and if there is one, the places of its vertices."""
         said = await run("judge", table.encode())
+        said["err"] = with_value(said["err"], table)
         if said["status"] == 0:
             try:
                 made = json.loads(table)
@@ -186,6 +187,11 @@ async def question(text: Callable[[str], str]) -> dict[str, Any]:
         raise Nothing
     line = table.replace("\n", " ").encode() + b"\n"
     return of_line(await run(command, "--lines", "--", line, *map(text, BY_LINE[command])))
+
+
+def with_value(fault: str, table: str) -> str:
+    """A fault with the value in the table, and with the limit."""
+    return ": ".join(filter(None, [fault, beside(fault, table.encode())]))
 
 
 async def made(make: Callable[[], dict[str, Any]]) -> dict[str, Any]:

@@ -10,10 +10,10 @@ import unicodedata
 from collections import Counter
 from typing import Any, AsyncIterator, Awaitable, Callable
 
-from dollar.board.alone import question
-from dollar.board.game import MOST_LINE, Table, tables_of
+from dollar.board.alone import question, with_value
+from dollar.board.game import MOST_LINE, MOST_SEATS, Table, tables_of
 from dollar.board.pages import asset, filled, forward, page
-from dollar.board.puzzles import RISING, graphs, hint, puzzles
+from dollar.board.puzzles import GRAPHS, RISING, hint, puzzles
 from dollar.board.qr import code
 from dollar.board.replay import page as replay_page
 from dollar.board.room import Feed, Room, event
@@ -39,7 +39,8 @@ UNSEEN, MARKS = "\u115f\u1160\u2800\u3164\uffa0", re.compile("([\u0300-\u036f]{3
 # What the teacher permits, the first words of the lines that fall under it, and what it is called.
 SWITCHES: dict[str, tuple[list[str], str]] = {"gifts": (["gift"], "gifts and levies"), "edges": (["join"], "new edges"),
             "questions": (["look", "commit", "rank", "script"], "looks, verdicts, rank tests and scripts"), "undo": ([], "undo and redo"),
-            "hints": ([], "hints")}
+            "hints": ([], "hints"), "houses": ([], "the words house and road")}
+NEW_TABLE = "There is a new table. This line was not played."
 # What is permitted at first on boards that not all share.
 IN_ROOMS = "undo", "hints"
 
@@ -50,18 +51,13 @@ class Bucket:
     def __init__(self, most: int, each: float) -> None:
         self.most, self.each, self.left, self.filled = most, each, float(most), time.monotonic()
 
-    def has(self) -> bool:
-        """Whether there is one more."""
+    def takes(self, count: int = 1) -> bool:
+        """Whether there is one more; if so, takes so many."""
         now = time.monotonic()
         self.left, self.filled = min(self.most, self.left + (now - self.filled) * self.each), now
-        return self.left >= 1
-
-    def takes(self) -> bool:
-        """Takes one, if there is one."""
-        if not self.has():
-            return False
-        self.left -= 1
-        return True
+        has = self.left >= 1
+        self.left -= count if has else 0
+        return has
 
 
 class Limit:
@@ -71,22 +67,12 @@ class Limit:
         self.own, self.whole = own, Bucket(*whole)
         self.buckets: dict[str, Bucket] = {}
 
-    def has(self, peer: str) -> bool:
-        """Whether there is one more for an address."""
+    def takes(self, peer: str, count: int = 1) -> bool:
+        """Whether there is one more for an address; if so, takes so many."""
         if peer not in self.buckets and len(self.buckets) >= MOST_PEERS:
             self.buckets.pop(next(iter(self.buckets)))
-        return self.buckets.setdefault(peer, Bucket(*self.own)).has() and self.whole.has()
-
-    def takes(self, peer: str) -> bool:
-        """Takes one for an address, if there is one."""
-        return self.has(peer) and self.buckets[peer].takes() and self.whole.takes()
-
-
-class NewTable(Refused):
-    """What a line gets that was meant for the table before."""
-
-    def __init__(self) -> None:
-        super().__init__(409, "There is a new table. This line was not played.")
+        bucket = self.buckets.setdefault(peer, Bucket(*self.own))
+        return bucket.takes(0) and self.whole.takes(count) and bucket.takes(count)
 
 
 class Seat:
@@ -107,24 +93,19 @@ class Follower:
     """A page that follows what goes on. It sleeps until there is something to tell it, or it has gone, or it is ended by a word."""
 
     def __init__(self, gone: asyncio.Future[Any]) -> None:
-        self.gone, self.word, self.is_due = gone, "", False
-        self.woken: asyncio.Future[None] | None = None
-        gone.add_done_callback(lambda _: self.wake())
+        self.gone, self.word, self.is_due, self.woken = gone, "", False, asyncio.Event()
+        gone.add_done_callback(lambda _: self.woken.set())
 
     def goes_on(self) -> bool:
         return not self.word and not self.gone.done()
 
     async def sleep(self) -> None:
-        self.woken = asyncio.get_running_loop().create_future()
-        await self.woken
-
-    def wake(self) -> None:
-        if self.woken and not self.woken.done():
-            self.woken.set_result(None)
+        self.woken.clear()
+        await self.woken.wait()
 
     def end(self, word: str) -> None:
         self.word = self.word or word
-        self.wake()
+        self.woken.set()
 
 
 def clean(name: str) -> str:
@@ -147,14 +128,16 @@ class Classroom:
 
     def __init__(self, tables: list[Table], seats: int, size: int = 0, keeper: Keeper | None = None, teacher_here: bool = False) -> None:
         kept = keeper.found if keeper else {}
-        self.tables, self.seats, self.keeper, self.teacher_here = tables, seats, keeper, teacher_here
+        self.tables, self.keeper, self.teacher_here = tables, keeper, teacher_here
+        # The teacher may have made them more.
+        self.seats = max(seats, kept.get("most", 0))
         self.secret, self.teacher = kept.get("secret") or new_secret(), kept.get("teacher") or new_secret()
         self.short, self.tries = kept.get("short") or new_secret().replace("-", "")[:SHORT], Limit(*TRIES)
         self.joins = Limit(*SEATS)
         self.taken: dict[int, Seat] = {}
         self.barred = set(kept.get("barred", ()))
         for number, name, browser, key in kept.get("seats", ()):
-            if number <= seats:
+            if number <= self.seats:
                 self.taken[number] = Seat(number, name, browser, key)
         self.paused, self.is_open, self.over, self.shown = False, kept.get("open", True), False, kept.get("shown", "all")
         self.followers: set[Follower] = set()
@@ -165,7 +148,7 @@ class Classroom:
         self.place, self.port = "", 0
         self.places: Callable[[], list[str]] = list
         self.set_tables([tables[:1]], kept.get("size", size), 1)
-        self.may = {**dict.fromkeys(SWITCHES, False), **usual(self.size), **kept.get("may", {})}
+        self.may = {**dict.fromkeys(SWITCHES, False), "houses": True, **usual(self.size), **kept.get("may", {})}
         if keeper:
             self.find(keeper, kept)
 
@@ -223,7 +206,7 @@ class Classroom:
         if number not in self.rooms:
             kept = self.keeper and self.keeper.room(self.turn, number, self.seats)
             texts = [table.text for table in self.tables_of(number)]
-            self.rooms[number] = Room(number, texts, self.seats, self.feed, self.told, self.changed, kept)
+            self.rooms[number] = Room(number, texts, self.feed, self.told, self.changed, kept)
         return self.rooms[number]
 
     def number_of(self, seat: Seat) -> int:
@@ -253,8 +236,8 @@ class Classroom:
         if self.keeper:
             seats = [[seat.number, seat.name, seat.browser, seat.key] for seat in self.taken.values()]
             self.keeper.save({"secret": self.secret, "teacher": self.teacher, "short": self.short, "port": self.port,
-                              "turn": self.turn, "size": self.size, "table": self.handed[0][0].name, "may": self.may, "shown": self.shown,
-                              "open": self.is_open, "barred": sorted(self.barred), "seats": seats})
+                              "turn": self.turn, "size": self.size, "may": self.may, "shown": self.shown,
+                              "open": self.is_open, "barred": sorted(self.barred), "most": self.seats, "seats": seats})
 
     def told(self) -> None:
         """Wakes the pages: at once, or a little later if they were just told something, so that many entries are told together."""
@@ -264,13 +247,13 @@ class Classroom:
     def tell(self) -> None:
         self.soon, self.last = None, time.monotonic()
         for follower in self.followers:
-            follower.wake()
+            follower.woken.set()
 
     def beat(self) -> None:
         """Has something be sent to all pages now and then, so that a connection that is gone is noticed."""
         for follower in self.followers:
             follower.is_due = True
-            follower.wake()
+            follower.woken.set()
         asyncio.get_running_loop().call_later(HEARTBEAT, self.beat)
 
     def state(self) -> bytes:
@@ -280,7 +263,7 @@ class Classroom:
                      for seat in self.taken.values()}
             self.told_state = self.changes, event("state", {
                 "names": names, "paused": self.paused, "open": self.is_open, "may": self.may, "size": self.size, "shown": self.shown,
-                "address": self.address, "over": self.over, "picture": self.picture,
+                "address": self.address, "over": self.over, "picture": self.picture, "seats": self.seats,
                 "ends": {room.number: room.end for room in self.rooms.values() if room.end}})
         return self.told_state[1]
 
@@ -334,8 +317,6 @@ class Classroom:
             raise Nothing
         asked = request.parts[1]
         request.known() if teaches else request.is_guest()
-        if teaches and (request.method, asked) == ("GET", "tables"):
-            return as_json({"named": [table.name for table in self.tables], "graphs": await asyncio.to_thread(graphs)})
         if request.method == "GET":
             return self.given(asked, request, teaches)
         given = await request.json(MOST_TABLE if teaches else MOST_BODY)
@@ -347,7 +328,7 @@ class Classroom:
         word = request.query.get("code", request.parts[0])
         if word == "page.css":
             return asset(word)
-        is_code = COUNTED.match(word.replace("-", "")) and self.tries.has(request.peer)
+        is_code = COUNTED.match(word.replace("-", "")) and self.tries.takes(request.peer, 0)
         if is_code and same(word, self.short):
             return forward(request, self.secret)
         if is_code:
@@ -359,10 +340,10 @@ class Classroom:
     def given(self, asked: str, request: Request, teaches: bool) -> Answer:
         """What a page gets that plays nothing."""
         if asked == "start":
-            return as_json({"role": "teacher" if teaches else "pupil", "seats": self.seats, "address": self.address,
+            own = {"places": self.places(), "named": [table.name for table in self.tables], "graphs": list(GRAPHS)} if teaches else {}
+            return as_json({"role": "teacher" if teaches else "pupil", "address": self.address,
                             "short": self.short, "code": code("http://%s/%s" % (self.place, self.short)), "size": self.size,
-                            "kept": self.keeper is not None, "places": self.places() if teaches else [],
-                            **self.told_first(self.feed)})
+                            "kept": self.keeper is not None, **own, **self.told_first(self.feed)})
         if asked == "events":
             mark, seat = begin_at(request), None
             if "key" in request.query and not teaches:
@@ -390,12 +371,14 @@ class Classroom:
         if asked not in ("line", "undo", "redo", "hint", "cant", "next", "measure", "rename", "leave"):
             raise Nothing
         seat = self.seat_of(text_in(given, "key", 64))
-        if asked in ("rename", "leave"):
-            return self.renamed(seat, text_in(given, "name", 200)) if asked == "rename" else self.left(seat)
+        if asked == "rename":
+            return self.renamed(seat, text_in(given, "name", 200))
+        if asked == "leave":
+            return await self.teachers("free", {"seat": seat.number})
         room = self.room_of(seat)
         stage = given.get("stage", room.stage)
         if given.get("feed", room.feed.key) != room.feed.key or stage != room.stage:
-            raise NewTable
+            raise Refused(409, NEW_TABLE)
         if asked == "line":
             return await self.line(seat, room, text_in(given, "line", MOST_BODY), request)
         self.permits({"hint": "hints", "undo": "undo", "redo": "undo"}.get(asked))
@@ -443,11 +426,6 @@ class Classroom:
         self.changed()
         return as_json({"name": seat.name})
 
-    def left(self, seat: Seat) -> Answer:
-        self.free(seat.number, False)
-        self.changed()
-        return as_json({})
-
     def free_number(self) -> int:
         if not self.is_open:
             raise Refused(409, "The door is shut. The teacher can open it.")
@@ -491,7 +469,7 @@ class Classroom:
         finally:
             seat.waiting -= 1
         if came is None and (self.rooms.get(room.number) is not room or stage != room.stage):
-            raise NewTable
+            raise Refused(409, NEW_TABLE)
         if came is None:
             raise Refused(503, "The game has ended. This line was not played, unless the list has it.")
         return as_json({called: came, "items": len(room.feed.items)})
@@ -511,6 +489,11 @@ class Classroom:
             self.paused = given.get("paused") is True
         elif asked == "door":
             self.is_open = given.get("open") is True
+        elif asked == "seats":
+            count = given.get("count")
+            if not isinstance(count, int) or not self.seats <= count <= MOST_SEATS:
+                raise Refused(409, "There may be %d to %d seats." % (self.seats, MOST_SEATS))
+            self.seats = count
         elif asked == "may":
             self.may = {switch: given.get(switch, now) is True for switch, now in self.may.items()}
         elif asked == "show":
@@ -531,13 +514,6 @@ class Classroom:
             await self.again()
         elif asked == "table":
             await self.hand_out(given)
-        elif asked == "layout":
-            ((table,),) = await self.checked(given, self.size)
-            return as_json({"layout": table.layout})
-        elif asked == "move":
-            self.teacher = new_secret()
-            self.changed()
-            return as_json({"secret": self.teacher})
         elif asked == "replay":
             return await self.replay(room_in(given.get("room", 1)))
         else:
@@ -587,7 +563,7 @@ class Classroom:
         try:
             return await asyncio.to_thread(self.wanted, given, size)
         except (Fault, ValueError) as fault:
-            raise Refused(409, fault.text if isinstance(fault, Fault) else str(fault)) from None
+            raise Refused(409, with_value(fault.text, given.get("table", "")) if isinstance(fault, Fault) else str(fault)) from None
 
     def wanted(self, given: dict[str, Any], size: int) -> list[list[Table]]:
         """The tables that are wanted, of each stage, for rooms of a size. Raises a Fault where one is none."""

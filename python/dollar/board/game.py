@@ -29,10 +29,10 @@ def tables_of(name: str, texts: list[str]) -> list[Table]:
 
 
 class Game:
-    """A `dollar serve --seats N` at the other end of a pipe. `end` says how it has ended, if it has."""
+    """A `dollar serve` with all seats at the other end of a pipe. `end` says how it has ended, if it has."""
 
-    def __init__(self, text: str, seats: int = MOST_SEATS) -> None:
-        self.text, self.seats = text, seats
+    def __init__(self, text: str) -> None:
+        self.text = text
         # There once it was started.
         self.child: Any = None
         self.watching: Any = None
@@ -42,7 +42,7 @@ class Game:
         """Starts the program, again if it was started before, and gives its answers to some lines, all of which are written at once. If it
         ends before that, there are fewer. `ended` is called when it ends later."""
         await self.close()
-        with command_line(["serve", self.text.encode(), "--seats", str(self.seats)], None) as (line, descriptors):
+        with command_line(["serve", self.text.encode(), "--seats", str(MOST_SEATS)], None) as (line, descriptors):
             self.child = await asyncio.create_subprocess_exec(
                 *line, stdin=asyncio.subprocess.PIPE, stdout=asyncio.subprocess.PIPE, stderr=asyncio.subprocess.PIPE,
                 start_new_session=True, pass_fds=descriptors)

@@ -17,8 +17,6 @@ from dollar.table import text_of
 
 CLASS, TABLES, RECORD = "class.json", "tables.json", re.compile(r"room([0-9]{1,2})\.jsonl\Z")
 KINDS = {"played": Played, "rewound": Rewound}
-# In version 1.1 an item was a list of its parts, so many of each kind.
-KINDS_OF_1_1 = {4: Played, 2: Rewound}
 
 
 def read(place: str) -> str:
@@ -54,8 +52,6 @@ class Kept:
 
 def item_of(thing: Any) -> Any:
     """The item that something in JSON is."""
-    if isinstance(thing, list):
-        return KINDS_OF_1_1[len(thing)](*thing)
     return Noted(**thing) if "number" in thing else KINDS[thing.pop("kind")](**thing)
 
 
@@ -106,10 +102,8 @@ class Keeper:
             print("%s: %s: %s" % (typed("board"), place, error.strerror), file=sys.stderr)
 
     def stages(self, turn: int) -> Any:
-        """What was handed out at a turn, one after another, each as its name and the texts of its tables. Version 1.1 kept one, with its name
-        elsewhere."""
-        kept = json.loads(read(self.place("table%d" % turn, TABLES)) or "[]")
-        return [[self.found.get("table"), kept]] if kept and isinstance(kept[0], str) else kept
+        """What was handed out at a turn, one after another, each as its name and the texts of its tables."""
+        return json.loads(read(self.place("table%d" % turn, TABLES)) or "[]")
 
     def hand_out(self, turn: int, stages: Any) -> None:
         """Keeps what was handed out at a turn."""

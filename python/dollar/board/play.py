@@ -7,17 +7,9 @@ opens the table of FILE, or the first example: a click lends, shift-click borrow
 Ctrl-D or Ctrl-C ends it. Only this machine can reach the server, and only with the address that is printed.
 
 With --class N it is for a class of N pupils, at most 64: everybody who opens the pupils' address gets a seat. All share one table, or
-with --rooms K there is one for each K pupils. The teacher's page hands out the next table: one of the files, a graph, a puzzle. With
---host ADDRESS, one of this machine's addresses or 0.0.0.0 for all of them, other machines of the network can open it. With --name NAME,
-which may end with a port, it also answers to that name: the name of this machine, or of a tunnel that leads here. With --teacher-here
-the teacher's page can be opened on this machine alone.
-
-With --keep FOLDER the class is kept in that folder while it goes on, with its addresses, its names and its games. To resume, run the
-same command again, even after a crash.
-
-With --places PLACES each line 'name x y' of a file is the place of a vertex; x goes to the right, and y down. With --no-browser no
-browser is opened, and with --port PORT the address has that port. In a clone the command is `board/play`, and once installed it is
-`dollar-board`."""
+with --rooms K there is one for each K pupils. The teacher's page hands out the next table: one of the files, a graph, a puzzle. To
+resume a class that --keep has kept, run the same command again, even after a crash. In a clone the command is `board/play`, and once
+installed it is `dollar-board`."""
 from __future__ import annotations
 
 import argparse
@@ -51,11 +43,12 @@ def arguments(words: list[str]) -> argparse.Namespace:
     parser.add_argument("files", nargs="*", metavar="FILE", default=[EXAMPLES / "triangle.json"], help="table files; a class may have several")
     parser.add_argument("--class", type=number_to(MOST_SEATS), dest="seats", metavar="N", help="serve a class of N pupils")
     parser.add_argument("--rooms", type=number_to(MOST_SEATS), default=0, metavar="K", help="give each K pupils a table of their own")
-    parser.add_argument("--host", metavar="ADDRESS", help="the address to listen on, for other machines")
-    parser.add_argument("--name", action="append", default=[], type=name_of_host, metavar="NAME", help="another name to answer to; may be repeated")
+    parser.add_argument("--host", metavar="ADDRESS", help="listen on ADDRESS, of this machine, or on 0.0.0.0 for all of them: others can open it")
+    parser.add_argument("--name", action="append", default=[], type=name_of_host, metavar="NAME",
+                        help="answer to NAME too, of this machine or of a tunnel, which may end with a port; may be repeated")
     parser.add_argument("--teacher-here", action="store_true", help="open the teacher's page on this machine alone")
-    parser.add_argument("--keep", metavar="FOLDER", help="keep the class in FOLDER, and go on with it")
-    parser.add_argument("--places", metavar="PLACES", help="a file with the places of the vertices")
+    parser.add_argument("--keep", metavar="FOLDER", help="keep the class in FOLDER, its addresses, names and games, and go on with it")
+    parser.add_argument("--places", metavar="PLACES", help="a file with a line 'name x y' for each vertex; x goes to the right, and y down")
     parser.add_argument("--port", type=number_to(65535), default=0, metavar="PORT", help="the port of the address; any free one if not given")
     parser.add_argument("--no-browser", action="store_true", help="open no browser")
     given = parser.parse_args(words)

@@ -15,7 +15,6 @@ from collections import Counter
 from typing import Any, List, Sequence, Tuple
 
 from dollar.answers import numbered, verdict_of
-from dollar.drawing import USUAL, layout
 from dollar.program import PATIENCE, printed
 
 Edges = List[Tuple[int, int]]
@@ -195,13 +194,6 @@ def hint(text: str) -> dict[str, Any]:
     middle = statistics.median_low(verdict.script.values())
     name, count = max(verdict.script.items(), key=lambda pair: abs(pair[1] - middle))
     return {"name": name, "count": 1 if count > middle else -1, "left": 0}
-
-
-@functools.lru_cache(maxsize=None)
-def graphs() -> list[dict[str, Any]]:
-    """The known graphs, each as its name, a table without dollars, and where its vertices stand."""
-    tables = {name: table_of(edges) for name, edges in GRAPHS.items()}
-    return [{"name": name, "table": table, "layout": layout(table, USUAL)} for name, table in tables.items()]
 
 
 def puzzles(graph: str, level: str, now: str, count: int = 1) -> tuple[str, list[str]]:

@@ -77,9 +77,9 @@ class Room(Game):
     """A game of some pupils with its entries, on the first of some tables, and then on the next ones. What was taken back can be played
     again until there is another entry. `told` is called when there is something new, and `changed` when the game has ended."""
 
-    def __init__(self, number: int, texts: list[str], seats: int, whole: Feed, told: Callable[[], None],
-                 changed: Callable[[], None], kept: Any = None) -> None:
-        super().__init__(texts[0], seats)
+    def __init__(self, number: int, texts: list[str], whole: Feed, told: Callable[[], None], changed: Callable[[], None],
+                 kept: Any = None) -> None:
+        super().__init__(texts[0])
         self.texts, self.stage, self.is_done = texts, 0, False
         self.number, self.feeds, self.told, self.changed, self.kept = number, [Feed(number), whole], told, changed, kept
         self.turn, self.saved, self.restarts = asyncio.Lock(), 0, False

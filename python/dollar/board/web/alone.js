@@ -5,23 +5,17 @@ import { Editor } from "./edit.js";
 import { Hands } from "./hand.js";
 import { Link, fewest, save, startPage, store, stored, sure } from "./page.js";
 import { layoutOf, placesText } from "./places.js";
-import { Viewer, bind, choose, element } from "./viewer.js";
-import { Game, answerOf, besideWords, firstWords, linesOf } from "./words.js";
+import { speak, t } from "./texts.js";
+import { Viewer, bind, element } from "./viewer.js";
+import { Game, answerOf, firstWords, linesOf } from "./words.js";
 
 const SOON = 400, EDITED = "an edited table";
 export let table, fileName, examples, viewer, hands, questions, editor;
 const link = new Link();
 let key = null, keeping = null, undone = false, shortest = null, right = false;
 
-/* What the program says to a question: its status, its answer and its fault. */
-
-async function ask(question) {
-  const said = await link.post("ask", question);
-  return said.refused ? { status: said.status, out: "", err: said.refused } : said;
-}
-
-const textOf = (lines) => lines.map((line) => `${line}\n`).join("");
-const stepsText = (length) => textOf(viewer.game.steps.slice(0, length).map(({ line }) => line));
+const ask = (question) => link.ask(question);
+const stepsText = (length) => viewer.game.steps.slice(0, length).map(({ line }) => `${line}\n`).join("");
 
 /* Lines are played one after another, each on what came of the one before. */
 
@@ -31,10 +25,10 @@ export function play(line) {
 
 async function playNow(line) {
   const { game, now } = viewer;
-  if (line.includes("\n")) return hands.tell("A line has no newline in it.");
+  if (line.includes("\n")) return hands.tell(t`A line has no newline in it.`);
   const dropped = game.length - now;
-  if (dropped && !undone && !(await sure(`If you play on from here, the later steps are lost (${dropped}). Play on?`))) return null;
-  const step = `${element("seat").value} ${line}`;
+  if (dropped && !undone && !(await sure(t`If you play on from here, the later steps are lost (${dropped}). Play on?`))) return null;
+  const step = `1 ${line}`;
   const said = await hands.patient(answered(now, step));
   if (said.status !== 0) return hands.refuse(said.err);
   game.cut(now);
@@ -70,7 +64,7 @@ async function cant() {
   right = answerOf(linesOf(said)[0]).kind === "unwinnable";
   viewer.showText();
   showWays();
-  hands.note(right ? "" : "It can be done. Try on!");
+  hands.note(right ? "" : t`It can be done. Try on!`);
 }
 
 /* What the program says to a step after the first so many. The server has the game of this page at a live program; if it has it no
@@ -160,7 +154,7 @@ export async function openTable(text, file, places) {
   const said = await ask({ command: "layout", table: text, places });
   if (said.status !== 0) return said.err;
   const { length } = viewer.game;
-  const lost = `The steps of this game are lost with its table (${length}). Change the table?`;
+  const lost = t`The steps of this game are lost with its table (${length}). Change the table?`;
   if (length && !isDone() && !(await sure(lost))) return null;
   [table, fileName, key] = [text, file, null];
   begin(layoutOf(said.layout));
@@ -171,33 +165,26 @@ export async function openTable(text, file, places) {
 function begin(layout) {
   const game = new Game(JSON.parse(table));
   [shortest, right] = [null, false];
-  element("title").textContent = document.title = `The dollar game: ${fileName}`;
+  element("title").textContent = document.title = t`The dollar game: ${fileName}`;
   if (viewer) {
     hands.forget();
     questions.clear();
     viewer.reset(game, 0, layout);
   } else {
-    viewer = new Viewer(game, layout, { hands: true, reached, who: (seat) => (seat === "1" ? "You" : `Seat ${seat}`) });
+    viewer = new Viewer(game, layout, { hands: true, reached, who: () => t`You` });
     hands = new Hands(viewer, play);
     questions = new Questions(viewer, ask, play, () => viewer.game.help());
-    editor = new Editor(viewer, hands, (text, places) => openTable(text, EDITED, places), find);
+    editor = new Editor(viewer, hands, (text, places) => openTable(text, EDITED, places));
     viewer.filled(0);
     viewer.afterShow = shown;
     shown();
   }
 }
 
-/* A table's verdict and the places that its graph has. */
-
-async function find(text) {
-  const said = await ask({ command: "layout", table: text });
-  return said.layout ? { ...said, layout: layoutOf(said.layout) } : said;
-}
-
 async function openFile(file) {
   if (!file) return;
   const text = file.size > 1 << 20 ? "" : await file.text(), fault = text ? await openTable(text, file.name) : "file too long";
-  hands.refuse(fault, fault === null ? "" : besideWords(fault, text, file.name));
+  hands.refuse(fault && `${fault}, in ${file.name}`);
 }
 
 /* A puzzle: other dollars on a graph, of which the program has said whether it can be won. */
@@ -233,7 +220,6 @@ function bindTaking() {
     "take-now": () => save("now.json", questions.now()),
     "take-places": () => save("places.txt", placesText(viewer.board.layout)),
     "take-page": takePage,
-    print: () => window.print(),
   });
 }
 
@@ -248,6 +234,10 @@ function bindTables() {
     await openFile(event.target.files[0]);
     event.target.value = "";
   });
+  element("houses").addEventListener("change", ({ target }) => {
+    speak(target.checked ? "handout" : "field");
+    viewer.show(viewer.now);
+  });
   bind({
     edit: () => editor.open(),
     "puzzle-form": puzzle, next, undo: goBack, redo: goOn, hint, cant,
@@ -255,10 +245,10 @@ function bindTables() {
 }
 
 async function start() {
+  speak("field");
   const given = await (await fetch("start")).json();
   ({ table, examples, name: fileName } = given);
   element("puzzle-graph").append(...given.graphs.map((name) => new Option(name, name)));
-  choose("seat", Array.from({ length: 64 }, (_, i) => i + 1));
   const before = await kept();
   if (before) ({ table, fileName } = before);
   begin(layoutOf((before || given).layout));

@@ -2,8 +2,9 @@
    amounts and edges that are shown, and leaves no entry. */
 
 import { still } from "./board.js";
+import { t } from "./texts.js";
 import { below, bind, element, lost, made } from "./viewer.js";
-import { answerOf, debtWords, dollars, faultWords, linesOf, numbersOf, numbersWords, planned, rankWords, replyWords } from "./words.js";
+import { answerOf, debtWords, dollars, faultWords, linesOf, numbersOf, planned, rankWords, replyWords } from "./words.js";
 
 /* How many edges lead from a vertex to those that burn. */
 function edgesTo(name, burning, edges) {
@@ -16,8 +17,7 @@ export class Questions {
   /* `ask` puts a question to the program, `play` plays a line, and `shown` is called with what is drawn of an answer. */
   constructor(viewer, ask, play, shown) {
     Object.assign(this, { viewer, ask, play, shown, table: null, reply: null });
-    bind({ "ask-won": () => this.won(), "ask-rank": () => this.rank(), "ask-rr": () => this.numbers(),
-      "show-script": () => this.showScript(), "show-fire": () => this.fire() });
+    bind({ "ask-won": () => this.won(), "ask-rank": () => this.rank(), "show-script": () => this.showScript(), "show-fire": () => this.fire() });
   }
 
   now() {
@@ -47,11 +47,6 @@ export class Questions {
     return null;
   }
 
-  mark(counts, words) {
-    this.viewer.showText();
-    this.show({ says: below(counts, words) });
-  }
-
   show(given) {
     this.viewer.board.show(this.viewer.picture(given));
     this.shown(this.viewer.board.picture);
@@ -65,7 +60,8 @@ export class Questions {
     this.reply = reply;
     element("show-script").hidden = below(reply.script, planned).size === 0;
     element("show-fire").hidden = reply.kind === "winnable";
-    this.mark(reply.script, planned);
+    this.viewer.showText();
+    this.show({ says: below(reply.script, planned) });
   }
 
   showScript() {
@@ -81,30 +77,25 @@ export class Questions {
     if (tested === null) return;
     const { loss } = answerOf(linesOf(tested)[0]);
     this.tell(rankWords(rank, loss), printed + tested);
-    this.mark(loss || new Map(), lost);
-  }
-
-  async numbers() {
-    const printed = await this.answer({ command: "rr" });
-    if (printed === null) return;
-    this.tell(numbersWords(/** @type {any} */ (numbersOf(linesOf(printed)[0]))), printed);
+    this.viewer.showText();
+    this.show({ says: below(loss || new Map(), lost) });
   }
 
   /* The fire, in the order that the program tells. */
   async fire() {
     const { burning, reduced } = this.reply, { edges } = this.viewer.picture(), asked = this.reply;
     element("show-fire").hidden = true;
-    element("step").textContent = "After the script, before the fire";
+    element("step").textContent = t`After the script, before the fire`;
     element("answer").textContent = debtWords(reduced);
     for (const [count, next] of burning.entries()) {
       if (count > 0 && !still.matches) await new Promise((done) => setTimeout(done, 700));
       if (this.reply !== asked) return;
       const hot = edgesTo(next, burning.slice(0, count), edges), has = dollars(reduced.get(next));
-      const why = count === 0 ? "it owes, and who lends most gets nothing" : `${hot === 1 ? "1 burning edge" : `${hot} burning edges`}, ${has}`;
+      const why = count === 0 ? t`it owes, and who lends most gets nothing` : `${hot === 1 ? t`1 burning edge` : t`${hot} burning edges`}, ${has}`;
       this.show({ amounts: reduced, burnt: burning.slice(0, count + 1) });
-      this.line(`${next} burns: ${why}. So ${next} can't be one of those that lend most.`);
+      this.line(t`${next} burns: ${why}. So ${next} can't be one of those that lend most.`);
     }
-    this.line("All burn: nobody can lend most, so no lendings help.");
+    this.line(t`All burn: nobody can lend most, so no lendings help.`);
   }
 
   line(words) {

@@ -1,6 +1,7 @@
 /* Draws a board: circles for vertices with their dollars, lines for edges, and the dollars that move along them. */
 
 import { shortened, wordsPlace } from "./places.js";
+import { t } from "./texts.js";
 import { dollars, flows } from "./words.js";
 
 // What a picture may have beside amounts, edges and added edges: q, what is said at vertices, a move whose arrows are drawn, and those that burn.
@@ -20,7 +21,7 @@ export function draw(tag, given, parent, text) {
 }
 
 function amountWords(name, amount) {
-  return amount < 0 ? `${name} owes ${dollars(-amount)}` : `${name} has ${dollars(amount)}`;
+  return amount < 0 ? t`${name} owes ${dollars(-amount)}` : t`${name} has ${dollars(amount)}`;
 }
 
 export class Board {
@@ -47,7 +48,7 @@ export class Board {
     const active = /** @type {any} */ (document.activeElement), held = this.svg.contains(active) ? active.dataset.name : null;
     this.svg.replaceChildren();
     this.svg.setAttribute("viewBox", `0 0 ${this.layout.width} ${this.layout.height}`);
-    this.label(picture.amounts);
+    this.svg.setAttribute("aria-label", t`The board: ${[...picture.amounts].map((pair) => pair.join(" ")).join(", ")}`);
     this.signs();
     this.edges(picture);
     const pairs = [...picture.edges.keys()].map((key) => key.split(" "));
@@ -60,10 +61,6 @@ export class Board {
   focus(name) {
     const found = [...this.svg.querySelectorAll(".vertex")].find((at) => at.dataset.name === name);
     if (found) found.focus({ preventScroll: true });
-  }
-
-  label(amounts) {
-    this.svg.setAttribute("aria-label", `The board: ${[...amounts].map(([name, amount]) => `${name} ${amount}`).join(", ")}`);
   }
 
   signs() {
@@ -89,7 +86,7 @@ export class Board {
       strands.forEach(({ path, middle }, i) => {
         const kind = `edge${count > strands.length ? " many" : ""}${i >= strands.length - added ? " added" : ""}`;
         draw("path", { class: kind, d: path, "data-pair": key }, this.svg);
-        if (count > strands.length) this.words(middle[0], middle[1] - 12, `${count} edges`);
+        if (count > strands.length) this.words(middle[0], middle[1] - 12, t`${count} edges`);
       });
     }
   }

@@ -7,18 +7,17 @@ import { Editor } from "./edit.js";
 import { Hands } from "./hand.js";
 import { Link, post, save, startPage, store, stored, sure } from "./page.js";
 import { fitted, layoutOf } from "./places.js";
-import { Viewer, bind, button, element, made, say } from "./viewer.js";
-import { Game, besideWords, faultWords, firstWords, movesWords } from "./words.js";
+import { inWords, speak, t } from "./texts.js";
+import { Viewer, below, bind, button, element, made, refuse, say } from "./viewer.js";
+import { Game, commandWords, debtWords, faultWords, firstWords, linesOf, listed, movesWords, often, replyOf, stepOf } from "./words.js";
 
 const SOON = 16, LETTERS = 24, WORDS_HIGH = 85, TITLE_HIGH = 60, GROUPS = [0, 1, 2, 3, 4, 5, 6];
 const CHANGES = ["moved", "given", "joined"];
-const FILES = { "take-table": "table.json", "take-steps": "steps.txt", "take-history": "history.txt" };
-const SWITCHES = ["gifts", "edges", "questions", "undo", "hints"];
 const KEPT = `dollar ${location.pathname.replaceAll("-", "").toLowerCase()}`;
 export let given, viewer, hands, editor, questions = null, me = null, state = null, waiting = [], received = 0, shownRoom = 1;
 const MEANWHILE = 200, PATIENCE = 10000;
 let known = [], preview = [140, 110], frame = null, took = 0, last = 0, stopped = false, missed = false, pictured_ = "null";
-export const entries = new Map(), rooms = new Map();
+export const rooms = new Map();
 
 const teaches = () => given.role === "teacher";
 const watches = () => teaches() || me === null;
@@ -35,9 +34,9 @@ function keep(seat) {
 
 function askName() {
   element("watch").hidden = Boolean(me);
-  element("take-seat").textContent = me ? "Change the name" : "Take a seat";
+  element("take-seat").textContent = me ? t`Change the name` : t`Take a seat`;
   element("known").hidden = Boolean(me) || known.length === 0;
-  element("known").replaceChildren("Who is there? ", ...known.map((seat) => button(seat.name, () => {
+  element("known").replaceChildren(t`Who is there? `, ...known.map((seat) => button(seat.name, () => {
     keep(seat);
     sit();
   })));
@@ -56,7 +55,7 @@ function browser() {
 async function join() {
   const submit = element("take-seat");
   submit.disabled = true;
-  const timer = setTimeout(() => say("join-refused", "Many are coming in. Your seat comes in a moment."), 1000);
+  const timer = setTimeout(() => say("join-refused", t`Many are coming in. Your seat comes in a moment.`), 1000);
   const name = element("your-name").value, before = me;
   const got = await (before ? link.post("rename", { name, key: me.key }) : link.post("join", { name, browser: browser() }));
   clearTimeout(timer);
@@ -69,7 +68,7 @@ async function join() {
 }
 
 async function leave() {
-  if (await sure("Leave this seat? Somebody else can take it then.")) link.post("leave", { key: me.key });
+  if (await sure(t`Leave this seat? Somebody else can take it then.`)) link.post("leave", { key: me.key });
 }
 
 /* Lets somebody else take the place before the screen. */
@@ -106,7 +105,7 @@ function watch() {
 
 /* A page that plays nothing has the names beside the board. */
 function onlySees(kind) {
-  element("tools").hidden = true;
+  element("tools").hidden = !teaches();
   element("now").after(element("class"));
   document.body.classList.add(kind);
 }
@@ -119,7 +118,7 @@ function sit() {
 
 /* What comes from the server. */
 
-const NO_LINK = "There is no connection to the game. The page tries again.";
+const tellBreak = () => notice(t`There is no connection to the game. The page tries again.`);
 const place = (path) => `${path}from=${given.feed}.${received}`;
 
 export const link = new Link(PATIENCE, {
@@ -128,12 +127,12 @@ export const link = new Link(PATIENCE, {
     state = now;
     scheduleFlush();
   },
-  freed: () => leaveSeat("Your seat was freed. You can take another."),
+  freed: () => leaveSeat(t`Your seat was freed. You can take another.`),
   asleep() {
     link.close();
-    notice("Your seat is open in another page now. To play here, load this page again.");
+    notice(t`Your seat is open in another page now. To play here, load this page again.`);
   },
-}, (refused) => (refused ? checkSeat() : notice(NO_LINK)));
+}, (refused) => (refused ? checkSeat() : tellBreak()));
 
 /* A page that was not let in: its seat was freed, or the game is gone. Only the server itself can say so; what a network puts between is
    tried again. */
@@ -143,12 +142,12 @@ const AGAIN = 2000;
 async function checkSeat() {
   try {
     const got = await fetch("start");
-    if (got.ok && me) return leaveSeat("This is no longer your seat. You can take another.");
-    if (got.status === 404 && (await got.text()) === "there is nothing here") return notice("The game is not there any more.");
+    if (got.ok && me) return leaveSeat(t`This is no longer your seat. You can take another.`);
+    if (got.status === 404 && (await got.text()) === "there is nothing here") return notice(t`The game is not there any more.`);
   } catch {
     /* It is tried again. */
   }
-  notice(NO_LINK);
+  tellBreak();
   setTimeout(() => link.source && link.listen(link.place), AGAIN);
   return null;
 }
@@ -160,7 +159,6 @@ function handed(thing) {
   store("sessionStorage", `${KEPT} results`, past);
   Object.assign(given, { later: [] }, thing);
   [received, waiting] = [0, []];
-  entries.clear();
   clearRooms();
   if (editor && editor.draft) editor.leave();
   shownRoom = thing.room || 1;
@@ -170,10 +168,10 @@ function handed(thing) {
 /* The room that is shown is on another table. */
 function begins() {
   const { game, stage } = roomOf(shownRoom), { name, layout } = stages()[stage], place = given.later.length ? `${stageWords(stage)}, ` : "";
-  element("title").textContent = document.title = `${teaches() ? "For the teacher" : "The dollar game"}: ${place}${name}`;
+  element("title").textContent = document.title = `${teaches() ? t`For the teacher` : t`The dollar game`}: ${place}${name}`;
   viewer.board.chosen.clear();
   viewer.reset(game, game.length, layoutOf(layout));
-  if (hands) hands.forget();
+  hands.forget();
   if (questions) questions.clear();
 }
 
@@ -183,7 +181,7 @@ function clearRooms() {
 }
 
 const stages = () => [given, ...given.later];
-const stageWords = (stage) => `${stage + 1} of ${stages().length}`;
+const stageWords = (stage) => t`${stage + 1} of ${stages().length}`;
 
 /* A room on one of the tables that were handed out: its game, with the items that made it, what was taken back, how often, and what was
    reached. */
@@ -235,7 +233,7 @@ function flush() {
   else if (grown) viewer.grown(follows);
   missed = false;
   if (grown && me) measure(roomOf(shownRoom));
-  if (leapt && hands) hands.note(leapt);
+  if (leapt) hands.note(leapt);
   if (state) showState();
   link.drew();
   last = performance.now();
@@ -243,10 +241,8 @@ function flush() {
 }
 
 function take(room, item) {
-  const seat = String(item.seat);
   add(room, item);
   room.undone = [];
-  entries.set(seat, (entries.get(seat) || 0) + 1);
 }
 
 function add(room, item) {
@@ -268,7 +264,7 @@ const ITEMS = {
   },
   judged(room, { number, name }) {
     Object.assign(room, number ? { is_done: true, right: true } : { wrongs: room.wrongs + 1 });
-    return number ? null : `${name}: it can't be done. That is wrong: it can.`;
+    return number ? null : t`${name}: it can't be done. That is wrong: it can.`;
   },
   onward(room, { number }) {
     Object.assign(room, roomOn(number, room.number, [...room.results, resultOf(room)]));
@@ -292,8 +288,8 @@ async function measure(room) {
 const past = stored("sessionStorage", `${KEPT} results`) || [];
 
 function resultOf({ number, stage, game, items, is_done, right, best, hints, wrongs, backs }) {
-  const moves = right ? "can't be done" : best < Infinity ? best : "";
-  return [playersOf(number).join(" and "), stages()[stage].name, is_done ? "yes" : "no", moves, hints, wrongs, backs, items.length];
+  const moves = right ? t`can't be done` : best < Infinity ? best : "";
+  return [listed(playersOf(number)), stages()[stage].name, is_done ? t`yes` : t`no`, moves, hints, wrongs, backs, items.length];
 }
 
 function rowsNow() {
@@ -301,71 +297,67 @@ function rowsNow() {
 }
 
 function resultsText() {
-  const head = ["pupils", "table", "done", "fewest moves", "hints", "wrong answers", "taken back", "entries"];
+  const head = [t`pupils`, t`table`, t`done`, t`fewest moves`, t`hints`, t`wrong answers`, t`taken back`, t`entries`];
   const cell = (value) => `"${String(value).replace(/^(?=[=+@-])/, "'").replaceAll('"', '""')}"`;
   return [head, ...past, ...rowsNow()].map((row) => `${row.map(cell).join(",")}\n`).join("");
 }
 
 /* Goes back or on to so many entries, and says who has done it. */
 function leap(room, { left, name }) {
-  const { game, items, undone } = room, who = me && name === me.name ? "You have" : `${name} has`;
+  const { game, items, undone } = room, who = me && name === me.name ? t`You have` : t`${name} has`;
   if (left > game.length) {
     undone.pop().forEach((item) => add(room, item));
-    return `${who} played the move again.`;
+    return t`${who} played the move again.`;
   }
   undone.push(items.splice(left));
   game.cut(left);
   room.backs += 1;
-  return `${who} taken the last move back.`;
+  return t`${who} taken the last move back.`;
 }
 
 function showState() {
-  const { over, ends, paused, names } = state, end = over ? { status: 0 } : ends[shownRoom];
-  if (stopped && !paused && !end && hands) hands.tell("");
+  const { over, ends, paused, names, may } = state, end = over ? { status: 0 } : ends[shownRoom];
+  if (speak(may.houses ? "handout" : "field")) viewer.show(viewer.now);
+  if (stopped && !paused && !end) hands.tell("");
   stopped = paused || Boolean(end);
   if (end) notice(endWords(end));
-  else if (paused) notice("The teacher has paused the game.");
+  else if (paused) notice(t`The teacher has paused the game.`);
   else notice("");
   showNames(names);
-  if (hands) permit();
+  permit();
   if (teaches()) showCommands(Boolean(end), end);
   if (watches() && state.address !== given.address) renewWay();
   // The way in is shown until all are in, and small once somebody plays.
   document.body.classList.toggle("begun", given.turn > 1 || [...rooms.values()].some(({ game }) => game.length > 0));
-  element("way").classList.toggle("full", !state.open || Object.keys(names).length >= given.seats);
+  element("way").classList.toggle("full", !state.open || Object.keys(names).length >= state.seats);
   if (watches()) showRooms();
   if (watches() && !teaches()) showPicture(JSON.stringify(state.picture));
   viewer.showText();
 }
 
-/* What the teacher shows of an answer is drawn until the board changes. */
+/* What the teacher shows, by an answer, a move or a house that is pointed at, is drawn until the board changes. */
 function showPicture(told) {
-  const { room, amounts, says, burnt, words } = (told !== pictured_ && JSON.parse(told)) || {};
+  const { room, amounts, says, burnt, script, chosen, words } = (told !== pictured_ && JSON.parse(told)) || {};
   pictured_ = told;
   if (room !== shownRoom) return;
-  viewer.board.show(viewer.picture({ amounts: new Map(amounts), says: new Map(says), burnt }));
+  viewer.board.chosen = new Set(chosen);
+  viewer.board.show(viewer.picture({ amounts: new Map(amounts), says: new Map(says), burnt, script: script && new Map(script) }));
   element("now").hidden = true;
   hands.note(words);
 }
 
-/* Who plays. A row stays as long as its seat has the same pupil, so that its buttons can be clicked while others play. */
+/* Who plays. The rows stay as long as they say the same, so that their buttons can be clicked while others play. */
 function showNames(names) {
-  const list = element("names"), old = new Map([...list.children].map((row) => [row.dataset.who, row]));
-  const rows = Object.entries(names).map(([seat, { name, here, room }]) => {
-    const who = `${seat} ${name}`, row = old.get(who) || rowOf(seat, name, who), shared = state.size > 1 ? ` in room ${room}` : "";
-    const words = ` ${entries.get(seat) || 0} played${shared}${here ? "" : ", away"} `, part = row.querySelector("span");
-    row.className = here ? "" : "away";
-    if (part.textContent !== words) part.textContent = words;
-    return row;
-  });
-  if (rows.length !== list.children.length || rows.some((row, i) => row !== list.children[i])) list.replaceChildren(...rows);
+  const list = element("names"), rows = Object.entries(names).map(([seat, who]) => rowOf(seat, who));
+  if (list.innerHTML !== rows.map((row) => row.outerHTML).join("")) list.replaceChildren(...rows);
 }
 
-function rowOf(seat, name, who) {
-  const row = made("li", "", { value: seat, "data-who": who });
-  row.append(made("b", name), made("span", ""));
+function rowOf(seat, { name, here, room }) {
+  const row = made("li", "", { value: seat, class: here ? "" : "away" });
+  row.append(made("b", name), state.size > 1 ? t` in room ${room} ` : " ", here ? "" : t`away `);
   if (me && Number(seat) === me.seat) {
-    row.append("(you) ", button("rename", askName), " ", button("leave", leave), ...(given.kept ? [" ", button("somebody else", changeOver)] : []));
+    const other = given.kept ? [" ", button(t`somebody else`, changeOver)] : [];
+    row.append(t`(you) `, button(t`rename`, askName), " ", button(t`leave`, leave), ...other);
   }
   if (teaches()) row.append(freeing(seat, name), " ", freeing(seat, name, true));
   return row;
@@ -376,17 +368,17 @@ function permit() {
   const { edges, questions, undo, hints } = state.may, { game, undone, is_done, stage } = roomOf(shownRoom);
   const next = is_done && stage < given.later.length;
   const parts = { "draw-hint": edges, look: questions, commit: questions, undo, redo: undo, hint: hints, next };
-  for (const [id, permitted] of Object.entries(parts)) element(id).hidden = !permitted;
-  hands.joins = edges;
+  for (const [id, permitted] of Object.entries(parts)) element(id).hidden = teaches() || !permitted;
+  hands.joins = edges && !teaches();
   element("undo").disabled = !game.replies.some(({ kind }) => CHANGES.includes(kind));
   element("redo").disabled = undone.length === 0;
 }
 
 function endWords({ status, text }) {
-  if (status === 0) return "The teacher has ended the game.";
-  if (text === "the history is full") return "The game has ended: the history is full.";
-  const how = status < 0 ? "it was killed" : `with status ${status}`;
-  return `The program has ended: ${text || how}. Every line in the list was played.`;
+  if (status === 0) return t`The teacher has ended the game.`;
+  if (text === "the history is full") return t`The game has ended: the history is full.`;
+  const how = status < 0 ? t`it was killed` : t`with status ${status}`;
+  return t`The program has ended: ${text || how}. Every line in the list was played.`;
 }
 
 function notice(words) {
@@ -403,7 +395,7 @@ function showRooms() {
   const shown = teaches() ? "all" : state.shown, { size } = state, box = element("rooms");
   const numbers = [...new Set([...rooms.keys(), ...Object.values(state.names).map(({ room }) => room)])].sort((one, other) => one - other);
   const done = numbers.map(roomOf).reduce((sum, room) => sum + room.stage + room.is_done, 0), one = Number(shown);
-  element("done").textContent = `Done: ${done} of ${numbers.length * stages().length}`;
+  element("done").textContent = t`Done: ${done} of ${numbers.length * stages().length}`;
   box.hidden = size === 0;
   element("done").hidden = size === 0 || Boolean(one);
   if (size === 0) return;
@@ -434,11 +426,11 @@ function showRoom(room, listed) {
     room.part.append(draw("svg", { "aria-hidden": "true" }, room.part), made("span", "", { class: "who" }), made("span", "", { class: "how" }));
     room.board = new Board(room.part.querySelector("svg"));
   }
-  const [who, how] = room.part.querySelectorAll("span"), names = playersOf(number).join(", ") || `Room ${number}`;
+  const [who, how] = room.part.querySelectorAll("span"), names = playersOf(number).join(", ") || t`Room ${number}`;
   who.textContent = names;
-  const done = right ? "done: it can't be" : best < Infinity ? `done in ${movesWords(best)}` : is_done && "done with help";
-  how.textContent = [given.later.length && stageWords(stage), done || movesWords(state_.moves), hints && `hints: ${hints}`,
-    backs && `${backs} taken back`].filter(Boolean).join(", ");
+  const done = right ? t`done: it can't be` : best < Infinity ? t`done in ${movesWords(best)}` : is_done && t`done with help`;
+  how.textContent = [given.later.length && stageWords(stage), done || movesWords(state_.moves), hints && t`hints: ${hints}`,
+    backs && t`${backs} taken back`].filter(Boolean).join(", ");
   room.part.classList.toggle("done", is_done);
   room.part.setAttribute("aria-current", number === shownRoom);
   if (room.is_new && !listed) {
@@ -453,7 +445,7 @@ function showRoom(room, listed) {
 function enlarge(number) {
   shownRoom = number;
   begins();
-  for (const [id, file] of Object.entries(FILES)) element(id).href = `${file}?room=${number}`;
+  for (const at of document.querySelectorAll("#tables a")) /** @type {any} */ (at).search = `room=${number}`;
   scheduleFlush();
 }
 
@@ -462,7 +454,7 @@ function enlarge(number) {
 export async function play(line) {
   if (viewer.now < viewer.game.length) {
     viewer.go(viewer.game.length);
-    return hands.note("You were at an earlier step, so this was not played. This is the board now.");
+    return hands.note(t`You were at an earlier step, so this was not played. This is the board now.`);
   }
   return sent("line", { line });
 }
@@ -478,8 +470,8 @@ async function hint() {
 /* Nothing is played while the page does not hear what comes of it, and each line only when the one before it is drawn. */
 
 function sent(path, thing) {
-  if (!me) return hands.tell("Take a seat first.");
-  if (!link.hears) return hands.tell("This page does not hear the game just now. This was not played.");
+  if (!me) return hands.tell(t`Take a seat first.`);
+  if (!link.hears) return hands.tell(t`This page does not hear the game just now. This was not played.`);
   const { feed } = given, { stage } = roomOf(shownRoom);
   return link.inTurn(() => me && hands.patient(sentNow(path, { key: me.key, feed, stage, ...thing })));
 }
@@ -487,8 +479,8 @@ function sent(path, thing) {
 async function sentNow(path, thing) {
   const got = await link.post(path, thing);
   if (got.status === 404) return checkSeat();
-  if (got.status === null) return hands.tell(`${got.refused} The list shows whether the line was played. Later clicks were not.`);
-  if (got.refused) return hands.tell(got.refused);
+  if (got.status === null) return hands.tell(t`${got.refused} The list shows whether the line was played. Later clicks were not.`);
+  if (got.refused) return hands.tell(inWords(got.refused));
   await link.until(() => given.feed !== thing.feed || received - waiting.length >= got.items);
   const bad = got.answer && got.answer.startsWith("bad ");
   hands.tell(bad ? faultWords(got.answer) : "", bad ? got.answer : "");
@@ -499,38 +491,48 @@ async function sentNow(path, thing) {
 /* What only the teacher's page has. */
 
 function freeing(seat, name, bars = false) {
-  const asked = bars ? `Remove ${name}, and let this browser take no other seat?` : `Free the seat of ${name} for somebody else?`;
-  return button(bars ? "bar" : "free", async () => {
+  const asked = bars ? t`Remove ${name}, and let this browser take no other seat?` : t`Free the seat of ${name} for somebody else?`;
+  return button(bars ? t`bar` : t`free`, async () => {
     if (await sure(asked)) command("free", { seat: Number(seat), bar: bars });
-  }, { "aria-label": bars ? `Bar ${name}` : `Free the seat of ${name}` });
+  }, { "aria-label": bars ? t`Bar ${name}` : t`Free the seat of ${name}` });
 }
 
-async function ask(question) {
-  const said = await post("ask", question);
-  return said.refused ? { status: said.status, out: "", err: said.refused } : said;
+const ask = (question) => link.ask(question);
+
+/* A move for show: this page and the wall show the board after it, and no game is changed. */
+async function demonstrate(line) {
+  const trial = [...(viewer.board.picture.trial || []), line], step = stepOf(`1 ${line}`);
+  const said = await ask({ command: "rehearse", table: questions.now(), steps: trial.map((each) => `1 ${each}\n`).join("") });
+  const reply = /** @type {any} */ (said.status === 0 ? replyOf(linesOf(said.out)[trial.length - 1]) : {});
+  if (reply.kind !== "moved") return hands.refuse(said.err || t`only moves can be shown`);
+  hands.tell("");
+  hands.unchoose();
+  questions.tell(`${commandWords(step)}. ${debtWords(reply.amounts)}`, reply.line);
+  questions.show({ trial, amounts: reply.amounts, script: step.script, says: below(step.script, often) });
 }
 
 async function command(path, thing) {
   const got = await post(path, thing);
-  say("teacher-refused", got.refused && `${faultWords(got.refused, got.refused)} ${besideWords(got.refused, thing.table, thing.name)}`.trim());
+  refuse("teacher-refused", got.refused || null);
   return got;
 }
 
 function showCommands(ended, end) {
-  const { paused, open, may, shown, size, names } = state;
-  element("pause").textContent = paused ? "Resume the game" : "Pause the game";
-  element("door").textContent = open ? "Shut the door" : "Open the door";
+  const { paused, open, may, shown, size, names, seats } = state;
+  element("pause").textContent = paused ? t`Resume the game` : t`Pause the game`;
+  element("door").textContent = open ? t`Shut the door` : t`Open the door`;
   element("pause").disabled = element("end").disabled = ended;
   element("again").hidden = !end || end.text === "the history is full";
   for (const [name, is] of Object.entries(may)) element(`may-${name}`).checked = is;
   const known = [...new Set(Object.values(names).map(({ room }) => room))].sort((one, other) => one - other);
-  const wanted = [["all", size ? "all boards" : "the board"], ...(size ? [["done", "who is done"]] : []),
-    ...(size ? known.map((room) => [String(room), `the board of ${playersOf(room).join(", ")}`]) : [])];
+  const wanted = [["all", size ? t`all boards` : t`the board`], ...(size ? [["done", t`who is done`]] : []),
+    ...(size ? known.map((room) => [String(room), t`the board of ${playersOf(room).join(", ")}`]) : [])];
   const box = element("show");
   if ([...box.options].map(({ text }) => text).join() !== wanted.map(([, text]) => text).join()) {
     box.replaceChildren(...wanted.map(([value, text]) => new Option(text, value)));
   }
   box.value = shown;
+  if (document.activeElement !== element("most")) element("most").value = seats;
   element("which").value = state.address.split("/")[2];
 }
 
@@ -559,39 +561,23 @@ async function renewWay() {
 /* The next table: one of those that were named, a puzzle on a graph, or a file. */
 
 function sizeWords(size) {
-  if (size === 0) return "all on one board";
-  return size === 1 ? "each on a board of his or her own" : `groups of ${size}`;
+  if (size === 0) return t`all on one board`;
+  return size === 1 ? t`each on a board of his or her own` : t`groups of ${size}`;
 }
 
-async function offer() {
-  const { named, graphs } = await (await fetch("tables")).json(), box = element("next-table");
-  const all = named.length > 1 ? [["all these, one after another", "all"]] : [];
+function offer() {
+  const { named, graphs } = given, all = named.length > 1 ? [[t`all these, one after another`, "all"]] : [];
   const group = (label, options) => {
     const part = made("optgroup", undefined, { label });
     part.append(...options.map(([text, value]) => new Option(text, value)));
     return part;
   };
-  box.replaceChildren(group("Tables", [["the same again", "again"], ...all, ...named.map((name) => [name, `named ${name}`])]),
-    group("Puzzles", [["on the same graph", "graph "], ["on a random graph", "graph random"],
-      ...graphs.map(({ name }) => [name, `graph ${name}`])]));
+  element("next-table").replaceChildren(
+    group(t`Tables`, [[t`the same again`, "again"], ...all, ...named.map((name) => [name, `named ${name}`])]),
+    group(t`Puzzles`, [[t`on the same graph`, "graph "], [t`on a random graph`, "graph random"], ...graphs.map((name) => [name, `graph ${name}`])]));
   element("next-size").replaceChildren(...GROUPS.map((size) => new Option(sizeWords(size), String(size))));
-  element("next-size").value = (state || given).size;
-  document.querySelector("#graphs .gallery").replaceChildren(...graphs.map(pictured));
+  element("next-size").value = given.size;
   choosesTable();
-}
-
-function pictured({ name, table, layout }) {
-  const part = button("", () => {
-    element("next-table").value = `graph ${name}`;
-    element("graphs").open = false;
-    choosesTable();
-    element("next-table").focus();
-  });
-  part.append(draw("svg", { "aria-hidden": "true" }, part), made("span", name));
-  const board = new Board(part.querySelector("svg"));
-  board.layout = layoutOf(layout);
-  board.show(new Game(table).states[0]);
-  return part;
 }
 
 function choosesTable() {
@@ -603,19 +589,14 @@ function choosesTable() {
 /* Gives what is refused, nothing if it was handed out, and false if the teacher would rather not. */
 async function handOut(thing) {
   const played = [...rooms.values()].some(({ game }) => game.length > 0);
-  if (played && !(await sure("Hand out the next table? The games on this one end."))) return false;
+  if (played && !(await sure(t`Hand out the next table? The games on this one end.`))) return false;
   const got = await command("table", { size: Number(element("next-size").value), ...thing });
   return got.refused || null;
 }
 
-/* The editor, with a hand that does nothing else. */
 function drawTables() {
-  const drawing = new Hands(viewer, () => {}), find = async (table) => {
-    const got = await post("layout", { table, name: "" });
-    return got.refused ? { err: got.refused } : { layout: layoutOf(got.layout) };
-  };
-  editor = new Editor(viewer, drawing, (table, places) => handOut({ table, places, name: "a table of the class" }), find);
-  element("edit-done").textContent = "Hand it out";
+  editor = new Editor(viewer, hands, (table, places) => handOut({ table, places, name: "a table of the class" }));
+  element("edit-done").textContent = t`Hand it out`;
   bind({ edit: () => editor.open() });
 }
 
@@ -634,11 +615,7 @@ function teach() {
     pause: () => command("pause", { paused: !state.paused }), door: () => command("door", { open: !state.open }),
     again: () => command("again", {}), "hand-form": handOutChosen,
     async end() {
-      if (await sure("End the game? Save its files before you close this page.")) command("end", {});
-    },
-    async move() {
-      const { secret } = await command("move", {});
-      if (secret) location.replace(`/${secret}/`);
+      if (await sure(t`End the game? Save its files before you close this page.`)) command("end", {});
     },
     async "take-page"() {
       const got = await command("replay", { room: shownRoom });
@@ -652,26 +629,32 @@ function teach() {
     target.value = "";
   });
   element("show").addEventListener("change", () => command("show", { what: element("show").value }));
+  element("most").addEventListener("change", () => command("seats", { count: Number(element("most").value) }));
   element("which").append(...given.places.map((each) => new Option(each, each)));
   element("which").addEventListener("change", () => command("place", { place: element("which").value }));
   element("which").parentElement.hidden = given.places.length < 2;
-  for (const name of SWITCHES) {
-    element(`may-${name}`).addEventListener("change", ({ target }) => command("may", { [name]: target.checked }));
+  for (const box of document.querySelectorAll("[id^=may-]")) {
+    box.addEventListener("change", () => command("may", { [box.id.slice("may-".length)]: /** @type {any} */ (box).checked }));
   }
-  questions = new Questions(viewer, ask, () => {}, ({ amounts, says, burnt }) => {
+  questions = new Questions(viewer, ask, () => {}, ({ amounts, says, burnt, script }) => {
+    const words = element("told-words").textContent, picture = { room: shownRoom, amounts: [...amounts], says: [...says], burnt,
+      script: script && [...script], chosen: [...viewer.board.chosen], words };
     element("now").hidden = true;
-    command("picture", { room: shownRoom, amounts: [...amounts], says: [...says], burnt, words: element("told-words").textContent });
+    hands.note(words);
+    link.inTurn(() => command("picture", picture));
   });
+  hands.pointed = () => questions.show(viewer.board.picture);
   drawTables();
   offer();
   link.listen(() => place("events?"));
 }
 
 async function start() {
+  speak("field");
   given = { later: [], ...await (await fetch("start")).json() };
   const { game } = roomOf(1);
   viewer = new Viewer(game, layoutOf(given.layout), {
-    hands: !teaches(), who: (seat, index) => roomOf(shownRoom).items[index - 1].name, speaks: (step) => me !== null && Number(step.seat) === me.seat,
+    hands: true, who: (seat, index) => roomOf(shownRoom).items[index - 1].name, speaks: (step) => me !== null && Number(step.seat) === me.seat,
     reached() {
       const { best, least, right } = roomOf(shownRoom);
       return { best, least: least || null, right };
@@ -681,11 +664,10 @@ async function start() {
   viewer.afterShow = () => {
     // The words of a step are not said beside the picture of an answer.
     element("now").hidden = false;
-    if (hands) hands.note(me ? firstWords(viewer.game, viewer.now) : "");
+    hands.note(me ? firstWords(viewer.game, viewer.now) : "");
   };
-  element("title").textContent = document.title = `${teaches() ? "For the teacher" : "The dollar game"}: ${given.name}`;
-  element("seats").hidden = true;
-  hands = teaches() ? null : new Hands(viewer, play);
+  element("title").textContent = document.title = `${teaches() ? t`For the teacher` : t`The dollar game`}: ${given.name}`;
+  hands = new Hands(viewer, teaches() ? (line) => link.inTurn(() => demonstrate(line)) : play);
   if (teaches()) return teach();
   bind({ join, watch, undo: () => sent("undo", {}), redo: () => sent("redo", {}), hint, cant: () => sent("cant", {}),
     async next() {

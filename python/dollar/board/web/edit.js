@@ -2,21 +2,21 @@
 
 import { GRAMMAR } from "./grammar.js";
 import { freePlace, placesText } from "./places.js";
+import { t } from "./texts.js";
 import { bind, button, choose, element, made, refuse } from "./viewer.js";
 import { Game, nameWords } from "./words.js";
 
 const MOST_VERTICES = GRAMMAR.limits["dg_graph::MAX_VERTICES"], ROOM = [620, 440], STEP = 10;
 
 export class Editor {
-  viewer; hands; done; find; draft; kept; handled;
+  viewer; hands; done; draft; kept; handled;
   /* `done` is called with the text of the table and the places, and gives what the program refuses, null if it is done, or false if it
      is not. */
-  constructor(viewer, hands, done, find) {
-    Object.assign(this, { viewer, hands, done, find, draft: null });
+  constructor(viewer, hands, done) {
+    Object.assign(this, { viewer, hands, done, draft: null });
     bind({
       "add-vertex": () => this.addVertex(), "add-edge": () => this.addEdge(element("edge-from").value, element("edge-to").value),
-      "edit-done": () => this.finish(), "edit-cancel": () => this.close(), "edit-places": () => this.places(),
-      "edit-clear": () => this.clear(),
+      "edit-done": () => this.finish(), "edit-cancel": () => this.close(), "edit-clear": () => this.clear(),
     });
   }
 
@@ -81,13 +81,6 @@ export class Editor {
     this.leave();
     this.viewer.board.focus(this.viewer.game.names[0]);
     return null;
-  }
-
-  async places() {
-    const found = await this.find(this.text());
-    if (!found.layout) return refuse("edit-refused", found.err);
-    this.viewer.board.layout = this.wider(found.layout);
-    return this.draw();
   }
 
   /* Begins with an empty board. */
@@ -192,21 +185,21 @@ export class Editor {
     Object.assign(named, { size: 10, maxLength: 16 });
     q.name = "q";
     return this.row(named, this.number((amount) => { this.draft.amounts[i] = amount; }), q,
-      button("remove", () => this.removeVertex(this.draft.vertices[i])));
+      button(t`remove`, () => this.removeVertex(this.draft.vertices[i])));
   }
 
   showVertex(row, i) {
     const [named, dollars, q, remove] = row.querySelectorAll("input, button"), name = this.draft.vertices[i];
-    this.label(named, `The name of ${name}`, name);
+    this.label(named, t`The name of ${name}`, name);
     named.setCustomValidity("");
-    this.label(dollars, `Dollars of ${name}`, this.draft.amounts[i]);
-    this.label(q, `q is ${name}`);
-    this.label(remove, `Remove ${name}`);
+    this.label(dollars, t`Dollars of ${name}`, this.draft.amounts[i]);
+    this.label(q, t`q is ${name}`);
+    this.label(remove, t`Remove ${name}`);
     q.checked = name === this.draft.q;
   }
 
   edgeRow(i) {
-    return this.row("", this.number((count) => { this.draft.edges[i][2] = count; }), button("remove", () => {
+    return this.row("", this.number((count) => { this.draft.edges[i][2] = count; }), button(t`remove`, () => {
       this.draft.edges.splice(i, 1);
       this.fill();
     }));
@@ -215,8 +208,8 @@ export class Editor {
   showEdge(row, i) {
     const [count, remove] = row.querySelectorAll("input, button"), [u, v, times] = this.draft.edges[i], words = `${u} - ${v}`;
     row.cells[0].textContent = words;
-    this.label(count, `Edges ${words}`, times);
-    this.label(remove, `Remove ${words}`);
+    this.label(count, t`Edges ${words}`, times);
+    this.label(remove, t`Remove ${words}`);
   }
 
   rename(name, other) {

@@ -2,16 +2,17 @@
 
 import { draw } from "./board.js";
 import { vertexAhead, vertexAt } from "./places.js";
+import { t } from "./texts.js";
 import { below, bind, element, refuse, say } from "./viewer.js";
 import { movesWords, planned } from "./words.js";
 
 const LONG_PRESS = 550, FAR_ENOUGH = 9, PATIENT = 1000;
 
 export class Hands {
-  viewer; board; play; press; joining; other; joins;
-  /* `play` is called with a line. */
+  viewer; board; play; pointed; press; other; joins;
+  /* `play` is called with a line, and `pointed` when others are chosen. */
   constructor(viewer, play) {
-    Object.assign(this, { viewer, play, board: viewer.board, press: null, joining: null, other: null, joins: true });
+    Object.assign(this, { viewer, play, pointed: () => {}, board: viewer.board, press: null, other: null, joins: true });
     this.onBoard();
     this.onKeys();
     this.onForms();
@@ -116,6 +117,7 @@ export class Hands {
     if (!chosen.delete(name)) chosen.add(name);
     element("fire").hidden = chosen.size === 0;
     this.board.draw();
+    this.pointed();
   }
 
   unchoose() {
@@ -137,33 +139,16 @@ export class Hands {
       else if (this.other) return;
       else if (event.key === "Enter") this.moves(name, event.shiftKey);
       else if (event.key === " ") this.choose(name);
-      else if (event.key === "j") this.join(name);
-      else if (event.key === "Escape") this.escape();
+      else if (event.key === "Escape") this.forget();
       else return;
       event.preventDefault();
     });
   }
 
-  join(name) {
-    if (this.joining === null || this.joining === name) {
-      this.joining = this.joining === name ? null : name;
-      this.tell(this.joining === null ? "" : `An edge from ${name}: go to the other vertex and press j again.`);
-    } else {
-      const from = this.joining;
-      this.joining = null;
-      this.play(`join ${from} ${name}`);
-    }
-  }
-
-  /* Forgets what was chosen and begun. */
+  /* Forgets what was chosen. */
   forget() {
-    this.joining = null;
     this.unchoose();
     this.tell("");
-  }
-
-  escape() {
-    this.forget();
     this.board.draw();
   }
 
@@ -177,7 +162,7 @@ export class Hands {
 
   /* What is promised, and a word if that takes its time. */
   async patient(promise) {
-    const timer = setTimeout(() => this.tell("The answer is not there yet."), PATIENT);
+    const timer = setTimeout(() => this.tell(t`The answer is not there yet.`), PATIENT);
     try {
       return await promise;
     } finally {
@@ -192,9 +177,9 @@ export class Hands {
 
   /* Shows one move: its vertex, and 1 if that lends or -1 if it borrows; 0 if nobody has to move, and null if no move helps. */
   hint({ name, count, left }) {
-    const words = count === null ? "It can't be won as it stands." : "Nobody owes a dollar.";
-    const more = left ? ` In all ${movesWords(left)} will do.` : "";
-    this.note(count ? `Let ${name} ${count > 0 ? "lend" : "borrow"} once.${more}` : words);
+    const words = count === null ? t`It can't be won as it stands.` : t`Nobody owes a dollar.`;
+    const more = left ? t` In all ${movesWords(left)} will do.` : "";
+    this.note(count ? (count > 0 ? t`Let ${name} lend once.` : t`Let ${name} borrow once.`) + more : words);
     if (count) this.board.show(this.viewer.picture({ says: below(new Map([[name, count]]), planned) }));
   }
 
@@ -204,7 +189,7 @@ export class Hands {
   }
 
   /* Says what the program has refused, if it has. */
-  refuse(fault, beside) {
-    refuse("refused", fault, beside);
+  refuse(fault) {
+    refuse("refused", fault);
   }
 }

@@ -1,10 +1,10 @@
 /* What the pages with a server share: requests, a question to the reader, files that are saved, and what the browser keeps. */
 
+import { t } from "./texts.js";
 import { element, made } from "./viewer.js";
 
 // In milliseconds: the program itself is given two minutes.
 const LONG = 150000, SILENT = 10000, LATE = 2000, RETRY = 250, LOOK = 1000, TOO_FAST = 429;
-const NO_ANSWER = "There is no answer from board/play: it may have ended, or the network is gone.";
 
 /* What the server says to a request: a thing, or its words if it refuses. */
 
@@ -17,7 +17,7 @@ export async function post(path, thing, patience = LONG) {
     const got = await fetch(path, given);
     return got.ok ? await got.json() : { refused: await got.text(), status: got.status };
   } catch {
-    return { refused: NO_ANSWER, status: null };
+    return { refused: t`There is no answer from board/play: it may have ended, or the network is gone.`, status: null };
   }
 }
 
@@ -43,15 +43,21 @@ export class Link {
     return this.turn;
   }
 
-  async post(path, thing) {
-    const got = await post(path, thing, this.patience);
+  async post(path, thing, patience = this.patience) {
+    const got = await post(path, thing, patience);
     if (got.status === null) {
       this.fails++;
       this.breaks();
     }
     if (got.status !== TOO_FAST) return got;
     await new Promise((done) => setTimeout(done, RETRY));
-    return this.post(path, thing);
+    return this.post(path, thing, patience);
+  }
+
+  /* What the program says to a question: its status, its answer and its fault. */
+  async ask(question) {
+    const said = await this.post("ask", question, LONG);
+    return said.refused ? { status: said.status, out: "", err: said.refused } : said;
   }
 
   /* Waits until the page has drawn what was played. */
@@ -115,7 +121,7 @@ export async function startPage(start) {
   try {
     await start();
   } catch (fault) {
-    document.body.prepend(made("p", "This page could not start. Load it again.", { role: "alert" }));
+    document.body.prepend(made("p", t`This page could not start. Load it again.`, { role: "alert" }));
     throw fault;
   }
 }

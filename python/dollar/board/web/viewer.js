@@ -1,14 +1,12 @@
-/* Walks through a game: the board, the step and its answer in words, a slider with marks, and the list of all lines. */
+/* Walks through a game: the board, the step and its answer in words, a slider with ticks, and the list of all lines. */
 
 import { Board, still } from "./board.js";
 import { fitted } from "./places.js";
-import {
-  commandWords, debtWords, faultWords, flowWords, legendWords, markOf, mostTelling, movesWords, often, planned, reachedWords, replyWords, startWords,
-} from "./words.js";
+import { t } from "./texts.js";
+import { commandWords, debtWords, faultWords, flowWords, movesWords, often, planned, reachedWords, replyWords, startWords } from "./words.js";
 
 export const element = (id) => /** @type {any} */ (document.getElementById(id));
-// The marks of a long game, which all are looked at for, are drawn when no more steps come for a while.
-const BETWEEN = 2200, LISTED = 400, FEW = 1000, LATER = 300;
+const BETWEEN = 2200, LISTED = 400;
 
 export function made(tag, text, given = {}) {
   const part = document.createElement(tag);
@@ -47,10 +45,10 @@ export function say(id, words, own = "") {
   box.querySelector("code").textContent = own;
 }
 
-/* Says in the box what the program has refused, or else the server, or nothing if that is null; and what is to be said beside it. */
-export function refuse(id, fault, beside = "") {
+/* Says in the box what the program has refused, or else the server, or nothing if that is null. */
+export function refuse(id, fault) {
   const words = fault === null ? "" : faultWords(fault, "");
-  if (fault === null || words) say(id, words && `${words} ${beside}`.trim(), words && `dollar: ${fault}`);
+  if (fault === null || words) say(id, words, words && `dollar: ${fault}`);
   else say(id, `${fault[0].toUpperCase()}${fault.slice(1)}${fault.endsWith(".") ? "" : "."}`);
 }
 
@@ -66,18 +64,17 @@ export function below(counts, words) {
   return new Map([...counts].filter(([, count]) => count).map(([name, count]) => [name, words(count)]));
 }
 
-export const lost = (count) => `lost ${count}`;
+export const lost = (count) => t`lost ${count}`;
 
 export class Viewer {
-  board; game; flaws; who; speaks; reached; now; timer; marking; listed; afterShow;
+  board; game; flaws; who; speaks; reached; now; timer; listed; afterShow;
   /* `flaws` has what the program prints, for each step that has another line; `who` says of a step who played it, `speaks` whether a
      screen reader is to speak of it, and `reached` what is known of the table beside the game. */
   constructor(game, layout, /** @type {any} */ given = {}) {
-    const { hands = false, flaws = {}, who = (seat) => `Seat ${seat}`, speaks = () => true, reached = () => ({}) } = given;
+    const { hands = false, flaws = {}, who = (seat) => t`Seat ${seat}`, speaks = () => true, reached = () => ({}) } = given;
     Object.assign(this, { game, flaws, who, speaks, reached, now: 0, timer: null, listed: [0, 0], afterShow: () => {} });
     this.board = new Board(document.querySelector("#board svg"), hands);
     this.fit(layout);
-    element("marks-legend").textContent = legendWords();
     this.bind();
   }
 
@@ -95,7 +92,7 @@ export class Viewer {
       keys[event.key]();
     });
     element("slider").addEventListener("input", () => this.go(Number(element("slider").value)));
-    bind({ ...ways, earlier: () => this.list(this.listed[0] - LISTED), later: () => this.list(this.listed[1]) });
+    bind(ways);
     window.addEventListener("resize", () => this.refit());
     const door = element("more");
     if (!door) return;
@@ -113,7 +110,6 @@ export class Viewer {
 
   /* The place has another size now. An editor's layout stays as it is. */
   refit() {
-    this.fillMarks();
     if (!this.board.layout.original) return;
     this.fit(this.board.layout);
     this.board.draw();
@@ -128,30 +124,23 @@ export class Viewer {
   }
 
   filled(index) {
-    element("slider").max = this.game.length;
+    this.ticks();
     this.list(index - LISTED / 2);
     this.show(index);
-    this.fillMarks();
     const flawed = Object.keys(this.flaws).length;
-    element("flawed").textContent = flawed ? `${flawed} of its lines differ from what the program prints` : "";
+    element("flawed").textContent = flawed ? t`${flawed} of its lines differ from what the program prints` : "";
   }
 
   /* Shows a game that has grown: at its last step, if it is followed, and else where it was. */
   grown(follows) {
     const { length } = this.game, [low, high] = this.listed, list = document.querySelector("#whole ol");
-    element("slider").max = length;
-    if (length - high > LISTED) {
-      if (follows) this.list(length);
-    } else if (follows || length - low <= LISTED) {
+    this.ticks();
+    if (follows || length - low <= LISTED) {
       const over = Math.max(0, length - low - LISTED);
       for (let index = high; index < length; index++) list.append(this.item(index));
       for (let index = 0; index < over; index++) list.firstChild.remove();
       this.listed = [low + over, length];
     }
-    element("earlier").hidden = this.listed[0] === 0;
-    element("later").hidden = this.listed[1] === length;
-    clearTimeout(this.marking);
-    this.marking = setTimeout(() => this.fillMarks(), length < FEW ? 0 : LATER);
     if (follows) this.show(length);
     else this.showPlace();
   }
@@ -159,7 +148,7 @@ export class Viewer {
   says(index) {
     if (index === 0) return new Map();
     const { word, given, script } = this.game.steps[index - 1], reply = this.game.replies[index - 1];
-    if (reply.kind === "given") return new Map([[given[0], Number(given[1]) < 0 ? `${-given[1]} taken` : `${given[1]} given`]]);
+    if (reply.kind === "given") return new Map([[given[0], Number(given[1]) < 0 ? t`${-given[1]} taken` : t`${given[1]} given`]]);
     if (reply.loss) return below(reply.loss, lost);
     return below(reply.script || (reply.kind === "moved" ? script : []), word === "commit" ? planned : often);
   }
@@ -188,14 +177,14 @@ export class Viewer {
     const step = game.steps[index - 1], reply = game.replies[index - 1];
     document.querySelector("#now [aria-live]").setAttribute("aria-live", !index || this.speaks(step) ? "polite" : "off");
     this.showEnd();
-    element("place").textContent = index ? `Step ${index} of ${game.length}` : startWords(game.length);
-    element("step").textContent = index ? `${this.who(step.seat, index)}: ${commandWords(step)}` : "The table at the start";
+    element("place").textContent = index ? t`Step ${index} of ${game.length}` : startWords(game.length);
+    element("step").textContent = index ? `${this.who(step.seat, index)}: ${commandWords(step)}` : t`The table at the start`;
     element("moves").textContent = index && reply.kind === "moved" ? flowWords(state.edges, step.script) : "";
     element("answer").textContent = index ? replyWords(reply, state.amounts, game.table.q) : debtWords(state.amounts);
     element("asked").textContent = index ? step.line : "";
     element("said").textContent = index ? reply.line : "";
     element("differs").hidden = flaw === undefined;
-    element("differs").textContent = flaw === undefined ? "" : `This is not what the program prints, which is: ${flaw}`;
+    element("differs").textContent = flaw === undefined ? "" : t`This is not what the program prints, which is: ${flaw}`;
   }
 
   /* Says what was reached, if anything was. */
@@ -221,7 +210,7 @@ export class Viewer {
     slider.setAttribute("aria-valuetext", `${element("place").textContent}. ${element("step").textContent}`);
     for (const id of ["first", "back"]) element(id).disabled = index === 0;
     for (const id of ["on", "last"]) element(id).disabled = index === this.game.length;
-    if (index) element("place").textContent = `Step ${index} of ${this.game.length}`;
+    if (index) element("place").textContent = t`Step ${index} of ${this.game.length}`;
     const [low, high] = this.listed;
     if ((low > 0 && index <= low) || index > high) this.list(index - LISTED / 2);
     this.point();
@@ -229,21 +218,20 @@ export class Viewer {
 
   point() {
     for (const at of document.querySelectorAll("[aria-current=step]")) at.removeAttribute("aria-current");
-    for (const at of document.querySelectorAll(`#marks [data-index="${this.now}"], #whole [data-index="${this.now}"]`)) {
-      at.setAttribute("aria-current", "step");
-    }
+    const line = document.querySelector(`#whole [data-index="${this.now}"]`);
+    if (line) line.setAttribute("aria-current", "step");
   }
 
   stop() {
     clearInterval(this.timer);
     this.timer = null;
-    element("play").textContent = "Play";
+    element("play").textContent = t`Play`;
   }
 
   play() {
     if (this.timer !== null) return this.stop();
     if (this.now === this.game.length) this.show(0);
-    element("play").textContent = "Stop";
+    element("play").textContent = t`Stop`;
     this.timer = setInterval(() => {
       this.show(this.now + 1);
       if (this.now === this.game.length) this.stop();
@@ -255,43 +243,25 @@ export class Viewer {
     this.show(index);
   }
 
-  buttonTo(index, text, given) {
-    return button(text, () => this.go(index), { class: this.game.replies[index - 1].kind, "data-index": index, ...given });
-  }
-
   /* The list has a part of the lines, so that a long history opens at once. */
   list(from) {
     const low = Math.max(0, Math.min(from, this.game.length - LISTED)), high = Math.min(low + LISTED, this.game.length);
     document.querySelector("#whole ol").replaceChildren(...Array.from({ length: high - low }, (_, i) => this.item(low + i)));
     this.listed = [low, high];
-    element("earlier").hidden = low === 0;
-    element("later").hidden = high === this.game.length;
     this.point();
   }
 
   item(index) {
-    const item = made("li"), both = this.buttonTo(index + 1, "");
+    const item = made("li"), both = button("", () => this.go(index + 1), { "data-index": index + 1 });
     both.append(made("code", this.game.steps[index].line), " ", made("code", this.game.replies[index].line));
     item.append(both);
     return item;
   }
 
-  /* Marks stand where there is room: of steps that lie too near to each other, the one that tells most. */
-  markedSteps() {
-    const wide = element("marks").clientWidth, each = parseFloat(getComputedStyle(element("marks")).fontSize);
-    return mostTelling(this.game.replies, Math.max(1, Math.floor(wide / each)), this.flaws);
-  }
-
-  fillMarks() {
-    element("marks").replaceChildren(...this.markedSteps().map((index) => this.markAt(index)));
-    this.point();
-  }
-
-  markAt(index) {
-    const step = this.game.steps[index - 1], reply = this.game.replies[index - 1];
-    const words = { title: `Step ${index}: ${step.line}; ${reply.line}`, "aria-label": `Step ${index}: ${reply.kind}` };
-    const mark = this.buttonTo(index, markOf(step, reply), { tabindex: -1, ...words });
-    mark.style.left = `${(100 * index) / this.game.length}%`;
-    return mark;
+  /* The slider goes through all steps, and has ticks at some that are no moves. */
+  ticks() {
+    const told = this.game.replies.flatMap(({ kind }, i) => (kind === "moved" && this.flaws[i + 1] === undefined ? [] : [i + 1]));
+    element("slider").max = this.game.length;
+    element("ticks").replaceChildren(...told.slice(0, LISTED).map((index) => made("option", undefined, { value: index })));
   }
 }

@@ -2,30 +2,25 @@
    `flows` is here, and that a join adds an edge. Names are keys of maps, for a vertex may be called `constructor`, or 2 before 1. */
 
 import { GRAMMAR } from "./grammar.js";
+import { inWords, t } from "./texts.js";
 
-/* The kinds of replies, those that tell most first: the mark of each, what the legend says of it, and its words. */
+/* The kinds of replies, in words. */
 
 export const KINDS = {
-  unread: { mark: "?", words: () => "" },
-  winnable: { mark: "\u2713", legend: "can be won, or is won", words: ({ reduced }, _, q) =>
-    `It can be won: the script clears all debts, and then ${q} has ${reduced.get(q)}.` },
-  unwinnable: { mark: "\u2717", legend: "can't be won, or is not", words: ({ reduced }, _, q) =>
-    `It can't be won: the script clears every debt but one, and ${q} still owes ${-reduced.get(q)}.` },
-  won: { mark: "\u2713", words: () => "Won: nobody is in debt." },
-  refused: { mark: "!", legend: "refused", words: ({ cause }) => `Refused: ${CAUSES[cause] || cause}. Nothing changes.` },
-  stale: { mark: "~", legend: "stale", words: ({ gifts }) =>
-    `Stale: a gift, a levy or a new edge came after its look (${gifts} so far).` },
-  rank: { mark: "r", legend: "rank test", words: ({ degree, loss }) =>
-    (loss ? `The rank is below ${degree}: without ${lossWords(loss)} it can't be won.`
-      : `The rank is at least ${degree}: wherever ${dollars(degree)} are lost, it can still be won.`) },
-  joined: { mark: "=", legend: "edge added", words: ({ gifts }, amounts) => `It counts as change number ${gifts}. ${debtWords(amounts)}` },
-  given: { mark: "+", legend: "gift", levy: "\u2212", words: ({ gifts }, amounts) =>
-    `It counts as change number ${gifts}. ${debtWords(amounts)}` },
-  "not-won": { mark: "\u2717", words: (_, amounts) => `Not won. ${debtWords(amounts)}` },
-  looked: { mark: "o", legend: "look", words: ({ gifts }, amounts) =>
-    `It sees the board after ${gifts === 1 ? "1 gift, levy or new edge" : `${gifts} gifts, levies and new edges`}. `
-      + debtWords(amounts) },
-  moved: { mark: "\u00b7", words: (_, amounts) => debtWords(amounts) },
+  unread: () => "",
+  winnable: ({ reduced }, _, q) => t`It can be won: the script clears all debts, and then ${q} has ${reduced.get(q)}.`,
+  unwinnable: ({ reduced }, _, q) => t`It can't be won: the script clears every debt but one, and ${q} still owes ${-reduced.get(q)}.`,
+  won: () => t`Won: nobody is in debt.`,
+  refused: ({ cause }) => t`Refused: ${inWords(CAUSES[cause] || cause)}. Nothing changes.`,
+  stale: ({ gifts }) => t`Stale: a gift, a levy or a new edge came after its look (${gifts} so far).`,
+  rank: ({ degree, loss }) => (loss ? t`The rank is below ${degree}: without ${lossWords(loss)} it can't be won.`
+    : t`The rank is at least ${degree}: wherever ${dollars(degree)} are lost, it can still be won.`),
+  joined: ({ gifts }, amounts) => t`It counts as change number ${gifts}. ${debtWords(amounts)}`,
+  given: ({ gifts }, amounts) => t`It counts as change number ${gifts}. ${debtWords(amounts)}`,
+  "not-won": (_, amounts) => t`Not won. ${debtWords(amounts)}`,
+  looked: ({ gifts }, amounts) => t`It sees the board after ${gifts === 1 ? t`1 gift, levy or new edge` : t`${gifts} gifts, levies and new edges`}. `
+    + debtWords(amounts),
+  moved: (_, amounts) => debtWords(amounts),
 };
 
 /* What stands for the parts of a reply's form, and what they are called: g changes and k dollars that are lost, P amounts, N the names
@@ -158,33 +153,33 @@ export function flows(edges, script) {
 
 /* Words. */
 
-export const dollars = (count) => (count === 1 ? "1 dollar" : `${count} dollars`);
+export const dollars = (count) => (count === 1 ? t`1 dollar` : t`${count} dollars`);
 
 export function listed(words) {
-  return words.length < 2 ? words.join("") : `${words.slice(0, -1).join(", ")} and ${words[words.length - 1]}`;
+  return words.length < 2 ? words.join("") : t`${words.slice(0, -1).join(", ")} and ${words[words.length - 1]}`;
 }
 
 export function often(count) {
-  if (count === 0) return "does nothing";
-  return count > 0 ? `lends ${count}` : `borrows ${-count}`;
+  if (count === 0) return t`does nothing`;
+  return count > 0 ? t`lends ${count}` : t`borrows ${-count}`;
 }
 
 export function planned(count) {
-  return count > 0 ? `to lend ${count}` : `to borrow ${-count}`;
+  return count > 0 ? t`to lend ${count}` : t`to borrow ${-count}`;
 }
 
 const COMMANDS = {
-  lend: ([name]) => `${name} lends`,
-  borrow: ([name]) => `${name} borrows`,
-  fire: ([names]) => (names.includes(",") ? `${listed(names.split(","))} lend, all at once` : `${names} lends`),
-  script: (_, script) => `${listed([...script].map(([name, count]) => `${name} ${often(count)}`))}, all at once`,
-  gift: ([name, amount]) => (amount.startsWith("-") ? `a levy of ${dollars(-amount)} at ${name}`
-    : `a gift of ${dollars(Number(amount))} to ${name}`),
-  join: ([u, v]) => `one more edge between ${u} and ${v}`,
-  claim: () => "claims that nobody is in debt",
-  look: () => "looks",
-  commit: () => "enters the verdict on an earlier look",
-  rank: ([degree]) => `enters the rank test of degree ${degree} on an earlier look`,
+  lend: ([name]) => t`${name} lends`,
+  borrow: ([name]) => t`${name} borrows`,
+  fire: ([names]) => (names.includes(",") ? t`${listed(names.split(","))} lend, all at once` : t`${names} lends`),
+  script: (_, script) => t`${listed([...script].map(([name, count]) => `${name} ${often(count)}`))}, all at once`,
+  gift: ([name, amount]) => (amount.startsWith("-") ? t`a levy of ${dollars(-amount)} at ${name}`
+    : t`a gift of ${dollars(Number(amount))} to ${name}`),
+  join: ([u, v]) => t`one more edge between ${u} and ${v}`,
+  claim: () => t`claims that nobody is in debt`,
+  look: () => t`looks`,
+  commit: () => t`enters the verdict on an earlier look`,
+  rank: ([degree]) => t`enters the rank test of degree ${degree} on an earlier look`,
 };
 
 export function commandWords({ word, given, script }) {
@@ -192,24 +187,24 @@ export function commandWords({ word, given, script }) {
 }
 
 export function flowWords(edges, script) {
-  const told = flows(edges, script).map(({ from, to, each, count }) => `${each * count} from ${from} to ${to}`);
-  return told.length ? `Dollars along the edges: ${listed(told)}.` : "No dollar goes along an edge.";
+  const told = flows(edges, script).map(({ from, to, each, count }) => t`${each * count} from ${from} to ${to}`);
+  return told.length ? t`Dollars along the edges: ${listed(told)}.` : t`No dollar goes along an edge.`;
 }
 
 export const owing = (amounts) => [...amounts].filter(([, amount]) => amount < 0);
 
 export function startWords(steps) {
-  return steps === 0 ? "Start. No moves yet." : `Start, before ${steps === 1 ? "1 step" : `${steps} steps`}`;
+  return steps === 0 ? t`Start. No moves yet.` : t`Start, before ${steps === 1 ? t`1 step` : t`${steps} steps`}`;
 }
 
-export const movesWords = (count) => (count === 1 ? "1 move" : `${count} moves`);
+export const movesWords = (count) => (count === 1 ? t`1 move` : t`${count} moves`);
 
 /* What was reached: the fewest moves without help, Infinity if there are none, and the fewest that there can be, if that is known. */
 export function reachedWords({ won, moves, helped = false, best = Infinity, least = null, right = false }) {
-  if (right && !won) return "Right: it can't be done.";
-  const done = won ? `Solved in ${movesWords(moves)}: nobody owes a dollar.` : best < Infinity ? `Solved before, in ${movesWords(best)}.` : "";
-  const own = won && helped ? " With help, so it is no best." : won && best < moves ? ` Your best: ${best}.` : "";
-  const measure = least === null ? "" : best === least ? " It can't be done in fewer." : ` It can be done in ${least}.`;
+  if (right && !won) return t`Right: it can't be done.`;
+  const done = won ? t`Solved in ${movesWords(moves)}: nobody owes a dollar.` : best < Infinity ? t`Solved before, in ${movesWords(best)}.` : "";
+  const own = won && helped ? t` With help, so it is no best.` : won && best < moves ? t` Your best: ${best}.` : "";
+  const measure = least === null ? "" : best === least ? t` It can't be done in fewer.` : t` It can be done in ${least}.`;
   return done && done + own + measure;
 }
 
@@ -217,17 +212,17 @@ export function reachedWords({ won, moves, helped = false, best = Infinity, leas
 export function firstWords({ states, steps }, now) {
   const { amounts } = states[now], [[richest]] = [...amounts].sort(([, one], [, other]) => other - one);
   if (now > 1 || owing(amounts).length === 0 || (now === 1 && !steps[0].script)) return "";
-  if (now === 0) return `Click ${richest}: it sends a dollar along each of its edges.`;
-  return `${commandWords(steps[0])}. Go on until nobody owes. To let one borrow, press it longer, or tick the box first.`;
+  if (now === 0) return t`Click ${richest}: it sends a dollar along each of its edges.`;
+  return t`${commandWords(steps[0])}. Go on until nobody owes. To let one borrow, press it longer, or tick the box first.`;
 }
 
 export function debtWords(amounts) {
-  const told = owing(amounts).map(([name, amount]) => `${name} owes ${-amount}`);
-  return told.length ? `In debt: ${listed(told)}.` : "Nobody is in debt.";
+  const told = owing(amounts).map(([name, amount]) => t`${name} owes ${-amount}`);
+  return told.length ? t`In debt: ${listed(told)}.` : t`Nobody is in debt.`;
 }
 
 export function lossWords(loss) {
-  return listed([...loss].filter(([, count]) => count > 0).map(([name, count]) => `${dollars(count)} at ${name}`)) || "nothing";
+  return listed([...loss].filter(([, count]) => count > 0).map(([name, count]) => t`${dollars(count)} at ${name}`)) || t`nothing`;
 }
 
 /* What the program says of a rank, by the line of a sweep: past the limits of one test a loss, or both ranks, may be `?`. */
@@ -239,67 +234,35 @@ export function numbersOf(line) {
 
 const PAST = "too many losses would have to be tried";
 
-export function numbersWords({ degree, genus, rank, dual }) {
-  const ranks = rank === "?" && dual === "?" ? `Neither rank is known, since ${PAST}.`
-    : `The rank is ${rank}, and the rank of K - D is ${dual}.`;
-  return `The degree, the total of the dollars, is ${degree}. The genus, edges minus vertices plus 1, is ${genus}. ${ranks} `
-    + "By Riemann-Roch, the first rank minus the second is degree + 1 - genus.";
-}
-
 /* The rank, with the loss that shows that it is no more, if there is one. */
 export function rankWords(rank, loss) {
-  if (rank === "?") return `The rank is not known, since ${PAST}.`;
-  const degree = Number(rank) + 1, known = `The rank is ${rank}.`;
-  if (degree === 0) return `${known} It can't be won as it stands.`;
-  if (!loss) return `${known} Some loss of ${dollars(degree)} is too much; which one is not known, since ${PAST}.`;
-  const told = [...loss].filter(([, count]) => count > 0).map(([name, count]) => `${name} loses ${dollars(count)}`);
-  return `${known} If ${listed(told)}, the debts can no longer be cleared.`;
+  if (rank === "?") return t`The rank is not known, since ${inWords(PAST)}.`;
+  const degree = Number(rank) + 1, known = t`The rank is ${rank}.`;
+  if (degree === 0) return t`${known} It can't be won as it stands.`;
+  if (!loss) return t`${known} Some loss of ${dollars(degree)} is too much; which one is not known, since ${inWords(PAST)}.`;
+  const told = [...loss].filter(([, count]) => count > 0).map(([name, count]) => t`${name} loses ${dollars(count)}`);
+  return t`${known} If ${listed(told)}, the debts can no longer be cleared.`;
 }
 
 const { limits } = GRAMMAR;
 const MOST_EDGES = limits["dg_graph::MAX_VALENCE"];
 
 export const CAUSES = {
-  range: "an amount would go past a million dollars", gift: "a gift can't be 0", loop: "an edge needs two ends",
-  valence: `no vertex may have more than ${MOST_EDGES} edges`, vertex: "no such vertex", empty: "no vertex is named",
-  script: "no such script",
+  range: `an amount would go past a million dollars`, gift: `a gift can't be 0`, loop: `an edge needs two ends`,
+  valence: `no vertex may have more than ${MOST_EDGES} edges`, vertex: `no such vertex`, empty: `no vertex is named`,
+  script: `no such script`,
 };
 
 export function replyWords(reply, amounts, q) {
-  return KINDS[reply.kind].words(reply, amounts, q);
-}
-
-export function markOf(step, reply) {
-  const { mark, levy } = KINDS[reply.kind];
-  return levy && step.given[1] && step.given[1].startsWith("-") ? levy : mark;
-}
-
-const TELLING = Object.keys(KINDS);
-
-/* The steps whose marks are shown if there is room for so many: of those in one place the one that tells most, and first of all one
-   whose line is another than the program prints. */
-export function mostTelling(replies, places, flaws = {}) {
-  const best = [], telling = (index) => (flaws[index] !== undefined ? -1 : TELLING.indexOf(replies[index - 1].kind));
-  for (let index = 1; index <= replies.length; index++) {
-    const place = Math.floor(((index - 1) * places) / replies.length);
-    if (best[place] === undefined || telling(index) < telling(best[place])) best[place] = index;
-  }
-  return best.filter((index) => index !== undefined);
-}
-
-/* What the marks mean, in a line. */
-export function legendWords() {
-  const told = Object.values(KINDS).filter(({ legend }) => legend).flatMap(({ mark, legend, levy }) =>
-    [`${mark} ${legend}`, ...(levy ? [`${levy} levy`] : [])]);
-  return `Marks: ${told.join(", ")}; a dot is a move.`;
+  return KINDS[reply.kind](reply, amounts, q);
 }
 
 const LONGEST = limits["dg_tokens::MAX_NAME"], NAMES = `A name has 1 to ${LONGEST} letters from a to z or A to Z, digits or _.`;
 
 /* Why a vertex can't have a name beside others, or nothing if it can. */
 export function nameWords(name, others) {
-  if (!/^\w+$/.test(name) || name.length > LONGEST) return NAMES;
-  return others.includes(name) ? `Another vertex is called ${name}.` : "";
+  if (!/^\w+$/.test(name) || name.length > LONGEST) return inWords(NAMES);
+  return others.includes(name) ? t`Another vertex is called ${name}.` : "";
 }
 
 /* The program's faults, in words for players. A # in a text is a number, counted from 0. */
@@ -309,19 +272,19 @@ export const FAULTS = {
   "shape of top": "A table needs just these four: vertices, edges, amounts and q.",
   "shape of vertices": "The vertices have to be a list of names.",
   "shape of edges": "The edges have to be a list.",
-  "shape of edge #": (i) => `Edge ${i + 1} of the list has to be two names and a number of edges, at most 255.`,
+  "shape of edge #": (i) => t`Edge ${i + 1} of the list has to be two names and a number of edges, at most 255.`,
   "shape of amounts": "The amounts have to be a list of whole numbers.",
   "shape of q": "q has to be the name of a vertex.",
   "number of vertices": `A table has 1 to ${limits["dg_graph::MAX_VERTICES"]} vertices.`,
-  "name of vertex #": (i) => `Vertex ${i + 1} needs another name. ${NAMES}`,
-  "vertex # named twice": (i) => `Vertex ${i + 1} has the name of an earlier one.`,
-  "edge # has no vertex": (i) => `Edge ${i + 1} of the list leads to a vertex that is not there.`,
-  "edge # is a loop": (i) => `Edge ${i + 1} of the list leads from a vertex to itself.`,
-  "edge # is empty": (i) => `Edge ${i + 1} of the list has the number 0.`,
-  "valence of vertex #": (i) => `Vertex ${i + 1} has more than ${MOST_EDGES} edges.`,
+  "name of vertex #": (i) => t`Vertex ${i + 1} needs another name. ${inWords(NAMES)}`,
+  "vertex # named twice": (i) => t`Vertex ${i + 1} has the name of an earlier one.`,
+  "edge # has no vertex": (i) => t`Edge ${i + 1} of the list leads to a vertex that is not there.`,
+  "edge # is a loop": (i) => t`Edge ${i + 1} of the list leads from a vertex to itself.`,
+  "edge # is empty": (i) => t`Edge ${i + 1} of the list has the number 0.`,
+  "valence of vertex #": (i) => t`Vertex ${i + 1} has more than ${MOST_EDGES} edges.`,
   "not connected": "Some vertices can't be reached from the others: an edge is missing.",
   "number of amounts": "There have to be as many amounts as vertices.",
-  "amount of vertex #": (i) => `The amount of vertex ${i + 1} is out of range: a million dollars, or a million owed, is the most.`,
+  "amount of vertex #": (i) => t`The amount of vertex ${i + 1} is out of range: a million dollars, or a million owed, is the most.`,
   "no vertex q": "No vertex has the name given as q.",
   "out of memory": "There is not enough memory.",
   "bad seat": "There is no such seat.",
@@ -337,27 +300,8 @@ export const FAULTS = {
   "too many trials": "That rank test is too large.",
 };
 
-/* The value in a table that a fault is about. */
-const edgesOf = ({ vertices, edges }, i) => edges.reduce((sum, [u, v, count]) => sum + (u === vertices[i] || v === vertices[i] ? count : 0), 0);
-const VALUES = {
-  "shape of edge #": ({ edges }, i) => edges[i], "number of vertices": ({ vertices }) => vertices.length,
-  "name of vertex #": ({ vertices }, i) => vertices[i], "vertex # named twice": ({ vertices }, i) => vertices[i],
-  "edge # has no vertex": ({ edges }, i) => edges[i], "edge # is a loop": ({ edges }, i) => edges[i],
-  "edge # is empty": ({ edges }, i) => edges[i], "valence of vertex #": edgesOf, "number of amounts": ({ amounts }) => amounts.length,
-  "amount of vertex #": ({ amounts }, i) => amounts[i], "no vertex q": ({ q }) => q,
-};
-
-/* What the words of a fault don't have: the value in the text of the table, and the name of its file. */
-export function besideWords(text, table, file = "") {
-  const value = VALUES[text.replace(/\d+/, "#")], place = file && `The file is ${file}.`;
-  try {
-    return [`It is ${JSON.stringify(value(JSON.parse(table), Number(/\d+/.exec(text))))} here.`, place].filter(Boolean).join(" ");
-  } catch {
-    return place;
-  }
-}
-
+/* Beside a fault of a table the server says the value, the limit and the file. */
 export function faultWords(text, otherwise = "The program has refused this.") {
-  const words = FAULTS[text.replace(/\d+/, "#")];
-  return (typeof words === "function" ? words(Number(/\d+/.exec(text)[0])) : words) || otherwise;
+  const [fault] = text.split(/[:,] /), words = FAULTS[fault.replace(/\d+/, "#")];
+  return typeof words === "function" ? words(Number(/\d+/.exec(fault)[0])) : inWords(words || otherwise);
 }
