@@ -1,5 +1,4 @@
 """The table of a class, without a browser: one legal history, whatever pupils, strangers and accidents do."""
-import contextlib
 import json
 import os
 import random
@@ -11,6 +10,7 @@ import tempfile
 import threading
 import time
 from pathlib import Path
+from unittest.mock import patch
 
 from browser import browsers
 from common import EXAMPLES, PATIENCE, addresses, asked, is_modest, played, refused, started, swings, text_of, together, written
@@ -223,8 +223,9 @@ def keeping(folder):
         refused(command, word, stdin=subprocess.DEVNULL)
         equal(text_of(record), text, "a record of a game that is not gone on with")
     written(folder, record, before)
-    written(record.parent, "tables.json", json.dumps([text_of(EXAMPLES / "cube.json")]))
-    refused(command, "another table", stdin=subprocess.DEVNULL)
+    for stage, word in (["cube", [text_of(EXAMPLES / "cube.json")]], "another table"), (text_of(EXAMPLES / "cube.json"), "an older form"):
+        written(record.parent, "tables.json", json.dumps([stage]))
+        refused(command, word, stdin=subprocess.DEVNULL)
 
 
 def a_long_game(folder):
@@ -238,23 +239,12 @@ def a_long_game(folder):
         equal(Place(teacher).get("history.txt")[1].count("\n"), LONG, "the entries that came back")
 
 
-@contextlib.contextmanager
-def short_histories(folder):
-    """Has histories be full after five entries."""
-    real = os.environ["DOLLAR"]
-    capped = 'if [ "$word" = serve ]; then set -- --cap 5 "$@"; fi'
-    small = written(folder, "small", f'#!/bin/sh\nword=$1\nshift\n{capped}\nexec "{real}" "$word" "$@"\n')
-    small.chmod(0o755)
-    os.environ["DOLLAR"] = str(small)
-    try:
-        yield
-    finally:
-        os.environ["DOLLAR"] = real
-
-
 def full_history(folder):
-    """A full history ends the game, and says so."""
-    with short_histories(folder), a_class(folder, 2, "ann") as (_, _, desk, ann):
+    """A full history, here of five entries, ends the game, and says so."""
+    capped = 'if [ "$word" = serve ]; then set -- --cap 5 "$@"; fi'
+    small = written(folder, "small", f'#!/bin/sh\nword=$1\nshift\n{capped}\nexec "{os.environ["DOLLAR"]}" "$word" "$@"\n')
+    small.chmod(0o755)
+    with patch.dict(os.environ, DOLLAR=str(small)), a_class(folder, 2, "ann") as (_, _, desk, ann):
         equal([ann.play("claim")[0] for _ in range(6)], [200] * 5 + [503], "lines past the capacity")
         end = {"status": 3, "text": "the history is full"}
         ann.until(lambda pupil: pupil.states[-1]["ends"] == {"1": end}, "nobody is told of it")

@@ -174,10 +174,13 @@ def of_the_pages_of_a_class(folder):
         one.in_sizes("pupil")
         desk.in_sizes("teacher")
         equal(desk.text("#address"), pupils, "the address on the teacher's page")
+        page.click("#move")
+        page.until(f"{READY} && state !== null && location.href !== {json.dumps(teacher)}")
+        equal(Place(teacher).get("start"), (404, "there is nothing here"), "the address of the teacher's page after it was changed")
         confirmed(page, "#end")
         ann.told("The teacher has ended the game.")
         for browser in browsers:
-            browser.harmless(pupils, teacher)
+            browser.harmless(pupils, teacher, page.value("location.href"))
     ann.told("There is no connection to the game.")
 
 

@@ -514,6 +514,10 @@ class Classroom:
             await self.again()
         elif asked == "table":
             await self.hand_out(given)
+        elif asked == "move":
+            self.teacher = new_secret()
+            self.changed()
+            return as_json({"secret": self.teacher})
         elif asked == "replay":
             return await self.replay(room_in(given.get("room", 1)))
         else:

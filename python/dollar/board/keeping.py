@@ -103,7 +103,10 @@ class Keeper:
 
     def stages(self, turn: int) -> Any:
         """What was handed out at a turn, one after another, each as its name and the texts of its tables."""
-        return json.loads(read(self.place("table%d" % turn, TABLES)) or "[]")
+        stages = json.loads(read(self.place("table%d" % turn, TABLES)) or "[]")
+        if stages and isinstance(stages[0], str):
+            raise ValueError("%s keeps a class in an older form, which is not read any more" % self.folder)
+        return stages
 
     def hand_out(self, turn: int, stages: Any) -> None:
         """Keeps what was handed out at a turn."""

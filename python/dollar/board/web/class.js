@@ -159,7 +159,8 @@ function handed(thing) {
   store("sessionStorage", `${KEPT} results`, past);
   Object.assign(given, { later: [] }, thing);
   [received, waiting] = [0, []];
-  clearRooms();
+  rooms.clear();
+  element("rooms").replaceChildren();
   if (editor && editor.draft) editor.leave();
   shownRoom = thing.room || 1;
   begins();
@@ -173,11 +174,6 @@ function begins() {
   viewer.reset(game, game.length, layoutOf(layout));
   hands.forget();
   if (questions) questions.clear();
-}
-
-function clearRooms() {
-  rooms.clear();
-  element("rooms").replaceChildren();
 }
 
 const stages = () => [given, ...given.later];
@@ -560,11 +556,6 @@ async function renewWay() {
 
 /* The next table: one of those that were named, a puzzle on a graph, or a file. */
 
-function sizeWords(size) {
-  if (size === 0) return t`all on one board`;
-  return size === 1 ? t`each on a board of his or her own` : t`groups of ${size}`;
-}
-
 function offer() {
   const { named, graphs } = given, all = named.length > 1 ? [[t`all these, one after another`, "all"]] : [];
   const group = (label, options) => {
@@ -575,7 +566,8 @@ function offer() {
   element("next-table").replaceChildren(
     group(t`Tables`, [[t`the same again`, "again"], ...all, ...named.map((name) => [name, `named ${name}`])]),
     group(t`Puzzles`, [[t`on the same graph`, "graph "], [t`on a random graph`, "graph random"], ...graphs.map((name) => [name, `graph ${name}`])]));
-  element("next-size").replaceChildren(...GROUPS.map((size) => new Option(sizeWords(size), String(size))));
+  const sizes = { 0: t`all on one board`, 1: t`each on a board of his or her own` };
+  element("next-size").replaceChildren(...GROUPS.map((size) => new Option(sizes[size] || t`groups of ${size}`, String(size))));
   element("next-size").value = given.size;
   choosesTable();
 }
@@ -616,6 +608,10 @@ function teach() {
     again: () => command("again", {}), "hand-form": handOutChosen,
     async end() {
       if (await sure(t`End the game? Save its files before you close this page.`)) command("end", {});
+    },
+    async move() {
+      const { secret } = await command("move", {});
+      if (secret) location.replace(`/${secret}/`);
     },
     async "take-page"() {
       const got = await command("replay", { room: shownRoom });
