@@ -267,7 +267,9 @@ def floods(folder):
 
         # His own page is older than the others only once the program has taken it.
         bob.until(lambda pupil: pupil.states, "a page that is told nothing")
-        deaf = [place.events(bob.key) for _ in range(12)] + [half_a_line() for _ in range(HALVES)]
+        deaf = [place.events(bob.key) for _ in range(12)]
+        equal({link.recv(12) for link in deaf}, {b"HTTP/1.1 200"}, "many pages on a seat")
+        deaf += [half_a_line() for _ in range(HALVES)]
         others, *answers = together(
             lambda: [bob.play("look")[0] for _ in range(20)],
             *(lambda number=number: flood(number) for number in range(200)))
