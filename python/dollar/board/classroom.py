@@ -13,7 +13,7 @@ from typing import Any, AsyncIterator, Awaitable, Callable
 from dollar.board.alone import question, with_value
 from dollar.board.game import MOST_LINE, MOST_SEATS, Table, tables_of
 from dollar.board.pages import asset, filled, forward, page
-from dollar.board.puzzles import GRAPHS, RISING, hint, puzzles
+from dollar.board.puzzles import RISING, graphs, hint, puzzles
 from dollar.board.qr import code
 from dollar.board.replay import page as replay_page
 from dollar.board.room import Feed, Room, event
@@ -340,7 +340,7 @@ class Classroom:
     def given(self, asked: str, request: Request, teaches: bool) -> Answer:
         """What a page gets that plays nothing."""
         if asked == "start":
-            own = {"places": self.places(), "named": [table.name for table in self.tables], "graphs": list(GRAPHS)} if teaches else {}
+            own = {"places": self.places(), "named": [table.name for table in self.tables], "graphs": graphs()} if teaches else {}
             return as_json({"role": "teacher" if teaches else "pupil", "address": self.address,
                             "short": self.short, "code": code("http://%s/%s" % (self.place, self.short)), "size": self.size,
                             "kept": self.keeper is not None, **own, **self.told_first(self.feed)})

@@ -15,6 +15,7 @@ from collections import Counter
 from typing import Any, List, Sequence, Tuple
 
 from dollar.answers import numbered, verdict_of
+from dollar.drawing import USUAL, layout
 from dollar.program import PATIENCE, printed
 
 Edges = List[Tuple[int, int]]
@@ -177,6 +178,13 @@ def way(text: str) -> list[tuple[str, int]] | None:
                 came[there] = 1 - length, (now, name, sign)
                 heapq.heappush(heap, due(there, 1 - length))
     return None
+
+
+@functools.lru_cache(maxsize=None)
+def graphs() -> list[dict[str, Any]]:
+    """The known graphs, each as its name, a table without dollars, and where its vertices stand."""
+    tables = {name: table_of(edges) for name, edges in GRAPHS.items()}
+    return [{"name": name, "table": table, "layout": layout(table, USUAL)} for name, table in tables.items()]
 
 
 @functools.lru_cache(maxsize=256)
