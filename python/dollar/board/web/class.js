@@ -565,7 +565,8 @@ function offer() {
   };
   element("next-table").replaceChildren(
     group(t`Tables`, [[t`the same again`, "again"], ...all, ...named.map((name) => [name, `named ${name}`])]),
-    group(t`Puzzles`, [[t`on the same graph`, "graph "], [t`on a random graph`, "graph random"], ...graphs.map(({ name }) => [name, `graph ${name}`])]));
+    group(t`Puzzles`, [[t`on the same graph`, "graph "], [t`on a random graph`, "graph random"],
+      ...graphs.map(({ name }) => [name, `graph ${name}`])]));
   const sizes = { 0: t`all on one board`, 1: t`each on a board of his or her own` };
   element("next-size").replaceChildren(...GROUPS.map((size) => new Option(sizes[size] || t`groups of ${size}`, String(size))));
   element("next-size").value = given.size;
