@@ -11,20 +11,12 @@ from dollar.program import typed
 
 
 def told(thing: Any) -> str:
-    """The first paragraph of a description.
-
-    >>> told(told)
-    'The first paragraph of a description.'
-    """
+    """The first paragraph of a description."""
     return " ".join((inspect.getdoc(thing) or "").split("\n\n")[0].split())
 
 
 def shown(name: str, thing: Any) -> str:
-    """A name with its parameters, if it can be called.
-
-    >>> shown("told", told), shown("dollar", dollar)
-    ('told(thing)', 'dollar')
-    """
+    """A name with its parameters, if it can be called."""
     if not inspect.isroutine(thing):
         return name
     signature = inspect.signature(thing)
