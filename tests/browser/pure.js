@@ -2,9 +2,10 @@
 
 import { GRAMMAR } from "./grammar.js";
 import { fitted, freePlace, layoutOf, placesText, shortened, vertexAhead, vertexAt, wordsPlace } from "./places.js";
+import { TEXTS } from "./table.js";
 import {
-  CAUSES, FAULTS, Game, answerOf, commandWords, faultWords, firstWords, flows, linesOf, movesWords, nameWords, numbersOf, rankWords,
-  reachedWords, replyOf, replyWords, startWords, stepOf,
+  Game, answerOf, commandWords, faultWords, firstWords, flows, linesOf, movesWords, nameWords, numbersOf, rankWords, reachedWords, replyOf,
+  replyWords, startWords, stepOf,
 } from "./words.js";
 
 const failures_ = [];
@@ -44,7 +45,7 @@ function replies() {
   equal(replyWords(replyOf("7 looked 1 a=2 b=-1"), AMOUNTS, "a").startsWith("It sees the board after 1 gift, levy or new edge."), true,
     "the words of one change");
   equal(replyOf("moved a=1").kind, "unread", "a reply without its number");
-  equal(Object.keys(CAUSES).sort(), GRAMMAR.refusals.map((text) => text.split(" ")[1]).sort(), "the causes of refusals");
+  equal(Object.keys(TEXTS.refusals).sort(), GRAMMAR.refusals.map((text) => text.split(" ")[1]).sort(), "the causes of refusals");
 }
 
 function commands() {
@@ -62,7 +63,7 @@ function faults() {
   for (const text of [...GRAMMAR.tables, ...GRAMMAR.bad, "the history is full", "file too long", "too many trials"]) {
     equal(faultWords(text.replace("#", "4")) === faultWords("?"), false, `the words of ${text}`);
   }
-  for (const text of Object.keys(FAULTS)) equal(met.includes(text), true, `the text ${text} is one of the program`);
+  for (const text of Object.keys(TEXTS.faults)) equal(met.includes(text), true, `the text ${text} is one of the program`);
   const names = ["a", "a b", "b", "_9", "x".repeat(16), "x".repeat(17), ""].map((name) => nameWords(name, ["a"]) !== "");
   equal(names, [true, true, false, false, false, true, true], "names that a vertex beside a can't have");
   equal(faultWords("edge 0 is a loop"), "Edge 1 of the list leads from a vertex to itself.", "a fault with its number");

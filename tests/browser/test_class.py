@@ -136,10 +136,10 @@ def from_elsewhere(place, line, host):
 def of_another_form(place, ann, line):
     """What is no line, or no JSON."""
     text = place.ask("POST", "line", line, {"Content-Type": "text/plain"})
-    equal(text, (400, "the request is not JSON"), "a form of another page")
+    equal(text, (400, "The request is not JSON."), "a form of another page")
     for text, words in (
             ("claim\nlook", "A line has no newline in it."), ("x" * 1023, "A line has at most 1024 bytes."),
-            ("\u00e4" * 512, "A line has at most 1024 bytes."), ("x" * 20000, "the request is too long")):
+            ("\u00e4" * 512, "A line has at most 1024 bytes."), ("x" * 20000, "The request is too long.")):
         status, said = place.post("line", {"key": ann.key, "line": text})
         expect(status in (400, 413) and said.startswith(words), f"the line {text!r:.9}: {status} {said}")
     things = [{"key": ann.key, "line": 7}, {"key": ann.key}, {"line": "look"}, [], "look", None, 7,

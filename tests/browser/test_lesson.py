@@ -167,7 +167,7 @@ def shown_by_hand(ann, desk, wall):
 
 def at_own_speed(folder, ann, others, desk, wall):
     """Puzzles from easy to hard: each board goes on by itself, and the wall shows where it is."""
-    handed(desk, "graph Wheel of 5", "easy to hard")
+    handed(desk, "graph Wheel of 5", "rising")
     ann.until("given.name === 'Wheel of 5, easy' && given.later.length === 5 && $('#next').hidden")
     tables = [[json.loads(text) for text in stage] for stage in desk.value("[given, ...given.later].map(({ tables }) => tables)")]
     ann.touch("#cant")

@@ -7,7 +7,8 @@ import unittest
 from pathlib import Path
 
 from common import PATIENCE, written
-from dollar.board.pages import ROOTS, WEB, one_script, part
+from dollar.board.pages import MADE, ROOTS, one_script, part
+from dollar.board.texts import WEB
 from helpers import equal, tests_of
 
 
@@ -21,7 +22,8 @@ def ran(program, *words, **given):
 def copied(folder):
     """A copy of the modules, and of their tests, in a folder."""
     place = shutil.copytree(WEB, Path(folder, "web"))
-    written(place, "grammar.js", part("grammar.js"))
+    for name in MADE:
+        written(place, name, part(name))
     written(place, "package.json", '{"type": "module"}')
     shutil.copy(Path(__file__).with_name("pure.js"), place)
     return place

@@ -68,9 +68,9 @@ def next_tables(folder):
         equal((ann.play("claim")[1], bob.play("claim")[1]), ("0 not won", "1 not won"), "lines on a table that all share again")
         before = len(ann.tables)
         for given, said in (
-                ({"table": "{}"}, "shape of top"), ({"size": 4}, "there is no such room"), ({"size": "1"}, "there is no such room"),
-                ({"graph": "Cube", "level": "odd"}, "there is no such puzzle"),
-                ({"graph": "Round", "level": "easy"}, "there is no such puzzle")):
+                ({"table": "{}"}, "shape of top"), ({"size": 4}, "There is no such room."), ({"size": "1"}, "There is no such room."),
+                ({"graph": "Cube", "level": "odd"}, "There is no such puzzle."),
+                ({"graph": "Round", "level": "easy"}, "There is no such puzzle.")):
             status, text = desk.post("table", given)
             equal((status in (400, 409), text), (True, said), f"the table {given}")
         equal(len(ann.tables), before, "the tables after what is none")
@@ -128,7 +128,7 @@ def on_graphs(folder):
         try:
             equal(puzzles("", level, single), None, "a puzzle on one vertex")
         except ValueError as error:
-            equal(str(error), "there is no such puzzle on this graph", "a puzzle on one vertex")
+            equal(str(error), "There is no such puzzle on this graph.", "a puzzle on one vertex")
 
 
 def taking_back(folder):
@@ -247,7 +247,7 @@ def permitted(folder):
     """At first nobody gives, takes or builds. The teacher says what is permitted, shuts the door, and bars a browser."""
     with a_class(folder, 3, may=()) as (_, place, desk):
         ann = Pupil(place.address, "ann", browser="b" * 24)
-        refused = {"gift": "gifts and levies", "join": "new edges"}
+        refused = {"gift": "gifts and levies", "join": "new roads"}
         for line, called in ("gift ann 1000000", refused["gift"]), ("gift ann -1", refused["gift"]), ("join ann bob", refused["join"]):
             equal(ann.play(line), (409, f"The teacher has switched off {called}. Nothing was played."), f"the line {line}")
         equal(ann.play("look")[0], 200, "a look")

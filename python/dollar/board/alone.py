@@ -11,6 +11,7 @@ from dollar.board.pages import asset, forward, page
 from dollar.board.puzzles import GRAPHS, hint, puzzles
 from dollar.board.replay import page as replay_page
 from dollar.board.server import Answer, Nothing, Refused, Request, as_json, new_secret, same, text_in
+from dollar.board.texts import t
 from dollar.drawing import USUAL, layout
 from dollar.program import PATIENCE, Fault, call, fault_of
 from dollar.table import EXAMPLES, text_of
@@ -62,7 +63,7 @@ class OwnGame(Game):
         """What the program has said at its end. If it was ended here, the page begins the game again."""
         await self.close()
         status, text = self.end["status"], self.end["text"]
-        return {"status": status or None, "out": "", "err": text or "the program has ended", "gone": status == 0}
+        return {"status": status or None, "out": "", "err": text or t("requests.ended"), "gone": status == 0}
 
 
 class Alone:
@@ -115,7 +116,7 @@ class Alone:
             return await self.puzzle(text("graph"), text("level"), table)
         if command == "hint":
             return await made(lambda: {"out": json.dumps(hint(table))})
-        raise Refused(400, "there is no such question")
+        raise Refused(400, t("requests.question"))
 
     async def begin(self, table: str, steps: list[str]) -> dict[str, Any]:
         """Begins a game of a page with some steps. It is known by a key; of too many games the oldest ends."""
@@ -137,11 +138,11 @@ class Alone:
         """What the program says to a line of a page, or None for the status if the game is not there any more."""
         game = self.games.get(key)
         if "\n" in line or not isinstance(count, int) or count < 0:
-            raise Refused(400, "there is no such line")
+            raise Refused(400, t("requests.line"))
         if len(line.encode()) > MOST_LINE:
             return {"status": 3, "out": "", "err": "long line"}
         if game is None or count > len(game.lines):
-            return {"status": None, "out": "", "err": "the game is gone", "gone": True}
+            return {"status": None, "out": "", "err": t("requests.gone"), "gone": True}
         return await asyncio.shield(game.play(count, line))
 
     async def stop(self) -> None:

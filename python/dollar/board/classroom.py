@@ -12,13 +12,14 @@ from typing import Any, AsyncIterator, Awaitable, Callable
 
 from dollar.board.alone import question, with_value
 from dollar.board.game import MOST_LINE, MOST_SEATS, Table, tables_of
-from dollar.board.pages import asset, filled, forward, page
+from dollar.board.pages import asset, forward, page
 from dollar.board.puzzles import RISING, graphs, hint, puzzles
 from dollar.board.qr import code
 from dollar.board.replay import page as replay_page
 from dollar.board.room import Feed, Room, event
 from dollar.board.keeping import Keeper
 from dollar.board.server import LETTERS, Answer, Nothing, Refused, Request, as_json, new_secret, same, text_in
+from dollar.board.texts import t
 from dollar.program import PATIENCE, Fault, printed
 
 MOST_BODY, MOST_TABLE, MOST_NAME, MOST_PEERS = 1 << 14, 1 << 22, 24, 1000
@@ -36,11 +37,9 @@ FILES = {"table.json": "application/json", "steps.txt": "text/plain", "history.t
 BEAT, JOINER = event("beat", {}), "\u200d"
 # Letters that look like nothing, and a row of marks on a letter of which three are enough.
 UNSEEN, MARKS = "\u115f\u1160\u2800\u3164\uffa0", re.compile("([\u0300-\u036f]{3})[\u0300-\u036f]+")
-# What the teacher permits, the first words of the lines that fall under it, and what it is called.
-SWITCHES: dict[str, tuple[list[str], str]] = {"gifts": (["gift"], "gifts and levies"), "edges": (["join"], "new edges"),
-            "questions": (["look", "commit", "rank", "script"], "looks, verdicts, rank tests and scripts"), "undo": ([], "undo and redo"),
-            "hints": ([], "hints"), "houses": ([], "the words house and road")}
-NEW_TABLE = "There is a new table. This line was not played."
+# What the teacher permits, and the first words of the lines that fall under it.
+SWITCHES: dict[str, list[str]] = {"gifts": ["gift"], "edges": ["join"], "questions": ["look", "commit", "rank", "script"], "undo": [],
+                                  "hints": [], "houses": []}
 # What is permitted at first on boards that not all share.
 IN_ROOMS = "undo", "hints"
 
@@ -335,7 +334,7 @@ class Classroom:
             self.tries.takes(request.peer)
         if not MEANT.match(word):
             raise Nothing
-        return 404, "text/html", filled("wrong.html", {"title": "The dollar game"}).encode()
+        return page("wrong.html", 404)
 
     def given(self, asked: str, request: Request, teaches: bool) -> Answer:
         """What a page gets that plays nothing."""
@@ -378,7 +377,7 @@ class Classroom:
         room = self.room_of(seat)
         stage = given.get("stage", room.stage)
         if given.get("feed", room.feed.key) != room.feed.key or stage != room.stage:
-            raise Refused(409, NEW_TABLE)
+            raise Refused(409, t("class.new-table"))
         if asked == "line":
             return await self.line(seat, room, text_in(given, "line", MOST_BODY), request)
         self.permits({"hint": "hints", "undo": "undo", "redo": "undo"}.get(asked))
@@ -394,19 +393,19 @@ class Classroom:
     def permits(self, switch: str | None) -> None:
         """Refuses what the teacher does not permit."""
         if switch and not self.may[switch]:
-            raise Refused(409, "The teacher has switched off %s. Nothing was played." % SWITCHES[switch][1])
+            raise Refused(409, t("class.off", t("may." + switch, houses=self.may["houses"])))
 
     def join(self, name: str, browser: str | None, peer: str) -> Answer:
         """Gives a free seat: of those the one that was used least, so that nobody finds the look of another on it. A browser that has a
         seat keeps it."""
         if owner_of(browser) in self.barred:
-            raise Refused(409, "The teacher lets this browser take no seat.")
+            raise Refused(409, t("seat.barred"))
         own = next((seat for seat in self.taken.values() if browser and seat.browser == browser), None)
         if own is None:
             number = self.free_number()
             named = self.name_for(name, number)
             if not self.joins.takes(peer):
-                raise Refused(429, "Many are taking seats from here. Wait a moment.")
+                raise Refused(429, t("seat.many"))
             own = self.taken[number] = Seat(number, named, browser)
             self.changed()
         return as_json({"seat": own.number, "key": own.key, "name": own.name})
@@ -415,26 +414,26 @@ class Classroom:
         """A name for a seat: a second Anna is Anna 2. Raises Refused if nobody can see it."""
         name, others = clean(wanted), {seen(seat.name) for seat in self.taken.values() if seat.number != number}
         if wanted.strip() and not any(unicodedata.category(letter)[0] in "LNPS" for letter in name):
-            raise Refused(409, "Nobody can see this name. Choose another.")
-        named = [name or "Seat %d" % number, *("%s %d" % (name[:MOST_NAME - 3], count) for count in range(2, self.seats + 2))]
+            raise Refused(409, t("seat.unseen"))
+        named = [name or t("said.seat", number), *("%s %d" % (name[:MOST_NAME - 3], count) for count in range(2, self.seats + 2))]
         return next(each for each in named if seen(each) not in others)
 
     def renamed(self, seat: Seat, wanted: str) -> Answer:
         if not seat.bucket.takes():
-            raise Refused(429, "That is too fast; wait a moment.")
+            raise Refused(429, t("seat.fast"))
         seat.name = self.name_for(wanted, seat.number)
         self.changed()
         return as_json({"name": seat.name})
 
     def free_number(self) -> int:
         if not self.is_open:
-            raise Refused(409, "The door is shut. The teacher can open it.")
+            raise Refused(409, t("seat.shut"))
         free = [number for number in range(1, self.seats + 1) if number not in self.taken]
         if not free:
             late = time.monotonic() - UNUSED
             idle = [seat for seat in self.taken.values() if not seat.page and not seat.played and seat.seen < late]
             if not idle:
-                raise Refused(409, "All %d seats are taken. The teacher can free one." % self.seats)
+                raise Refused(409, t("seat.full", self.seats))
             free = [idle[0].number]
         # How many entries each seat has, also of those who sat there before.
         used = Counter(entry[0] for room in self.rooms.values() for entry in room.entries)
@@ -443,10 +442,10 @@ class Classroom:
     async def line(self, seat: Seat, room: Room, line: str, request: Request) -> Answer:
         """Plays a line of a seat, and gives the answer."""
         if "\n" in line:
-            raise Refused(400, "A line has no newline in it. This one was not played.")
+            raise Refused(400, t("class.newline"))
         if len(("%d %s" % (seat.number, line)).encode()) > MOST_LINE:
-            raise Refused(400, "A line has at most %d bytes. This one was not played." % MOST_LINE)
-        for switch, (words, _) in SWITCHES.items():
+            raise Refused(400, t("class.long", MOST_LINE))
+        for switch, words in SWITCHES.items():
             if line.split(" ")[0] in words:
                 self.permits(switch)
         stage = room.stage
@@ -456,22 +455,22 @@ class Classroom:
         """What comes of an act of a seat in its room, if it may act now, with how many items its page has to draw until it shows that. It
         goes on also if who asked has gone meanwhile."""
         if self.paused:
-            raise Refused(409, "The teacher has paused the game. This line was not played.")
+            raise Refused(409, t("class.stopped"))
         if not seat.takes():
-            raise Refused(429, "That is too fast. This line was not played; wait a moment.")
+            raise Refused(429, t("class.fast"))
         request.known()
         seat.waiting += 1
         stage = room.stage
         try:
             came = None if self.over else await asyncio.shield(asyncio.ensure_future(act()))
         except (OSError, ValueError, Fault) as error:
-            raise Refused(503, "The program can't be started: %s." % error) from None
+            raise Refused(503, t("class.no-start", error)) from None
         finally:
             seat.waiting -= 1
         if came is None and (self.rooms.get(room.number) is not room or stage != room.stage):
-            raise Refused(409, NEW_TABLE)
+            raise Refused(409, t("class.new-table"))
         if came is None:
-            raise Refused(503, "The game has ended. This line was not played, unless the list has it.")
+            raise Refused(503, t("class.ended"))
         return as_json({called: came, "items": len(room.feed.items)})
 
     async def play(self, seat: Seat, room: Room, line: str, stage: int) -> str | None:
@@ -492,7 +491,7 @@ class Classroom:
         elif asked == "seats":
             count = given.get("count")
             if not isinstance(count, int) or not self.seats <= count <= MOST_SEATS:
-                raise Refused(409, "There may be %d to %d seats." % (self.seats, MOST_SEATS))
+                raise Refused(409, t("teacher.few-seats", self.seats, MOST_SEATS))
             self.seats = count
         elif asked == "may":
             self.may = {switch: given.get(switch, now) is True for switch, now in self.may.items()}
@@ -505,7 +504,7 @@ class Classroom:
             self.picture, self.shown = given, str(room_in(given.get("room", 1))) if self.size else "all"
         elif asked == "place":
             if given.get("place") not in self.places():
-                raise Refused(409, "This machine does not have this address any more.")
+                raise Refused(409, t("teacher.no-address"))
             self.place = given["place"]
         elif asked == "end":
             self.over = True
@@ -528,7 +527,7 @@ class Classroom:
     def free(self, number: Any, bar: bool) -> None:
         seat = self.taken.pop(number, None) if type(number) is int else None
         if seat is None:
-            raise Refused(409, "Nobody has this seat.")
+            raise Refused(409, t("seat.nobody"))
         if bar and seat.browser:
             self.barred.add(owner_of(seat.browser))
         if seat.page:
@@ -537,12 +536,12 @@ class Classroom:
     async def again(self) -> None:
         """Starts the programs that have ended again, with all entries that there were."""
         if not self.over and not any(room.end for room in self.rooms.values()):
-            raise Refused(409, "The game goes on.")
+            raise Refused(409, t("teacher.goes-on"))
         try:
             for room in list(self.rooms.values()):
                 await room.again()
         except (OSError, ValueError, Fault) as error:
-            raise Refused(503, "The game can't be restarted: %s." % error) from None
+            raise Refused(503, t("teacher.no-restart", error)) from None
         self.over = False
 
     async def hand_out(self, given: dict[str, Any]) -> None:
@@ -550,7 +549,7 @@ class Classroom:
         end."""
         size, old = given.get("size", self.size), list(self.rooms.values())
         if not isinstance(size, int) or not 0 <= size <= self.seats:
-            raise Refused(400, "there is no such room")
+            raise Refused(400, t("teacher.no-room"))
         handed = await self.checked(given, size)
         if (size > 0) != (self.size > 0):
             self.may.update(usual(size))
@@ -574,12 +573,12 @@ class Classroom:
         if "graph" in given:
             count = -(-self.seats // size) if given.get("each") is True and size else 1
             graph, level = text_in(given, "graph", 40), text_in(given, "level", 20)
-            return [tables_of(*puzzles(graph, each, self.handed[0][0].text, count)) for each in (RISING if level == "easy to hard" else [level])]
+            return [tables_of(*puzzles(graph, each, self.handed[0][0].text, count)) for each in (RISING if level == "rising" else [level])]
         if "table" in given:
             text = text_in(given, "table", MOST_TABLE)
             printed("judge", text.encode(), patience=PATIENCE)
             places = text_in(given, "places", MOST_TABLE) if "places" in given else None
-            return [[Table(clean(text_in(given, "name", 200)) or "A table", text, places)]]
+            return [[Table(clean(text_in(given, "name", 200)) or t("tables.unnamed"), text, places)]]
         if given.get("all") is True:
             return [[table] for table in self.tables]
         return [[table] for table in self.tables if table.name == given.get("named")][:1] or self.handed
@@ -593,7 +592,7 @@ class Classroom:
             names = [entry.name for entry in self.rooms[number].entries] if number in self.rooms else []
             made = await asyncio.to_thread(replay_page, table.name, table.text, steps, lines, history, table.own, names)
         except (Fault, TimeoutError) as fault:
-            raise Refused(409, "The program does not play the game again: %s" % fault) from None
+            raise Refused(409, t("teacher.no-replay", fault)) from None
         return as_json({"page": made})
 
     def file(self, name: str, number: int) -> str:

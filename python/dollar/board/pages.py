@@ -9,21 +9,21 @@ import re
 from typing import Mapping
 
 from dollar.board.server import Answer, Nothing, Request
+from dollar.board.texts import TEXTS, WEB, in_html, t
 from dollar.grammar import GRAMMAR
 from dollar.table import text_of
 
-WEB = os.path.join(os.path.dirname(os.path.abspath(__file__)), "web")
 KINDS = {"css": "text/css", "js": "text/javascript"}
 # The modules that pages have as their scripts.
 ROOTS = {"alone.js", "class.js"}
-ASSETS = {"grammar.js", *(name for name in os.listdir(WEB) if name.rpartition(".")[2] in KINDS)}
+# Modules that are made of data: what they export.
+MADE: dict[str, tuple[str, object]] = {"grammar.js": ("GRAMMAR", GRAMMAR), "table.js": ("TEXTS", TEXTS)}
+ASSETS = {*MADE, *(name for name in os.listdir(WEB) if name.rpartition(".")[2] in KINDS)}
 
 
 def part(name: str) -> str:
-    """The text of a file of the pages. The grammar is a module that is made of its data."""
-    if name == "grammar.js":
-        return "export const GRAMMAR = %s;\n" % json.dumps(GRAMMAR, indent=1)
-    return text_of(os.path.join(WEB, name))
+    """The text of a file of the pages."""
+    return "export const %s = %s;\n" % (MADE[name][0], json.dumps(MADE[name][1])) if name in MADE else text_of(os.path.join(WEB, name))
 
 
 IMPORT = re.compile(r'^import [^;]*? from "\./([\w.]+)";\n', re.M)
@@ -51,11 +51,12 @@ def one_script(name: str, exports: bool = False) -> str:
 
 
 def filled(name: str, words: Mapping[str, str]) -> str:
-    """A page with texts, or else other parts of pages, in the places of their names."""
+    """A page with what is given, texts of the table, or else other parts of pages, in the places of their names."""
     def text_of_name(found: re.Match[str]) -> str:
-        return words[found[1]] if found[1] in words else filled(found[1] + ".html", words)
+        name = found[1]
+        return words[name] if name in words else in_html(name) if "." in name else filled(name + ".html", words)
 
-    return re.sub("{{([a-z]+)}}", text_of_name, part(name))
+    return re.sub("{{([a-z.-]+)}}", text_of_name, part(name))
 
 
 def asset(name: str) -> Answer:
@@ -66,9 +67,10 @@ def asset(name: str) -> Answer:
     return 200, KINDS[name.rpartition(".")[2]], text.encode()
 
 
-def page(name: str) -> Answer:
+def page(name: str, status: int = 200) -> Answer:
     """A page as an answer."""
-    return 200, "text/html", filled(name, {"title": html.escape("The dollar game")}).encode()
+    given = {"title": html.escape(t("page.title")), "look": '<link rel="stylesheet" href="page.css">'}
+    return status, "text/html", filled(name, given).encode()
 
 
 def forward(request: Request, secret: str) -> Answer:

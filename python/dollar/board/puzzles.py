@@ -15,6 +15,7 @@ from collections import Counter
 from typing import Any, List, Sequence, Tuple
 
 from dollar.answers import numbered, verdict_of
+from dollar.board.texts import t
 from dollar.drawing import USUAL, layout
 from dollar.program import PATIENCE, printed
 
@@ -139,7 +140,7 @@ def puzzle(table: dict[str, Any], level: str, draw: random.Random, others: Seque
             if found not in others:
                 return found
     if found is None:
-        raise ValueError("there is no such puzzle on this graph")
+        raise ValueError(t("puzzles.none-here"))
     return found
 
 
@@ -207,11 +208,11 @@ def hint(text: str) -> dict[str, Any]:
 def puzzles(graph: str, level: str, now: str, count: int = 1) -> tuple[str, list[str]]:
     """The name and the texts of puzzles: on a known graph, on a random one, or on that of the table now."""
     if level not in LEVELS or graph not in ("", "random", *GRAPHS):
-        raise ValueError("there is no such puzzle")
+        raise ValueError(t("puzzles.none"))
     draw = random.SystemRandom()
     table = json.loads(now) if graph == "" else table_of(random_graph(draw) if graph == "random" else GRAPHS[graph])
-    called, made = {"": "the same graph", "random": "a random graph"}.get(graph, graph), list[str]()
+    called, made = t("puzzles." + (graph or "same")) if graph in ("", "random") else t("graphs." + graph), list[str]()
     while len(made) < count:
         # Once none is found that is new, they come again.
         made.append(puzzle(table, level, draw, made if len(set(made)) == len(made) else ()))
-    return "%s, %s" % (called, level), made
+    return t("puzzles.name", called, t("puzzles." + level)), made

@@ -23,6 +23,11 @@ USAGE = """%(prog)s FILE STEPS > GAME.html            the history is what `dolla
        %(prog)s FILE STEPS HISTORY > GAME.html    the history is that of a file; the page says where the program prints another
        %(prog)s FILE --greedy TURNS > GAME.html   a game of `dollar greedy FILE TURNS`; its steps are those of the rule"""
 
+# What its page may do, and how it looks.
+LOOK = """<meta http-equiv="Content-Security-Policy" content="default-src 'none'; script-src %s; style-src %s; img-src data:; \
+base-uri 'none'; form-action 'none'">
+<style>%s</style>"""
+
 
 def in_page(text: str) -> str:
     """A text as it stands within an element <script> that is no script: JSON, in which an escape stands for what would end it."""
@@ -64,13 +69,10 @@ def page(title: str, text: str, steps: Any, lines: Any, history: Any = None, own
     table = json.loads(text)
     amounts = [*table["amounts"], *(set(re.findall(r"=(-?\d+)", shown)))]
     code, style = one_script("replay.js"), "\n" + part("page.css")
-    policy = "default-src 'none'; script-src %s; style-src %s; img-src data:; base-uri 'none'; form-action 'none'" % (
-        digest(code), digest(style))
     return filled("replay.html", {
-        "title": html.escape(title), "policy": policy, "style": style, "table": in_page(text), "steps": steps,
+        "title": html.escape(title), "look": LOOK % (digest(code), digest(style), style), "table": in_page(text), "steps": steps,
         "printed": shown, "layout": in_page(json.dumps(layout(table, amounts, own))), "flaws": in_page(json.dumps(flaws)),
-        "names": in_page(json.dumps(names)),
-        "script": code})
+        "names": in_page(json.dumps(names)), "script": code})
 
 
 def main(words: list[str]) -> int:

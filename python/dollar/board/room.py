@@ -10,6 +10,7 @@ from dollar.answers import numbered, verdict_of
 from dollar.board.game import Game
 from dollar.board.puzzles import hint
 from dollar.board.server import new_secret
+from dollar.board.texts import t
 from dollar.program import PATIENCE, printed
 
 BATCH, LETTERS = 400, 9
@@ -137,7 +138,7 @@ class Room(Game):
         """Ends the program and raises ValueError if its answers are not those of the entries."""
         if answers != [entry.answer for entry in entries]:
             await self.close()
-            raise ValueError("the program does not answer the lines of the game as it did")
+            raise ValueError(t("teacher.other-answers"))
 
     def has_ended(self) -> None:
         if not self.restarts:

@@ -20,6 +20,8 @@ import struct
 from collections import Counter
 from typing import Any, Awaitable, Callable, Iterable, Tuple, cast
 
+from dollar.board.texts import t
+
 MOST_HEAD, MOST_HEADERS, MOST_STRANGERS, MOST_GUESTS, MOST_FILES = 8192, 64, 300, 600, 4096
 TO_ASK, TO_SEND, TO_TAKE = 5.0, 8.0, 20.0
 TOKEN = re.compile(r"[A-Za-z0-9!#$%&'*+.^_`|~-]{1,64}\Z")
@@ -98,7 +100,7 @@ class Nothing(Refused):
     """What all get who must not learn more."""
 
     def __init__(self) -> None:
-        super().__init__(404, "there is nothing here")
+        super().__init__(404, t("requests.nothing"))
 
 
 class Request:
@@ -119,18 +121,18 @@ class Request:
         """The body, an object of JSON with at most so many bytes."""
         length = self.headers.get("content-length", "")
         if not re.match(r"[0-9]{1,9}\Z", length):
-            raise Refused(400, "the length of the request is missing")
+            raise Refused(400, t("requests.length"))
         if int(length) > most:
-            raise Refused(413, "the request is too long")
+            raise Refused(413, t("requests.long"))
         if self.headers.get("content-type", "").partition(";")[0].strip().lower() != "application/json":
-            raise Refused(400, "the request is not JSON")
+            raise Refused(400, t("requests.json"))
         data = await asyncio.wait_for(self.reader.readexactly(int(length)), TO_SEND)
         try:
             given = json.loads(data.decode())
         except (ValueError, RecursionError):
-            raise Refused(400, "the request is not JSON") from None
+            raise Refused(400, t("requests.json")) from None
         if not isinstance(given, dict):
-            raise Refused(400, "the request is not an object")
+            raise Refused(400, t("requests.object"))
         return given
 
 
@@ -138,11 +140,11 @@ def text_in(given: dict[str, Any], name: str, most: int) -> str:
     """A text of a request, of at most so many letters. Raises Refused where there is none."""
     text = given.get(name)
     if not isinstance(text, str) or len(text) > most:
-        raise Refused(400, "'%s' is not a text of at most %d letters" % (name, most))
+        raise Refused(400, t("requests.text", name, most))
     try:
         text.encode()
     except UnicodeEncodeError:
-        raise Refused(400, "'%s' has letters that UTF-8 cannot encode" % name) from None
+        raise Refused(400, t("requests.letters", name)) from None
     return text
 
 

@@ -9,7 +9,7 @@ import { speak, t } from "./texts.js";
 import { Viewer, bind, element } from "./viewer.js";
 import { Game, answerOf, firstWords, linesOf } from "./words.js";
 
-const SOON = 400, EDITED = "an edited table";
+const SOON = 400;
 export let table, fileName, examples, viewer, hands, questions, editor;
 const link = new Link();
 let key = null, keeping = null, undone = false, shortest = null, right = false;
@@ -25,9 +25,9 @@ export function play(line) {
 
 async function playNow(line) {
   const { game, now } = viewer;
-  if (line.includes("\n")) return hands.tell(t`A line has no newline in it.`);
+  if (line.includes("\n")) return hands.tell(t("play.newline"));
   const dropped = game.length - now;
-  if (dropped && !undone && !(await sure(t`If you play on from here, the later steps are lost (${dropped}). Play on?`))) return null;
+  if (dropped && !undone && !(await sure(t("play.later", dropped)))) return null;
   const step = `1 ${line}`;
   const said = await hands.patient(answered(now, step));
   if (said.status !== 0) return hands.refuse(said.err);
@@ -64,7 +64,7 @@ async function cant() {
   right = answerOf(linesOf(said)[0]).kind === "unwinnable";
   viewer.showText();
   showWays();
-  hands.note(right ? "" : t`It can be done. Try on!`);
+  hands.note(right ? "" : t("play.can"));
 }
 
 /* What the program says to a step after the first so many. The server has the game of this page at a live program; if it has it no
@@ -154,8 +154,7 @@ export async function openTable(text, file, places) {
   const said = await ask({ command: "layout", table: text, places });
   if (said.status !== 0) return said.err;
   const { length } = viewer.game;
-  const lost = t`The steps of this game are lost with its table (${length}). Change the table?`;
-  if (length && !isDone() && !(await sure(lost))) return null;
+  if (length && !isDone() && !(await sure(t("tables.lost", length)))) return null;
   [table, fileName, key] = [text, file, null];
   begin(layoutOf(said.layout));
   keep();
@@ -165,16 +164,16 @@ export async function openTable(text, file, places) {
 function begin(layout) {
   const game = new Game(JSON.parse(table));
   [shortest, right] = [null, false];
-  element("title").textContent = document.title = t`The dollar game: ${fileName}`;
+  element("title").textContent = document.title = t("page.of", fileName);
   if (viewer) {
     hands.forget();
     questions.clear();
     viewer.reset(game, 0, layout);
   } else {
-    viewer = new Viewer(game, layout, { hands: true, reached, who: () => t`You` });
+    viewer = new Viewer(game, layout, { hands: true, reached, who: () => t("play.you") });
     hands = new Hands(viewer, play);
     questions = new Questions(viewer, ask, play, () => viewer.game.help());
-    editor = new Editor(viewer, hands, (text, places) => openTable(text, EDITED, places));
+    editor = new Editor(viewer, hands, (text, places) => openTable(text, t("tables.edited"), places));
     viewer.filled(0);
     viewer.afterShow = shown;
     shown();
@@ -200,7 +199,7 @@ async function puzzle() {
 /* After a puzzle that was solved the next is harder. The button goes, and the focus with it to the board. */
 async function next() {
   const level = element("puzzle-level"), { helped } = viewer.game.states[viewer.now];
-  if (!helped && / (easy|medium)$/.test(fileName)) level.selectedIndex += 1;
+  if (!helped && ["easy", "medium"].some((each) => fileName.endsWith(t("puzzles.name", "", t(`puzzles.${each}`))))) level.selectedIndex += 1;
   await puzzle();
   viewer.board.focus(viewer.game.names[0]);
 }
@@ -235,7 +234,7 @@ function bindTables() {
     event.target.value = "";
   });
   element("houses").addEventListener("change", ({ target }) => {
-    speak(target.checked ? "handout" : "field");
+    speak(target.checked);
     viewer.show(viewer.now);
   });
   bind({
@@ -245,10 +244,9 @@ function bindTables() {
 }
 
 async function start() {
-  speak("field");
   const given = await (await fetch("start")).json();
   ({ table, examples, name: fileName } = given);
-  element("puzzle-graph").append(...given.graphs.map((name) => new Option(name, name)));
+  element("puzzle-graph").append(...given.graphs.map((name) => new Option(t(`graphs.${name}`), name)));
   const before = await kept();
   if (before) ({ table, fileName } = before);
   begin(layoutOf((before || given).layout));

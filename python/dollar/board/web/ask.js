@@ -85,17 +85,17 @@ export class Questions {
   async fire() {
     const { burning, reduced } = this.reply, { edges } = this.viewer.picture(), asked = this.reply;
     element("show-fire").hidden = true;
-    element("step").textContent = t`After the script, before the fire`;
+    element("step").textContent = t("ask.after");
     element("answer").textContent = debtWords(reduced);
     for (const [count, next] of burning.entries()) {
       if (count > 0 && !still.matches) await new Promise((done) => setTimeout(done, 700));
       if (this.reply !== asked) return;
       const hot = edgesTo(next, burning.slice(0, count), edges), has = dollars(reduced.get(next));
-      const why = count === 0 ? t`it owes, and who lends most gets nothing` : `${hot === 1 ? t`1 burning edge` : t`${hot} burning edges`}, ${has}`;
+      const why = count === 0 ? t("ask.owes") : t("ask.hot", hot, has);
       this.show({ amounts: reduced, burnt: burning.slice(0, count + 1) });
-      this.line(t`${next} burns: ${why}. So ${next} can't be one of those that lend most.`);
+      this.line(t("ask.burns", next, why));
     }
-    this.line(t`All burn: nobody can lend most, so no lendings help.`);
+    this.line(t("ask.all"));
   }
 
   line(words) {

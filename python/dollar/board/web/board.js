@@ -20,10 +20,6 @@ export function draw(tag, given, parent, text) {
   return made;
 }
 
-function amountWords(name, amount) {
-  return amount < 0 ? t`${name} owes ${dollars(-amount)}` : t`${name} has ${dollars(amount)}`;
-}
-
 export class Board {
   svg; hands; layout; turn; until; chosen; picture; hatch;
   /* A board in an element <svg>. The layout says where the vertices stand; `hands` is true if they can be clicked. */
@@ -48,7 +44,7 @@ export class Board {
     const active = /** @type {any} */ (document.activeElement), held = this.svg.contains(active) ? active.dataset.name : null;
     this.svg.replaceChildren();
     this.svg.setAttribute("viewBox", `0 0 ${this.layout.width} ${this.layout.height}`);
-    this.svg.setAttribute("aria-label", t`The board: ${[...picture.amounts].map((pair) => pair.join(" ")).join(", ")}`);
+    this.svg.setAttribute("aria-label", t("board.label", [...picture.amounts].map((pair) => pair.join(" ")).join(", ")));
     this.signs();
     this.edges(picture);
     const pairs = [...picture.edges.keys()].map((key) => key.split(" "));
@@ -86,7 +82,7 @@ export class Board {
       strands.forEach(({ path, middle }, i) => {
         const kind = `edge${count > strands.length ? " many" : ""}${i >= strands.length - added ? " added" : ""}`;
         draw("path", { class: kind, d: path, "data-pair": key }, this.svg);
-        if (count > strands.length) this.words(middle[0], middle[1] - 12, t`${count} edges`);
+        if (count > strands.length) this.words(middle[0], middle[1] - 12, t("board.edges", count));
       });
     }
   }
@@ -94,8 +90,8 @@ export class Board {
   vertex(name, amount, pairs) {
     const [x, y] = this.place(name), r = this.layout.radius, { q, burnt, says: all } = this.picture, isQ = name === q, says = all.get(name);
     const kinds = ["vertex", amount < 0 && "debt", this.chosen.has(name) && "chosen", burnt.includes(name) && "burnt"];
-    const label = `${amountWords(name, amount)}${isQ ? ", q" : ""}${says ? `, ${says}` : ""}${this.chosen.has(name) ? ", chosen" : ""}`;
-    const hands = { tabindex: 0, role: "button", "aria-label": label };
+    const parts = [t(amount < 0 ? "board.owes" : "board.has", name, dollars(Math.abs(amount))), isQ && "q", says, this.chosen.has(name) && t("board.chosen")];
+    const hands = { tabindex: 0, role: "button", "aria-label": parts.filter(Boolean).join(", ") };
     const given = { class: kinds.filter(Boolean).join(" "), "data-name": name, ...(this.hands && hands) };
     const group = draw("g", given, this.svg);
     if (this.hands) draw("circle", { class: "reach", cx: x, cy: y, r: r + 9 }, group);

@@ -7,7 +7,7 @@ import { Editor } from "./edit.js";
 import { Hands } from "./hand.js";
 import { Link, post, save, startPage, store, stored, sure } from "./page.js";
 import { fitted, layoutOf } from "./places.js";
-import { inWords, speak, t } from "./texts.js";
+import { speak, t } from "./texts.js";
 import { Viewer, below, bind, button, element, made, refuse, say } from "./viewer.js";
 import { Game, commandWords, debtWords, faultWords, firstWords, linesOf, listed, movesWords, often, replyOf, stepOf } from "./words.js";
 
@@ -34,9 +34,9 @@ function keep(seat) {
 
 function askName() {
   element("watch").hidden = Boolean(me);
-  element("take-seat").textContent = me ? t`Change the name` : t`Take a seat`;
+  element("take-seat").textContent = t(me ? "seat.rename" : "seat.take");
   element("known").hidden = Boolean(me) || known.length === 0;
-  element("known").replaceChildren(t`Who is there? `, ...known.map((seat) => button(seat.name, () => {
+  element("known").replaceChildren(t("seat.known"), ...known.map((seat) => button(seat.name, () => {
     keep(seat);
     sit();
   })));
@@ -55,7 +55,7 @@ function browser() {
 async function join() {
   const submit = element("take-seat");
   submit.disabled = true;
-  const timer = setTimeout(() => say("join-refused", t`Many are coming in. Your seat comes in a moment.`), 1000);
+  const timer = setTimeout(() => say("join-refused", t("seat.crowd")), 1000);
   const name = element("your-name").value, before = me;
   const got = await (before ? link.post("rename", { name, key: me.key }) : link.post("join", { name, browser: browser() }));
   clearTimeout(timer);
@@ -68,7 +68,7 @@ async function join() {
 }
 
 async function leave() {
-  if (await sure(t`Leave this seat? Somebody else can take it then.`)) link.post("leave", { key: me.key });
+  if (await sure(t("seat.leave-sure"))) link.post("leave", { key: me.key });
 }
 
 /* Lets somebody else take the place before the screen. */
@@ -118,7 +118,7 @@ function sit() {
 
 /* What comes from the server. */
 
-const tellBreak = () => notice(t`There is no connection to the game. The page tries again.`);
+const tellBreak = () => notice(t("class.lost"));
 const place = (path) => `${path}from=${given.feed}.${received}`;
 
 export const link = new Link(PATIENCE, {
@@ -127,10 +127,10 @@ export const link = new Link(PATIENCE, {
     state = now;
     scheduleFlush();
   },
-  freed: () => leaveSeat(t`Your seat was freed. You can take another.`),
+  freed: () => leaveSeat(t("seat.freed")),
   asleep() {
     link.close();
-    notice(t`Your seat is open in another page now. To play here, load this page again.`);
+    notice(t("seat.elsewhere"));
   },
 }, (refused) => (refused ? checkSeat() : tellBreak()));
 
@@ -142,8 +142,8 @@ const AGAIN = 2000;
 async function checkSeat() {
   try {
     const got = await fetch("start");
-    if (got.ok && me) return leaveSeat(t`This is no longer your seat. You can take another.`);
-    if (got.status === 404 && (await got.text()) === "there is nothing here") return notice(t`The game is not there any more.`);
+    if (got.ok && me) return leaveSeat(t("seat.lost"));
+    if (got.status === 404 && (await got.text()) === t("requests.nothing")) return notice(t("class.gone"));
   } catch {
     /* It is tried again. */
   }
@@ -166,10 +166,12 @@ function handed(thing) {
   begins();
 }
 
+const titled = (name) => t(teaches() ? "teacher.of" : "page.of", name);
+
 /* The room that is shown is on another table. */
 function begins() {
   const { game, stage } = roomOf(shownRoom), { name, layout } = stages()[stage], place = given.later.length ? `${stageWords(stage)}, ` : "";
-  element("title").textContent = document.title = `${teaches() ? t`For the teacher` : t`The dollar game`}: ${place}${name}`;
+  element("title").textContent = document.title = titled(`${place}${name}`);
   viewer.board.chosen.clear();
   viewer.reset(game, game.length, layoutOf(layout));
   hands.forget();
@@ -177,7 +179,7 @@ function begins() {
 }
 
 const stages = () => [given, ...given.later];
-const stageWords = (stage) => t`${stage + 1} of ${stages().length}`;
+const stageWords = (stage) => t("class.stage", stage + 1, stages().length);
 
 /* A room on one of the tables that were handed out: its game, with the items that made it, what was taken back, how often, and what was
    reached. */
@@ -260,7 +262,7 @@ const ITEMS = {
   },
   judged(room, { number, name }) {
     Object.assign(room, number ? { is_done: true, right: true } : { wrongs: room.wrongs + 1 });
-    return number ? null : t`${name}: it can't be done. That is wrong: it can.`;
+    return number ? null : t("class.wrong", name);
   },
   onward(room, { number }) {
     Object.assign(room, roomOn(number, room.number, [...room.results, resultOf(room)]));
@@ -284,8 +286,8 @@ async function measure(room) {
 const past = stored("sessionStorage", `${KEPT} results`) || [];
 
 function resultOf({ number, stage, game, items, is_done, right, best, hints, wrongs, backs }) {
-  const moves = right ? t`can't be done` : best < Infinity ? best : "";
-  return [listed(playersOf(number)), stages()[stage].name, is_done ? t`yes` : t`no`, moves, hints, wrongs, backs, items.length];
+  const moves = right ? t("results.cant") : best < Infinity ? best : "";
+  return [listed(playersOf(number)), stages()[stage].name, t(is_done ? "results.yes" : "results.no"), moves, hints, wrongs, backs, items.length];
 }
 
 function rowsNow() {
@@ -293,32 +295,29 @@ function rowsNow() {
 }
 
 function resultsText() {
-  const head = [t`pupils`, t`table`, t`done`, t`fewest moves`, t`hints`, t`wrong answers`, t`taken back`, t`entries`];
   const cell = (value) => `"${String(value).replace(/^(?=[=+@-])/, "'").replaceAll('"', '""')}"`;
-  return [head, ...past, ...rowsNow()].map((row) => `${row.map(cell).join(",")}\n`).join("");
+  return [t("results.head").split(","), ...past, ...rowsNow()].map((row) => `${row.map(cell).join(",")}\n`).join("");
 }
 
 /* Goes back or on to so many entries, and says who has done it. */
 function leap(room, { left, name }) {
-  const { game, items, undone } = room, who = me && name === me.name ? t`You have` : t`${name} has`;
+  const { game, items, undone } = room, own = me && name === me.name;
   if (left > game.length) {
     undone.pop().forEach((item) => add(room, item));
-    return t`${who} played the move again.`;
+    return t(own ? "class.you-again" : "class.again", name);
   }
   undone.push(items.splice(left));
   game.cut(left);
   room.backs += 1;
-  return t`${who} taken the last move back.`;
+  return t(own ? "class.you-back" : "class.back", name);
 }
 
 function showState() {
   const { over, ends, paused, names, may } = state, end = over ? { status: 0 } : ends[shownRoom];
-  if (speak(may.houses ? "handout" : "field")) viewer.show(viewer.now);
+  if (speak(may.houses)) viewer.show(viewer.now);
   if (stopped && !paused && !end) hands.tell("");
   stopped = paused || Boolean(end);
-  if (end) notice(endWords(end));
-  else if (paused) notice(t`The teacher has paused the game.`);
-  else notice("");
+  notice(end ? endWords(end) : paused ? t("class.paused") : "");
   showNames(names);
   permit();
   if (teaches()) showCommands(Boolean(end), end);
@@ -350,10 +349,10 @@ function showNames(names) {
 
 function rowOf(seat, { name, here, room }) {
   const row = made("li", "", { value: seat, class: here ? "" : "away" });
-  row.append(made("b", name), state.size > 1 ? t` in room ${room} ` : " ", here ? "" : t`away `);
+  row.append(made("b", name), state.size > 1 ? ` ${t("seat.room", room)} ` : " ", here ? "" : `${t("seat.away")} `);
   if (me && Number(seat) === me.seat) {
-    const other = given.kept ? [" ", button(t`somebody else`, changeOver)] : [];
-    row.append(t`(you) `, button(t`rename`, askName), " ", button(t`leave`, leave), ...other);
+    const other = given.kept ? [" ", button(t("seat.other"), changeOver)] : [];
+    row.append(t("seat.you"), " ", button(t("seat.new-name"), askName), " ", button(t("seat.leave"), leave), ...other);
   }
   if (teaches()) row.append(freeing(seat, name), " ", freeing(seat, name, true));
   return row;
@@ -371,10 +370,9 @@ function permit() {
 }
 
 function endWords({ status, text }) {
-  if (status === 0) return t`The teacher has ended the game.`;
-  if (text === "the history is full") return t`The game has ended: the history is full.`;
-  const how = status < 0 ? t`it was killed` : t`with status ${status}`;
-  return t`The program has ended: ${text || how}. Every line in the list was played.`;
+  if (status === 0) return t("class.over");
+  if (text === "the history is full") return t("class.full");
+  return t("class.died", text || t(status < 0 ? "class.killed" : "class.status", status));
 }
 
 function notice(words) {
@@ -391,7 +389,7 @@ function showRooms() {
   const shown = teaches() ? "all" : state.shown, { size } = state, box = element("rooms");
   const numbers = [...new Set([...rooms.keys(), ...Object.values(state.names).map(({ room }) => room)])].sort((one, other) => one - other);
   const done = numbers.map(roomOf).reduce((sum, room) => sum + room.stage + room.is_done, 0), one = Number(shown);
-  element("done").textContent = t`Done: ${done} of ${numbers.length * stages().length}`;
+  element("done").textContent = t("class.done", done, numbers.length * stages().length);
   box.hidden = size === 0;
   element("done").hidden = size === 0 || Boolean(one);
   if (size === 0) return;
@@ -422,11 +420,11 @@ function showRoom(room, listed) {
     room.part.append(draw("svg", { "aria-hidden": "true" }, room.part), made("span", "", { class: "who" }), made("span", "", { class: "how" }));
     room.board = new Board(room.part.querySelector("svg"));
   }
-  const [who, how] = room.part.querySelectorAll("span"), names = playersOf(number).join(", ") || t`Room ${number}`;
+  const [who, how] = room.part.querySelectorAll("span"), names = playersOf(number).join(", ") || t("class.room", number);
   who.textContent = names;
-  const done = right ? t`done: it can't be` : best < Infinity ? t`done in ${movesWords(best)}` : is_done && t`done with help`;
-  how.textContent = [given.later.length && stageWords(stage), done || movesWords(state_.moves), hints && t`hints: ${hints}`,
-    backs && t`${backs} taken back`].filter(Boolean).join(", ");
+  const done = right ? t("class.cant") : best < Infinity ? t("class.done-in", movesWords(best)) : is_done && t("class.helped");
+  how.textContent = [given.later.length && stageWords(stage), done || movesWords(state_.moves), hints && t("class.hints", hints),
+    backs && t("class.backs", backs)].filter(Boolean).join(", ");
   room.part.classList.toggle("done", is_done);
   room.part.setAttribute("aria-current", number === shownRoom);
   if (room.is_new && !listed) {
@@ -450,7 +448,7 @@ function enlarge(number) {
 export async function play(line) {
   if (viewer.now < viewer.game.length) {
     viewer.go(viewer.game.length);
-    return hands.note(t`You were at an earlier step, so this was not played. This is the board now.`);
+    return hands.note(t("class.earlier"));
   }
   return sent("line", { line });
 }
@@ -466,8 +464,8 @@ async function hint() {
 /* Nothing is played while the page does not hear what comes of it, and each line only when the one before it is drawn. */
 
 function sent(path, thing) {
-  if (!me) return hands.tell(t`Take a seat first.`);
-  if (!link.hears) return hands.tell(t`This page does not hear the game just now. This was not played.`);
+  if (!me) return hands.tell(t("seat.first"));
+  if (!link.hears) return hands.tell(t("class.deaf"));
   const { feed } = given, { stage } = roomOf(shownRoom);
   return link.inTurn(() => me && hands.patient(sentNow(path, { key: me.key, feed, stage, ...thing })));
 }
@@ -475,8 +473,8 @@ function sent(path, thing) {
 async function sentNow(path, thing) {
   const got = await link.post(path, thing);
   if (got.status === 404) return checkSeat();
-  if (got.status === null) return hands.tell(t`${got.refused} The list shows whether the line was played. Later clicks were not.`);
-  if (got.refused) return hands.tell(inWords(got.refused));
+  if (got.status === null) return hands.tell(t("class.unsure", got.refused));
+  if (got.refused) return hands.tell(got.refused);
   await link.until(() => given.feed !== thing.feed || received - waiting.length >= got.items);
   const bad = got.answer && got.answer.startsWith("bad ");
   hands.tell(bad ? faultWords(got.answer) : "", bad ? got.answer : "");
@@ -487,10 +485,10 @@ async function sentNow(path, thing) {
 /* What only the teacher's page has. */
 
 function freeing(seat, name, bars = false) {
-  const asked = bars ? t`Remove ${name}, and let this browser take no other seat?` : t`Free the seat of ${name} for somebody else?`;
-  return button(bars ? t`bar` : t`free`, async () => {
-    if (await sure(asked)) command("free", { seat: Number(seat), bar: bars });
-  }, { "aria-label": bars ? t`Bar ${name}` : t`Free the seat of ${name}` });
+  const act = bars ? "bar" : "free";
+  return button(t(`teacher.${act}`), async () => {
+    if (await sure(t(`teacher.${act}-sure`, name))) command("free", { seat: Number(seat), bar: bars });
+  }, { "aria-label": t(`teacher.${act}-seat`, name) });
 }
 
 const ask = (question) => link.ask(question);
@@ -500,7 +498,7 @@ async function demonstrate(line) {
   const trial = [...(viewer.board.picture.trial || []), line], step = stepOf(`1 ${line}`);
   const said = await ask({ command: "rehearse", table: questions.now(), steps: trial.map((each) => `1 ${each}\n`).join("") });
   const reply = /** @type {any} */ (said.status === 0 ? replyOf(linesOf(said.out)[trial.length - 1]) : {});
-  if (reply.kind !== "moved") return hands.refuse(said.err || t`only moves can be shown`);
+  if (reply.kind !== "moved") return hands.refuse(said.err || t("teacher.only-moves"));
   hands.tell("");
   hands.unchoose();
   questions.tell(`${commandWords(step)}. ${debtWords(reply.amounts)}`, reply.line);
@@ -515,14 +513,14 @@ async function command(path, thing) {
 
 function showCommands(ended, end) {
   const { paused, open, may, shown, size, names, seats } = state;
-  element("pause").textContent = paused ? t`Resume the game` : t`Pause the game`;
-  element("door").textContent = open ? t`Shut the door` : t`Open the door`;
+  element("pause").textContent = t(paused ? "teacher.resume" : "teacher.pause");
+  element("door").textContent = t(open ? "teacher.shut" : "teacher.open");
   element("pause").disabled = element("end").disabled = ended;
   element("again").hidden = !end || end.text === "the history is full";
   for (const [name, is] of Object.entries(may)) element(`may-${name}`).checked = is;
   const known = [...new Set(Object.values(names).map(({ room }) => room))].sort((one, other) => one - other);
-  const wanted = [["all", size ? t`all boards` : t`the board`], ...(size ? [["done", t`who is done`]] : []),
-    ...(size ? known.map((room) => [String(room), t`the board of ${playersOf(room).join(", ")}`]) : [])];
+  const wanted = [["all", t(size ? "teacher.all-boards" : "teacher.the-board")], ...(size ? [["done", t("teacher.who-done")]] : []),
+    ...(size ? known.map((room) => [String(room), t("teacher.board-of", playersOf(room).join(", "))]) : [])];
   const box = element("show");
   if ([...box.options].map(({ text }) => text).join() !== wanted.map(([, text]) => text).join()) {
     box.replaceChildren(...wanted.map(([value, text]) => new Option(text, value)));
@@ -557,18 +555,18 @@ async function renewWay() {
 /* The next table: one of those that were named, a puzzle on a graph, or a file. */
 
 function offer() {
-  const { named, graphs } = given, all = named.length > 1 ? [[t`all these, one after another`, "all"]] : [];
+  const { named, graphs } = given, all = named.length > 1 ? [[t("teacher.in-turn"), "all"]] : [];
   const group = (label, options) => {
     const part = made("optgroup", undefined, { label });
     part.append(...options.map(([text, value]) => new Option(text, value)));
     return part;
   };
   element("next-table").replaceChildren(
-    group(t`Tables`, [[t`the same again`, "again"], ...all, ...named.map((name) => [name, `named ${name}`])]),
-    group(t`Puzzles`, [[t`on the same graph`, "graph "], [t`on a random graph`, "graph random"],
-      ...graphs.map(({ name }) => [name, `graph ${name}`])]));
-  const sizes = { 0: t`all on one board`, 1: t`each on a board of his or her own` };
-  element("next-size").replaceChildren(...GROUPS.map((size) => new Option(sizes[size] || t`groups of ${size}`, String(size))));
+    group(t("teacher.tables"), [[t("teacher.same"), "again"], ...all, ...named.map((name) => [name, `named ${name}`])]),
+    group(t("teacher.puzzles"), [[t("teacher.on-same"), "graph "], [t("teacher.on-random"), "graph random"],
+      ...graphs.map(({ name }) => [t(`graphs.${name}`), `graph ${name}`])]));
+  const sizes = GROUPS.map((size) => t(["teacher.shared", "teacher.alone"][size] || "teacher.groups", size));
+  element("next-size").replaceChildren(...sizes.map((words, size) => new Option(words, String(size))));
   element("next-size").value = given.size;
   document.querySelector("#graphs .gallery").replaceChildren(...graphs.map(pictured));
   choosesTable();
@@ -581,7 +579,7 @@ function pictured({ name, table, layout }) {
     choosesTable();
     element("next-table").focus();
   });
-  part.append(draw("svg", { "aria-hidden": "true" }, part), made("span", name));
+  part.append(draw("svg", { "aria-hidden": "true" }, part), made("span", t(`graphs.${name}`)));
   const board = new Board(part.querySelector("svg"));
   board.layout = layoutOf(layout);
   board.show(new Game(table).states[0]);
@@ -597,14 +595,14 @@ function choosesTable() {
 /* Gives what is refused, nothing if it was handed out, and false if the teacher would rather not. */
 async function handOut(thing) {
   const played = [...rooms.values()].some(({ game }) => game.length > 0);
-  if (played && !(await sure(t`Hand out the next table? The games on this one end.`))) return false;
+  if (played && !(await sure(t("teacher.next-sure")))) return false;
   const got = await command("table", { size: Number(element("next-size").value), ...thing });
   return got.refused || null;
 }
 
 function drawTables() {
-  editor = new Editor(viewer, hands, (table, places) => handOut({ table, places, name: "a table of the class" }));
-  element("edit-done").textContent = t`Hand it out`;
+  editor = new Editor(viewer, hands, (table, places) => handOut({ table, places, name: t("teacher.drawn") }));
+  element("edit-done").textContent = t("teacher.hand");
   bind({ edit: () => editor.open() });
 }
 
@@ -623,7 +621,7 @@ function teach() {
     pause: () => command("pause", { paused: !state.paused }), door: () => command("door", { open: !state.open }),
     again: () => command("again", {}), "hand-form": handOutChosen,
     async end() {
-      if (await sure(t`End the game? Save its files before you close this page.`)) command("end", {});
+      if (await sure(t("teacher.end-sure"))) command("end", {});
     },
     async move() {
       const { secret } = await command("move", {});
@@ -662,7 +660,6 @@ function teach() {
 }
 
 async function start() {
-  speak("field");
   given = { later: [], ...await (await fetch("start")).json() };
   const { game } = roomOf(1);
   viewer = new Viewer(game, layoutOf(given.layout), {
@@ -678,7 +675,7 @@ async function start() {
     element("now").hidden = false;
     hands.note(me ? firstWords(viewer.game, viewer.now) : "");
   };
-  element("title").textContent = document.title = `${teaches() ? t`For the teacher` : t`The dollar game`}: ${given.name}`;
+  element("title").textContent = document.title = titled(given.name);
   hands = new Hands(viewer, teaches() ? (line) => link.inTurn(() => demonstrate(line)) : play);
   if (teaches()) return teach();
   bind({ join, watch, undo: () => sent("undo", {}), redo: () => sent("redo", {}), hint, cant: () => sent("cant", {}),

@@ -185,21 +185,21 @@ export class Editor {
     Object.assign(named, { size: 10, maxLength: 16 });
     q.name = "q";
     return this.row(named, this.number((amount) => { this.draft.amounts[i] = amount; }), q,
-      button(t`remove`, () => this.removeVertex(this.draft.vertices[i])));
+      button(t("editor.remove"), () => this.removeVertex(this.draft.vertices[i])));
   }
 
   showVertex(row, i) {
     const [named, dollars, q, remove] = row.querySelectorAll("input, button"), name = this.draft.vertices[i];
-    this.label(named, t`The name of ${name}`, name);
+    this.label(named, t("editor.name-of", name), name);
     named.setCustomValidity("");
-    this.label(dollars, t`Dollars of ${name}`, this.draft.amounts[i]);
-    this.label(q, t`q is ${name}`);
-    this.label(remove, t`Remove ${name}`);
+    this.label(dollars, t("editor.dollars-of", name), this.draft.amounts[i]);
+    this.label(q, t("editor.q-is", name));
+    this.label(remove, t("editor.remove-it", name));
     q.checked = name === this.draft.q;
   }
 
   edgeRow(i) {
-    return this.row("", this.number((count) => { this.draft.edges[i][2] = count; }), button(t`remove`, () => {
+    return this.row("", this.number((count) => { this.draft.edges[i][2] = count; }), button(t("editor.remove"), () => {
       this.draft.edges.splice(i, 1);
       this.fill();
     }));
@@ -208,8 +208,8 @@ export class Editor {
   showEdge(row, i) {
     const [count, remove] = row.querySelectorAll("input, button"), [u, v, times] = this.draft.edges[i], words = `${u} - ${v}`;
     row.cells[0].textContent = words;
-    this.label(count, t`Edges ${words}`, times);
-    this.label(remove, t`Remove ${words}`);
+    this.label(count, t("editor.edges-of", words), times);
+    this.label(remove, t("editor.remove-it", words));
   }
 
   rename(name, other) {

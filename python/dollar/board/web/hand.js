@@ -4,7 +4,7 @@ import { draw } from "./board.js";
 import { vertexAhead, vertexAt } from "./places.js";
 import { t } from "./texts.js";
 import { below, bind, element, refuse, say } from "./viewer.js";
-import { movesWords, planned } from "./words.js";
+import { joined, movesWords, planned } from "./words.js";
 
 const LONG_PRESS = 550, FAR_ENOUGH = 9, PATIENT = 1000;
 
@@ -162,7 +162,7 @@ export class Hands {
 
   /* What is promised, and a word if that takes its time. */
   async patient(promise) {
-    const timer = setTimeout(() => this.tell(t`The answer is not there yet.`), PATIENT);
+    const timer = setTimeout(() => this.tell(t("play.late")), PATIENT);
     try {
       return await promise;
     } finally {
@@ -177,10 +177,9 @@ export class Hands {
 
   /* Shows one move: its vertex, and 1 if that lends or -1 if it borrows; 0 if nobody has to move, and null if no move helps. */
   hint({ name, count, left }) {
-    const words = count === null ? t`It can't be won as it stands.` : t`Nobody owes a dollar.`;
-    const more = left ? t` In all ${movesWords(left)} will do.` : "";
-    this.note(count ? (count > 0 ? t`Let ${name} lend once.` : t`Let ${name} borrow once.`) + more : words);
-    if (count) this.board.show(this.viewer.picture({ says: below(new Map([[name, count]]), planned) }));
+    if (!count) return this.note(t(count === null ? "play.no-help" : "play.no-debt"));
+    this.note(joined(t(count > 0 ? "play.lend" : "play.borrow", name), left && t("play.will-do", movesWords(left))));
+    this.board.show(this.viewer.picture({ says: below(new Map([[name, count]]), planned) }));
   }
 
   /* Says why a line was not taken, with the program's own words. */

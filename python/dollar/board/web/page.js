@@ -17,7 +17,7 @@ export async function post(path, thing, patience = LONG) {
     const got = await fetch(path, given);
     return got.ok ? await got.json() : { refused: await got.text(), status: got.status };
   } catch {
-    return { refused: t`There is no answer from board/play: it may have ended, or the network is gone.`, status: null };
+    return { refused: t("page.silent"), status: null };
   }
 }
 
@@ -121,7 +121,7 @@ export async function startPage(start) {
   try {
     await start();
   } catch (fault) {
-    document.body.prepend(made("p", t`This page could not start. Load it again.`, { role: "alert" }));
+    document.body.prepend(made("p", t("page.start"), { role: "alert" }));
     throw fault;
   }
 }

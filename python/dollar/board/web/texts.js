@@ -1,38 +1,23 @@
-/* The texts of the pages. Each stands where it is used, in a page or as t`..` in a script, and is said in the words that were chosen:
-   those of the field, in which it is written, or those of the handout. Another language is one more map in CHOICES, from whole texts, in
-   which {} stands for what is put in, to its own. */
+/* Says the texts of the table, by a group and a key: in the words of the field, in which {vertex} is a vertex, or in those of the
+   handout. Another language is another table. */
 
-const CHOICES = {
-  field: new Map(),
-  handout: new Map([
-    ["vertex", "house"], ["Vertex", "House"], ["vertices", "houses"], ["edge", "road"], ["edges", "roads"], ["Edge", "Road"],
-    ["Edges", "Roads"], ["an edge", "a road"], ["An edge", "A road"],
-  ]),
-};
-const WORDS = /\b([Aa]n (?=edge))?([Vv]ert(ex|ices)|[Ee]dges?)\b/g;
-let chosen = CHOICES.field;
-const standing = [];
+import { GRAMMAR } from "./grammar.js";
+import { TEXTS } from "./table.js";
 
-/* A text in the words that were chosen. */
-export function inWords(text) {
-  return chosen.get(text) || text.replace(WORDS, (word) => chosen.get(word) || word);
+const LIMITS = Object.fromEntries(Object.entries(GRAMMAR.limits).map(([name, count]) => [name.split("::")[1], count]));
+let houses = false;
+
+/* A text with what is put in its places: {0} and so on, a chosen word, or a limit. Of two forms the first is for the number 1. */
+export function t(name, ...given) {
+  const [group, key] = name.split(/\.(.*)/), forms = [TEXTS[group][key]].flat();
+  return forms[given[0] === 1 ? 0 : forms.length - 1].replace(/\{(.*?)\}/g, (_, place) =>
+    place in given ? given[place] : place in LIMITS ? LIMITS[place] : TEXTS.words[place][Number(houses)]);
 }
 
-export function t(parts, ...given) {
-  return inWords(parts.join("{}")).split("{}").map((part, i) => `${part}${i < given.length ? given[i] : ""}`).join("");
-}
-
-/* Says all texts in these words, those that stand in the page at once; it is called first before anything else is in the page. Gives
-   whether they were others before. */
-export function speak(words) {
-  if (standing.length === 0) {
-    const walk = document.createTreeWalker(document.body, NodeFilter.SHOW_TEXT);
-    while (walk.nextNode()) standing.push([walk.currentNode, walk.currentNode.nodeValue]);
-    const labels = [...document.querySelectorAll("[aria-label]")].map((at) => at.getAttributeNode("aria-label"));
-    standing.push(...labels.map((label) => [label, label.nodeValue]));
-  }
-  if (chosen === CHOICES[words]) return false;
-  chosen = CHOICES[words];
-  for (const [node, text] of standing) node.nodeValue = inWords(text);
+/* Says all that stands in the page in these words. Gives whether they were others before. */
+export function speak(inHouses) {
+  if (houses === inHouses) return false;
+  houses = inHouses;
+  for (const at of /** @type {any} */ (document.querySelectorAll("[data-text]"))) at.textContent = t(at.dataset.text);
   return true;
 }

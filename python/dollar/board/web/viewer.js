@@ -45,11 +45,10 @@ export function say(id, words, own = "") {
   box.querySelector("code").textContent = own;
 }
 
-/* Says in the box what the program has refused, or else the server, or nothing if that is null. */
+/* Says in the box what the program has refused, or else the server, or nothing if there is nothing. */
 export function refuse(id, fault) {
-  const words = fault === null ? "" : faultWords(fault, "");
-  if (fault === null || words) say(id, words, words && `dollar: ${fault}`);
-  else say(id, `${fault[0].toUpperCase()}${fault.slice(1)}${fault.endsWith(".") ? "" : "."}`);
+  const words = faultWords(fault || "", "");
+  say(id, words || fault, words && `dollar: ${fault}`);
 }
 
 /* A row, whose first cell says what it is about. */
@@ -64,14 +63,14 @@ export function below(counts, words) {
   return new Map([...counts].filter(([, count]) => count).map(([name, count]) => [name, words(count)]));
 }
 
-export const lost = (count) => t`lost ${count}`;
+export const lost = (count) => t("said.lost", count);
 
 export class Viewer {
   board; game; flaws; who; speaks; reached; now; timer; listed; afterShow;
   /* `flaws` has what the program prints, for each step that has another line; `who` says of a step who played it, `speaks` whether a
      screen reader is to speak of it, and `reached` what is known of the table beside the game. */
   constructor(game, layout, /** @type {any} */ given = {}) {
-    const { hands = false, flaws = {}, who = (seat) => t`Seat ${seat}`, speaks = () => true, reached = () => ({}) } = given;
+    const { hands = false, flaws = {}, who = (seat) => t("said.seat", seat), speaks = () => true, reached = () => ({}) } = given;
     Object.assign(this, { game, flaws, who, speaks, reached, now: 0, timer: null, listed: [0, 0], afterShow: () => {} });
     this.board = new Board(document.querySelector("#board svg"), hands);
     this.fit(layout);
@@ -128,7 +127,7 @@ export class Viewer {
     this.list(index - LISTED / 2);
     this.show(index);
     const flawed = Object.keys(this.flaws).length;
-    element("flawed").textContent = flawed ? t`${flawed} of its lines differ from what the program prints` : "";
+    element("flawed").textContent = flawed ? t("said.flawed", flawed) : "";
   }
 
   /* Shows a game that has grown: at its last step, if it is followed, and else where it was. */
@@ -148,7 +147,7 @@ export class Viewer {
   says(index) {
     if (index === 0) return new Map();
     const { word, given, script } = this.game.steps[index - 1], reply = this.game.replies[index - 1];
-    if (reply.kind === "given") return new Map([[given[0], Number(given[1]) < 0 ? t`${-given[1]} taken` : t`${given[1]} given`]]);
+    if (reply.kind === "given") return new Map([[given[0], t(Number(given[1]) < 0 ? "said.taken" : "said.given", Math.abs(given[1]))]]);
     if (reply.loss) return below(reply.loss, lost);
     return below(reply.script || (reply.kind === "moved" ? script : []), word === "commit" ? planned : often);
   }
@@ -177,14 +176,14 @@ export class Viewer {
     const step = game.steps[index - 1], reply = game.replies[index - 1];
     document.querySelector("#now [aria-live]").setAttribute("aria-live", !index || this.speaks(step) ? "polite" : "off");
     this.showEnd();
-    element("place").textContent = index ? t`Step ${index} of ${game.length}` : startWords(game.length);
-    element("step").textContent = index ? `${this.who(step.seat, index)}: ${commandWords(step)}` : t`The table at the start`;
+    element("place").textContent = index ? t("said.step", index, game.length) : startWords(game.length);
+    element("step").textContent = index ? `${this.who(step.seat, index)}: ${commandWords(step)}` : t("said.table");
     element("moves").textContent = index && reply.kind === "moved" ? flowWords(state.edges, step.script) : "";
     element("answer").textContent = index ? replyWords(reply, state.amounts, game.table.q) : debtWords(state.amounts);
     element("asked").textContent = index ? step.line : "";
     element("said").textContent = index ? reply.line : "";
     element("differs").hidden = flaw === undefined;
-    element("differs").textContent = flaw === undefined ? "" : t`This is not what the program prints, which is: ${flaw}`;
+    element("differs").textContent = flaw === undefined ? "" : t("said.differs", flaw);
   }
 
   /* Says what was reached, if anything was. */
@@ -210,7 +209,7 @@ export class Viewer {
     slider.setAttribute("aria-valuetext", `${element("place").textContent}. ${element("step").textContent}`);
     for (const id of ["first", "back"]) element(id).disabled = index === 0;
     for (const id of ["on", "last"]) element(id).disabled = index === this.game.length;
-    if (index) element("place").textContent = t`Step ${index} of ${this.game.length}`;
+    if (index) element("place").textContent = t("said.step", index, this.game.length);
     const [low, high] = this.listed;
     if ((low > 0 && index <= low) || index > high) this.list(index - LISTED / 2);
     this.point();
@@ -225,13 +224,13 @@ export class Viewer {
   stop() {
     clearInterval(this.timer);
     this.timer = null;
-    element("play").textContent = t`Play`;
+    element("play").textContent = t("history.play");
   }
 
   play() {
     if (this.timer !== null) return this.stop();
     if (this.now === this.game.length) this.show(0);
-    element("play").textContent = t`Stop`;
+    element("play").textContent = t("history.stop");
     this.timer = setInterval(() => {
       this.show(this.now + 1);
       if (this.now === this.game.length) this.stop();
