@@ -1,15 +1,20 @@
 """What the pages' modules do without a page (pure.js), and what a compiler says of them."""
 import json
+import re
 import shutil
 import subprocess
 import tempfile
 import unittest
 from pathlib import Path
 
-from common import PATIENCE, written
+from common import PATIENCE, text_of, written
 from dollar.board.pages import MADE, ROOTS, one_script, part
-from dollar.board.texts import WEB
+from dollar.board.texts import TEXTS, WEB
 from helpers import equal, tests_of
+
+# What two words in quotes are that nobody reads: selectors, classes, keys; and where a script puts what is read.
+UNREAD = re.compile(r'"(?:#|\(|tr:|(?:input|dollar|name|amount|says|graph)\b|(?:%s)")' % "|".join(TEXTS["faults"]))
+READ = r"""(?:textContent|title|placeholder) = ["'`]\w.*|\b(?:note|tell|notice|sure|button|Option)\(["'`]\w.*"""
 
 
 def ran(program, *words, **given):
@@ -43,10 +48,31 @@ def types(folder):
     equal((done.returncode, done.stdout), (0, ""), "what a compiler says")
 
 
+def texts(_):
+    """All that people read is in the table, and all that is in the table is read."""
+    sources = {place.name: re.sub(r"/\*[\s\S]*?\*/|^\s*//.*$|^import .*$", "", text_of(place), flags=re.M)
+               for place in [*Path(WEB).glob("*.html"), *Path(WEB).glob("*.js"), *Path(WEB).parent.glob("*.py")]}
+    for name, text in sources.items():
+        if name.endswith(".html"):
+            found = re.findall(r' (?:title|placeholder|[a-z-]*label)="[^"]+"|[A-Za-z]+(?=[^<>]*<)', re.sub(r"{{.*?}}", "", text))
+        elif name.endswith(".js"):
+            words = re.findall(r"\"[^\"\n]*\"|`[^`]*`", text)
+            found = re.findall(READ, text) + [each for each in words if not UNREAD.match(each) and re.search(
+                r"[A-Za-z]{2}[,.:;!?]* [A-Za-z]{2}", re.sub(r"\$\{[^}]*\}?", "", each))]
+        else:
+            found = re.findall(r"Refused\(\d+, (?!t\(|str\(|with_value\().*", text)
+        equal(found, [], f"what {name} says beside the table")
+    whole, table = "".join(sources.values()), {f"{group}.{key}" for group, texts in TEXTS.items() for key in texts}
+    used = set(re.findall(r"""["{](\w+\.(?!css|csv|err|html|js|txt)[\w #-]+)["}]""", whole))
+    computed = {"words", *re.findall(r"""["`](\w+)\.(?:\$\{|" \+)""", whole)}
+    equal({name for name in used - table if name.partition(".")[0] in TEXTS}, set(), "names of no text")
+    equal({name for name in table - used if name.partition(".")[0] not in computed}, set(), "texts that nobody says")
+
+
 def modules(folder):
     told = "import('./pure.js').then((tests) => console.log(JSON.stringify(tests.failures())))"
     done = ran("node", "-e", told, cwd=copied(folder))
     equal((json.loads(done.stdout or "null"), done.stderr), ([], ""), "the modules in node")
 
 
-load_tests = tests_of(modules, types, whole_scripts, given=tempfile.TemporaryDirectory)
+load_tests = tests_of(modules, texts, types, whole_scripts, given=tempfile.TemporaryDirectory)

@@ -125,12 +125,12 @@ class Request:
         if int(length) > most:
             raise Refused(413, t("requests.long"))
         if self.headers.get("content-type", "").partition(";")[0].strip().lower() != "application/json":
-            raise Refused(400, t("requests.json"))
+            raise Refused(400, t("requests.form"))
         data = await asyncio.wait_for(self.reader.readexactly(int(length)), TO_SEND)
         try:
             given = json.loads(data.decode())
         except (ValueError, RecursionError):
-            raise Refused(400, t("requests.json")) from None
+            raise Refused(400, t("requests.form")) from None
         if not isinstance(given, dict):
             raise Refused(400, t("requests.object"))
         return given

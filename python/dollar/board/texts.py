@@ -16,7 +16,7 @@ TEXTS: dict[str, dict[str, Any]] = json.loads(text_of(os.path.join(WEB, "texts.j
 def t(name: str, *given: Any, houses: bool = False) -> str:
     """A text with what is put in its places, in the words of the field, or in those of the handout."""
     group, _, key = name.partition(".")
-    return TEXTS[group][key].format(*given, **{word: both[houses] for word, both in TEXTS["words"].items()})
+    return str(TEXTS[group][key]).format(*given, **{word: both[houses] for word, both in TEXTS["words"].items()})
 
 
 def in_html(name: str) -> str:

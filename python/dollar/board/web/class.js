@@ -485,10 +485,9 @@ async function sentNow(path, thing) {
 /* What only the teacher's page has. */
 
 function freeing(seat, name, bars = false) {
-  const act = bars ? "bar" : "free";
-  return button(t(`teacher.${act}`), async () => {
-    if (await sure(t(`teacher.${act}-sure`, name))) command("free", { seat: Number(seat), bar: bars });
-  }, { "aria-label": t(`teacher.${act}-seat`, name) });
+  return button(t(bars ? "teacher.bar" : "teacher.free"), async () => {
+    if (await sure(t(bars ? "teacher.bar-sure" : "teacher.free-sure", name))) command("free", { seat: Number(seat), bar: bars });
+  }, { "aria-label": t(bars ? "teacher.bar-seat" : "teacher.free-seat", name) });
 }
 
 const ask = (question) => link.ask(question);
