@@ -17,14 +17,11 @@ from helpers import equal, expect
 from helpers import needed as module
 
 NAMES = "chromium", "chromium-browser", "google-chrome", "chrome"
-KEYS = {"ArrowLeft": 37, "ArrowUp": 38, "ArrowRight": 39, "ArrowDown": 40, "Home": 36, "End": 35, " ": 32, "Tab": 9,
-        "Enter": 13, "Escape": 27}
+KEYS = {"ArrowLeft": 37, "ArrowUp": 38, "ArrowRight": 39, "ArrowDown": 40, "Home": 36, "End": 35, " ": 32, "Tab": 9, "Enter": 13, "Escape": 27}
 CTRL, SHIFT = 2, 8
-OPTIONS = ["--headless", "--disable-gpu", "--no-first-run", "--hide-scrollbars", "--disable-sync",
-           "--disable-background-networking", "--disable-component-update",
-           "--host-resolver-rules=MAP * ~NOTFOUND, EXCLUDE 127.0.0.1"]
-# For the expressions of the tests: short names for what is looked up, and what a page's module exports; a page of one file has
-# its viewer at the board.
+OPTIONS = ["--headless", "--disable-gpu", "--no-first-run", "--hide-scrollbars", "--disable-sync", "--disable-background-networking",
+           "--disable-component-update", "--host-resolver-rules=MAP * ~NOTFOUND, EXCLUDE 127.0.0.1"]
+# For the expressions of the tests: short names for what is looked up, and what a page's module exports, or the viewer at the board.
 INSIDE = """
 globalThis.$ = (selector) => document.querySelector(selector);
 globalThis.$$ = (selector) => [...document.querySelectorAll(selector)];
@@ -85,8 +82,7 @@ def at(name):
 
 
 class Browser:
-    """One browser with one page, as a context manager. What it was told to ask the network for is in `asked`, and what its
-    pages have thrown in `thrown`."""
+    """One browser with one page. What it has asked the network for is in `asked`, and what its pages have thrown in `thrown`."""
 
     def __init__(self, program):
         self.program, self.numbers = program, itertools.count(1)
@@ -284,8 +280,7 @@ class Browser:
         Path(place).write_bytes(base64.b64decode(got["data"]))
 
     def in_sizes(self, name, sizes=((360, 740), (1280, 800), (1920, 1080), (640, 400)), prepare=lambda: None):
-        """At each size, in the light, in the dark and on paper, nothing stands out to the right, and each control has a
-        name."""
+        """At each size, in the light, in the dark and on paper, nothing stands out to the right, and each control has a name."""
         pictures = os.environ.get("PICTURES")
         for features in {}, {"prefers_color_scheme": "dark"}:
             self.media(**features)

@@ -54,8 +54,7 @@ def together(*acts):
 
 def script(*words, **given):
     """Runs a command of the package, and gives what it printed, what it said on standard error, and its status."""
-    done = subprocess.run([sys.executable, "-B", PACKAGE / "dollar", *words], capture_output=True, timeout=PATIENCE,
-                          **given)
+    done = subprocess.run([sys.executable, "-B", PACKAGE / "dollar", *words], capture_output=True, timeout=PATIENCE, **given)
     return done.stdout, done.stderr.decode(errors="replace"), done.returncode
 
 

@@ -1,5 +1,4 @@
-"""Drives Firefox without a window, for the tests of the pages, by WebDriver BiDi: three windows, each with a storage of its own, of one
-process."""
+"""Drives Firefox without a window, for the tests of the pages, by WebDriver BiDi: three windows of one process, each with its storage."""
 import base64
 import functools
 import json

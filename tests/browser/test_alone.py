@@ -1,5 +1,4 @@
-"""The board for one player, by clicks, keys and touches. Each answer on the page is compared with what the program prints for
-the table and the steps that the page saves."""
+"""The board for one player, by clicks, keys and touches. Each answer is compared with what the program prints for what the page saves."""
 import json
 import random
 import re
@@ -117,8 +116,7 @@ def in_sizes(player):
 
 
 def by_mouse(player):
-    """Clicks lend, also those of a voice without a pointer; shift-clicks and long presses borrow, chosen ones fire, and a line from one to
-    another joins."""
+    """Clicks lend, also of a voice without a pointer; shift-clicks and long presses borrow, chosen ones fire, a line to another joins."""
     edges, chosen = "$$('#board .edge').length", "names('#board .chosen')"
     player.does("1 lend cyd", player.click, at("cyd"))
     equal(player.text("#said"), "0 moved ann=-1 bob=2 cyd=1 dan=-1", "the answer to a click")
@@ -236,8 +234,7 @@ def with_questions(player):
         equal(player.text("#told-printed"), numbers + lost, f"the rank at {index}")
         losses = [pair.split("=") for pair in re.fullmatch(r"rank below \d+ at (.*)\n", lost)[1].split(" ")]
         shown = player.value(SAID)
-        equal(shown, [[name, "lost " + count] for name, count in losses if count != "0"],
-              f"the first loss on the board at {index}")
+        equal(shown, [[name, "lost " + count] for name, count in losses if count != "0"], f"the first loss on the board at {index}")
     equal(player.length(), length, "the entries after questions")
 
 
@@ -390,8 +387,7 @@ def with_editor(player):
     player.click("#edit-done")
     player.until("!$('#edit-refused').hidden")
     equal([player.text("#edit-refused span"), player.text("#edit-refused code")],
-          ["Some vertices can't be reached from the others: an edge is missing.", "dollar: not connected"],
-          "a vertex without an edge")
+          ["Some vertices can't be reached from the others: an edge is missing.", "dollar: not connected"], "a vertex without an edge")
     player.click("input[value=edge]")
     player.drag(at("d"), at("a"))
     player.click("input[value=move]")
@@ -409,8 +405,7 @@ def with_editor(player):
         player.click(selector)
     player.until("$('#editor').hidden")
     equal(json.loads(player.saved("#take-table", "table.json")), {
-        "vertices": ["a", "b", "zoe"], "edges": [["a", "b", 3], ["zoe", "a", 1]], "amounts": [2, -1, -5], "q": "b"},
-        "the edited table")
+        "vertices": ["a", "b", "zoe"], "edges": [["a", "b", 3], ["zoe", "a", 1]], "amounts": [2, -1, -5], "q": "b"}, "the edited table")
     places = player.saved("#take-places", "places.txt")
     equal([line.split(" ")[0] for line in places.splitlines()], ["a", "b", "zoe"], "the places that are saved")
     player.does("1 lend zoe", player.click, at("zoe"))

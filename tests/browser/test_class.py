@@ -37,8 +37,7 @@ def lines_of(seat, count):
 def in_order(room, steps, history):
     """Sees that the entries of each pupil are, in his order, just those that he was told."""
     for pupil in room:
-        own = [(f"{pupil.seat} {line}", answer) for line, status, answer in pupil.lines
-               if status == 200 and answer[:1].isdigit()]
+        own = [(f"{pupil.seat} {line}", answer) for line, status, answer in pupil.lines if status == 200 and answer[:1].isdigit()]
         kept = [pair for pair in zip(steps, history) if pair[0].startswith(f"{pupil.seat} ")]
         expect(kept == own, f"the lines of seat {pupil.seat} are not in its order")
 
@@ -107,10 +106,9 @@ def without_secret(place, ann, line, wrong):
     """Paths without the secret or with a wrong one, what is the teacher's, and keys of nobody."""
     secret = place.secret
     refused_alike(place, "without the secret", *(("GET", path) for path in (
-        "/", f"/{wrong}/", f"/{wrong}/start", f"/{wrong}/events?from=0", f"/{wrong}/steps.txt",
-        f"/{wrong}", f"//{secret}/", f"/{secret}/../", f"/{secret}/%2e", f"/{secret}/x/start", f"/{secret}/class.py", f"/{secret}/steps.txt",
-        f"/{secret}/events?key=&from=0", f"/{secret}/events?key={wrong}&from=0", f"/{secret}/events?key={ann.key}&from=x",
-        "/favicon.ico", "/robots.txt")))
+        "/", f"/{wrong}/", f"/{wrong}/start", f"/{wrong}/events?from=0", f"/{wrong}/steps.txt", f"/{wrong}", f"//{secret}/", f"/{secret}/../",
+        f"/{secret}/%2e", f"/{secret}/x/start", f"/{secret}/class.py", f"/{secret}/steps.txt", f"/{secret}/events?key=&from=0",
+        f"/{secret}/events?key={wrong}&from=0", f"/{secret}/events?key={ann.key}&from=x", "/favicon.ico", "/robots.txt")))
     teachers = [("POST", path, {"seat": 1, "paused": True})
                 for path in ("pause", "free", "end", "again", "replay", "move", "may", "door", "show", "place", "table", "tables", "start", "")]
     refused_alike(place, "a pupil", ("POST", f"/{wrong}/line", line), ("POST", "/line", line), *teachers)
@@ -120,16 +118,13 @@ def without_secret(place, ann, line, wrong):
 
 def from_elsewhere(place, line, host):
     """Requests by other names of the host, and from other pages."""
-    hosts = (f"evil.example:{place.port}", place.host, f"{place.host}:1", "evil.example", "",
-             f"{place.host}.evil.example:{place.port}",
+    hosts = (f"evil.example:{place.port}", place.host, f"{place.host}:1", "evil.example", "", f"{place.host}.evil.example:{place.port}",
              f"127.0.0.2:{place.port}", f"[::1]:{place.port}", f"0.0.0.0:{place.port}")
     refused_alike(place, "another host", *(("GET", "", None, {"Host": name}) for name in hosts),
                   *(("POST", "line", line, {"Host": name, "Origin": "http://" + name}) for name in hosts))
-    origins = (None, "", "null", "http://evil.example", "http://127.0.0.1", f"https://{host}", f"http://{host}.evil.example",
-               host)
+    origins = (None, "", "null", "http://evil.example", "http://127.0.0.1", f"https://{host}", f"http://{host}.evil.example", host)
     refused_alike(place, "another origin", *(("POST", "line", line, {"Origin": origin}) for origin in origins),
-                  ("GET", "start", None, {"Origin": "http://evil.example"}),
-                  ("POST", "line", line, {"Sec-Fetch-Site": "cross-site"}),
+                  ("GET", "start", None, {"Origin": "http://evil.example"}), ("POST", "line", line, {"Sec-Fetch-Site": "cross-site"}),
                   ("GET", "start", None, {"Sec-Fetch-Site": "same-site"}), ("PUT", "line", line))
 
 
@@ -142,8 +137,7 @@ def of_another_form(place, ann, line):
             ("\u00e4" * 512, "A line has at most 1024 bytes."), ("x" * 20000, "The request is too long.")):
         status, said = place.post("line", {"key": ann.key, "line": text})
         expect(status in (400, 413) and said.startswith(words), f"the line {text!r:.9}: {status} {said}")
-    things = [{"key": ann.key, "line": 7}, {"key": ann.key}, {"line": "look"}, [], "look", None, 7,
-              {"key": ann.key, "line": "\ud800"}]
+    things = [{"key": ann.key, "line": 7}, {"key": ann.key}, {"line": "look"}, [], "look", None, 7, {"key": ann.key, "line": "\ud800"}]
     for raw, wanted in [(json.dumps(thing).encode(), 400) for thing in things] + [
             (b"{", 400), (b"\xff", 400), (b"[" * 9000, 400), (b"{}" + b" " * 20000, 413)]:
         equal(place.ask("POST", "line", raw=raw)[0], wanted, f"a request of {raw!r:.40}")
@@ -162,13 +156,11 @@ def deaths(folder):
         together(kill, *(lambda pupil=pupil: pupil.attend(lines_of(pupil.seat, 10000)) for pupil in others))
         for pupil in others:
             equal(pupil.lines[-1][1:], (503, OVER), "who plays is told")
-        first.until(lambda pupil: pupil.states[-1]["ends"] == {"1": {"status": -9, "text": ""}},
-                    "nobody is told that it was killed")
+        first.until(lambda pupil: pupil.states[-1]["ends"] == {"1": {"status": -9, "text": ""}}, "nobody is told that it was killed")
         before = len(taken(desk, folder)[0])
         equal([desk.post("again", {}) for _ in range(2)], [(200, {}), (409, "The game goes on.")], "it is begun again")
         status, answer = first.play("commit")
-        expect(status == 200 and answer.split(" ")[1] in ("winnable", "unwinnable", "stale"),
-               f"the look was not kept: {answer}")
+        expect(status == 200 and answer.split(" ")[1] in ("winnable", "unwinnable", "stale"), f"the look was not kept: {answer}")
         steps, history = taken(desk, folder)
         equal(len(history), before + 1, "the entries after it was begun again")
         in_order(room, steps, history)
@@ -184,8 +176,7 @@ def entry(seat, line, answer):
 
 
 def keeping(folder):
-    """A class that is kept outlasts board/play itself, with its addresses, its seats and the looks that they had, also if it was
-    killed while it wrote."""
+    """A class that is kept outlasts board/play, with its addresses, its seats and their looks, also if it was killed while it wrote."""
     kept, table = Path(folder, "kept"), written(folder, "table.json", json.dumps(TABLE))
     record, command = kept / "table1" / "room1.jsonl", ["board", "--no-browser", table, "--class", "3", "--keep", kept]
     child = started(*command[2:])
@@ -252,12 +243,10 @@ def full_history(folder):
 
 
 def floods(folder):
-    """Floods of one seat, pages that read nothing, and pages without number on one seat leave the others in peace, and no line
-    is answered to another."""
+    """Floods, pages that read nothing, and many pages on one seat leave the others in peace, and no line is answered to another."""
     with a_class(folder, 4, "ann", "bob") as (child, place, desk, ann, bob):
         def half_a_line():
-            return place.sent(f"POST {place.path}line", f"Origin: {place.origin}", "Content-Type: application/json",
-                              "Content-Length: 900", body="{")
+            return place.sent(f"POST {place.path}line", f"Origin: {place.origin}", "Content-Type: application/json", "Content-Length: 900", body="{")
 
         def flood(number):
             return place.post("line", {"key": ann.key, "line": f"gift ann {number % 2 * 2 - 1}"})
@@ -270,17 +259,14 @@ def floods(folder):
         deaf = [place.events(bob.key) for _ in range(12)]
         equal({link.recv(12) for link in deaf}, {b"HTTP/1.1 200"}, "many pages on a seat")
         deaf += [half_a_line() for _ in range(HALVES)]
-        others, *answers = together(
-            lambda: [bob.play("look")[0] for _ in range(20)],
-            *(lambda number=number: flood(number) for number in range(200)))
+        others, *answers = together(lambda: [bob.play("look")[0] for _ in range(20)], *(lambda number=number: flood(number) for number in range(200)))
         equal(len(answers), 200, "each line of a flood is answered")
         equal({status for status, _ in answers}, {200, 429}, "the statuses of a flood, which is told to be too fast")
         told = sorted(answer["answer"] for status, answer in answers if status == 200)
         entries = zip(*taken(desk, folder))
         equal(told, sorted(line for step, line in entries if step.startswith("1 ")), "the answers to a flood")
         equal(others, [200] * 20, "another pupil in a flood")
-        bob.until(lambda pupil: "asleep" in pupil.states and pupil.ended.is_set(),
-                  "the oldest of many pages on a seat is not told")
+        bob.until(lambda pupil: "asleep" in pupil.states and pupil.ended.is_set(), "the oldest of many pages on a seat is not told")
         ann.until(lambda _: here(), "a seat that has a page")
         is_modest(child, MOST_MEMORY)
         for link in deaf:
@@ -321,8 +307,7 @@ def hosts(folder):
 
 
 def opened(place, begun):
-    """Which files a browser far away gets whole that opens the address: each request comes some time after its connection, and there are
-    older ones that it does not use."""
+    """Which files a browser far away gets whole: each request comes some time after its connection, and older ones are not used."""
     unused, found = [socket.create_connection((place.host, place.port)) for _ in range(5)], []
     begun.wait(PATIENCE)
     for path in "", "page.css", "class.js", "start":

@@ -162,8 +162,7 @@ def of_the_pages_of_a_class(folder):
         watching = one.text("#address"), one.value("getComputedStyle($('#tools')).display")
         equal(watching, (pupils, "none"), "a page that only watches")
         one.in_sizes("watching")
-        ann, bob = (PagePupil(*given, folder)
-                    for given in ((one, pupils, "Zo\u00eb"), (two, pupils, "<img src=x onerror=p()>")))
+        ann, bob = (PagePupil(*given, folder) for given in ((one, pupils, "Zo\u00eb"), (two, pupils, "<img src=x onerror=p()>")))
         page = Page(desk, teacher, os.path.join(folder, "desk"))
         page.until("state !== null")
         for switch in "gifts", "edges":

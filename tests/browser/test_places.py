@@ -23,8 +23,7 @@ def tree(size):
 # The crossings of a drawing as people know it: the cube's two squares cross twice, Petersen's star five times.
 KNOWN = {
     "the cube": (prism(4), 2), "Petersen's graph": (petersen(), 5), "K3,3": (bipartite(3, 3), 9), "K2,5": (bipartite(2, 5), 10),
-    "a prism": (prism(3), 0),
-    **{f"grid {wide}x{high}": (grid(wide, high), 0) for wide, high in ((2, 3), (2, 8), (3, 3), (3, 5), (4, 4))},
+    "a prism": (prism(3), 0), **{f"grid {wide}x{high}": (grid(wide, high), 0) for wide, high in ((2, 3), (2, 8), (3, 3), (3, 5), (4, 4))},
     **{f"path {size}": (ring(size)[:-1], 0) for size in (3, 8, 9, 16)}}
 RINGS = {**{f"cycle {size}": (ring(size), 0) for size in (3, 4, 5, 9, 16)},
          **{f"K{size}": (complete(size), math.comb(size, 4)) for size in (4, 5, 7)}}
@@ -60,8 +59,7 @@ def known_graphs():
             equal(crossings(found, edges), crossed, f"the crossings of {name}")
             shapes.add(tuple(sorted(round(math.dist(found[u], found[v]), 3) for u, v in edges)))
             if name in RINGS:
-                equal(len({round(math.hypot(x, y), 3) for x, y in found.values()}), 1,
-                      f"{name} does not stand in a ring: radii")
+                equal(len({round(math.hypot(x, y), 3) for x, y in found.values()}), 1, f"{name} does not stand in a ring: radii")
         equal(len(shapes), 1, f"the ways in which {name} is drawn")
 
 

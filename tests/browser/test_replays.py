@@ -93,11 +93,9 @@ def compare(browser, where, index, table, amounts, step, line, added):
     pairs = [(u, v, count) for u in names for v, count in edges(table)[u].items() if u < v]
     wanted = {
         "asked": step, "said": line, "amounts": [[name, amounts[name]] for name in names], "debts": debts, "hatched": debts,
-        "label": "The board: " + ", ".join(f"{name} {amount}" for name, amount in amounts.items()), "slider": index,
-        "list": [index] * (index > 0), "added": added, "differs": None,
-        "edges": sum(count if count <= 8 else 1 for _, _, count in pairs), "open": is_verdict,
-        "script": [[name, often(reply[1][name]), str(amounts[name]), str(reply[2][name])] for name in names] if is_verdict
-        else []}
+        "label": "The board: " + ", ".join(f"{name} {amount}" for name, amount in amounts.items()), "slider": index, "list": [index] * (index > 0),
+        "added": added, "differs": None, "edges": sum(count if count <= 8 else 1 for _, _, count in pairs), "open": is_verdict,
+        "script": [[name, often(reply[1][name]), str(amounts[name]), str(reply[2][name])] for name in names] if is_verdict else []}
     if reply[0] == "moved":
         lent = sent(step)
         wanted.update(says=[[name, often(lent[name])] for name in names if lent.get(name)], moves=flow_words(table, lent))
@@ -203,13 +201,11 @@ def with_differences(browser, folder):
     """If a printed line is changed, the page says so at that step and no other."""
     table, steps = STORIES[0]
     lines = lines_of(f"{steps}.out")
-    for index, old, new in ((1, "barn=2", "barn=3"), (4, "given 1", "given 2"), (8, "to well=1", "to well=2"),
-                            (10, "won", "not won")):
+    for index, old, new in ((1, "barn=2", "barn=3"), (4, "given 1", "given 2"), (8, "to well=1", "to well=2"), (10, "won", "not won")):
         changed = [line.replace(old, new) if i == index else line for i, line in enumerate(lines)]
         history = written(folder, "history", "".join(f"{line}\n" for line in changed))
         browser.open(page_of(folder, *files_of(table, steps), history))
-        equal(browser.value("viewer.flaws"), {str(index + 1): lines[index]},
-              f"the flaws of a history with another line {index}")
+        equal(browser.value("viewer.flaws"), {str(index + 1): lines[index]}, f"the flaws of a history with another line {index}")
         browser.value(f"viewer.go({index + 1})")
         expect(lines[index] in (browser.value(SHOWN)["differs"] or ""), f"a changed line {index} is not shown")
 
@@ -217,21 +213,17 @@ def with_differences(browser, folder):
 def with_strangers(browser, folder):
     """What is no table, or has a script in it, becomes no page; and a script in a page that was changed does not run."""
     steps, history = written(folder, "s", "1 claim\n"), written(folder, "h", "0 won\n")
-    for text in ('{"vertices":["</script><script>window.pwned=1</script>"],"edges":[],"amounts":[1],"q":"a"}', "{}",
-                 "[" * 100000, '{"vertices":["a"],"edges":[],"amounts":[NaN],"q":"a"}', "\0\1",
-                 '{"vertices":["a"],"edges":[["a","z",1]],"amounts":[1],"q":"a"}'):
+    for text in ('{"vertices":["</script><script>window.pwned=1</script>"],"edges":[],"amounts":[1],"q":"a"}', "{}", "[" * 100000,
+                 '{"vertices":["a"],"edges":[],"amounts":[NaN],"q":"a"}', "\0\1", '{"vertices":["a"],"edges":[["a","z",1]],"amounts":[1],"q":"a"}'):
         for words in ([steps], [steps, history], ["--greedy", "3"]):
             refused(["replay", written(folder, "t.json", text), *words], "dollar replay: ")
-    for words in ([TRIANGLE, written(folder, "bad", "1 lend <b>\n")],
-                  [TRIANGLE, steps, written(folder, "two", "0 won\n1 won\n")],
+    for words in ([TRIANGLE, written(folder, "bad", "1 lend <b>\n")], [TRIANGLE, steps, written(folder, "two", "0 won\n1 won\n")],
                   [TRIANGLE, steps, written(folder, "odd", "0 <script>\n")], ["/nowhere", steps], [TRIANGLE, "/nowhere"]):
         refused(["replay", *words])
     page, _, _ = script("replay", TRIANGLE, "/dev/stdin", input=b"1 lend a\n1 claim\n")
-    changed = page.decode().replace("<main>",
-                                    '<main><script>window.pwned = 1</script><img src="x:" onerror="window.pwned = 2">')
+    changed = page.decode().replace("<main>", '<main><script>window.pwned = 1</script><img src="x:" onerror="window.pwned = 2">')
     browser.open(written(folder, "page.html", changed))
-    equal(browser.value("[viewer.game.length, window.pwned === undefined]"), [2, True],
-          "a page with a script that is not its own")
+    equal(browser.value("[viewer.game.length, window.pwned === undefined]"), [2, True], "a page with a script that is not its own")
 
 
 def with_places(browser, folder):

@@ -49,8 +49,7 @@ def apart(folder):
 
 
 def next_tables(folder):
-    """Tables are handed out one after another, under the same address; the pages go on with each, and a line for the one before is not
-    played."""
+    """Tables are handed out one after another; the pages go on with each, and a line for the one before is not played."""
     with a_class(folder, 3, "ann", "bob") as (_, _, desk, ann, bob):
         equal(ann.play("lend ann")[0], 200, "a line on the first table")
         bob.until(lambda pupil: pupil.tables, "the first table does not come")
@@ -69,8 +68,7 @@ def next_tables(folder):
         before = len(ann.tables)
         for given, said in (
                 ({"table": "{}"}, "shape of top"), ({"size": 4}, "There is no such room."), ({"size": "1"}, "There is no such room."),
-                ({"graph": "Cube", "level": "odd"}, "There is no such puzzle."),
-                ({"graph": "Round", "level": "easy"}, "There is no such puzzle.")):
+                ({"graph": "Cube", "level": "odd"}, "There is no such puzzle."), ({"graph": "Round", "level": "easy"}, "There is no such puzzle.")):
             status, text = desk.post("table", given)
             equal((status in (400, 409), text), (True, said), f"the table {given}")
         equal(len(ann.tables), before, "the tables after what is none")
@@ -193,8 +191,7 @@ def hints(folder):
 
 
 def a_puzzle_each(folder):
-    """Each room gets a puzzle of its own, on one graph and with as many dollars, and the files of a room have its own; the same again is
-    the same for each, also after an accident."""
+    """Each room gets its own puzzle, on one graph and with as many dollars, also in its files; the same again is so after an accident too."""
     table, kept = written(folder, "table.json", json.dumps(TABLE)), Path(folder, "kept")
     words = [table, "--class", "6", "--rooms", "1", "--keep", kept]
     child = started(*words)

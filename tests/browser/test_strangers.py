@@ -1,5 +1,4 @@
-"""Damaged requests: sizes, encodings, heads, halves and silence. Each is answered or dropped in time, while another plays on.
-And what the server of one player and board/play itself are given."""
+"""Damaged requests, each answered or dropped in time while another plays on. And what a player's server and board/play are given."""
 import asyncio
 import fcntl
 import json
@@ -16,8 +15,7 @@ import threading
 import time
 from pathlib import Path
 
-from common import (EXAMPLES, PACKAGE, PATIENCE, PLAY, TRIANGLE, addresses, asked, is_modest, played, started, text_of, together,
-                    waited, written)
+from common import EXAMPLES, PACKAGE, PATIENCE, PLAY, TRIANGLE, addresses, asked, is_modest, played, started, text_of, together, waited, written
 from helpers import equal, expect, tests_of
 from visitors import TABLE, Place, Pupil, a_class, taken
 
@@ -124,8 +122,7 @@ async def send_all(place, key):
 
     kinds = [list(DAMAGES)[number % len(DAMAGES)] for number in range(REQUESTS)]
     return await asyncio.gather(*(
-        one(kind, DAMAGES[kind](*honest(place, key, draw), draw), kind == "flipped" and number % 5 == 0)
-        for number, kind in enumerate(kinds)))
+        one(kind, DAMAGES[kind](*honest(place, key, draw), draw), kind == "flipped" and number % 5 == 0) for number, kind in enumerate(kinds)))
 
 
 def damaged_requests(folder):
@@ -148,8 +145,7 @@ def damaged_requests(folder):
         equal(len(results), REQUESTS, "damaged requests")
         equal([kind for kind, got in results if got is None], [], "damaged requests that were not dropped")
         firsts = {got.split(b"\r\n")[0][:12] for _, got in results}
-        equal(firsts - {b"HTTP/1.1 %d" % status for status in (200, 400, 404, 409, 413, 429)}, {b""},
-              "answers to damaged requests")
+        equal(firsts - {b"HTTP/1.1 %d" % status for status in (200, 400, 404, 409, 413, 429)}, {b""}, "answers to damaged requests")
         equal(set(played_on), {200}, "who plays on among damaged requests")
         is_modest(child, MOST_MEMORY)
         steps, _ = taken(desk, folder)
@@ -234,8 +230,7 @@ def no_questions(place, ask, table, key):
         equal(place.post("ask", given)[0], 400, f"the question {given!r:.60}")
     equal(ask(command="rank", table=table, degree="1\0")[1]["status"], None, "a degree that is no word")
     for command, text, fault in (
-            ("judge", "\u00e4", "not JSON"), ("judge", " " * ((1 << 20) + 1), "file too long"),
-            ("layout", "[" * 5000, "not JSON")):
+            ("judge", "\u00e4", "not JSON"), ("judge", " " * ((1 << 20) + 1), "file too long"), ("layout", "[" * 5000, "not JSON")):
         equal(ask(command=command, table=text)[1]["err"], fault, f"{command} of {text:.5}")
     equal(place.ask("POST", "ask", raw=b"{}", headers={"Content-Length": str(1 << 27)})[0], 413, "a request that is too long")
     status, got = ask(command="replay", table=table, steps="1 lend a\n", name="</title><script>x</script>")
@@ -275,16 +270,14 @@ def command_line(folder):
         done = subprocess.run([*PLAY, *words], capture_output=True, text=True, stdin=subprocess.DEVNULL, timeout=PATIENCE)
         fine = (done.returncode, done.stdout, done.stderr.count("\n")) == (1, "", 1) and done.stderr.startswith("board/play: ")
         expect(fine, f"board/play {words}: {done}")
-    for words in (["--class", "0"], ["--class", "65"], ["--class", "x"], ["--port", "70000"], ["--host", "127.0.0.1"],
-                  ["a", "b"], ["--class", "2", "--name", "a/b"], ["--rooms", "1"],
-                  ["--class", "2", "--teacher-here"]):
+    for words in (["--class", "0"], ["--class", "65"], ["--class", "x"], ["--port", "70000"], ["--host", "127.0.0.1"], ["a", "b"],
+                  ["--class", "2", "--name", "a/b"], ["--rooms", "1"], ["--class", "2", "--teacher-here"]):
         done = subprocess.run([*PLAY, *words], capture_output=True, text=True, stdin=subprocess.DEVNULL, timeout=PATIENCE)
         equal((done.returncode, done.stdout), (2, ""), f"board/play {words}")
     for words in ["draw", cube], ["replay", EXAMPLES / "village.json", EXAMPLES / "village_story.txt"]:
         one, other = os.pipe()
         os.close(one)
-        done = subprocess.run([sys.executable, "-B", PACKAGE / "dollar", *words], stdout=other, stderr=subprocess.PIPE,
-                              timeout=PATIENCE)
+        done = subprocess.run([sys.executable, "-B", PACKAGE / "dollar", *words], stdout=other, stderr=subprocess.PIPE, timeout=PATIENCE)
         os.close(other)
         equal((done.returncode, done.stderr), (1, b""), f"{words[0]} whose reader has gone")
 
@@ -344,5 +337,4 @@ def ends_of_play(folder):
     expect(child.wait(PATIENCE) == 0 and child.stderr.read() == "", "the second Ctrl-C does not end it")
 
 
-load_tests = tests_of(command_line, a_browser, ends_of_play, server_of_one_player, silence, damaged_requests,
-                      given=tempfile.TemporaryDirectory)
+load_tests = tests_of(command_line, a_browser, ends_of_play, server_of_one_player, silence, damaged_requests, given=tempfile.TemporaryDirectory)

@@ -1,5 +1,4 @@
-"""Clients of the server behind the pages: without a browser honest ones, and such as send what no browser would; and pupils on
-pages in a browser."""
+"""Clients of the server behind the pages: honest ones, such as send what no browser would, and pupils on pages in a browser."""
 import contextlib
 import http.client
 import itertools
@@ -41,8 +40,7 @@ class Place:
 
     @contextlib.contextmanager
     def answer(self, method, path, thing=None, headers=(), raw=None):
-        """The answer to a request. A path with a slash before it is taken as it stands, and a header that is None is not
-        sent."""
+        """The answer to a request. A path with a slash before it is taken as it stands, and a header that is None is not sent."""
         body = raw if raw is not None or thing is None else json.dumps(thing).encode()
         given = {"Content-Type": "application/json", "Origin": self.origin} if body is not None else {}
         given = {name: value for name, value in {**given, **dict(headers)}.items() if value is not None}
@@ -228,8 +226,7 @@ class PagePupil(Page):
 
 @contextlib.contextmanager
 def a_class(folder, seats, *names, options=(), may=("gifts", "edges", "questions")):
-    """A class at a table: the process of the server, its places for pupils and for the teacher, and a pupil of each name, who
-    leave at the end. What the teacher has to permit is permitted."""
+    """A class where some things are permitted: the server's process, its places for pupils and the teacher, and a pupil of each name."""
     table = written(folder, "table.json", json.dumps(TABLE))
     with played(table, "--class", str(seats), *options) as (child, (pupils, teacher)):
         Place(teacher).post("may", dict.fromkeys(may, True))
@@ -242,8 +239,7 @@ def a_class(folder, seats, *names, options=(), may=("gifts", "edges", "questions
 
 
 def taken(teacher, folder, room=1):
-    """The steps and the history of a room that the teacher takes along, after it was seen that the program plays the one to the
-    other."""
+    """The steps and the history of a room that the teacher takes along, after it was seen that the program plays the one to the other."""
     table, steps, history = (teacher.get(f"{name}?room={room}")[1] for name in ("table.json", "steps.txt", "history.txt"))
     printed, said, status = asked("rehearse", written(folder, "t", table), written(folder, "s", steps))
     equal((said, status), ("", 0), "rehearse of the steps of a class")

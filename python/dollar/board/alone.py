@@ -44,8 +44,7 @@ class OwnGame(Game):
         return {"status": 3, "out": "", "err": wrong} if wrong else await self.ended()
 
     async def play(self, count: int, line: str) -> dict[str, Any]:
-        """What the program says to a line after the first so many entries. Those that follow are dropped, and the game is begun again
-        without them."""
+        """What the program says to a line after the first so many entries. Those that follow are dropped, and the game begins again."""
         async with self.turn:
             if count < len(self.lines) or self.end:
                 said = await self.begin(self.lines[:count])

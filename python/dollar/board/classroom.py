@@ -30,8 +30,7 @@ HEARTBEAT, UNUSED = 5.0, 60.0
 TOGETHER = 0.03
 # The letters of the short code, what is meant as one, and what is counted as a wrong one.
 SHORT, MEANT, COUNTED = 6, re.compile(r"[A-Za-z0-9-]{1,12}\Z"), re.compile("[%s]{6}\\Z" % LETTERS, re.I)
-# How many wrong codes and new seats one address of the network has at once, and then in a second; and how many all have together. A
-# school may be behind one address.
+# How many wrong codes and new seats one address, behind which a school may be, has at once, and then in a second; and how many all have.
 TRIES, SEATS = ((40, 2.0), (200, 10.0)), ((12, 0.5), (64, 8.0))
 FILES = {"table.json": "application/json", "steps.txt": "text/plain", "history.txt": "text/plain"}
 BEAT, JOINER = event("beat", {}), "\u200d"
@@ -108,8 +107,7 @@ class Follower:
 
 
 def clean(name: str) -> str:
-    """A name as it is shown: what can be seen of it, on one line, with few marks on a letter. The letter that joins others to one sign
-    stays."""
+    """A name as it is shown: what can be seen of it, and the letter that joins others to one sign, on one line, with few marks on a letter."""
     shown = "".join(letter if (letter.isprintable() and letter not in UNSEEN) or letter == JOINER else " " if letter.isspace() else ""
                     for letter in name)
     return MARKS.sub(r"\1", " ".join(shown.split()))[:MOST_NAME].strip()
@@ -258,8 +256,7 @@ class Classroom:
     def state(self) -> bytes:
         """Who is there, and what goes on, as an event. All pages share its bytes."""
         if self.told_state[0] != self.changes:
-            names = {seat.number: {"name": seat.name, "here": seat.page is not None, "room": self.number_of(seat)}
-                     for seat in self.taken.values()}
+            names = {seat.number: {"name": seat.name, "here": seat.page is not None, "room": self.number_of(seat)} for seat in self.taken.values()}
             self.told_state = self.changes, event("state", {
                 "names": names, "paused": self.paused, "open": self.is_open, "may": self.may, "size": self.size, "shown": self.shown,
                 "address": self.address, "over": self.over, "picture": self.picture, "seats": self.seats,
@@ -396,8 +393,7 @@ class Classroom:
             raise Refused(409, t("class.off", t("may." + switch, houses=self.may["houses"])))
 
     def join(self, name: str, browser: str | None, peer: str) -> Answer:
-        """Gives a free seat: of those the one that was used least, so that nobody finds the look of another on it. A browser that has a
-        seat keeps it."""
+        """Gives the free seat that was used least, so that nobody finds the look of another on it. A browser that has a seat keeps it."""
         if owner_of(browser) in self.barred:
             raise Refused(409, t("seat.barred"))
         own = next((seat for seat in self.taken.values() if browser and seat.browser == browser), None)
@@ -545,8 +541,7 @@ class Classroom:
         self.over = False
 
     async def hand_out(self, given: dict[str, Any]) -> None:
-        """Hands out another table: one that was named, a puzzle, one whose text is given, or the same again. The games on the one before
-        end."""
+        """Hands out another table: one that was named, a puzzle, one that is given, or the same again. The games on the one before end."""
         size, old = given.get("size", self.size), list(self.rooms.values())
         if not isinstance(size, int) or not 0 <= size <= self.seats:
             raise Refused(400, t("teacher.no-room"))

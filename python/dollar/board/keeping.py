@@ -90,8 +90,7 @@ class Keeper:
         self.put(thing, 0o600, CLASS)
 
     def put(self, thing: Any, mode: int, *names: str) -> None:
-        """Writes a file anew, so that whoever is interrupted leaves the old one. If the disk does not take it, the class goes on and this is
-        told."""
+        """Writes a file anew, so that whoever is interrupted leaves the old one. If the disk does not take it, this is told."""
         place = self.place(*names)
         try:
             os.makedirs(os.path.dirname(place), exist_ok=True)

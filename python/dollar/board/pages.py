@@ -31,8 +31,7 @@ IMPORT = re.compile(r'^import [^;]*? from "\./([\w.]+)";\n', re.M)
 
 @functools.lru_cache(maxsize=None)
 def one_script(name: str, exports: bool = False) -> str:
-    """A module and all that it needs as one: what they import of each other stands before them, so their names are all different. With
-    `exports` the module itself still exports what it does."""
+    """A module after all that it needs, as one, so their names are all different. With `exports` it still exports what it does."""
     needed = []
 
     def visit(module: str) -> None:
@@ -46,8 +45,7 @@ def one_script(name: str, exports: bool = False) -> str:
 
     texts: dict[str, str] = {}
     visit(name)
-    return "\n" + "\n".join(texts[module] if exports and module == name else re.sub(r"^export ", "", texts[module], flags=re.M)
-                            for module in needed)
+    return "\n" + "\n".join(texts[module] if exports and module == name else re.sub(r"^export ", "", texts[module], flags=re.M) for module in needed)
 
 
 def filled(name: str, words: Mapping[str, str]) -> str:

@@ -38,8 +38,7 @@ LOOPBACK = "127.0.0.1"
 def arguments(words: list[str]) -> argparse.Namespace:
     """The command line."""
     usage, _, more = __doc__.partition("\n\n")
-    parser = argparse.ArgumentParser(prog=typed("board"), description=usage, epilog=more,
-                                     formatter_class=argparse.RawDescriptionHelpFormatter)
+    parser = argparse.ArgumentParser(prog=typed("board"), description=usage, epilog=more, formatter_class=argparse.RawDescriptionHelpFormatter)
     parser.add_argument("files", nargs="*", metavar="FILE", default=[EXAMPLES / "triangle.json"], help="table files; a class may have several")
     parser.add_argument("--class", type=number_to(MOST_SEATS), dest="seats", metavar="N", help="serve a class of N pupils")
     parser.add_argument("--rooms", type=number_to(MOST_SEATS), default=0, metavar="K", help="give each K pupils a table of their own")
@@ -79,8 +78,8 @@ def name_of_host(word: str) -> str:
 
 
 def open_browser(server: Server, host: str, secret: str) -> None:
-    """Opens the browser at a page. The command line of a browser can be read by all on this machine, so the address in it has no secret:
-    it leads to the page once, and only a program of the same user."""
+    """Opens the browser at a page. All on this machine can read its command line, so the address there leads to the page only once, and only
+    a program of the same user."""
     once, answer = new_secret(), server.answer
 
     async def leading(request: Request) -> Answer:
@@ -100,8 +99,7 @@ def base_of(host: str, server: Server) -> str:
 
 
 def told_once() -> Callable[[Any, dict[str, Any]], None]:
-    """What is called with what goes wrong in the loop, as when a flood leaves no room for more connections: it tells each once. That a page
-    or a program has gone is no news here."""
+    """Tells each thing once that goes wrong in the loop, as when a flood leaves no room, but not that a page or a program has gone."""
     said = set()
 
     def tell(_: Any, context: dict[str, Any]) -> None:
@@ -113,8 +111,7 @@ def told_once() -> Callable[[Any, dict[str, Any]], None]:
 
 
 class Ending:
-    """Ctrl-C, SIGTERM and the end of what is typed. If there are last words, who ends it is told them first, and has to end it once
-    more."""
+    """Ctrl-C, SIGTERM and the end of what is typed. If there are last words, they are told first, and it has to be ended once more."""
 
     def __init__(self, last_words: Callable[[], Any] = lambda: "") -> None:
         loop, self.ended, self.last_words, self.warned = asyncio.get_running_loop(), asyncio.Event(), last_words, False
@@ -170,8 +167,7 @@ async def serve_class(given: argparse.Namespace, tables: list[Table]) -> None:
 
 
 def places_of(names: list[str], host: str, server: Server) -> list[str]:
-    """Where others may find the server, the likeliest first: by the names that were given, and by the addresses of this machine. If it has
-    none for others, it is found from here alone."""
+    """Where others may find the server, the likeliest first: by given names, and by this machine's addresses, or else from here alone."""
     own = [] if names and is_here_alone(host) else addresses_of(host)
     places = [*names, *("[%s]" % each if ":" in each else each for each in own)]
     return [each if re.search(":[0-9]+$", each) else "%s:%d" % (each, server.port) for each in places] or [base_of(host, server)[7:-1]]

@@ -124,8 +124,7 @@ def in_order(table: dict[str, Any], draw: random.Random) -> list[int]:
 
 
 def puzzle(table: dict[str, Any], level: str, draw: random.Random, others: Sequence[str] = ()) -> str:
-    """A table with other dollars on the same graph, of a level; one that is not among the others, if there is one. Raises ValueError if
-    there is none at all."""
+    """A table with other dollars on the same graph, of a level; not one of the others, if it can be. Raises ValueError if there is none."""
     names, (beside, most), found = table["vertices"], LEVELS[level], None
     genus = sum(count for _, _, count in table["edges"]) - len(names) + 1
     for _ in range(TRIES):
@@ -145,8 +144,7 @@ def puzzle(table: dict[str, Any], level: str, draw: random.Random, others: Seque
 
 
 def way(text: str) -> list[tuple[str, int]] | None:
-    """The moves of a shortest way to a table without debts, each a vertex and 1 if it lends or -1 if it borrows; None if no search of so many
-    tables finds one."""
+    """The moves of a shortest way to a table without debts, each a vertex and 1 if it lends or -1 if it borrows; None if none is found."""
     table = json.loads(text)
     names, start = table["vertices"], tuple(table["amounts"])
     rows = {name: [0] * len(names) for name in names}

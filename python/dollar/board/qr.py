@@ -5,8 +5,7 @@ import functools
 import itertools
 from typing import Any, Callable
 
-# How many bytes of data there are in each size from 1 on, and of the check after them; at the least level of correction, L, they are
-# one block.
+# How many bytes of data and of the check after them each size from 1 on has; at the least level of correction, L, they are one block.
 SIZES = [(19, 7), (34, 10), (55, 15), (80, 20), (108, 26)]
 MASKS: list[Callable[[int, int], int]] = [
          lambda x, y: (x + y) % 2, lambda x, y: y % 2, lambda x, y: x % 3, lambda x, y: (x + y) % 3, lambda x, y: (x // 3 + y // 2) % 2,

@@ -60,8 +60,7 @@ def differences(lines: Any, given: Any) -> Any:
 
 
 def page(title: str, text: str, steps: Any, lines: Any, history: Any = None, own: str | None = None, names: Iterable[str] = ()) -> str:
-    """The text of the page for a table, steps, and what the program prints of them, or another history that was given. `names` are
-    those of the players, step by step."""
+    """The page for a table, steps, and what the program prints of them, or another history. `names` has the player of each step."""
     shown = lines if history is None else history
     flaws = differences(lines, shown)
     if any("<" in word for word in (steps, shown)):

@@ -41,8 +41,7 @@ class Rewound(NamedTuple):
 
 
 class Noted(NamedTuple):
-    """Somebody was `helped` by a hint, `judged` that it can't be done, which is right if the number is 1, or went `onward` to the table of a
-    number."""
+    """Somebody was `helped` by a hint, `judged` that it can't be done, which is right if the number is 1, or went `onward` to a table."""
 
     number: int
     kind: str
@@ -78,8 +77,7 @@ class Room(Game):
     """A game of some pupils with its entries, on the first of some tables, and then on the next ones. What was taken back can be played
     again until there is another entry. `told` is called when there is something new, and `changed` when the game has ended."""
 
-    def __init__(self, number: int, texts: list[str], whole: Feed, told: Callable[[], None], changed: Callable[[], None],
-                 kept: Any = None) -> None:
+    def __init__(self, number: int, texts: list[str], whole: Feed, told: Callable[[], None], changed: Callable[[], None], kept: Any = None) -> None:
         super().__init__(texts[0])
         self.texts, self.stage, self.is_done = texts, 0, False
         self.number, self.feeds, self.told, self.changed, self.kept = number, [Feed(number), whole], told, changed, kept
@@ -161,8 +159,7 @@ class Room(Game):
             return answer
 
     async def undo(self, name: str) -> bool | None:
-        """Takes back the last entry that changed the board, with those that came after it: the game begins again without them. Says whether
-        there was one."""
+        """Takes back the last entry that changed the board, and those after it: the game begins again. Says whether there was one."""
         async with self.turn:
             changes = [index for index, entry in enumerate(self.entries) if has_changed(entry)]
             if self.end:

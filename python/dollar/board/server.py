@@ -30,16 +30,13 @@ TARGET = re.compile(r"(GET|POST) (/[A-Za-z0-9/._~?=&-]*) HTTP/1\.[01]\Z")
 POLICY = ("default-src 'none'; script-src 'self'; style-src 'self'; img-src 'self' data:; connect-src 'self'; "
           "base-uri 'none'; form-action 'self'; frame-ancestors 'none'")
 ALWAYS = {
-    "Content-Security-Policy": POLICY, "X-Content-Type-Options": "nosniff", "X-Frame-Options": "DENY",
-    "Referrer-Policy": "no-referrer", "Cross-Origin-Resource-Policy": "same-origin", "Cross-Origin-Opener-Policy": "same-origin",
-    "Cache-Control": "no-store", "Connection": "close",
-}
+    "Content-Security-Policy": POLICY, "X-Content-Type-Options": "nosniff", "X-Frame-Options": "DENY", "Referrer-Policy": "no-referrer",
+    "Cross-Origin-Resource-Policy": "same-origin", "Cross-Origin-Opener-Policy": "same-origin", "Cache-Control": "no-store", "Connection": "close"}
 REASONS = {200: "OK", 400: "Bad Request", 404: "Not Found", 409: "Conflict", 413: "Content Too Large", 429: "Too Many Requests",
            503: "Service Unavailable"}
 HOST = re.compile(r"(\[[0-9a-f:.]+\]|[^:\[\]]+)(?::([0-9]{1,5}))?\Z")
 ANY = "0.0.0.0", "::"
-# What Linux is asked for the address of a network card and for its state, the state of one that is on, and how the names of bridges and
-# tunnels begin.
+# What Linux is asked for the address of a network card and for its state, a state that is on, and how bridges and tunnels are called.
 ADDRESS_OF, FLAGS_OF, IS_UP = 0x8915, 0x8913, 1
 APART = "br", "docker", "lxc", "ppp", "tailscale", "tap", "tun", "veth", "virbr", "wg", "zt"
 # A status, a kind of content, and the content.
@@ -180,8 +177,7 @@ class Server:
     gives an iterator over bytes that come by and by. `names` are other names of this host, and `fronts` names, maybe with their ports,
     of what leads here, as a tunnel does."""
 
-    def __init__(self, answer: Answers, address: str, port: int = 0, names: Iterable[str] = (),
-                 fronts: Iterable[str] = ()) -> None:
+    def __init__(self, answer: Answers, address: str, port: int = 0, names: Iterable[str] = (), fronts: Iterable[str] = ()) -> None:
         self.answer: Answers = answer
         self.address, self.port, self.names = address, port, {name.lower() for name in [*names, *fronts]}
         self.fronts = set(fronts)
@@ -279,8 +275,7 @@ class Server:
         request = Request(target[1], target[2], headers, reader, lambda: self.welcome(task, writer), lambda: self.leave(task))
         request.peer = peer_of(writer)
         request.is_own = lambda: is_own(*map(writer.get_extra_info, ("peername", "sockname")))
-        request.is_local = not self.is_front(headers["host"]) and all(
-            is_loopback(writer.get_extra_info(end)) for end in ("peername", "sockname"))
+        request.is_local = not self.is_front(headers["host"]) and all(is_loopback(writer.get_extra_info(end)) for end in ("peername", "sockname"))
         return request
 
     def is_front(self, host: str) -> bool:

@@ -67,8 +67,7 @@ async function cant() {
   hands.note(right ? "" : t("play.can"));
 }
 
-/* What the program says to a step after the first so many. The server has the game of this page at a live program; if it has it no
-   more, it is begun again. */
+/* What the program says to a step after the first so many. If the server no longer has the game of this page, it is begun again. */
 async function answered(count, line) {
   if (key !== null) {
     const said = await ask({ command: "play", key, count, line });
@@ -237,10 +236,7 @@ function bindTables() {
     speak(target.checked);
     viewer.show(viewer.now);
   });
-  bind({
-    edit: () => editor.open(),
-    "puzzle-form": puzzle, next, undo: goBack, redo: goOn, hint, cant,
-  });
+  bind({ edit: () => editor.open(), "puzzle-form": puzzle, next, undo: goBack, redo: goOn, hint, cant });
 }
 
 async function start() {

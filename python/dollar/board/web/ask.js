@@ -1,5 +1,4 @@
-/* Questions about the board as it stands: whether it can be won, and its rank. Each goes to the program with a table made of the
-   amounts and edges that are shown, and leaves no entry. */
+/* Questions about the board that is shown: whether it can be won, and its rank. The program answers each, and it leaves no entry. */
 
 import { still } from "./board.js";
 import { t } from "./texts.js";

@@ -157,8 +157,7 @@ export class Board {
     });
   }
 
-  /* Lets the dollars of a move go along the edges, above the board as it is after the move. While moves come faster than their
-     dollars go, none go. */
+  /* Lets the dollars of a move go along the edges, above the board as it is after it. While moves come faster than they go, none go. */
   travel() {
     const start = performance.now(), busy = start < this.until, { turn } = this;
     this.until = start + TRAVEL;

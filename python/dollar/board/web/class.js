@@ -1,5 +1,5 @@
-/* A class: a click is a line, and the board shows what came back. A pupil's page shows the board of its room; those of the teacher and of
-   people who only watch show all boards small, and one of them large. */
+/* A class: a click is a line, and the board shows what came back. A pupil's page shows the board of its room, all others all boards small
+   and one large. */
 
 import { Questions } from "./ask.js";
 import { Board, draw } from "./board.js";
@@ -22,8 +22,7 @@ export const rooms = new Map();
 const teaches = () => given.role === "teacher";
 const watches = () => teaches() || me === null;
 
-/* A seat of one's own, which is kept over a reload. A browser has one seat, however often it asks; but in a class that goes on another day
-   it may be shared, and a new window asks who is there. */
+/* A seat of one's own, which is kept over a reload. A browser has one; in a class that is kept it may be shared, and asks who is there. */
 
 function keep(seat) {
   known = [...(seat ? [seat] : []), ...known.filter(({ key }) => !me || key !== me.key)];
@@ -134,8 +133,7 @@ export const link = new Link(PATIENCE, {
   },
 }, (refused) => (refused ? checkSeat() : tellBreak()));
 
-/* A page that was not let in: its seat was freed, or the game is gone. Only the server itself can say so; what a network puts between is
-   tried again. */
+/* A page that was not let in: its seat was freed, or the game is gone. If the server itself does not say so, it is tried again. */
 
 const AGAIN = 2000;
 
@@ -181,8 +179,7 @@ function begins() {
 const stages = () => [given, ...given.later];
 const stageWords = (stage) => t("class.stage", stage + 1, stages().length);
 
-/* A room on one of the tables that were handed out: its game, with the items that made it, what was taken back, how often, and what was
-   reached. */
+/* A room on one of the tables: its game, with the items that made it, what was taken back, how often, and what was reached. */
 function roomOn(stage, number, results = []) {
   const { tables } = stages()[stage], game = new Game(JSON.parse(tables[(number - 1) % tables.length]));
   return { number, stage, results, game, items: [], undone: [], backs: 0, hints: 0, wrongs: 0, is_done: false, best: Infinity, right: false,

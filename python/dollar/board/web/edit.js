@@ -10,8 +10,7 @@ const MOST_VERTICES = GRAMMAR.limits["dg_graph::MAX_VERTICES"], ROOM = [620, 440
 
 export class Editor {
   viewer; hands; done; draft; kept; handled;
-  /* `done` is called with the text of the table and the places, and gives what the program refuses, null if it is done, or false if it
-     is not. */
+  /* `done` is called with the text of the table and the places, and gives what is refused, null if it is done, or false if it is not. */
   constructor(viewer, hands, done) {
     Object.assign(this, { viewer, hands, done, draft: null });
     bind({

@@ -27,8 +27,7 @@ export async function post(path, thing, patience = LONG) {
 
 export class Link {
   patience; told; lost; turn; fails; source; place; heard; hears; drew;
-  /* How long an answer may take, what is done at each kind of event, and what is called when the stream breaks, with whether the server
-     has refused it. */
+  /* How long an answer may take, what is done at each kind of event, and when the stream breaks, with whether the server refuses it. */
   constructor(patience = LONG, told = {}, lost = null) {
     Object.assign(this, { patience, told, lost, turn: Promise.resolve(), fails: 0, source: null, heard: 0, hears: false, drew: () => {} });
     const look = () => Date.now() - this.heard > SILENT && this.breaks();

@@ -55,8 +55,7 @@ export function wordsPlace({ places, radius, width, height }, pairs, name, wide)
       Array.from({ length: STEPS }, (_, i) => [a + ((c - a) * i) / STEPS, b + ((d - b) * i) / STEPS])).filter((point) => beside(point, NEAR));
     return ON_CIRCLE * circles + lines.length;
   };
-  return least(spots.map(([right, down]) => [inside(x + right, half, width), inside(y + down, HIGH, height)]).map((spot) =>
-    [cost(spot), spot]))[1];
+  return least(spots.map(([right, down]) => [inside(x + right, half, width), inside(y + down, HIGH, height)]).map((spot) => [cost(spot), spot]))[1];
 }
 
 /* A layout for a page of this width and height. If it would be drawn small, it is turned where that helps, and circles and letters grow
@@ -65,8 +64,7 @@ const LEAST = 11, SMALL = 600, GAIN = 1.2, GAP = 6;
 
 export function fitted(layout, wide, high) {
   const own = layout.original || layout, scaleOf = ({ width, height }) => Math.min(wide / width, high / height);
-  const turned = { ...own, width: own.height, height: own.width,
-    places: new Map([...own.places].map(([name, [x, y]]) => [name, [y, x]])) };
+  const turned = { ...own, width: own.height, height: own.width, places: new Map([...own.places].map(([name, [x, y]]) => [name, [y, x]])) };
   const laid = own.turns && scaleOf(own) < 1 && scaleOf(turned) > GAIN * scaleOf(own) ? turned : own, scale = Math.min(1, scaleOf(laid));
   const points = [...own.places.values()];
   const apart = Math.min(...points.flatMap(([x, y], i) => points.slice(0, i).map(([z, w]) => Math.hypot(z - x, w - y))), 4 * own.radius);

@@ -1,5 +1,4 @@
-/* Says the texts of the table, by a group and a key: in the words of the field, in which {vertex} is a vertex, or in those of the
-   handout. Another language is another table. */
+/* Says the texts of the table, in which a {vertex} is a vertex, or a house as in the handout. Another language is another table. */
 
 import { GRAMMAR } from "./grammar.js";
 import { TEXTS } from "./table.js";

@@ -21,8 +21,7 @@ export function replyWords(reply, amounts, q) {
   return REPLIES[kind] ? REPLIES[kind](reply, amounts, q) : t(`replies.${kind}`, gifts, debtWords(amounts));
 }
 
-/* What stands for the parts of a reply's form, and what they are called: g changes and k dollars that are lost, P amounts, N the names
-   of all vertices as they burn. */
+/* What stands for the parts of a reply's form: g changes and k dollars that are lost, P amounts, N all vertices as they burn. */
 
 const PARTS = { P: String.raw`(\w+=-?\d+(?: \w+=-?\d+)*)`, N: String.raw`(\w+(?: \w+)*)`, g: String.raw`(\d+)`, k: String.raw`(\d+)` };
 const AMOUNTS = { winnable: ["script", "reduced"], unwinnable: ["script", "reduced"], rank: ["loss"] };
@@ -138,8 +137,7 @@ export class Game {
   }
 }
 
-/* What goes along the edges in a move, for the arrows and coins: its vertices lend so often along each of their edges, and what two
-   ends send each other cancels. */
+/* What goes along the edges in a move: its vertices lend so often along each of theirs, and what two ends send each other cancels. */
 
 export function flows(edges, script) {
   const times = (name) => script.get(name) || 0;
@@ -243,8 +241,7 @@ export function nameWords(name, others) {
   return others.includes(name) ? t("said.called", name) : "";
 }
 
-/* The program's faults, in words for players: in its texts # is a number, counted from 0. Beside a fault of a table the server says the
-   value, the limit and the file. */
+/* A fault of the program in words for players: # is a number, from 0; beside it the server says the value, the limit and the file. */
 export function faultWords(text, otherwise = t("said.refused")) {
   const [fault] = text.split(/[:,] /), key = fault.replace(/\d+/, "#");
   return key in TEXTS.faults ? t(`faults.${key}`, Number(/\d+/.exec(fault)) + 1) : otherwise;
