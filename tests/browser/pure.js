@@ -20,14 +20,10 @@ function equal(found, wanted, what) {
   if (plain(found) !== plain(wanted)) failures_.push(`${what}: found ${plain(found)}, wanted ${plain(wanted)}`);
 }
 
-function sample(form, parts) {
-  return form.split(" ").map((part) => (part in parts ? parts[part] : part)).join(" ");
-}
-
 /* Each form of the grammar is read, and has words. */
 function replies() {
   for (const form of GRAMMAR.replies) {
-    const text = sample(form, { P: "a=2 b=-1", g: 3, k: 2 }), reply = replyOf(`7 ${text}`);
+    const text = form.split(" ").map((part) => ({ P: "a=2 b=-1", g: 3, k: 2 }[part] || part)).join(" "), reply = replyOf(`7 ${text}`);
     equal([reply.line, reply.kind === "unread"], [`7 ${text}`, false], `the reply ${text}`);
     equal(Boolean(replyWords(reply, AMOUNTS, "a")), true, `the words of ${text}`);
     for (const [part, field] of [["g", "gifts"], ["k", "degree"]]) {

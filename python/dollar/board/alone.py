@@ -186,7 +186,9 @@ async def question(text: Callable[[str], str]) -> dict[str, Any]:
     if command not in BY_LINE:
         raise Nothing
     line = table.replace("\n", " ").encode() + b"\n"
-    return of_line(await run(command, "--lines", "--", line, *map(text, BY_LINE[command])))
+    said = await run(command, "--lines", "--", line, *map(text, BY_LINE[command]))
+    # What is refused in a line is a fault, as for one table.
+    return {"status": 3, "out": "", "err": said["out"][len("refused "):].rstrip("\n")} if said["out"].startswith("refused ") else said
 
 
 def with_value(fault: str, table: str) -> str:
@@ -202,12 +204,6 @@ async def made(make: Callable[[], dict[str, Any]]) -> dict[str, Any]:
         return {"status": fault.status, "out": "", "err": fault.text}
     except ValueError as error:
         raise Refused(409, str(error)) from None
-
-
-def of_line(said: dict[str, Any]) -> dict[str, Any]:
-    """What a run of one line says, as a run for one table says it: what is refused is a fault."""
-    refused, fault = said["out"].startswith("refused "), said["out"][len("refused "):].rstrip("\n")
-    return {"status": 3, "out": "", "err": fault} if refused else said
 
 
 async def run(*words: str | bytes) -> dict[str, Any]:

@@ -78,8 +78,7 @@ def name_of_host(word: str) -> str:
 
 
 def open_browser(server: Server, host: str, secret: str) -> None:
-    """Opens the browser at a page. All on this machine can read its command line, so the address there leads to the page only once, and only
-    a program of the same user."""
+    """Opens the browser at a page. Others can read its command line, so the address there leads only once, and only this user, to the page."""
     once, answer = new_secret(), server.answer
 
     async def leading(request: Request) -> Answer:

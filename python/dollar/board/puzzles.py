@@ -188,9 +188,8 @@ def graphs() -> list[dict[str, Any]]:
 
 @functools.lru_cache(maxsize=256)
 def hint(text: str) -> dict[str, Any]:
-    """One move towards a table without debts: its vertex, 1 if that lends or -1 if it borrows, and how many moves are left, or 0 if that is
-    not known. The move is of a shortest way, or else of the program's script. The count is 0 if nobody has to move, and None if no move
-    helps."""
+    """One move of a shortest way to a table without debts, or else of the program's script: its vertex, 1 if that lends or -1 if it borrows,
+    and how many moves are left, or 0 if that is not known. The count is 0 if nobody has to move, and None if no move helps."""
     verdict = verdict_of(printed("judge", text.encode(), patience=PATIENCE).rstrip("\n"))
     if not verdict or min(json.loads(text)["amounts"]) >= 0:
         return {"name": "", "count": 0 if verdict else None, "left": 0}

@@ -77,9 +77,8 @@ def addresses_of(host: str) -> list[str]:
 
 
 def unlikely(place: str, card: str, leads_out: bool) -> tuple[int, bool, bool]:
-    """How unlikely it is that a class finds this machine at an address: a real network card is likelier than one that was made up, and
-    that than a bridge or a tunnel. Of several cards it is one that does not lead to the internet: somebody has made a network for the
-    class. Of several bridges it is the one that does."""
+    """How unlikely it is that a class finds this machine at an address: a real card is likelier than one that was made up, and that than a
+    bridge or a tunnel. Of several cards it is one that leads to no internet, but to the class alone, and of several bridges one that does."""
     is_apart = card.startswith(APART)
     made_up = 2 if is_apart else 0 if os.path.exists("/sys/class/net/%s/device" % card) else 1
     return made_up, not ipaddress.ip_address(place).is_private, leads_out != is_apart
@@ -172,10 +171,9 @@ def peer_of(writer: asyncio.StreamWriter) -> str:
 
 
 class Server:
-    """Serves on an address and a port, 0 for any that is free. `answer` is asked for each request of this host and origin, and
-    gives a status, a kind of content, and bytes, or a function: that gets a future, which is done when the other side has gone, and
-    gives an iterator over bytes that come by and by. `names` are other names of this host, and `fronts` names, maybe with their ports,
-    of what leads here, as a tunnel does."""
+    """Serves on an address and a port, 0 for any that is free. `answer` is asked for each request of this host and origin, and gives a status,
+    a kind of content, and bytes, or a function: that gets a future, which is done when the other side has gone, and gives an iterator over
+    bytes that come by and by. `names` are other names of this host, and `fronts` those, maybe with ports, of what leads here, as a tunnel."""
 
     def __init__(self, answer: Answers, address: str, port: int = 0, names: Iterable[str] = (), fronts: Iterable[str] = ()) -> None:
         self.answer: Answers = answer

@@ -18,7 +18,6 @@ const ask = (question) => link.ask(question);
 const stepsText = (length) => viewer.game.steps.slice(0, length).map(({ line }) => `${line}\n`).join("");
 
 /* Lines are played one after another, each on what came of the one before. */
-
 export function play(line) {
   return link.inTurn(() => playNow(line));
 }
@@ -111,7 +110,6 @@ async function kept() {
 }
 
 /* A step back and on again. What was taken back is dropped by the next move, without a question. */
-
 function goBack() {
   if (viewer.now === 0) return;
   viewer.go(viewer.now - 1);
@@ -148,7 +146,6 @@ async function hint() {
 }
 
 /* Another table. What the program refuses is told, and nothing changes. */
-
 export async function openTable(text, file, places) {
   const said = await ask({ command: "layout", table: text, places });
   if (said.status !== 0) return said.err;
@@ -179,14 +176,7 @@ function begin(layout) {
   }
 }
 
-async function openFile(file) {
-  if (!file) return;
-  const text = file.size > 1 << 20 ? "" : await file.text(), fault = text ? await openTable(text, file.name) : "file too long";
-  hands.refuse(fault && `${fault}, in ${file.name}`);
-}
-
 /* A puzzle: other dollars on a graph, of which the program has said whether it can be won. */
-
 async function puzzle() {
   const said = await ask({ command: "puzzle", table, graph: element("puzzle-graph").value, level: element("puzzle-level").value });
   if (said.status !== 0) return hands.refuse(said.err);
@@ -203,40 +193,33 @@ async function next() {
   viewer.board.focus(viewer.game.names[0]);
 }
 
-/* Take along. */
-
-async function takePage() {
-  const said = await ask({ command: "replay", table, steps: stepsText(viewer.game.length), name: fileName });
-  if (said.status === 0) save("game.html", said.page, "text/html");
-  else hands.refuse(said.err);
-}
-
-function bindTaking() {
-  bind({
-    "take-table": () => save("table.json", table),
-    "take-steps": () => save("steps.txt", stepsText(viewer.game.length)),
-    "take-now": () => save("now.json", questions.now()),
-    "take-places": () => save("places.txt", placesText(viewer.board.layout)),
-    "take-page": takePage,
-  });
-}
-
-function bindTables() {
+function bindAll() {
   element("example").append(...Object.keys(examples).map((file) => new Option(file, file)));
-  element("example").addEventListener("change", async (event) => {
-    const file = event.target.value;
-    event.target.value = "";
-    if (file) hands.refuse(await openTable(examples[file], file));
+  bind({
+    "take-table": () => save("table.json", table), "take-steps": () => save("steps.txt", stepsText(viewer.game.length)),
+    "take-now": () => save("now.json", questions.now()), "take-places": () => save("places.txt", placesText(viewer.board.layout)),
+    async "take-page"() {
+      const said = await ask({ command: "replay", table, steps: stepsText(viewer.game.length), name: fileName });
+      if (said.status === 0) save("game.html", said.page, "text/html");
+      else hands.refuse(said.err);
+    },
+    edit: () => editor.open(), "puzzle-form": puzzle, next, undo: goBack, redo: goOn, hint, cant,
+    async example({ target }) {
+      const file = target.value;
+      target.value = "";
+      if (file) hands.refuse(await openTable(examples[file], file));
+    },
+    async open({ target }) {
+      const [file] = target.files;
+      const fault = file && (file.size > 1 << 20 ? "file too long" : await openTable(await file.text(), file.name));
+      hands.refuse(fault && `${fault}, in ${file.name}`);
+      target.value = "";
+    },
+    houses({ target }) {
+      speak(target.checked);
+      viewer.show(viewer.now);
+    },
   });
-  element("open").addEventListener("change", async (event) => {
-    await openFile(event.target.files[0]);
-    event.target.value = "";
-  });
-  element("houses").addEventListener("change", ({ target }) => {
-    speak(target.checked);
-    viewer.show(viewer.now);
-  });
-  bind({ edit: () => editor.open(), "puzzle-form": puzzle, next, undo: goBack, redo: goOn, hint, cant });
 }
 
 async function start() {
@@ -251,8 +234,7 @@ async function start() {
     linesOf(before.steps).forEach((line, i) => game.add(line, printed[i]));
     viewer.reset(game, game.length);
   }
-  bindTaking();
-  bindTables();
+  bindAll();
   window.addEventListener("pagehide", keepNow);
 }
 

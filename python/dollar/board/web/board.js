@@ -90,8 +90,9 @@ export class Board {
   vertex(name, amount, pairs) {
     const [x, y] = this.place(name), r = this.layout.radius, { q, burnt, says: all } = this.picture, isQ = name === q, says = all.get(name);
     const kinds = ["vertex", amount < 0 && "debt", this.chosen.has(name) && "chosen", burnt.includes(name) && "burnt"];
-    const parts = [t(amount < 0 ? "board.owes" : "board.has", name, dollars(Math.abs(amount))), isQ && "q", says, this.chosen.has(name) && t("board.chosen")];
-    const hands = { tabindex: 0, role: "button", "aria-label": parts.filter(Boolean).join(", ") };
+    const held = t(amount < 0 ? "board.owes" : "board.has", name, dollars(Math.abs(amount)));
+    const label = [held, isQ && "q", says, this.chosen.has(name) && t("board.chosen")].filter(Boolean).join(", ");
+    const hands = { tabindex: 0, role: "button", "aria-label": label };
     const given = { class: kinds.filter(Boolean).join(" "), "data-name": name, ...(this.hands && hands) };
     const group = draw("g", given, this.svg);
     if (this.hands) draw("circle", { class: "reach", cx: x, cy: y, r: r + 9 }, group);

@@ -1,5 +1,4 @@
-/* A class: a click is a line, and the board shows what came back. A pupil's page shows the board of its room, all others all boards small
-   and one large. */
+/* A class: a click is a line, and the board shows what came back. A pupil's page shows its room, all others all rooms, and one large. */
 
 import { Questions } from "./ask.js";
 import { Board, draw } from "./board.js";
@@ -8,7 +7,7 @@ import { Hands } from "./hand.js";
 import { Link, post, save, startPage, store, stored, sure } from "./page.js";
 import { fitted, layoutOf } from "./places.js";
 import { speak, t } from "./texts.js";
-import { Viewer, below, bind, button, element, made, refuse, say } from "./viewer.js";
+import { Viewer, below, bind, button, choose, element, made, refuse, say } from "./viewer.js";
 import { Game, commandWords, debtWords, faultWords, firstWords, linesOf, listed, movesWords, often, replyOf, stepOf } from "./words.js";
 
 const SOON = 16, LETTERS = 24, WORDS_HIGH = 85, TITLE_HIGH = 60, GROUPS = [0, 1, 2, 3, 4, 5, 6];
@@ -94,7 +93,6 @@ function enter(inside) {
 }
 
 /* A page without a seat, which shows the way in as well. */
-
 function watch() {
   enter(true);
   onlySees("watching");
@@ -134,7 +132,6 @@ export const link = new Link(PATIENCE, {
 }, (refused) => (refused ? checkSeat() : tellBreak()));
 
 /* A page that was not let in: its seat was freed, or the game is gone. If the server itself does not say so, it is tried again. */
-
 const AGAIN = 2000;
 
 async function checkSeat() {
@@ -151,7 +148,6 @@ async function checkSeat() {
 }
 
 /* What was handed out: a table, or several, on which each room goes on at its own speed. All games begin. */
-
 function handed(thing) {
   if (thing.turn !== given.turn) past.push(...rowsNow());
   store("sessionStorage", `${KEPT} results`, past);
@@ -192,16 +188,13 @@ function roomOf(number) {
 }
 
 function taken(from, come) {
-  come.forEach((item, i) => {
-    if (from + i !== received) return;
-    waiting.push(item);
-    received += 1;
-  });
+  const fresh = from > received ? [] : come.slice(received - from);
+  waiting.push(...fresh);
+  received += fresh.length;
   scheduleFlush();
 }
 
 /* What comes is drawn at once, and what comes soon after it together, however much; a browser that is slow to draw draws seldom. */
-
 function scheduleFlush() {
   if (frame === null) frame = setTimeout(flush, Math.max(0, last + Math.max(SOON, 4 * took) - performance.now()));
 }
@@ -459,7 +452,6 @@ async function hint() {
 }
 
 /* Nothing is played while the page does not hear what comes of it, and each line only when the one before it is drawn. */
-
 function sent(path, thing) {
   if (!me) return hands.tell(t("seat.first"));
   if (!link.hears) return hands.tell(t("class.deaf"));
@@ -549,7 +541,6 @@ async function renewWay() {
 }
 
 /* The next table: one of those that were named, a puzzle on a graph, or a file. */
-
 function offer() {
   const { named, graphs } = given, all = named.length > 1 ? [[t("teacher.in-turn"), "all"]] : [];
   const group = (label, options) => {
@@ -596,12 +587,6 @@ async function handOut(thing) {
   return got.refused || null;
 }
 
-function drawTables() {
-  editor = new Editor(viewer, hands, (table, places) => handOut({ table, places, name: t("teacher.drawn") }));
-  element("edit-done").textContent = t("teacher.hand");
-  bind({ edit: () => editor.open() });
-}
-
 function handOutChosen() {
   const [, kind, name] = /^(\w+) ?(.*)$/.exec(element("next-table").value);
   if (kind === "graph") return handOut({ graph: name, level: element("next-level").value, each: element("next-each").checked });
@@ -628,19 +613,18 @@ function teach() {
       if (got.page) save("game.html", got.page, "text/html");
     },
     "take-results": () => save("results.csv", resultsText(), "text/csv"),
+    "next-table": choosesTable, "next-size": choosesTable, edit: () => editor.open(),
+    async "next-file"({ target }) {
+      if (target.files[0]) await handOut({ name: target.files[0].name, table: await target.files[0].text() });
+      target.value = "";
+    },
+    show: ({ target }) => command("show", { what: target.value }), which: ({ target }) => command("place", { place: target.value }),
+    most: ({ target }) => command("seats", { count: Number(target.value) }),
   });
-  for (const id of ["next-table", "next-size"]) element(id).addEventListener("change", choosesTable);
-  element("next-file").addEventListener("change", async ({ target }) => {
-    if (target.files[0]) await handOut({ name: target.files[0].name, table: await target.files[0].text() });
-    target.value = "";
-  });
-  element("show").addEventListener("change", () => command("show", { what: element("show").value }));
-  element("most").addEventListener("change", () => command("seats", { count: Number(element("most").value) }));
-  element("which").append(...given.places.map((each) => new Option(each, each)));
-  element("which").addEventListener("change", () => command("place", { place: element("which").value }));
+  choose("which", given.places);
   element("which").parentElement.hidden = given.places.length < 2;
-  for (const box of document.querySelectorAll("[id^=may-]")) {
-    box.addEventListener("change", () => command("may", { [box.id.slice("may-".length)]: /** @type {any} */ (box).checked }));
+  for (const { id } of document.querySelectorAll("[id^=may-]")) {
+    bind({ [id]: ({ target }) => command("may", { [id.slice("may-".length)]: target.checked }) });
   }
   questions = new Questions(viewer, ask, () => {}, ({ amounts, says, burnt, script }) => {
     const words = element("told-words").textContent, picture = { room: shownRoom, amounts: [...amounts], says: [...says], burnt,
@@ -650,7 +634,8 @@ function teach() {
     link.inTurn(() => command("picture", picture));
   });
   hands.pointed = () => questions.show(viewer.board.picture);
-  drawTables();
+  editor = new Editor(viewer, hands, (table, places) => handOut({ table, places, name: t("teacher.drawn") }));
+  element("edit-done").textContent = t("teacher.hand");
   offer();
   link.listen(() => place("events?"));
 }

@@ -15,7 +15,10 @@ export class Hands {
     Object.assign(this, { viewer, play, pointed: () => {}, board: viewer.board, press: null, other: null, joins: true });
     this.onBoard();
     this.onKeys();
-    this.onForms();
+    bind({
+      fire: () => this.play(`fire ${viewer.game.names.filter((name) => this.board.chosen.has(name)).join(",")}`),
+      claim: () => play("claim"), look: () => play("look"), commit: () => play("commit"), "line-form": () => play(element("line-in").value),
+    });
   }
 
   /** @returns {[number, number]} where a pointer is, in the picture's own measure */
@@ -150,14 +153,6 @@ export class Hands {
     this.unchoose();
     this.tell("");
     this.board.draw();
-  }
-
-  onForms() {
-    bind({
-      fire: () => this.play(`fire ${this.viewer.game.names.filter((name) => this.board.chosen.has(name)).join(",")}`),
-      claim: () => this.play("claim"), look: () => this.play("look"), commit: () => this.play("commit"),
-      "line-form": () => this.play(element("line-in").value),
-    });
   }
 
   /* What is promised, and a word if that takes its time. */

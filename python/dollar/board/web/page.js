@@ -7,7 +7,6 @@ import { element, made } from "./viewer.js";
 const LONG = 150000, SILENT = 10000, LATE = 2000, RETRY = 250, LOOK = 1000, TOO_FAST = 429;
 
 /* What the server says to a request: a thing, or its words if it refuses. */
-
 export async function post(path, thing, patience = LONG) {
   const given = /** @type {RequestInit} */ ({ method: "POST", headers: { "Content-Type": "application/json" }, body: JSON.stringify(thing) });
   // Old browsers know no such signal, and wait.
@@ -21,10 +20,8 @@ export async function post(path, thing, patience = LONG) {
   }
 }
 
-/* The link of a page to its server: what the player does goes there one after another, and if the page listens, what comes is a stream.
-   A network may forget a connection without a word, but the server says something every five seconds. If it does not, or if what was
-   played does not come soon, the page listens again. */
-
+/* The link of a page to its server: what the player does goes there one after another, and if the page listens, what comes is a stream. The
+   server says something every five seconds. If it does not, or if what was played does not come soon, the page listens again. */
 export class Link {
   patience; told; lost; turn; fails; source; place; heard; hears; drew;
   /* How long an answer may take, what is done at each kind of event, and when the stream breaks, with whether the server refuses it. */
@@ -99,7 +96,6 @@ export class Link {
 }
 
 /* Asks whether something shall be done. */
-
 export function sure(words) {
   const box = element("sure");
   box.querySelector("p").textContent = words;
@@ -115,7 +111,6 @@ export function save(file, text, kind = "text/plain") {
 }
 
 /* Starts a page, and says so if it can't. */
-
 export async function startPage(start) {
   try {
     await start();
@@ -126,7 +121,6 @@ export async function startPage(start) {
 }
 
 /* In how few moves a table was won in this browser, after it was won in so many; Infinity if it never was. */
-
 const FEWEST = "dollar fewest", TABLES = 100;
 
 export function fewest(table, moves = Infinity) {
@@ -137,7 +131,6 @@ export function fewest(table, moves = Infinity) {
 }
 
 /* What the browser keeps for a page. If it keeps nothing, or not so much, it lasts as long as the page. */
-
 export function stored(storage, key) {
   try {
     return JSON.parse(/** @type {any} */ (window)[storage].getItem(key));

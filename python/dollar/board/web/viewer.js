@@ -21,12 +21,13 @@ export function button(text, act, given) {
   return part;
 }
 
-/* What is done at a click on a button, or when a form is sent, by their ids. */
+/* What is done at a click on a button, when a form is sent, or when a field has changed, by their ids. */
 export function bind(acts) {
+  const kinds = { FORM: "submit", INPUT: "change", SELECT: "change" };
   for (const [id, act] of Object.entries(acts)) {
-    element(id).addEventListener(element(id).tagName === "FORM" ? "submit" : "click", (event) => {
+    element(id).addEventListener(kinds[element(id).tagName] || "click", (event) => {
       event.preventDefault();
-      act();
+      act(event);
     });
   }
 }

@@ -6,7 +6,6 @@ import { TEXTS } from "./table.js";
 import { t } from "./texts.js";
 
 /* The words of replies that need more than how many changes there were, and who owes. */
-
 const REPLIES = {
   unread: () => "",
   winnable: ({ reduced }, _, q) => t("replies.winnable", q, reduced.get(q)),
@@ -22,7 +21,6 @@ export function replyWords(reply, amounts, q) {
 }
 
 /* What stands for the parts of a reply's form: g changes and k dollars that are lost, P amounts, N all vertices as they burn. */
-
 const PARTS = { P: String.raw`(\w+=-?\d+(?: \w+=-?\d+)*)`, N: String.raw`(\w+(?: \w+)*)`, g: String.raw`(\d+)`, k: String.raw`(\d+)` };
 const AMOUNTS = { winnable: ["script", "reduced"], unwinnable: ["script", "reduced"], rank: ["loss"] };
 
@@ -74,7 +72,6 @@ export function linesOf(text) {
 }
 
 /* A game: a table, the steps, and what was printed of them. The board after each step is the one that the line has. */
-
 export class Game {
   constructor(table) {
     this.table = table;
@@ -138,7 +135,6 @@ export class Game {
 }
 
 /* What goes along the edges in a move: its vertices lend so often along each of theirs, and what two ends send each other cancels. */
-
 export function flows(edges, script) {
   const times = (name) => script.get(name) || 0;
   return [...edges].map(([key, count]) => {
@@ -147,10 +143,7 @@ export function flows(edges, script) {
   }).filter(({ each }) => each > 0);
 }
 
-/* Words. */
-
 export const dollars = (count) => t("said.dollars", count);
-
 export const movesWords = (count) => t("said.moves", count);
 
 export function listed(words) {
@@ -169,7 +162,6 @@ export function planned(count) {
 }
 
 /* The words of commands that need more than what stands in them. */
-
 const COMMANDS = {
   fire: ([names]) => (names.includes(",") ? t("commands.fire", listed(names.split(","))) : t("commands.lend", names)),
   script: (_, script) => t("commands.script", listed([...script].map(([name, count]) => `${name} ${often(count)}`))),
@@ -222,7 +214,6 @@ export function lossWords(loss) {
 }
 
 /* What the program says of a rank, by the line of a sweep: past the limits of one test a loss, or both ranks, may be `?`. */
-
 export function numbersOf(line) {
   const words = line.split(" ");
   return Object.fromEntries(words.filter((_, i) => i % 2 === 0).map((name, i) => [name, words[2 * i + 1]]));
