@@ -90,7 +90,7 @@ export class Board {
   vertex(name, amount, pairs) {
     const [x, y] = this.place(name), r = this.layout.radius, { q, burnt, says: all } = this.picture, isQ = name === q, says = all.get(name);
     const kinds = ["vertex", amount < 0 && "debt", this.chosen.has(name) && "chosen", burnt.includes(name) && "burnt"];
-    const held = t(amount < 0 ? "board.owes" : "board.has", name, dollars(Math.abs(amount)));
+    const held = t(amount < 0 ? "said.owes" : "board.has", name, dollars(Math.abs(amount)));
     const label = [held, isQ && "q", says, this.chosen.has(name) && t("board.chosen")].filter(Boolean).join(", ");
     const hands = { tabindex: 0, role: "button", "aria-label": label };
     const given = { class: kinds.filter(Boolean).join(" "), "data-name": name, ...(this.hands && hands) };

@@ -549,7 +549,7 @@ function offer() {
     return part;
   };
   element("next-table").replaceChildren(
-    group(t("teacher.tables"), [[t("teacher.same"), "again"], ...all, ...named.map((name) => [name, `named ${name}`])]),
+    group(t("tables.label"), [[t("teacher.same"), "again"], ...all, ...named.map((name) => [name, `named ${name}`])]),
     group(t("teacher.puzzles"), [[t("teacher.on-same"), "graph "], [t("teacher.on-random"), "graph random"],
       ...graphs.map(({ name }) => [t(`graphs.${name}`), `graph ${name}`])]));
   const sizes = GROUPS.map((size) => t(["teacher.shared", "teacher.alone"][size] || "teacher.groups", size));

@@ -223,7 +223,7 @@ export function numbersOf(line) {
 export function rankWords(rank, loss) {
   if (rank === "?") return t("ask.rank-unknown");
   const degree = Number(rank) + 1, past = loss ? t("ask.rank-if", losers(loss, "ask.loses")) : t("ask.rank-some", dollars(degree));
-  return joined(t("ask.rank-is", rank), degree === 0 ? t("ask.rank-won") : past);
+  return joined(t("ask.rank-is", rank), degree === 0 ? t("play.no-help") : past);
 }
 
 /* Why a vertex can't have a name beside others, or nothing if it can. */
@@ -235,5 +235,5 @@ export function nameWords(name, others) {
 /* A fault of the program in words for players: # is a number, from 0; beside it the server says the value, the limit and the file. */
 export function faultWords(text, otherwise = t("said.refused")) {
   const [fault] = text.split(/[:,] /), key = fault.replace(/\d+/, "#");
-  return key in TEXTS.faults ? t(`faults.${key}`, Number(/\d+/.exec(fault)) + 1) : otherwise;
+  return key in TEXTS.faults ? t(`faults.${key}`, Number(/\d+/.exec(fault)) + 1, t("said.name")) : otherwise;
 }
