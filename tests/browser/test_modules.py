@@ -14,7 +14,7 @@ from helpers import equal, tests_of
 
 # What two words in quotes are that nobody reads: selectors, classes, keys; and where a script puts what is read.
 UNREAD = re.compile(r'"(?:#|\(|tr:|(?:input|dollar|name|amount|says|graph)\b|(?:%s)")' % "|".join(TEXTS["faults"]))
-READ = r"""(?:textContent|title|placeholder) = ["'`]\w.*|\b(?:note|tell|notice|sure|button|Option)\(["'`]\w.*"""
+READ = r"""(?:(?:textContent|title|placeholder) = |\b(?:note|tell|notice|sure|button|Option)\(|\b(?:made|say)\("[\w-]+", )["'`]\w.*"""
 
 
 def ran(program, *words, **given):

@@ -208,7 +208,7 @@ def puzzles(graph: str, level: str, now: str, count: int = 1) -> tuple[str, list
         raise ValueError(t("puzzles.none"))
     draw = random.SystemRandom()
     table = json.loads(now) if graph == "" else table_of(random_graph(draw) if graph == "random" else GRAPHS[graph])
-    called, made = t("puzzles." + (graph or "same")) if graph in ("", "random") else t("graphs." + graph), list[str]()
+    called, made = t("graphs." + graph) if graph in GRAPHS else t("puzzles." + (graph or "same")), list[str]()
     while len(made) < count:
         # Once none is found that is new, they come again.
         made.append(puzzle(table, level, draw, made if len(set(made)) == len(made) else ()))
