@@ -2,7 +2,7 @@
 pub use Rattle.dg_analyst.specs.Commits.{StaleIsCommitted, StaleTriedIsCommitted}
 pub use Rattle.dg_analyst.specs.Views.{LookView}
 pub use Rattle.dg_rules.specs.History.{gifts_in}
-pub use Rattle.dg_rules.specs.Look.{KeepsFinding, asked_for, asked_on, degree_found}
+pub use Rattle.dg_rules.specs.Look.{KeepsFinding, request_for_finding, request_for_question, degree_of_finding}
 pub use Rattle.dg_rules.specs.declared.entry.Entry.{Entry}
 pub use Rattle.dg_rules.specs.declared.entry.Reply.TheVariants.{Stale}
 pub use Rattle.dg_rules.specs.declared.entry.Request.{Request}

@@ -1,7 +1,7 @@
 -- What is entered on a look that is stale.
 --   settled_stale   a question on it is so entered as each finding that is asked for alike
 --   stale_is_committed, stale_rank_is_committed   as each verdict, and as each answer of the rank test
-use Rattle.dg_analyst.proofs.Common.{◌≡◌, ℕ, ◌∷◌, [], ◌++◌, refl, sym, subst, gifts_in, asked_for, asked_on, degree_found, KeepsFinding, Entry, Stale, Request, Finding, Judged, Ranked, Question, Judge, Rank, TableData, entering, IsEnteredAfter, SeatView, IsSettled, IsStale, StaleIsCommitted, StaleTriedIsCommitted}
+use Rattle.dg_analyst.proofs.Common.{◌≡◌, ℕ, ◌∷◌, [], ◌++◌, refl, sym, subst, gifts_in, request_for_finding, request_for_question, degree_of_finding, KeepsFinding, Entry, Stale, Request, Finding, Judged, Ranked, Question, Judge, Rank, TableData, entering, IsEnteredAfter, SeatView, IsSettled, IsStale, StaleIsCommitted, StaleTriedIsCommitted}
 
 -- a stale entry keeps nothing of what was found
 keeps_nothing : (f : Finding) (n : ℕ) → KeepsFinding f (Stale n)
@@ -9,7 +9,7 @@ keeps_nothing (Judged v) n = tt
 keeps_nothing (Ranked v) n = tt
 
 settled_stale : (table : TableData) (look : ℕ × Entry) (asks : Question) (f : Finding) (r : ℕ × Entry) (x y : SeatView) →
-    asked_on look.0 asks ≡ asked_for look.0 f → IsStale table look asks r x y → IsSettled table look f r x y
+    request_for_question look.0 asks ≡ request_for_finding look.0 f → IsStale table look asks r x y → IsSettled table look f r x y
 settled_stale table look asks f r x y same (H, stale) = (
   H,
   record {
@@ -27,4 +27,4 @@ stale_is_committed table found r x y stale =
 
 pub stale_rank_is_committed : StaleTriedIsCommitted
 stale_rank_is_committed table found r x y stale =
-    settled_stale table found.look.receipt (Rank (degree_found found.verdict)) (Ranked found.verdict) r x y refl stale
+    settled_stale table found.look.receipt (Rank (degree_of_finding found.verdict)) (Ranked found.verdict) r x y refl stale

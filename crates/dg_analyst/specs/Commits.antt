@@ -1,15 +1,15 @@
 -- What is computed on looks, and how it is entered. x and y are a seat before and after.
---   IsReckoned q x found    == found is the look x, with the verdict that is computed for it from the
---                              vertex q
---   IsCommitted table found r x y == the seat has entered the verdict found on its look, with the
---                              receipt r
+--   IsReckoned q x found              == found is the look x, with the verdict that is computed for it from
+--                                        the vertex q
+--   IsCommitted table found r x y     == the seat has entered the verdict found on its look, with the receipt
+--                                        r
 --   IsRankCommitted table found r x y == so it has the answer of a rank test found on its look
---   RefusesCommit table x y fault == the entry was refused with the fault; the seat knows what it knew
---   StaleIsCommitted        == the entry of a look that is stale, though nothing was computed, is that
---                              of each verdict on the look
---   StaleTriedIsCommitted   == and of each answer of the rank test that was asked for
+--   RefusesCommit table x y fault     == the entry was refused with the fault; the seat knows what it knew
+--   StaleIsCommitted                  == the entry of a look that is stale, though nothing was computed, is
+--                                        that of each verdict on the look
+--   StaleTriedIsCommitted             == and of each answer of the rank test that was asked for
 use Rattle.std.specs.Prelude.{◌≡◌, ℕ}
-use Rattle.dg_rules.specs.Look.{degree_found}
+use Rattle.dg_rules.specs.Look.{degree_of_finding}
 use Rattle.dg_rules.specs.declared.entry.Entry.{Entry}
 use Rattle.dg_rules.specs.declared.finding.Finding.TheVariants.{Judged, Ranked}
 use Rattle.dg_rules.specs.declared.finding.Question.TheVariants.{Judge, Rank}
@@ -44,5 +44,5 @@ StaleIsCommitted = (table : TableData) (found : Found Verdict) (r : ℕ × Entry
 
 abbrev pub StaleTriedIsCommitted : Type 0
 StaleTriedIsCommitted = (table : TableData) (found : Found RankVerdict) (r : ℕ × Entry)
-    (x y : SeatView) → IsStale table found.look.receipt (Rank (degree_found found.verdict)) r x y →
+    (x y : SeatView) → IsStale table found.look.receipt (Rank (degree_of_finding found.verdict)) r x y →
     IsRankCommitted table found r x y

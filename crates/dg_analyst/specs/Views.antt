@@ -1,21 +1,20 @@
 -- Looks, and what was found on them.
---   LookView          == a look's entry, with its number, and what is kept of it
---   Found A           == a look, and what was found on it: a verdict, or the answer of a rank test
---   IsTaken o x       == what is kept of the look x of a table with the start o is that of its
---                        entry, and has the vertices of the start
---   IsJudged q x v    == v is the verdict that is computed, from the vertex q, for the look x, its
---                        amounts on its graph
---   IsTried x k w v   == v is the right answer of the rank test of degree k for the look x, its
---                        amounts on its graph; the degree is within the limits, and there may be w
---                        workers
+--   LookView        == a look's entry, with its number, and what is kept of it
+--   Found A         == a look, and what was found on it: a verdict, or the answer of a rank test
+--   IsTakenLook o x == what is kept of the look x of a table with the start o is that of its entry, and has
+--                      the vertices of the start
+--   IsJudged q x v  == v is the verdict that is computed, from the vertex q, for the look x, its amounts on
+--                      its graph
+--   IsTried x k w v == v is the right answer of the rank test of degree k for the look x, its amounts on its
+--                      graph; the degree is within the limits, and there may be w workers
 use Rattle.std.specs.Prelude.{ℕ}
 use Rattle.dg_chips.specs.Starts.{StartData}
 use Rattle.dg_chips.specs.Vector.{at}
 use Rattle.dg_rules.specs.declared.entry.Entry.{Entry}
 use Rattle.dg_rules.specs.declared.look.LookData.{LookData}
-use Rattle.dg_rank.specs.Ranks.{IsWithin, MayHaveWorkers}
+use Rattle.dg_rank.specs.Ranks.{IsRankTestWithinLimits, MayHaveRankWorkers}
 use Rattle.dg_table.specs.Looks.{KeptLookHasVertices, IsLookOf}
-use Rattle.dg_verdict.specs.RankTests.{IsRankTest}
+use Rattle.dg_verdict.specs.RankTests.{IsRightRankVerdict}
 use Rattle.dg_verdict.specs.Right.{IsVerdictOn}
 use Rattle.dg_verdict.specs.declared.rank_verdict.RankVerdict.{RankVerdict}
 use Rattle.dg_verdict.specs.declared.verdict.Verdict.{Verdict}
@@ -28,7 +27,7 @@ pub record Found (A : Type 0) : Type 0 where
   pub look : LookView
   pub verdict : A
 
-pub record IsTaken (o : StartData) (x : LookView) : Type 0 where
+pub record IsTakenLook (o : StartData) (x : LookView) : Type 0 where
   pub look : IsLookOf x.receipt x.shown
   pub vertices : KeptLookHasVertices o.graph.size x.shown
 
@@ -36,6 +35,6 @@ abbrev pub IsJudged : ℕ → LookView → Verdict → Type 0
 IsJudged q x v = IsVerdictOn x.shown.graph q (at x.shown.position) v
 
 pub record IsTried (x : LookView) (k w : ℕ) (v : RankVerdict) : Type 0 where
-  pub within : IsWithin x.shown.graph.size k
-  pub workers : MayHaveWorkers w
-  pub right : IsRankTest x.shown.graph (at x.shown.position) k v
+  pub within : IsRankTestWithinLimits x.shown.graph.size k
+  pub workers : MayHaveRankWorkers w
+  pub right : IsRightRankVerdict x.shown.graph (at x.shown.position) k v

@@ -9,7 +9,7 @@ use crate::looks::Look;
 use crate::reckoning::{Reckoned, Tried};
 use dg_log::{Name, Receipt};
 use dg_reduce::InverseLaplacian;
-use dg_rules::{Finding, Question, renew_looks_inverse};
+use dg_rules::{Finding, Question, renew_inverse_for_finding};
 use dg_table::{Fault, Seat, Table};
 use dg_verdict::judge_with_inverse;
 use std::alloc::Global;
@@ -82,7 +82,7 @@ pub fn commit_look<N: Name>(
 {
     let shown = &look.shown;
     let q = look.q;
-    renew_looks_inverse(inverse, q, shown);
+    renew_inverse_for_finding(inverse, q, shown);
     let verdict = judge_with_inverse(&shown.graph, inverse, q, &shown.position);
     let finding = Finding::Judged(verdict);
     table.settle(rt, alloc, seat, &look.receipt, shown, &finding)

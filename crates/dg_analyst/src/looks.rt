@@ -1,6 +1,6 @@
 //! Looks at a table.
 ghost use Rattle.std.specs.Prelude.{◌≡◌};
-ghost use Rattle.dg_analyst.specs.Views.{IsTaken};
+ghost use Rattle.dg_analyst.specs.Views.{IsTakenLook};
 
 use dg_chips::Divisor;
 use dg_graph::Graph;
@@ -19,13 +19,13 @@ pub struct Look<N: Name> {
 
 impl<N: Name> Model for Look<N> {
     ghost use Rattle.std.specs.Prelude.{◌≡◌, ◌<◌};
-    ghost use Rattle.dg_analyst.specs.Views.{LookView, IsTaken};
+    ghost use Rattle.dg_analyst.specs.Views.{LookView, IsTakenLook};
 
     ghost Value = { LookView };
 
     ghost view = { λ l. record { receipt = l.receipt; shown = l.shown } };
 
-    ghost invariant = { λ l. IsTaken N.table.start (record { receipt = l.receipt; shown = l.shown }) ×
+    ghost invariant = { λ l. IsTakenLook N.table.start (record { receipt = l.receipt; shown = l.shown }) ×
         (l.q ≡ N.table.start.q) × (l.q < l.shown.graph.size) };
 }
 
@@ -33,7 +33,7 @@ impl<N: Name> Look<N> {
     /// The receipt of the look's entry.
     pub fn receipt(&self) -> &Receipt<N>
         ensures receipt { result.now ≡ self.now.receipt }
-        ensures taken { IsTaken N.table.start self.now }
+        ensures taken { IsTakenLook N.table.start self.now }
     {
         &self.receipt
     }

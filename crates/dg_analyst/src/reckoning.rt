@@ -3,7 +3,7 @@ ghost use Rattle.std.specs.Prelude.{◌≡◌, ◌≤◌, MatchResult, IfErr};
 ghost use Rattle.dg_analyst.specs.Commits.{IsReckoned};
 ghost use Rattle.dg_analyst.specs.Views.{IsTried};
 ghost use Rattle.dg_rank.specs.Ranks.{IsRankFault};
-ghost use Rattle.dg_rules.specs.Look.{IsFoundFor};
+ghost use Rattle.dg_rules.specs.Look.{IsRightFinding};
 
 use crate::looks::Look;
 use dg_log::Name;
@@ -24,14 +24,14 @@ pub struct Reckoned<N: Name> {
 impl<N: Name> Model for Reckoned<N> {
     ghost use Rattle.dg_analyst.specs.Views.{Found};
     ghost use Rattle.dg_rules.specs.declared.finding.Finding.TheVariants.{Judged};
-    ghost use Rattle.dg_rules.specs.Look.{IsFoundFor};
+    ghost use Rattle.dg_rules.specs.Look.{IsRightFinding};
     ghost use Rattle.dg_verdict.specs.declared.verdict.Verdict.{Verdict as VerdictData};
 
     ghost Value = { Found VerdictData };
 
     ghost view = { λ r. record { look = r.look; verdict = r.verdict } };
 
-    ghost invariant = { λ r. IsFoundFor N.table.start.q r.look.shown (Judged r.verdict) };
+    ghost invariant = { λ r. IsRightFinding N.table.start.q r.look.shown (Judged r.verdict) };
 }
 
 impl<N: Name> Reckoned<N> {
@@ -45,7 +45,7 @@ impl<N: Name> Reckoned<N> {
     /// The verdict.
     pub fn verdict(&self) -> &Verdict
         ensures verdict { result.now ≡ self.now.verdict }
-        ensures right { IsFoundFor N.table.start.q self.now.look.shown (Finding.Judged self.now.verdict) }
+        ensures right { IsRightFinding N.table.start.q self.now.look.shown (Finding.Judged self.now.verdict) }
     {
         &self.verdict
     }
@@ -62,13 +62,13 @@ impl<N: Name> Model for Tried<N> {
     ghost use Rattle.dg_analyst.specs.Views.{Found};
     ghost use Rattle.dg_rules.specs.declared.finding.Finding.TheVariants.{Ranked};
     ghost use Rattle.dg_verdict.specs.declared.rank_verdict.RankVerdict.{RankVerdict as RankData};
-    ghost use Rattle.dg_rules.specs.Look.{IsFoundFor};
+    ghost use Rattle.dg_rules.specs.Look.{IsRightFinding};
 
     ghost Value = { Found RankData };
 
     ghost view = { λ t. record { look = t.look; verdict = t.verdict } };
 
-    ghost invariant = { λ t. IsFoundFor N.table.start.q t.look.shown (Ranked t.verdict) };
+    ghost invariant = { λ t. IsRightFinding N.table.start.q t.look.shown (Ranked t.verdict) };
 }
 
 impl<N: Name> Tried<N> {
@@ -82,7 +82,7 @@ impl<N: Name> Tried<N> {
     /// The answer of the rank test, with its degree.
     pub fn verdict(&self) -> &RankVerdict
         ensures verdict { result.now ≡ self.now.verdict }
-        ensures right { IsFoundFor N.table.start.q self.now.look.shown (Finding.Ranked self.now.verdict) }
+        ensures right { IsRightFinding N.table.start.q self.now.look.shown (Finding.Ranked self.now.verdict) }
     {
         &self.verdict
     }

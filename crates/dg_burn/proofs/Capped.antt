@@ -2,11 +2,11 @@
 --   capped-less    capped and not, an amount without debt is below the same numbers up to 63
 --   same-may       who may burn is the same, where q burns
 --   same-order     so the order is the same
-use Rattle.dg_burn.proofs.Common.{◌≡◌, ℕ, suc, ◌<◌, ◌≤◌, Bool, true, false, List, [], ◌∷◌, take, arith, refl, ap, ◌∙◌, ◌↔◌, ℤ, negsuc, slice_get, Some, ◌<ℤ◌, ◌≤ℤ◌, pos, both_ways, eq-eqb, ints, Multigraph, Amounts, HasNoDebtOff, among, edges_into, MayBurn, BurnsNext, BurnsInOrder, IsGraph, dollars, capped, IsHeldForBurning}
+use Rattle.dg_burn.proofs.Common.{◌≡◌, ℕ, suc, ◌<◌, ◌≤◌, Bool, true, false, List, [], ◌∷◌, take, arith, refl, ap, ◌∙◌, ◌↔◌, ℤ, negsuc, slice_get, Some, ◌<ℤ◌, ◌≤ℤ◌, pos, both_ways, eq-eqb, ints, Multigraph, Amounts, HasNoDebtOff, among, edges_into, MayBurn, BurnsNext, BurnsInOrder, IsGraph, dollars, capped_for_fire, IsHeldForBurning}
 use Rattle.dg_theory.proofs.BurningOrder.{among_first}
 use Rattle.dg_burn.proofs.Fires.{into-few}
 
-pub capped-less : (z : ℤ) (e : ℕ) → pos 0 ≤ℤ z → e ≤ 63 → (pos (capped z) <ℤ pos e) ↔ (z <ℤ pos e)
+pub capped-less : (z : ℤ) (e : ℕ) → pos 0 ≤ℤ z → e ≤ 63 → (pos (capped_for_fire z) <ℤ pos e) ↔ (z <ℤ pos e)
 capped-less (pos n) e some few = (λ less. omega (arith, ints), λ less. omega (arith, ints))
 capped-less (negsuc n) e some few = absurd (omega (arith, ints))
 
@@ -25,7 +25,8 @@ same-may g q D held B v graph solvent same burns = (
   },
 )
   where
-    hot_and_left : v < g.size → B v ≡ false → (pos (capped (D v)) <ℤ pos (edges_into g B v)) ↔ (D v <ℤ pos (edges_into g B v))
+    hot_and_left : v < g.size → B v ≡ false → (pos (capped_for_fire (D v)) <ℤ pos (edges_into g B v)) ↔ (D v <ℤ pos
+        (edges_into g B v))
     hot_and_left below out = capped-less (D v) (edges_into g B v)
         (solvent v below (λ is_q. both_ways _ out (ap B is_q ∙ burns)))
         (into-few g B v graph)

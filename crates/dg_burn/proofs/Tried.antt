@@ -28,7 +28,7 @@ use Rattle.dg_theory.proofs.Debts.{out-le-valence}
 use Rattle.dg_theory.proofs.SetFiring.{fired-inside, inside-fired, outside-fired}
 use Rattle.dg_theory.proofs.Special.{edge_into, fires_hangs, hangs_not_reduced, total_some}
 use Rattle.dg_theory.proofs.TotalLaws.{total_below-le}
-use Rattle.dg_burn.specs.Special.{AllHang, Hangs, IsGreedy, IsGrowing, IsOff, IsPartOf, IsSpecialFrom, only, others, wall}
+use Rattle.dg_burn.specs.Special.{AllHang, Hangs, IsGreedyDeterminingSet, IsGrowing, IsOff, IsPartOf, IsSpecialFrom, only, others, fire_wall}
 use Rattle.dg_burn.proofs.Told.{none_reduced}
 
 pub joined_by : (g : Multigraph) (S : ℕ → Bool) (v w : ℕ) → w < g.size → S w ≡ true → 0 < edges_between g v w →
@@ -70,10 +70,10 @@ reduced_of_none g S q held l m same order rest none =
     reduced-cong g q (dollars held) (beside g S) same
     (none_reduced g q (dollars held) l m (λ v _ _. omega (arith, ints)) order rest (no_set m none))
 
-wall-inside : (S : ℕ → Bool) (v : ℕ) → S v ≡ true → wall S v ≡ pos 64
+wall-inside : (S : ℕ → Bool) (v : ℕ) → S v ≡ true → fire_wall S v ≡ pos 64
 wall-inside S v inside = rw inside refl
 
-wall-outside : (S : ℕ → Bool) (v : ℕ) → S v ≡ false → wall S v ≡ pos 0
+wall-outside : (S : ℕ → Bool) (v : ℕ) → S v ≡ false → fire_wall S v ≡ pos 0
 wall-outside S v outside = rw outside refl
 
 -- all vertices but those of X
@@ -107,7 +107,7 @@ out-none g R v none =
 
 -- behind a wall at S only what hangs together with w burns
 beyond_wall : (g : Multigraph) (S X : ℕ → Bool) (held : List ℕ) (w : ℕ) → IsGraph g → HangsLoosely g S X →
-    X w ≡ true → ((v : ℕ) → v < g.size → dollars held v ≡ wall S v) → FiresFreely g w (dollars held) (but g X)
+    X w ≡ true → ((v : ℕ) → v < g.size → dollars held v ≡ fire_wall S v) → FiresFreely g w (dollars held) (but g X)
 beyond_wall g S X held w graph hangs member same = record {
   vertices = λ v in_v. (but-below g X v in_v).0;
   without = false_from_ne_true (but g X w) (λ in_w. both_ways _ (but-below g X w in_w).1 member);
@@ -129,7 +129,7 @@ beyond_wall g S X held w graph hangs member same = record {
 }
 
 pub part_hangs : (g : Multigraph) (S X R : ℕ → Bool) (held : List ℕ) (w : ℕ) → IsGraph g → HangsLoosely g S X →
-    X w ≡ true → ((v : ℕ) → v < g.size → dollars held v ≡ wall S v) → IsGreatestFree g w (dollars held) R →
+    X w ≡ true → ((v : ℕ) → v < g.size → dollars held v ≡ fire_wall S v) → IsGreatestFree g w (dollars held) R →
     HangsLoosely g S (but g R)
 part_hangs g S X R held w graph hangs member same rest =
     let part : (v : ℕ) → but g R v ≡ true → X v ≡ true = λ v in_v.
@@ -448,7 +448,7 @@ turned-out g U A B S T n turned without none with_n all =
     }
 
 pub turned-all : (g : Multigraph) (U A : ℕ → Bool) (n : ℕ) → ((v : ℕ) → U v ≡ true → v < n) → Turned g U A n →
-    IsGreedy g U A
+    IsGreedyDeterminingSet g U A
 turned-all g U A n inside turned = record {
   part = turned.part;
   left_out = λ v in_U off. turned.left_out v (inside v in_U) in_U off;
@@ -456,7 +456,8 @@ turned-all g U A n inside turned = record {
 }
 
 -- one set keeps n and the other leaves it out
-greedy-clash : (g : Multigraph) (U A B : ℕ → Bool) (n : ℕ) → IsMultigraph g → IsGreedy g U A → IsGreedy g U B →
+greedy-clash : (g : Multigraph) (U A B : ℕ → Bool) (n : ℕ) → IsMultigraph g → IsGreedyDeterminingSet g U A →
+    IsGreedyDeterminingSet g U B →
     ((w : ℕ) → w < n → A w ≡ B w) → A n ≡ true → B n ≡ false → ⊥
 greedy-clash g U A B n graph a b same in_A off_B =
     let special : IsSpecialFrom g n (only n) (others A U n) = a.kept n in_A in
@@ -465,7 +466,8 @@ greedy-clash g U A B n graph a b same in_A off_B =
     (λ w member. sym (others-same A B U n same w) ∙ special.off w member) in
     hangs_not_reduced g special.set hangs.0 n in_set_n hangs.1 special.reduced
 
-pub greedy-once : (g : Multigraph) (U A B : ℕ → Bool) (n : ℕ) → IsMultigraph g → IsGreedy g U A → IsGreedy g U B →
+pub greedy-once : (g : Multigraph) (U A B : ℕ → Bool) (n : ℕ) → IsMultigraph g → IsGreedyDeterminingSet g U A →
+    IsGreedyDeterminingSet g U B →
     (v : ℕ) → v < n → A v ≡ B v
 greedy-once g U A B zero graph a b v below = absurd (omega arith)
 greedy-once g U A B (suc n) graph a b v below =

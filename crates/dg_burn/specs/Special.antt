@@ -1,17 +1,20 @@
 -- The search for the special sets that a set of vertices does not meet.
---   IsPartOf S T      == each vertex of S is in T
---   IsOff S T         == no vertex of S is in T
---   Hangs g S         == something hangs loosely on the set S
---   wall S            == 64 dollars at each vertex of S, more than it has edges, and none elsewhere
---   IsGrowing g S q E == S is a connected set that has q, and none of E
---   AllHang g S E     == something hangs on each connected set that has all of S and none of E
---   IsSpecialFrom g q S E == some connected set that has all of S and none of E is special: the dollars
---                        beside it are reduced for q
---   only v            == the set of v alone
---   others A U v      == what is asked when v's turn comes: those of A before v, and those of U after it
---   IsGreedy g U A    == A is what is left of U, if each vertex, from the first on, is left out exactly if
---                        something hangs on each connected set that has it and none of the others
---   GreedyIsOne       == there is only one such set
+--   IsPartOf S T                 == each vertex of S is in T
+--   IsOff S T                    == no vertex of S is in T
+--   Hangs g S                    == something hangs loosely on the set S
+--   fire_wall S                  == 64 dollars at each vertex of S, more than it has edges, and none
+--                                   elsewhere
+--   IsGrowing g S q E            == S is a connected set that has q, and none of E
+--   AllHang g S E                == something hangs on each connected set that has all of S and none of E
+--   IsSpecialFrom g q S E        == some connected set that has all of S and none of E is special: the
+--                                   dollars beside it are reduced for q
+--   only v                       == the set of v alone
+--   others A U v                 == what is asked when v's turn comes: those of A before v, and those of U
+--                                   after it
+--   IsGreedyDeterminingSet g U A == A is what is left of U, if each vertex, from the first on, is left out
+--                                   exactly if something hangs on each connected set that has it and none of
+--                                   the others
+--   GreedyDeterminingSetIsOne    == there is only one such set
 use Rattle.std.specs.Prelude.{if◌then◌else◌, ◌≡◌, ℕ, ◌<◌, ◌==◌, Bool, true, false, nat_lt, pos}
 use Rattle.dg_theory.specs.Multigraph.{Multigraph, IsMultigraph}
 use Rattle.dg_theory.specs.Firing.{Amounts}
@@ -27,8 +30,8 @@ IsOff S T = (v : ℕ) → S v ≡ true → T v ≡ false
 abbrev pub Hangs : Multigraph → (ℕ → Bool) → Type 0
 Hangs g S = (X : ℕ → Bool) × HangsLoosely g S X
 
-abbrev pub wall : (ℕ → Bool) → Amounts
-wall S v = if S v then pos 64 else pos 0
+abbrev pub fire_wall : (ℕ → Bool) → Amounts
+fire_wall S v = if S v then pos 64 else pos 0
 
 pub record IsGrowing (g : Multigraph) (S : ℕ → Bool) (q : ℕ) (E : ℕ → Bool) : Type 0 where
   pub connected : IsConnectedSet g S
@@ -52,11 +55,12 @@ only v w = w == v
 abbrev pub others : (ℕ → Bool) → (ℕ → Bool) → ℕ → ℕ → Bool
 others A U v w = if nat_lt w v then A w else (if w == v then false else U w)
 
-pub record IsGreedy (g : Multigraph) (U A : ℕ → Bool) : Type 0 where
+pub record IsGreedyDeterminingSet (g : Multigraph) (U A : ℕ → Bool) : Type 0 where
   pub part : IsPartOf A U
   pub left_out : (v : ℕ) → U v ≡ true → A v ≡ false → AllHang g (only v) (others A U v)
   pub kept : (v : ℕ) → A v ≡ true → IsSpecialFrom g v (only v) (others A U v)
 
-abbrev pub GreedyIsOne : Type 0
-GreedyIsOne = (g : Multigraph) (U A B : ℕ → Bool) → IsMultigraph g → IsGreedy g U A → IsGreedy g U B →
+abbrev pub GreedyDeterminingSetIsOne : Type 0
+GreedyDeterminingSetIsOne = (g : Multigraph) (U A B : ℕ → Bool) → IsMultigraph g → IsGreedyDeterminingSet g U A →
+    IsGreedyDeterminingSet g U B →
     (v : ℕ) → v < g.size → A v ≡ B v

@@ -51,7 +51,7 @@ pub fn burn(graph: &Graph, q: usize, chips: &Wide) -> Burnt
     ensures whole { (result.unburnt ≡ 0) ↔ (result.burnt ≡ graph.now.size) }
 {
     let _size = graph.size();
-    burn_counted(graph, q, &capped_at(chips)).burnt
+    burn_counted(graph, q, &amounts_to_burn(chips)).burnt
 }
 
 /// Burns the graph from q, if each vertex holds so many dollars: as `burn` does, and with the counts kept. Amounts above
@@ -79,7 +79,7 @@ pub fn burn_counted(graph: &Graph, q: usize, held: &[u8; 16]) -> BurnCounts
     let mut order = [0; 16];
     order[0] = q as u8;
     let mut count = 1;
-    'burning: while let Some(v) = fire.next_vertex() {
+    'burning: while let Some(v) = fire.next_vertex_to_burn() {
         order[count] = v as u8;
         count += 1;
         fire.burn_vertex(graph, v);
@@ -95,7 +95,7 @@ pub fn burn_counted(graph: &Graph, q: usize, held: &[u8; 16]) -> BurnCounts
 }
 
 /// The amounts as far as burning looks at them: 0 for a debt, and 64 for more than 64.
-pub fn capped_at(chips: &Wide) -> [u8; 16]
+pub fn amounts_to_burn(chips: &Wide) -> [u8; 16]
     ensures { IsHeldForBurning chips.now.size (at chips.now) result }
 {
     let mut held = [0; 16];

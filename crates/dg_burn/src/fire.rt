@@ -29,12 +29,12 @@ impl Fire {
     {
         Fire {
             left: complement(graph.size(), 0),
-            heat: lack_of(u8x16::from_array(*held)),
+            heat: lack_of_heat(u8x16::from_array(*held)),
         }
     }
 
     /// The least vertex that does not burn with more edges to burning ones than it holds dollars.
-    pub fn next_vertex(&self) -> Option<usize>
+    pub fn next_vertex_to_burn(&self) -> Option<usize>
         ensures { MatchOption result (IsOut self.now) (IsLeastToBurn self.now) }
     {
         least_to_burn(hot_and_left(hot(self.heat), self.left))
@@ -57,7 +57,7 @@ impl Fire {
 }
 
 /// What each holds less than enough, 0 if that is more.
-fn lack_of(held: u8x16) -> u8x16
+fn lack_of_heat(held: u8x16) -> u8x16
     ensures { (v : ℕ) → v < MAX_VERTICES → slice_index result v ≡ 127 - slice_index held v }
 {
     held.simd_max(u8x16::splat(ENOUGH)) - held

@@ -6,7 +6,7 @@ ghost use Rattle.dg_theory.specs.Determining.{beside, Determines, HangsLoosely, 
 ghost use Rattle.dg_theory.specs.Reduced.{IsReduced};
 ghost use Rattle.dg_graph.specs.Sets.{in_set, IsVertexSet};
 ghost use Rattle.dg_burn.specs.Fires.{dollars};
-ghost use Rattle.dg_burn.specs.Special.{IsGreedy, wall, IsGrowing, AllHang, IsSpecialFrom, GreedyIsOne};
+ghost use Rattle.dg_burn.specs.Special.{IsGreedyDeterminingSet, fire_wall, IsGrowing, AllHang, IsSpecialFrom, GreedyDeterminingSetIsOne};
 
 use crate::burning::burn_counted;
 use crate::fire::without_vertex;
@@ -17,7 +17,7 @@ use dg_graph::{Graph, complement, contains, with_vertex};
 /// meets each special set that the other meets.
 pub fn determining_set(graph: &Graph, within: u16) -> u16
     requires { IsVertexSet graph.now.size (in_set within) }
-    ensures greedy { IsGreedy graph.now (in_set within) (in_set result) }
+    ensures greedy { IsGreedyDeterminingSet graph.now (in_set within) (in_set result) }
     ensures meets { MeetsSpecialSets graph.now (in_set result) (in_set within) }
     ensures determines { Determines graph.now (in_set result) (in_set within) }
 {
@@ -25,7 +25,7 @@ pub fn determining_set(graph: &Graph, within: u16) -> u16
     for v in 0..graph.size() {
         if contains(asked, v) {
             let fewer = without_vertex(asked, v);
-            if all_hang(graph, v, with_vertex(0, v), fewer) {
+            if determines_without(graph, v, with_vertex(0, v), fewer) {
                 asked = fewer;
             }
         }
@@ -35,25 +35,25 @@ pub fn determining_set(graph: &Graph, within: u16) -> u16
 
 /// The rule by which `determining_set` leaves vertices out leaves only one set.
 pub fn determining_sets_are_one()
-    ensures { GreedyIsOne }
+    ensures { GreedyDeterminingSetIsOne }
 {}
 
 /// Whether something hangs loosely on each connected set that has all vertices of one set, and none of another. Where
 /// something hangs on the one, only a larger set that takes a vertex of it can be special.
-fn all_hang(graph: &Graph, q: usize, set: u16, stop: u16) -> bool
+fn determines_without(graph: &Graph, q: usize, set: u16, stop: u16) -> bool
     requires { IsGrowing graph.now (in_set set) q (in_set stop) }
     ensures { MatchBool result
         (AllHang graph.now (in_set set) (in_set stop))
         (IsSpecialFrom graph.now q (in_set set) (in_set stop)) }
 {
-    let loose = loose_part(graph, q, set, stop);
+    let loose = part_to_determine_by(graph, q, set, stop);
     if loose == 0 {
         return false;
     }
     let mut passed = stop;
     for v in 0..graph.size() {
         if contains(loose, v) && !contains(passed, v) && is_joined(graph, v, set) {
-            if !all_hang(graph, q, with_vertex(set, v), passed) {
+            if !determines_without(graph, q, with_vertex(set, v), passed) {
                 return false;
             }
             passed = with_vertex(passed, v);
@@ -64,14 +64,14 @@ fn all_hang(graph: &Graph, q: usize, set: u16, stop: u16) -> bool
 
 /// Of the components of what hangs loosely on a connected set that has the vertex q, one that has the fewest vertices next
 /// to the set that are not in `stop`: none, if nothing hangs on it.
-fn loose_part(graph: &Graph, q: usize, set: u16, stop: u16) -> u16
+fn part_to_determine_by(graph: &Graph, q: usize, set: u16, stop: u16) -> u16
     requires connected { IsConnectedSet graph.now (in_set set) }
     requires start { in_set set q ≡ true }
     ensures hangs { result ≢ 0 → HangsLoosely graph.now (in_set set) (in_set result) }
     ensures special { result ≡ 0 → IsReduced graph.now q (beside graph.now (in_set set)) }
 {
     let _size = graph.size();
-    let loose = burn_counted(graph, q, &beside_set(graph, set))
+    let loose = burn_counted(graph, q, &burning_amounts_beside(graph, set))
         .burnt
         .unburnt;
     let mut best = 0;
@@ -79,8 +79,8 @@ fn loose_part(graph: &Graph, q: usize, set: u16, stop: u16) -> u16
     let mut seen = 0;
     for w in 0..graph.size() {
         if contains(loose, w) && !contains(seen, w) {
-            let part = component(graph, set, loose, w);
-            let entries = count_entries(graph, set, part, stop);
+            let part = burnt_component(graph, set, loose, w);
+            let entries = count_ways_for_fire(graph, set, part, stop);
             if best == 0 || entries < least {
                 best = part;
                 least = entries;
@@ -92,19 +92,21 @@ fn loose_part(graph: &Graph, q: usize, set: u16, stop: u16) -> u16
 }
 
 /// The component of a vertex in what hangs loosely on a set.
-fn component(graph: &Graph, set: u16, loose: u16, w: usize) -> u16
+fn burnt_component(graph: &Graph, set: u16, loose: u16, w: usize) -> u16
     requires hangs { HangsLoosely graph.now (in_set set) (in_set loose) }
     requires member { in_set loose w ≡ true }
     ensures some { result ≢ 0 }
     ensures hangs { HangsLoosely graph.now (in_set set) (in_set result) }
 {
     let size = graph.size();
-    let beyond = burn_counted(graph, w, &walled(graph, set)).burnt.unburnt;
+    let beyond = burn_counted(graph, w, &walled_against_fire(graph, set))
+        .burnt
+        .unburnt;
     complement(size, beyond)
 }
 
 /// How many vertices of a part are next to a set and not in `stop`.
-fn count_entries(graph: &Graph, set: u16, part: u16, stop: u16) -> usize {
+fn count_ways_for_fire(graph: &Graph, set: u16, part: u16, stop: u16) -> usize {
     let mut count = 0;
     for v in 0..graph.size() {
         if contains(part, v) && !contains(stop, v) && is_joined(graph, v, set) {
@@ -115,8 +117,8 @@ fn count_entries(graph: &Graph, set: u16, part: u16, stop: u16) -> usize {
 }
 
 /// So many dollars at each vertex of a set that it does not burn, and none elsewhere.
-fn walled(graph: &Graph, set: u16) -> [u8; 16]
-    ensures { (v : ℕ) → v < graph.now.size → dollars result v ≡ wall (in_set set) v }
+fn walled_against_fire(graph: &Graph, set: u16) -> [u8; 16]
+    ensures { (v : ℕ) → v < graph.now.size → dollars result v ≡ fire_wall (in_set set) v }
 {
     let mut held = [0; 16];
     for v in 0..graph.size() {
@@ -128,7 +130,7 @@ fn walled(graph: &Graph, set: u16) -> [u8; 16]
 }
 
 /// A dollar at each vertex outside a set from which an edge leads into the set.
-fn beside_set(graph: &Graph, set: u16) -> [u8; 16]
+fn burning_amounts_beside(graph: &Graph, set: u16) -> [u8; 16]
     ensures { (v : ℕ) → v < graph.now.size → dollars result v ≡ beside graph.now (in_set set) v }
 {
     let mut held = [0; 16];

@@ -1,7 +1,7 @@
 -- The names that the proofs of this crate cite, passed on from one place. Declares nothing.
 pub use Rattle.dg_chips.specs.Applied.{IsAfterMove}
 pub use Rattle.dg_chips.specs.DivisorFaults.{IsFirstChipFault}
-pub use Rattle.dg_chips.specs.Light.{IsLight}
+pub use Rattle.dg_chips.specs.Light.{IsLightScript}
 pub use Rattle.dg_chips.specs.Vector.{HoldsNumbers, IsInRange, IsOutOfRange, IsVector, Vector, at}
 pub use Rattle.dg_chips.specs.declared.divisor.ChipFault.{ChipFault}
 pub use Rattle.dg_chips.specs.declared.divisor.ChipFault.TheVariants.{Length, Range}

@@ -6,7 +6,7 @@
 --   light-edges    so do those between two vertices
 --   light-flow     what a machine says that edges carry
 --   light-sum      so do those between a vertex and the first others
-use Rattle.dg_chips.proofs.Common.{◌≡◌, ℕ, zero, suc, ◌+◌, ◌*◌, ◌^◌, ◌<◌, ◌≤◌, ◌-◌, arith, ap, w32, FitsSigned, ◌∙◌, ⊎_elim, to_z, of_z, unsigned_abs, cases_eq, cases_lt, ints, mul-le-mul, ℤ, pos, ◌+ℤ◌, ◌*ℤ◌, sum_below, total_below, Multigraph, edges_between, valence, Amounts, abs-add, within_abs, total_below-term, IsGraph, IsLight}
+use Rattle.dg_chips.proofs.Common.{◌≡◌, ℕ, zero, suc, ◌+◌, ◌*◌, ◌^◌, ◌<◌, ◌≤◌, ◌-◌, arith, ap, w32, FitsSigned, ◌∙◌, ⊎_elim, to_z, of_z, unsigned_abs, cases_eq, cases_lt, ints, mul-le-mul, ℤ, pos, ◌+ℤ◌, ◌*ℤ◌, sum_below, total_below, Multigraph, edges_between, valence, Amounts, abs-add, within_abs, total_below-term, IsGraph, IsLightScript}
 use Rattle.dg_chips.proofs.FlowLaws.{product_limit}
 
 pub total-within : (f : ℕ → ℕ) (n m : ℕ) → n ≤ m → total_below n f ≤ total_below m f
@@ -32,13 +32,13 @@ small_held z small =
     let (low, high) = within_abs z (2 ^ 31 - 1) (omega arith) in
     (omega (arith, ints), omega (arith, ints))
 
-pub light-valence : (g : Multigraph) (s : Amounts) (v u : ℕ) → IsLight g s → valence g v * unsigned_abs (s u) < 2 ^ 30
+pub light-valence : (g : Multigraph) (s : Amounts) (v u : ℕ) → IsLightScript g s → valence g v * unsigned_abs (s u) < 2 ^ 30
 light-valence g s v u light =
     let most : valence g v * unsigned_abs (s u) ≤ valence g v * light.most =
     mul-le-mul (omega arith) (light.within u) in
     omega (arith, light.room v)
 
-pub light-edges : (g : Multigraph) (s : Amounts) (v w u : ℕ) → IsGraph g → IsLight g s →
+pub light-edges : (g : Multigraph) (s : Amounts) (v w u : ℕ) → IsGraph g → IsLightScript g s →
     edges_between g v w * unsigned_abs (s u) < 2 ^ 30
 light-edges g s v w u graph light =
     let few : edges_between g v w ≤ valence g v = ⊎_elim
@@ -68,7 +68,7 @@ sum_limit e s most (suc n) small =
     (sum_limit e s most n small) (product_limit (e n) (e n) (s n) most (omega arith) (small n)) in
     omega arith
 
-pub light-sum : (g : Multigraph) (s : Amounts) (v n : ℕ) → IsGraph g → IsLight g s →
+pub light-sum : (g : Multigraph) (s : Amounts) (v n : ℕ) → IsGraph g → IsLightScript g s →
     unsigned_abs (sum_below n (λ w. pos (edges_between g v w) *ℤ s w)) < 2 ^ 30
 light-sum g s v n graph light =
     let some : unsigned_abs (sum_below n (λ w. pos (edges_between g v w) *ℤ s w))

@@ -1,11 +1,10 @@
 -- Moves (Corry and Perkinson, chapters 1 and 2).
---   script_of m         == the script of the move: 1 or -1 at the vertex, 1 on the set, or the
---                          script given
---   NamesNoVertex n m   == the move names a number that is none of the n vertices
---   IsEmptySet m        == the move fires the empty set
---   HasOtherSize n m    == the move is a script for another number of vertices
---   IsPlayable n m      == the move names vertices alone, fires no empty set, and is no script of
---                          another size
+--   script_of m          == the script of the move: 1 or -1 at the vertex, 1 on the set, or the script given
+--   IsMoveOfNoVertex n m == the move names a number that is none of the n vertices
+--   IsMoveOfEmptySet m   == the move fires the empty set
+--   HasOtherSize n m     == the move is a script for another number of vertices
+--   IsApplicableMove n m == the move names vertices alone, fires no empty set, and is no script of another
+--                           size
 -- To fire the empty set would change nothing; on a table it is refused, since it is no move.
 use Rattle.std.specs.Prelude.{◌≡◌, ◌≢◌, ℕ, ◌<◌, ◌≤◌, true, pos, negsuc}
 use Rattle.dg_graph.specs.Sets.{in_set, IsVertexSet}
@@ -20,17 +19,17 @@ script_of (Borrow v) = only_at v (negsuc 0)
 script_of (Fire m) = indicator (in_set m)
 script_of (Script s) = at s
 
-abbrev pub NamesNoVertex : ℕ → Move → Type 0
-NamesNoVertex n (Lend v) = n ≤ v
-NamesNoVertex n (Borrow v) = n ≤ v
-NamesNoVertex n (Fire m) = (v : ℕ) × (n ≤ v) × (in_set m v ≡ true)
-NamesNoVertex n (Script s) = ⊥
+abbrev pub IsMoveOfNoVertex : ℕ → Move → Type 0
+IsMoveOfNoVertex n (Lend v) = n ≤ v
+IsMoveOfNoVertex n (Borrow v) = n ≤ v
+IsMoveOfNoVertex n (Fire m) = (v : ℕ) × (n ≤ v) × (in_set m v ≡ true)
+IsMoveOfNoVertex n (Script s) = ⊥
 
-abbrev pub IsEmptySet : Move → Type 0
-IsEmptySet (Lend v) = ⊥
-IsEmptySet (Borrow v) = ⊥
-IsEmptySet (Fire m) = m ≡ 0
-IsEmptySet (Script s) = ⊥
+abbrev pub IsMoveOfEmptySet : Move → Type 0
+IsMoveOfEmptySet (Lend v) = ⊥
+IsMoveOfEmptySet (Borrow v) = ⊥
+IsMoveOfEmptySet (Fire m) = m ≡ 0
+IsMoveOfEmptySet (Script s) = ⊥
 
 abbrev pub HasOtherSize : ℕ → Move → Type 0
 HasOtherSize n (Lend v) = ⊥
@@ -38,8 +37,8 @@ HasOtherSize n (Borrow v) = ⊥
 HasOtherSize n (Fire m) = ⊥
 HasOtherSize n (Script s) = s.size ≢ n
 
-abbrev pub IsPlayable : ℕ → Move → Type 0
-IsPlayable n (Lend v) = v < n
-IsPlayable n (Borrow v) = v < n
-IsPlayable n (Fire m) = (m ≢ 0) × IsVertexSet n (in_set m)
-IsPlayable n (Script s) = s.size ≡ n
+abbrev pub IsApplicableMove : ℕ → Move → Type 0
+IsApplicableMove n (Lend v) = v < n
+IsApplicableMove n (Borrow v) = v < n
+IsApplicableMove n (Fire m) = (m ≢ 0) × IsVertexSet n (in_set m)
+IsApplicableMove n (Script s) = s.size ≡ n

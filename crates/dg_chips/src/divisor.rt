@@ -9,9 +9,9 @@ ghost use Rattle.dg_graph.specs.Sets.{in_set, IsVertexSet};
 ghost use Rattle.dg_chips.specs.Vector.{at, HoldsNumbers, IsDivisor, IsOutOfRange};
 ghost use Rattle.dg_chips.specs.DivisorFaults.{IsFirstChipFault, IsFirstMinusFault};
 
-use crate::firing::carried_once;
+use crate::firing::dollars_carried_once;
 use crate::limits::MAX_AMOUNT;
-use crate::set_firing::flows;
+use crate::set_firing::set_firing_sums;
 use crate::vector::{first_past, narrowed};
 use dg_graph::{Graph, MAX_VERTICES};
 use std::marker::Model;
@@ -75,11 +75,11 @@ impl Divisor {
             unsigned_abs (slice_index_or amounts.now v (pos 0)) ≤ MAX_AMOUNT }
         ensures { HoldsNumbers amounts.now result }
     {
-        Divisor::of_row(amounts.len(), narrowed(amounts))
+        Divisor::of_vector_row(amounts.len(), narrowed(amounts))
     }
 
     /// The divisor that is kept as this row.
-    fn of_row(size: usize, amounts: [i32; 16]) -> Divisor
+    fn of_vector_row(size: usize, amounts: [i32; 16]) -> Divisor
         requires { IsDivisor (record { size = size; numbers = amounts }) }
         ensures row { result ≡ record { size = size; numbers = amounts } }
         ensures divisor { IsDivisor result }
@@ -98,7 +98,7 @@ impl Divisor {
         for v in 0..size {
             amounts[v] = i32::from(graph.valence(v)) - 2;
         }
-        Divisor::of_row(size, amounts)
+        Divisor::of_vector_row(size, amounts)
     }
 
     /// The divisor less another one: at each vertex the difference of the amounts.
@@ -123,7 +123,7 @@ impl Divisor {
             }
             amounts[v] = amount as i32;
         }
-        Ok(Divisor::of_row(size, amounts))
+        Ok(Divisor::of_vector_row(size, amounts))
     }
 
     /// The number of vertices.
@@ -205,16 +205,16 @@ impl Divisor {
         let size = graph.size();
         let row = graph.row(v);
         let mut amounts = self.amounts;
-        amounts[v] -= carried_once(graph.valence(v), times);
+        amounts[v] -= dollars_carried_once(graph.valence(v), times);
         let mut fits = true;
         for w in 0..16 {
-            amounts[w] += carried_once(row[w], times);
+            amounts[w] += dollars_carried_once(row[w], times);
             fits &= u64::from(amounts[w].unsigned_abs()) <= MAX_AMOUNT;
         }
         if !fits {
             return None;
         }
-        Some(Divisor::of_row(size, amounts))
+        Some(Divisor::of_vector_row(size, amounts))
     }
 
     /// The divisor after each vertex of a set has lent once; `None` if an amount is then not within 1,000,000.
@@ -229,7 +229,7 @@ impl Divisor {
             × IsDivisor d) }
     {
         let size = graph.size();
-        let (got, lent) = flows(graph, set);
+        let (got, lent) = set_firing_sums(graph, set);
         let mut amounts = self.amounts;
         let mut fits = true;
         for w in 0..16 {
@@ -239,6 +239,6 @@ impl Divisor {
         if !fits {
             return None;
         }
-        Some(Divisor::of_row(size, amounts))
+        Some(Divisor::of_vector_row(size, amounts))
     }
 }

@@ -8,8 +8,8 @@ ghost use Rattle.dg_theory.specs.Firing.{gain, fired, FiresTo};
 ghost use Rattle.dg_chips.specs.Vector.{at};
 ghost use Rattle.dg_chips.specs.Applied.{IsAfterMove};
 ghost use Rattle.dg_chips.specs.Lent.{IsLent, IsLendingRefusal};
-ghost use Rattle.dg_chips.specs.Refused.{IsRefusal};
-ghost use Rattle.dg_chips.specs.Light.{IsLight};
+ghost use Rattle.dg_chips.specs.Refused.{IsMoveFault};
+ghost use Rattle.dg_chips.specs.Light.{IsLightScript};
 ghost use Rattle.dg_chips.specs.declared.moves.Move.TheVariants.{Fire, Script as ScriptMove};
 
 use crate::divisor::Divisor;
@@ -18,7 +18,7 @@ use crate::limits::MAX_DRIFT;
 use crate::moves::{Move, MoveFault};
 use crate::script::Script;
 use crate::wide::Wide;
-use dg_graph::{Graph, is_within};
+use dg_graph::{Graph, is_vertex_set};
 
 /// The divisor after a move; the one that is handed in stays as it is.
 ///
@@ -29,13 +29,13 @@ pub fn apply(graph: &Graph, divisor: &Divisor, chip_move: &Move) -> Result<Divis
     requires { divisor.now.size ≡ graph.now.size }
     ensures { MatchResult result
         (IsAfterMove graph.now (at divisor.now) chip_move.now)
-        (IsRefusal graph.now (at divisor.now) chip_move.now) }
+        (IsMoveFault graph.now (at divisor.now) chip_move.now) }
 {
     match chip_move {
         Move::Lend(v) => lent(graph, divisor, usize::from(*v), 1),
         Move::Borrow(v) => lent(graph, divisor, usize::from(*v), -1),
         Move::Fire(set) => fired_set(graph, divisor, *set),
-        Move::Script(script) => played_script(graph, divisor, script),
+        Move::Script(script) => divisor_after_script(graph, divisor, script),
     }
 }
 
@@ -61,9 +61,9 @@ fn fired_set(graph: &Graph, divisor: &Divisor, set: u16) -> Result<Divisor, Move
     requires { divisor.now.size ≡ graph.now.size }
     ensures { MatchResult result
         (IsAfterMove graph.now (at divisor.now) (Fire set))
-        (IsRefusal graph.now (at divisor.now) (Fire set)) }
+        (IsMoveFault graph.now (at divisor.now) (Fire set)) }
 {
-    if !is_within(graph.size(), set) {
+    if !is_vertex_set(graph.size(), set) {
         return Err(MoveFault::NoVertex);
     }
     if set == 0 {
@@ -76,11 +76,15 @@ fn fired_set(graph: &Graph, divisor: &Divisor, set: u16) -> Result<Divisor, Move
 }
 
 /// The divisor after each vertex has lent as often as a script says.
-fn played_script(graph: &Graph, divisor: &Divisor, script: &Script) -> Result<Divisor, MoveFault>
+fn divisor_after_script(
+    graph: &Graph,
+    divisor: &Divisor,
+    script: &Script,
+) -> Result<Divisor, MoveFault>
     requires { divisor.now.size ≡ graph.now.size }
     ensures { MatchResult result
         (IsAfterMove graph.now (at divisor.now) (ScriptMove script.now))
-        (IsRefusal graph.now (at divisor.now) (ScriptMove script.now)) }
+        (IsMoveFault graph.now (at divisor.now) (ScriptMove script.now)) }
 {
     if script.size() != graph.size() {
         return Err(MoveFault::Script);
@@ -137,15 +141,15 @@ pub(crate) fn gained(graph: &Graph, lendings: &[i64; 16], v: usize) -> i64
     let row = graph.row(v);
     let mut sum = 0;
     for w in 0..16 {
-        sum += carried(row[w], lendings[w]);
+        sum += dollars_carried(row[w], lendings[w]);
     }
-    sum - carried(graph.valence(v), lendings[v])
+    sum - dollars_carried(graph.valence(v), lendings[v])
 }
 
 /// What a vertex gets by the lendings of a script; those that are known to be light are summed in 32 bits.
 pub(crate) fn gained_by(graph: &Graph, script: &Script, light: bool, v: usize) -> i64
     requires vertex { v < graph.now.size }
-    requires light { OnTrue light (IsLight graph.now (at script.now)) }
+    requires light { OnTrue light (IsLightScript graph.now (at script.now)) }
     ensures gain { result ≡ gain graph.now (at script.now) v }
     ensures limit { unsigned_abs result ≤ 51000000000000000 * 16 }
 {
@@ -156,7 +160,7 @@ pub(crate) fn gained_by(graph: &Graph, script: &Script, light: bool, v: usize) -
 }
 
 /// What some edges carry together when each of them carries one dollar, or none, or one the other way.
-pub(crate) fn carried_once(edges: u8, each: i32) -> i32
+pub(crate) fn dollars_carried_once(edges: u8, each: i32) -> i32
     requires { unsigned_abs each ≤ 1 }
     ensures product { result ≡ pos edges *ℤ each }
     ensures limit { unsigned_abs result ≤ 255 * unsigned_abs each }
@@ -165,7 +169,7 @@ pub(crate) fn carried_once(edges: u8, each: i32) -> i32
 }
 
 /// What some edges carry together when each of them carries `each`.
-pub(crate) fn carried(edges: u8, each: i64) -> i64
+pub(crate) fn dollars_carried(edges: u8, each: i64) -> i64
     requires { unsigned_abs each ≤ MAX_DRIFT }
     ensures product { result ≡ pos edges *ℤ each }
     ensures limit { unsigned_abs result ≤ 255 * unsigned_abs each }

@@ -5,7 +5,7 @@ ghost use Rattle.std.specs.Bool.{OnTrue};
 ghost use Rattle.std.specs.List.{slice_index_or};
 ghost use Rattle.std.specs.Int.RustNames.{unsigned_abs};
 ghost use Rattle.dg_theory.specs.Firing.{gain};
-ghost use Rattle.dg_chips.specs.Light.{IsLight};
+ghost use Rattle.dg_chips.specs.Light.{IsLightScript};
 ghost use Rattle.dg_chips.specs.declared.limits.TheConstants.{MAX_ENTRY};
 
 use dg_graph::{Graph, MAX_VERTICES};
@@ -15,7 +15,7 @@ const MOST: u64 = 1 << 30;
 
 /// Whether no vertex gets or loses more than sums of 32 bits tell, if each vertex lends so often.
 pub fn is_light(graph: &Graph, lendings: &[i32; 16]) -> bool
-    ensures { OnTrue result (IsLight graph.now (λ w. slice_index_or lendings.now w (pos 0))) }
+    ensures { OnTrue result (IsLightScript graph.now (λ w. slice_index_or lendings.now w (pos 0))) }
 {
     u64::from(most_edges_when_light(graph.valences())) * u64::from(most_light_lendings(lendings))
         < MOST
@@ -47,7 +47,7 @@ fn most_light_lendings(lendings: &[i32; 16]) -> u32
 pub fn gained_lightly(graph: &Graph, lendings: &[i32; 16], v: usize) -> i32
     requires vertex { v < graph.now.size }
     requires small { (w : ℕ) → unsigned_abs (slice_index_or lendings.now w (pos 0)) ≤ MAX_ENTRY }
-    requires light { IsLight graph.now (λ w. slice_index_or lendings.now w (pos 0)) }
+    requires light { IsLightScript graph.now (λ w. slice_index_or lendings.now w (pos 0)) }
     ensures { result ≡ gain graph.now (λ w. slice_index_or lendings.now w (pos 0)) v }
 {
     let _size = graph.size();

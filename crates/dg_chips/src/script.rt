@@ -75,12 +75,12 @@ impl Script {
             unsigned_abs (slice_index_or entries.now v (pos 0)) ≤ MAX_ENTRY }
         ensures { HoldsNumbers entries.now result }
     {
-        Script::of_row(entries.len(), narrowed(entries))
+        Script::of_vector_row(entries.len(), narrowed(entries))
     }
 
     /// The script with the first `size` of these entries. The conditions are that `size` is at most 16, and that each entry is
     /// within 1,000,000,000.
-    pub fn of_first(size: usize, entries: &[i32; 16]) -> Script
+    pub fn script_of_first(size: usize, entries: &[i32; 16]) -> Script
         requires few { size ≤ MAX_VERTICES }
         requires limit { (v : ℕ) → unsigned_abs (slice_index_or entries.now v (pos 0)) ≤ MAX_ENTRY }
         ensures size { result.size ≡ size }
@@ -91,11 +91,11 @@ impl Script {
             let entry = if v < size { entries[v] } else { 0 };
             first[v] = entry;
         }
-        Script::of_row(size, first)
+        Script::of_vector_row(size, first)
     }
 
     /// The script that is kept as this row.
-    fn of_row(size: usize, entries: [i32; 16]) -> Script
+    fn of_vector_row(size: usize, entries: [i32; 16]) -> Script
         requires { IsScript (record { size = size; numbers = entries }) }
         ensures { result ≡ record { size = size; numbers = entries } }
     {
@@ -104,7 +104,7 @@ impl Script {
     }
 
     /// The script by which each vertex lends as often as its amount exceeds that of q.
-    pub fn relative(lendings: &Wide, q: usize) -> Script
+    pub fn script_relative_to(lendings: &Wide, q: usize) -> Script
         requires vertex { q < lendings.now.size }
         requires limit { (v : ℕ) → v < lendings.now.size →
             unsigned_abs (at lendings.now v -ℤ at lendings.now q) ≤ MAX_ENTRY }
@@ -117,7 +117,7 @@ impl Script {
         for v in 0..size {
             entries[v] = (lendings.get(v) - lendings.get(q)) as i32;
         }
-        Script::of_row(size, entries)
+        Script::of_vector_row(size, entries)
     }
 
     /// The script by which each vertex lends as often as by this one and another together.
@@ -134,12 +134,12 @@ impl Script {
         for v in 0..size {
             entries[v] = (self.get(v) + other.get(v)) as i32;
         }
-        Script::of_row(size, entries)
+        Script::of_vector_row(size, entries)
     }
 
     /// What this script lends more than a drift, with the drift's number for q added at each vertex: so q lends as often
     /// as by this script.
-    pub fn rebased(&self, drift: &Drift, q: usize) -> Script
+    pub fn less_drift(&self, drift: &Drift, q: usize) -> Script
         requires size { drift.now.size ≡ self.now.size }
         requires vertex { q < self.now.size }
         requires limit { (v : ℕ) → v < self.now.size →
@@ -153,7 +153,7 @@ impl Script {
         for v in 0..size {
             entries[v] = (self.get(v) - drift.get(v) + drift.get(q)) as i32;
         }
-        Script::of_row(size, entries)
+        Script::of_vector_row(size, entries)
     }
 
     /// Whether firing by this script leads from a divisor to some amounts.

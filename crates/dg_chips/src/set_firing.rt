@@ -33,14 +33,14 @@ pub(crate) fn gained_by_set(graph: &Graph, set: u16, times: i128, v: usize) -> i
 {
     let _size = graph.size();
     if contains(set, v) {
-        -carried(graph.edges_out(set, v), times)
+        -dollars_carried(graph.edges_out(set, v), times)
     } else {
-        carried(graph.edges_into(set, v), times)
+        dollars_carried(graph.edges_into(set, v), times)
     }
 }
 
 /// What some edges carry together when each of them carries `each`.
-fn carried(edges: u32, each: i128) -> i128
+fn dollars_carried(edges: u32, each: i128) -> i128
     requires few { edges ≤ MAX_VALENCE }
     requires each { unsigned_abs each ≤ 2 ^ 120 }
     ensures product { result ≡ pos edges *ℤ each }
@@ -53,7 +53,7 @@ fn carried(edges: u32, each: i128) -> i128
 }
 
 /// What each vertex gets, and what it lends, when each vertex of a set lends once.
-pub(crate) fn flows(graph: &Graph, set: u16) -> ([u8; 16], [u8; 16])
+pub(crate) fn set_firing_sums(graph: &Graph, set: u16) -> ([u8; 16], [u8; 16])
     requires { IsVertexSet graph.now.size (in_set set) }
     ensures got { (v : ℕ) → v < MAX_VERTICES →
         slice_index result.0 v ≡ edges_into graph.now (in_set set) v }
@@ -64,7 +64,7 @@ pub(crate) fn flows(graph: &Graph, set: u16) -> ([u8; 16], [u8; 16])
     let mut lent = [0; 16];
     for v in 0..graph.size() {
         if contains(set, v) {
-            got = with_flow_row(got, u8x16::from_array(*graph.row(v)));
+            got = with_set_firing_row(got, u8x16::from_array(*graph.row(v)));
             lent[v] = graph.valence(v);
         }
     }
@@ -72,7 +72,7 @@ pub(crate) fn flows(graph: &Graph, set: u16) -> ([u8; 16], [u8; 16])
 }
 
 /// Adds `row` to `sums`, lane by lane. No lane passes 255.
-fn with_flow_row(sums: u8x16, row: u8x16) -> u8x16
+fn with_set_firing_row(sums: u8x16, row: u8x16) -> u8x16
     requires { (v : ℕ) → v < MAX_VERTICES → slice_index sums v + slice_index row v ≤ 255 }
     ensures { (v : ℕ) → v < MAX_VERTICES →
         slice_index result v ≡ slice_index sums v + slice_index row v }

@@ -1,35 +1,35 @@
 -- What words ask for: those of a command line, of which the first is the program's name. The library
 -- of command lines tells which command they name, and the rows of that command: which word stands
 -- for which of its arguments. It also tells which faults the words have.
---   word_of name rows                == the word of the argument of that name, if there is one
---   words_of name rows               == all its words
---   HasFile rows file                == the file is the word for `file`
---   HasLines rows                    == the flag `--lines` is there
---   HasOrder rows                    == the flag `--order` is there
---   HasNumbers rows                  == the flag `--numbers` is there
---   IsOrdered rows ordered           == the order of burning is asked for exactly if that flag is there
---   IsInForm rows form               == numbers are asked for exactly if their flag is there
---   IsInVerdictForm rows form        == the same for verdicts, of which numbers have no order
---   divisors_of rows                 == the name of the file of amounts, if there is one
---   LinesAre rows divisors           == there are lines, of one kind: the flag is there exactly if no
---                                       file of amounts is named
---   HasOneTable rows                 == there are no lines
---   IsInWords rows                   == there are no lines, and so no numbers
---   HasNumber name low high rows n   == the word of that argument is there, and is n, from low to high
---   HasDegree rows n                 == so many dollars are lost, from 0 to 2^32 - 1
---   HasWorkers rows n                == so many workers are given, from 1 to 16; or 1, if none are
---   HasCapacity rows n               == so many entries are given, from 1 to 65,536; or the most
+--   word_of name rows                      == the word of the argument of that name, if there is one
+--   words_of name rows                     == all its words
+--   HasFile rows file                      == the file is the word for `file`
+--   HasLinesFlag rows                      == the flag `--lines` is there
+--   HasOrderFlag rows                      == the flag `--order` is there
+--   HasNumbersFlag rows                    == the flag `--numbers` is there
+--   IsOrderedByFlag rows ordered           == the order of burning is asked for exactly if that flag is there
+--   IsInForm rows form                     == numbers are asked for exactly if their flag is there
+--   HasVerdictFormFlags rows form          == the same for verdicts, of which numbers have no order
+--   divisors_option rows                   == the name of the file of amounts, if there is one
+--   HasLinesOption rows divisors           == there are lines, of one kind: the flag is there exactly if no
+--                                             file of amounts is named
+--   HasOneTable rows                       == there are no lines
+--   IsInWords rows                         == there are no lines, and so no numbers
+--   HasNumberArgument name low high rows n == the word of that argument is there, and is n, from low to high
+--   HasDegreeArgument rows n               == so many dollars are lost, from 0 to 2^32 - 1
+--   HasWorkersOption rows n                == so many workers are given, from 1 to 16; or 1, if none are
+--   HasCapacityOption rows n               == so many entries are given, from 1 to 65,536; or the most
 --   AsksRank, AsksGreedy, AsksSweep, AsksServe, AsksParty
 --                                    == the rows have the file and the numbers of the task, and what
 --                                       else it has
---   IsAlone rows                     == there are no lines, no numbers and no workers, which share lines
---   AsksQuestion name rows question  == the command of that name asks this of each line
---   AsksTask name rows task          == the command of that name asks for the task
---   AsksFor name rows asked          == the command of that name asks for this
---   CallsForHelp faults              == the words call for help, or for the version
---   Asks words asked                 == the words ask for this: for a text if they call for help
---                                       or the version, and else for what their command asks for,
---                                       if the library finds no fault
+--   HasNoLineOptions rows           == there are no lines, no numbers and no workers, which share lines
+--   AsksQuestion name rows question == the command of that name asks this of each line
+--   AsksTask name rows task         == the command of that name asks for the task
+--   AsksFor name rows asked         == the command of that name asks for this
+--   CallsForHelp faults             == the words call for help, or for the version
+--   Asks words asked                == the words ask for this: for a text if they call for help or the
+--                                      version, and else for what their command asks for, if the library
+--                                      finds no fault
 use Rattle.std.specs.Prelude.{◌≡◌, ◌-◌, ◌^◌, ◌⊎◌, ◌↔◌, ℕ, Bool, IsTrue, List, [], Option, None, Some, IsSomeAnd, codes, map, option_map}
 use Rattle.clap.specs.Words.{IsAmong, Kinds, Row, Text, all_of, fault_of, first_of, subcommand_of}
 use Rattle.clap.specs.declared.error.kind.ErrorKind.TheVariants.{DisplayHelp, DisplayVersion}
@@ -50,7 +50,7 @@ use Rattle.dg_invocation.specs.declared.question.Form.TheVariants as form
 use Rattle.dg_invocation.specs.declared.question.Question.TheVariants as question
 use Rattle.dg_invocation.specs.declared.question.VerdictForm.TheVariants as verdict
 use Rattle.dg_cli.specs.Commands.{dollar}
-use Rattle.dg_cli.specs.Numbers.{IsNumber, IsGiven, IsGivenOr}
+use Rattle.dg_cli.specs.Numbers.{IsArgumentNumber, IsGiven, IsGivenOr}
 
 abbrev pub word_of : Text → List Row → Option Text
 word_of name rows = first_of name rows
@@ -58,95 +58,95 @@ word_of name rows = first_of name rows
 abbrev pub words_of : Text → List Row → Option (List Text)
 words_of name rows = all_of name rows
 
-abbrev pub HasLines : List Row → Type 0
-HasLines rows = word_of (codes "lines") rows ≡ Some (codes "true")
+abbrev pub HasLinesFlag : List Row → Type 0
+HasLinesFlag rows = word_of (codes "lines") rows ≡ Some (codes "true")
 
-abbrev pub HasOrder : List Row → Type 0
-HasOrder rows = word_of (codes "order") rows ≡ Some (codes "true")
+abbrev pub HasOrderFlag : List Row → Type 0
+HasOrderFlag rows = word_of (codes "order") rows ≡ Some (codes "true")
 
-abbrev pub HasNumbers : List Row → Type 0
-HasNumbers rows = word_of (codes "numbers") rows ≡ Some (codes "true")
+abbrev pub HasNumbersFlag : List Row → Type 0
+HasNumbersFlag rows = word_of (codes "numbers") rows ≡ Some (codes "true")
 
-abbrev pub IsOrdered : List Row → Bool → Type 0
-IsOrdered rows ordered = IsTrue ordered ↔ HasOrder rows
+abbrev pub IsOrderedByFlag : List Row → Bool → Type 0
+IsOrderedByFlag rows ordered = IsTrue ordered ↔ HasOrderFlag rows
 
 abbrev pub IsInForm : List Row → Form → Type 0
-IsInForm rows form.Words = HasNumbers rows → ⊥
-IsInForm rows form.Numbers = HasNumbers rows
+IsInForm rows form.Words = HasNumbersFlag rows → ⊥
+IsInForm rows form.Numbers = HasNumbersFlag rows
 
-abbrev pub IsInVerdictForm : List Row → VerdictForm → Type 0
-IsInVerdictForm rows (verdict.Words ordered) = (HasNumbers rows → ⊥) × IsOrdered rows ordered
-IsInVerdictForm rows verdict.Numbers = HasNumbers rows × (HasOrder rows → ⊥)
+abbrev pub HasVerdictFormFlags : List Row → VerdictForm → Type 0
+HasVerdictFormFlags rows (verdict.Words ordered) = (HasNumbersFlag rows → ⊥) × IsOrderedByFlag rows ordered
+HasVerdictFormFlags rows verdict.Numbers = HasNumbersFlag rows × (HasOrderFlag rows → ⊥)
 
-abbrev pub divisors_of : List Row → Option Text
-divisors_of rows = word_of (codes "divisors") rows
+abbrev pub divisors_option : List Row → Option Text
+divisors_option rows = word_of (codes "divisors") rows
 
-abbrev pub LinesAre : List Row → Option Text → Type 0
-LinesAre rows None = HasLines rows
-LinesAre rows (Some name) = HasLines rows → ⊥
+abbrev pub HasLinesOption : List Row → Option Text → Type 0
+HasLinesOption rows None = HasLinesFlag rows
+HasLinesOption rows (Some name) = HasLinesFlag rows → ⊥
 
 abbrev pub HasOneTable : List Row → Type 0
-HasOneTable rows = (HasLines rows → ⊥) × (divisors_of rows ≡ None)
+HasOneTable rows = (HasLinesFlag rows → ⊥) × (divisors_option rows ≡ None)
 
 abbrev pub IsInWords : List Row → Type 0
-IsInWords rows = HasOneTable rows × (HasNumbers rows → ⊥)
+IsInWords rows = HasOneTable rows × (HasNumbersFlag rows → ⊥)
 
 abbrev pub HasFile : List Row → Text → Type 0
 HasFile rows file = word_of (codes "file") rows ≡ Some file
 
-abbrev pub HasNumber : Text → ℕ → ℕ → List Row → ℕ → Type 0
-HasNumber name low high rows n = IsSomeAnd (word_of name rows) (λ text. IsNumber low high text n)
+abbrev pub HasNumberArgument : Text → ℕ → ℕ → List Row → ℕ → Type 0
+HasNumberArgument name low high rows n = IsSomeAnd (word_of name rows) (λ text. IsArgumentNumber low high text n)
 
-abbrev pub HasWorkers : List Row → ℕ → Type 0
-HasWorkers rows n = IsGivenOr 1 1 MAX_WORKERS (word_of (codes "workers") rows) n
+abbrev pub HasWorkersOption : List Row → ℕ → Type 0
+HasWorkersOption rows n = IsGivenOr 1 1 MAX_WORKERS (word_of (codes "workers") rows) n
 
-abbrev pub HasCapacity : List Row → ℕ → Type 0
-HasCapacity rows n = IsGivenOr MAX_CAPACITY 1 MAX_CAPACITY (word_of (codes "cap") rows) n
+abbrev pub HasCapacityOption : List Row → ℕ → Type 0
+HasCapacityOption rows n = IsGivenOr MAX_CAPACITY 1 MAX_CAPACITY (word_of (codes "cap") rows) n
 
-abbrev pub HasDegree : List Row → ℕ → Type 0
-HasDegree rows n = HasNumber (codes "degree") 0 (2 ^ 32 - 1) rows n
+abbrev pub HasDegreeArgument : List Row → ℕ → Type 0
+HasDegreeArgument rows n = HasNumberArgument (codes "degree") 0 (2 ^ 32 - 1) rows n
 
 pub record AsksRank (rows : List Row) (task : RankTask) : Type 0 where
   pub file : HasFile rows task.file.now
-  pub degree : HasDegree rows task.degree
-  pub workers : HasWorkers rows task.workers
+  pub degree : HasDegreeArgument rows task.degree
+  pub workers : HasWorkersOption rows task.workers
 
 pub record AsksGreedy (rows : List Row) (task : GreedyTask) : Type 0 where
   pub file : HasFile rows task.file.now
-  pub turns : HasNumber (codes "turns") 0 MAX_TURNS rows task.turns
+  pub turns : HasNumberArgument (codes "turns") 0 MAX_TURNS rows task.turns
 
 pub record AsksServe (rows : List Row) (task : ServeTask) : Type 0 where
   pub file : HasFile rows task.file.now
   pub seats : IsGiven 1 MAX_SEATS (word_of (codes "seats") rows) task.seats
-  pub capacity : HasCapacity rows task.capacity
-  pub workers : HasWorkers rows task.workers
+  pub capacity : HasCapacityOption rows task.capacity
+  pub workers : HasWorkersOption rows task.workers
 
 pub record AsksParty (rows : List Row) (task : PartyTask) : Type 0 where
   pub file : HasFile rows task.file.now
   pub scripts : words_of (codes "script") rows ≡ Some (map (λ script. script.now) task.scripts.items)
-  pub capacity : HasCapacity rows task.capacity
+  pub capacity : HasCapacityOption rows task.capacity
 
 abbrev pub AsksQuestion : Text → List Row → Question → Type 0
 AsksQuestion name rows (question.Judge form) =
-    (name ≡ codes "judge") × IsInVerdictForm rows form
+    (name ≡ codes "judge") × HasVerdictFormFlags rows form
 AsksQuestion name rows (question.Rank degree form) =
-    (name ≡ codes "rank") × HasDegree rows degree × IsInForm rows form
+    (name ≡ codes "rank") × HasDegreeArgument rows degree × IsInForm rows form
 AsksQuestion name rows (question.RiemannRoch form) = (name ≡ codes "rr") × IsInForm rows form
 
 pub record AsksSweep (name : Text) (rows : List Row) (task : SweepTask) : Type 0 where
-  pub divisors : option_map (λ name. name.now) task.divisors ≡ divisors_of rows
-  pub lines : LinesAre rows (divisors_of rows)
+  pub divisors : option_map (λ name. name.now) task.divisors ≡ divisors_option rows
+  pub lines : HasLinesOption rows (divisors_option rows)
   pub file : HasFile rows task.file.now
   pub question : AsksQuestion name rows task.question
-  pub workers : HasWorkers rows task.workers
+  pub workers : HasWorkersOption rows task.workers
 
-abbrev pub IsAlone : List Row → Type 0
-IsAlone rows = IsInWords rows × (word_of (codes "workers") rows ≡ None)
+abbrev pub HasNoLineOptions : List Row → Type 0
+HasNoLineOptions rows = IsInWords rows × (word_of (codes "workers") rows ≡ None)
 
 abbrev pub AsksTask : Text → List Row → Task → Type 0
 AsksTask name rows (Judge file ordered) =
-    (name ≡ codes "judge") × HasFile rows file.now × IsAlone rows × IsOrdered rows ordered
-AsksTask name rows (RiemannRoch file) = (name ≡ codes "rr") × HasFile rows file.now × IsAlone rows
+    (name ≡ codes "judge") × HasFile rows file.now × HasNoLineOptions rows × IsOrderedByFlag rows ordered
+AsksTask name rows (RiemannRoch file) = (name ≡ codes "rr") × HasFile rows file.now × HasNoLineOptions rows
 AsksTask name rows (Rank task) =
     (name ≡ codes "rank") × AsksRank rows task × IsInWords rows
 AsksTask name rows (Greedy task) = (name ≡ codes "greedy") × AsksGreedy rows task

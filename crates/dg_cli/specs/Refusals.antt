@@ -1,10 +1,10 @@
 -- Why words are refused.
---   HasFault words      == the library of command lines finds a fault, which is no call for help or
---                          the version
---   AskNothing words    == it finds none, and yet there is nothing that the words ask for, as if a
---                          number is not in its range, or `--workers` stands without `--lines`
---   Refuses words fault == the words may be refused so: for want of memory, or else because they
---                          have a fault or ask for nothing
+--   HasClapFault words             == the library of command lines finds a fault, which is no call for help
+--                                     or the version
+--   AskNothing words               == it finds none, and yet there is nothing that the words ask for, as if a
+--                                     number is not in its range, or `--workers` stands without `--lines`
+--   RefusesCommandLine words fault == the words may be refused so: for want of memory, or else because they
+--                                     have a fault or ask for nothing
 use Rattle.std.specs.Prelude.{◌≡◌, ◌≢◌, ◌⊎◌, List, [], ⊤}
 use Rattle.clap.specs.Words.{IsAmong, Text, fault_of}
 use Rattle.clap.specs.declared.error.kind.ErrorKind.{ErrorKind}
@@ -15,7 +15,7 @@ use Rattle.dg_invocation.specs.declared.args_fault.ArgsFault.TheVariants.{Comman
 use Rattle.dg_cli.specs.Commands.{dollar}
 use Rattle.dg_cli.specs.Asks.{Asks}
 
-pub record HasFault (words : List Text) : Type 0 where
+pub record HasClapFault (words : List Text) : Type 0 where
   pub fault : ErrorKind
   pub found : IsAmong fault (fault_of dollar words)
   pub no_help : fault ≢ DisplayHelp
@@ -25,7 +25,7 @@ pub record AskNothing (words : List Text) : Type 0 where
   pub faultless : fault_of dollar words ≡ []
   pub nothing : (asked : Invocation) → Asks words asked → ⊥
 
-abbrev pub Refuses : List Text → ArgsFault → Type 0
-Refuses words OutOfMemory = ⊤
-Refuses words NotText = ⊥
-Refuses words (CommandLine text) = HasFault words ⊎ AskNothing words
+abbrev pub RefusesCommandLine : List Text → ArgsFault → Type 0
+RefusesCommandLine words OutOfMemory = ⊤
+RefusesCommandLine words NotText = ⊥
+RefusesCommandLine words (CommandLine text) = HasClapFault words ⊎ AskNothing words

@@ -1,8 +1,8 @@
 -- How what the library of command lines tells is read.
---   rows_in matches         == the rows of the command
---   name_of, shown, least, most argument == the name of a number's argument, and its range
---   TellsCommand asks result == what is asked for; or a refusal, because memory is refused or because
---                              nothing is asked for
+--   argument_rows matches                      == the rows of the command
+--   argument_name, shown, least, most argument == the name of a number's argument, and its range
+--   TellsSubcommand asks result                == what is asked for; or a refusal, because memory is refused
+--                                                 or because nothing is asked for
 use Rattle.std.specs.Prelude.{◌≡◌, ◌⊎◌, ◌-◌, ◌^◌, ℕ, List, Result, Ok, Err, codes}
 use Rattle.clap.specs.Words.{Row, Text, found_of, rows_of}
 use Rattle.clap.specs.declared.parser.matches.ArgMatches.{ArgMatches}
@@ -12,15 +12,15 @@ use Rattle.dg_cli.specs.declared.reading.NumberArgument.TheVariants.{Capacity, W
 use Rattle.dg_cli.specs.declared.reading.Refusal.{Refusal}
 use Rattle.dg_cli.specs.declared.reading.Refusal.TheVariants.{Memory}
 
-abbrev pub rows_in : ArgMatches → List Row
-rows_in matches = rows_of (found_of matches)
+abbrev pub argument_rows : ArgMatches → List Row
+argument_rows matches = rows_of (found_of matches)
 
-abbrev pub name_of : NumberArgument → Text
-name_of Capacity = codes "cap"
-name_of Workers = codes "workers"
-name_of Seats = codes "seats"
-name_of Degree = codes "degree"
-name_of Turns = codes "turns"
+abbrev pub argument_name : NumberArgument → Text
+argument_name Capacity = codes "cap"
+argument_name Workers = codes "workers"
+argument_name Seats = codes "seats"
+argument_name Degree = codes "degree"
+argument_name Turns = codes "turns"
 
 abbrev pub least : NumberArgument → ℕ
 least Capacity = 1
@@ -36,6 +36,6 @@ most Seats = MAX_SEATS
 most Degree = 2 ^ 32 - 1
 most Turns = MAX_TURNS
 
-abbrev pub TellsCommand : {T : Type 0} → (T → Type 0) → Result T Refusal → Type 0
-TellsCommand asks (Ok x) = asks x
-TellsCommand asks (Err refusal) = (refusal ≡ Memory) ⊎ ((x : _) → asks x → ⊥)
+abbrev pub TellsSubcommand : {T : Type 0} → (T → Type 0) → Result T Refusal → Type 0
+TellsSubcommand asks (Ok x) = asks x
+TellsSubcommand asks (Err refusal) = (refusal ≡ Memory) ⊎ ((x : _) → asks x → ⊥)

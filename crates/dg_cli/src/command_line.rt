@@ -3,8 +3,8 @@ ghost use Rattle.std.specs.Prelude.{◌≡◌, ◌≢◌, ◌⊎◌, IfErr, IfOk
 ghost use Rattle.clap.specs.Words.{IsAmong, fault_of, kind_of};
 ghost use Rattle.dg_cli.specs.Asks.{Asks};
 ghost use Rattle.dg_cli.specs.Commands.{dollar};
-ghost use Rattle.dg_cli.specs.Refusals.{AskNothing, Refuses};
-ghost use Rattle.dg_cli.specs.Faults.{IsNoCall, IsSaid, IsWhy};
+ghost use Rattle.dg_cli.specs.Refusals.{AskNothing, RefusesCommandLine};
+ghost use Rattle.dg_cli.specs.Faults.{IsNoCallForHelp, IsSaid, IsWhyWordsAskNothing};
 
 use crate::commands::{SUBCOMMANDS, dollar};
 use crate::reading::{Refusal, asked_by};
@@ -34,7 +34,7 @@ pub fn words_of<R: Env + AllocGlobal>(rt: &R) -> Result<Vec<String>, ArgsFault> 
 /// Refused with `CommandLine` if they ask for nothing, with all that is said of them, and with `OutOfMemory`.
 pub fn invocation_of<'a>(alloc: Global, words: &'a [String]) -> Result<Invocation<'a>, ArgsFault>
     ensures asked { IfOk result (Asks (map string_bytes words.entry.now)) }
-    ensures refused { IfErr result (Refuses (map string_bytes words.entry.now)) }
+    ensures refused { IfErr result (RefusesCommandLine (map string_bytes words.entry.now)) }
 {
     match command_of(alloc, words) {
         Ok(asked) => Ok(asked),
@@ -62,7 +62,7 @@ fn help_or_error<'a>(alloc: Global, error: &clap::Error) -> Result<Invocation<'a
 /// What the words ask for.
 fn command_of<'a>(alloc: Global, words: &'a [String]) -> Result<Invocation<'a>, clap::Error>
     ensures asked { IfOk result (Asks (map string_bytes words.entry.now)) }
-    ensures refused { IfErr result (λ error. IsWhy (map string_bytes words.entry.now) (kind_of error)) }
+    ensures refused { IfErr result (λ error. IsWhyWordsAskNothing (map string_bytes words.entry.now) (kind_of error)) }
 {
     let matches = dollar(alloc)?.try_get_matches_from(words)?;
     match asked_by(alloc, &matches) {
@@ -79,7 +79,7 @@ fn error_of(
 ) -> Result<clap::Error, AllocError>
     ensures { IfOk result (λ error.
         (refusal.entry ≡ Refusal.Memory → kind_of error ≡ ErrorKind.OutOfMemory)
-        × IsNoCall (kind_of error)) }
+        × IsNoCallForHelp (kind_of error)) }
 {
     if let Refusal::Memory = refusal {
         return Ok(clap::Error::from(AllocError));
@@ -91,7 +91,7 @@ fn error_of(
 
 /// The library's kind of such an error.
 fn kind_for(refusal: &Refusal<'_>) -> ErrorKind
-    ensures { IsNoCall result }
+    ensures { IsNoCallForHelp result }
 {
     match refusal {
         Refusal::Memory => ErrorKind::OutOfMemory,

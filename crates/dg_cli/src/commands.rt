@@ -1,7 +1,7 @@
 //! The commands of the program, as the library of command lines is told of them.
 ghost use Rattle.std.specs.Prelude.{◌≡◌, IfOk, map};
 ghost use Rattle.clap.specs.Words.{app_of};
-ghost use Rattle.dg_cli.specs.Building.{IsCommand, rule_for, shape_for};
+ghost use Rattle.dg_cli.specs.Building.{HasSubcommandShape, rule_for, shape_for};
 ghost use Rattle.dg_cli.specs.Commands.{bare_program, dollar};
 
 use crate::arguments::Argument;
@@ -71,7 +71,7 @@ fn bare_program<'a>(alloc: Global) -> Result<Command<'a>, AllocError>
 impl Subcommand {
     /// The command as the library is told of it.
     pub(crate) fn to_clap<'a>(self, alloc: Global) -> Result<Command<'a>, AllocError>
-        ensures { IfOk result (IsCommand (shape_for self)) }
+        ensures { IfOk result (HasSubcommandShape (shape_for self)) }
     {
         let mut command = Command::new(alloc, self.name())
             .about(self.about())

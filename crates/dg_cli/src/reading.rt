@@ -12,18 +12,18 @@ ghost use Rattle.dg_cli.specs.Asks.{
   AsksServe,
   AsksSweep,
   AsksTask,
-  HasLines,
-  HasNumbers,
-  HasOrder,
+  HasLinesFlag,
+  HasNumbersFlag,
+  HasOrderFlag,
   HasOneTable,
   IsInForm,
-  IsInVerdictForm,
+  HasVerdictFormFlags,
   word_of,
   words_of,
-  HasNumber,
+  HasNumberArgument,
 };
-ghost use Rattle.dg_cli.specs.Numbers.{IsGiven, IsGivenOr, IsNumber};
-ghost use Rattle.dg_cli.specs.Telling.{TellsCommand, least, most, name_of, rows_in};
+ghost use Rattle.dg_cli.specs.Numbers.{IsGiven, IsGivenOr, IsArgumentNumber};
+ghost use Rattle.dg_cli.specs.Telling.{TellsSubcommand, least, most, argument_name, argument_rows};
 
 use clap::ArgMatches;
 use dg_invocation::{
@@ -53,7 +53,7 @@ pub(crate) enum NumberArgument {
 impl NumberArgument {
     /// Its name among the arguments of a command.
     fn name(self) -> &'static str
-        ensures { result.now ≡ name_of self }
+        ensures { result.now ≡ argument_name self }
     {
         match self {
             NumberArgument::Capacity => "cap",
@@ -129,7 +129,7 @@ pub(crate) fn asked_by<'a>(
     alloc: Global,
     matches: &ArgMatches<'a>,
 ) -> Result<Invocation<'a>, Refusal<'a>>
-    ensures { TellsCommand
+    ensures { TellsSubcommand
         (λ asked. IsSomeAnd (subcommand_rows_of matches.now) (λ entered. AsksFor entered.0 entered.1 asked)) result }
 {
     let (name, inner) = matches.subcommand().ok_or(Refusal::Command)?;
@@ -142,14 +142,14 @@ fn command_in<'a>(
     name: &str,
     inner: &ArgMatches<'a>,
 ) -> Result<Invocation<'a>, Refusal<'a>>
-    ensures { TellsCommand (AsksFor name.now (rows_in inner.now)) result }
+    ensures { TellsSubcommand (AsksFor name.now (argument_rows inner.now)) result }
 {
     match name {
         "serve" => Ok(Invocation::Serve(serve_in(inner)?)),
         "party" => Ok(Invocation::Party(party_in(alloc, inner)?)),
         "greedy" => Ok(Invocation::Task(Task::Greedy(greedy_in(inner)?))),
         "rehearse" => Ok(Invocation::Task(rehearsal_in(inner)?)),
-        _ if has_lines(inner) || divisors_in(inner).is_some() => {
+        _ if has_lines_flag(inner) || divisors_in(inner).is_some() => {
             Ok(Invocation::Sweep(sweep_in(name, inner)?))
         }
         _ => Ok(Invocation::Task(task_in(name, inner)?)),
@@ -160,7 +160,7 @@ fn command_in<'a>(
 ///
 /// Refused for the number of entries, then of workers, then of seats.
 fn serve_in<'a>(inner: &ArgMatches<'a>) -> Result<ServeTask<'a>, Refusal<'a>>
-    ensures { TellsCommand (AsksServe (rows_in inner.now)) result }
+    ensures { TellsSubcommand (AsksServe (argument_rows inner.now)) result }
 {
     let file = word_in(inner, "file")?;
     let capacity = given_or(inner, NumberArgument::Capacity, MAX_CAPACITY)?;
@@ -176,7 +176,7 @@ fn serve_in<'a>(inner: &ArgMatches<'a>) -> Result<ServeTask<'a>, Refusal<'a>>
 
 /// Scripts that are played side by side.
 fn party_in<'a>(alloc: Global, inner: &ArgMatches<'a>) -> Result<PartyTask<'a>, Refusal<'a>>
-    ensures { TellsCommand (AsksParty (rows_in inner.now)) result }
+    ensures { TellsSubcommand (AsksParty (argument_rows inner.now)) result }
 {
     let file = word_in(inner, "file")?;
     let capacity = given_or(inner, NumberArgument::Capacity, MAX_CAPACITY)?;
@@ -192,12 +192,12 @@ fn party_in<'a>(alloc: Global, inner: &ArgMatches<'a>) -> Result<PartyTask<'a>, 
 ///
 /// Refused if both are there, then for the number of workers, then for the degree.
 fn sweep_in<'a>(name: &str, inner: &ArgMatches<'a>) -> Result<SweepTask<'a>, Refusal<'a>>
-    requires { (word_of (codes "divisors") (rows_in inner.now) ≡ None) → HasLines (rows_in inner.now) }
-    ensures { TellsCommand (AsksSweep name.now (rows_in inner.now)) result }
+    requires { (word_of (codes "divisors") (argument_rows inner.now) ≡ None) → HasLinesFlag (argument_rows inner.now) }
+    ensures { TellsSubcommand (AsksSweep name.now (argument_rows inner.now)) result }
 {
     let file = word_in(inner, "file")?;
     let divisors = divisors_in(inner);
-    if divisors.is_some() && has_lines(inner) {
+    if divisors.is_some() && has_lines_flag(inner) {
         return Err(Refusal::Both);
     }
     let workers = given_or(inner, NumberArgument::Workers, 1)?;
@@ -212,7 +212,7 @@ fn sweep_in<'a>(name: &str, inner: &ArgMatches<'a>) -> Result<SweepTask<'a>, Ref
 
 /// What a command asks of each line.
 fn question_in<'a>(name: &str, inner: &ArgMatches<'a>) -> Result<Question, Refusal<'a>>
-    ensures { TellsCommand (AsksQuestion name.now (rows_in inner.now)) result }
+    ensures { TellsSubcommand (AsksQuestion name.now (argument_rows inner.now)) result }
 {
     match name {
         "judge" => Ok(Question::Judge(verdict_form_in(inner)?)),
@@ -229,9 +229,9 @@ fn question_in<'a>(name: &str, inner: &ArgMatches<'a>) -> Result<Question, Refus
 ///
 /// Refused if both numbers and the order of burning are asked for.
 fn verdict_form_in<'a>(inner: &ArgMatches<'a>) -> Result<VerdictForm, Refusal<'a>>
-    ensures { TellsCommand (IsInVerdictForm (rows_in inner.now)) result }
+    ensures { TellsSubcommand (HasVerdictFormFlags (argument_rows inner.now)) result }
 {
-    let ordered = has_order(inner);
+    let ordered = has_order_flag(inner);
     match form_in(inner) {
         Form::Words => Ok(VerdictForm::Words { ordered }),
         Form::Numbers if ordered => Err(Refusal::OrderedNumbers),
@@ -241,9 +241,9 @@ fn verdict_form_in<'a>(inner: &ArgMatches<'a>) -> Result<VerdictForm, Refusal<'a
 
 /// How other answers are printed.
 fn form_in(inner: &ArgMatches<'_>) -> Form
-    ensures { IsInForm (rows_in inner.now) result }
+    ensures { IsInForm (argument_rows inner.now) result }
 {
-    if has_numbers(inner) {
+    if has_numbers_flag(inner) {
         Form::Numbers
     } else {
         Form::Words
@@ -254,17 +254,17 @@ fn form_in(inner: &ArgMatches<'_>) -> Form
 ///
 /// Refused if there are numbers, which are for lines.
 fn task_in<'a>(name: &str, inner: &ArgMatches<'a>) -> Result<Task<'a>, Refusal<'a>>
-    requires lines { HasOneTable (rows_in inner.now) }
+    requires lines { HasOneTable (argument_rows inner.now) }
     requires others { (name.now ≢ codes "greedy") × (name.now ≢ codes "rehearse") }
-    ensures { TellsCommand (AsksTask name.now (rows_in inner.now)) result }
+    ensures { TellsSubcommand (AsksTask name.now (argument_rows inner.now)) result }
 {
-    if has_numbers(inner) {
+    if has_numbers_flag(inner) {
         return Err(Refusal::Lines);
     }
     match name {
         "judge" => Ok(Task::Judge {
             file: file_alone_in(inner)?,
-            ordered: has_order(inner),
+            ordered: has_order_flag(inner),
         }),
         "rr" => Ok(Task::RiemannRoch {
             file: file_alone_in(inner)?,
@@ -276,7 +276,7 @@ fn task_in<'a>(name: &str, inner: &ArgMatches<'a>) -> Result<Task<'a>, Refusal<'
 
 /// Steps that are played on a table.
 fn rehearsal_in<'a>(inner: &ArgMatches<'a>) -> Result<Task<'a>, Refusal<'a>>
-    ensures { TellsCommand (AsksTask (codes "rehearse") (rows_in inner.now)) result }
+    ensures { TellsSubcommand (AsksTask (codes "rehearse") (argument_rows inner.now)) result }
 {
     let file = word_in(inner, "file")?;
     let steps = word_in(inner, "steps")?;
@@ -285,9 +285,9 @@ fn rehearsal_in<'a>(inner: &ArgMatches<'a>) -> Result<Task<'a>, Refusal<'a>>
 
 /// The table file of a command that has workers for lines alone.
 fn file_alone_in<'a>(inner: &ArgMatches<'a>) -> Result<&'a str, Refusal<'a>>
-    ensures { TellsCommand
-        (λ file. (word_of (codes "file") (rows_in inner.now) ≡ Some file.now)
-        × (word_of (codes "workers") (rows_in inner.now) ≡ None))
+    ensures { TellsSubcommand
+        (λ file. (word_of (codes "file") (argument_rows inner.now) ≡ Some file.now)
+        × (word_of (codes "workers") (argument_rows inner.now) ≡ None))
         result }
 {
     let file = word_in(inner, "file")?;
@@ -301,7 +301,7 @@ fn file_alone_in<'a>(inner: &ArgMatches<'a>) -> Result<&'a str, Refusal<'a>>
 ///
 /// Refused for the number of workers, then for the degree.
 fn rank_in<'a>(inner: &ArgMatches<'a>) -> Result<RankTask<'a>, Refusal<'a>>
-    ensures { TellsCommand (AsksRank (rows_in inner.now)) result }
+    ensures { TellsSubcommand (AsksRank (argument_rows inner.now)) result }
 {
     let file = word_in(inner, "file")?;
     let workers = given_or(inner, NumberArgument::Workers, 1)?;
@@ -315,7 +315,7 @@ fn rank_in<'a>(inner: &ArgMatches<'a>) -> Result<RankTask<'a>, Refusal<'a>>
 
 /// The greedy strategy.
 fn greedy_in<'a>(inner: &ArgMatches<'a>) -> Result<GreedyTask<'a>, Refusal<'a>>
-    ensures { TellsCommand (AsksGreedy (rows_in inner.now)) result }
+    ensures { TellsSubcommand (AsksGreedy (argument_rows inner.now)) result }
 {
     let file = word_in(inner, "file")?;
     let turns = number_in(inner, NumberArgument::Turns)?;
@@ -323,50 +323,50 @@ fn greedy_in<'a>(inner: &ArgMatches<'a>) -> Result<GreedyTask<'a>, Refusal<'a>>
 }
 
 /// Whether the flag for lines is there.
-fn has_lines(inner: &ArgMatches<'_>) -> bool
-    ensures { IsTrue result ↔ HasLines (rows_in inner.now) }
+fn has_lines_flag(inner: &ArgMatches<'_>) -> bool
+    ensures { IsTrue result ↔ HasLinesFlag (argument_rows inner.now) }
 {
     matches!(text_in(inner, "lines"), Some("true"))
 }
 
 /// Whether the flag for the order of burning is there.
-fn has_order(inner: &ArgMatches<'_>) -> bool
-    ensures { IsTrue result ↔ HasOrder (rows_in inner.now) }
+fn has_order_flag(inner: &ArgMatches<'_>) -> bool
+    ensures { IsTrue result ↔ HasOrderFlag (argument_rows inner.now) }
 {
     matches!(text_in(inner, "order"), Some("true"))
 }
 
 /// Whether the flag for bare numbers is there.
-fn has_numbers(inner: &ArgMatches<'_>) -> bool
-    ensures { IsTrue result ↔ HasNumbers (rows_in inner.now) }
+fn has_numbers_flag(inner: &ArgMatches<'_>) -> bool
+    ensures { IsTrue result ↔ HasNumbersFlag (argument_rows inner.now) }
 {
     matches!(text_in(inner, "numbers"), Some("true"))
 }
 
 /// The name of the file of amounts, if there is one.
 fn divisors_in<'a>(inner: &ArgMatches<'a>) -> Option<&'a str>
-    ensures { option_map (λ text. text.now) result ≡ word_of (codes "divisors") (rows_in inner.now) }
+    ensures { option_map (λ text. text.now) result ≡ word_of (codes "divisors") (argument_rows inner.now) }
 {
     text_in(inner, "divisors")
 }
 
 /// The word of an argument, if it has one.
 fn text_in<'a>(inner: &ArgMatches<'a>, name: &str) -> Option<&'a str>
-    ensures { option_map (λ text. text.now) result ≡ word_of name.now (rows_in inner.now) }
+    ensures { option_map (λ text. text.now) result ≡ word_of name.now (argument_rows inner.now) }
 {
     inner.get_str(name)
 }
 
 /// The words of an argument, if it has any.
 fn texts_in<'a, 'm>(inner: &'m ArgMatches<'a>, name: &str) -> Option<&'m [&'a str]>
-    ensures { option_map (λ texts. map (λ text. text.now) texts.now) result ≡ words_of name.now (rows_in inner.now) }
+    ensures { option_map (λ texts. map (λ text. text.now) texts.now) result ≡ words_of name.now (argument_rows inner.now) }
 {
     inner.get_strs(name)
 }
 
 /// The word of an argument that has to be there.
 fn word_in<'a>(inner: &ArgMatches<'a>, name: &str) -> Result<&'a str, Refusal<'a>>
-    ensures { TellsCommand (λ word. word_of name.now (rows_in inner.now) ≡ Some word.now) result }
+    ensures { TellsSubcommand (λ word. word_of name.now (argument_rows inner.now) ≡ Some word.now) result }
 {
     text_in(inner, name).ok_or(Refusal::Command)
 }
@@ -377,8 +377,8 @@ fn given_or<'a>(
     argument: NumberArgument,
     default: u32,
 ) -> Result<u32, Refusal<'a>>
-    ensures { TellsCommand
-        (IsGivenOr default (least argument) (most argument) (word_of (name_of argument) (rows_in inner.now))) result }
+    ensures { TellsSubcommand
+        (IsGivenOr default (least argument) (most argument) (word_of (argument_name argument) (argument_rows inner.now))) result }
 {
     match given_in(inner, argument)? {
         Some(number) => Ok(number),
@@ -388,7 +388,7 @@ fn given_or<'a>(
 
 /// The number of seats, if one is given.
 fn seats_in<'a>(inner: &ArgMatches<'a>) -> Result<Option<u8>, Refusal<'a>>
-    ensures { TellsCommand (IsGiven 1 MAX_SEATS (word_of (codes "seats") (rows_in inner.now))) result }
+    ensures { TellsSubcommand (IsGiven 1 MAX_SEATS (word_of (codes "seats") (argument_rows inner.now))) result }
 {
     match given_in(inner, NumberArgument::Seats)? {
         Some(seats) => Ok(Some(seats as u8)),
@@ -398,10 +398,11 @@ fn seats_in<'a>(inner: &ArgMatches<'a>) -> Result<Option<u8>, Refusal<'a>>
 
 /// The number of an argument that has to be there.
 fn number_in<'a>(inner: &ArgMatches<'a>, argument: NumberArgument) -> Result<u32, Refusal<'a>>
-    ensures { TellsCommand (HasNumber (name_of argument) (least argument) (most argument) (rows_in inner.now)) result }
+    ensures { TellsSubcommand (HasNumberArgument (argument_name argument) (least argument) (most argument) (argument_rows
+        inner.now)) result }
 {
     match text_in(inner, argument.name()) {
-        Some(word) => number_of(argument, word),
+        Some(word) => number_of_argument(argument, word),
         None => Err(Refusal::Command),
     }
 }
@@ -411,18 +412,18 @@ fn given_in<'a>(
     inner: &ArgMatches<'a>,
     argument: NumberArgument,
 ) -> Result<Option<u32>, Refusal<'a>>
-    ensures { TellsCommand
-        (IsGiven (least argument) (most argument) (word_of (name_of argument) (rows_in inner.now))) result }
+    ensures { TellsSubcommand
+        (IsGiven (least argument) (most argument) (word_of (argument_name argument) (argument_rows inner.now))) result }
 {
     match text_in(inner, argument.name()) {
-        Some(word) => Ok(Some(number_of(argument, word)?)),
+        Some(word) => Ok(Some(number_of_argument(argument, word)?)),
         None => Ok(None),
     }
 }
 
 /// The number that the word of an argument is.
-fn number_of(argument: NumberArgument, word: &str) -> Result<u32, Refusal<'_>>
-    ensures { TellsCommand (IsNumber (least argument) (most argument) word.entry.now) result }
+fn number_of_argument(argument: NumberArgument, word: &str) -> Result<u32, Refusal<'_>>
+    ensures { TellsSubcommand (IsArgumentNumber (least argument) (most argument) word.entry.now) result }
 {
     let (least, most) = argument.range();
     match natural(word.as_bytes()) {
@@ -433,8 +434,8 @@ fn number_of(argument: NumberArgument, word: &str) -> Result<u32, Refusal<'_>>
 
 /// The names of the scripts.
 fn scripts_in<'a>(alloc: Global, inner: &ArgMatches<'a>) -> Result<Vec<&'a str>, Refusal<'a>>
-    ensures { TellsCommand
-        (λ scripts. (words_of (codes "script") (rows_in inner.now)
+    ensures { TellsSubcommand
+        (λ scripts. (words_of (codes "script") (argument_rows inner.now)
         ≡ Some (map (λ script. script.now) scripts.items)) × (1 ≤ vec_len scripts))
         result }
 {

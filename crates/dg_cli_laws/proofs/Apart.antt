@@ -1,5 +1,5 @@
 -- No list of words asks for two things, or asks for something and is refused.
-use Rattle.dg_cli_laws.proofs.Common.{◌≡◌, ◌∙◌, ◌⊎◌, List, [], Option, None, Some, IsSomeAnd, true, true≢false, inl, inr, refl, sym, subst, subcommand_of, ErrorKind, Invocation, ArgsFault, CommandLine, NotText, OutOfMemory, Asks, AsksFor, CallsForHelp, HasFault, Refuses, CommandLinesHaveOneMeaning, written}
+use Rattle.dg_cli_laws.proofs.Common.{◌≡◌, ◌∙◌, ◌⊎◌, List, [], Option, None, Some, IsSomeAnd, true, true≢false, inl, inr, refl, sym, subst, subcommand_of, ErrorKind, Invocation, ArgsFault, CommandLine, NotText, OutOfMemory, Asks, AsksFor, CallsForHelp, HasClapFault, RefusesCommandLine, CommandLinesHaveOneMeaning, written}
 use Rattle.clap.specs.Words.{IsAmong, Kinds, Row, Text, fault_of}
 use Rattle.clap.specs.declared.error.kind.ErrorKind.TheVariants as kind
 use Rattle.dg_invocation.specs.declared.invocation.Invocation.TheVariants as asked
@@ -27,23 +27,25 @@ no_call kind.Io is help version = true≢false (sym is)
 no_call kind.Format is help version = true≢false (sym is)
 no_call kind.OutOfMemory is help version = true≢false (sym is)
 
-called : (words : List Text) → CallsForHelp (fault_of dollar words) → HasFault words → ⊥
+called : (words : List Text) → CallsForHelp (fault_of dollar words) → HasClapFault words → ⊥
 called words calls bad = elim calls [
   | inl help ↦ no_call bad.fault ((alike words).same bad.fault kind.DisplayHelp bad.found help) bad.no_help bad.no_version
-  | inr version ↦ no_call bad.fault ((alike words).same bad.fault kind.DisplayVersion bad.found version) bad.no_help bad.no_version
+  | inr version ↦ no_call bad.fault ((alike words).same bad.fault kind.DisplayVersion bad.found version) bad.no_help
+      bad.no_version
 ]
 
-faultless : (words : List Text) → fault_of dollar words ≡ [] → HasFault words → ⊥
+faultless : (words : List Text) → fault_of dollar words ≡ [] → HasClapFault words → ⊥
 faultless words none bad = subst (λ (ks : Kinds). IsAmong bad.fault ks) none bad.found
 
-both : (words : List Text) (it : Invocation) → Asks words it → HasFault words → ⊥
+both : (words : List Text) (it : Invocation) → Asks words it → HasClapFault words → ⊥
 both words (asked.Text text) asks bad = called words asks bad
 both words (asked.Task task) asks bad = faultless words asks.0 bad
 both words (asked.Sweep task) asks bad = faultless words asks.0 bad
 both words (asked.Serve task) asks bad = faultless words asks.0 bad
 both words (asked.Party task) asks bad = faultless words asks.0 bad
 
-apart : (words : List Text) (it : Invocation) (fault : ArgsFault) → Asks words it → Refuses words fault → fault ≡ OutOfMemory
+apart : (words : List Text) (it : Invocation) (fault : ArgsFault) → Asks words it → RefusesCommandLine words fault → fault ≡
+    OutOfMemory
 apart words it OutOfMemory asks refused = refl
 apart words it NotText asks refused = absurd refused
 apart words it (CommandLine text) asks refused = elim refused [

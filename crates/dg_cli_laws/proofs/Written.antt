@@ -1,7 +1,7 @@
 -- Two things that the rows of one command ask for are written alike: each as the rows tell.
 --   told name rows     == the words that the rows of the command of that name tell
 --   asks-told          what is asked for is written as the rows tell
-use Rattle.dg_cli_laws.proofs.Common.{◌≡◌, ◌∙◌, ◌+◌, ◌*◌, ℕ, Bool, true, false, cond, List, [], ◌∷◌, ◌++◌, Option, None, Some, IsSomeAnd, true≢false, codes, decimal, map, refl, sym, ap, slice_index, unwrap_or, is_some, option_map_or, bytes_eq, bytes_eq-Decides, Form, VerdictForm, Invocation, Question, Judge, Rank, RiemannRoch, MAX_CAPACITY, IsGiven, IsGivenOr, IsNumber, AsksFor, AsksQuestion, HasOneTable, IsInForm, IsInVerdictForm, IsOrdered, LinesAre, divisors_of, word_of, words_of, form_words, lines_words, order_words, question_words, verdict_words, seats_words, written}
+use Rattle.dg_cli_laws.proofs.Common.{◌≡◌, ◌∙◌, ◌+◌, ◌*◌, ℕ, Bool, true, false, cond, List, [], ◌∷◌, ◌++◌, Option, None, Some, IsSomeAnd, true≢false, codes, decimal, map, refl, sym, ap, slice_index, unwrap_or, is_some, option_map_or, bytes_eq, bytes_eq-Decides, Form, VerdictForm, Invocation, Question, Judge, Rank, RiemannRoch, MAX_CAPACITY, IsGiven, IsGivenOr, IsArgumentNumber, AsksFor, AsksQuestion, HasOneTable, IsInForm, HasVerdictFormFlags, IsOrderedByFlag, HasLinesOption, divisors_option, word_of, words_of, form_words, lines_words, order_words, question_words, verdict_words, seats_words, written}
 use Rattle.std.proofs.Common.{◌==◌}
 use Rattle.clap.specs.Words.{Row, Text}
 use Rattle.dg_invocation.specs.declared.invocation.Invocation.TheVariants as asked
@@ -14,7 +14,7 @@ abbrev is_set : Option Text → Bool
 is_set o = option_map_or (bytes_eq (codes "true")) o false
 
 abbrev has_lines : List Row → Bool
-has_lines rows = cond (is_some (divisors_of rows)) true (is_set (word_of (codes "lines") rows))
+has_lines rows = cond (is_some (divisors_option rows)) true (is_set (word_of (codes "lines") rows))
 
 abbrev the : Text → List Row → Text
 the name rows = unwrap_or (word_of name rows) []
@@ -46,7 +46,7 @@ question_told n rows =
 
 abbrev sweep_told : ℕ → List Row → List Text
 sweep_told n rows =
-    lines_words (divisors_of rows)
+    lines_words (divisors_option rows)
     ++ the (codes "file") rows ∷ number_or 1 (codes "workers") rows ∷ question_told n rows
 
 abbrev table_told : ℕ → List Row → List Text
@@ -98,18 +98,19 @@ one-table : (rows : List Row) → HasOneTable rows → has_lines rows ≡ false
 unfolding with_divisors
 one-table rows alone = ap (with_divisors rows) alone.1 ∙ not-set (word_of (codes "lines") rows) alone.0
 
-swept : (rows : List Row) → LinesAre rows (divisors_of rows) → has_lines rows ≡ true
+swept : (rows : List Row) → HasLinesOption rows (divisors_option rows) → has_lines rows ≡ true
 unfolding with_divisors
-swept rows lines = go (divisors_of rows) refl lines
+swept rows lines = go (divisors_option rows) refl lines
   where
-    go : (o : Option Text) → divisors_of rows ≡ o → LinesAre rows o → has_lines rows ≡ true
+    go : (o : Option Text) → divisors_option rows ≡ o → HasLinesOption rows o → has_lines rows ≡ true
     go None is flag = ap (with_divisors rows) is ∙ set (word_of (codes "lines") rows) flag
     go (Some name) is flag = ap (with_divisors rows) is
 
 a-word : (name : Text) (rows : List Row) (text : Text) → word_of name rows ≡ Some text → text ≡ the name rows
 a-word name rows text is = sym (ap (λ (o : Option Text). unwrap_or o []) is)
 
-a-number : (low high n : ℕ) (o : Option Text) → IsSomeAnd o (λ text. IsNumber low high text n) → decimal n ≡ unwrap_or o []
+a-number : (low high n : ℕ) (o : Option Text) → IsSomeAnd o (λ text. IsArgumentNumber low high text n) → decimal n ≡
+    unwrap_or o []
 a-number low high n None h = absurd h
 a-number low high n (Some text) h = sym h.spelled
 
@@ -124,7 +125,7 @@ some-seats low high None (Some n) h = absurd h
 some-seats low high (Some text) None h = absurd h
 some-seats low high (Some text) (Some n) h = ap (λ (t : Text). t ∷ []) (sym h.spelled)
 
-an-order : (rows : List Row) (ordered : Bool) → IsOrdered rows ordered → order_words ordered ≡ order_told rows
+an-order : (rows : List Row) (ordered : Bool) → IsOrderedByFlag rows ordered → order_words ordered ≡ order_told rows
 an-order rows true h = ap order_words (sym (set (word_of (codes "order") rows) (h.0 refl)))
 an-order rows false h =
     ap order_words (sym (not-set (word_of (codes "order") rows) (λ is. true≢false (sym (h.1 is)))))
@@ -135,7 +136,7 @@ a-form rows form.Words h =
 a-form rows form.Numbers h =
     ap (λ (b : Bool). cond b (codes "--numbers" ∷ []) []) (sym (set (word_of (codes "numbers") rows) h))
 
-a-verdict-form : (rows : List Row) (form : VerdictForm) → IsInVerdictForm rows form → verdict_words form ≡ verdict_told rows
+a-verdict-form : (rows : List Row) (form : VerdictForm) → HasVerdictFormFlags rows form → verdict_words form ≡ verdict_told rows
 a-verdict-form rows (verdict.Words ordered) h =
     an-order rows ordered h.1
     ∙ ap (λ (b : Bool). cond b (codes "--numbers" ∷ []) (order_told rows))
@@ -150,7 +151,7 @@ by-table n name rows is lined alone =
     ∙ ap (λ (b : Bool). cond b (cond (has_lines rows) (sweep_told n rows) (table_told n rows)) (other_told n rows)) lined
     ∙ ap (λ (b : Bool). cond b (sweep_told n rows) (table_told n rows)) (one-table rows alone))
 
-by-sweep : (n : ℕ) (name : Text) (rows : List Row) → key name ≡ n → of_lines n ≡ true → LinesAre rows (divisors_of rows)
+by-sweep : (n : ℕ) (name : Text) (rows : List Row) → key name ≡ n → of_lines n ≡ true → HasLinesOption rows (divisors_option rows)
     → sweep_told n rows ≡ told name rows
 by-sweep n name rows is lined lines =
     sym (ap (λ (m : ℕ). told_by m rows) is
@@ -225,11 +226,11 @@ asks-told name rows (asked.Party party) h =
 asks-told name rows (asked.Sweep sweep) h =
     let (n, is, lined, words) = a-question name rows sweep.question h.question in
     ap (λ (o : Option Text). lines_words o ++ sweep.file.now ∷ decimal sweep.workers ∷ question_words sweep.question) h.divisors
-    ∙ ap (λ (t : Text). lines_words (divisors_of rows) ++ t ∷ decimal sweep.workers ∷ question_words sweep.question)
+    ∙ ap (λ (t : Text). lines_words (divisors_option rows) ++ t ∷ decimal sweep.workers ∷ question_words sweep.question)
     (a-word (codes "file") rows sweep.file.now h.file)
-    ∙ ap (λ (t : Text). lines_words (divisors_of rows) ++ the (codes "file") rows ∷ t ∷ question_words sweep.question)
+    ∙ ap (λ (t : Text). lines_words (divisors_option rows) ++ the (codes "file") rows ∷ t ∷ question_words sweep.question)
     (a-default _ _ _ sweep.workers (word_of (codes "workers") rows) h.workers)
-    ∙ ap (λ (ws : List Text). lines_words (divisors_of rows) ++ the (codes "file") rows
+    ∙ ap (λ (ws : List Text). lines_words (divisors_option rows) ++ the (codes "file") rows
     ∷ number_or 1 (codes "workers") rows ∷ ws) words
     ∙ by-sweep n name rows is lined h.lines
 asks-told name rows (asked.Text text) h = absurd h

@@ -1,18 +1,17 @@
 -- A command line means one thing.
---   lines_words divisors == the flag for lines, or the option with the file of amounts
---   order_words ordered  == the flag for the order of burning, if it is asked for
---   form_words form      == the flag for numbers, if they are asked for
---   verdict_words form   == the same, or else the flag for the order of burning
---   question_words question == the command that asks this of each line
---   written asked        == the words that say what is asked for: the command, the files and the
---                           numbers, also those that nobody gave. The text of a help is left out
+--   lines_words divisors       == the flag for lines, or the option with the file of amounts
+--   order_words ordered        == the flag for the order of burning, if it is asked for
+--   form_words form            == the flag for numbers, if they are asked for
+--   verdict_words form         == the same, or else the flag for the order of burning
+--   question_words question    == the command that asks this of each line
+--   written asked              == the words that say what is asked for: the command, the files and the
+--                                 numbers, also those that nobody gave. The text of a help is left out
 --   CommandLinesHaveOneMeaning == words that ask for two things ask for one, since both are written alike;
---                           and words that ask for something are refused for nothing but want of
---                           memory
+--                                 and words that ask for something are refused for nothing but want of memory
 use Rattle.std.specs.Prelude.{◌≡◌, ℕ, Bool, true, false, List, [], ◌∷◌, ◌++◌, Option, Some, None, codes, decimal, map, option_map}
 use Rattle.clap.specs.Words.{Text}
 use Rattle.dg_cli.specs.Asks.{Asks}
-use Rattle.dg_cli.specs.Refusals.{Refuses}
+use Rattle.dg_cli.specs.Refusals.{RefusesCommandLine}
 use Rattle.dg_invocation.specs.declared.invocation.Invocation.{Invocation}
 use Rattle.dg_invocation.specs.declared.args_fault.ArgsFault.{ArgsFault}
 use Rattle.dg_invocation.specs.declared.args_fault.ArgsFault.TheVariants.{OutOfMemory}
@@ -72,4 +71,4 @@ pub record CommandLinesHaveOneMeaning : Type 0 where
   pub one : (words : List Text) (a b : Invocation) → Asks words a → Asks words b
       → written a ≡ written b
   pub apart : (words : List Text) (it : Invocation) (fault : ArgsFault) → Asks words it
-      → Refuses words fault → fault ≡ OutOfMemory
+      → RefusesCommandLine words fault → fault ≡ OutOfMemory

@@ -9,7 +9,7 @@
 --   parts-counted  an object of another number of members has no parts
 --   edge-three     an array of three values is an edge where they are two texts and a number of edges
 --   edge-others    an array of another number of values is no edge
-use Rattle.dg_file.proofs.Common.{◌≡◌, ◌≢◌, ℕ, suc, ◌+◌, ◌<◌, ◌≤◌, List, [], ◌∷◌, ◌++◌, length, get_or, drop, Option, Some, None, option_map, Bor, Vec, String, Global, refl, sym, ap, ◌∙◌, codes, inl, inr, arith, IsSome, option_and_then, cases_order, append_assoc, append-nil, drop_more, drop_all, Data, null, boolean, number, string, array, object, Members, get, get_member, get_item, as_object, as_array, as_str, view, items_view, members_view, Value, get_item_within, Parts, HasParts, put_first_json, edge_in, edge_from, count_in, listed, IsEdgeFault}
+use Rattle.dg_file.proofs.Common.{◌≡◌, ◌≢◌, ℕ, suc, ◌+◌, ◌<◌, ◌≤◌, List, [], ◌∷◌, ◌++◌, length, get_or, drop, Option, Some, None, option_map, Bor, Vec, String, Global, refl, sym, ap, ◌∙◌, codes, inl, inr, arith, IsSome, option_and_then, cases_order, append_assoc, append-nil, drop_more, drop_all, Data, null, boolean, number, string, array, object, Members, get, get_member, get_item, as_object, as_array, as_str, view, items_view, members_view, Value, get_item_within, JsonParts, HasParts, put_first_json, edge_in_json, edge_from_json, edge_count_in_json, listed_in_json, IsEdgeFault}
 use Rattle.dg_file.specs.Content.{member_count, each, edge_of}
 
 abbrev pub after : {A : Type 0} → List A → Option (List A) → Option (List A)
@@ -82,7 +82,7 @@ unfolding member_count
 member_count-view [] = refl
 member_count-view (e ∷ es) = ap suc (member_count-view es)
 
-pub parts-given : (value : Data) (es : List Entry) (parts : Parts) → Some (members_view es) ≡ as_object value
+pub parts-given : (value : Data) (es : List Entry) (parts : JsonParts) → Some (members_view es) ≡ as_object value
     → length es ≡ 4 → Some parts.vertices ≡ get (codes "vertices") value → Some parts.edges ≡ get (codes "edges") value
     → Some parts.amounts ≡ get (codes "amounts") value → Some parts.q ≡ get (codes "q") value → HasParts value parts
 parts-given value es parts is four vertices edges amounts q = record {
@@ -95,7 +95,7 @@ parts-given value es parts is four vertices edges amounts q = record {
   q = sym (q ∙ get-object (codes "q") value (members_view es) (sym is));
 }
 
-pub parts-counted : (value : Data) (es : List Entry) (parts : Parts) → Some (members_view es) ≡ as_object value
+pub parts-counted : (value : Data) (es : List Entry) (parts : JsonParts) → Some (members_view es) ≡ as_object value
     → (length es ≡ 4 → ⊥) → ¬ HasParts value parts
 parts-counted value es parts is other has =
     let both : Some (members_view es) ≡ Some has.members = is ∙ has.object in
@@ -113,12 +113,12 @@ three (a ∷ b ∷ c ∷ d ∷ vs) one other count size e f g = absurd (omega ar
 pub edge-three : (value : Data) (vs : List Value) (one other count : Value)
     → Some (items_view vs) ≡ as_array value → length vs ≡ 3
     → one ≡ get_or vs 0 one → other ≡ get_or vs 1 other → count ≡ get_or vs 2 count
-    → edge_in value ≡ edge_from (as_str (view one)) (as_str (view other)) (count_in (view count))
+    → edge_in_json value ≡ edge_from_json (as_str (view one)) (as_str (view other)) (edge_count_in_json (view count))
 unfolding edge_of
 edge-three value vs one other count is size e f g = rw (← is, three vs one other count size e f g) refl
 
 pub edge-others : (value : Data) (vs : List Value) → Some (items_view vs) ≡ as_array value → length vs ≢ 3
-    → edge_in value ≡ None
+    → edge_in_json value ≡ None
 unfolding edge_of
 edge-others value [] is different = rw (← is) refl
 edge-others value (a ∷ []) is different = rw (← is) refl
@@ -130,15 +130,15 @@ edge-others value (a ∷ b ∷ c ∷ d ∷ vs) is different = rw (← is) refl
 pub listed-each : {A : Type 0} (read : Data → Option A) (value : Data) (found : Option (Bor (Vec Value Global)))
     (vec : Bor (Vec Value Global)) (vs : List Value)
     → option_map (λ v. items_view v.now.items) found ≡ as_array value → found ≡ Some vec → vs ≡ vec.now.items
-    → listed read value ≡ each read (items_view vs)
+    → listed_in_json read value ≡ each read (items_view vs)
 listed-each read value found vec vs gives is same =
     ap (option_and_then (each read))
     (sym gives ∙ ap (option_map (λ (v : Bor (Vec Value Global)). items_view v.now.items)) is)
     ∙ ap (λ items. each read (items_view items)) (sym same)
 
 -- the first item that is no edge
-pub edge-fault : (vs : List Value) (i : ℕ) (v : Value) → i < length vs → v ≡ get_or vs i v → edge_in (view v) ≡ None
-    → ((k : ℕ) → k < i → (d : Data) → get_item k (items_view vs) ≡ Some d → IsSome (edge_in d))
+pub edge-fault : (vs : List Value) (i : ℕ) (v : Value) → i < length vs → v ≡ get_or vs i v → edge_in_json (view v) ≡ None
+    → ((k : ℕ) → k < i → (d : Data) → get_item k (items_view vs) ≡ Some d → IsSome (edge_in_json d))
     → IsEdgeFault (array (items_view vs)) i
 edge-fault vs i v below at none before = record {
   items = items_view vs;

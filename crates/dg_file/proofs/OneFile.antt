@@ -1,7 +1,7 @@
 -- Bytes have one fault at most, want of memory aside, and none where they are a table file.
 --   file-one      one fault
 --   file-none     no fault where there is a table
-use Rattle.dg_file.proofs.Common.{◌≡◌, ◌≢◌, ℕ, List, refl, ap, Data, StartData, Reads, IsNotJson, IsTableFile, IsShapeFault, IsRefusedTable, RefusesFile, Shape, FileFault, Json, Graph, Name, Twice, Chip, NoQ, OutOfMemory}
+use Rattle.dg_file.proofs.Common.{◌≡◌, ◌≢◌, ℕ, List, refl, ap, Data, StartData, Reads, IsNotJson, IsTableFile, IsShapeFault, IsFileContentFault, RefusesFile, Shape, FileFault, Json, Graph, Name, Twice, Chip, NoQ, OutOfMemory}
 use Rattle.dg_file.specs.declared.fault.FileFault.TheVariants.{Shape as OfShape}
 use Rattle.dg_file.proofs.OneContent.{none-found, same-value, same-content}
 use Rattle.dg_file.proofs.OneShape.{shape-one, shape-none}
@@ -11,7 +11,7 @@ use Rattle.dg_file.proofs.OneTable.{table-one, table-none}
 data Cause (bytes : List ℕ) : FileFault → Type 0 where
   no_json : IsNotJson bytes → Cause bytes Json
   shape : (s : Shape) (value : Data) → Reads bytes value → IsShapeFault value s → Cause bytes (OfShape s)
-  table : (f : FileFault) → IsRefusedTable bytes f → Cause bytes f
+  table : (f : FileFault) → IsFileContentFault bytes f → Cause bytes f
 
 cause : (bytes : List ℕ) (f : FileFault) → f ≢ OutOfMemory → RefusesFile bytes f → Cause bytes f
 cause bytes Json known fault = no_json fault
@@ -28,7 +28,7 @@ module _ (bytes : List ℕ) where
   json-none value reads none = none-found _ value reads.1 (none reads.0)
 
   shape-table : (s : Shape) (value : Data) (f : FileFault) → Reads bytes value → IsShapeFault value s
-      → IsRefusedTable bytes f → ⊥
+      → IsFileContentFault bytes f → ⊥
   shape-table s value f reads fault refused =
       let same : value ≡ refused.value = same-value bytes value refused.value reads refused.reads in
       shape-none refused.value refused.content refused.says s (rw same at fault)

@@ -1,18 +1,18 @@
 -- A list of items has one fault at most, and none where it gives a graph.
 --   graph-one     one fault
 --   graph-none    no fault where there is a graph
-use Rattle.dg_file.proofs.Common.{◌≡◌, ℕ, ◌<◌, ◌≤◌, List, ⊎_elim, refl, ap, arith, slice_get, slice_get_within, Multigraph, edges_between, total_below, JoinedIn-cong, total_below-cong, Item, IsItem, IsItems, IsRightBefore, HasItem, IsGiven, edges_listed, valence_listed, JoinsNoVertex, IsLoop, IsEmptyItem, IsFirstHigh, IsParted, IsFirstGraphFault, GraphFault, Size, NoVertex, Loop, Multiplicity, Valence, NotConnected}
+use Rattle.dg_file.proofs.Common.{◌≡◌, ℕ, ◌<◌, ◌≤◌, List, ⊎_elim, refl, ap, arith, slice_get, slice_get_within, Multigraph, edges_between, total_below, JoinedIn-cong, total_below-cong, EdgeItem, IsEdgeItem, AreEdgeItems, AreEdgeItemsBefore, HasEdgeItem, IsGiven, edges_listed, valence_listed, JoinsNoVertex, IsLoop, IsEmptyEdgeItem, IsFirstHighValence, IsPartedEdgeList, IsFirstGraphFault, GraphFault, Size, NoVertex, Loop, Multiplicity, Valence, NotConnected}
 use Rattle.dg_file.proofs.OneContent.{found-once, first-once}
 
-module _ (n : ℕ) (wrong : Item) where
-  lost : JoinsNoVertex n wrong → ¬ IsItem n wrong
+module _ (n : ℕ) (wrong : EdgeItem) where
+  lost : JoinsNoVertex n wrong → ¬ IsEdgeItem n wrong
   lost none right =
       ⊎_elim (λ (h : n ≤ wrong.0). omega (arith, right.first)) (λ (h : n ≤ wrong.1). omega (arith, right.second)) none
 
-  looped : IsLoop n wrong → ¬ IsItem n wrong
+  looped : IsLoop n wrong → ¬ IsEdgeItem n wrong
   looped loop right = right.different loop.same
 
-  empty : IsEmptyItem n wrong → ¬ IsItem n wrong
+  empty : IsEmptyEdgeItem n wrong → ¬ IsEdgeItem n wrong
   empty none right = omega (arith, right.edges, none.none)
 
   lost-looped : JoinsNoVertex n wrong → IsLoop n wrong → ⊥
@@ -20,32 +20,32 @@ module _ (n : ℕ) (wrong : Item) where
       ⊎_elim (λ (h : n ≤ wrong.0). omega (arith, loop.vertex))
       (λ (h : n ≤ wrong.1). omega (arith, loop.vertex, loop.same)) none
 
-  lost-empty : JoinsNoVertex n wrong → IsEmptyItem n wrong → ⊥
+  lost-empty : JoinsNoVertex n wrong → IsEmptyEdgeItem n wrong → ⊥
   lost-empty none edge =
       ⊎_elim (λ (h : n ≤ wrong.0). omega (arith, edge.first)) (λ (h : n ≤ wrong.1). omega (arith, edge.second)) none
 
-  looped-empty : IsLoop n wrong → IsEmptyItem n wrong → ⊥
+  looped-empty : IsLoop n wrong → IsEmptyEdgeItem n wrong → ⊥
   looped-empty loop edge = edge.different loop.same
 
-module _ (n : ℕ) (items : List Item) where
-  wrong-before : (i j : ℕ) (P : Item → Type 0) → ((item : Item) → P item → ¬ IsItem n item) → HasItem items i P
-      → IsRightBefore n items j → i < j → ⊥
+module _ (n : ℕ) (items : List EdgeItem) where
+  wrong-before : (i j : ℕ) (P : EdgeItem → Type 0) → ((item : EdgeItem) → P item → ¬ IsEdgeItem n item) → HasEdgeItem items i P
+      → AreEdgeItemsBefore n items j → i < j → ⊥
   wrong-before i j P wrong (item, there, is) right before = wrong item is (right i item before there)
 
-  wrong-none : (i : ℕ) (P : Item → Type 0) → ((item : Item) → P item → ¬ IsItem n item) → HasItem items i P
-      → IsItems n items → ⊥
+  wrong-none : (i : ℕ) (P : EdgeItem → Type 0) → ((item : EdgeItem) → P item → ¬ IsEdgeItem n item) → HasEdgeItem items i P
+      → AreEdgeItems n items → ⊥
   wrong-none i P wrong (item, there, is) right =
       wrong item is (right i item (slice_get_within items i item there) there)
 
-  wrong-one : (i j : ℕ) (P Q : Item → Type 0) → ((item : Item) → P item → ¬ IsItem n item)
-      → ((item : Item) → Q item → ¬ IsItem n item) → IsRightBefore n items i → IsRightBefore n items j
-      → HasItem items i P → HasItem items j Q → i ≡ j
+  wrong-one : (i j : ℕ) (P Q : EdgeItem → Type 0) → ((item : EdgeItem) → P item → ¬ IsEdgeItem n item)
+      → ((item : EdgeItem) → Q item → ¬ IsEdgeItem n item) → AreEdgeItemsBefore n items i → AreEdgeItemsBefore n items j
+      → HasEdgeItem items i P → HasEdgeItem items j Q → i ≡ j
   wrong-one i j P Q one other right_i right_j a b =
       first-once i j (wrong-before i j P one a right_j) (wrong-before j i Q other b right_i)
 
-  wrong-twice : (i j : ℕ) (P Q : Item → Type 0) → ((item : Item) → P item → ¬ IsItem n item)
-      → ((item : Item) → Q item → ¬ IsItem n item) → ((item : Item) → P item → Q item → ⊥)
-      → IsRightBefore n items i → IsRightBefore n items j → HasItem items i P → HasItem items j Q → ⊥
+  wrong-twice : (i j : ℕ) (P Q : EdgeItem → Type 0) → ((item : EdgeItem) → P item → ¬ IsEdgeItem n item)
+      → ((item : EdgeItem) → Q item → ¬ IsEdgeItem n item) → ((item : EdgeItem) → P item → Q item → ⊥)
+      → AreEdgeItemsBefore n items i → AreEdgeItemsBefore n items j → HasEdgeItem items i P → HasEdgeItem items j Q → ⊥
   wrong-twice i j P Q one other both right_i right_j a b =
       let same : i ≡ j = wrong-one i j P Q one other right_i right_j a b in
       let item : a.0 ≡ b.0 = found-once (slice_get items j) a.0 b.0 (rw same at a.1) b.1 in
@@ -56,25 +56,25 @@ module _ (n : ℕ) (items : List Item) where
 
   lost-none : (i j : ℕ) → IsFirstGraphFault n items (NoVertex i) → IsFirstGraphFault n items (Multiplicity j) → ⊥
   lost-none i j a b =
-      wrong-twice i j (JoinsNoVertex n) (IsEmptyItem n) (lost n) (empty n) (lost-empty n) a.1 b.1 a.2 b.2
+      wrong-twice i j (JoinsNoVertex n) (IsEmptyEdgeItem n) (lost n) (empty n) (lost-empty n) a.1 b.1 a.2 b.2
 
   loop-none : (i j : ℕ) → IsFirstGraphFault n items (Loop i) → IsFirstGraphFault n items (Multiplicity j) → ⊥
-  loop-none i j a b = wrong-twice i j (IsLoop n) (IsEmptyItem n) (looped n) (empty n) (looped-empty n) a.1 b.1 a.2 b.2
+  loop-none i j a b = wrong-twice i j (IsLoop n) (IsEmptyEdgeItem n) (looped n) (empty n) (looped-empty n) a.1 b.1 a.2 b.2
 
-  lost-right : (i : ℕ) → IsFirstGraphFault n items (NoVertex i) → IsItems n items → ⊥
+  lost-right : (i : ℕ) → IsFirstGraphFault n items (NoVertex i) → AreEdgeItems n items → ⊥
   lost-right i a = wrong-none i (JoinsNoVertex n) (lost n) a.2
 
-  loop-right : (i : ℕ) → IsFirstGraphFault n items (Loop i) → IsItems n items → ⊥
+  loop-right : (i : ℕ) → IsFirstGraphFault n items (Loop i) → AreEdgeItems n items → ⊥
   loop-right i a = wrong-none i (IsLoop n) (looped n) a.2
 
-  none-right : (i : ℕ) → IsFirstGraphFault n items (Multiplicity i) → IsItems n items → ⊥
-  none-right i a = wrong-none i (IsEmptyItem n) (empty n) a.2
+  none-right : (i : ℕ) → IsFirstGraphFault n items (Multiplicity i) → AreEdgeItems n items → ⊥
+  none-right i a = wrong-none i (IsEmptyEdgeItem n) (empty n) a.2
 
-  high-one : (u v : ℕ) → IsFirstHigh n items u → IsFirstHigh n items v → u ≡ v
+  high-one : (u v : ℕ) → IsFirstHighValence n items u → IsFirstHighValence n items v → u ≡ v
   high-one u v a b = first-once u v (λ less. let h = b.least u less in omega (arith, a.high))
       (λ more. let h = a.least v more in omega (arith, b.high))
 
-  high-parted : (v : ℕ) → IsFirstHigh n items v → IsParted n items → ⊥
+  high-parted : (v : ℕ) → IsFirstHighValence n items v → IsPartedEdgeList n items → ⊥
   high-parted v a b = let h = b.valences v a.vertex in omega (arith, a.high)
 
   pub graph-one : (f h : GraphFault) → IsFirstGraphFault n items f → IsFirstGraphFault n items h → f ≡ h
@@ -101,7 +101,7 @@ module _ (n : ℕ) (items : List Item) where
   graph-one (Multiplicity i) (NoVertex j) a b = absurd (lost-none j i b a)
   graph-one (Multiplicity i) (Loop j) a b = absurd (loop-none j i b a)
   graph-one (Multiplicity i) (Multiplicity j) a b =
-      ap Multiplicity (wrong-one i j (IsEmptyItem n) (IsEmptyItem n) (empty n) (empty n) a.1 b.1 a.2 b.2)
+      ap Multiplicity (wrong-one i j (IsEmptyEdgeItem n) (IsEmptyEdgeItem n) (empty n) (empty n) a.1 b.1 a.2 b.2)
   graph-one (Multiplicity i) (Valence v) a b = absurd (none-right i a b.1)
   graph-one (Multiplicity i) NotConnected a b = absurd (none-right i a b.1)
   graph-one (Valence u) Size a b = absurd (b a.0)
@@ -118,7 +118,7 @@ module _ (n : ℕ) (items : List Item) where
   graph-one NotConnected NotConnected a b = refl
 
   module _ (g : Multigraph) (given : IsGiven n items g) where
-    low : (v : ℕ) → IsFirstHigh n items v → ⊥
+    low : (v : ℕ) → IsFirstHighValence n items v → ⊥
     low v fault =
         let few = given.graph.valences v (let s = given.size in omega (arith, fault.vertex)) in
         let same : total_below n (edges_between g v) ≡ valence_listed n items v =
@@ -127,7 +127,7 @@ module _ (n : ℕ) (items : List Item) where
         ap (λ m. total_below m (edges_between g v)) given.size in
         omega (arith, few, size, same, fault.high)
 
-    joined : IsParted n items → ⊥
+    joined : IsPartedEdgeList n items → ⊥
     joined fault =
         let chain = given.graph.multigraph.connected fault.one fault.other
         (omega (arith, given.size, fault.one_vertex)) (omega (arith, given.size, fault.other_vertex)) in

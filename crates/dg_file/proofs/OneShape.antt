@@ -2,7 +2,7 @@
 --   each-none     an item that cannot be read leaves nothing
 --   shape-one     one shape at fault
 --   shape-none    no shape at fault where there is a content
-use Rattle.dg_file.proofs.Common.{◌≡◌, ℕ, zero, suc, ◌<◌, ◌⊎◌, inl, inr, Option, Some, None, refl, sym, ap, ◌∙◌, option_and_then, Data, Items, no_items, item, get_item, as_array, Content, Parts, HasParts, IsContent, put_first_json, edge_in, edges_in, IsEdgeFault, IsShapeFaultOf, IsShapeFault, Shape, Top, Vertices, Edges, Edge, Amounts, Q}
+use Rattle.dg_file.proofs.Common.{◌≡◌, ℕ, zero, suc, ◌<◌, ◌⊎◌, inl, inr, Option, Some, None, refl, sym, ap, ◌∙◌, option_and_then, Data, Items, no_items, item, get_item, as_array, Content, JsonParts, HasParts, IsContent, put_first_json, edge_in_json, edges_in_json, IsEdgeFault, IsShapeFaultOf, IsShapeFault, Shape, Top, Vertices, Edges, Edge, Amounts, Q}
 use Rattle.dg_file.specs.Content.{each}
 use Rattle.dg_file.proofs.OneContent.{found-once, first-once, none-or-some, none-found, same-parts}
 
@@ -21,23 +21,23 @@ each-none read (item first rest) (suc i) d there none =
     ap (put_first_json (read first)) (each-none read rest i d there none)
     ∙ nothing (read first)
 
-no-array : (value : Data) → as_array value ≡ None → edges_in value ≡ None
-no-array value none = ap (option_and_then (each edge_in)) none
+no-array : (value : Data) → as_array value ≡ None → edges_in_json value ≡ None
+no-array value none = ap (option_and_then (each edge_in_json)) none
 
-no-edge : (value : Data) (i : ℕ) → IsEdgeFault value i → edges_in value ≡ None
+no-edge : (value : Data) (i : ℕ) → IsEdgeFault value i → edges_in_json value ≡ None
 no-edge value i fault =
-    ap (option_and_then (each edge_in)) fault.array
-    ∙ each-none edge_in fault.items i fault.item fault.there fault.no_edge
+    ap (option_and_then (each edge_in_json)) fault.array
+    ∙ each-none edge_in_json fault.items i fault.item fault.there fault.no_edge
 
 edge-before : (value : Data) (i j : ℕ) → IsEdgeFault value i → IsEdgeFault value j → i < j → ⊥
 edge-before value i j a b before =
     let items = found-once (as_array value) a.items b.items a.array b.array in
-    none-or-some (edge_in a.item) (b.before i before a.item (rw items at a.there)) a.no_edge
+    none-or-some (edge_in_json a.item) (b.before i before a.item (rw items at a.there)) a.no_edge
 
 edge-one : (value : Data) (i j : ℕ) → IsEdgeFault value i → IsEdgeFault value j → i ≡ j
 edge-one value i j a b = first-once i j (edge-before value i j a b) (edge-before value j i b a)
 
-of-one : (parts : Parts) (s t : Shape) → IsShapeFaultOf parts s → IsShapeFaultOf parts t → s ≡ t
+of-one : (parts : JsonParts) (s t : Shape) → IsShapeFaultOf parts s → IsShapeFaultOf parts t → s ≡ t
 of-one parts Top t a b = absurd a
 of-one parts s Top a b = absurd b
 of-one parts Vertices Vertices a b = refl
@@ -67,7 +67,7 @@ of-one parts Q Amounts a b = absurd (none-or-some _ a.2 b.2)
 of-one parts Q Q a b = refl
 
 abbrev AtParts : Data → Shape → Type 0
-AtParts value shape = (parts : Parts) × HasParts value parts × IsShapeFaultOf parts shape
+AtParts value shape = (parts : JsonParts) × HasParts value parts × IsShapeFaultOf parts shape
 
 kinds : (value : Data) (s : Shape) → IsShapeFault value s → (s ≡ Top) ⊎ AtParts value s
 kinds value Top fault = inl refl
@@ -77,7 +77,7 @@ kinds value (Edge i) fault = inr fault
 kinds value Amounts fault = inr fault
 kinds value Q fault = inr fault
 
-no-parts : (value : Data) (s : Shape) → s ≡ Top → IsShapeFault value s → (parts : Parts) → ¬ HasParts value parts
+no-parts : (value : Data) (s : Shape) → s ≡ Top → IsShapeFault value s → (parts : JsonParts) → ¬ HasParts value parts
 no-parts value s top fault = rw top at fault
 
 pub shape-one : (value : Data) (s t : Shape) → IsShapeFault value s → IsShapeFault value t → s ≡ t

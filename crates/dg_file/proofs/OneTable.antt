@@ -3,7 +3,7 @@
 --   chip-none     and none if they are those of a divisor
 --   table-one     one fault
 --   table-none    no fault where there is a table
-use Rattle.dg_file.proofs.Common.{◌≡◌, ℕ, ◌<◌, ℤ, List, length, refl, sym, ap, ◌∙◌, arith, IsSize, GraphFault, Size, NoVertex, Loop, Multiplicity, Valence, NotConnected, StartData, Vector, at, HoldsNumbers, IsDivisor, IsFirstPast, IsFirstChipFault, ChipFault, Length, Range, Content, AreNames, items_of, IsTable, IsGraphFault, IsNameFault, IsTwiceFault, GivesGraph, GivesDivisor, RefusesTable, FileFault, Graph, Name, Twice, Chip, NoQ}
+use Rattle.dg_file.proofs.Common.{◌≡◌, ℕ, ◌<◌, ℤ, List, length, refl, sym, ap, ◌∙◌, arith, IsSize, GraphFault, Size, NoVertex, Loop, Multiplicity, Valence, NotConnected, StartData, Vector, at, HoldsNumbers, IsDivisor, IsFirstPast, IsFirstChipFault, ChipFault, Length, Range, Content, AreNames, items_of_file_content, IsTable, IsGraphFault, IsNameFault, IsTwiceFault, GivesGraph, GivesDivisor, RefusesTable, FileFault, Graph, Name, Twice, Chip, NoQ}
 use Rattle.dg_file.proofs.OneContent.{none-found, first-once}
 use Rattle.dg_file.proofs.OneGraph.{graph-one, graph-none}
 use Rattle.dg_file.proofs.OneName.{stops-name, stops-twice, stops-one, name-or-twice}
@@ -40,7 +40,7 @@ names-of content NotConnected fault size = fault.names (λ e. cc)
 module _ (content : Content) where
   graph-given : (f : GraphFault) → IsGraphFault content f → GivesGraph content → ⊥
   graph-given f fault gives =
-      graph-none (length content.vertices) (items_of content) gives.graph gives.given f fault.first
+      graph-none (length content.vertices) (items_of_file_content content) gives.graph gives.given f fault.first
 
   chip-given : (f : ChipFault) → IsFirstChipFault (length content.vertices) content.amounts f → GivesDivisor content → ⊥
   chip-given f fault gives =
@@ -65,7 +65,7 @@ module _ (content : Content) where
 
   pub table-one : (f h : FileFault) → RefusesTable content f → RefusesTable content h → f ≡ h
   table-one (Graph f) (Graph h) a b =
-      ap Graph (graph-one (length content.vertices) (items_of content) f h a.first b.first)
+      ap Graph (graph-one (length content.vertices) (items_of_file_content content) f h a.first b.first)
   table-one (Graph f) (Name j) a b = absurd (graph-name f j a b)
   table-one (Graph f) (Twice j) a b = absurd (graph-twice f j a b)
   table-one (Graph f) (Chip h) a b = absurd (graph-given f a b.0)

@@ -1,23 +1,20 @@
 -- Why bytes are refused as a table file: each case says that all that is judged before it is good.
---   IsEdgeFault value i             == the value is an array, and its item i is the first that is
---                                      no edge
---   IsShapeFaultOf parts shape      == the first of the four parts that has another shape than it
---                                      should
---   IsShapeFault value shape        == the value has not the four parts, or the first of them that
---                                      has another shape
---   HasJsonText names i P           == there is a name i, and it is P
---   IsNameFault names i             == the name i is the first that is no name or stood before, and
---                                      it is no name
---   IsTwiceFault names i            == the name i is the first that is no name or stood before, and
---                                      it stood before
---   IsGraphFault content fault      == the names are names, unless their number is at fault, and
---                                      the fault is the first of the graph
---   GivesGraph content              == the names are names, and the vertices and edges give a graph
---   GivesDivisor content            == the amounts are those of a divisor, one for each name
---   RefusesTable content fault      == the first fault of the content
---   IsRefusedTable bytes fault      == the bytes say a content, and that is its first fault
---   RefusesFile bytes fault         == the first fault of the bytes; of want of memory nothing is
---                                      said
+--   IsEdgeFault value i            == the value is an array, and its item i is the first that is no edge
+--   IsShapeFaultOf parts shape     == the first of the four parts that has another shape than it should
+--   IsShapeFault value shape       == the value has not the four parts, or the first of them that has another
+--                                     shape
+--   HasJsonText names i P          == there is a name i, and it is P
+--   IsNameFault names i            == the name i is the first that is no name or stood before, and it is no
+--                                     name
+--   IsTwiceFault names i           == the name i is the first that is no name or stood before, and it stood
+--                                     before
+--   IsGraphFault content fault     == the names are names, unless their number is at fault, and the fault is
+--                                     the first of the graph
+--   GivesGraph content             == the names are names, and the vertices and edges give a graph
+--   GivesDivisor content           == the amounts are those of a divisor, one for each name
+--   RefusesTable content fault     == the first fault of the content
+--   IsFileContentFault bytes fault == the bytes say a content, and that is its first fault
+--   RefusesFile bytes fault        == the first fault of the bytes; of want of memory nothing is said
 use Rattle.std.specs.Prelude.{◌≡◌, ◌≢◌, ℕ, ◌<◌, List, length, take, slice_get, Some, None, IsSome, IsTrue, ⊤}
 use Rattle.dg_chips.specs.DivisorFaults.{IsFirstChipFault}
 use Rattle.dg_chips.specs.Vector.{Vector, HoldsNumbers, IsDivisor}
@@ -29,8 +26,8 @@ use Rattle.dg_theory.specs.Multigraph.{Multigraph}
 use Rattle.dg_tokens.specs.Names.{IsName, AreNames, has, place_of}
 use Rattle.serde_json.specs.Data.{Data, Items}
 use Rattle.serde_json.specs.Find.{as_array, as_str, get_item}
-use Rattle.dg_file.specs.Content.{Content, Parts, Reads, IsNotJson, HasParts, texts_in, edge_in, edges_in, numbers_in, IsContent}
-use Rattle.dg_file.specs.TableFiles.{items_of}
+use Rattle.dg_file.specs.Content.{Content, JsonParts, Reads, IsNotJson, HasParts, texts_in, edge_in_json, edges_in_json, numbers_in, IsContent}
+use Rattle.dg_file.specs.TableFiles.{items_of_file_content}
 use Rattle.dg_file.specs.declared.fault.Shape.{Shape}
 use Rattle.dg_file.specs.declared.fault.Shape.TheVariants.{Top, Vertices, Edges, Edge, Amounts, Q}
 use Rattle.dg_file.specs.declared.fault.FileFault.{FileFault}
@@ -39,26 +36,26 @@ use Rattle.dg_file.specs.declared.fault.FileFault.TheVariants.{Json, Shape as Of
 pub record IsEdgeFault (value : Data) (i : ℕ) : Type 0 where
   pub items : Items
   pub array : as_array value ≡ Some items
-  pub before : (k : ℕ) → k < i → (d : Data) → get_item k items ≡ Some d → IsSome (edge_in d)
+  pub before : (k : ℕ) → k < i → (d : Data) → get_item k items ≡ Some d → IsSome (edge_in_json d)
   pub item : Data
   pub there : get_item i items ≡ Some item
-  pub no_edge : edge_in item ≡ None
+  pub no_edge : edge_in_json item ≡ None
 
-abbrev pub IsShapeFaultOf : Parts → Shape → Type 0
+abbrev pub IsShapeFaultOf : JsonParts → Shape → Type 0
 IsShapeFaultOf parts Top = ⊥
 IsShapeFaultOf parts Vertices = texts_in parts.vertices ≡ None
 IsShapeFaultOf parts Edges = IsSome (texts_in parts.vertices) × (as_array parts.edges ≡ None)
 IsShapeFaultOf parts (Edge i) = IsSome (texts_in parts.vertices) × IsEdgeFault parts.edges i
 IsShapeFaultOf parts Amounts =
-    IsSome (texts_in parts.vertices) × IsSome (edges_in parts.edges)
+    IsSome (texts_in parts.vertices) × IsSome (edges_in_json parts.edges)
     × (numbers_in parts.amounts ≡ None)
 IsShapeFaultOf parts Q =
-    IsSome (texts_in parts.vertices) × IsSome (edges_in parts.edges)
+    IsSome (texts_in parts.vertices) × IsSome (edges_in_json parts.edges)
     × IsSome (numbers_in parts.amounts) × (as_str parts.q ≡ None)
 
 abbrev pub IsShapeFault : Data → Shape → Type 0
-IsShapeFault value Top = (parts : Parts) → ¬ HasParts value parts
-IsShapeFault value shape = (parts : Parts) × HasParts value parts × IsShapeFaultOf parts shape
+IsShapeFault value Top = (parts : JsonParts) → ¬ HasParts value parts
+IsShapeFault value shape = (parts : JsonParts) × HasParts value parts × IsShapeFaultOf parts shape
 
 abbrev pub HasJsonText : List (List ℕ) → ℕ → (List ℕ → Type 0) → Type 0
 HasJsonText names i P = (name : List ℕ) × (slice_get names i ≡ Some name) × P name
@@ -75,12 +72,12 @@ pub record IsTwiceFault (names : List (List ℕ)) (i : ℕ) : Type 0 where
 
 pub record IsGraphFault (content : Content) (fault : GraphFault) : Type 0 where
   pub names : fault ≢ Size → AreNames content.vertices
-  pub first : IsFirstGraphFault (length content.vertices) (items_of content) fault
+  pub first : IsFirstGraphFault (length content.vertices) (items_of_file_content content) fault
 
 pub record GivesGraph (content : Content) : Type 0 where
   pub names : AreNames content.vertices
   pub graph : Multigraph
-  pub given : IsGiven (length content.vertices) (items_of content) graph
+  pub given : IsGiven (length content.vertices) (items_of_file_content content) graph
 
 pub record GivesDivisor (content : Content) : Type 0 where
   pub divisor : Vector
@@ -100,7 +97,7 @@ RefusesTable content NoQ =
     GivesGraph content × GivesDivisor content × (place_of content.vertices content.q ≡ None)
 RefusesTable content OutOfMemory = ⊥
 
-pub record IsRefusedTable (bytes : List ℕ) (fault : FileFault) : Type 0 where
+pub record IsFileContentFault (bytes : List ℕ) (fault : FileFault) : Type 0 where
   pub value : Data
   pub reads : Reads bytes value
   pub content : Content
@@ -111,4 +108,4 @@ abbrev pub RefusesFile : List ℕ → FileFault → Type 0
 RefusesFile bytes Json = IsNotJson bytes
 RefusesFile bytes (OfShape shape) = (value : Data) × Reads bytes value × IsShapeFault value shape
 RefusesFile bytes OutOfMemory = ⊤
-RefusesFile bytes fault = IsRefusedTable bytes fault
+RefusesFile bytes fault = IsFileContentFault bytes fault

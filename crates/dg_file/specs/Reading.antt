@@ -1,18 +1,17 @@
 -- What serves the reading of a table file alone: why a stage of it ends. Of want of memory nothing
 -- is said.
---   parts_of members         == the values of the four members
---   shape_fault_for fault    == the same as a fault of the file
---   RefusesShape value fault == that is the fault of the value's shape
---   RefusesValue value fault == that is the fault of the value's shape, or of the content that it says
+--   json_parts_of members        == the values of the four members
+--   shape_fault_for fault        == the same as a fault of the file
+--   RefusesShape value fault     == that is the fault of the value's shape
+--   RefusesValue value fault     == that is the fault of the value's shape, or of the content that it says
 --   RefusesContent content fault == that is the first fault of the content
---   RefusesNames names fault == the number of names is at fault, or else that is the first name at
---                               fault
+--   RefusesNames names fault     == the number of names is at fault, or else that is the first name at fault
 use Rattle.std.specs.Prelude.{ℕ, List, length, ⊤}
 use Rattle.dg_graph.specs.Faults.{IsSize}
 use Rattle.dg_graph.specs.declared.fault.GraphFault.TheVariants.{Size}
 use Rattle.serde_json.specs.Data.{Data}
 use Rattle.serde_json.specs.View.{view}
-use Rattle.dg_file.specs.Content.{Parts, Content, IsContent}
+use Rattle.dg_file.specs.Content.{JsonParts, Content, IsContent}
 use Rattle.dg_file.specs.FileFaults.{IsShapeFault, IsNameFault, IsTwiceFault, RefusesTable}
 use Rattle.dg_file.specs.declared.fault.FileFault.{FileFault}
 use Rattle.dg_file.specs.declared.fault.FileFault.TheVariants as file
@@ -20,8 +19,8 @@ use Rattle.dg_file.specs.declared.shape.Members.{Members}
 use Rattle.dg_file.specs.declared.shape.ShapeFault.{ShapeFault}
 use Rattle.dg_file.specs.declared.shape.ShapeFault.TheVariants as shape
 
-abbrev pub parts_of : Members → Parts
-parts_of members = record {
+abbrev pub json_parts_of : Members → JsonParts
+json_parts_of members = record {
   vertices = view members.vertices.now;
   edges = view members.edges.now;
   amounts = view members.amounts.now;

@@ -1,32 +1,31 @@
 -- What a table file describes: the start of a game, and the names of its vertices.
---   vertex_of names name           == the vertex of that name, or the number of vertices, which is
---                                     none of them
---   item_of names edge             == the edge as an item of a graph
---   items_of content               == the edges of the content as items of a graph
---   IsTable content o names        == the content describes the start o with these names
---   IsTableFile bytes o names      == the bytes are a table file, and describe the start o with
---                                     these names
+--   vertex_named_in_file names name == the vertex of that name, or the number of vertices, which is none of
+--                                      them
+--   item_of_file_edge names edge    == the edge as an item of a graph
+--   items_of_file_content content   == the edges of the content as items of a graph
+--   IsTable content o names         == the content describes the start o with these names
+--   IsTableFile bytes o names       == the bytes are a table file, and describe the start o with these names
 use Rattle.std.specs.Prelude.{◌≡◌, ℕ, List, length, map, Some, unwrap_or}
 use Rattle.dg_chips.specs.Starts.{StartData}
 use Rattle.dg_chips.specs.Vector.{HoldsNumbers, IsDivisor}
-use Rattle.dg_graph.specs.Items.{Item, IsGiven}
+use Rattle.dg_graph.specs.Items.{EdgeItem, IsGiven}
 use Rattle.dg_tokens.specs.Names.{AreNames, place_of}
 use Rattle.serde_json.specs.Data.{Data}
 use Rattle.dg_file.specs.Content.{Edge, Content, Reads, IsContent}
 
-abbrev pub vertex_of : List (List ℕ) → List ℕ → ℕ
-vertex_of names name = unwrap_or (place_of names name) (length names)
+abbrev pub vertex_named_in_file : List (List ℕ) → List ℕ → ℕ
+vertex_named_in_file names name = unwrap_or (place_of names name) (length names)
 
-abbrev pub item_of : List (List ℕ) → Edge → Item
-item_of names edge = (vertex_of names edge.one, vertex_of names edge.other, edge.count)
+abbrev pub item_of_file_edge : List (List ℕ) → Edge → EdgeItem
+item_of_file_edge names edge = (vertex_named_in_file names edge.one, vertex_named_in_file names edge.other, edge.count)
 
-abbrev pub items_of : Content → List Item
-items_of content = map (item_of content.vertices) content.edges
+abbrev pub items_of_file_content : Content → List EdgeItem
+items_of_file_content content = map (item_of_file_edge content.vertices) content.edges
 
 pub record IsTable (content : Content) (o : StartData) (names : List (List ℕ)) : Type 0 where
   pub given : names ≡ content.vertices
   pub are_names : AreNames names
-  pub graph : IsGiven (length names) (items_of content) o.graph
+  pub graph : IsGiven (length names) (items_of_file_content content) o.graph
   pub size : o.divisor.size ≡ length names
   pub amounts : HoldsNumbers content.amounts o.divisor
   pub within : IsDivisor o.divisor

@@ -2,9 +2,9 @@
 ghost use Rattle.std.specs.Prelude.{◌≡◌, ◌<◌, Some, IfOk, IfErr, MatchOption, map, option_map};
 ghost use Rattle.serde_json.specs.Data.{array};
 ghost use Rattle.serde_json.specs.View.{view, items_view};
-ghost use Rattle.dg_file.specs.Content.{Parts, HasParts, Reads, IsNotJson, IsContent, texts_in, numbers_in, edges_in, edge_in, count_in};
+ghost use Rattle.dg_file.specs.Content.{JsonParts, HasParts, Reads, IsNotJson, IsContent, texts_in, numbers_in, edges_in_json, edge_in_json, edge_count_in_json};
 ghost use Rattle.dg_file.specs.FileFaults.{IsEdgeFault};
-ghost use Rattle.dg_file.specs.Reading.{parts_of, RefusesShape};
+ghost use Rattle.dg_file.specs.Reading.{json_parts_of, RefusesShape};
 
 use crate::fault::{FileFault, Shape};
 use serde_json::Value;
@@ -59,7 +59,7 @@ impl<'v> Model for Edge<'v> {
 }
 
 /// The JSON value of the bytes, if they have one.
-pub fn value_of(alloc: Global, bytes: &[u8]) -> Result<Option<Value>, AllocError>
+pub fn value_from_json(alloc: Global, bytes: &[u8]) -> Result<Option<Value>, AllocError>
     ensures { IfOk result (λ value. MatchOption value (IsNotJson bytes.now)
         (λ value. Reads bytes.now (view value))) }
 {
@@ -109,16 +109,16 @@ pub fn content_of<'v>(alloc: Global, value: &'v Value) -> Result<Content<'v>, Sh
     ensures says { IfOk result (IsContent (view value.now)) }
     ensures refused { IfErr result (RefusesShape (view value.now)) }
 {
-    let Some(members) = members_of(value) else {
+    let Some(members) = members_from_json(value) else {
         return Err(ShapeFault::Shape(Shape::Top));
     };
-    let Some(vertices) = vertices_of(alloc, members.vertices)? else {
+    let Some(vertices) = vertices_from_json(alloc, members.vertices)? else {
         return Err(ShapeFault::Shape(Shape::Vertices));
     };
     let Some(items) = members.edges.as_array() else {
         return Err(ShapeFault::Shape(Shape::Edges));
     };
-    let edges = match edges_of(alloc, items)? {
+    let edges = match edges_from_json(alloc, items)? {
         Ok(edges) => edges,
         Err(i) => return Err(ShapeFault::Shape(Shape::Edge(i))),
     };
@@ -145,9 +145,9 @@ struct Members<'v> {
     q: &'v Value,
 }
 
-fn members_of(value: &Value) -> Option<Members<'_>>
-    ensures { MatchOption result ((parts : Parts) → ¬ HasParts (view value.now) parts)
-        (λ members. HasParts (view value.now) (parts_of members)) }
+fn members_from_json(value: &Value) -> Option<Members<'_>>
+    ensures { MatchOption result ((parts : JsonParts) → ¬ HasParts (view value.now) parts)
+        (λ members. HasParts (view value.now) (json_parts_of members)) }
 {
     let has_four = value.as_object()?.len() == 4;
     if !has_four {
@@ -162,7 +162,7 @@ fn members_of(value: &Value) -> Option<Members<'_>>
 }
 
 /// The texts of an array of texts.
-fn vertices_of(alloc: Global, value: &Value) -> Result<Option<Vec<&str>>, AllocError>
+fn vertices_from_json(alloc: Global, value: &Value) -> Result<Option<Vec<&str>>, AllocError>
     ensures { IfOk result (λ texts. texts_in (view value.now)
         ≡ option_map (λ texts. map (λ vertex. vertex.now) texts.items) texts) }
 {
@@ -180,12 +180,12 @@ fn vertices_of(alloc: Global, value: &Value) -> Result<Option<Vec<&str>>, AllocE
 }
 
 /// The edges that the items are, or the first item that is none.
-fn edges_of<'v>(
+fn edges_from_json<'v>(
     alloc: Global,
     items: &'v [Value],
 ) -> Result<Result<Vec<Edge<'v>>, usize>, AllocError>
     ensures edges { IfOk result (λ edges. IfOk edges (λ edges.
-        edges_in (array (items_view items.now)) ≡ Some edges.items)) }
+        edges_in_json (array (items_view items.now)) ≡ Some edges.items)) }
     ensures refused { IfOk result (λ edges. IfErr edges
         (IsEdgeFault (array (items_view items.now)))) }
 {
@@ -200,7 +200,7 @@ fn edges_of<'v>(
 }
 
 fn edge_of(value: &Value) -> Option<Edge<'_>>
-    ensures { result ≡ edge_in (view value.now) }
+    ensures { result ≡ edge_in_json (view value.now) }
 {
     let items = value.as_array()?;
     if items.len() != 3 {
@@ -210,12 +210,12 @@ fn edge_of(value: &Value) -> Option<Edge<'_>>
     Some(Edge {
         one: one.as_str()?,
         other: other.as_str()?,
-        count: count_of(count)?,
+        count: edge_count_from_json(count)?,
     })
 }
 
-fn count_of(value: &Value) -> Option<u8>
-    ensures { result ≡ count_in (view value.now) }
+fn edge_count_from_json(value: &Value) -> Option<u8>
+    ensures { result ≡ edge_count_in_json (view value.now) }
 {
     u8::try_from(value.as_i64()?).ok()
 }

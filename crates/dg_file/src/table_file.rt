@@ -2,14 +2,14 @@
 ghost use Rattle.std.specs.Prelude.{◌≡◌, [], length, map, IfOk, IfErr, OnOk};
 ghost use Rattle.dg_graph.specs.Faults.{IsSize};
 ghost use Rattle.dg_tokens.specs.Names.{AreNames};
-ghost use Rattle.dg_file.specs.TableFiles.{IsTable, IsTableFile, vertex_of, items_of};
+ghost use Rattle.dg_file.specs.TableFiles.{IsTable, IsTableFile, vertex_named_in_file, items_of_file_content};
 ghost use Rattle.dg_file.specs.FileFaults.{RefusesTable, RefusesFile};
 ghost use Rattle.dg_file.specs.Reading.{RefusesNames, RefusesContent, RefusesValue};
 ghost use Rattle.dg_file.specs.Content.{Content, IsContent};
 ghost use Rattle.serde_json.specs.View.{view};
 
 use crate::fault::FileFault;
-use crate::shape::{Content, content_of, value_of};
+use crate::shape::{Content, content_of, value_from_json};
 use dg_chips::{Divisor, Start};
 use dg_graph::{Graph, GraphFault, MAX_VERTICES};
 use dg_tokens::{Names, is_name};
@@ -50,7 +50,7 @@ pub fn read_table(alloc: Global, bytes: &[u8]) -> Result<TableFile, FileFault>
     ensures table { IfOk result (λ table. IsTableFile bytes.now table.start table.names) }
     ensures refused { IfErr result (RefusesFile bytes.now) }
 {
-    let value = value_of(alloc, bytes)?.ok_or(FileFault::Json)?;
+    let value = value_from_json(alloc, bytes)?.ok_or(FileFault::Json)?;
     table_of(alloc, &value)
 }
 
@@ -70,7 +70,7 @@ fn table_of_content(alloc: Global, content: &Content<'_>) -> Result<TableFile, F
     ensures refused { IfErr result (RefusesContent content.now) }
 {
     let names = names_of(alloc, content.vertices.as_slice())?;
-    let items = items_of(alloc, content, &names)?;
+    let items = items_of_file_content(alloc, content, &names)?;
     let start = start_of(content, &names, items.as_slice())?;
     Ok(TableFile { start, names })
 }
@@ -109,18 +109,18 @@ fn add_names(alloc: Global, vertices: &[&str], names: &mut Names) -> Result<(), 
 }
 
 /// The edges as items of a graph.
-fn items_of(
+fn items_of_file_content(
     alloc: Global,
     content: &Content<'_>,
     names: &Names,
 ) -> Result<Vec<(u8, u8, u8)>, AllocError>
     requires { names.now ≡ content.now.vertices }
-    ensures { IfOk result (λ items. items.items ≡ items_of content.now) }
+    ensures { IfOk result (λ items. items.items ≡ items_of_file_content content.now) }
 {
     let mut items = Vec::with_capacity(alloc, content.edges.len())?;
     for edge in &content.edges {
-        let one = vertex_of(names, edge.one);
-        let other = vertex_of(names, edge.other);
+        let one = vertex_named_in_file(names, edge.one);
+        let other = vertex_named_in_file(names, edge.other);
         items.push((one, other, edge.count))?;
     }
     Ok(items)
@@ -134,7 +134,7 @@ fn start_of(
 ) -> Result<Start, FileFault>
     requires given { names.now ≡ content.now.vertices }
     requires are_names { AreNames names.now }
-    requires items { items.now ≡ items_of content.now }
+    requires items { items.now ≡ items_of_file_content content.now }
     ensures table { IfOk result (λ start. IsTable content.now start names.now) }
     ensures refused { IfErr result (RefusesTable content.now) }
 {
@@ -148,8 +148,8 @@ fn start_of(
 }
 
 /// The vertex of that name, or the number of vertices, which is none of them.
-fn vertex_of(names: &Names, name: &str) -> u8
-    ensures { result ≡ vertex_of names.now name.now }
+fn vertex_named_in_file(names: &Names, name: &str) -> u8
+    ensures { result ≡ vertex_named_in_file names.now name.now }
 {
     names.place(name.as_bytes()).unwrap_or(names.len() as u8)
 }

@@ -17,9 +17,9 @@ pub use Rattle.dg_rules.specs.declared.step.Command.{Command}
 pub use Rattle.dg_rules.specs.declared.step.Command.TheVariants.{Call, Commit, Rank}
 pub use Rattle.dg_rules.specs.declared.step.Step.{Step}
 pub use Rattle.dg_rank.specs.Limits.{ArePastTrialLimits}
-pub use Rattle.dg_game.specs.Rehearsal.{IsPlaying, KeepsLook, PlaysOn, StopsPlay}
-pub use Rattle.dg_game.specs.Schedule.{AreGoodBefore, HasLook, ScheduleHasTrials, IsAsked, IsEntryOf, IsGood, IsKept, StepUsesKeptLook, UsesUp}
-pub use Rattle.dg_game.specs.ScheduleFaults.{IsFirstFault}
+pub use Rattle.dg_game.specs.Rehearsal.{IsPlayingSchedule, KeepsLook, PlaysOn, StopsPlay}
+pub use Rattle.dg_game.specs.Schedule.{IsScheduleGoodBefore, HasLook, ScheduleHasTrials, IsAskedInSchedule, IsEntryOfSchedule, IsGoodScheduleStep, IsKept, StepUsesKeptLook, UsesUpKeptLook}
+pub use Rattle.dg_game.specs.ScheduleFaults.{IsFirstRehearsalFault}
 pub use Rattle.dg_game.specs.declared.schedule.Rehearsal.{Rehearsal}
 pub use Rattle.dg_game.specs.declared.schedule.RehearseFault.{RehearseFault}
 pub use Rattle.dg_game.specs.declared.schedule.RehearseFault.TheVariants.{TooMany}

@@ -6,7 +6,7 @@
 --   keeps_more     the look that a seat keeps stays, unless the step is the seat's and uses looks
 --   keeps_new      after a look by the seat it keeps that one
 --   keeps_none     after a step of the seat that uses its look up it keeps none
-use Rattle.dg_game.proofs.Common.{◌≡◌, ℕ, ◌+◌, List, [], ◌∷◌, ◌++◌, length, length-append, slice_get, Option, Some, None, arith, refl, sym, ap, subst, ◌∙◌, inl, inr, cases_lt, StartData, IsLookAt, KeepsLook, UsesUp, StepUsesKeptLook, IsKept, Entry, LookData, Command, Call, Commit, Rank, Step, look_kept}
+use Rattle.dg_game.proofs.Common.{◌≡◌, ℕ, ◌+◌, List, [], ◌∷◌, ◌++◌, length, length-append, slice_get, Option, Some, None, arith, refl, sym, ap, subst, ◌∙◌, inl, inr, cases_lt, StartData, IsLookAt, KeepsLook, UsesUpKeptLook, StepUsesKeptLook, IsKept, Entry, LookData, Command, Call, Commit, Rank, Step, look_kept}
 use Rattle.dg_rules.specs.declared.entry.Plain.TheVariants as plain
 
 -- the step is another seat's, or uses no look
@@ -61,19 +61,19 @@ is_call (Call p) = 1
 is_call Commit = 0
 is_call (Rank k) = 0
 
-no_call : (c : Command) → UsesUp c → is_call c ≡ 0
+no_call : (c : Command) → UsesUpKeptLook c → is_call c ≡ 0
 no_call (Call p) up = absurd up
 no_call Commit up = refl
 no_call (Rank k) up = refl
 
-uses_look : (c : Command) → UsesUp c → StepUsesKeptLook c
+uses_look : (c : Command) → UsesUpKeptLook c → StepUsesKeptLook c
 uses_look (Call p) up = absurd up
 uses_look Commit up = tt
 uses_look (Rank k) up = tt
 
 pub kept_none : (steps : List Step) (seat n i : ℕ) (c : Command) →
     slice_get steps n ≡ Some (record { seat = seat; command = c }) →
-    UsesUp c → ¬ IsKept steps seat (n + 1) i
+    UsesUpKeptLook c → ¬ IsKept steps seat (n + 1) i
 kept_none steps seat n i c there up kept = elim (cases_lt i n) [
   | inl earlier ↦ kept.last n _ earlier (omega arith) there refl (uses_look c up)
   | inr now ↦
@@ -104,7 +104,7 @@ pub keeps_new : (o : StartData) (H : List Entry) (e : Entry) (steps : List Step)
 keeps_new o H e steps seat x there number look = (rw (longer H e, number) (kept_new steps seat (length H) there), look)
 
 pub keeps_none : (o : StartData) (H : List Entry) (e : Entry) (steps : List Step) (seat : ℕ) (c : Command) →
-    slice_get steps (length H) ≡ Some (record { seat = seat; command = c }) → UsesUp c →
+    slice_get steps (length H) ≡ Some (record { seat = seat; command = c }) → UsesUpKeptLook c →
     KeepsLook o (H ++ e ∷ []) steps seat None
 keeps_none o H e steps seat c there up i kept =
     kept_none steps seat (length H) i c there up (subst (λ n. IsKept steps seat n i) (longer H e) kept)

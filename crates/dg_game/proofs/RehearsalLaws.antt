@@ -13,16 +13,16 @@
 --   past_limits    a rank test past the limits is the first fault, where the seat keeps a look
 --   plays_at, stops_at   a step is played, or stops the play, as its command
 --   told_err       a refusal that is handed on tells what it told before
-use Rattle.dg_game.proofs.Common.{◌≡◌, ℕ, ◌+◌, ◌<◌, List, [], ◌∷◌, ◌++◌, length, length-append, slice_get, Option, Some, None, Result, Ok, Err, set, arith, refl, sym, ap, subst, ◌∙◌, inl, inr, length-set, replicate, slice_index_or, MatchResult, IsErrAnd, cases_lt, cases_eq, get_or-set_same, get_or-set_other, get_or-replicate, length-replicate, StartData, ArePastTrialLimits, IsSeat, IsLegal, KeepsLook, IsPlaying, PlaysOn, StopsPlay, RehearseFault, asked, UsesUp, StepUsesKeptLook, IsKept, IsAsked, IsEntryOf, HasLook, ScheduleHasTrials, IsGood, AreGoodBefore, IsFirstFault, LeadsTo, Entry, Plain, MAX_ENTRIES, LookData, Rehearsal, TooMany, Command, Call, Commit, Rank, Step, more_holds, legal_none, look_new}
+use Rattle.dg_game.proofs.Common.{◌≡◌, ℕ, ◌+◌, ◌<◌, List, [], ◌∷◌, ◌++◌, length, length-append, slice_get, Option, Some, None, Result, Ok, Err, set, arith, refl, sym, ap, subst, ◌∙◌, inl, inr, length-set, replicate, slice_index_or, MatchResult, IsErrAnd, cases_lt, cases_eq, get_or-set_same, get_or-set_other, get_or-replicate, length-replicate, StartData, ArePastTrialLimits, IsSeat, IsLegal, KeepsLook, IsPlayingSchedule, PlaysOn, StopsPlay, RehearseFault, asked, UsesUpKeptLook, StepUsesKeptLook, IsKept, IsAskedInSchedule, IsEntryOfSchedule, HasLook, ScheduleHasTrials, IsGoodScheduleStep, IsScheduleGoodBefore, IsFirstRehearsalFault, LeadsTo, Entry, Plain, MAX_ENTRIES, LookData, Rehearsal, TooMany, Command, Call, Commit, Rank, Step, more_holds, legal_none, look_new}
 use Rattle.dg_rules.specs.declared.entry.Plain.TheVariants as plain
 use Rattle.dg_game.proofs.KeptLaws.{keeps_more, keeps_new, keeps_none}
 
 entries_more : (steps : List Step) (H : List Entry) (step : Step) (e : Entry) →
     slice_get steps (length H) ≡ Some step →
-    IsEntryOf steps (length H) step e →
-    ((j : ℕ) (s : Step) (x : Entry) → slice_get steps j ≡ Some s → slice_get H j ≡ Some x → IsEntryOf steps j s x) →
+    IsEntryOfSchedule steps (length H) step e →
+    ((j : ℕ) (s : Step) (x : Entry) → slice_get steps j ≡ Some s → slice_get H j ≡ Some x → IsEntryOfSchedule steps j s x) →
     (j : ℕ) (s : Step) (x : Entry) → slice_get steps j ≡ Some s → slice_get (H ++ e ∷ []) j ≡ Some x →
-    IsEntryOf steps j s x
+    IsEntryOfSchedule steps j s x
 entries_more steps H step e there new before j s x step_at at = elim (more_holds H e j x at) [
   | inl old ↦ before j s x step_at old.1
   | inr last ↦
@@ -32,8 +32,8 @@ entries_more steps H step e there new before j s x step_at at = elim (more_holds
 ]
 
 good_more : (size : ℕ) (steps : List Step) (n : ℕ) (step : Step) → slice_get steps n ≡ Some step →
-    IsGood size steps n step →
-    AreGoodBefore size steps n → AreGoodBefore size steps (n + 1)
+    IsGoodScheduleStep size steps n step →
+    IsScheduleGoodBefore size steps n → IsScheduleGoodBefore size steps (n + 1)
 good_more size steps n step there good before k s below at = elim (cases_lt k n) [
   | inl earlier ↦ before k s earlier at
   | inr now ↦
@@ -48,11 +48,11 @@ abbrev pub AreLooks : StartData → List Entry → List Step → List (Option Lo
 AreLooks o H steps looks = (seat : ℕ) → IsSeat seat → KeepsLook o H steps seat (slice_index_or looks seat None)
 
 pub playing_more : (o : StartData) (H : List Entry) (steps : List Step) (r t : Rehearsal) (step : Step) (e : Entry) →
-    IsPlaying o steps H r →
-    slice_get steps (length H) ≡ Some step → IsGood o.graph.size steps (length H) step →
-    IsEntryOf steps (length H) step e →
+    IsPlayingSchedule o steps H r →
+    slice_get steps (length H) ≡ Some step → IsGoodScheduleStep o.graph.size steps (length H) step →
+    IsEntryOfSchedule steps (length H) step e →
     IsLegal o (H ++ e ∷ []) → LeadsTo o (H ++ e ∷ []) t.game → t.q ≡ r.q → length t.looks ≡ 65 →
-    AreLooks o (H ++ e ∷ []) steps t.looks → IsPlaying o steps (H ++ e ∷ []) t
+    AreLooks o (H ++ e ∷ []) steps t.looks → IsPlayingSchedule o steps (H ++ e ∷ []) t
 playing_more o H steps r t step e playing there good asks legal leads q places looks =
     let longer : length (H ++ e ∷ []) ≡ length H + 1 = omega (arith, length-append H (e ∷ [])) in
     record {
@@ -93,7 +93,7 @@ no_look p other uses = uses
 -- the looks kept after a call that is a look, and after one that is not
 pub looks_looked : (o : StartData) (H : List Entry) (e : Entry) (steps : List Step) (r : Rehearsal) (seat : ℕ) (p : Plain)
     (x : LookData) →
-    IsPlaying o steps H r → slice_get steps (length H) ≡ Some (record { seat = seat; command = Call p }) → IsSeat seat →
+    IsPlayingSchedule o steps H r → slice_get steps (length H) ≡ Some (record { seat = seat; command = Call p }) → IsSeat seat →
     e.request ≡ asked p → p ≡ plain.Look →
     x.number ≡ r.game.entries → x.gifts ≡ r.game.gifts → x.graph ≡ r.game.graph → x.position ≡ r.game.amounts →
     AreLooks o (H ++ e ∷ []) steps (set r.looks seat (Some x))
@@ -105,15 +105,15 @@ looks_looked o H e steps r seat p x playing there is asks look number gifts grap
     (look_new o H r.game e x playing.leads (asks ∙ ap asked look) number gifts graph position)) playing.looks
 
 pub looks_left : (o : StartData) (H : List Entry) (e : Entry) (steps : List Step) (r : Rehearsal) (seat : ℕ) (p : Plain) →
-    IsPlaying o steps H r → slice_get steps (length H) ≡ Some (record { seat = seat; command = Call p }) →
+    IsPlayingSchedule o steps H r → slice_get steps (length H) ≡ Some (record { seat = seat; command = Call p }) →
     (p ≡ plain.Look → ⊥) → AreLooks o (H ++ e ∷ []) steps r.looks
 looks_left o H e steps r seat p playing there other =
     looks_same o H e steps (record { seat = seat; command = Call p }) r.looks there (no_look p other) playing.looks
 
 pub called : (o : StartData) (H : List Entry) (e : Entry) (steps : List Step) (r t : Rehearsal) (seat : ℕ) (p : Plain) →
-    IsPlaying o steps H r → slice_get steps (length H) ≡ Some (record { seat = seat; command = Call p }) → IsSeat seat →
+    IsPlayingSchedule o steps H r → slice_get steps (length H) ≡ Some (record { seat = seat; command = Call p }) → IsSeat seat →
     e.seat ≡ seat → e.request ≡ asked p → IsLegal o (H ++ e ∷ []) → LeadsTo o (H ++ e ∷ []) t.game →
-    t.q ≡ r.q → length t.looks ≡ 65 → AreLooks o (H ++ e ∷ []) steps t.looks → IsPlaying o steps (H ++ e ∷ []) t
+    t.q ≡ r.q → length t.looks ≡ 65 → AreLooks o (H ++ e ∷ []) steps t.looks → IsPlayingSchedule o steps (H ++ e ∷ []) t
 called o H e steps r t seat p playing there is its asks legal leads q places looks =
     playing_more o H steps r t (record { seat = seat; command = Call p }) e
     playing there (is, tt, tt) (record { seat = its; request = asks }) legal leads q places looks
@@ -124,11 +124,11 @@ has_look steps seat j i Commit kept = (i, kept)
 has_look steps seat j i (Rank k) kept = (i, kept)
 
 pub entered : (o : StartData) (H : List Entry) (e : Entry) (steps : List Step) (r t : Rehearsal) (seat : ℕ) (c : Command)
-    (x : LookData) → IsPlaying o steps H r → slice_get steps (length H) ≡ Some (record { seat = seat; command = c }) →
-    IsSeat seat → KeepsLook o H steps seat (Some x) → UsesUp c → ScheduleHasTrials o.graph.size c →
-    e.seat ≡ seat → IsAsked steps seat (length H) c e.request →
+    (x : LookData) → IsPlayingSchedule o steps H r → slice_get steps (length H) ≡ Some (record { seat = seat; command = c }) →
+    IsSeat seat → KeepsLook o H steps seat (Some x) → UsesUpKeptLook c → ScheduleHasTrials o.graph.size c →
+    e.seat ≡ seat → IsAskedInSchedule steps seat (length H) c e.request →
     IsLegal o (H ++ e ∷ []) → LeadsTo o (H ++ e ∷ []) t.game →
-    t.q ≡ r.q → t.looks ≡ set r.looks seat None → IsPlaying o steps (H ++ e ∷ []) t
+    t.q ≡ r.q → t.looks ≡ set r.looks seat None → IsPlayingSchedule o steps (H ++ e ∷ []) t
 entered o H e steps r t seat c x playing there is (kept, look) up trials its asks legal leads q replaced =
     let step : Step = record { seat = seat; command = c } in
     playing_more o H steps r t step e playing there (is, has_look steps seat (length H) x.number c kept, trials)
@@ -137,7 +137,7 @@ entered o H e steps r t seat c x playing there is (kept, look) up trials its ask
     (keeps_none o H e steps seat c there up) playing.looks))
 
 pub aimed : (o : StartData) (H : List Entry) (steps : List Step) (r t : Rehearsal) → t.game ≡ r.game → t.q ≡ r.q →
-    t.looks ≡ r.looks → IsPlaying o steps H r → IsPlaying o steps H t
+    t.looks ≡ r.looks → IsPlayingSchedule o steps H r → IsPlayingSchedule o steps H t
 aimed o H steps r t game q looks playing = record {
   leads = rw game playing.leads;
   q = q ∙ playing.q;
@@ -149,7 +149,7 @@ aimed o H steps r t game q looks playing = record {
 }
 
 pub playing_none : (o : StartData) (steps : List Step) (r : Rehearsal) → LeadsTo o [] r.game → r.q ≡ o.q →
-    r.looks ≡ replicate 65 None → IsPlaying o steps [] r
+    r.looks ≡ replicate 65 None → IsPlayingSchedule o steps [] r
 playing_none o steps r leads q empty = record {
   leads = leads;
   q = q;
@@ -162,10 +162,10 @@ playing_none o steps r leads q empty = record {
 }
 
 pub past_limits : (o : StartData) (H : List Entry) (steps : List Step) (r : Rehearsal) (seat k j i : ℕ) →
-    IsPlaying o steps H r →
+    IsPlayingSchedule o steps H r →
     slice_get steps (length H) ≡ Some (record { seat = seat; command = Rank k }) → i ≡ length H → i < MAX_ENTRIES →
     IsSeat seat →
-    IsKept steps seat (length H) j → ArePastTrialLimits o.graph.size k → IsFirstFault o.graph.size steps (TooMany i)
+    IsKept steps seat (length H) j → ArePastTrialLimits o.graph.size k → IsFirstRehearsalFault o.graph.size steps (TooMany i)
 past_limits o H steps r seat k j i playing there here room is kept past = (
   room,
   rw here playing.good,

@@ -1,9 +1,8 @@
 -- When a schedule is refused, and for which step.
---   ScheduleAsksTooMany n c       == the command c is a rank test past one of the limits on n
---                                    vertices
---   HasStep steps i P             == there is a step i, and it has the property P
---   IsFirstFault n steps fault    == on n vertices the fault is the first one; nothing is said of
---                                    want of memory
+--   ScheduleAsksTooMany n c             == the command c is a rank test past one of the limits on n vertices
+--   HasStep steps i P                   == there is a step i, and it has the property P
+--   IsFirstRehearsalFault n steps fault == on n vertices the fault is the first one; nothing is said of want
+--                                          of memory
 use Rattle.std.specs.Prelude.{◌≡◌, ℕ, ◌<◌, ◌≤◌, List, slice_get, Some, ⊤}
 use Rattle.dg_rules.specs.Legal.{IsSeat}
 use Rattle.dg_rules.specs.declared.game.TheConstants.{MAX_ENTRIES}
@@ -11,7 +10,7 @@ use Rattle.dg_rules.specs.declared.step.Command.{Command}
 use Rattle.dg_rules.specs.declared.step.Command.TheVariants.{Call, Commit, Rank}
 use Rattle.dg_rules.specs.declared.step.Step.{Step}
 use Rattle.dg_rank.specs.Limits.{ArePastTrialLimits}
-use Rattle.dg_game.specs.Schedule.{HasLook, AreGoodBefore}
+use Rattle.dg_game.specs.Schedule.{HasLook, IsScheduleGoodBefore}
 use Rattle.dg_game.specs.declared.schedule.RehearseFault.{RehearseFault}
 use Rattle.dg_game.specs.declared.schedule.RehearseFault.TheVariants.{Seat, Full, NoLook, TooMany, OutOfMemory}
 
@@ -23,14 +22,14 @@ ScheduleAsksTooMany n (Rank k) = ArePastTrialLimits n k
 abbrev pub HasStep : List Step → ℕ → (Step → Type 0) → Type 0
 HasStep steps i P = (step : Step) × (slice_get steps i ≡ Some step) × P step
 
-abbrev pub IsFirstFault : ℕ → List Step → RehearseFault → Type 0
-IsFirstFault n steps (Seat i) =
-    (i ≤ MAX_ENTRIES) × AreGoodBefore n steps i × HasStep steps i (λ step. ¬ IsSeat step.seat)
-IsFirstFault n steps (Full i) =
-    (i ≡ MAX_ENTRIES) × AreGoodBefore n steps i × HasStep steps i (λ step. IsSeat step.seat)
-IsFirstFault n steps (NoLook i) = (i < MAX_ENTRIES) × AreGoodBefore n steps i ×
+abbrev pub IsFirstRehearsalFault : ℕ → List Step → RehearseFault → Type 0
+IsFirstRehearsalFault n steps (Seat i) =
+    (i ≤ MAX_ENTRIES) × IsScheduleGoodBefore n steps i × HasStep steps i (λ step. ¬ IsSeat step.seat)
+IsFirstRehearsalFault n steps (Full i) =
+    (i ≡ MAX_ENTRIES) × IsScheduleGoodBefore n steps i × HasStep steps i (λ step. IsSeat step.seat)
+IsFirstRehearsalFault n steps (NoLook i) = (i < MAX_ENTRIES) × IsScheduleGoodBefore n steps i ×
     HasStep steps i (λ step. IsSeat step.seat × (¬ HasLook steps step.seat i step.command))
-IsFirstFault n steps (TooMany i) = (i < MAX_ENTRIES) × AreGoodBefore n steps i ×
+IsFirstRehearsalFault n steps (TooMany i) = (i < MAX_ENTRIES) × IsScheduleGoodBefore n steps i ×
     HasStep steps i (λ step. IsSeat step.seat × HasLook steps step.seat i step.command ×
     ScheduleAsksTooMany n step.command)
-IsFirstFault n steps OutOfMemory = ⊤
+IsFirstRehearsalFault n steps OutOfMemory = ⊤

@@ -2,22 +2,22 @@
 ghost use Rattle.std.specs.Prelude.{◌≡◌, ◌≢◌, ℕ, ◌<◌, ◌≤◌, List, [], ◌∷◌, ◌++◌, length, slice_get, Some, MatchResult, MatchOption, OnErr, None};
 ghost use Rattle.dg_chips.specs.Starts.{StartData};
 ghost use Rattle.dg_rules.specs.Legal.{IsSeat};
-ghost use Rattle.dg_rules.specs.Look.{IsFoundFor, asked_for, asked_on};
-ghost use Rattle.dg_game.specs.Schedule.{UsesUp, IsKept, IsAsked, ScheduleHasTrials, IsRehearsal};
-ghost use Rattle.dg_game.specs.ScheduleFaults.{IsFirstFault};
-ghost use Rattle.dg_game.specs.Rehearsal.{KeepsLook, IsPlaying, IsInPlay, PlaysOn, StopsPlay};
+ghost use Rattle.dg_rules.specs.Look.{IsRightFinding, request_for_finding, request_for_question};
+ghost use Rattle.dg_game.specs.Schedule.{UsesUpKeptLook, IsKept, IsAskedInSchedule, ScheduleHasTrials, IsRehearsal};
+ghost use Rattle.dg_game.specs.ScheduleFaults.{IsFirstRehearsalFault};
+ghost use Rattle.dg_game.specs.Rehearsal.{KeepsLook, IsPlayingSchedule, IsRehearsalInPlay, PlaysOn, StopsPlay};
 ghost use Rattle.dg_rules.specs.declared.entry.Entry.{Entry};
 ghost use Rattle.dg_rules.specs.declared.step.Command.{Command};
 ghost use Rattle.dg_rules.specs.declared.step.Step.{Step};
 ghost use Rattle.dg_rules.specs.declared.step.Command.TheVariants.{Call, Commit, Rank};
 
-use crate::ranking::rank_look;
+use crate::ranking::rank_kept_look;
 use dg_chips::Start;
 use dg_rank::{RankFault, trials};
 use dg_reduce::InverseLaplacian;
 use dg_rules::{
     BLANK, Command, Entry, Finding, Game, LookData, MAX_ENTRIES, MAX_SEATS, Plain, Question, Step,
-    judge_look, renew_looks_inverse,
+    finding_of_verdict, renew_inverse_for_finding,
 };
 use std::alloc::Allocator;
 use thiserror::Error;
@@ -69,7 +69,7 @@ pub fn rehearse<A: Allocator + Drop>(
 ) -> Result<Vec<Entry, A>, RehearseFault>
     ensures { MatchResult result
         (λ history. IsRehearsal start.now steps.now history.items)
-        (IsFirstFault start.now.graph.size steps.now) }
+        (IsFirstRehearsalFault start.now.graph.size steps.now) }
 {
     let Ok(mut history) = Vec::with_capacity(alloc, steps.len().min(MAX_ENTRIES)) else {
         return Err(RehearseFault::OutOfMemory);
@@ -86,7 +86,7 @@ pub fn rehearse<A: Allocator + Drop>(
 impl Rehearsal {
     /// The schedule before its first step.
     pub fn new(start: &Start) -> Rehearsal
-        ensures { (steps : List Step) → IsPlaying start.now steps [] result }
+        ensures { (steps : List Step) → IsPlayingSchedule start.now steps [] result }
     {
         let q = start.q();
         Rehearsal {
@@ -102,14 +102,14 @@ impl Rehearsal {
     ///
     /// Refused with `Seat`, `Full`, `NoLook` or `TooMany` as `rehearse` refuses the step; then nothing has changed.
     pub fn play(&mut self, step: &Step, entry: &mut Entry) -> Result<(), RehearseFault>
-        requires { IsInPlay self.old }
+        requires { IsRehearsalInPlay self.old }
         ensures plays { MatchResult result
             (λ _. (self.old.game.entries < MAX_ENTRIES) × PlaysOn self.old step.now entry.new self.new)
             (StopsPlay self.old step.now) }
         ensures same { OnErr result ((self.new ≡ self.old) × (entry.new ≡ entry.old)) }
     {
         let seat = step.seat;
-        if let Some(fault) = self.barred(seat) {
+        if let Some(fault) = self.barred_from_schedule(seat) {
             return Err(fault);
         }
         match &step.command {
@@ -123,8 +123,8 @@ impl Rehearsal {
     }
 
     /// Why the seat can have no step next, whatever its command.
-    fn barred(&self, seat: u8) -> Option<RehearseFault>
-        requires { IsInPlay self.now }
+    fn barred_from_schedule(&self, seat: u8) -> Option<RehearseFault>
+        requires { IsRehearsalInPlay self.now }
         ensures { MatchOption result
             (IsSeat seat × (self.now.game.entries < MAX_ENTRIES))
             (λ fault. (c : Command) →
@@ -142,7 +142,7 @@ impl Rehearsal {
 
     /// Answers a seat's call, and writes its entry; a look is kept for the seat.
     fn call(&mut self, seat: u8, plain: &Plain, entry: &mut Entry)
-        requires playing { IsInPlay self.old }
+        requires playing { IsRehearsalInPlay self.old }
         requires room { self.old.game.entries < MAX_ENTRIES }
         requires seat { IsSeat seat }
         ensures { PlaysOn self.old (record { seat = seat; command = Call plain.now }) entry.new self.new }
@@ -150,13 +150,13 @@ impl Rehearsal {
         if let Plain::Look = plain {
             self.looks[usize::from(seat)] = Some(self.game.look_data());
         }
-        self.game.answer_call(seat, plain, entry);
-        self.game.follow(entry);
+        self.game.reply_to_call(seat, plain, entry);
+        self.game.follow_entry(entry);
     }
 
     /// Enters the verdict on the look that a seat keeps, which is used up; or why it can't be entered.
     fn commit(&mut self, seat: u8, entry: &mut Entry) -> Result<(), RehearseFault>
-        requires playing { IsInPlay self.old }
+        requires playing { IsRehearsalInPlay self.old }
         requires room { self.old.game.entries < MAX_ENTRIES }
         requires seat { IsSeat seat }
         ensures plays { MatchResult result
@@ -169,19 +169,19 @@ impl Rehearsal {
             return Err(RehearseFault::NoLook(i));
         };
         if look.gifts != self.game.gifts() {
-            self.enter_stale(seat, &look, &Question::Judge, entry);
+            self.enter_stale_as_step(seat, &look, &Question::Judge, entry);
             return Ok(());
         }
         let q = self.q();
-        renew_looks_inverse(&mut self.inverse, q, &look);
-        let finding = judge_look(&self.inverse, q, &look);
-        self.enter_finding(seat, &look, &finding, entry);
+        renew_inverse_for_finding(&mut self.inverse, q, &look);
+        let finding = finding_of_verdict(&self.inverse, q, &look);
+        self.enter_finding_as_step(seat, &look, &finding, entry);
         Ok(())
     }
 
     /// Enters the rank test of degree k on the look that a seat keeps, which is used up; or why it can't be entered.
     fn rank(&mut self, seat: u8, k: u32, entry: &mut Entry) -> Result<(), RehearseFault>
-        requires playing { IsInPlay self.old }
+        requires playing { IsRehearsalInPlay self.old }
         requires room { self.old.game.entries < MAX_ENTRIES }
         requires seat { IsSeat seat }
         ensures plays { MatchResult result
@@ -196,19 +196,19 @@ impl Rehearsal {
         if look.gifts != self.game.gifts()
             && let Some(_) = trials(look.graph.size(), k)
         {
-            self.enter_stale(seat, &look, &Question::Rank(k), entry);
+            self.enter_stale_as_step(seat, &look, &Question::Rank(k), entry);
             return Ok(());
         }
-        let Ok(finding) = rank_look(self.q(), &look, k) else {
+        let Ok(finding) = rank_kept_look(self.q(), &look, k) else {
             return Err(RehearseFault::TooMany(i));
         };
-        self.enter_finding(seat, &look, &finding, entry);
+        self.enter_finding_as_step(seat, &look, &finding, entry);
         Ok(())
     }
 
     /// The vertex from which verdicts are computed, which is that of the game.
     fn q(&self) -> usize
-        requires { IsInPlay self.now }
+        requires { IsRehearsalInPlay self.now }
         ensures q { result ≡ self.now.game.q }
         ensures vertex { result < self.now.game.graph.size }
     {
@@ -218,50 +218,56 @@ impl Rehearsal {
 
     /// The look that a seat keeps, if it keeps one.
     fn kept(&self, seat: u8) -> Option<LookData>
-        requires playing { IsInPlay self.now }
+        requires playing { IsRehearsalInPlay self.now }
         requires seat { IsSeat seat }
         ensures { (o : StartData) (H : List Entry) (steps : List Step) →
-            IsPlaying o steps H self.now → KeepsLook o H steps seat result }
+            IsPlayingSchedule o steps H self.now → KeepsLook o H steps seat result }
     {
         self.looks[usize::from(seat)]
     }
 
     /// Enters what was computed on the look that a seat keeps, writes the entry, and uses the look up.
     #[inline(always)]
-    fn enter_finding(&mut self, seat: u8, look: &LookData, finding: &Finding, entry: &mut Entry)
+    fn enter_finding_as_step(
+        &mut self,
+        seat: u8,
+        look: &LookData,
+        finding: &Finding,
+        entry: &mut Entry,
+    )
         requires playing { (o : StartData) × (H : List Entry) × (steps : List Step) ×
-            IsPlaying o steps H self.old × KeepsLook o H steps seat (Some look.now) }
-        requires found { IsFoundFor self.old.game.q look.now finding.now }
+            IsPlayingSchedule o steps H self.old × KeepsLook o H steps seat (Some look.now) }
+        requires found { IsRightFinding self.old.game.q look.now finding.now }
         requires room { self.old.game.entries < MAX_ENTRIES }
         requires seat { IsSeat seat }
         ensures { (o : StartData) (H : List Entry) (steps : List Step) (c : Command) →
-            IsPlaying o steps H self.old → KeepsLook o H steps seat (Some look.now) →
+            IsPlayingSchedule o steps H self.old → KeepsLook o H steps seat (Some look.now) →
             slice_get steps (length H) ≡ Some (record { seat = seat; command = c }) →
-            UsesUp c → ScheduleHasTrials o.graph.size c →
-            IsAsked steps seat (length H) c (asked_for look.now.number finding.now) →
-            IsPlaying o steps (H ++ entry.new ∷ []) self.new }
+            UsesUpKeptLook c → ScheduleHasTrials o.graph.size c →
+            IsAskedInSchedule steps seat (length H) c (request_for_finding look.now.number finding.now) →
+            IsPlayingSchedule o steps (H ++ entry.new ∷ []) self.new }
     {
-        self.game.answer_finding(seat, look, finding, entry);
-        self.game.follow(entry);
+        self.game.reply_to_finding(seat, look, finding, entry);
+        self.game.follow_entry(entry);
         self.looks[usize::from(seat)] = None;
     }
 
     /// Enters a question as stale, on the look that a seat keeps, writes the entry, and uses the look up.
-    fn enter_stale(&mut self, seat: u8, look: &LookData, asks: &Question, entry: &mut Entry)
+    fn enter_stale_as_step(&mut self, seat: u8, look: &LookData, asks: &Question, entry: &mut Entry)
         requires playing { (o : StartData) × (H : List Entry) × (steps : List Step) ×
-            IsPlaying o steps H self.old × KeepsLook o H steps seat (Some look.now) }
+            IsPlayingSchedule o steps H self.old × KeepsLook o H steps seat (Some look.now) }
         requires stale { look.now.gifts ≢ self.old.game.gifts }
         requires room { self.old.game.entries < MAX_ENTRIES }
         requires seat { IsSeat seat }
         ensures { (o : StartData) (H : List Entry) (steps : List Step) (c : Command) →
-            IsPlaying o steps H self.old → KeepsLook o H steps seat (Some look.now) →
+            IsPlayingSchedule o steps H self.old → KeepsLook o H steps seat (Some look.now) →
             slice_get steps (length H) ≡ Some (record { seat = seat; command = c }) →
-            UsesUp c → ScheduleHasTrials o.graph.size c →
-            IsAsked steps seat (length H) c (asked_on look.now.number asks.now) →
-            IsPlaying o steps (H ++ entry.new ∷ []) self.new }
+            UsesUpKeptLook c → ScheduleHasTrials o.graph.size c →
+            IsAskedInSchedule steps seat (length H) c (request_for_question look.now.number asks.now) →
+            IsPlayingSchedule o steps (H ++ entry.new ∷ []) self.new }
     {
-        self.game.answer_stale(seat, look, asks, entry);
-        self.game.follow(entry);
+        self.game.reply_as_stale(seat, look, asks, entry);
+        self.game.follow_entry(entry);
         let place = usize::from(seat);
         self.looks[place] = None;
     }

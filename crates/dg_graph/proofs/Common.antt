@@ -1,7 +1,7 @@
 -- The names that the proofs of this crate cite, passed on from one place. Declares nothing.
-pub use Rattle.dg_graph.specs.Faults.{IsFirstHigh, IsParted, IsSize}
+pub use Rattle.dg_graph.specs.Faults.{IsFirstHighValence, IsPartedEdgeList, IsSize}
 pub use Rattle.dg_graph.specs.Graph.{IsGraph, IsSquare}
-pub use Rattle.dg_graph.specs.Items.{IsItem, IsItems, IsRightBefore, Item, edges_put}
+pub use Rattle.dg_graph.specs.Items.{IsEdgeItem, AreEdgeItems, AreEdgeItemsBefore, EdgeItem, edges_put}
 pub use Rattle.dg_graph.specs.Joins.{IsJoinable}
 pub use Rattle.dg_graph.specs.Search.{IsApart, IsInOrApart, IsJoinedInTable, IsNextTo, is_in}
 pub use Rattle.dg_graph.specs.Sets.{IsWith}

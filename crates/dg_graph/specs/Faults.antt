@@ -2,17 +2,16 @@
 --   IsSize n                        == the number of vertices is within the limits
 --   JoinsNoVertex n item            == the item names a number that is none of n vertices
 --   IsLoop n item                   == the item joins a vertex to itself
---   IsEmptyItem n item              == the item puts no edge between two different vertices
---   IsFirstHigh n items v           == v is the first vertex at which the items put more than 63
---                                      edges
---   IsParted n items                == no vertex has more than 63 edges, and some two have no chain
---                                      of edges between them
---   IsFirstGraphFault n items fault == the fault is the first that stands in the items for n
---                                      vertices: that of an item stands where all items before it
---                                      are right, and that of the whole list if all items are
+--   IsEmptyEdgeItem n item          == the item puts no edge between two different vertices
+--   IsFirstHighValence n items v    == v is the first vertex at which the items put more than 63 edges
+--   IsPartedEdgeList n items        == no vertex has more than 63 edges, and some two have no chain of edges
+--                                      between them
+--   IsFirstGraphFault n items fault == the fault is the first that stands in the items for n vertices: that
+--                                      of an item stands where all items before it are right, and that of the
+--                                      whole list if all items are
 use Rattle.std.specs.Prelude.{◌≡◌, ◌≢◌, ℕ, ◌<◌, ◌≤◌, List, ◌⊎◌}
 use Rattle.dg_theory.specs.Multigraph.{JoinedIn}
-use Rattle.dg_graph.specs.Items.{Item, IsItems, IsRightBefore, HasItem, edges_listed, valence_listed}
+use Rattle.dg_graph.specs.Items.{EdgeItem, AreEdgeItems, AreEdgeItemsBefore, HasEdgeItem, edges_listed, valence_listed}
 use Rattle.dg_graph.specs.declared.limits.TheConstants.{MAX_VERTICES, MAX_VALENCE}
 use Rattle.dg_graph.specs.declared.fault.GraphFault.{GraphFault}
 use Rattle.dg_graph.specs.declared.fault.GraphFault.TheVariants.{Size, NoVertex, Loop, Multiplicity, Valence, NotConnected}
@@ -20,25 +19,25 @@ use Rattle.dg_graph.specs.declared.fault.GraphFault.TheVariants.{Size, NoVertex,
 abbrev pub IsSize : ℕ → Type 0
 IsSize n = (1 ≤ n) × (n ≤ MAX_VERTICES)
 
-abbrev pub JoinsNoVertex : ℕ → Item → Type 0
+abbrev pub JoinsNoVertex : ℕ → EdgeItem → Type 0
 JoinsNoVertex n item = (n ≤ item.0) ⊎ (n ≤ item.1)
 
-pub record IsLoop (n : ℕ) (item : Item) : Type 0 where
+pub record IsLoop (n : ℕ) (item : EdgeItem) : Type 0 where
   pub vertex : item.0 < n
   pub same : item.0 ≡ item.1
 
-pub record IsEmptyItem (n : ℕ) (item : Item) : Type 0 where
+pub record IsEmptyEdgeItem (n : ℕ) (item : EdgeItem) : Type 0 where
   pub first : item.0 < n
   pub second : item.1 < n
   pub different : item.0 ≢ item.1
   pub none : item.2 ≡ 0
 
-pub record IsFirstHigh (n : ℕ) (items : List Item) (v : ℕ) : Type 0 where
+pub record IsFirstHighValence (n : ℕ) (items : List EdgeItem) (v : ℕ) : Type 0 where
   pub vertex : v < n
   pub high : MAX_VALENCE < valence_listed n items v
   pub least : (u : ℕ) → u < v → valence_listed n items u ≤ MAX_VALENCE
 
-pub record IsParted (n : ℕ) (items : List Item) : Type 0 where
+pub record IsPartedEdgeList (n : ℕ) (items : List EdgeItem) : Type 0 where
   pub valences : (v : ℕ) → v < n → valence_listed n items v ≤ MAX_VALENCE
   pub one : ℕ
   pub other : ℕ
@@ -46,12 +45,12 @@ pub record IsParted (n : ℕ) (items : List Item) : Type 0 where
   pub other_vertex : other < n
   pub parted : ¬ JoinedIn n (edges_listed items) one other
 
-abbrev pub IsFirstGraphFault : ℕ → List Item → GraphFault → Type 0
+abbrev pub IsFirstGraphFault : ℕ → List EdgeItem → GraphFault → Type 0
 IsFirstGraphFault n items Size = ¬ IsSize n
 IsFirstGraphFault n items (NoVertex i) =
-    IsSize n × IsRightBefore n items i × HasItem items i (JoinsNoVertex n)
-IsFirstGraphFault n items (Loop i) = IsSize n × IsRightBefore n items i × HasItem items i (IsLoop n)
+    IsSize n × AreEdgeItemsBefore n items i × HasEdgeItem items i (JoinsNoVertex n)
+IsFirstGraphFault n items (Loop i) = IsSize n × AreEdgeItemsBefore n items i × HasEdgeItem items i (IsLoop n)
 IsFirstGraphFault n items (Multiplicity i) =
-    IsSize n × IsRightBefore n items i × HasItem items i (IsEmptyItem n)
-IsFirstGraphFault n items (Valence v) = IsSize n × IsItems n items × IsFirstHigh n items v
-IsFirstGraphFault n items NotConnected = IsSize n × IsItems n items × IsParted n items
+    IsSize n × AreEdgeItemsBefore n items i × HasEdgeItem items i (IsEmptyEdgeItem n)
+IsFirstGraphFault n items (Valence v) = IsSize n × AreEdgeItems n items × IsFirstHighValence n items v
+IsFirstGraphFault n items NotConnected = IsSize n × AreEdgeItems n items × IsPartedEdgeList n items

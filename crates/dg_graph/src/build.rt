@@ -3,7 +3,7 @@
 ghost use Rattle.std.specs.Prelude.{◌≡◌, ◌≢◌, ℕ, ◌+◌, ◌<◌, ◌≤◌, MatchOption, min, slice_index};
 ghost use Rattle.dg_theory.specs.Multigraph.{entry};
 ghost use Rattle.dg_graph.specs.Graph.{IsSquare};
-ghost use Rattle.dg_graph.specs.Items.{IsItem, IsItems, edges_put, edges_listed};
+ghost use Rattle.dg_graph.specs.Items.{IsEdgeItem, AreEdgeItems, edges_put, edges_listed};
 ghost use Rattle.dg_graph.specs.Faults.{IsFirstGraphFault, IsSize};
 
 use crate::fault::GraphFault;
@@ -11,9 +11,9 @@ use crate::limits::MAX_VERTICES;
 use crate::table::Table;
 
 /// The first fault of a single item.
-pub fn first_item_fault(size: usize, items: &[(u8, u8, u8)]) -> Option<GraphFault>
+pub fn first_edge_item_fault(size: usize, items: &[(u8, u8, u8)]) -> Option<GraphFault>
     requires { IsSize size }
-    ensures { MatchOption result (IsItems size items.now) (IsFirstGraphFault size items.now) }
+    ensures { MatchOption result (AreEdgeItems size items.now) (IsFirstGraphFault size items.now) }
 {
     for (i, &(u, v, edges)) in items.iter().enumerate() {
         let (u, v) = (usize::from(u), usize::from(v));
@@ -33,20 +33,20 @@ pub fn first_item_fault(size: usize, items: &[(u8, u8, u8)]) -> Option<GraphFaul
 /// The sums of the items' edges, each cut off at 255.
 pub fn table_of(size: usize, items: &[(u8, u8, u8)]) -> Table
     requires size { IsSize size }
-    requires items { IsItems size items.now }
+    requires items { AreEdgeItems size items.now }
     ensures cells { (u v : ℕ) → entry result u v ≡ min 255 (edges_listed items.now u v) }
     ensures square { IsSquare result }
 {
     let mut table = [[0; MAX_VERTICES]; MAX_VERTICES];
     'items: for &item in items {
-        add_item(&mut table, item);
+        add_item_of_edges(&mut table, item);
     }
     table
 }
 
 /// Adds the item's edges between its two vertices, in both directions, cut off at 255.
-fn add_item(table: &mut Table, item: (u8, u8, u8))
-    requires item { IsItem MAX_VERTICES item }
+fn add_item_of_edges(table: &mut Table, item: (u8, u8, u8))
+    requires item { IsEdgeItem MAX_VERTICES item }
     requires capped { (a b : ℕ) → entry table.old a b ≤ 255 }
     requires square { IsSquare table.old }
     ensures cells { (a b : ℕ) → entry table.new a b ≡ min 255 (entry table.old a b + edges_put item a b) }

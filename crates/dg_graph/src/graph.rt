@@ -9,11 +9,11 @@ ghost use Rattle.dg_graph.specs.Items.{IsGiven};
 ghost use Rattle.dg_graph.specs.Faults.{IsFirstGraphFault};
 ghost use Rattle.dg_graph.specs.Joins.{IsJoinable, RefusesJoin};
 
-use crate::build::{first_item_fault, table_of};
+use crate::build::{first_edge_item_fault, table_of};
 use crate::connected::is_connected;
 use crate::fault::{GraphFault, JoinFault};
 use crate::limits::{MAX_VALENCE, MAX_VERTICES};
-use crate::table::{Table, edge_count, first_high, valences_of, with_one_more};
+use crate::table::{Table, edge_count, first_high_valence, valences_of, with_one_more};
 use std::marker::Model;
 
 /// A finite connected multigraph without loops: 1 to 16 vertices, numbered from 0, and at most 63 edges at each.
@@ -54,11 +54,11 @@ impl Graph {
         if size == 0 || size > MAX_VERTICES {
             return Err(GraphFault::Size);
         }
-        if let Some(fault) = first_item_fault(size, items) {
+        if let Some(fault) = first_edge_item_fault(size, items) {
             return Err(fault);
         }
         let table = table_of(size, items);
-        if let Some(v) = first_high(size, &table) {
+        if let Some(v) = first_high_valence(size, &table) {
             return Err(GraphFault::Valence(v));
         }
         if !is_connected(size, &table) {
@@ -106,14 +106,14 @@ impl Graph {
         if u == v {
             return Err(JoinFault::Loop);
         }
-        if self.is_full(u) || self.is_full(v) {
+        if self.has_most_edges(u) || self.has_most_edges(v) {
             return Err(JoinFault::Valence);
         }
         Ok(())
     }
 
     /// Whether as many edges as may be meet at a vertex.
-    fn is_full(&self, v: usize) -> bool
+    fn has_most_edges(&self, v: usize) -> bool
         requires { v < self.now.size }
         ensures { MatchBool result
             (MAX_VALENCE ≤ valence self.now v)

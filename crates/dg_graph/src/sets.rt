@@ -32,7 +32,7 @@ pub fn complement(size: usize, set: u16) -> u16
 }
 
 /// Whether a set holds vertices below the size alone.
-pub fn is_within(size: usize, set: u16) -> bool
+pub fn is_vertex_set(size: usize, set: u16) -> bool
     ensures within { OnTrue result (IsVertexSet size (in_set set)) }
     ensures past { OnFalse result ((v : ℕ) × (size ≤ v) × (in_set set v ≡ true)) }
 {

@@ -40,7 +40,7 @@ pub fn valences_of(size: usize, table: &Table) -> [u8; MAX_VERTICES]
 
 /// The sum of row v before its diagonal.
 #[tactic(auto, unfolding(dg_theory::specs::Multigraph::entry))]
-fn sum_before(table: &Table, v: usize) -> u32
+fn edges_before(table: &Table, v: usize) -> u32
     requires { v < MAX_VERTICES }
     ensures sum { result ≡ total_below v (entry table.now v) }
     ensures limit { result ≤ 255 * v }
@@ -56,14 +56,14 @@ pub fn edge_count(size: usize, table: &Table) -> u32
 {
     let mut count = 0u32;
     for v in 0..size {
-        count += sum_before(table, v);
+        count += edges_before(table, v);
     }
     count
 }
 
 /// The first vertex with more than 63 edges.
 #[tactic(auto, unfolding(dg_theory::specs::Multigraph::entry))]
-pub fn first_high(size: usize, table: &Table) -> Option<usize>
+pub fn first_high_valence(size: usize, table: &Table) -> Option<usize>
     requires { size ≤ MAX_VERTICES }
     ensures { MatchOption result
         ((v : ℕ) → v < size → total_below size (entry table.now v) ≤ MAX_VALENCE)

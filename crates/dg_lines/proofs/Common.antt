@@ -7,21 +7,21 @@ pub use Rattle.dg_chips.specs.declared.moves.Move.{Move}
 pub use Rattle.dg_chips.specs.declared.moves.Move.TheVariants.{Borrow, Fire, Script}
 pub use Rattle.dg_rules.proofs.LegalLaws.{legal_sized}
 pub use Rattle.dg_rules.specs.Legal.{IsLegal}
-pub use Rattle.dg_rules.specs.LegalLaws.{HasSize}
+pub use Rattle.dg_rules.specs.LegalLaws.{IsReplyOfSize}
 pub use Rattle.dg_rules.specs.declared.entry.Entry.{Entry}
 pub use Rattle.dg_rules.specs.declared.entry.Plain.TheVariants.{Claim, Gift, Join, Look}
 pub use Rattle.dg_rules.specs.declared.step.Command.{Command}
 pub use Rattle.dg_rules.specs.declared.step.Command.TheVariants.{Call, Commit, Rank}
 pub use Rattle.dg_rules.specs.declared.step.Step.{Step}
-pub use Rattle.dg_lines.specs.CommandWords.{AreGiven, WordsAreNamed, AreNumbers, IsNumberFor, IsNumberWithin, IsScriptOf, IsScriptWord, IsSetOf, Kind, degree, dollars, name_part, number_part, vertex, vertices}
-pub use Rattle.dg_lines.specs.Commands.{IsCommandLine, IsWellFormed, Means, kinds_of, kinds_wanted, words_wanted}
+pub use Rattle.dg_lines.specs.CommandWords.{AreNamesOnLine, WordsAreNamed, AreNumbers, IsNumberFor, IsSpelledNumberWithin, IsScriptSpelledBy, IsScriptWord, IsSetSpelledBy, Kind, degree, dollars, name_part, number_part, vertex, vertices}
+pub use Rattle.dg_lines.specs.Commands.{IsCommandLine, IsWellFormedLine, Means, kinds_on_line, kinds_wanted_on_line, words_wanted}
 pub use Rattle.dg_lines.specs.Cuts.{items, onto_first, pieces_after, words, words_after}
 pub use Rattle.dg_lines.specs.Judgements.{HasNamesIn, burning_text}
-pub use Rattle.dg_lines.specs.Keywords.{AreWords, IsBadScript, kinds, spelling}
-pub use Rattle.dg_lines.specs.LineFaults.{AreRefused, IsLineFault}
-pub use Rattle.dg_lines.specs.LineLaws.{IsDigit, IsNumeral, IsShortNumeral, IsUnsigned, LinesHaveOneMeaning, NumeralsAreDecimals, StepsHaveOneMeaning}
+pub use Rattle.dg_lines.specs.Keywords.{AreWords, IsBadScriptWord, keyword_kinds, spelling}
+pub use Rattle.dg_lines.specs.LineFaults.{AreRefusedLines, IsLineFault}
+pub use Rattle.dg_lines.specs.LineLaws.{IsDigit, IsNumeral, IsShortNumeral, IsUnsignedNumeral, LinesHaveOneMeaning, NumeralsAreDecimals, StepsHaveOneMeaning}
 pub use Rattle.dg_lines.specs.Schedules.{AreStepsOf, StepLinesHaveSeats}
-pub use Rattle.dg_lines.specs.Steps.{IsSeated, IsStepFault, IsStepLine, IsTextFault}
+pub use Rattle.dg_lines.specs.Steps.{IsSeatedLine, IsStepFault, IsStepLine, IsTextFault}
 pub use Rattle.dg_lines.specs.Streams.{Begins, HasNoNewline, LinesHaveCome, last_line, with_newline}
 pub use Rattle.dg_lines.specs.Texts.{RepliesHaveNames, entry_text, pair, rank_text, verdict_text, verdict_word}
 pub use Rattle.dg_lines.specs.declared.command.Keyword.{Keyword}
@@ -37,7 +37,7 @@ pub use Rattle.dg_theory.specs.Firing.{AgreeOn, Amounts}
 pub use Rattle.dg_theory.specs.Multigraph.{IsMultigraph, Multigraph}
 pub use Rattle.dg_theory.specs.Play.{IsWinnable}
 pub use Rattle.dg_tokens.specs.Names.{has, label, name_at}
-pub use Rattle.dg_verdict.specs.RankTests.{IsRankTest}
+pub use Rattle.dg_verdict.specs.RankTests.{IsRightRankVerdict}
 pub use Rattle.dg_verdict.specs.Right.{IsRight, IsVerdictOn}
 pub use Rattle.dg_verdict.specs.declared.rank_verdict.RankVerdict.{RankVerdict}
 pub use Rattle.dg_verdict.specs.declared.rank_verdict.RankVerdict.TheVariants.{AtLeast, Below}

@@ -1,6 +1,6 @@
 -- The decimals of whole numbers of at most 64 digits are the numerals.
 --   numerals_are_decimals
-use Rattle.dg_lines.proofs.Common.{◌≡◌, ◌≢◌, ℕ, zero, suc, ◌+◌, ◌*◌, ◌/◌, ◌%◌, ◌^◌, ◌<◌, ◌≤◌, inl, inr, ℤ, pos, negsuc, List, [], ◌∷◌, ◌++◌, length, get_or, drop, refl, ap, sym, ◌∙◌, subst, arith, codes, decimal, append_assoc, All, signed_decimal, digit_value, AllDigits, digits_value_after, digits_value, decimal_digit, decimal_is_IsNumeral_wide, decimal_step_wide, decimal_by_steps_wide, get_or-append, append-nil, length-append, All-nil, All-cons, All-head, All-tail, digit_value_digit, digit_from_value, digits_value_short, numerals_by_value, tells_digits, IsDigit, IsUnsigned, IsNumeral, IsShortNumeral, NumeralsAreDecimals}
+use Rattle.dg_lines.proofs.Common.{◌≡◌, ◌≢◌, ℕ, zero, suc, ◌+◌, ◌*◌, ◌/◌, ◌%◌, ◌^◌, ◌<◌, ◌≤◌, inl, inr, ℤ, pos, negsuc, List, [], ◌∷◌, ◌++◌, length, get_or, drop, refl, ap, sym, ◌∙◌, subst, arith, codes, decimal, append_assoc, All, signed_decimal, digit_value, AllDigits, digits_value_after, digits_value, decimal_digit, decimal_is_IsNumeral_wide, decimal_step_wide, decimal_by_steps_wide, get_or-append, append-nil, length-append, All-nil, All-cons, All-head, All-tail, digit_value_digit, digit_from_value, digits_value_short, numerals_by_value, tells_digits, IsDigit, IsUnsignedNumeral, IsNumeral, IsShortNumeral, NumeralsAreDecimals}
 
 first_digit : (n : ℕ) → 0 < n → n < 10 ^ 64 → 48 < get_or (decimal n) 0 0
 first_digit n some small =
@@ -23,13 +23,13 @@ each_digit (c ∷ cs) each =
     let range = All-head IsDigit c cs each in
     (omega (arith, digit_value_digit c (range.low, range.high)), each_digit cs (All-tail IsDigit c cs each))
 
-unsigned_digits : (ds : List ℕ) → 0 < length ds → AllDigits 10 ds → 48 < get_or ds 0 0 → IsUnsigned ds
+unsigned_digits : (ds : List ℕ) → 0 < length ds → AllDigits 10 ds → 48 < get_or ds 0 0 → IsUnsignedNumeral ds
 unsigned_digits [] some each first = absurd (omega arith)
 unsigned_digits (c ∷ cs) some each first =
     let range = digit_from_value c each.0 in
     record { first = c; rest = cs; whole = refl; low = omega arith; high = range.1; digits = digits_each cs each.1 }
 
-decimal_unsigned : (n : ℕ) → 0 < n → n < 10 ^ 64 → IsUnsigned (decimal n)
+decimal_unsigned : (n : ℕ) → 0 < n → n < 10 ^ 64 → IsUnsignedNumeral (decimal n)
 decimal_unsigned n some small =
     let known = decimal_is_IsNumeral_wide n small in
     unsigned_digits (decimal n) known.0.0 known.0.1 (first_digit n some small)
@@ -62,7 +62,7 @@ decimal_value_after n (c ∷ cs) some d small =
 short_value : (ds : List ℕ) → AllDigits 10 ds → length ds ≤ 64 → digits_value 10 ds < 10 ^ 64
 short_value ds each short = digits_value_short (numerals_by_value (AllDigits 10) tells_digits) ds 64 each short
 
-unsigned_value : (text : List ℕ) → IsUnsigned text → length text ≤ 64
+unsigned_value : (text : List ℕ) → IsUnsignedNumeral text → length text ≤ 64
     → (0 < digits_value 10 text) × (digits_value 10 text < 10 ^ 64) × (text ≡ decimal (digits_value 10 text))
 unsigned_value text known short =
     subst P (sym known.whole)

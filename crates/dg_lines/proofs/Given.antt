@@ -10,7 +10,7 @@
 --   one_member       with one name more the set has one vertex more
 --   HasTaken names given left set == `left` are the last of the names given, and the set has those before them
 -- What a loop over the names does: none taken, one more, all, and where the next name refuses them.
-use Rattle.dg_lines.proofs.Common.{◌≡◌, ◌≢◌, ℕ, ◌+◌, ◌*◌, ◌<◌, ◌==◌, ◌||◌, not, cond, Bool, true, false, List, [], ◌∷◌, ◌++◌, length, Some, None, refl, ap, sym, ◌∙◌, subst, arith, Decides, append_assoc, bytes_eq, IsTrue, All, IsEquivalence, bit_at, AllByRecursion, position_or_len, eqb-true, nat_tests, append-nil, All-nil, All-cons, All-head, All-tail, All-push, list_any-append, list_any_at, position-Some, IsDistinct-push, apart_from_distinct, bit_at-zero, bit_at-lt, same_from_bits, bytes_eq-Decides, has, name_at, AreGiven, IsSetOf}
+use Rattle.dg_lines.proofs.Common.{◌≡◌, ◌≢◌, ℕ, ◌+◌, ◌*◌, ◌<◌, ◌==◌, ◌||◌, not, cond, Bool, true, false, List, [], ◌∷◌, ◌++◌, length, Some, None, refl, ap, sym, ◌∙◌, subst, arith, Decides, append_assoc, bytes_eq, IsTrue, All, IsEquivalence, bit_at, AllByRecursion, position_or_len, eqb-true, nat_tests, append-nil, All-nil, All-cons, All-head, All-tail, All-push, list_any-append, list_any_at, position-Some, IsDistinct-push, apart_from_distinct, bit_at-zero, bit_at-lt, same_from_bits, bytes_eq-Decides, has, name_at, AreNamesOnLine, IsSetSpelledBy}
 use Rattle.std.specs.List.{IsDistinct}
 use Rattle.dg_graph.specs.Sets.{in_set}
 use Rattle.dg_tokens.specs.Names.{place_of}
@@ -96,7 +96,7 @@ pub record IsNamedNext (names done : List (List ℕ)) (name : List ℕ) (v : ℕ
 pub record HasTaken (names given left : List (List ℕ)) (set : ℕ) : Type 0 where
   pub done : List (List ℕ)
   pub whole : given ≡ done ++ left
-  pub is_set : IsSetOf names done set
+  pub is_set : IsSetSpelledBy names done set
 
 module _ (names : List (List ℕ)) where
   abbrev IsNamed : List ℕ → Type 0
@@ -123,26 +123,26 @@ module _ (names : List (List ℕ)) where
       let no : Some n ≡ None = sym (ap (λ t. cond t (Some n) None) there) ∙ e in
       cc
 
-  pub none_given : AreGiven names []
+  pub none_given : AreNamesOnLine names []
   unfolding IsDistinct
   none_given = record { each = All-nil IsNamed; different = tt }
 
-  pub named_alone : (name : List ℕ) (v : ℕ) → place_of names name ≡ Some v → AreGiven names (name ∷ [])
+  pub named_alone : (name : List ℕ) (v : ℕ) → place_of names name ≡ Some v → AreNamesOnLine names (name ∷ [])
   unfolding IsDistinct
   named_alone name v e =
       record { each = All-cons IsNamed name [] (is_named name v e) (All-nil IsNamed); different = (tt, tt) }
 
   pub unnamed_among : (done back : List (List ℕ)) (name : List ℕ) → place_of names name ≡ None
-      → AreGiven names (done ++ name ∷ back) → ⊥
+      → AreNamesOnLine names (done ++ name ∷ back) → ⊥
   unnamed_among done back name e known = not_named name e (all_there IsNamed done back name known.each)
 
   twice_among : (done back : List (List ℕ)) (name : List ℕ) → has done name ≡ true
-      → AreGiven names (done ++ name ∷ back) → ⊥
+      → AreNamesOnLine names (done ++ name ∷ back) → ⊥
   twice_among done back name there known =
       let no : true ≡ false = sym there ∙ stands_before done back name known.different in cc
 
   -- ---- sets of vertices
-  pub one_set : (given : List (List ℕ)) (a b : ℕ) → IsSetOf names given a → IsSetOf names given b → a ≡ b
+  pub one_set : (given : List (List ℕ)) (a b : ℕ) → IsSetSpelledBy names given a → IsSetSpelledBy names given b → a ≡ b
   one_set given a b first second = same_from_bits a b (λ v. same_bit a b v (go v (in_set a v) (in_set b v) refl refl))
     where
       member : (v : ℕ) → v < length names → in_set a v ≡ in_set b v
@@ -153,7 +153,7 @@ module _ (names : List (List ℕ)) where
       go v false true e f = member v (second.within v f)
       go v false false e f = e ∙ sym f
 
-  pub no_members : IsSetOf names [] 0
+  pub no_members : IsSetSpelledBy names [] 0
   unfolding in_set
   no_members = record {
     are_given = none_given;
@@ -175,7 +175,7 @@ module _ (names : List (List ℕ)) where
           ∙ apart_from_distinct bytes_eq names v w [] distinct less also
 
   pub is_next : (done : List (List ℕ)) (name : List ℕ) (set v : ℕ) → IsDistinct bytes_eq names
-      → place_of names name ≡ Some v → IsSetOf names done set → in_set set v ≡ false → IsNamedNext names done name v
+      → place_of names name ≡ Some v → IsSetSpelledBy names done set → in_set set v ≡ false → IsNamedNext names done name v
   is_next done name set v distinct place known absent =
       let found = vertex_named name v place in
       record {
@@ -185,8 +185,8 @@ module _ (names : List (List ℕ)) where
       }
 
   pub one_member : (done : List (List ℕ)) (name : List ℕ) (set more v : ℕ) → IsNamedNext names done name v
-      → IsSetOf names done set → in_set more v ≡ true
-      → ((w : ℕ) → w ≢ v → in_set more w ≡ in_set set w) → IsSetOf names (done ++ name ∷ []) more
+      → IsSetSpelledBy names done set → in_set more v ≡ true
+      → ((w : ℕ) → w ≢ v → in_set more w ≡ in_set set w) → IsSetSpelledBy names (done ++ name ∷ []) more
   one_member done name set more v next known here others = record {
     are_given = record {
       each = All-push IsNamed done name known.are_given.each (is_named name v next.place);
@@ -225,10 +225,10 @@ module _ (names : List (List ℕ)) where
   none_taken given = record { done = []; whole = refl; is_set = no_members }
 
 module _ (names given left : List (List ℕ)) (set : ℕ) (known : HasTaken names given left set) where
-  pub all_taken : left ≡ [] → IsSetOf names given set
+  pub all_taken : left ≡ [] → IsSetSpelledBy names given set
   all_taken e =
       let same : known.done ≡ given = sym (known.whole ∙ ap (λ rest. known.done ++ rest) e ∙ append-nil known.done) in
-      subst (λ names_given. IsSetOf names names_given set) same known.is_set
+      subst (λ names_given. IsSetSpelledBy names names_given set) same known.is_set
 
 module _ (names given left back : List (List ℕ)) (name : List ℕ) (set : ℕ) (e : left ≡ name ∷ back)
     (known : HasTaken names given left set) where
@@ -246,12 +246,12 @@ module _ (names given left back : List (List ℕ)) (name : List ℕ) (set : ℕ)
         (is_next names known.done name set v distinct place known.is_set absent) known.is_set here others;
   }
 
-  pub unnamed_taken : place_of names name ≡ None → AreGiven names given → ⊥
-  unnamed_taken place good = unnamed_among names known.done back name place (subst (AreGiven names) cut_off good)
+  pub unnamed_taken : place_of names name ≡ None → AreNamesOnLine names given → ⊥
+  unnamed_taken place good = unnamed_among names known.done back name place (subst (AreNamesOnLine names) cut_off good)
 
-  pub twice_taken : (v : ℕ) → place_of names name ≡ Some v → in_set set v ≡ true → AreGiven names given → ⊥
+  pub twice_taken : (v : ℕ) → place_of names name ≡ Some v → in_set set v ≡ true → AreNamesOnLine names given → ⊥
   twice_taken v place member good =
       let found = vertex_named names name v place in
       let there : has known.done name ≡ true =
       ap (has known.done) (sym found.1) ∙ sym (known.is_set.members v found.0) ∙ member in
-      twice_among names known.done back name there (subst (AreGiven names) cut_off good)
+      twice_among names known.done back name there (subst (AreNamesOnLine names) cut_off good)

@@ -1,7 +1,7 @@
 -- A line spells no two commands, has no two faults, and never both.
 --   line_read        what is read of the words of a line is what the line spells, or its fault
 --   lines_have_one_meaning
-use Rattle.dg_lines.proofs.Common.{◌≡◌, ℕ, ◌<◌, ◌^◌, cond, true, false, ℤ, pos, List, [], ◌∷◌, length, map, Some, None, Result, Ok, Err, refl, ap, sym, ◌∙◌, subst, arith, codes, FitsSigned, w64, decimal, MatchResult, IfOk, IfErr, All, IsSome, is_some, bytes_eq, option_map, signed_decimal, decimal_injective, signed_decimal_injective, ints, All-nil, All-cons, Vector, Move, Borrow, Fire, Script, Command, Call, Commit, Rank, Gift, Join, Look, Claim, name_at, LineFault, Seat, Word, Form, Name, Number, words, items, Kind, vertex, vertices, degree, dollars, name_part, number_part, IsNumberFor, WordsAreNamed, AreNumbers, IsScriptWord, IsSetOf, kinds_wanted, kinds_of, IsWellFormed, Means, IsCommandLine, AreRefused, IsLineFault, one_vector, LinesHaveOneMeaning}
+use Rattle.dg_lines.proofs.Common.{◌≡◌, ℕ, ◌<◌, ◌^◌, cond, true, false, ℤ, pos, List, [], ◌∷◌, length, map, Some, None, Result, Ok, Err, refl, ap, sym, ◌∙◌, subst, arith, codes, FitsSigned, w64, decimal, MatchResult, IfOk, IfErr, All, IsSome, is_some, bytes_eq, option_map, signed_decimal, decimal_injective, signed_decimal_injective, ints, All-nil, All-cons, Vector, Move, Borrow, Fire, Script, Command, Call, Commit, Rank, Gift, Join, Look, Claim, name_at, LineFault, Seat, Word, Form, Name, Number, words, items, Kind, vertex, vertices, degree, dollars, name_part, number_part, IsNumberFor, WordsAreNamed, AreNumbers, IsScriptWord, IsSetSpelledBy, kinds_wanted_on_line, kinds_on_line, IsWellFormedLine, Means, IsCommandLine, AreRefusedLines, IsLineFault, one_vector, LinesHaveOneMeaning}
 use Rattle.dg_chips.specs.declared.moves.Move.TheVariants.{Lend}
 use Rattle.dg_rules.specs.declared.entry.Plain.TheVariants.{Move as Play}
 use Rattle.dg_tokens.specs.Names.{place_of}
@@ -18,18 +18,18 @@ same_words one other ones others e = (cc, cc)
 
 module _ (names : List (List ℕ)) (line keyword : List ℕ) (rest : List (List ℕ))
     (cut : words line ≡ keyword ∷ rest) where
-  pub line_read : (result : Result Command LineFault) → IsWellFormed keyword rest
-      → MatchResult result (λ command. Means names command keyword rest) (λ fault. AreRefused names fault keyword rest)
+  pub line_read : (result : Result Command LineFault) → IsWellFormedLine keyword rest
+      → MatchResult result (λ command. Means names command keyword rest) (λ fault. AreRefusedLines names fault keyword rest)
       → IfOk result (λ command. IsCommandLine names command line) × IfErr result (λ fault. IsLineFault names fault line)
   line_read (Ok command) formed read =
       (record { keyword = keyword; rest = rest; cut = cut; formed = formed; means = read }, tt)
   line_read (Err fault) formed read = (tt, record { keyword = keyword; rest = rest; cut = cut; refused = read })
 
-  refused_at : (fault : LineFault) → IsLineFault names fault line → AreRefused names fault keyword rest
+  refused_at : (fault : LineFault) → IsLineFault names fault line → AreRefusedLines names fault keyword rest
   refused_at fault known =
       let same = same_words known.keyword keyword known.rest rest (sym known.cut ∙ cut) in
-      subst (λ k. AreRefused names fault k rest) same.0
-      (subst (AreRefused names fault known.keyword) same.1 known.refused)
+      subst (λ k. AreRefusedLines names fault k rest) same.0
+      (subst (AreRefusedLines names fault known.keyword) same.1 known.refused)
 
   means_at : (c : Command) → IsCommandLine names c line → Means names c keyword rest
   means_at c known =
@@ -54,7 +54,7 @@ one_number kind text good = All-cons (IsNumberFor kind) text [] good (no_numbers
 
 module _ (names : List (List ℕ)) (keyword : List ℕ) (rest : List (List ℕ)) where
   means_good : (c : Command) → Means names c keyword rest
-      → WordsAreNamed names (kinds_of keyword) rest × AreNumbers (kinds_of keyword) rest
+      → WordsAreNamed names (kinds_on_line keyword) rest × AreNumbers (kinds_on_line keyword) rest
   unfolding kinds_beside
   means_good (Call (Play (Lend v))) (word, one, (key, place)) =
       rw (key, one) ((named_alone names word v place, tt), (no_numbers vertex, tt))
@@ -83,22 +83,22 @@ module _ (names : List (List ℕ)) (keyword : List ℕ) (rest : List (List ℕ))
   means_good (Rank k) (key, one, small) =
       rw (key, one) ((none_given names, tt), (one_number degree (decimal k) (rank_number k small), tt))
 
-  unwanted : kinds_wanted keyword ≡ None → IsWellFormed keyword rest → ⊥
+  unwanted : kinds_wanted_on_line keyword ≡ None → IsWellFormedLine keyword rest → ⊥
   unwanted none formed =
       let no : Some (length rest) ≡ None = sym formed.wanted ∙ ap (option_map length) none in cc
 
-  not_wanted : kinds_wanted keyword ≡ None → IsSome (kinds_wanted keyword) → ⊥
+  not_wanted : kinds_wanted_on_line keyword ≡ None → IsSome (kinds_wanted_on_line keyword) → ⊥
   not_wanted e f = let no : false ≡ true = sym (ap is_some e) ∙ f in cc
 
-  no_fault : (c : Command) (fault : LineFault) → IsWellFormed keyword rest → Means names c keyword rest
-      → AreRefused names fault keyword rest → ⊥
+  no_fault : (c : Command) (fault : LineFault) → IsWellFormedLine keyword rest → Means names c keyword rest
+      → AreRefusedLines names fault keyword rest → ⊥
   no_fault c Seat formed means refused = refused
   no_fault c Word formed means refused = unwanted refused formed
   no_fault c Form formed means refused = refused.1 formed
   no_fault c Name formed means refused = refused.1 (means_good c means).0
   no_fault c Number formed means refused = refused.2 (means_good c means).1
 
-  one_refusal : (one other : LineFault) → AreRefused names one keyword rest → AreRefused names other keyword rest
+  one_refusal : (one other : LineFault) → AreRefusedLines names one keyword rest → AreRefusedLines names other keyword rest
       → one ≡ other
   one_refusal Seat other a b = absurd a
   one_refusal one Seat a b = absurd b
@@ -192,7 +192,7 @@ module _ (names : List (List ℕ)) (keyword : List ℕ) (rest : List (List ℕ))
   one_command (Call (Play (Fire members))) d (word, one, (key, known)) other form =
       let (m, is) = subst (HasForm d) key form in
       let also = meant_as d (play (Fire m)) is other in
-      let there = subst (λ w. IsSetOf names (items w) m) (one_word word also.0 rest one also.1) also.2.1 in
+      let there = subst (λ w. IsSetSpelledBy names (items w) m) (one_word word also.0 rest one also.1) also.2.1 in
       ap (λ x. play (Fire x)) (one_set names (items word) members m known there) ∙ sym is
   one_command (Call (Play (Script s))) d (word, one, (key, known)) other form =
       let (t, is) = subst (HasForm d) key form in

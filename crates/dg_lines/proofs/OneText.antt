@@ -5,7 +5,7 @@
 --   verdict_same   and one text
 --   test_same      so have right rank tests of one degree
 --   verdict_row_same, loss_row_same   a verdict has one row, and so has a first loss
-use Rattle.dg_lines.proofs.Common.{◌≡◌, ℕ, ◌+◌, ◌<◌, Bool, true, false, List, [], ◌∷◌, ◌++◌, length, codes, arith, refl, sym, ap, ◌∙◌, ◌↔◌, decimal, ints, Multigraph, IsMultigraph, Amounts, AgreeOn, IsWinnable, same_by_constant, equivalent-sym, equivalent-trans, loss_once, loss_bounds_rank, reduced_once, Some, Vector, at, IsRight, IsRankTest, Verdict, RankVerdict, AtLeast, Below, pair, verdict_word, verdict_text, rank_text}
+use Rattle.dg_lines.proofs.Common.{◌≡◌, ℕ, ◌+◌, ◌<◌, Bool, true, false, List, [], ◌∷◌, ◌++◌, length, codes, arith, refl, sym, ap, ◌∙◌, ◌↔◌, decimal, ints, Multigraph, IsMultigraph, Amounts, AgreeOn, IsWinnable, same_by_constant, equivalent-sym, equivalent-trans, loss_once, loss_bounds_rank, reduced_once, Some, Vector, at, IsRight, IsRightRankVerdict, Verdict, RankVerdict, AtLeast, Below, pair, verdict_word, verdict_text, rank_text}
 use Rattle.std.proofs.Math.IntN.{ℤ}
 use Rattle.dg_lines.specs.Columns.{columns, rank_row, truth, vector_columns, verdict_row}
 use Rattle.dg_lines.specs.Texts.{more_pairs, pairs}
@@ -63,7 +63,7 @@ module _ (names : List (List ℕ)) (g : Multigraph) (D : Amounts) (fit : length 
       ∙ ap (λ (ps : List ℕ). verdict_word y.winnable ++ pairs names (at y.script) ++ codes " to " ++ ps)
       (shown_same x.reduced y.reduced (reduced_same q vertex x y first second))
 
-  pub test_same : (k : ℕ) (x y : RankVerdict) → IsRankTest g D k x → IsRankTest g D k y
+  pub test_same : (k : ℕ) (x y : RankVerdict) → IsRightRankVerdict g D k x → IsRightRankVerdict g D k y
       → rank_text names x ≡ rank_text names y
   test_same k (AtLeast i) (AtLeast j) first second =
       ap (λ (n : ℕ). codes "rank at least " ++ decimal n) (first.0 ∙ sym second.0)
@@ -93,7 +93,8 @@ module _ (g : Multigraph) (D : Amounts) where
       (vector_same x.reduced y.reduced first.reduced_size second.reduced_size
       (reduced_same names g D fit q vertex x y first second))
 
-  pub loss_row_same : (n k : ℕ) (holds : Bool) (d e : Vector) → IsRankTest g D k (Below k d) → IsRankTest g D k (Below k e)
+  pub loss_row_same : (n k : ℕ) (holds : Bool) (d e : Vector) → IsRightRankVerdict g D k (Below k d) → IsRightRankVerdict g D
+      k (Below k e)
       → rank_row n holds (Some d) ≡ rank_row n holds (Some e)
   loss_row_same n k holds d e first second =
       ap (λ (l : List ℕ). truth holds ++ l ++ codes "\n")

@@ -3,11 +3,13 @@
 --   IsSpelled text o      == o is the entry whose decimal the text is, where there is one
 --   told_numbers          the texts of a list of such numbers are all decimals of entries
 --   one_list              and of no other list
---   AreRead names given texts entries flag   == the entries hold, at each vertex, the number given for its name; and the
---                            flag tells whether all texts are those of entries
---   HasPairs names all left set entries flag == `left` are the last of the items, and so much is read of those before
+--   AreRead names given texts entries flag   == the entries hold, at each vertex, the number given for its
+--                                               name; and the flag tells whether all texts are those of
+--                                               entries
+--   HasPairs names all left set entries flag == `left` are the last of the items, and so much is read of
+--                                               those before
 -- What a loop over the pairs does: none read, one more, all; and what it comes to.
-use Rattle.dg_lines.proofs.Common.{◌≡◌, ◌≢◌, ℕ, ◌+◌, ◌<◌, ◌≤◌, ◌==◌, ◌&&◌, cond, Bool, true, false, ℤ, pos, negsuc, neg_ℤ, unsigned_abs, List, [], ◌∷◌, ◌++◌, length, take, map, Option, Some, None, refl, ap, sym, ◌∙◌, subst, arith, append_assoc, FitsSigned, w64, MatchOption, Bor, bytes_eq, All, is_some, replicate, signed_decimal, slice_index_or, slice_set, option_copied, eqb-true, nat_tests, signed_decimal_injective, ints, append-nil, map-append, length-append, length-take, length-set, get_or-set_same, get_or-set_other, get_or_past, get_or-take, get_or-replicate, length-replicate, All-nil, All-cons, All-head, All-tail, All-push, Vector, IsScript, HoldsNumbers, MAX_ENTRY, has, name_at, IsNumberWithin, AreGiven, name_part, number_part, IsScriptOf}
+use Rattle.dg_lines.proofs.Common.{◌≡◌, ◌≢◌, ℕ, ◌+◌, ◌<◌, ◌≤◌, ◌==◌, ◌&&◌, cond, Bool, true, false, ℤ, pos, negsuc, neg_ℤ, unsigned_abs, List, [], ◌∷◌, ◌++◌, length, take, map, Option, Some, None, refl, ap, sym, ◌∙◌, subst, arith, append_assoc, FitsSigned, w64, MatchOption, Bor, bytes_eq, All, is_some, replicate, signed_decimal, slice_index_or, slice_set, option_copied, eqb-true, nat_tests, signed_decimal_injective, ints, append-nil, map-append, length-append, length-take, length-set, get_or-set_same, get_or-set_other, get_or_past, get_or-take, get_or-replicate, length-replicate, All-nil, All-cons, All-head, All-tail, All-push, Vector, IsScript, HoldsNumbers, MAX_ENTRY, has, name_at, IsSpelledNumberWithin, AreNamesOnLine, name_part, number_part, IsScriptSpelledBy}
 use Rattle.std.proofs.Common.{◌≤ℤ◌}
 use Rattle.std.specs.Prelude.{unwrap_or}
 use Rattle.std.specs.List.{IsDistinct}
@@ -19,7 +21,7 @@ use Rattle.dg_lines.specs.CommandWords.{number_in_script}
 use Rattle.dg_lines.proofs.Given.{same_bytes, vertex_named, IsNamedNext, is_next, other_name, HasTaken, none_taken, one_taken, all_there}
 
 abbrev pub IsEntryText : List ℕ → Type 0
-IsEntryText text = IsNumberWithin (neg_ℤ (pos MAX_ENTRY)) (pos MAX_ENTRY) text
+IsEntryText text = IsSpelledNumberWithin (neg_ℤ (pos MAX_ENTRY)) (pos MAX_ENTRY) text
 
 abbrev pub IsSpelled : List ℕ → Option ℤ → Type 0
 IsSpelled text o = MatchOption o (IsEntryText text → ⊥) (λ z. (text ≡ signed_decimal z) × (unsigned_abs z ≤ MAX_ENTRY))
@@ -214,8 +216,8 @@ module _ (names done told : List (List ℕ)) (entries : List ℤ) (flag : Bool)
       subst IsSmall (sym (get_or-take n entries v (pos 0) below ∙ known.entered v inside))
       (given_within done known.numbers (name_at names v) known.within)
 
-  pub script_of : (n : ℕ) (s : Vector) → AreGiven names done → IsScript s → n ≡ length names → n ≤ 16
-      → HoldsNumbers (take n entries) s → IsScriptOf names done known.numbers s
+  pub script_of : (n : ℕ) (s : Vector) → AreNamesOnLine names done → IsScript s → n ≡ length names → n ≤ 16
+      → HoldsNumbers (take n entries) s → IsScriptSpelledBy names done known.numbers s
   script_of n s given script same few held =
       let long : length (take n entries) ≡ length names = omega (arith, length-take n entries, known.size) in
       record {
@@ -248,14 +250,14 @@ module _ (names all left back : List (List ℕ)) (item : List ℕ) (set : ℕ) (
 
 module _ (names all left : List (List ℕ)) (set : ℕ) (entries : List ℤ) (flag : Bool)
     (known : HasPairs names all left set entries flag) where
-  pub all_pairs : left ≡ [] → AreGiven names (map name_part all)
+  pub all_pairs : left ≡ [] → AreNamesOnLine names (map name_part all)
       × AreRead names (map name_part all) (map number_part all) entries flag
   all_pairs e =
       let given : known.taken.done ≡ map name_part all =
       sym (known.taken.whole ∙ ap (λ rest. known.taken.done ++ map name_part rest) e ∙ append-nil known.taken.done) in
       let texts : known.told ≡ map number_part all =
       sym (known.whole ∙ ap (λ rest. known.told ++ map number_part rest) e ∙ append-nil known.told) in (
-        subst (AreGiven names) given known.taken.is_set.are_given,
+        subst (AreNamesOnLine names) given known.taken.is_set.are_given,
         subst (λ ts. AreRead names (map name_part all) ts entries flag) texts
             (subst (λ gs. AreRead names gs known.told entries flag) given known.read),
       )

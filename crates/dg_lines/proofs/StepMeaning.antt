@@ -1,12 +1,12 @@
 -- A line spells no two steps, has no two faults, and never both.
 --   steps_have_one_meaning
-use Rattle.dg_lines.proofs.Common.{◌≡◌, ℕ, ◌⊎◌, inl, inr, List, Some, refl, sym, ◌∙◌, subst, Step, LineFault, Seat, Word, Form, Name, Number, IsCommandLine, IsLineFault, StepsHaveOneMeaning, IsSeated, IsStepLine, IsTextFault, IsStepFault}
+use Rattle.dg_lines.proofs.Common.{◌≡◌, ℕ, ◌⊎◌, inl, inr, List, Some, refl, sym, ◌∙◌, subst, Step, LineFault, Seat, Word, Form, Name, Number, IsCommandLine, IsLineFault, StepsHaveOneMeaning, IsSeatedLine, IsStepLine, IsTextFault, IsStepFault}
 use Rattle.dg_lines.proofs.Meaning.{lines_have_one_meaning}
 use Rattle.dg_lines.proofs.Stepping.{IsUnseated, seated_parts}
 
 module _ (names : List (List ℕ)) (line : List ℕ) where
   -- a line is that of one seat and one text
-  one_seat : (s t : ℕ) (a b : List ℕ) → IsSeated s a line → IsSeated t b line → (s ≡ t) × (a ≡ b)
+  one_seat : (s t : ℕ) (a b : List ℕ) → IsSeatedLine s a line → IsSeatedLine t b line → (s ≡ t) × (a ≡ b)
   one_seat s t a b first second =
       let one = seated_parts line s a first in
       let other = seated_parts line t b second in

@@ -2,7 +2,7 @@
 --   seated         such a line is that of the seat and the text
 --   seated_parts   a line of a seat and a text has the seat before its first space and the text after it
 --   no_seat_before, no_space_after   where there is no such seat, or no space, the line is that of no seat
-use Rattle.dg_lines.proofs.Common.{◌≡◌, ℕ, ◌<◌, ◌≤◌, ◌^◌, List, ◌∷◌, ◌++◌, Some, None, ap, sym, ◌∙◌, arith, codes, decimal, append_assoc, digits_value, decimal_is_IsNumeral, IsSeated}
+use Rattle.dg_lines.proofs.Common.{◌≡◌, ℕ, ◌<◌, ◌≤◌, ◌^◌, List, ◌∷◌, ◌++◌, Some, None, ap, sym, ◌∙◌, arith, codes, decimal, append_assoc, digits_value, decimal_is_IsNumeral, IsSeatedLine}
 use Rattle.dg_lines.specs.Cuts.{before, after}
 use Rattle.dg_lines.proofs.Joining.{cut_joined, before_joined, after_joined, no_space_in_digits}
 
@@ -13,14 +13,14 @@ abbrev pub IsNoSeat : List ℕ → Type 0
 IsNoSeat text = (seat : ℕ) → 1 ≤ seat → seat ≤ 64 → text ≡ decimal seat → ⊥
 
 pub seated : (line : List ℕ) (seat : ℕ) (text : List ℕ) → (1 ≤ seat) × (seat ≤ 64) × (before 32 line ≡ decimal seat)
-    → after 32 line ≡ Some text → IsSeated seat text line
+    → after 32 line ≡ Some text → IsSeatedLine seat text line
 seated line seat text front back = record {
   whole = cut_joined 32 line text back ∙ ap (λ first. first ++ 32 ∷ text) front.2 ∙ spaced (decimal seat) text;
   first = front.0;
   last = front.1;
 }
 
-pub seated_parts : (line : List ℕ) (seat : ℕ) (text : List ℕ) → IsSeated seat text line
+pub seated_parts : (line : List ℕ) (seat : ℕ) (text : List ℕ) → IsSeatedLine seat text line
     → (before 32 line ≡ decimal seat) × (after 32 line ≡ Some text)
     × (Some (digits_value 10 (before 32 line)) ≡ Some seat)
 seated_parts line seat text known =
@@ -33,13 +33,13 @@ seated_parts line seat text known =
     (front, back, ap (λ ds. Some (digits_value 10 ds)) front ∙ ap Some digits.1)
 
 abbrev pub IsUnseated : List ℕ → Type 0
-IsUnseated line = (seat : ℕ) (text : List ℕ) → IsSeated seat text line → ⊥
+IsUnseated line = (seat : ℕ) (text : List ℕ) → IsSeatedLine seat text line → ⊥
 
 pub no_seat_before : (line : List ℕ) → IsNoSeat (before 32 line) → IsUnseated line
 no_seat_before line none seat text known =
     none seat known.first known.last (seated_parts line seat text known).0
 
-pub no_space_after : (line : List ℕ) → after 32 line ≡ None → (seat : ℕ) (text : List ℕ) → IsSeated seat text line → ⊥
+pub no_space_after : (line : List ℕ) → after 32 line ≡ None → (seat : ℕ) (text : List ℕ) → IsSeatedLine seat text line → ⊥
 no_space_after line none seat text known =
     let parts = seated_parts line seat text known in
     let no : Some text ≡ None = sym parts.1 ∙ none in

@@ -1,28 +1,27 @@
 -- What the words after a command word tell. The items of a word are cut at commas. The byte 61 is
 -- `=`, and `names` are the names of the vertices, in vertex order.
---   Kind                             == a vertex, a set of vertices, a script, the degree of a rank
---                                       test, or dollars
---   name_part item                   == what stands before the first `=` of the item, or all of it
---                                       if there is none
---   number_part item                 == what stands after the first `=` of the item, and nothing
---                                       if there is none
---   names_in kind word               == the names that a word of that kind gives, in their order
---   numbers_in kind word             == the numbers that it gives, in their order
---   IsNumberWithin low high text     == the text is the decimal of a number from low to high
---   IsNumberFor kind text            == the text is the decimal of a number that may stand in a
---                                       word of that kind: a degree, an entry of a script, or else
---                                       a number that 64 bits hold
---   AreGiven names given             == each of the names given is among the names, and no two are
---                                       the same
---   WordsAreNamed names kinds rest   == the names that each of the words gives are given so
---   AreNumbers kinds rest            == all numbers that they give may stand in a word of its kind
---   IsSetOf names given set          == set has just the vertices of the names given
---   number_in_script given numbers name == the number beside the name, and 0 if the name is not
---                                       given
---   IsScriptOf names given numbers s == s has at each vertex the number given for its name, and 0
---                                       if none is
---   IsScriptWord names word s        == the items of the word spell the script: each a name, `=` and
---                                       a number
+--   Kind                                    == a vertex, a set of vertices, a script, the degree of a rank
+--                                              test, or dollars
+--   name_part item                          == what stands before the first `=` of the item, or all of it if
+--                                              there is none
+--   number_part item                        == what stands after the first `=` of the item, and nothing if
+--                                              there is none
+--   names_in kind word                      == the names that a word of that kind gives, in their order
+--   numbers_in kind word                    == the numbers that it gives, in their order
+--   IsSpelledNumberWithin low high text     == the text is the decimal of a number from low to high
+--   IsNumberFor kind text                   == the text is the decimal of a number that may stand in a word
+--                                              of that kind: a degree, an entry of a script, or else a number
+--                                              that 64 bits hold
+--   AreNamesOnLine names given              == each of the names given is among the names, and no two are the
+--                                              same
+--   WordsAreNamed names kinds rest          == the names that each of the words gives are given so
+--   AreNumbers kinds rest                   == all numbers that they give may stand in a word of its kind
+--   IsSetSpelledBy names given set          == set has just the vertices of the names given
+--   number_in_script given numbers name     == the number beside the name, and 0 if the name is not given
+--   IsScriptSpelledBy names given numbers s == s has at each vertex the number given for its name, and 0 if
+--                                              none is
+--   IsScriptWord names word s               == the items of the word spell the script: each a name, `=` and a
+--                                              number
 use Rattle.std.specs.Prelude.{◌≡◌, ℕ, ◌<◌, ◌≤◌, ◌-◌, ◌^◌, ℤ, pos, neg_ℤ, ◌≤ℤ◌, List, [], ◌∷◌, length, map, cond, All, IsTrue, bytes_eq, unwrap_or}
 use Rattle.std.specs.Fmt.{signed_decimal}
 use Rattle.std.specs.Int.RustNames.{unsigned_abs}
@@ -60,18 +59,18 @@ numbers_in script word = map number_part (items word)
 numbers_in degree word = word ∷ []
 numbers_in dollars word = word ∷ []
 
-pub record IsNumberWithin (low high : ℤ) (text : List ℕ) : Type 0 where
+pub record IsSpelledNumberWithin (low high : ℤ) (text : List ℕ) : Type 0 where
   pub number : ℤ
   pub spelled : text ≡ signed_decimal number
   pub not_less : low ≤ℤ number
   pub not_more : number ≤ℤ high
 
 abbrev pub IsNumberFor : Kind → List ℕ → Type 0
-IsNumberFor degree text = IsNumberWithin (pos 0) (pos (2 ^ 32 - 1)) text
-IsNumberFor script text = IsNumberWithin (neg_ℤ (pos MAX_ENTRY)) (pos MAX_ENTRY) text
-IsNumberFor kind text = IsNumberWithin (neg_ℤ (pos (2 ^ 63))) (pos (2 ^ 63 - 1)) text
+IsNumberFor degree text = IsSpelledNumberWithin (pos 0) (pos (2 ^ 32 - 1)) text
+IsNumberFor script text = IsSpelledNumberWithin (neg_ℤ (pos MAX_ENTRY)) (pos MAX_ENTRY) text
+IsNumberFor kind text = IsSpelledNumberWithin (neg_ℤ (pos (2 ^ 63))) (pos (2 ^ 63 - 1)) text
 
-pub record AreGiven (names : List (List ℕ)) (given : List (List ℕ)) : Type 0 where
+pub record AreNamesOnLine (names : List (List ℕ)) (given : List (List ℕ)) : Type 0 where
   pub each : All (λ name. IsTrue (has names name)) given
   pub different : IsDistinct bytes_eq given
 
@@ -79,7 +78,7 @@ abbrev pub WordsAreNamed : List (List ℕ) → List Kind → List (List ℕ) →
 WordsAreNamed names [] rest = Unit {0}
 WordsAreNamed names (kind ∷ kinds) [] = Unit {0}
 WordsAreNamed names (kind ∷ kinds) (word ∷ rest) =
-    AreGiven names (names_in kind word) × WordsAreNamed names kinds rest
+    AreNamesOnLine names (names_in kind word) × WordsAreNamed names kinds rest
 
 abbrev pub AreNumbers : List Kind → List (List ℕ) → Type 0
 AreNumbers [] rest = Unit {0}
@@ -87,8 +86,8 @@ AreNumbers (kind ∷ kinds) [] = Unit {0}
 AreNumbers (kind ∷ kinds) (word ∷ rest) =
     All (IsNumberFor kind) (numbers_in kind word) × AreNumbers kinds rest
 
-pub record IsSetOf (names : List (List ℕ)) (given : List (List ℕ)) (set : ℕ) : Type 0 where
-  pub are_given : AreGiven names given
+pub record IsSetSpelledBy (names : List (List ℕ)) (given : List (List ℕ)) (set : ℕ) : Type 0 where
+  pub are_given : AreNamesOnLine names given
   pub members : (v : ℕ) → v < length names → in_set set v ≡ has given (name_at names v)
   pub within : IsVertexSet (length names) (in_set set)
 
@@ -98,8 +97,8 @@ number_in_script (first ∷ given) [] name = pos 0
 number_in_script (first ∷ given) (x ∷ numbers) name =
     cond (bytes_eq first name) x (number_in_script given numbers name)
 
-pub record IsScriptOf (names given : List (List ℕ)) (numbers : List ℤ) (s : Vector) : Type 0 where
-  pub are_given : AreGiven names given
+pub record IsScriptSpelledBy (names given : List (List ℕ)) (numbers : List ℤ) (s : Vector) : Type 0 where
+  pub are_given : AreNamesOnLine names given
   pub size : s.size ≡ length names
   pub entries : (v : ℕ) → v < length names → at s v ≡ number_in_script given numbers (name_at names v)
   pub within : IsScript s
@@ -108,4 +107,4 @@ pub record IsScriptWord (names : List (List ℕ)) (word : List ℕ) (s : Vector)
   pub numbers : List ℤ
   pub spelled : map number_part (items word) ≡ map signed_decimal numbers
   pub limit : All (λ x. unsigned_abs x ≤ MAX_ENTRY) numbers
-  pub script : IsScriptOf names (map name_part (items word)) numbers s
+  pub script : IsScriptSpelledBy names (map name_part (items word)) numbers s

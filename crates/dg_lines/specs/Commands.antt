@@ -3,20 +3,17 @@
 --   row keyword                        == the command word, and the kinds of the words after it
 --   keywords                           == all commands
 --   command_words                      == their rows: the table of the step language
---   kinds_beside rows word             == the kinds beside the word, in the first of the rows that
---                                         has it, if one has
---   kinds_wanted keyword               == the kinds of the words after the command word, if it is
---                                         one
---   kinds_of keyword                   == these kinds, and none if it is no command word
+--   kinds_beside rows word             == the kinds beside the word, in the first of the rows that has it, if
+--                                         one has
+--   kinds_wanted_on_line keyword       == the kinds of the words after the command word, if it is one
+--   kinds_on_line keyword              == these kinds, and none if it is no command word
 --   words_wanted keyword               == how many words follow the command word, if it is one
---   IsWellFormed keyword rest          == so many words follow it, and none of them is empty
+--   IsWellFormedLine keyword rest      == so many words follow it, and none of them is empty
 --   IsMoveWord names move keyword word == the command word and the word after it spell the move
 --   MeansGift names v x rest           == the two words name the vertex v and spell the number x
---   MeansJoin names u v rest           == the two words name the vertices u and v, which may be the
---                                         same
+--   MeansJoin names u v rest           == the two words name the vertices u and v, which may be the same
 --   Means names command keyword rest   == the command word and the words after it spell the command
---   IsCommandLine names command line   == the line has the right form, and its words spell the
---                                         command
+--   IsCommandLine names command line   == the line has the right form, and its words spell the command
 use Rattle.std.specs.Prelude.{◌≡◌, ◌≢◌, ℕ, ◌<◌, ◌^◌, ℤ, FitsSigned, List, [], ◌∷◌, length, map, cond, Option, Some, None, option_map, unwrap_or, All, bytes_eq, codes, decimal}
 use Rattle.std.specs.Fmt.{signed_decimal}
 use Rattle.std.specs.Int.{w64}
@@ -27,7 +24,7 @@ use Rattle.dg_rules.specs.declared.step.Command.TheVariants.{Call, Commit, Rank}
 use Rattle.dg_tokens.specs.Names.{place_of}
 use Rattle.dg_rules.specs.declared.entry.Plain.TheVariants.{Gift, Join, Look, Claim, Move as Play}
 use Rattle.dg_lines.specs.Cuts.{words, items}
-use Rattle.dg_lines.specs.CommandWords.{Kind, vertex, vertices, script, degree, dollars, IsSetOf, IsScriptWord}
+use Rattle.dg_lines.specs.CommandWords.{Kind, vertex, vertices, script, degree, dollars, IsSetSpelledBy, IsScriptWord}
 use Rattle.dg_lines.specs.declared.command.Keyword.{Keyword}
 use Rattle.dg_lines.specs.declared.command.Keyword.TheVariants as of
 
@@ -56,16 +53,16 @@ kinds_beside [] word = None
 kinds_beside (first ∷ rows) word =
     cond (bytes_eq word first.0) (Some first.1) (kinds_beside rows word)
 
-abbrev pub kinds_wanted : List ℕ → Option (List Kind)
-kinds_wanted keyword = kinds_beside command_words keyword
+abbrev pub kinds_wanted_on_line : List ℕ → Option (List Kind)
+kinds_wanted_on_line keyword = kinds_beside command_words keyword
 
-abbrev pub kinds_of : List ℕ → List Kind
-kinds_of keyword = unwrap_or (kinds_wanted keyword) []
+abbrev pub kinds_on_line : List ℕ → List Kind
+kinds_on_line keyword = unwrap_or (kinds_wanted_on_line keyword) []
 
 abbrev pub words_wanted : List ℕ → Option ℕ
-words_wanted keyword = option_map length (kinds_wanted keyword)
+words_wanted keyword = option_map length (kinds_wanted_on_line keyword)
 
-pub record IsWellFormed (keyword : List ℕ) (rest : List (List ℕ)) : Type 0 where
+pub record IsWellFormedLine (keyword : List ℕ) (rest : List (List ℕ)) : Type 0 where
   pub wanted : words_wanted keyword ≡ Some (length rest)
   pub filled : All (λ word. word ≢ []) rest
 
@@ -73,7 +70,7 @@ abbrev pub IsMoveWord : List (List ℕ) → Move → List ℕ → List ℕ → T
 IsMoveWord names (Lend v) keyword word = (keyword ≡ codes "lend") × (place_of names word ≡ Some v)
 IsMoveWord names (Borrow v) keyword word =
     (keyword ≡ codes "borrow") × (place_of names word ≡ Some v)
-IsMoveWord names (Fire set) keyword word = (keyword ≡ codes "fire") × IsSetOf names (items word) set
+IsMoveWord names (Fire set) keyword word = (keyword ≡ codes "fire") × IsSetSpelledBy names (items word) set
 IsMoveWord names (Script s) keyword word = (keyword ≡ codes "script") × IsScriptWord names word s
 
 pub record MeansGift (names : List (List ℕ)) (v : ℕ) (x : ℤ) (rest : List (List ℕ)) : Type 0 where
@@ -104,5 +101,5 @@ pub record IsCommandLine (names : List (List ℕ)) (command : Command) (line : L
   pub keyword : List ℕ
   pub rest : List (List ℕ)
   pub cut : words line ≡ keyword ∷ rest
-  pub formed : IsWellFormed keyword rest
+  pub formed : IsWellFormedLine keyword rest
   pub means : Means names command keyword rest

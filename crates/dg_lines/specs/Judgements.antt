@@ -1,12 +1,12 @@
 -- A verdict that is printed for a table, and the order in which its vertices burn.
---   burning_text names order     == `burning`, and the names of the vertices in that order, each
---                                   word after a space
---   judgement_text names ordered x == the text of the verdict x; and, if the order is asked for, in
---                                   which order all vertices burn in its reduced divisor
---   HasNamesIn names x           == there are as many names as the verdict has vertices, and its
---                                   order is one of vertices that have names
---   IsJudgement o names ordered text == the text is that of the verdict on the amounts of the start
---                                   o, computed from its vertex q, and a newline
+--   burning_text names order             == `burning`, and the names of the vertices in that order, each word
+--                                           after a space
+--   judgement_text names ordered x       == the text of the verdict x; and, if the order is asked for, in
+--                                           which order all vertices burn in its reduced divisor
+--   HasNamesIn names x                   == there are as many names as the verdict has vertices, and its
+--                                           order is one of vertices that have names
+--   IsJudgementText o names ordered text == the text is that of the verdict on the amounts of the start o,
+--                                           computed from its vertex q, and a newline
 use Rattle.std.specs.Prelude.{◌≡◌, ℕ, ◌<◌, Bool, true, false, List, ◌++◌, length, take, All, codes}
 use Rattle.std.specs.List.{flat_map}
 use Rattle.dg_chips.specs.Starts.{StartData}
@@ -29,7 +29,7 @@ pub record HasNamesIn (names : List (List ℕ)) (x : Verdict) : Type 0 where
   pub reduced : length names ≡ x.reduced.size
   pub order : All (λ v. v < length names) (take (length names) x.order)
 
-pub record IsJudgement (o : StartData) (names : List (List ℕ)) (ordered : Bool)
+pub record IsJudgementText (o : StartData) (names : List (List ℕ)) (ordered : Bool)
     (text : List ℕ) : Type 0 where
   pub verdict : Verdict
   pub found : IsVerdictOn o.graph o.q (at o.divisor) verdict

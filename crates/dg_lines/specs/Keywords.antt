@@ -1,11 +1,11 @@
 -- What serves the reading of command lines alone.
---   spelling keyword             == the command word
---   kinds keyword                == the kinds of the words after it
---   first_words n a b            == the first n of the two words
---   IsBadScript names fault word == the word is no script, by the names or else by the numbers in it
---   AreWords n rest              == just n words, none of which is empty
+--   spelling keyword                 == the command word
+--   keyword_kinds keyword            == the kinds of the words after it
+--   first_words n a b                == the first n of the two words
+--   IsBadScriptWord names fault word == the word is no script, by the names or else by the numbers in it
+--   AreWords n rest                  == just n words, none of which is empty
 use Rattle.std.specs.Prelude.{◌≡◌, ◌≢◌, ℕ, List, [], ◌∷◌, length, take, All}
-use Rattle.dg_lines.specs.CommandWords.{Kind, script, names_in, numbers_in, IsNumberFor, AreGiven}
+use Rattle.dg_lines.specs.CommandWords.{Kind, script, names_in, numbers_in, IsNumberFor, AreNamesOnLine}
 use Rattle.dg_lines.specs.Commands.{row}
 use Rattle.dg_lines.specs.declared.command.Keyword.{Keyword}
 use Rattle.dg_lines.specs.declared.line.LineFault.{LineFault}
@@ -14,8 +14,8 @@ use Rattle.dg_lines.specs.declared.line.LineFault.TheVariants.{Name, Number}
 abbrev pub spelling : Keyword → List ℕ
 spelling keyword = (row keyword).0
 
-abbrev pub kinds : Keyword → List Kind
-kinds keyword = (row keyword).1
+abbrev pub keyword_kinds : Keyword → List Kind
+keyword_kinds keyword = (row keyword).1
 
 abbrev pub first_words : ℕ → List ℕ → List ℕ → List (List ℕ)
 first_words n first second = take n (first ∷ second ∷ [])
@@ -24,8 +24,8 @@ pub record AreWords (n : ℕ) (rest : List (List ℕ)) : Type 0 where
   pub count : length rest ≡ n
   pub filled : All (λ word. word ≢ []) rest
 
-abbrev pub IsBadScript : List (List ℕ) → LineFault → List ℕ → Type 0
-IsBadScript names Name word = ¬ AreGiven names (names_in script word)
-IsBadScript names Number word =
-    AreGiven names (names_in script word) × ¬ All (IsNumberFor script) (numbers_in script word)
-IsBadScript names fault word = ⊥
+abbrev pub IsBadScriptWord : List (List ℕ) → LineFault → List ℕ → Type 0
+IsBadScriptWord names Name word = ¬ AreNamesOnLine names (names_in script word)
+IsBadScriptWord names Number word =
+    AreNamesOnLine names (names_in script word) × ¬ All (IsNumberFor script) (numbers_in script word)
+IsBadScriptWord names fault word = ⊥

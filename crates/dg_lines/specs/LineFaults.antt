@@ -1,5 +1,5 @@
 -- Why a command line is refused: each case says that all that is judged before it is good.
---   AreRefused names fault keyword rest == the first word of a line and the words after it are
+--   AreRefusedLines names fault keyword rest == the first word of a line and the words after it are
 --                                          refused with the fault
 --     Word     the first word is no command word
 --     Form     it is one, and the words after it have the wrong number, or one is empty
@@ -13,25 +13,25 @@
 use Rattle.std.specs.Prelude.{◌≡◌, ℕ, List, ◌∷◌, None, IsSome, codes}
 use Rattle.dg_lines.specs.Cuts.{words}
 use Rattle.dg_lines.specs.CommandWords.{WordsAreNamed, AreNumbers}
-use Rattle.dg_lines.specs.Commands.{kinds_wanted, kinds_of, IsWellFormed}
+use Rattle.dg_lines.specs.Commands.{kinds_wanted_on_line, kinds_on_line, IsWellFormedLine}
 use Rattle.dg_lines.specs.declared.line.LineFault.{LineFault}
 use Rattle.dg_lines.specs.declared.line.LineFault.TheVariants.{Seat, Word, Form, Name, Number}
 
-abbrev pub AreRefused : List (List ℕ) → LineFault → List ℕ → List (List ℕ) → Type 0
-AreRefused names Seat keyword rest = ⊥
-AreRefused names Word keyword rest = kinds_wanted keyword ≡ None
-AreRefused names Form keyword rest = IsSome (kinds_wanted keyword) × ¬ IsWellFormed keyword rest
-AreRefused names Name keyword rest =
-    IsWellFormed keyword rest × ¬ WordsAreNamed names (kinds_of keyword) rest
-AreRefused names Number keyword rest =
-    IsWellFormed keyword rest × WordsAreNamed names (kinds_of keyword) rest
-    × ¬ AreNumbers (kinds_of keyword) rest
+abbrev pub AreRefusedLines : List (List ℕ) → LineFault → List ℕ → List (List ℕ) → Type 0
+AreRefusedLines names Seat keyword rest = ⊥
+AreRefusedLines names Word keyword rest = kinds_wanted_on_line keyword ≡ None
+AreRefusedLines names Form keyword rest = IsSome (kinds_wanted_on_line keyword) × ¬ IsWellFormedLine keyword rest
+AreRefusedLines names Name keyword rest =
+    IsWellFormedLine keyword rest × ¬ WordsAreNamed names (kinds_on_line keyword) rest
+AreRefusedLines names Number keyword rest =
+    IsWellFormedLine keyword rest × WordsAreNamed names (kinds_on_line keyword) rest
+    × ¬ AreNumbers (kinds_on_line keyword) rest
 
 pub record IsLineFault (names : List (List ℕ)) (fault : LineFault) (line : List ℕ) : Type 0 where
   pub keyword : List ℕ
   pub rest : List (List ℕ)
   pub cut : words line ≡ keyword ∷ rest
-  pub refused : AreRefused names fault keyword rest
+  pub refused : AreRefusedLines names fault keyword rest
 
 abbrev pub fault_text : LineFault → List ℕ
 fault_text Seat = codes "bad seat\n"

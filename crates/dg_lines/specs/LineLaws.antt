@@ -1,17 +1,16 @@
 -- Laws of lines and of the numbers in them.
---   HasMeaning names line       == the line spells a command or has a fault
---   LinesHaveOneMeaning         == no line spells a command and has a fault, and no line spells two
---                                  commands or has two faults
---   HasStepMeaning, StepsHaveOneMeaning == the same of a line of a seat and a command line, as a
---                                  step
---   IsDigit byte                == an ASCII digit
---   IsUnsigned text             == a digit from 1 to 9, and any digits after it
---   IsNumeral text              == `0`, or an optional `-`, a digit from 1 to 9 and any digits
---                                  after it
---   IsShortNumeral z            == the whole number z has at most 64 digits
---   NumeralsAreDecimals         == a text of at most 64 bytes is the decimal of a whole number of at
---                                  most 64 digits exactly if it is a numeral; and no text is that of
---                                  two such numbers
+--   HasMeaning names line               == the line spells a command or has a fault
+--   LinesHaveOneMeaning                 == no line spells a command and has a fault, and no line spells two
+--                                          commands or has two faults
+--   HasStepMeaning, StepsHaveOneMeaning == the same of a line of a seat and a command line, as a step
+--   IsDigit byte                        == an ASCII digit
+--   IsUnsignedNumeral text              == a digit from 1 to 9, and any digits after it
+--   IsNumeral text                      == `0`, or an optional `-`, a digit from 1 to 9 and any digits after
+--                                          it
+--   IsShortNumeral z                    == the whole number z has at most 64 digits
+--   NumeralsAreDecimals                 == a text of at most 64 bytes is the decimal of a whole number of at
+--                                          most 64 digits exactly if it is a numeral; and no text is that of
+--                                          two such numbers
 use Rattle.std.specs.Prelude.{◌≡◌, ℕ, ◌<◌, ◌≤◌, ◌^◌, ℤ, ◌⊎◌, ◌↔◌, List, ◌∷◌, length, All, codes}
 use Rattle.std.specs.Fmt.{signed_decimal}
 use Rattle.std.specs.Int.RustNames.{unsigned_abs}
@@ -50,7 +49,7 @@ pub record IsDigit (byte : ℕ) : Type 0 where
   pub low : 48 ≤ byte
   pub high : byte ≤ 57
 
-pub record IsUnsigned (text : List ℕ) : Type 0 where
+pub record IsUnsignedNumeral (text : List ℕ) : Type 0 where
   pub first : ℕ
   pub rest : List ℕ
   pub whole : text ≡ first ∷ rest
@@ -60,7 +59,7 @@ pub record IsUnsigned (text : List ℕ) : Type 0 where
 
 abbrev pub IsNumeral : List ℕ → Type 0
 IsNumeral text =
-    (text ≡ codes "0") ⊎ IsUnsigned text ⊎ ((rest : List ℕ) × (text ≡ 45 ∷ rest) × IsUnsigned rest)
+    (text ≡ codes "0") ⊎ IsUnsignedNumeral text ⊎ ((rest : List ℕ) × (text ≡ 45 ∷ rest) × IsUnsignedNumeral rest)
 
 abbrev pub IsShortNumeral : ℤ → Type 0
 IsShortNumeral z = unsigned_abs z < 10 ^ 64

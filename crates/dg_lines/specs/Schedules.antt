@@ -1,10 +1,10 @@
 -- A schedule: a step on each line.
---   AreStepsOf names steps lines          == the lines spell the steps, in their order
---   StepLinesHaveSeats steps              == each step has a seat, 1 to 64
---   IsFirstRefused names lines line fault == the line, counted from 1, is the first that is
---                                            refused, with that fault
---   IsStepsFault names lines fault        == the fault is the first line that is refused; of want
---                                            of memory it says nothing
+--   AreStepsOf names steps lines              == the lines spell the steps, in their order
+--   StepLinesHaveSeats steps                  == each step has a seat, 1 to 64
+--   IsFirstRefusedLine names lines line fault == the line, counted from 1, is the first that is refused, with
+--                                                that fault
+--   IsStepsFault names lines fault            == the fault is the first line that is refused; of want of
+--                                                memory it says nothing
 use Rattle.std.specs.Prelude.{◌≡◌, ℕ, ◌+◌, List, ◌∷◌, ◌++◌, length, slice_get, Some}
 use Rattle.dg_rules.specs.Legal.{IsSeat}
 use Rattle.dg_rules.specs.declared.step.Step.{Step}
@@ -22,7 +22,7 @@ pub record AreStepsOf (names : List (List ℕ)) (steps : List Step) (lines : Lis
 abbrev pub StepLinesHaveSeats : List Step → Type 0
 StepLinesHaveSeats steps = (k : ℕ) (step : Step) → slice_get steps k ≡ Some step → IsSeat step.seat
 
-pub record IsFirstRefused (names lines : List (List ℕ)) (line : ℕ)
+pub record IsFirstRefusedLine (names lines : List (List ℕ)) (line : ℕ)
     (fault : LineFault) : Type 0 where
   pub front : List (List ℕ)
   pub refused : List ℕ
@@ -34,5 +34,5 @@ pub record IsFirstRefused (names lines : List (List ℕ)) (line : ℕ)
   pub refusal : IsStepFault names fault refused
 
 abbrev pub IsStepsFault : List (List ℕ) → List (List ℕ) → StepsFault → Type 0
-IsStepsFault names lines (Line line fault) = IsFirstRefused names lines line fault
+IsStepsFault names lines (Line line fault) = IsFirstRefusedLine names lines line fault
 IsStepsFault names lines OutOfMemory = Unit {0}

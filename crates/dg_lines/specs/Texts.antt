@@ -18,7 +18,7 @@
 use Rattle.std.specs.Prelude.{◌≡◌, ℕ, ◌+◌, ℤ, Bool, true, false, List, [], ◌∷◌, ◌++◌, length, slice_get, Some, codes, decimal}
 use Rattle.std.specs.Fmt.{signed_decimal}
 use Rattle.dg_chips.specs.Vector.{at}
-use Rattle.dg_rules.specs.LegalLaws.{HasSize}
+use Rattle.dg_rules.specs.LegalLaws.{IsReplyOfSize}
 use Rattle.dg_rules.specs.declared.entry.Entry.{Entry}
 use Rattle.dg_rules.specs.declared.entry.Refusal.{Refusal}
 use Rattle.dg_rules.specs.declared.entry.Reply.{Reply}
@@ -29,7 +29,7 @@ use Rattle.dg_rules.specs.declared.entry.Refusal.TheVariants.{NoVertex, Empty, R
 use Rattle.dg_verdict.specs.declared.verdict.Verdict.{Verdict as VerdictFound}
 
 abbrev pub HasNames : List (List ℕ) → Reply → Type 0
-HasNames names reply = HasSize (length names) reply
+HasNames names reply = IsReplyOfSize (length names) reply
 
 abbrev pub pair : List ℕ → ℤ → List ℕ
 pair name amount = name ++ codes "=" ++ signed_decimal amount

@@ -1,11 +1,11 @@
 //! Commands: the word of each, how many words follow it, and what they come to.
 ghost use Rattle.std.specs.Prelude.{◌≡◌, None, MatchOption, MatchResult, length};
-ghost use Rattle.dg_lines.specs.Commands.{kinds_wanted, IsWellFormed, Means};
-ghost use Rattle.dg_lines.specs.LineFaults.{AreRefused};
-ghost use Rattle.dg_lines.specs.Keywords.{spelling, kinds, first_words};
+ghost use Rattle.dg_lines.specs.Commands.{kinds_wanted_on_line, IsWellFormedLine, Means};
+ghost use Rattle.dg_lines.specs.LineFaults.{AreRefusedLines};
+ghost use Rattle.dg_lines.specs.Keywords.{spelling, keyword_kinds, first_words};
 
 use crate::line::LineFault;
-use crate::word::{degree_of, dollars_of, script_of, set_of, vertex_of};
+use crate::word::{degree_in_word, dollars_in_word, script_of, set_in_word, vertex_of};
 use dg_chips::Move;
 use dg_rules::{Command, Plain};
 use dg_tokens::Names;
@@ -29,8 +29,8 @@ pub(crate) enum Keyword {
 #[tactic(auto, using(crate::proofs::Keywords::bytes_tell), unfolding(crate::specs::Commands::kinds_beside))]
 pub(crate) fn keyword_of(word: &[u8]) -> Option<(Keyword, usize)>
     ensures { MatchOption result
-        (kinds_wanted word.now ≡ None)
-        (λ p. (word.now ≡ spelling p.0) × (p.1 ≡ length (kinds p.0))) }
+        (kinds_wanted_on_line word.now ≡ None)
+        (λ p. (word.now ≡ spelling p.0) × (p.1 ≡ length (keyword_kinds p.0))) }
 {
     if word == b"script".as_slice() {
         return Some((Keyword::Script, 1));
@@ -72,21 +72,21 @@ pub(crate) fn command_of(
     second: &[u8],
     names: &Names,
 ) -> Result<Command, LineFault>
-    requires { IsWellFormed (spelling keyword)
-        (first_words (length (kinds keyword)) first.now second.now) }
-    ensures { let rest = first_words (length (kinds keyword)) first.now second.now in
+    requires { IsWellFormedLine (spelling keyword)
+        (first_words (length (keyword_kinds keyword)) first.now second.now) }
+    ensures { let rest = first_words (length (keyword_kinds keyword)) first.now second.now in
         MatchResult result
         (λ command. Means names.now command (spelling keyword) rest)
-        (λ fault. AreRefused names.now fault (spelling keyword) rest) }
+        (λ fault. AreRefusedLines names.now fault (spelling keyword) rest) }
 {
     match keyword {
         Keyword::Lend => Ok(Command::Call(Plain::Move(Move::Lend(vertex_of(first, names)?)))),
         Keyword::Borrow => Ok(Command::Call(Plain::Move(Move::Borrow(vertex_of(first, names)?)))),
-        Keyword::Fire => Ok(Command::Call(Plain::Move(Move::Fire(set_of(first, names)?)))),
+        Keyword::Fire => Ok(Command::Call(Plain::Move(Move::Fire(set_in_word(first, names)?)))),
         Keyword::Script => Ok(Command::Call(Plain::Move(Move::Script(script_of(first, names)?)))),
         Keyword::Gift => {
             let v = vertex_of(first, names)?;
-            Ok(Command::Call(Plain::Gift(v, dollars_of(second)?)))
+            Ok(Command::Call(Plain::Gift(v, dollars_in_word(second)?)))
         }
         Keyword::Join => {
             let u = vertex_of(first, names)?;
@@ -95,6 +95,6 @@ pub(crate) fn command_of(
         Keyword::Look => Ok(Command::Call(Plain::Look)),
         Keyword::Claim => Ok(Command::Call(Plain::Claim)),
         Keyword::Commit => Ok(Command::Commit),
-        Keyword::Rank => Ok(Command::Rank(degree_of(first)?)),
+        Keyword::Rank => Ok(Command::Rank(degree_in_word(first)?)),
     }
 }

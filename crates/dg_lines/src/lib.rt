@@ -19,7 +19,7 @@ pub use columns::{push_rank_row, push_verdict_row};
 pub use cuts::cut;
 pub use judgement::push_judgement;
 pub use laws::{lines_have_one_meaning, numerals_are_decimals, steps_have_one_meaning};
-pub use line::{LineFault, parse_line, parse_step, split_seat};
+pub use line::{LineFault, parse_line, parse_step, split_seat_off_line};
 pub use lines::Lines;
 pub use steps_file::{StepsFault, parse_steps};
 pub use text::{push_amounts, push_entry, push_reply, reply_text};

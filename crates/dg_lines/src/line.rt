@@ -4,7 +4,7 @@ ghost use Rattle.std.specs.Option.{option_copied};
 ghost use Rattle.dg_lines.specs.Cuts.{words_after};
 ghost use Rattle.dg_lines.specs.Commands.{IsCommandLine};
 ghost use Rattle.dg_lines.specs.LineFaults.{IsLineFault, fault_text};
-ghost use Rattle.dg_lines.specs.Steps.{IsSeated, IsStepLine, IsStepFault};
+ghost use Rattle.dg_lines.specs.Steps.{IsSeatedLine, IsStepLine, IsStepFault};
 ghost use Rattle.dg_lines.specs.Keywords.{first_words, AreWords};
 
 use crate::command::{command_of, keyword_of};
@@ -52,9 +52,9 @@ impl LineFault {
 /// The seat, from 1 to 64, that stands before the first space of a line, and the text after that space. `None` if there is
 /// no space, or another text before it. It takes no memory.
 #[tactic(auto, using(crate::proofs::Stepping::no_space_after))]
-pub fn split_seat(line: &[u8]) -> Option<(u8, &[u8])>
-    ensures seated { IfSome result (λ p. IsSeated p.0 p.1.now line.now) }
-    ensures none { result ≡ None → (seat : ℕ) (text : List ℕ) → ¬ IsSeated seat text line.now }
+pub fn split_seat_off_line(line: &[u8]) -> Option<(u8, &[u8])>
+    ensures seated { IfSome result (λ p. IsSeatedLine p.0 p.1.now line.now) }
+    ensures none { result ≡ None → (seat : ℕ) (text : List ℕ) → ¬ IsSeatedLine seat text line.now }
 {
     let (text, rest) = cut(line, b' ');
     match seat(text) {
@@ -73,7 +73,7 @@ pub fn parse_step(line: &[u8], names: &Names) -> Result<Step, LineFault>
     ensures step { IfOk result (λ step. IsStepLine names.now step line.now) }
     ensures refused { IfErr result (λ fault. IsStepFault names.now fault line.now) }
 {
-    let Some((seat, rest)) = split_seat(line) else {
+    let Some((seat, rest)) = split_seat_off_line(line) else {
         return Err(LineFault::Seat);
     };
     match parse_line(rest, names) {

@@ -4,7 +4,7 @@ ghost use Rattle.std.specs.Fmt.{signed_decimal};
 ghost use Rattle.std.specs.Int.RustNames.{unsigned_abs};
 ghost use Rattle.dg_chips.specs.declared.limits.TheConstants.{MAX_ENTRY};
 ghost use Rattle.dg_rules.specs.declared.entry.TheConstants.{MAX_SEATS};
-ghost use Rattle.dg_lines.specs.CommandWords.{IsNumberWithin};
+ghost use Rattle.dg_lines.specs.CommandWords.{IsSpelledNumberWithin};
 
 use dg_chips::MAX_ENTRY;
 use dg_rules::MAX_SEATS;
@@ -13,7 +13,7 @@ use dg_tokens::integer;
 /// The entry of a script, within 1,000,000,000, whose decimal the text is.
 pub fn entry(text: &[u8]) -> Option<i64>
     ensures { MatchOption result
-        (¬ IsNumberWithin (neg_ℤ (pos MAX_ENTRY)) (pos MAX_ENTRY) text.now)
+        (¬ IsSpelledNumberWithin (neg_ℤ (pos MAX_ENTRY)) (pos MAX_ENTRY) text.now)
         (λ z. (text.now ≡ signed_decimal z) × (unsigned_abs z ≤ MAX_ENTRY)) }
 {
     let Some(number) = integer(text) else {
@@ -29,7 +29,7 @@ pub fn entry(text: &[u8]) -> Option<i64>
 /// The degree of a rank test, 0 to 4,294,967,295, whose decimal the text is.
 pub fn degree(text: &[u8]) -> Option<u32>
     ensures { MatchOption result
-        (¬ IsNumberWithin (pos 0) (pos (2 ^ 32 - 1)) text.now) (λ k. text.now ≡ decimal k) }
+        (¬ IsSpelledNumberWithin (pos 0) (pos (2 ^ 32 - 1)) text.now) (λ k. text.now ≡ decimal k) }
 {
     let Some(number) = integer(text) else {
         return None;
@@ -47,19 +47,19 @@ pub fn seat(text: &[u8]) -> Option<u8>
         (λ n. (1 ≤ n) × (n ≤ MAX_SEATS) × (text.now ≡ decimal n)) }
 {
     match text.len() {
-        1 => seat_of(b'0', text[0]),
+        1 => seat_in_digits(b'0', text[0]),
         2 => {
             if text[0] == b'0' {
                 return None;
             }
-            seat_of(text[0], text[1])
+            seat_in_digits(text[0], text[1])
         }
         _ => None,
     }
 }
 
 /// The seat, 1 to 64, that has these two digits.
-fn seat_of(tens: u8, ones: u8) -> Option<u8>
+fn seat_in_digits(tens: u8, ones: u8) -> Option<u8>
     ensures { MatchOption result
         ((n : ℕ) → 1 ≤ n → n ≤ MAX_SEATS → tens ≡ 48 + n / 10 → ones ≢ 48 + n % 10)
         (λ n. (1 ≤ n) × (n ≤ MAX_SEATS) × (tens ≡ 48 + n / 10) × (ones ≡ 48 + n % 10)) }

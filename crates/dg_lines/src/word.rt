@@ -4,8 +4,8 @@ ghost use Rattle.std.specs.Int.{w64};
 ghost use Rattle.std.specs.Fmt.{signed_decimal};
 ghost use Rattle.dg_tokens.specs.Names.{place_of};
 ghost use Rattle.dg_lines.specs.Cuts.{items};
-ghost use Rattle.dg_lines.specs.CommandWords.{vertex, vertices, degree, dollars, names_in, IsNumberFor, AreGiven, IsSetOf, IsScriptWord};
-ghost use Rattle.dg_lines.specs.Keywords.{IsBadScript};
+ghost use Rattle.dg_lines.specs.CommandWords.{vertex, vertices, degree, dollars, names_in, IsNumberFor, AreNamesOnLine, IsSetSpelledBy, IsScriptWord};
+ghost use Rattle.dg_lines.specs.Keywords.{IsBadScriptWord};
 
 use crate::cuts::cut;
 use crate::line::LineFault;
@@ -18,7 +18,7 @@ use dg_tokens::{Names, integer};
 pub(crate) fn vertex_of(word: &[u8], names: &Names) -> Result<u8, LineFault>
     ensures { MatchResult result
         (λ v. place_of names.now word.now ≡ Some v)
-        (λ fault. (fault ≡ LineFault.Name) × ¬ AreGiven names.now (names_in vertex word.now)) }
+        (λ fault. (fault ≡ LineFault.Name) × ¬ AreNamesOnLine names.now (names_in vertex word.now)) }
 {
     match names.place(word) {
         Some(v) => Ok(v),
@@ -27,7 +27,7 @@ pub(crate) fn vertex_of(word: &[u8], names: &Names) -> Result<u8, LineFault>
 }
 
 /// The degree of a rank test.
-pub(crate) fn degree_of(word: &[u8]) -> Result<u32, LineFault>
+pub(crate) fn degree_in_word(word: &[u8]) -> Result<u32, LineFault>
     ensures { MatchResult result
         (λ k. (word.now ≡ decimal k) × (k < 2 ^ 32))
         (λ fault. (fault ≡ LineFault.Number) × ¬ IsNumberFor degree word.now) }
@@ -39,7 +39,7 @@ pub(crate) fn degree_of(word: &[u8]) -> Result<u32, LineFault>
 }
 
 /// The number of dollars; a negative one is a levy.
-pub(crate) fn dollars_of(word: &[u8]) -> Result<i64, LineFault>
+pub(crate) fn dollars_in_word(word: &[u8]) -> Result<i64, LineFault>
     ensures { MatchResult result
         (λ x. (word.now ≡ signed_decimal x) × FitsSigned w64 x)
         (λ fault. (fault ≡ LineFault.Number) × ¬ IsNumberFor dollars word.now) }
@@ -51,10 +51,10 @@ pub(crate) fn dollars_of(word: &[u8]) -> Result<i64, LineFault>
 }
 
 /// The set of the vertices that the items name, if each names one that no earlier item names.
-pub(crate) fn set_of(text: &[u8], names: &Names) -> Result<u16, LineFault>
+pub(crate) fn set_in_word(text: &[u8], names: &Names) -> Result<u16, LineFault>
     ensures { MatchResult result
-        (IsSetOf names.now (items text.now))
-        (λ fault. (fault ≡ LineFault.Name) × ¬ AreGiven names.now (names_in vertices text.now)) }
+        (IsSetSpelledBy names.now (items text.now))
+        (λ fault. (fault ≡ LineFault.Name) × ¬ AreNamesOnLine names.now (names_in vertices text.now)) }
 {
     // No two names of a table are the same.
     let _size = names.len();
@@ -80,7 +80,7 @@ pub(crate) fn set_of(text: &[u8], names: &Names) -> Result<u16, LineFault>
 /// Refused with `Name` before `Number`.
 pub(crate) fn script_of(text: &[u8], names: &Names) -> Result<Script, LineFault>
     ensures { MatchResult result
-        (IsScriptWord names.now text.now) (λ fault. IsBadScript names.now fault text.now) }
+        (IsScriptWord names.now text.now) (λ fault. IsBadScriptWord names.now fault text.now) }
 {
     let size = names.len();
     let mut given = 0;

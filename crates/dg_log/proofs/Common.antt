@@ -2,7 +2,7 @@
 pub use Rattle.dg_rules.specs.declared.entry.Entry.{Entry}
 pub use Rattle.dg_log.specs.Numbered.{IsLonger, IsPrefixOf, ReceiptsAreBelow, StandIn}
 pub use Rattle.dg_log.specs.ReceiptSets.{AreReceiptsNamed, IsReceiptSetEnd, entries_of_receipts}
-pub use Rattle.dg_log.specs.Witnesses.{Agree, AgreesWith, noted_all}
+pub use Rattle.dg_log.specs.Witnesses.{AgreeOnCells, AgreesOnCell, noted_cells}
 pub use Rattle.dg_log.specs.Written.{Written}
 pub use Rattle.dg_log.specs.contracts.witness.Witness.{the_row}
 pub use Rattle.dg_log.specs.contracts.witness.Witness.agrees.{clauses, ended}

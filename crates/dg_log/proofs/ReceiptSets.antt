@@ -16,7 +16,7 @@
 --   seen_length, began_seen, stands_seen   so it is of what a contract sees of these
 --   begins_itself  a history begins with itself
 --   longer_second, longer_first   of a history and its beginning, it is the longer
-use Rattle.dg_log.proofs.Common.{◌≡◌, ℕ, zero, suc, ◌+◌, ◌<◌, ◌≤◌, List, [], ◌∷◌, ◌++◌, length, map, take, slice_get, Some, arith, refl, sym, ap, subst, ◌∙◌, length-append, slice_get_within, length-map, append-nil, Entry, AgreesWith, Agree, ReceiptsAreBelow, StandIn, IsPrefixOf, IsLonger, entries_of_receipts, AreReceiptsNamed, IsReceiptSetEnd}
+use Rattle.dg_log.proofs.Common.{◌≡◌, ℕ, zero, suc, ◌+◌, ◌<◌, ◌≤◌, List, [], ◌∷◌, ◌++◌, length, map, take, slice_get, Some, arith, refl, sym, ap, subst, ◌∙◌, length-append, slice_get_within, length-map, append-nil, Entry, AgreesOnCell, AgreeOnCells, ReceiptsAreBelow, StandIn, IsPrefixOf, IsLonger, entries_of_receipts, AreReceiptsNamed, IsReceiptSetEnd}
 
 pub below_up : (m n : ℕ) (ps : List (ℕ × Entry)) → m ≤ n → ReceiptsAreBelow m ps → ReceiptsAreBelow n ps
 below_up m n [] up below = tt
@@ -64,7 +64,7 @@ end_same end prefix ps p is_end last within = (
   λ n below. is_end.1 n (below_fewer n ps p below).0,
 )
 
-agreed : (x : ℕ × ℕ × Entry) (others : List (ℕ × ℕ × Entry)) (k : ℕ) → AgreesWith x others → k < length others →
+agreed : (x : ℕ × ℕ × Entry) (others : List (ℕ × ℕ × Entry)) (k : ℕ) → AgreesOnCell x others → k < length others →
     slice_get (map (λ y. y.1) others) k ≡ Some x.1 → slice_get (map (λ y. y.2) others) k ≡ Some x.2
 agreed x [] k agrees below cell = absurd (omega arith)
 agreed x (y ∷ others) zero agrees below cell = let same : x.1 ≡ y.1 = cc in ap Some (sym (agrees.0 same))
@@ -94,7 +94,7 @@ cells_more row items x cells next =
     map_more items x ∙ ap (λ ns. ns ++ x.1 ∷ []) cells ∙ sym (take_more (length items) row x.1 next)
     ∙ ap (λ k. take k row) (sym longer)
 
-pub stands : (row : List ℕ) (items others : List (ℕ × ℕ × Entry)) → Agree items others → AreReceiptsNamed row items →
+pub stands : (row : List ℕ) (items others : List (ℕ × ℕ × Entry)) → AgreeOnCells items others → AreReceiptsNamed row items →
     map (λ y. y.1) others ≡ take (length others) row →
     ReceiptsAreBelow (length (map (λ y. y.2) others)) (entries_of_receipts items) →
     StandIn (map (λ y. y.2) others) (entries_of_receipts items)
@@ -107,18 +107,18 @@ stands row (x ∷ items) others agree named cells below =
       stands row items others agree.1 named.1 cells below.1,
     )
 
-first_agrees : (x y : ℕ × ℕ × Entry) (others : List (ℕ × ℕ × Entry)) → AgreesWith x (y ∷ others) → x.1 ≡ y.1 → x.2 ≡ y.2
+first_agrees : (x y : ℕ × ℕ × Entry) (others : List (ℕ × ℕ × Entry)) → AgreesOnCell x (y ∷ others) → x.1 ≡ y.1 → x.2 ≡ y.2
 first_agrees x y others agrees same = agrees.0 same
 
 agree_past : (items : List (ℕ × ℕ × Entry)) (y : ℕ × ℕ × Entry) (others : List (ℕ × ℕ × Entry)) →
-    Agree items (y ∷ others) → Agree items others
+    AgreeOnCells items (y ∷ others) → AgreeOnCells items others
 agree_past [] y others agree = tt
 agree_past (x ∷ items) y others agree = (agree.0.1, agree_past items y others agree.1)
 
 begins_more : (e f : Entry) (K H : List Entry) → e ≡ f → IsPrefixOf K H → IsPrefixOf (e ∷ K) (f ∷ H)
 begins_more e f K H same (rest, is) = (rest, ap (λ L. f ∷ L) is ∙ ap (λ d. d ∷ (K ++ rest)) (sym same))
 
-pub began : (row : List ℕ) (items others : List (ℕ × ℕ × Entry)) → Agree items others →
+pub began : (row : List ℕ) (items others : List (ℕ × ℕ × Entry)) → AgreeOnCells items others →
     map (λ y. y.1) items ≡ take (length items) row → map (λ y. y.1) others ≡ take (length others) row →
     length items ≤ length others →
     IsPrefixOf (map (λ y. y.2) items) (map (λ y. y.2) others)
@@ -135,14 +135,14 @@ pub seen_length : (items : List (ℕ × ℕ × Entry)) {K : List Entry} → map 
 seen_length items is = sym (length-map items (λ (x : ℕ × ℕ × Entry). x.2)) ∙ ap length is
 
 pub began_seen : (row : List ℕ) (items others : List (ℕ × ℕ × Entry)) {K H : List Entry} → map (λ x. x.2) items ≡ K →
-    map (λ x. x.2) others ≡ H → Agree items others → map (λ y. y.1) items ≡ take (length items) row →
+    map (λ x. x.2) others ≡ H → AgreeOnCells items others → map (λ y. y.1) items ≡ take (length items) row →
     map (λ y. y.1) others ≡ take (length others) row → length K ≤ length H → IsPrefixOf K H
 began_seen row items others {K} first second agree cells more few =
     subst (IsPrefixOf K) second (subst (λ L. IsPrefixOf L (map (λ x. x.2) others)) first
     (began row items others agree cells more (omega (arith, few, seen_length items first, seen_length others second))))
 
 pub stands_seen : (row : List ℕ) (items others : List (ℕ × ℕ × Entry)) {ps : List (ℕ × Entry)} {H : List Entry} →
-    entries_of_receipts items ≡ ps → map (λ x. x.2) others ≡ H → Agree items others → AreReceiptsNamed row items →
+    entries_of_receipts items ≡ ps → map (λ x. x.2) others ≡ H → AgreeOnCells items others → AreReceiptsNamed row items →
     map (λ y. y.1) others ≡ take (length others) row → ReceiptsAreBelow (length H) ps → StandIn H ps
 stands_seen row items others {ps} {H} first second agree named cells below =
     subst (StandIn H) first (subst (λ L. StandIn L (entries_of_receipts items)) second

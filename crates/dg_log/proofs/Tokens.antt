@@ -1,5 +1,5 @@
 -- A `Witness` and a `Witnesses` as values, and a `&` to what can be had twice. Assumes `Logic`.
-use Rattle.dg_log.proofs.Common.{ℕ, List, [], ◌∷◌, refl, Ura, Val, vstruct, vcons, vnil, ent, sep, wand, apply∗, Lft, Fml, fbor, Logic, sem, lfts, ‵, raw, ◌⊛◌, later, ◌$◌, ◌∵◌, !, qed, move, drop, use0, use1, use2, split, await, updating, now, done, RattleType, makes_shadow, said, Struct, shape, Lends, Some, noted, noted_all}
+use Rattle.dg_log.proofs.Common.{ℕ, List, [], ◌∷◌, refl, Ura, Val, vstruct, vcons, vnil, ent, sep, wand, apply∗, Lft, Fml, fbor, Logic, sem, lfts, ‵, raw, ◌⊛◌, later, ◌$◌, ◌∵◌, !, qed, move, drop, use0, use1, use2, split, await, updating, now, done, RattleType, makes_shadow, said, Struct, shape, Lends, Some, noted, noted_cells}
 use Rattle.dg_log.specs.contracts.witnesses.Witnesses as witnesses
 use Rattle.dg_log.specs.contracts.witness.Witness as witness
 
@@ -20,12 +20,12 @@ module _ {M : Type 1} {𝓤 : Ura M} (𝓛 : Logic 𝓤) where
       ((vstruct vnil ∷ [], tt), (refl, ((tt, (refl, tt)), tt)))) $ done !
 
   pub witnesses_made : (R : RattleType) (items : List (ℕ × ℕ × R.Denot))
-      → ent 𝓤 (sem 𝓛 (noted_all R items)) (sem 𝓛 ((witnesses.the_row R).own_val (record {
+      → ent 𝓤 (sem 𝓛 (noted_cells R items)) (sem 𝓛 ((witnesses.the_row R).own_val (record {
         marker = record {};
         items = items;
       }) (token ∷ [])))
   witnesses_made R items = let F = (Struct (shape (witnesses.the_type R))).own_val (tt, tt) (token ∷ []) in
-      qed 𝓛 (‵ (noted_all R items) ∷ []) ∵
+      qed 𝓛 (‵ (noted_cells R items) ∷ []) ∵
       use0 𝓛 (‵ F) (makes_shadow 𝓛 F (λ vss. (tt, ((λ uss. (tt, tt)), tt)))
       ((vstruct vnil ∷ [], tt), (refl, ((tt, (refl, tt)), tt)))) $ done !
 

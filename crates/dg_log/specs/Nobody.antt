@@ -1,10 +1,10 @@
 -- What the name of a table stands for if there is no table.
---   no_table == no vertices, no seats and no entries
+--   no_table_data == no vertices, no seats and no entries
 use Rattle.std.specs.Prelude.{[]}
 use Rattle.dg_log.specs.Tables.{TableData}
 
-abbrev pub no_table : TableData
-no_table = record {
+abbrev pub no_table_data : TableData
+no_table_data = record {
   start = record {
     graph = record { size = 0; table = [] };
     divisor = record { size = 0; numbers = [] };

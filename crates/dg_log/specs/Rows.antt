@@ -1,6 +1,6 @@
 -- Rows of cells.
---   IsCapacity n         == a row may have n cells
---   RefusesRow n fault   == a row of n cells is refused with the fault
+--   IsCapacity n              == a row may have n cells
+--   RefusesRowOfCells n fault == a row of n cells is refused with the fault
 use Rattle.std.specs.Prelude.{ℕ, ◌≤◌}
 use Rattle.dg_rules.specs.declared.game.TheConstants.{MAX_ENTRIES}
 use Rattle.dg_log.specs.declared.row.LogFault.{LogFault}
@@ -9,6 +9,6 @@ use Rattle.dg_log.specs.declared.row.LogFault.TheVariants.{Capacity, OutOfMemory
 abbrev pub IsCapacity : ℕ → Type 0
 IsCapacity n = (1 ≤ n) × (n ≤ MAX_ENTRIES)
 
-abbrev pub RefusesRow : ℕ → LogFault → Type 0
-RefusesRow n Capacity = ¬ IsCapacity n
-RefusesRow n OutOfMemory = IsCapacity n
+abbrev pub RefusesRowOfCells : ℕ → LogFault → Type 0
+RefusesRowOfCells n Capacity = ¬ IsCapacity n
+RefusesRowOfCells n OutOfMemory = IsCapacity n

@@ -3,7 +3,7 @@ ghost use Rattle.std.specs.Prelude.{◌≡◌, ◌<◌, ◌≤◌, List, length,
 ghost use Rattle.std.specs.Vec.{vec_len};
 ghost use Rattle.once_cell.specs.Once.{cell_name};
 ghost use Rattle.dg_rules.specs.declared.game.TheConstants.{MAX_ENTRIES};
-ghost use Rattle.dg_log.specs.Written.{blank};
+ghost use Rattle.dg_log.specs.Written.{nothing_written};
 
 use crate::name::Name;
 use crate::pen::Pen;
@@ -32,7 +32,7 @@ impl<N: Name> Log<N> {
     pub fn new(row: Row) -> (Log<N>, Pen<N>)
         requires row { row ≡ N.cells }
         requires capacity { length row ≡ N.table.capacity }
-        ensures { result.1 ≡ blank }
+        ensures { result.1 ≡ nothing_written }
     {
         let (log, pen, _) = Log::with_seating(row);
         (log, pen)
@@ -42,7 +42,7 @@ impl<N: Name> Log<N> {
     pub fn with_seating(row: Row) -> (Log<N>, Pen<N>, Seating<N>)
         requires row { row ≡ N.cells }
         requires capacity { length row ≡ N.table.capacity }
-        ensures { result.1 ≡ blank }
+        ensures { result.1 ≡ nothing_written }
     {
         let log = Log {
             cells: row.cells,

@@ -1,7 +1,7 @@
 //! Names of tables, which exist in the proofs alone.
 ghost use Rattle.std.specs.Prelude.{ℕ, List, []};
 ghost use Rattle.dg_log.specs.Tables.{TableData};
-ghost use Rattle.dg_log.specs.Nobody.{no_table};
+ghost use Rattle.dg_log.specs.Nobody.{no_table_data};
 
 use std::marker::Brand;
 
@@ -19,5 +19,5 @@ pub trait Name {
 impl Name for Brand {
     ghost cells = { [] };
 
-    ghost table = { no_table };
+    ghost table = { no_table_data };
 }

@@ -4,7 +4,7 @@ ghost use Rattle.std.specs.List.{slice_get};
 ghost use Rattle.std.specs.declared.option.Option.TheVariants.{Some};
 ghost use Rattle.dg_rules.specs.declared.game.TheConstants.{MAX_ENTRIES};
 ghost use Rattle.dg_log.specs.Numbered.{ReceiptsAreBelow, StandIn, IsPrefixOf};
-ghost use Rattle.dg_log.specs.Written.{blank, with_entry, after_refusal};
+ghost use Rattle.dg_log.specs.Written.{nothing_written, with_entry, written_after_refusal};
 
 use crate::log::Log;
 use crate::name::Name;
@@ -42,7 +42,7 @@ impl<N: Name> Pen<N> {
     /// A pen that wrote nothing.
     pub(crate) fn new() -> Pen<N>
         requires { N.table.capacity ≤ MAX_ENTRIES }
-        ensures { result ≡ blank }
+        ensures { result ≡ nothing_written }
     {
         Pen {
             witnesses: Witnesses::new(),
@@ -58,7 +58,7 @@ impl<N: Name> Pen<N> {
         requires { length self.old.entries < N.table.capacity }
         ensures { MatchResult result
             (λ r. (r ≡ (length self.old.entries, entry.value)) × (self.new ≡ with_entry self.old entry.value))
-            (λ b. (b.value ≡ entry.value) × (self.new ≡ after_refusal self.old)) }
+            (λ b. (b.value ≡ entry.value) × (self.new ≡ written_after_refusal self.old)) }
     {
         let cell = &log.cells[self.len as usize];
         let mut note = cell.note();

@@ -3,7 +3,7 @@ ghost use Rattle.std.specs.Prelude.{◌≡◌, ℕ, ◌<◌, List, [], ◌∷◌
 ghost use Rattle.std.specs.List.{slice_get};
 ghost use Rattle.std.specs.declared.option.Option.TheVariants.{Some};
 ghost use denote.Sharing.{said};
-ghost use Rattle.dg_log.specs.Witnesses.{noted_all, Agree};
+ghost use Rattle.dg_log.specs.Witnesses.{noted_cells, AgreeOnCells};
 
 use crate::witness::Witness;
 use std::marker::{Model, PhantomData};
@@ -17,9 +17,9 @@ pub struct Witnesses<T> {
 }
 
 impl<T> Model for Witnesses<T> {
-    ghost also_owns = { λ f. noted_all T.row f.items };
+    ghost also_owns = { λ f. noted_cells T.row f.items };
 
-    ghost also_shares = { λ f _ κ. said (noted_all T.row f.items) κ };
+    ghost also_shares = { λ f _ κ. said (noted_cells T.row f.items) κ };
 }
 
 impl<T> Witnesses<T> {
@@ -63,7 +63,7 @@ impl<T> Witnesses<T> {
 
     /// Wherever both have one cell they have one value of it. It does nothing.
     pub fn agree(&self, other: &Witnesses<T>)
-        ensures { Agree self.now.items other.now.items }
+        ensures { AgreeOnCells self.now.items other.now.items }
     {}
 }
 

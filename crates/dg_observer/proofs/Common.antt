@@ -7,7 +7,7 @@ pub use Rattle.dg_rules.proofs.StateLaws.{shows_after}
 pub use Rattle.dg_rules.proofs.StepLaw.{no_entry, one_more_entry}
 pub use Rattle.dg_rules.specs.History.{gifts_by_reply, gifts_in, is_change, position_after}
 pub use Rattle.dg_rules.specs.Legal.{IsLegal}
-pub use Rattle.dg_rules.specs.Position.{Shows}
+pub use Rattle.dg_rules.specs.Position.{ShowsPosition}
 pub use Rattle.dg_rules.specs.Replies.{Replies}
 pub use Rattle.dg_rules.specs.State.{amounts_after}
 pub use Rattle.dg_rules.specs.declared.entry.Entry.{Entry}

@@ -1,25 +1,24 @@
 -- What three observers keep.
---   counted n                 == one more than n, as far as 64 bits go
---   gifts_after_entry n e     == that if the reply of the entry e is a change, and n if it is
---                                none
---   is_watched_move request   == whether the request is a move
---   is_watched_refusal reply  == whether the reply is a refusal
---   is_refused_move e         == whether the entry is a move that was refused
---   with_refused_move counts seat == the counts of the seats 1 to 64 with one more for the seat, as far
---                                as 32 bits go
---   refusal_counted counts e  == that for the entry's seat if the entry is a refused move, and
---                                the counts if it is not
---   WatchCountsGifts          == a count that is kept so from 0 on, over all entries of a history
---                                that has less than 2^64, is its gift count
---   WatchShowsPositions       == amounts that are kept so from the start on, over all entries of a
---                                legal history, are the position after it
+--   counted n                     == one more than n, as far as 64 bits go
+--   gifts_after_entry n e         == that if the reply of the entry e is a change, and n if it is none
+--   is_watched_move request       == whether the request is a move
+--   is_watched_refusal reply      == whether the reply is a refusal
+--   is_refused_move e             == whether the entry is a move that was refused
+--   with_refused_move counts seat == the counts of the seats 1 to 64 with one more for the seat, as far as 32
+--                                    bits go
+--   refusal_counted counts e      == that for the entry's seat if the entry is a refused move, and the counts
+--                                    if it is not
+--   WatchCountsGifts              == a count that is kept so from 0 on, over all entries of a history that
+--                                    has less than 2^64, is its gift count
+--   WatchShowsPositions           == amounts that are kept so from the start on, over all entries of a legal
+--                                    history, are the position after it
 use Rattle.std.specs.Prelude.{if◌then◌else◌, ◌≡◌, ℕ, ◌+◌, ◌-◌, ◌^◌, ◌<◌, ◌&&◌, min, Bool, true, false, cond, leb, List, length, slice_set}
 use Rattle.std.specs.List.{slice_index_or}
 use Rattle.dg_chips.specs.Starts.{StartData, IsStart}
 use Rattle.dg_chips.specs.Vector.{Vector}
 use Rattle.dg_rules.specs.History.{is_change, gifts_in, position_after}
 use Rattle.dg_rules.specs.Legal.{IsLegal}
-use Rattle.dg_rules.specs.Position.{Shows}
+use Rattle.dg_rules.specs.Position.{ShowsPosition}
 use Rattle.dg_rules.specs.State.{amounts_after}
 use Rattle.dg_rules.specs.declared.entry.Entry.{Entry}
 use Rattle.dg_rules.specs.declared.entry.Reply.{Reply}
@@ -61,4 +60,4 @@ WatchCountsGifts = (H : List Entry) (n : ℕ) → length H < 2 ^ 64
 abbrev pub WatchShowsPositions : Type 0
 WatchShowsPositions = (o : StartData) (H : List Entry) (d : Vector) → IsStart o → IsLegal o H
     → Folds (λ first. first ≡ o.divisor) (λ old e next. next ≡ amounts_after old e.reply) H d
-    → Shows (position_after o H) d
+    → ShowsPosition (position_after o H) d

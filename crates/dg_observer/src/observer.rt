@@ -1,7 +1,7 @@
 //! Observers: what they have read, and what they keep of it.
 ghost use Rattle.std.specs.Prelude.{◌≡◌, ◌<◌, ◌≤◌, ◌++◌, ℕ, List, [], ◌∷◌, length, slice_get, Some, IfOk, OnOk, OnErr};
 ghost use Rattle.dg_rules.specs.declared.entry.Entry.{Entry as EntryData};
-ghost use Rattle.dg_observer.specs.Folds.{Folds, GoesOn, IsAskedAtAll, Observed};
+ghost use Rattle.dg_observer.specs.Folds.{Folds, GoesOn, IsAskedInEveryFold, Observed};
 
 use crate::watch::Watch;
 use dg_log::{Log, Name, Receipt};
@@ -52,7 +52,7 @@ where
     /// that the closure may be called at every state and entry, and that it goes on as W says.
     pub fn new(alloc: Global, first: W::State, step: F) -> Observer<N, W, F>
         requires first { W.begins first }
-        requires asked { IsAskedAtAll (F.pre step) }
+        requires asked { IsAskedInEveryFold (F.pre step) }
         requires keeps { GoesOn (F.post step) W.goes_on }
         ensures { result ≡ record { state = first; entries = []; step = step } }
     {
@@ -95,7 +95,7 @@ where
     /// Refused with `OutOfMemory` if memory for a receipt is, or if the step answers so; what was read before
     /// stands.
     pub fn catch_up(&mut self, log: &Log<N>) -> Result<u32, ObserverFault>
-        requires asked { IsAskedAtAll (F.pre self.old.step) }
+        requires asked { IsAskedInEveryFold (F.pre self.old.step) }
         requires keeps { GoesOn (F.post self.old.step) W.goes_on }
         ensures step { self.new.step ≡ self.old.step }
         ensures more { (es : List EntryData) × (self.new.entries ≡ self.old.entries ++ es)
@@ -118,7 +118,7 @@ where
         requires entry { receipt.1 ≡ entry.now }
         requires cell { length self.old.entries < length N.cells }
         requires few { length N.cells ≤ MAX_ENTRIES }
-        requires asked { IsAskedAtAll (F.pre self.old.step) }
+        requires asked { IsAskedInEveryFold (F.pre self.old.step) }
         requires keeps { GoesOn (F.post self.old.step) W.goes_on }
         ensures step { self.new.step ≡ self.old.step }
         ensures ok { OnOk result (self.new.entries ≡ self.old.entries ++ entry.now ∷ []) }

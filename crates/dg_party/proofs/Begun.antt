@@ -6,7 +6,7 @@
 --   alone_all      the one session of one seat is that of all
 --   alone_lacks    so is it where what it came to is not told
 --   party_lacks    a party whose sessions are not told is refused for what they lack
-use Rattle.dg_party.proofs.Common.{◌≡◌, ℕ, suc, ◌≤◌, List, [], ◌∷◌, length, arith, refl, sym, ap, subst, ◌∙◌, Result, Vec, AreFresh, SeatView, SessionEnd, IsSessionOver, RefusesSessions, contents, Shortage, OutOfMemory, Spawn, IsPartyRefused, TableData}
+use Rattle.dg_party.proofs.Common.{◌≡◌, ℕ, suc, ◌≤◌, List, [], ◌∷◌, length, arith, refl, sym, ap, subst, ◌∙◌, Result, Vec, AreFresh, SeatView, SessionEnd, IsPartySessionOver, RefusesSessions, contents, Shortage, OutOfMemory, Spawn, IsPartyRefused, TableData}
 use Rattle.dg_party.specs.Sessions.{AreSessions, HaveBegun}
 use Rattle.dg_party.specs.declared.ending.PartyRefusal.TheVariants as party
 
@@ -20,7 +20,7 @@ none_begun table names scripts left script xs rest ys x y lack d e f h told =
 
 pub one_more : (table : TableData) (names : List (List ℕ)) (scripts left : List (Vec ℕ)) (script : Vec ℕ)
     (xs rest ys : List SeatView) (x y : SeatView) (end : Result ℕ SessionEnd) (ends all : List (Result ℕ SessionEnd))
-    → scripts ≡ script ∷ left → xs ≡ x ∷ rest → all ≡ end ∷ ends → IsSessionOver table names script.items x y end
+    → scripts ≡ script ∷ left → xs ≡ x ∷ rest → all ≡ end ∷ ends → IsPartySessionOver table names script.items x y end
     → AreSessions table names (contents left) rest ys ends → AreSessions table names (contents scripts) xs (y ∷ ys) all
 unfolding AreSessions
 one_more table names scripts left script xs rest ys x y end ends all e f told session are =
@@ -28,7 +28,7 @@ one_more table names scripts left script xs rest ys x y end ends all e f told se
 
 pub more_begun : (table : TableData) (names : List (List ℕ)) (scripts left : List (Vec ℕ)) (script : Vec ℕ)
     (xs rest ys : List SeatView) (x y : SeatView) (end : Result ℕ SessionEnd) (lack : Shortage)
-    → scripts ≡ script ∷ left → xs ≡ x ∷ rest → IsSessionOver table names script.items x y end
+    → scripts ≡ script ∷ left → xs ≡ x ∷ rest → IsPartySessionOver table names script.items x y end
     → RefusesSessions table names (contents left) rest ys lack
     → RefusesSessions table names (contents scripts) xs (y ∷ ys) lack
 unfolding HaveBegun
@@ -40,7 +40,7 @@ more_begun table names scripts left script xs rest ys x y end Spawn e f session 
 pub all_begun : (table : TableData) (names : List (List ℕ)) (scripts left : List (Vec ℕ)) (script : Vec ℕ)
     (xs rest ys : List SeatView) (x y : SeatView) (end : Result ℕ SessionEnd) (ends : List (Result ℕ SessionEnd))
     (lack : Shortage)
-    → scripts ≡ script ∷ left → xs ≡ x ∷ rest → IsSessionOver table names script.items x y end
+    → scripts ≡ script ∷ left → xs ≡ x ∷ rest → IsPartySessionOver table names script.items x y end
     → AreSessions table names (contents left) rest ys ends → lack ≡ OutOfMemory
     → RefusesSessions table names (contents scripts) xs (y ∷ ys) lack
 all_begun table names scripts left script xs rest ys x y end ends lack e f session are told =
@@ -49,7 +49,7 @@ all_begun table names scripts left script xs rest ys x y end ends lack e f sessi
 pub alone_all : (table : TableData) (names : List (List ℕ)) (scripts left : List (Vec ℕ)) (script : Vec ℕ)
     (xs rest ys : List SeatView) (x y : SeatView) (end : Result ℕ SessionEnd) (ends : List (Result ℕ SessionEnd))
     → scripts ≡ script ∷ left → xs ≡ x ∷ rest → ys ≡ y ∷ rest → ends ≡ end ∷ [] → length scripts ≡ 1
-    → length scripts ≡ length xs → IsSessionOver table names script.items x y end
+    → length scripts ≡ length xs → IsPartySessionOver table names script.items x y end
     → AreSessions table names (contents scripts) xs ys ends
 unfolding AreSessions
 alone_all table names scripts [] script xs [] ys x y end ends e f h told one count session =
@@ -62,7 +62,7 @@ alone_all table names scripts [] script xs (z ∷ rest) ys x y end ends e f h to
 pub alone_lacks : (table : TableData) (names : List (List ℕ)) (scripts left : List (Vec ℕ)) (script : Vec ℕ)
     (xs rest ys : List SeatView) (x y : SeatView) (end : Result ℕ SessionEnd) (lack : Shortage)
     → scripts ≡ script ∷ left → xs ≡ x ∷ rest → ys ≡ y ∷ rest → lack ≡ OutOfMemory → length scripts ≡ 1
-    → length scripts ≡ length xs → IsSessionOver table names script.items x y end
+    → length scripts ≡ length xs → IsPartySessionOver table names script.items x y end
     → RefusesSessions table names (contents scripts) xs ys lack
 alone_lacks table names scripts left script xs rest ys x y end lack e f h told one count session =
     rw told (

@@ -9,13 +9,13 @@
 --   whole            sessions of fresh seats, which a table was closed with, are a party
 --   whole_lent       so are they where the seats were lent as the front of a list
 --   party_unclosed   where the table was not closed with them, there is no party for that
-use Rattle.dg_party.proofs.Common.{◌≡◌, ℕ, zero, suc, ◌+◌, ◌<◌, ◌≤◌, List, [], ◌∷◌, ◌++◌, length, map, take, slice_get, Some, arith, refl, sym, ap, subst, ◌∙◌, Result, codes, decimal, unwrap_or, slice_index, Vec, none-some, take-append_seam, length-map, StartData, Vector, at, Shows, position_after, gifts_in, pairs, Entry, vertices_stay, SeatView, entries_of, AreFresh, IsClosed, AreTotals, IsCloseRefused, all_there, none_missing, Ghosts, Audit, SessionEnd, IsSessionOver, contents, entries_text, seat_text, totals_text, IsParty, IsPartyRefused, Log, TableData}
+use Rattle.dg_party.proofs.Common.{◌≡◌, ℕ, zero, suc, ◌+◌, ◌<◌, ◌≤◌, List, [], ◌∷◌, ◌++◌, length, map, take, slice_get, Some, arith, refl, sym, ap, subst, ◌∙◌, Result, codes, decimal, unwrap_or, slice_index, Vec, none-some, take-append_seam, length-map, StartData, Vector, at, ShowsPosition, position_after, gifts_in, pairs, Entry, vertices_stay, SeatView, entries_of, AreFresh, IsClosed, AreAuditTotals, IsCloseRefused, all_there, none_missing, Ghosts, Audit, SessionEnd, IsPartySessionOver, contents, entries_text, party_seat_text, totals_text, IsParty, IsPartyRefused, Log, TableData}
 use Rattle.dg_party.specs.Sessions.{AreSessions}
 use Rattle.dg_party.specs.Printed.{seats_text, calls_text}
 
 number_kept : {table : TableData} {names : List (List ℕ)} {script : List ℕ} {x y : SeatView}
     {end : Result ℕ SessionEnd}
-    → IsSessionOver table names script x y end → y.number ≡ x.number
+    → IsPartySessionOver table names script x y end → y.number ≡ x.number
 number_kept h = ap (λ numbers. slice_index numbers 0) h.session.numbers
 
 record IsSessionAt (table : TableData) (names : List (List ℕ)) (xs ys : List SeatView) (i : ℕ)
@@ -25,7 +25,7 @@ record IsSessionAt (table : TableData) (names : List (List ℕ)) (xs ys : List S
   after : SeatView
   first : slice_get xs i ≡ Some before
   last : slice_get ys i ≡ Some after
-  session : IsSessionOver table names script before after end
+  session : IsPartySessionOver table names script before after end
 
 -- what sessions side by side come to
 record AreAlong (table : TableData) (names scripts : List (List ℕ)) (xs ys : List SeatView)
@@ -81,11 +81,11 @@ calls_are H s (suc n) (count ∷ calls) enough each =
     λ k less.
     let number : s + suc k ≡ (s + 1) + k = omega arith in
     each (suc k) (omega (arith, less)) ∙ ap (λ j. length (entries_of j H)) number in
-    ap (λ c. seat_text s c ++ calls_text (s + 1) (take n calls)) first
-    ∙ ap (λ t. seat_text s (length (entries_of s H)) ++ t) (calls_are H (s + 1) n calls (omega (arith, enough)) rest)
+    ap (λ c. party_seat_text s c ++ calls_text (s + 1) (take n calls)) first
+    ∙ ap (λ t. party_seat_text s (length (entries_of s H)) ++ t) (calls_are H (s + 1) n calls (omega (arith, enough)) rest)
 
 call_counts : {N : Type 0} {named : Ghosts N} (table : TableData) (ys : List SeatView) (a : Audit N named)
-    → IsClosed table ys a.pen.entries → AreTotals table ys a
+    → IsClosed table ys a.pen.entries → AreAuditTotals table ys a
     → (k : ℕ) → k < table.seats → slice_index a.calls k ≡ length (entries_of (1 + k) a.pen.entries)
 call_counts table ys a closed totals k less =
     let has = closed.complete (k + 1) (omega arith) (omega (arith, less)) in
@@ -98,7 +98,7 @@ pub contents_count : (scripts : List (Vec ℕ)) → length (contents scripts) �
 contents_count [] = refl
 contents_count (script ∷ scripts) = ap suc (contents_count scripts)
 
-pub shown_size : (o : StartData) (H : List Entry) (position : Vector) → Shows (position_after o H) position
+pub shown_size : (o : StartData) (H : List Entry) (position : Vector) → ShowsPosition (position_after o H) position
     → o.graph.size ≡ position.size
 shown_size o H position shown = sym (shown.size ∙ vertices_stay o H)
 
@@ -111,7 +111,7 @@ audit_with names H position seats =
 whole : {N : Type 0} {named : Ghosts N} (table : TableData) (names scripts : List (List ℕ)) (xs ys : List SeatView)
     (ends : List (Result ℕ SessionEnd)) (a : Audit N named) (text : List ℕ)
     → length scripts ≡ table.seats → AreFresh table.seats xs → AreSessions table names scripts xs ys ends
-    → IsClosed table ys a.pen.entries → AreTotals table ys a → table.seats ≤ length a.calls
+    → IsClosed table ys a.pen.entries → AreAuditTotals table ys a → table.seats ≤ length a.calls
     → text ≡ entries_text names 0 a.pen.entries
     ++ totals_text names a.entries a.gifts a.position (take table.seats a.calls)
     → IsParty table names scripts ends text
@@ -161,7 +161,7 @@ pub whole_lent : {N : Type 0} {named : Ghosts N} (table : TableData) (names scri
     (ends : List (Result ℕ SessionEnd)) (a : Audit N named) (text : List ℕ)
     → length scripts ≡ n → n ≡ table.seats → AreFresh n opened → xs ≡ opened → len ≡ length opened
     → AreSessions table names scripts xs ys ends
-    → IsClosed table (take len (ys ++ rest)) a.pen.entries × AreTotals table (take len (ys ++ rest)) a
+    → IsClosed table (take len (ys ++ rest)) a.pen.entries × AreAuditTotals table (take len (ys ++ rest)) a
     → n ≤ length a.calls
     → text ≡ entries_text names 0 a.pen.entries ++ totals_text names a.entries a.gifts a.position (take n a.calls)
     → IsParty table names scripts ends text

@@ -1,17 +1,17 @@
 -- Sessions side by side. A script is the bytes of a session's lines; x and y are seats before and
 -- after.
---   contents scripts       == the bytes of each of the scripts
---   IsSessionOver table names script x y end == a session of the seat over the bytes of the
---                             script came to this end, on a table of so many seats and cap cells,
---                             of which it found one history, with one worker; nobody heard what it
---                             had to say, so that no writer failed
---   AreSessions .. scripts xs ys ends == so did, one beside another, a session of each seat over
---                         the script at its place
---   HaveBegun .. k scripts xs ys == the first k seats had such sessions, and the others are as they
---                         were
---   RefusesSessions .. scripts xs ys fault == memory was refused after all seats had such sessions;
---                         or a thread was not started, and some first seats had them, not all, and
---                         the others are as they were
+--   contents scripts                              == the bytes of each of the scripts
+--   IsPartySessionOver table names script x y end == a session of the seat over the bytes of the script came
+--                                                    to this end, on a table of so many seats and cap cells,
+--                                                    of which it found one history, with one worker; nobody
+--                                                    heard what it had to say, so that no writer failed
+--   AreSessions .. scripts xs ys ends             == so did, one beside another, a session of each seat over
+--                                                    the script at its place
+--   HaveBegun .. k scripts xs ys                  == the first k seats had such sessions, and the others are
+--                                                    as they were
+--   RefusesSessions .. scripts xs ys fault        == memory was refused after all seats had such sessions; or
+--                                                    a thread was not started, and some first seats had them,
+--                                                    not all, and the others are as they were
 use Rattle.std.specs.Prelude.{◌≡◌, ◌≢◌, ℕ, zero, suc, ◌<◌, List, [], ◌∷◌, length, Option, Some, ⊤, Result, Err, map}
 use Rattle.std.specs.Global.{Vec}
 use Rattle.dg_log.specs.Tables.{TableData}
@@ -28,7 +28,7 @@ use Rattle.dg_table.specs.Seats.{SeatView}
 abbrev pub contents : List (Vec ℕ) → List (List ℕ)
 contents scripts = map (λ (script : Vec ℕ). script.items) scripts
 
-pub record IsSessionOver (table : TableData) (names : List (List ℕ)) (script : List ℕ)
+pub record IsPartySessionOver (table : TableData) (names : List (List ℕ)) (script : List ℕ)
     (x y : SeatView)
     (end : Result ℕ SessionEnd) : Type 0 where
   pub rest : Option (List ℕ)
@@ -40,7 +40,7 @@ pub record IsSessionOver (table : TableData) (names : List (List ℕ)) (script :
 unfoldable pub AreSessions : TableData → List (List ℕ) → List (List ℕ) → List SeatView
     → List SeatView → List (Result ℕ SessionEnd) → Type 0
 AreSessions table names (script ∷ scripts) (x ∷ xs) (y ∷ ys) (end ∷ ends) =
-    IsSessionOver table names script x y end
+    IsPartySessionOver table names script x y end
     × AreSessions table names scripts xs ys ends
 AreSessions table names [] [] [] [] = ⊤
 AreSessions table names scripts xs ys ends = ⊥
@@ -49,7 +49,7 @@ unfoldable pub HaveBegun : TableData → List (List ℕ) → ℕ → List (List 
     → List SeatView → Type 0
 HaveBegun table names zero scripts xs ys = ys ≡ xs
 HaveBegun table names (suc k) (script ∷ scripts) (x ∷ xs) (y ∷ ys) =
-    ((end : Result ℕ SessionEnd) × IsSessionOver table names script x y end)
+    ((end : Result ℕ SessionEnd) × IsPartySessionOver table names script x y end)
     × HaveBegun table names k scripts xs ys
 HaveBegun table names k scripts xs ys = ⊥
 

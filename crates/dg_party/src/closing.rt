@@ -1,7 +1,7 @@
 //! What is printed of a table that was closed.
 ghost use Rattle.std.specs.Prelude.{◌≡◌, ◌≤◌, ◌++◌, length, take, decimal, IfOk, OnOk};
 ghost use Rattle.dg_lines.specs.Texts.{HasNames, RepliesHaveNames};
-ghost use Rattle.dg_party.specs.Printed.{seat_entry_text, entries_text, seat_text, calls_text, totals_text};
+ghost use Rattle.dg_party.specs.Printed.{seat_entry_text, entries_text, party_seat_text, calls_text, totals_text};
 
 use dg_chips::Divisor;
 use dg_lines::{push_amounts, push_reply};
@@ -17,7 +17,7 @@ use std::alloc::{AllocError, Global};
 /// seats.
 ///
 /// Refused if there is not enough memory.
-pub(crate) fn closing_text<N: Name>(
+pub(crate) fn closed_party_text<N: Name>(
     alloc: Global,
     names: &Names,
     audit: &Audit<N>,
@@ -31,8 +31,8 @@ pub(crate) fn closing_text<N: Name>(
         (take seats audit.now.calls)) }
 {
     let mut text = Vec::new(alloc);
-    push_entries(&mut text, names, audit)?;
-    push_totals(
+    push_party_entries(&mut text, names, audit)?;
+    push_party_totals(
         &mut text,
         names,
         audit.entries,
@@ -44,7 +44,7 @@ pub(crate) fn closing_text<N: Name>(
 }
 
 // The lines of the entries of the history, each with its seat, numbered from 0 on, after the text.
-fn push_entries<N: Name>(
+fn push_party_entries<N: Name>(
     text: &mut Vec<u8>,
     names: &Names,
     audit: &Audit<N>,
@@ -54,13 +54,13 @@ fn push_entries<N: Name>(
         (text.new.items ≡ text.old.items ++ entries_text names.now 0 audit.now.pen.entries) }
 {
     'entries: for number in 0..audit.len() {
-        push_seat_entry(text, names, number, audit.entry(number))?;
+        push_party_entry(text, names, number, audit.entry(number))?;
     }
     Ok(())
 }
 
 // The line of an entry: its number, its seat and the text of its reply, after the text.
-fn push_seat_entry(
+fn push_party_entry(
     text: &mut Vec<u8>,
     names: &Names,
     number: u32,
@@ -79,7 +79,7 @@ fn push_seat_entry(
 }
 
 // How many entries there are, how many gifts, levies and joins, the amounts, and the calls of each seat, after the text.
-fn push_totals(
+fn push_party_totals(
     text: &mut Vec<u8>,
     names: &Names,
     entries: u32,
@@ -92,35 +92,35 @@ fn push_totals(
         (text.new.items ≡ text.old.items
         ++ totals_text names.now entries gifts position.now calls.now) }
 {
-    push_count(text, b"entries ", u64::from(entries))?;
-    push_count(text, b"\ngifts ", u64::from(gifts))?;
+    push_party_count(text, b"entries ", u64::from(entries))?;
+    push_party_count(text, b"\ngifts ", u64::from(gifts))?;
     text.extend_from_slice(b"\nposition ")?;
     push_amounts(text, names, position)?;
     text.extend_from_slice(b"\n")?;
-    push_calls(text, calls)
+    push_party_calls(text, calls)
 }
 
 // The line of each seat's calls, from seat 1 on, after the text.
-fn push_calls(text: &mut Vec<u8>, calls: &[u64]) -> Result<(), AllocError>
+fn push_party_calls(text: &mut Vec<u8>, calls: &[u64]) -> Result<(), AllocError>
     ensures { OnOk result (text.new.items ≡ text.old.items ++ calls_text 1 calls.now) }
 {
     'seats: for (place, count) in calls.iter().enumerate() {
-        push_seat(text, place as u64 + 1, *count)?;
+        push_party_seat(text, place as u64 + 1, *count)?;
     }
     Ok(())
 }
 
 // The line of a seat's calls, after the text.
-fn push_seat(text: &mut Vec<u8>, number: u64, count: u64) -> Result<(), AllocError>
-    ensures { OnOk result (text.new.items ≡ text.old.items ++ seat_text number count) }
+fn push_party_seat(text: &mut Vec<u8>, number: u64, count: u64) -> Result<(), AllocError>
+    ensures { OnOk result (text.new.items ≡ text.old.items ++ party_seat_text number count) }
 {
-    push_count(text, b"seat ", number)?;
-    push_count(text, b" calls ", count)?;
+    push_party_count(text, b"seat ", number)?;
+    push_party_count(text, b" calls ", count)?;
     text.extend_from_slice(b"\n")
 }
 
 // A label and a number, after the text.
-fn push_count(text: &mut Vec<u8>, label: &[u8], count: u64) -> Result<(), AllocError>
+fn push_party_count(text: &mut Vec<u8>, label: &[u8], count: u64) -> Result<(), AllocError>
     ensures { OnOk result (text.new.items ≡ text.old.items ++ label.now ++ decimal count) }
 {
     text.extend_from_slice(label)?;

@@ -2,11 +2,11 @@
 ghost use Rattle.std.specs.Prelude.{◌≡◌, length, IfOk, IfErr};
 ghost use Rattle.dg_log.specs.Rows.{IsCapacity};
 ghost use Rattle.dg_log.specs.Tables.{table_data_of};
-ghost use Rattle.dg_table.specs.Opened.{MayHaveSeats};
+ghost use Rattle.dg_table.specs.Opened.{TableMayHaveSeats};
 ghost use Rattle.dg_party.specs.Sessions.{contents};
 ghost use Rattle.dg_party.specs.Parties.{IsParty, IsPartyRefused};
 
-use crate::closing::closing_text;
+use crate::closing::closed_party_text;
 use crate::ending::{PartyRefusal, Played};
 use crate::threads::sessions;
 use dg_chips::Start;
@@ -36,7 +36,7 @@ pub fn party<R: Threads + Wait + Sync, G: Gate>(
     gate: &G,
 ) -> Result<Played, PartyRefusal>
     requires cap { IsCapacity cap }
-    requires scripts { MayHaveSeats (length scripts.now) }
+    requires scripts { TableMayHaveSeats (length scripts.now) }
     requires names { length names.now ≡ start.now.graph.size }
     ensures played { IfOk result
         (λ p. IsParty (table_data_of start.now (length scripts.now) cap) names.now (contents scripts.now)
@@ -64,7 +64,7 @@ fn party_of<N: Name + Send + Sync, R: Threads + Wait + Sync, G: Gate>(
 ) -> Result<Played, PartyRefusal>
     requires row { row ≡ N.cells }
     requires table { N.table ≡ table_data_of start.now (length scripts.now) (length row) }
-    requires scripts { MayHaveSeats (length scripts.now) }
+    requires scripts { TableMayHaveSeats (length scripts.now) }
     requires names { length names.now ≡ start.now.graph.size }
     ensures played { IfOk result
         (λ p. IsParty N.table names.now (contents scripts.now) p.ends.items
@@ -87,7 +87,7 @@ fn party_of<N: Name + Send + Sync, R: Threads + Wait + Sync, G: Gate>(
     let Ok(audit) = table.close(seats) else {
         return Err(PartyRefusal::Log);
     };
-    match closing_text(alloc, names, &audit, count) {
+    match closed_party_text(alloc, names, &audit, count) {
         Ok(text) => Ok(Played { ends, text }),
         Err(_) => Err(PartyRefusal::Shortage(Shortage::OutOfMemory)),
     }

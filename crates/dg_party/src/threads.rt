@@ -1,6 +1,6 @@
 //! Sessions side by side, each with a seat and a thread of its own.
 ghost use Rattle.std.specs.Prelude.{◌≡◌, ℕ, ◌≤◌, ◌∷◌, length, IfOk, IfErr};
-ghost use Rattle.dg_party.specs.Sessions.{IsSessionOver, AreSessions, RefusesSessions, contents};
+ghost use Rattle.dg_party.specs.Sessions.{IsPartySessionOver, AreSessions, RefusesSessions, contents};
 
 use dg_log::Name;
 use dg_rank::Gate;
@@ -56,14 +56,14 @@ pub fn sessions<N: Name + Send + Sync, R: Threads + Wait + Sync, G: Gate>(
         gate,
     };
     if scripts.len() == 1 {
-        play_alone(&context, scripts, seats)
+        play_scripts_alone(&context, scripts, seats)
     } else {
         play_in_parallel(&context, scripts, seats)
     }
 }
 
 // The one session of one script, in the thread that calls.
-fn play_alone<'a, N: Name, R: Threads + Wait, G: Gate>(
+fn play_scripts_alone<'a, N: Name, R: Threads + Wait, G: Gate>(
     context: &PartyContext<'a, N, R, G>,
     scripts: &[Vec<u8>],
     seats: &mut [Seat<N>],
@@ -84,8 +84,8 @@ fn play_alone<'a, N: Name, R: Threads + Wait, G: Gate>(
     let Some((script, _)) = scripts.split_first() else {
         unreachable!()
     };
-    let end = run_session(context, script.as_slice(), seat);
-    with_first(end, Vec::new(context.alloc))
+    let end = run_script(context, script.as_slice(), seat);
+    with_first_script(end, Vec::new(context.alloc))
 }
 
 // A thread for the first seat, and beside it this call again for the others.
@@ -111,9 +111,9 @@ fn play_in_parallel<'a, N: Name + Send + Sync, R: Threads + Wait + Sync, G: Gate
     };
     let bytes = script.as_slice();
     let mut first = || -> Result<u32, SessionEnd>
-        ensures { IsSessionOver N.table context.entry.now.names.now
+        ensures { IsPartySessionOver N.table context.entry.now.names.now
             bytes.entry.now seat.entry.now seat.exit.now result }
-    { run_session(context, bytes, seat) };
+    { run_script(context, bytes, seat) };
     let mut others = || -> Result<Vec<Result<u32, SessionEnd>>, Shortage>
         requires { length left.now ≡ length rest.now }
         ensures { IfOk result
@@ -124,23 +124,23 @@ fn play_in_parallel<'a, N: Name + Send + Sync, R: Threads + Wait + Sync, G: Gate
             (contents left.entry.now) rest.entry.now rest.exit.now) }
     { play_in_parallel(context, left, rest) };
     match in_parallel(context.rt, &mut first, &mut others) {
-        Ok((end, Ok(ends))) => with_first(end, ends),
+        Ok((end, Ok(ends))) => with_first_script(end, ends),
         Ok((_, Err(shortage))) => Err(shortage),
         Err(shortage) => Err(shortage),
     }
 }
 
 // A session of the seat over a script, after the gate. What it would say nobody hears.
-fn run_session<'a, N: Name, R: Threads + Wait, G: Gate>(
+fn run_script<'a, N: Name, R: Threads + Wait, G: Gate>(
     context: &PartyContext<'a, N, R, G>,
     script: &[u8],
     seat: &mut Seat<N>,
 ) -> Result<u32, SessionEnd>
-    ensures { IsSessionOver N.table context.now.names.now script.now seat.old
+    ensures { IsPartySessionOver N.table context.now.names.now script.now seat.old
         seat.new result }
 {
     context.gate.enter(u32::from(seat.number()));
-    ask_ahead(context.alloc, script.len());
+    ask_ahead_for_party(context.alloc, script.len());
     let mut input = Input::new(script);
     serve_unheard(
         context.rt,
@@ -164,7 +164,7 @@ const MAX_PIECES: usize = 16;
 
 // Asks for the space of a script's entries at once, and gives it back, which leaves it to them. Otherwise the C library asks the
 // system for each page of it, and all other threads wait meanwhile. If it is refused, that is what happens.
-fn ask_ahead(alloc: Global, bytes: usize) {
+fn ask_ahead_for_party(alloc: Global, bytes: usize) {
     let mut pieces = Vec::new(alloc);
     for _ in 0..(bytes / (PIECE / SHARE) + 1).min(MAX_PIECES) {
         let Ok(piece) = Vec::<u8>::with_capacity(alloc, PIECE) else {
@@ -177,7 +177,7 @@ fn ask_ahead(alloc: Global, bytes: usize) {
 }
 
 // The ends, and one before them.
-fn with_first(
+fn with_first_script(
     first: Result<u32, SessionEnd>,
     mut ends: Vec<Result<u32, SessionEnd>>,
 ) -> Result<Vec<Result<u32, SessionEnd>>, Shortage>

@@ -14,7 +14,7 @@
 --   none_made, made_at   the sets that are made: none at first, then one more
 --   loss_from        a loss of the box holds nothing before the place
 --   told_from        so what is told of the box is told of these losses
-use Rattle.dg_rank.proofs.Common.{◌-◌, eq-eqb, eqb-true, ne_eqb, if◌then◌else◌, ◌≡◌, ℕ, ◌+◌, ◌<◌, ◌≤◌, inl, inr, ⊎_elim, Bool, true, false, nat_lt, List, arith, refl, sym, ap, subst, ◌∙◌, cases_eq, cases_lt, cases_Bool, both_ways, false_from_ne_true, lt-ltb, le-ltb, ltb-true, fun_ext, ints, ◌≤ℤ◌, slice_index, length, set, get_or-set_same, get_or-set_other, get_or-replicate, replicate, Option, Some, None, MatchOption, AreMade, IsMadeFor, IsBoxLoss, IsLossFrom, in_set, Multigraph, IsMultigraph, edges_between, JoinedIn, here, along, JoinedIn-end, IsConnectedSet, edges_within, Bears, Determines, Amounts, degree, less, HasRankAtLeast, sum_below-one, total_below-cong, count_of-some, member_or_none, IsGreedy, IsPartOf, others, greedy-once, WinFrom, BoxWins, ArePastTrialLimits, IsWithin, IsAskedSet, IsPastAsked, how_many, DeterminesFrom}
+use Rattle.dg_rank.proofs.Common.{◌-◌, eq-eqb, eqb-true, ne_eqb, if◌then◌else◌, ◌≡◌, ℕ, ◌+◌, ◌<◌, ◌≤◌, inl, inr, ⊎_elim, Bool, true, false, nat_lt, List, arith, refl, sym, ap, subst, ◌∙◌, cases_eq, cases_lt, cases_Bool, both_ways, false_from_ne_true, lt-ltb, le-ltb, ltb-true, fun_ext, ints, ◌≤ℤ◌, slice_index, length, set, get_or-set_same, get_or-set_other, get_or-replicate, replicate, Option, Some, None, MatchOption, AreSetsForTrials, IsSetForTrials, IsBoxLoss, IsLossFrom, in_set, Multigraph, IsMultigraph, edges_between, JoinedIn, here, along, JoinedIn-end, IsConnectedSet, edges_within, Bears, Determines, Amounts, degree, less, HasRankAtLeast, sum_below-one, total_below-cong, count_of-some, member_or_none, IsGreedyDeterminingSet, IsPartOf, others, greedy-once, WinFrom, BoxWins, ArePastTrialLimits, IsRankTestWithinLimits, IsAskedSet, IsPastAsked, how_many_trial_places, DeterminesFrom}
 use Rattle.dg_rank.specs.Numbering.{trial_count, nth_trial}
 use Rattle.dg_rank.proofs.CountedOnce.{counted_once}
 use Rattle.dg_rank.proofs.Pascal.{count_grows}
@@ -42,7 +42,7 @@ set_determines g d S U whole part determines = record {
   wins = λ A r bears. (all_determine g d U whole).wins A r (determines A r bears);
 }
 
-pub asked_set : (g : Multigraph) (S U : ℕ → Bool) → IsAllFrom g.size 0 U → IsGreedy g U S → IsAskedSet g S
+pub asked_set : (g : Multigraph) (S U : ℕ → Bool) → IsAllFrom g.size 0 U → IsGreedyDeterminingSet g U S → IsAskedSet g S
 asked_set g S U whole greedy =
     let same : U ≡ (λ v. nat_lt v g.size) = fun_ext (λ v. ⊎_elim
     (λ (member : U v ≡ true). member ∙ sym (lt-ltb v g.size (whole.part v member).1))
@@ -51,10 +51,10 @@ asked_set g S U whole greedy =
     (λ (past : g.size ≤ v). le-ltb v g.size past)
     (cases_lt v g.size)))
     (cases_Bool (U v))) in
-    subst (λ (V : ℕ → Bool). IsGreedy g V S) same greedy
+    subst (λ (V : ℕ → Bool). IsGreedyDeterminingSet g V S) same greedy
 
 pub asked_once : (g : Multigraph) (A B : ℕ → Bool) → IsMultigraph g → IsAskedSet g A → IsAskedSet g B →
-    how_many g.size A ≡ how_many g.size B
+    how_many_trial_places g.size A ≡ how_many_trial_places g.size B
 asked_once g A B graph first second =
     total_below-cong g.size (λ v. if A v then 1 else 0) (λ v. if B v then 1 else 0)
     (λ v below. ap (λ (b : Bool). if b then 1 else 0)
@@ -89,7 +89,8 @@ none_others g A v none last w = ⊎_elim
     (cases_eq w v))
     (cases_lt w v)
 
-pub asked_some : (g : Multigraph) (A : ℕ → Bool) → IsMultigraph g → 0 < g.size → IsAskedSet g A → 1 ≤ how_many g.size A
+pub asked_some : (g : Multigraph) (A : ℕ → Bool) → IsMultigraph g → 0 < g.size → IsAskedSet g A → 1 ≤ how_many_trial_places
+    g.size A
 asked_some g A graph some asked = ⊎_elim
     (λ (found : (v : ℕ) × (v < g.size) × (A v ≡ true)).
     let (v, below, member) = found in count_of-some g.size A v below member)
@@ -107,7 +108,7 @@ one_if_few : (b : Bool) → (if b then 1 else 0) ≤ 1
 one_if_few true = omega arith
 one_if_few false = omega arith
 
-asked_few : (n : ℕ) (A : ℕ → Bool) → how_many n A ≤ n
+asked_few : (n : ℕ) (A : ℕ → Bool) → how_many_trial_places n A ≤ n
 asked_few n A = omega (arith, total_below-times n 1 (λ v. if A v then 1 else 0) (λ v _. one_if_few (A v)))
 
 past_more : (m n k : ℕ) → 0 < m → m ≤ n → ArePastTrialLimits m k → ArePastTrialLimits n k
@@ -120,23 +121,24 @@ past_more m n k some less (inr (inr (inr (c, many, counted)))) =
 
 pub past_all : (g : Multigraph) (k : ℕ) → IsMultigraph g → 0 < g.size → IsPastAsked g k → ArePastTrialLimits g.size k
 past_all g k graph some past =
-    past_more (how_many g.size past.set) g.size k (omega (arith, asked_some g past.set graph some past.asked))
+    past_more (how_many_trial_places g.size past.set) g.size k (omega (arith, asked_some g past.set graph some past.asked))
     (asked_few g.size past.set) past.past
 
-pub asked_within : (g : Multigraph) (k : ℕ) → IsMultigraph g → IsWithin g.size k → ¬ IsPastAsked g k
+pub asked_within : (g : Multigraph) (k : ℕ) → IsMultigraph g → IsRankTestWithinLimits g.size k → ¬ IsPastAsked g k
 asked_within g k graph within past = past_within g.size k (past_all g k graph within.1.some past) within
 
 pub asked_told : (g : Multigraph) (k : ℕ) (A : ℕ → Bool) → IsMultigraph g → IsAskedSet g A →
-    IsWithin (how_many g.size A) k → ¬ IsPastAsked g k
+    IsRankTestWithinLimits (how_many_trial_places g.size A) k → ¬ IsPastAsked g k
 asked_told g k A graph asked within past =
-    past_within (how_many g.size A) k
+    past_within (how_many_trial_places g.size A) k
     (subst (λ (m : ℕ). ArePastTrialLimits m k) (asked_once g past.set A graph past.asked asked) past.past) within
 
 pub asked_above : (g : Multigraph) (j k : ℕ) → IsMultigraph g → 0 < g.size → j ≤ k → IsPastAsked g j → IsPastAsked g k
 asked_above g j k graph some less past = record {
   set = past.set;
   asked = past.asked;
-  past = past_above (how_many g.size past.set) j k (omega (arith, asked_some g past.set graph some past.asked)) less past.past;
+  past = past_above (how_many_trial_places g.size past.set) j k (omega (arith, asked_some g past.set graph some past.asked))
+      less past.past;
 }
 
 abbrev pub IsRoomAt : List ℕ → (ℕ → Bool) → ℕ → Type 0
@@ -168,11 +170,11 @@ rank_from g A k wins E effective of_degree = wins E (record {
   empty = λ v low. absurd (omega arith);
 })
 
-pub none_made : (g : Multigraph) → g.size ≤ 16 → AreMade g (replicate 16 0)
+pub none_made : (g : Multigraph) → g.size ≤ 16 → AreSetsForTrials g (replicate 16 0)
 none_made g few p below = inl (get_or-replicate 16 p 0 0 (omega arith))
 
-pub made_at : (g : Multigraph) (l : List ℕ) (d m : ℕ) → d < length l → AreMade g l → IsMadeFor g d (in_set m) →
-    AreMade g (set l d m)
+pub made_at : (g : Multigraph) (l : List ℕ) (d m : ℕ) → d < length l → AreSetsForTrials g l → IsSetForTrials g d (in_set m) →
+    AreSetsForTrials g (set l d m)
 made_at g l d m inside made new p below = ⊎_elim
     (λ (same : p ≡ d). inr (rw (same, get_or-set_same l d m 0 inside) new))
     (λ (other : p ≡ d → ⊥). rw (get_or-set_other l d p m 0 other) (made p below))

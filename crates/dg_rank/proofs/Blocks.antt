@@ -4,7 +4,7 @@
 --   block_wins       if all of the box win, so do all trials of the block
 --   block_loses      the first loss of the box, after the base, is the first of the block
 --   block_begun      if the first trial of a block loses, it is the first loss
-use Rattle.dg_rank.proofs.Common.{◌≡◌, ◌≢◌, ℕ, ◌+◌, ◌-◌, ◌<◌, ◌≤◌, List, ◌++◌, length, take, drop, arith, refl, sym, ap, subst, ◌∙◌, ⊎_elim, slice_index, sum, cases_eq, cases_lt, ints, get_or_append_left, get_or-append_right, get_or-take, get_or-drop, get_or_past, length-take-le, length-drop, sum_by-take-drop, pos, ◌-ℤ◌, Multigraph, Amounts, degree, only_at, AreEquivalent, less, degree-less, degree-only_at, only_at-here, only_at-other, sum_below-zero, equivalent-winnable, win_more, Vector, at, amounts_of, IsTrial, ComesBefore, IsWithinLimits, WinsWithout, AllWin, IsFirstLossIn, IsFrom, WinFrom, IsFirstFrom, get_or-le-sum_by, length-append}
+use Rattle.dg_rank.proofs.Common.{◌≡◌, ◌≢◌, ℕ, ◌+◌, ◌-◌, ◌<◌, ◌≤◌, List, ◌++◌, length, take, drop, arith, refl, sym, ap, subst, ◌∙◌, ⊎_elim, slice_index, sum, cases_eq, cases_lt, ints, get_or_append_left, get_or-append_right, get_or-take, get_or-drop, get_or_past, length-take-le, length-drop, sum_by-take-drop, pos, ◌-ℤ◌, Multigraph, Amounts, degree, only_at, AreEquivalent, less, degree-less, degree-only_at, only_at-here, only_at-other, sum_below-zero, equivalent-winnable, win_more, Vector, at, amounts_of_trial, IsTrial, IsTrialBefore, IsWithinLimits, WinsWithoutTrial, AllWin, IsFirstLossIn, IsTrialFrom, WinFrom, IsFirstFrom, get_or-le-sum_by, length-append}
 use Rattle.std.proofs.Math.IntN.{◌+ℤ◌}
 use Rattle.dg_rank.specs.Numbering.{trial_count, nth_trial}
 use Rattle.dg_rank.proofs.Numbering.{numbered, some_trial, limits_trial, limits_count}
@@ -13,16 +13,16 @@ use Rattle.std.proofs.lemmas.Grind.{same_number_lists}
 use Rattle.dg_rank.proofs.Leaps.{IsSplit, IsAmong, among}
 
 abbrev pub base : ℕ → ℕ → List ℕ → Amounts
-base n r E v = amounts_of E v -ℤ only_at (n - 1) (pos r) v
+base n r E v = amounts_of_trial E v -ℤ only_at (n - 1) (pos r) v
 
 pub record IsBlockOf (g : Multigraph) (D : Amounts) (k c i d r : ℕ) (E : List ℕ) (x : Vector) : Type 0 where
   pub split : IsSplit g.size k c i d r E
-  pub led : AreEquivalent g (λ v. less D (amounts_of E) v +ℤ only_at (g.size - 1) (pos r) v) (at x)
+  pub led : AreEquivalent g (λ v. less D (amounts_of_trial E) v +ℤ only_at (g.size - 1) (pos r) v) (at x)
 
 split_trial : (n k c i d r : ℕ) (E : List ℕ) → IsSplit n k c i d r E → IsTrial n k E
 split_trial n k c i d r E split = rw split.trial (limits_trial n k c i split.limits split.number)
 
-base_before : (n k c i d r v : ℕ) (E : List ℕ) → IsSplit n k c i d r E → v < d → base n r E v ≡ amounts_of E v
+base_before : (n k c i d r v : ℕ) (E : List ℕ) → IsSplit n k c i d r E → v < d → base n r E v ≡ amounts_of_trial E v
 base_before n k c i d r v E split low =
     let other : v ≢ n - 1 = omega (arith, split.inside) in
     omega (arith, ints, only_at-other (n - 1) (pos r) v other)
@@ -46,7 +46,7 @@ held_before n k c i d r j v E split here low =
     rw here.trial (get_or_append_left (take d E) (nth_trial (n - d) r j) 0 v (omega arith) ∙ get_or-take d E v 0 low)
 
 block_from : (n k c i d r j : ℕ) (E : List ℕ) → IsSplit n k c i d r E → IsAmong n k c i d r j E →
-    IsFrom n r d (less (amounts_of (nth_trial n k (i + j))) (base n r E))
+    IsTrialFrom n r d (less (amounts_of_trial (nth_trial n k (i + j))) (base n r E))
 block_from n k c i d r j E split here = record {
   effective = λ v inside. ⊎_elim
       (λ (low : v < d). omega (
@@ -60,8 +60,8 @@ block_from n k c i d r j E split here = record {
   of_degree = omega (
     arith,
     ints,
-    degree-less n (amounts_of (nth_trial n k (i + j))) (base n r E),
-    degree-less n (amounts_of E) (only_at (n - 1) (pos r)),
+    degree-less n (amounts_of_trial (nth_trial n k (i + j))) (base n r E),
+    degree-less n (amounts_of_trial E) (only_at (n - 1) (pos r)),
     degree-only_at n (n - 1) (pos r) (omega (arith, split.inside)),
     degree-trial n k E (split_trial n k c i d r E split),
     degree-trial n k (nth_trial n k (i + j)) (limits_trial n k c (i + j) split.limits here.within),
@@ -86,14 +86,14 @@ block_wins g D k c i d r E x block wins m from to =
     let number : i + (m - i) ≡ m = omega arith in
     let here : IsAmong g.size k c i d r (m - i) E = among g.size k c i d r E block.split (m - i) (omega arith) in
     let F : List ℕ = nth_trial g.size k (i + (m - i)) in
-    let win : WinsWithout g D F =
-    (equivalent-winnable g (less D (amounts_of F)) (less (at x) (less (amounts_of F) (base g.size r E)))
-    (based g D k c i d r E x block (amounts_of F))).1
-    (wins (less (amounts_of F) (base g.size r E)) (block_from g.size k c i d r (m - i) E block.split here)) in
-    subst (λ (l : ℕ). WinsWithout g D (nth_trial g.size k l)) number win
+    let win : WinsWithoutTrial g D F =
+    (equivalent-winnable g (less D (amounts_of_trial F)) (less (at x) (less (amounts_of_trial F) (base g.size r E)))
+    (based g D k c i d r E x block (amounts_of_trial F))).1
+    (wins (less (amounts_of_trial F) (base g.size r E)) (block_from g.size k c i d r (m - i) E block.split here)) in
+    subst (λ (l : ℕ). WinsWithoutTrial g D (nth_trial g.size k l)) number win
 
-joined_at : (n k c i d r v : ℕ) (E F : List ℕ) → IsSplit n k c i d r E → IsFrom n r d (amounts_of F) → v < n →
-    amounts_of F v ≡ amounts_of (take d E ++ drop d F) v -ℤ base n r E v
+joined_at : (n k c i d r v : ℕ) (E F : List ℕ) → IsSplit n k c i d r E → IsTrialFrom n r d (amounts_of_trial F) → v < n →
+    amounts_of_trial F v ≡ amounts_of_trial (take d E ++ drop d F) v -ℤ base n r E v
 joined_at n k c i d r v E F split from inside =
     let trial : IsTrial n k E = split_trial n k c i d r E split in
     let front : length (take d E) ≡ d = length-take-le d E (omega (arith, trial.places, split.inside)) in
@@ -109,12 +109,13 @@ joined_at n k c i d r v E F split from inside =
     omega (arith, ints, base_after n k c i d r v E split past inside))
     (cases_lt v d)
 
-rest_trial : (n r d : ℕ) (F : List ℕ) → length F ≡ n → d < n → IsFrom n r d (amounts_of F) → IsTrial (n - d) r (drop d F)
+rest_trial : (n r d : ℕ) (F : List ℕ) → length F ≡ n → d < n → IsTrialFrom n r d (amounts_of_trial F) → IsTrial (n - d) r
+    (drop d F)
 rest_trial n r d F places inside from =
-    let whole : degree n (amounts_of F) ≡ pos (sum F) =
+    let whole : degree n (amounts_of_trial F) ≡ pos (sum F) =
     degree-trial n (sum F) F (record { places = places; amount = refl }) in
-    let none : degree d (amounts_of F) ≡ pos 0 = sum_below-zero d (amounts_of F) from.empty in
-    let front : degree d (amounts_of F) ≡ pos (sum (take d F)) = degree-take d F (omega arith) in
+    let none : degree d (amounts_of_trial F) ≡ pos 0 = sum_below-zero d (amounts_of_trial F) from.empty in
+    let front : degree d (amounts_of_trial F) ≡ pos (sum (take d F)) = degree-take d F (omega arith) in
     let both : sum (take d F) + sum (drop d F) ≡ sum F = sum_by-take-drop (λ (x : ℕ). x) F d in
     record {
       places = omega (arith, length-drop d F);
@@ -131,24 +132,25 @@ block_loses g D k c i d r E F E' x block loss is =
     let placed : IsAmong n k c i d r j E = among n k c i d r E block.split j low in
     let trial : E' ≡ nth_trial n k (i + j) =
     is ∙ ap (λ (T : List ℕ). take d E ++ T) (sym here) ∙ sym placed.trial in
-    let held : (v : ℕ) → v < n → amounts_of F v ≡ amounts_of E' v -ℤ base n r E v =
+    let held : (v : ℕ) → v < n → amounts_of_trial F v ≡ amounts_of_trial E' v -ℤ base n r E v =
     λ v inside. joined_at n k c i d r v E F block.split loss.from inside
-    ∙ ap (λ (L : List ℕ). amounts_of L v -ℤ base n r E v) (sym is) in
+    ∙ ap (λ (L : List ℕ). amounts_of_trial L v -ℤ base n r E v) (sym is) in
     record {
       number = i + j;
       from = omega arith;
       to = omega arith;
       trial = trial;
-      loses = λ win. loss.loses (win_more g (less (at x) (less (amounts_of E') (base n r E))) (less (at x) (amounts_of F))
+      loses = λ win. loss.loses (win_more g (less (at x) (less (amounts_of_trial E') (base n r E))) (less (at x)
+          (amounts_of_trial F))
           (λ v inside. omega (arith, ints, held v inside))
-          ((equivalent-winnable g (less D (amounts_of E')) (less (at x) (less (amounts_of E') (base n r E)))
-          (based g D k c i d r E x block (amounts_of E'))).0 win));
+          ((equivalent-winnable g (less D (amounts_of_trial E')) (less (at x) (less (amounts_of_trial E') (base n r E)))
+          (based g D k c i d r E x block (amounts_of_trial E'))).0 win));
       first = λ m from to.
           let number : i + (m - i) ≡ m = omega arith in
           let among_m : IsAmong n k c i d r (m - i) E = among n k c i d r E block.split (m - i) (omega arith) in
           let G : List ℕ = nth_trial n k (i + (m - i)) in
-          let before : ComesBefore G E' =
-          subst (λ (L : List ℕ). ComesBefore G L) (sym trial)
+          let before : IsTrialBefore G E' =
+          subst (λ (L : List ℕ). IsTrialBefore G L) (sym trial)
           ((numbered n k).ascending (i + (m - i)) (i + j) (omega arith)
           (omega (arith, placed.within, limits_count n k c block.split.limits))) in
           let places : length E' ≡ n =
@@ -158,10 +160,10 @@ block_loses g D k c i d r E F E' x block loss is =
           (λ (low : p < n). low)
           (λ (high : n ≤ p). absurd (omega (arith, before.smaller, get_or_past E' p 0 (omega arith))))
           (cases_lt p n) in
-          let win : WinsWithout g D G =
-          (equivalent-winnable g (less D (amounts_of G)) (less (at x) (less (amounts_of G) (base n r E)))
-          (based g D k c i d r E x block (amounts_of G))).1
-          (loss.first (less (amounts_of G) (base n r E)) (block_from n k c i d r (m - i) E block.split among_m) (record {
+          let win : WinsWithoutTrial g D G =
+          (equivalent-winnable g (less D (amounts_of_trial G)) (less (at x) (less (amounts_of_trial G) (base n r E)))
+          (based g D k c i d r E x block (amounts_of_trial G))).1
+          (loss.first (less (amounts_of_trial G) (base n r E)) (block_from n k c i d r (m - i) E block.split among_m) (record {
             place = p;
             inside = inside;
             same = λ u below.
@@ -169,11 +171,11 @@ block_loses g D k c i d r E F E' x block loss is =
                 omega (arith, ints, held u (omega arith));
             smaller = omega (arith, ints, before.smaller, held p inside);
           })) in
-          subst (λ (l : ℕ). WinsWithout g D (nth_trial n k l)) number win;
+          subst (λ (l : ℕ). WinsWithoutTrial g D (nth_trial n k l)) number win;
     }
 
 pub block_begun : (g : Multigraph) (D : Amounts) (k c i d r : ℕ) (E : List ℕ) → IsSplit g.size k c i d r E →
-    (¬ WinsWithout g D E) → IsFirstLossIn g D k i (i + trial_count (g.size - d) r) E
+    (¬ WinsWithoutTrial g D E) → IsFirstLossIn g D k i (i + trial_count (g.size - d) r) E
 block_begun g D k c i d r E split loses =
     let some : 0 < trial_count (g.size - d) r = some_trial (g.size - d) r (omega (arith, split.inside)) in
     record {

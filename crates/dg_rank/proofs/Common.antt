@@ -5,16 +5,16 @@ pub use Rattle.dg_graph.proofs.SetLaws.{in_set-none}
 pub use Rattle.dg_graph.specs.Graph.{IsGraph}
 unfoldable pub use Rattle.dg_graph.specs.Sets.{in_set}
 pub use Rattle.dg_burn.proofs.Tried.{greedy-once}
-pub use Rattle.dg_burn.specs.Special.{IsGreedy, IsPartOf, others}
-pub use Rattle.dg_rank.specs.Asked.{AreMade, DeterminesFrom, IsMadeFor}
-pub use Rattle.dg_rank.specs.Boxes.{BoxWins, IsBoxLoss, IsFirstFrom, IsFrom, IsInBox, IsLossFrom, WinFrom}
-pub use Rattle.dg_rank.specs.Divisors.{HoldsTrial, amounts_of}
-pub use Rattle.dg_rank.specs.Ladders.{AnswersRankTest, AreAnswers, FailsAfter, MeetsTooMany, PassesBelow, RankByLadder, RanksByTrialLadders}
+pub use Rattle.dg_burn.specs.Special.{IsGreedyDeterminingSet, IsPartOf, others}
+pub use Rattle.dg_rank.specs.Asked.{AreSetsForTrials, DeterminesFrom, IsSetForTrials}
+pub use Rattle.dg_rank.specs.Boxes.{BoxWins, IsBoxLoss, IsFirstFrom, IsTrialFrom, IsInBox, IsLossFrom, WinFrom}
+pub use Rattle.dg_rank.specs.Divisors.{HoldsTrial, amounts_of_trial}
+pub use Rattle.dg_rank.specs.Ladders.{AnswersRankTest, AreRankTestAnswers, FailsRankTestsAfter, MeetsTooMany, PassesBelow, RankByLadder, RanksByTrialLadders}
 pub use Rattle.dg_rank.specs.Limits.{ArePastTrialLimits, IsWithinLimits}
-pub use Rattle.dg_rank.specs.Losses.{AllWin, IsFirstLossIn, IsLeftBeforeLast, WinsWithout}
+pub use Rattle.dg_rank.specs.Losses.{AllWin, IsFirstLossIn, IsTrialLeftBeforeLast, WinsWithoutTrial}
 pub use Rattle.dg_rank.specs.Pieces.{piece_start}
-pub use Rattle.dg_rank.specs.Ranks.{BothArePast, FailsFirstAt, IsAskedSet, IsPastAsked, how_many, IsRankInLimits, IsUntold, IsWithin, NeedsPastTests, NeedsTooMany}
-pub use Rattle.dg_rank.specs.Trials.{AnyTrial, AreCounted, ComesBefore, IsNumbering, IsTrial}
+pub use Rattle.dg_rank.specs.Ranks.{BothArePast, FailsRankTestsFirstAt, IsAskedSet, IsPastAsked, how_many_trial_places, IsRankInLimits, IsRankUntold, IsRankTestWithinLimits, NeedsPastTests, NeedsTooMany}
+pub use Rattle.dg_rank.specs.Trials.{AnyTrial, AreCounted, IsTrialBefore, IsTrialNumbering, IsTrial}
 pub use Rattle.dg_rank.specs.declared.counting.TheConstants.{MAX_TRIALS}
 pub use Rattle.dg_rank.specs.declared.pieces.Search.{Search}
 pub use Rattle.dg_rank.specs.declared.rank_fault.RankFault.{RankFault}
@@ -43,7 +43,7 @@ pub use Rattle.dg_theory.specs.Determining.{Bears, Determines, IsConnectedSet, e
 pub use Rattle.dg_theory.specs.Firing.{AgreeOn, Amounts, AreEquivalent, HasNoDebtOff, IsEffective, degree, only_at}
 pub use Rattle.dg_theory.specs.Multigraph.{IsMultigraph, JoinedIn, along, here, Multigraph, edge_count, edges_between, genus, valence}
 pub use Rattle.dg_theory.specs.Play.{IsWinnable}
-pub use Rattle.dg_theory.specs.Rank.{HasRankAtLeast, IsBefore, IsFirstLoss, IsRank, canonical, less}
+pub use Rattle.dg_theory.specs.Rank.{HasRankAtLeast, IsDivisorBefore, IsFirstLoss, IsRank, canonical, less}
 pub use Rattle.dg_theory.specs.Sums.{sum_below, total_below}
 pub use Rattle.dg_verdict.specs.declared.rank_verdict.RankVerdict.{RankVerdict}
 pub use Rattle.dg_verdict.specs.declared.rank_verdict.RankVerdict.TheVariants.{AtLeast, Below}

@@ -2,37 +2,37 @@
 --   lower_number   of two numbered trials the one that comes before the other has the lower number
 --   no_lower       the trial of a number has no lower one in another numbering
 --   counted_once   two counts of the trials with one property are the same
-use Rattle.dg_rank.proofs.Common.{◌≡◌, ℕ, zero, suc, ◌<◌, ◌≤◌, List, arith, sym, subst, ⊎_elim, cases_lt, IsNumbering, AreCounted, ComesBefore}
+use Rattle.dg_rank.proofs.Common.{◌≡◌, ℕ, zero, suc, ◌<◌, ◌≤◌, List, arith, sym, subst, ⊎_elim, cases_lt, IsTrialNumbering, AreCounted, IsTrialBefore}
 use Rattle.dg_rank.proofs.Lists.{before_both}
 
-pub lower_number : (n k : ℕ) (P : List ℕ → Type 0) (c : ℕ) (nth : ℕ → List ℕ) (i j : ℕ) → IsNumbering n k P c nth →
+pub lower_number : (n k : ℕ) (P : List ℕ → Type 0) (c : ℕ) (nth : ℕ → List ℕ) (i j : ℕ) → IsTrialNumbering n k P c nth →
     i < c →
-    ComesBefore (nth i) (nth j) → i < j
+    IsTrialBefore (nth i) (nth j) → i < j
 lower_number n k P c nth i j numbers small before = ⊎_elim
     (λ (low : i < j). low)
     (λ (high : j ≤ i). absurd (⊎_elim
     (λ (more : j < i). before_both (nth i) (nth j) before (numbers.ascending j i more small))
     (λ (less : i ≤ j).
     let same : i ≡ j = omega arith in
-    let self : ComesBefore (nth j) (nth j) = subst (λ (m : ℕ). ComesBefore (nth m) (nth j)) same before in
+    let self : IsTrialBefore (nth j) (nth j) = subst (λ (m : ℕ). IsTrialBefore (nth m) (nth j)) same before in
     before_both (nth j) (nth j) self self)
     (cases_lt j i)))
     (cases_lt i j)
 
-pub no_lower : (n k : ℕ) (P : List ℕ → Type 0) (c d : ℕ) (f g : ℕ → List ℕ) → IsNumbering n k P c f →
-    IsNumbering n k P d g →
+pub no_lower : (n k : ℕ) (P : List ℕ → Type 0) (c d : ℕ) (f g : ℕ → List ℕ) → IsTrialNumbering n k P c f →
+    IsTrialNumbering n k P d g →
     (i j : ℕ) → i < c → f i ≡ g j → i ≤ j
 no_lower n k P c d f g first second zero j small same = omega arith
 no_lower n k P c d f g first second (suc i) j small same =
     let here : i < c = omega arith in
     let (m, within, found) = second.all (f i) (first.each i here).0 (first.each i here).1 in
     let least : i ≤ m = no_lower n k P c d f g first second i m here (sym found) in
-    let step : ComesBefore (f i) (f (suc i)) = first.ascending i (suc i) (omega arith) small in
-    let next : ComesBefore (g m) (g j) = rw (found, ← same) step in
+    let step : IsTrialBefore (f i) (f (suc i)) = first.ascending i (suc i) (omega arith) small in
+    let next : IsTrialBefore (g m) (g j) = rw (found, ← same) step in
     let lower : m < j = lower_number n k P d g m j second within next in
     omega arith
 
-as_many : (n k : ℕ) (P : List ℕ → Type 0) (c d : ℕ) (f g : ℕ → List ℕ) → IsNumbering n k P c f → IsNumbering n k P d g →
+as_many : (n k : ℕ) (P : List ℕ → Type 0) (c d : ℕ) (f g : ℕ → List ℕ) → IsTrialNumbering n k P c f → IsTrialNumbering n k P d g →
     c ≤ d
 as_many n k P zero d f g first second = omega arith
 as_many n k P (suc c) d f g first second =

@@ -6,7 +6,7 @@
 --   told_rich, told_past_half   what the degree settles is told
 --   told_within      so is what a test of the lower degree within the limits tells
 --   fails_past_half  where it is not rich, a divisor fails a test of more than half of its degree
-use Rattle.dg_rank.proofs.Common.{◌≡◌, ℕ, ◌<◌, inl, inr, Bool, true, false, arith, subst, ◌↔◌, ◌≤ℤ◌, ◌<ℤ◌, ◌+ℤ◌, ⊤, MatchBool, min, cases_lt, ints, pos, Multigraph, IsMultigraph, genus, Amounts, degree, AgreeOn, less, canonical, HasRankAtLeast, equivalent-refl, equivalent-rank, IsDual, dual_tests, ⊎_elim, half_of_degree, IsPastAsked, BothArePast, IsUntold}
+use Rattle.dg_rank.proofs.Common.{◌≡◌, ℕ, ◌<◌, inl, inr, Bool, true, false, arith, subst, ◌↔◌, ◌≤ℤ◌, ◌<ℤ◌, ◌+ℤ◌, ⊤, MatchBool, min, cases_lt, ints, pos, Multigraph, IsMultigraph, genus, Amounts, degree, AgreeOn, less, canonical, HasRankAtLeast, equivalent-refl, equivalent-rank, IsDual, dual_tests, ⊎_elim, half_of_degree, IsPastAsked, BothArePast, IsRankUntold}
 use Rattle.dg_rank.proofs.AskedVertices.{asked_above}
 
 pub decided : {P Q : Type 0} (b : Bool) → P ↔ Q → MatchBool b P (¬ P) → MatchBool b Q (¬ Q)
@@ -34,13 +34,13 @@ both_past g D k l graph some dual past = record {
   dual_past = asked_above g (min k l) l graph some (omega arith) past;
 }
 
-pub told_rich : (g : Multigraph) (D : Amounts) (k : ℕ) → (genus g +ℤ pos k) ≤ℤ degree g.size D → ¬ IsUntold g D k
+pub told_rich : (g : Multigraph) (D : Amounts) (k : ℕ) → (genus g +ℤ pos k) ≤ℤ degree g.size D → ¬ IsRankUntold g D k
 told_rich g D k rich untold = omega (arith, ints, rich, untold.is_open.most)
 
-pub told_past_half : (g : Multigraph) (D : Amounts) (k : ℕ) → degree g.size D <ℤ (pos k +ℤ pos k) → ¬ IsUntold g D k
+pub told_past_half : (g : Multigraph) (D : Amounts) (k : ℕ) → degree g.size D <ℤ (pos k +ℤ pos k) → ¬ IsRankUntold g D k
 told_past_half g D k past untold = omega (arith, ints, past, untold.is_open.half)
 
-pub told_within : (g : Multigraph) (D : Amounts) (k l : ℕ) → IsDual g D k l → (¬ IsPastAsked g (min k l)) → ¬ IsUntold g D k
+pub told_within : (g : Multigraph) (D : Amounts) (k l : ℕ) → IsDual g D k l → (¬ IsPastAsked g (min k l)) → ¬ IsRankUntold g D k
 told_within g D k l dual within untold =
     let other : untold.past.other ≡ l = omega (arith, ints, dual, untold.past.dual) in
     elim (cases_lt l k) [

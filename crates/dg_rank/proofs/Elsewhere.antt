@@ -11,7 +11,7 @@
 --   left_small      small amounts less a trial's are small
 --   form_kept       the same amounts are as good a form, of what is the same on the vertices
 --   left_degree     what is left without a trial adds up to no more than before
-use Rattle.dg_rank.proofs.Common.{◌≡◌, ℕ, ◌+◌, ◌*◌, ◌<◌, ◌≤◌, Bool, true, false, List, arith, sym, ap, ◌∙◌, ⊎_elim, slice_index, ◌≤ℤ◌, MatchBool, unsigned_abs, cases_eq, ints, sum, get_or-le-sum_by, ℤ, pos, ◌-ℤ◌, Multigraph, IsMultigraph, Amounts, degree, only_at, IsEffective, HasNoDebtOff, AgreeOn, AreEquivalent, IsWinnable, less, within_abs, abs_within, equivalent-refl, equivalent-trans, equivalent-degree, degree-only_at, only_at-here, only_at-other, sum_below-one, sum_below-at_most, sum_below-cong, sum_below-add, equivalent-winnable, IsGraph, Vector, at, IsEffectiveDivisor, amounts_of, length}
+use Rattle.dg_rank.proofs.Common.{◌≡◌, ℕ, ◌+◌, ◌*◌, ◌<◌, ◌≤◌, Bool, true, false, List, arith, sym, ap, ◌∙◌, ⊎_elim, slice_index, ◌≤ℤ◌, MatchBool, unsigned_abs, cases_eq, ints, sum, get_or-le-sum_by, ℤ, pos, ◌-ℤ◌, Multigraph, IsMultigraph, Amounts, degree, only_at, IsEffective, HasNoDebtOff, AgreeOn, AreEquivalent, IsWinnable, less, within_abs, abs_within, equivalent-refl, equivalent-trans, equivalent-degree, degree-only_at, only_at-here, only_at-other, sum_below-one, sum_below-at_most, sum_below-cong, sum_below-add, equivalent-winnable, IsGraph, Vector, at, IsEffectiveDivisor, amounts_of_trial, length}
 use Rattle.std.proofs.Math.IntN.{◌+ℤ◌}
 
 pub only_at-more : (v k w : ℕ) → pos 0 ≤ℤ only_at v (pos k) w
@@ -73,13 +73,13 @@ told_by true g A B z same form = record {
 told_by false g A B z same lost = λ win. lost ((equivalent-winnable g A B same).0 win)
 
 pub left_degree : (g : Multigraph) (D : Amounts) (E : List ℕ) (x : Vector) → IsGraph g →
-    ((v : ℕ) → v < g.size → unsigned_abs (D v) ≤ 1999000) → IsEffectiveDivisor g (less D (amounts_of E)) x →
+    ((v : ℕ) → v < g.size → unsigned_abs (D v) ≤ 1999000) → IsEffectiveDivisor g (less D (amounts_of_trial E)) x →
     degree g.size (at x) ≤ℤ pos 31984000
 left_degree g D E x graph range form =
-    let same : degree g.size (at x) ≡ degree g.size (less D (amounts_of E)) =
-    form_degree g (less D (amounts_of E)) x graph.multigraph form in
-    let total : degree g.size (less D (amounts_of E)) ≤ℤ pos (g.size * 1999000) =
-    sum_below-at_most g.size 1999000 (less D (amounts_of E))
+    let same : degree g.size (at x) ≡ degree g.size (less D (amounts_of_trial E)) =
+    form_degree g (less D (amounts_of_trial E)) x graph.multigraph form in
+    let total : degree g.size (less D (amounts_of_trial E)) ≤ℤ pos (g.size * 1999000) =
+    sum_below-at_most g.size 1999000 (less D (amounts_of_trial E))
     (λ w below. omega (arith, ints, (within_abs (D w) 1999000 (range w below)).1)) in
     let few : g.size ≤ 16 = graph.few in
     omega (arith, ints)
@@ -90,7 +90,7 @@ trial_small E v few inside =
     omega arith
 
 pub left_small : (E : List ℕ) (B F : Amounts) (v : ℕ) → sum E ≤ 1000 → v < length E →
-    unsigned_abs (B v) ≤ 1999000 → F v ≡ less B (amounts_of E) v → unsigned_abs (F v) ≤ 2000000
+    unsigned_abs (B v) ≤ 1999000 → F v ≡ less B (amounts_of_trial E) v → unsigned_abs (F v) ≤ 2000000
 left_small E B F v total inside small left =
     let few : slice_index E v ≤ 1000 = trial_small E v total inside in
     let (low, high) = within_abs (B v) 1999000 small in

@@ -5,7 +5,7 @@
 --   first_with       if those win that hold nothing up to p, the first loss with a dollar at p is the first of all
 --   first_at_last    the trial that holds all at the last place comes before all others
 --   held_few         no trial holds more than its degree
-use Rattle.dg_rank.proofs.Common.{◌≡◌, ◌≢◌, ℕ, ◌+◌, ◌-◌, ◌<◌, ◌≤◌, List, length, arith, sym, ap, ◌∙◌, ⊎_elim, ◌⊎◌, inl, inr, set, length-set, get_or-set_same, get_or-set_other, slice_index, ◌≤ℤ◌, cases_eq, cases_lt, ints, ℤ, pos, ◌-ℤ◌, natural, Multigraph, Amounts, degree, only_at, AreEquivalent, IsWinnable, less, degree-less, degree-only_at, only_at-here, only_at-other, sum_below-one, sum_below-cong, equivalent-winnable, amounts_of, WinsWithout, IsFrom, WinFrom, IsFirstFrom}
+use Rattle.dg_rank.proofs.Common.{◌≡◌, ◌≢◌, ℕ, ◌+◌, ◌-◌, ◌<◌, ◌≤◌, List, length, arith, sym, ap, ◌∙◌, ⊎_elim, ◌⊎◌, inl, inr, set, length-set, get_or-set_same, get_or-set_other, slice_index, ◌≤ℤ◌, cases_eq, cases_lt, ints, ℤ, pos, ◌-ℤ◌, natural, Multigraph, Amounts, degree, only_at, AreEquivalent, IsWinnable, less, degree-less, degree-only_at, only_at-here, only_at-other, sum_below-one, sum_below-cong, equivalent-winnable, amounts_of_trial, WinsWithoutTrial, IsTrialFrom, WinFrom, IsFirstFrom}
 use Rattle.std.proofs.Math.IntN.{◌+ℤ◌}
 
 as_much_or_more : (a b : ℤ) → a ≤ℤ b → (b ≡ a) ⊎ ((a +ℤ pos 1) ≤ℤ b)
@@ -16,7 +16,7 @@ as_much_or_more a b low =
     (λ (some : n ≡ 0 → ⊥). inr (omega (arith, ints)))
     (cases_eq n 0)
 
-pub from_few : (n r d v : ℕ) (F : Amounts) → IsFrom n r d F → v < n → F v ≤ℤ pos r
+pub from_few : (n r d v : ℕ) (F : Amounts) → IsTrialFrom n r d F → v < n → F v ≤ℤ pos r
 from_few n r d v F from below =
     let most : F v ≤ℤ degree n F = sum_below-one n v F below (λ w inside _. from.effective w inside) in
     omega (arith, ints, from.of_degree)
@@ -44,8 +44,8 @@ wins_other g A B F p (s, leads) win =
     (equivalent-winnable g (less A F) (less B (less F (only_at p (pos 1))))
     (s, λ v below. omega (arith, ints, leads v below))).1 win
 
-one_less : (n r p d : ℕ) (F : Amounts) → IsFrom n r d F → p < n → ((v : ℕ) → v < p → F v ≡ pos 0) →
-    pos 1 ≤ℤ F p → IsFrom n (r - 1) p (less F (only_at p (pos 1)))
+one_less : (n r p d : ℕ) (F : Amounts) → IsTrialFrom n r d F → p < n → ((v : ℕ) → v < p → F v ≡ pos 0) →
+    pos 1 ≤ℤ F p → IsTrialFrom n (r - 1) p (less F (only_at p (pos 1)))
 one_less n r p d F from inside empty some = record {
   effective = λ v below. ⊎_elim
       (λ (there : v ≡ p). rw there (omega (arith, ints, some, only_at-here p (pos 1))))
@@ -66,7 +66,7 @@ one_less n r p d F from inside empty some = record {
 
 -- what holds nothing before p holds nothing there, or a dollar at least
 none_or_some : (g : Multigraph) (A B : Amounts) (r d p : ℕ) (F : Amounts) → p < g.size → IsOther g A B p →
-    WinFrom g A r (p + 1) → IsFrom g.size r d F → ((v : ℕ) → v < p → F v ≡ pos 0) →
+    WinFrom g A r (p + 1) → IsTrialFrom g.size r d F → ((v : ℕ) → v < p → F v ≡ pos 0) →
     (pos 1 ≤ℤ F p → IsWinnable g (less B (less F (only_at p (pos 1))))) → IsWinnable g (less A F)
 none_or_some g A B r d p F inside other first from empty later = ⊎_elim
     (λ (none : F p ≡ pos 0). first F (record {
@@ -81,7 +81,7 @@ none_or_some g A B r d p F inside other first from empty later = ⊎_elim
     (as_much_or_more (pos 0) (F p) (from.effective p inside))
 
 one_more : (E : List ℕ) (p v : ℕ) → p < length E →
-    amounts_of (set E p (slice_index E p + 1)) v ≡ amounts_of E v +ℤ only_at p (pos 1) v
+    amounts_of_trial (set E p (slice_index E p + 1)) v ≡ amounts_of_trial E v +ℤ only_at p (pos 1) v
 one_more E p v inside = ⊎_elim
     (λ (there : v ≡ p).
     let now : slice_index (set E p (slice_index E p + 1)) v ≡ slice_index E p + 1 =
@@ -105,15 +105,15 @@ first_with g A B r d p E E' past inside some other wins loss is = record {
     of_degree = omega (
       arith,
       ints,
-      sum_below-cong g.size (amounts_of E') (less (amounts_of E) (only_at p (pos 1)))
+      sum_below-cong g.size (amounts_of_trial E') (less (amounts_of_trial E) (only_at p (pos 1)))
           (λ v below. omega (arith, ints, more v)),
-      degree-less g.size (amounts_of E) (only_at p (pos 1)),
+      degree-less g.size (amounts_of_trial E) (only_at p (pos 1)),
       degree-only_at g.size p (pos 1) inside,
       loss.from.of_degree,
     );
     empty = λ v low. before v (omega arith);
   };
-  loses = λ win. loss.loses ((equivalent-winnable g (less A (amounts_of E)) (less B (amounts_of E'))
+  loses = λ win. loss.loses ((equivalent-winnable g (less A (amounts_of_trial E)) (less B (amounts_of_trial E'))
       (other.0, λ v below. omega (arith, ints, other.1 v below, more v))).0 win);
   first = λ F from earlier.
       let u = earlier.place in
@@ -133,32 +133,32 @@ first_with g A B r d p E E' past inside some other wins loss is = record {
         smaller = omega (arith, ints, earlier.smaller, more u);
       }));
 } where
-  more : (v : ℕ) → amounts_of E v ≡ amounts_of E' v +ℤ only_at p (pos 1) v
-  more v = ap (λ (L : List ℕ). amounts_of L v) is ∙ one_more E' p v (omega (arith, loss.places))
+  more : (v : ℕ) → amounts_of_trial E v ≡ amounts_of_trial E' v +ℤ only_at p (pos 1) v
+  more v = ap (λ (L : List ℕ). amounts_of_trial L v) is ∙ one_more E' p v (omega (arith, loss.places))
 
-  before : (v : ℕ) → v < p → amounts_of E v ≡ pos 0
+  before : (v : ℕ) → v < p → amounts_of_trial E v ≡ pos 0
   before v low =
       let apart : v ≢ p = omega arith in
       omega (arith, ints, more v, loss.from.empty v low, only_at-other p (pos 1) v apart)
 
 pub held_at_last : (n r : ℕ) (E : List ℕ) → slice_index E (n - 1) ≡ r → ((u : ℕ) → u + 1 < n → slice_index E u ≡ 0) →
-    (v : ℕ) → v < n → amounts_of E v ≡ only_at (n - 1) (pos r) v
+    (v : ℕ) → v < n → amounts_of_trial E v ≡ only_at (n - 1) (pos r) v
 held_at_last n r E held empty v below = ⊎_elim
     (λ (last : v ≡ n - 1).
-    ap (amounts_of E) last ∙ ap pos held ∙ sym (ap (only_at (n - 1) (pos r)) last ∙ only_at-here (n - 1) (pos r)))
+    ap (amounts_of_trial E) last ∙ ap pos held ∙ sym (ap (only_at (n - 1) (pos r)) last ∙ only_at-here (n - 1) (pos r)))
     (λ (inner : v ≡ n - 1 → ⊥).
     ap pos (empty v (omega arith)) ∙ sym (only_at-other (n - 1) (pos r) v inner))
     (cases_eq v (n - 1))
 
 pub first_at_last : (g : Multigraph) (B : Amounts) (r p : ℕ) (E : List ℕ) → p < g.size → length E ≡ g.size →
-    slice_index E (g.size - 1) ≡ r → ((u : ℕ) → u + 1 < g.size → slice_index E u ≡ 0) → ¬ WinsWithout g B E →
+    slice_index E (g.size - 1) ≡ r → ((u : ℕ) → u + 1 < g.size → slice_index E u ≡ 0) → ¬ WinsWithoutTrial g B E →
     IsFirstFrom g B r p E
 first_at_last g B r p E inside places held empty loses = record {
   places = places;
   from = record {
     effective = λ v below. omega (arith, ints);
     of_degree =
-        sum_below-cong g.size (amounts_of E) (only_at (g.size - 1) (pos r)) (held_at_last g.size r E held empty)
+        sum_below-cong g.size (amounts_of_trial E) (only_at (g.size - 1) (pos r)) (held_at_last g.size r E held empty)
         ∙ degree-only_at g.size (g.size - 1) (pos r) (omega arith);
     empty = λ v low. ap pos (empty v (omega arith));
   };
@@ -183,4 +183,4 @@ first_at_last g B r p E inside places held empty loses = record {
 
 pub held_few : (g : Multigraph) (A : Amounts) (r d v : ℕ) (E : List ℕ) → IsFirstFrom g A r d E → v < g.size →
     slice_index E v ≤ r
-held_few g A r d v E loss inside = omega (arith, ints, from_few g.size r d v (amounts_of E) loss.from inside)
+held_few g A r d v E loss inside = omega (arith, ints, from_few g.size r d v (amounts_of_trial E) loss.from inside)

@@ -12,7 +12,7 @@
 --   some_number       there is a trial with the number 0
 --   poor_loses        if the degree is too low, each trial loses
 --   poor_loss         so trial number 0 is the first loss
-use Rattle.dg_rank.proofs.Common.{◌≡◌, ℕ, ◌+◌, ◌-◌, ◌<◌, ◌≤◌, slice_index, sum, List, length, arith, refl, sym, subst, ◌∙◌, ◌≤ℤ◌, ◌<ℤ◌, Option, Some, None, MatchOption, ⊤, ints, pos, Multigraph, IsMultigraph, Amounts, degree, IsEffective, IsWinnable, less, HasRankAtLeast, IsBefore, IsFirstLoss, sum_below-cong, win_more, degree-less, degree-winnable, Vector, at, IsTrial, ComesBefore, IsNumbering, AnyTrial, IsWithinLimits, amounts_of, HoldsTrial, WinsWithout, AllWin, IsFirstLossIn}
+use Rattle.dg_rank.proofs.Common.{◌≡◌, ℕ, ◌+◌, ◌-◌, ◌<◌, ◌≤◌, slice_index, sum, List, length, arith, refl, sym, subst, ◌∙◌, ◌≤ℤ◌, ◌<ℤ◌, Option, Some, None, MatchOption, ⊤, ints, pos, Multigraph, IsMultigraph, Amounts, degree, IsEffective, IsWinnable, less, HasRankAtLeast, IsDivisorBefore, IsFirstLoss, sum_below-cong, win_more, degree-less, degree-winnable, Vector, at, IsTrial, IsTrialBefore, IsTrialNumbering, AnyTrial, IsWithinLimits, amounts_of_trial, HoldsTrial, WinsWithoutTrial, AllWin, IsFirstLossIn}
 use Rattle.dg_rank.specs.Numbering.{trial_count, nth_trial}
 use Rattle.dg_rank.proofs.Numbering.{numbered, limits_count, limits_trial, some_trial}
 use Rattle.dg_rank.proofs.CountedOnce.{lower_number}
@@ -22,10 +22,10 @@ pub effective_held : (n : ℕ) (E : List ℕ) (d : Vector) → HoldsTrial n E d 
 effective_held n E d held v inside = omega (arith, ints, held.amounts v inside)
 
 pub degree-held : (n k : ℕ) (E : List ℕ) (d : Vector) → IsTrial n k E → HoldsTrial n E d → degree n (at d) ≡ pos k
-degree-held n k E d trial held = sum_below-cong n (at d) (amounts_of E) held.amounts ∙ degree-trial n k E trial
+degree-held n k E d trial held = sum_below-cong n (at d) (amounts_of_trial E) held.amounts ∙ degree-trial n k E trial
 
 pub listed_before : (n : ℕ) (E : List ℕ) (d : Vector) (F : Amounts) → HoldsTrial n E d → IsEffective n F →
-    IsBefore n F (at d) → ComesBefore (listed n F) E
+    IsDivisorBefore n F (at d) → IsTrialBefore (listed n F) E
 listed_before n E d F held effective before =
     let inside : before.place < n = before.inside in
     record {
@@ -43,10 +43,10 @@ listed_before n E d F held effective before =
     }
 
 wins_listed : (g : Multigraph) (D : Amounts) (k i : ℕ) (E : Amounts) → IsEffective g.size E →
-    nth_trial g.size k i ≡ listed g.size E → WinsWithout g D (nth_trial g.size k i) → IsWinnable g (less D E)
+    nth_trial g.size k i ≡ listed g.size E → WinsWithoutTrial g D (nth_trial g.size k i) → IsWinnable g (less D E)
 wins_listed g D k i E effective here win =
-    let listed_wins : WinsWithout g D (listed g.size E) = subst (λ (L : List ℕ). WinsWithout g D L) here win in
-    win_more g (less D (amounts_of (listed g.size E))) (less D E)
+    let listed_wins : WinsWithoutTrial g D (listed g.size E) = subst (λ (L : List ℕ). WinsWithoutTrial g D L) here win in
+    win_more g (less D (amounts_of_trial (listed g.size E))) (less D E)
     (λ v inside. omega (arith, ints, listed-amounts g.size E v effective inside)) listed_wins
 
 pub found_rank : (g : Multigraph) (D : Amounts) (k c : ℕ) → IsWithinLimits g.size k c → AllWin g D k 0 c →
@@ -81,14 +81,14 @@ found_all g D k c E found within held told =
 wins_before : (g : Multigraph) (D : Amounts) (k c : ℕ) (E : List ℕ) (d : Vector) (F : Amounts) →
     IsWithinLimits g.size k c →
     IsFirstLossIn g D k 0 c E → HoldsTrial g.size E d → IsEffective g.size F → degree g.size F ≡ pos k →
-    IsBefore g.size F (at d) → IsWinnable g (less D F)
+    IsDivisorBefore g.size F (at d) → IsWinnable g (less D F)
 wins_before g D k c E d F within loss held effective of_degree before =
-    let numbering : IsNumbering g.size k AnyTrial (trial_count g.size k) (nth_trial g.size k) = numbered g.size k in
+    let numbering : IsTrialNumbering g.size k AnyTrial (trial_count g.size k) (nth_trial g.size k) = numbered g.size k in
     let (i, below, here) = numbering.all (listed g.size F) (listed-trial g.size k F effective of_degree) tt in
-    let earlier : ComesBefore (listed g.size F) E = listed_before g.size E d F held effective before in
-    let earlier' : ComesBefore (nth_trial g.size k i) (nth_trial g.size k loss.number) =
-    subst (λ (L : List ℕ). ComesBefore L (nth_trial g.size k loss.number)) (sym here)
-    (subst (λ (L : List ℕ). ComesBefore (listed g.size F) L) loss.trial earlier) in
+    let earlier : IsTrialBefore (listed g.size F) E = listed_before g.size E d F held effective before in
+    let earlier' : IsTrialBefore (nth_trial g.size k i) (nth_trial g.size k loss.number) =
+    subst (λ (L : List ℕ). IsTrialBefore L (nth_trial g.size k loss.number)) (sym here)
+    (subst (λ (L : List ℕ). IsTrialBefore (listed g.size F) L) loss.trial earlier) in
     let lower : i < loss.number =
     lower_number g.size k AnyTrial (trial_count g.size k) (nth_trial g.size k) i loss.number numbering below earlier' in
     wins_listed g D k i F effective here (loss.first i (omega arith) lower)
@@ -102,7 +102,7 @@ found_loss g D k c E d within loss holds =
       record {
         effective = effective_held g.size E d held;
         of_degree = degree-held g.size k E d trial held;
-        loses = λ win. loss.loses (win_more g (less D (at d)) (less D (amounts_of E))
+        loses = λ win. loss.loses (win_more g (less D (at d)) (less D (amounts_of_trial E))
             (λ v inside. omega (arith, ints, held.amounts v inside)) win);
         first = λ F effective of_degree before. wins_before g D k c E d F within loss held effective of_degree before;
       },
@@ -112,10 +112,10 @@ pub some_number : (n k c : ℕ) → IsWithinLimits n k c → 0 < c
 some_number n k c within = omega (arith, limits_count n k c within, some_trial n k within.some)
 
 pub poor_loses : (g : Multigraph) (D : Amounts) (k : ℕ) (E : List ℕ) → IsMultigraph g → degree g.size D <ℤ pos k →
-    IsTrial g.size k E → ¬ WinsWithout g D E
+    IsTrial g.size k E → ¬ WinsWithoutTrial g D E
 poor_loses g D k E graph poor trial win =
-    let high : pos 0 ≤ℤ degree g.size (less D (amounts_of E)) = degree-winnable g (less D (amounts_of E)) graph win in
-    let none : ⊥ = omega (arith, ints, degree-less g.size D (amounts_of E), degree-trial g.size k E trial) in
+    let high : pos 0 ≤ℤ degree g.size (less D (amounts_of_trial E)) = degree-winnable g (less D (amounts_of_trial E)) graph win in
+    let none : ⊥ = omega (arith, ints, degree-less g.size D (amounts_of_trial E), degree-trial g.size k E trial) in
     none
 
 pub poor_loss : (g : Multigraph) (D : Amounts) (k c : ℕ) → IsMultigraph g → degree g.size D <ℤ pos k →

@@ -8,7 +8,7 @@
 --   all_told       what is told of all losses tells the test of equivalent amounts
 --   lost_at_last   where all can't be lost at the last vertex, a divisor fails its test
 --   left_at_last   where that can be, what is left with all of it given back is equivalent to the divisor
-use Rattle.dg_rank.proofs.Common.{◌≡◌, ◌≢◌, ℕ, ◌+◌, ◌-◌, ◌<◌, ◌≤◌, List, length, arith, refl, ap, ◌∙◌, ⊎_elim, set, length-set, get_or-set_same, get_or-set_other, slice_index, ◌≤ℤ◌, cases_eq, cases_lt, ints, pos, ◌-ℤ◌, Multigraph, Amounts, degree, only_at, AreEquivalent, IsWinnable, less, HasRankAtLeast, equivalent-refl, degree-less, degree-only_at, only_at-here, only_at-other, sum_below-one, sum_below-cong, equivalent-winnable, win_more, amounts_of, WinFrom, IsFirstFrom, IsLossFrom, Vector, at, sum, natural, Bool, true, false, not, is_some, Option, Some, None, MatchOption, MatchBool, WinsWithout, IsLeftBeforeLast, equivalent-rank, both_ways}
+use Rattle.dg_rank.proofs.Common.{◌≡◌, ◌≢◌, ℕ, ◌+◌, ◌-◌, ◌<◌, ◌≤◌, List, length, arith, refl, ap, ◌∙◌, ⊎_elim, set, length-set, get_or-set_same, get_or-set_other, slice_index, ◌≤ℤ◌, cases_eq, cases_lt, ints, pos, ◌-ℤ◌, Multigraph, Amounts, degree, only_at, AreEquivalent, IsWinnable, less, HasRankAtLeast, equivalent-refl, degree-less, degree-only_at, only_at-here, only_at-other, sum_below-one, sum_below-cong, equivalent-winnable, win_more, amounts_of_trial, WinFrom, IsFirstFrom, IsLossFrom, Vector, at, sum, natural, Bool, true, false, not, is_some, Option, Some, None, MatchOption, MatchBool, WinsWithoutTrial, IsTrialLeftBeforeLast, equivalent-rank, both_ways}
 use Rattle.std.proofs.Math.IntN.{◌+ℤ◌}
 use Rattle.dg_rank.proofs.Elsewhere.{only_at-more, degree-given}
 use Rattle.dg_rank.proofs.TrialLists.{degree-trial}
@@ -18,8 +18,8 @@ use Rattle.dg_rank.proofs.FirstFrom.{first_at_last, first_with, held_at_last}
 pub loss_few : (g : Multigraph) (A : Amounts) (r d v : ℕ) (E : List ℕ) → IsLossFrom g A r d E → v < g.size →
     slice_index E v ≤ r
 loss_few g A r d v E loss below =
-    let most : amounts_of E v ≤ℤ degree g.size (amounts_of E) =
-    sum_below-one g.size v (amounts_of E) below (λ w low _. omega (arith, ints)) in
+    let most : amounts_of_trial E v ≤ℤ degree g.size (amounts_of_trial E) =
+    sum_below-one g.size v (amounts_of_trial E) below (λ w low _. omega (arith, ints)) in
     omega (arith, ints, loss.few)
 
 pub first_skip : (g : Multigraph) (A : Amounts) (r p : ℕ) (E : List ℕ) → IsFirstFrom g A r (p + 1) E →
@@ -50,7 +50,7 @@ pub first_last : (g : Multigraph) (A : Amounts) (r p : ℕ) (E K : List ℕ) →
     IsFirstFrom g A r p E
 first_last g A r p E K end places held empty known =
     first_at_last g A r p E (omega arith) places held empty
-    (λ win. known.loses (win_more g (less A (amounts_of E)) (less A (amounts_of K)) (λ v below. ⊎_elim
+    (λ win. known.loses (win_more g (less A (amounts_of_trial E)) (less A (amounts_of_trial K)) (λ v below. ⊎_elim
     (λ (last : v ≡ g.size - 1).
     let all : slice_index E v ≡ r = ap (slice_index E) last ∙ held in
     omega (arith, ints, loss_few g A r p v K known below))
@@ -65,11 +65,11 @@ first_unpaid g A r p E E' inside some wins places held empty is lost =
     let B : Amounts = less A (only_at p (pos 1)) in
     first_with g A B r p p E E' (omega arith) inside some (equivalent-refl g B B (λ v below. refl)) wins
     (first_at_last g B (r - 1) p E' inside places held empty
-    (λ win. lost (win_more g (less B (amounts_of E')) B (λ v below. omega (arith, ints)) win)))
+    (λ win. lost (win_more g (less B (amounts_of_trial E')) B (λ v below. omega (arith, ints)) win)))
     is
 
 one_fewer : (K : List ℕ) (p v : ℕ) → p < length K → 1 ≤ slice_index K p →
-    amounts_of (set K p (slice_index K p - 1)) v ≡ amounts_of K v -ℤ only_at p (pos 1) v
+    amounts_of_trial (set K p (slice_index K p - 1)) v ≡ amounts_of_trial K v -ℤ only_at p (pos 1) v
 one_fewer K p v inside some = ⊎_elim
     (λ (there : v ≡ p). rw there (omega
     (arith, ints, get_or-set_same K p (slice_index K p - 1) 0 inside, only_at-here p (pos 1))))
@@ -85,9 +85,9 @@ fewer_lost g A B r p K below some (s, leads) known = record {
   few = omega (
     arith,
     ints,
-    sum_below-cong g.size (amounts_of (set K p (slice_index K p - 1))) (less (amounts_of K) (only_at p (pos 1)))
+    sum_below-cong g.size (amounts_of_trial (set K p (slice_index K p - 1))) (less (amounts_of_trial K) (only_at p (pos 1)))
         (λ v low. fewer v),
-    degree-less g.size (amounts_of K) (only_at p (pos 1)),
+    degree-less g.size (amounts_of_trial K) (only_at p (pos 1)),
     degree-only_at g.size p (pos 1) below,
     known.few,
     loss_few g A r p p K known below,
@@ -95,23 +95,23 @@ fewer_lost g A B r p K below some (s, leads) known = record {
   empty = λ v low.
       let apart : v ≢ p = omega arith in
       get_or-set_other K p v (slice_index K p - 1) 0 apart ∙ known.empty v low;
-  loses = λ win. known.loses ((equivalent-winnable g (less A (amounts_of K))
-      (less B (amounts_of (set K p (slice_index K p - 1))))
+  loses = λ win. known.loses ((equivalent-winnable g (less A (amounts_of_trial K))
+      (less B (amounts_of_trial (set K p (slice_index K p - 1))))
       (s, λ v low. omega (arith, ints, leads v low, fewer v))).1 win);
 } where
-  fewer : (v : ℕ) → amounts_of (set K p (slice_index K p - 1)) v ≡ amounts_of K v -ℤ only_at p (pos 1) v
+  fewer : (v : ℕ) → amounts_of_trial (set K p (slice_index K p - 1)) v ≡ amounts_of_trial K v -ℤ only_at p (pos 1) v
   fewer v = one_fewer K p v (omega (arith, known.places)) some
 
 -- a loss of fewer dollars is one of more
 pub loss_fails : (g : Multigraph) (A : Amounts) (k : ℕ) (E : List ℕ) → 0 < g.size → IsLossFrom g A k 0 E →
     ¬ HasRankAtLeast g A k
 loss_fails g A k E some loss rank =
-    let (t, rest) = natural (pos k -ℤ degree g.size (amounts_of E)) (omega (arith, ints, loss.few)) in
-    let F : Amounts = λ v. amounts_of E v +ℤ only_at 0 (pos t) v in
-    loss.loses (win_more g (less A F) (less A (amounts_of E))
+    let (t, rest) = natural (pos k -ℤ degree g.size (amounts_of_trial E)) (omega (arith, ints, loss.few)) in
+    let F : Amounts = λ v. amounts_of_trial E v +ℤ only_at 0 (pos t) v in
+    loss.loses (win_more g (less A F) (less A (amounts_of_trial E))
     (λ v below. omega (arith, ints, only_at-more 0 t v))
     (rank F (λ v below. omega (arith, ints, only_at-more 0 t v))
-    (omega (arith, ints, rest, degree-given g.size (amounts_of E) F 0 t some (λ w. refl)))))
+    (omega (arith, ints, rest, degree-given g.size (amounts_of_trial E) F 0 t some (λ w. refl)))))
 
 pub all_told : (b : Bool) (found : Option (List ℕ)) (g : Multigraph) (A B : Amounts) (k : ℕ) → 0 < g.size →
     AreEquivalent g A B → is_some found ≡ not b → MatchOption found (WinFrom g B k 0) (IsLossFrom g B k 0) →
@@ -123,13 +123,13 @@ all_told true (Some E) g A B k some same is loss = absurd (both_ways _ is refl)
 all_told false None g A B k some same is wins = absurd (both_ways _ refl is)
 
 pub lost_at_last : (g : Multigraph) (D : Amounts) (k : ℕ) (E : List ℕ) → length E ≡ g.size → sum E ≡ k →
-    (¬ WinsWithout g D E) → ¬ HasRankAtLeast g D k
+    (¬ WinsWithoutTrial g D E) → ¬ HasRankAtLeast g D k
 lost_at_last g D k E places all lost rank =
-    lost (rank (amounts_of E) (λ v below. omega (arith, ints))
+    lost (rank (amounts_of_trial E) (λ v below. omega (arith, ints))
     (degree-trial g.size k E (record { places = places; amount = all })))
 
 pub left_at_last : (g : Multigraph) (D : Amounts) (E : List ℕ) (x : Vector) →
-    ((u : ℕ) → u + 1 < g.size → slice_index E u ≡ 0) → IsLeftBeforeLast g D E x → AreEquivalent g D (at x)
+    ((u : ℕ) → u + 1 < g.size → slice_index E u ≡ 0) → IsTrialLeftBeforeLast g D E x → AreEquivalent g D (at x)
 left_at_last g D E x empty left =
     let (s, leads) = left.left.led in
     let held = held_at_last g.size (slice_index E (g.size - 1)) E refl empty in

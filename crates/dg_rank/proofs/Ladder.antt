@@ -10,7 +10,7 @@
 --   rank_by_ladder  the rank by its tests
 --   rank_agrees, in_limits_agrees, needs_agrees   it is the same of amounts that agree on the vertices
 --   ranks_by_ladders   both ranks by their tests
-use Rattle.dg_rank.proofs.Common.{◌≡◌, ℕ, zero, suc, ◌+◌, ◌<◌, ◌⊎◌, inl, inr, arith, refl, sym, ap, subst, ◌∙◌, ⊎_elim, Result, Ok, Err, cases_eq, ints, ℤ, pos, negsuc, ◌-ℤ◌, Multigraph, Amounts, AgreeOn, less, canonical, HasRankAtLeast, IsRank, agree-sym, equivalent-refl, loss_bounds_rank, equivalent-rank, rank_passes, Vector, at, RankVerdict, AtLeast, Below, AnswersRankTest, AreAnswers, PassesBelow, FailsAfter, MeetsTooMany, RankByLadder, RanksByTrialLadders, ArePastTrialLimits, IsWithin, IsRankInLimits, NeedsTooMany, RankFault, TooMany}
+use Rattle.dg_rank.proofs.Common.{◌≡◌, ℕ, zero, suc, ◌+◌, ◌<◌, ◌⊎◌, inl, inr, arith, refl, sym, ap, subst, ◌∙◌, ⊎_elim, Result, Ok, Err, cases_eq, ints, ℤ, pos, negsuc, ◌-ℤ◌, Multigraph, Amounts, AgreeOn, less, canonical, HasRankAtLeast, IsRank, agree-sym, equivalent-refl, loss_bounds_rank, equivalent-rank, rank_passes, Vector, at, RankVerdict, AtLeast, Below, AnswersRankTest, AreRankTestAnswers, PassesBelow, FailsRankTestsAfter, MeetsTooMany, RankByLadder, RanksByTrialLadders, ArePastTrialLimits, IsRankTestWithinLimits, IsRankInLimits, NeedsTooMany, RankFault, TooMany}
 use Rattle.std.proofs.Math.IntN.{◌+ℤ◌}
 use Rattle.dg_rank.proofs.Numbering.{past_above, past_within}
 use Rattle.dg_rank.proofs.RankByTests.{rank_before}
@@ -20,7 +20,7 @@ module _ (g : Multigraph) (D : Amounts) (k : ℕ) where
   passes_told x answers is = (rw is at answers).1.1
 
   loss_told : (x : Result RankVerdict RankFault) (d : Vector) → AnswersRankTest g D k x → x ≡ Ok (Below k d) →
-      IsWithin g.size k × (¬ HasRankAtLeast g D k)
+      IsRankTestWithinLimits g.size k × (¬ HasRankAtLeast g D k)
   loss_told x d answers is =
       let told : AnswersRankTest g D k (Ok (Below k d)) = subst (AnswersRankTest g D k) is answers in
       (told.0, λ rank. loss_bounds_rank g D k (at d) told.1.2 rank)
@@ -52,8 +52,8 @@ rank_fails g D (negsuc n) k (none, fails) follows rank =
     let next : k ≡ 0 = omega (arith, ints, none) in
     fails (subst (HasRankAtLeast g D) next rank)
 
-module _ (g : Multigraph) (D : Amounts) (f : ℕ → Result RankVerdict RankFault) (answers : AreAnswers g D f) where
-  fails_after : (r : ℤ) → IsRankInLimits g D r → FailsAfter f r
+module _ (g : Multigraph) (D : Amounts) (f : ℕ → Result RankVerdict RankFault) (answers : AreRankTestAnswers g D f) where
+  fails_after : (r : ℤ) → IsRankInLimits g D r → FailsRankTestsAfter f r
   fails_after r told =
       let next = told.next in
       let within : ¬ ArePastTrialLimits g.size next = λ past. past_within g.size next past told.within in
@@ -69,7 +69,7 @@ module _ (g : Multigraph) (D : Amounts) (f : ℕ → Result RankVerdict RankFaul
         fails = fails;
       }
 
-  rank_told : (r : ℤ) → FailsAfter f r → IsRankInLimits g D r
+  rank_told : (r : ℤ) → FailsRankTestsAfter f r → IsRankInLimits g D r
   rank_told r ladder =
       let next = ladder.next in
       let (within, fails) = loss_told g D next (f next) ladder.loss (answers next) ladder.fails in

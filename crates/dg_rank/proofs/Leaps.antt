@@ -1,14 +1,15 @@
 -- Trials that differ after some places alone have successive numbers.
---   IsBlock P n r m k base i   == the trial of degree k on m places that begins with the amounts P, and holds after
---                                 those, at n places, what the trial number i of degree r does, has the number base + i
+--   IsBlock P n r m k base i == the trial of degree k on m places that begins with the amounts P, and holds
+--                               after those, at n places, what the trial number i of degree r does, has the
+--                               number base + i
 --   block_of                   there is such a base for all that begin with P and hold r in all after it
 --   first_at, first_sum        where all is held at the last place, the number is 0, and the last amount is the sum
---   IsSplit n k c i d r E      == E is the trial number i of c, and from place d on holds r at its last place and
---                                 nothing else
---   IsAmong n k c i d r j E    == the trial number i + j of c holds before place d what E does, and from there on what
---                                 the trial number j of degree r does
+--   IsSplit n k c i d r E   == E is the trial number i of c, and from place d on holds r at its last place
+--                              and nothing else
+--   IsAmong n k c i d r j E == the trial number i + j of c holds before place d what E does, and from there
+--                              on what the trial number j of degree r does
 --   among                      the trials that differ from E from place d on alone come right after it
-use Rattle.dg_rank.proofs.Common.{◌≡◌, ℕ, zero, suc, ◌+◌, ◌-◌, ◌<◌, ◌≤◌, List, [], ◌∷◌, ◌++◌, length, take, drop, arith, refl, sym, ap, ◌∙◌, slice_index, sum, take-append-drop, length-take-le, length-drop, get_or-drop, sum_by-take-drop, IsTrial, IsNumbering, AnyTrial, IsWithinLimits}
+use Rattle.dg_rank.proofs.Common.{◌≡◌, ℕ, zero, suc, ◌+◌, ◌-◌, ◌<◌, ◌≤◌, List, [], ◌∷◌, ◌++◌, length, take, drop, arith, refl, sym, ap, ◌∙◌, slice_index, sum, take-append-drop, length-take-le, length-drop, get_or-drop, sum_by-take-drop, IsTrial, IsTrialNumbering, AnyTrial, IsWithinLimits}
 use Rattle.dg_rank.specs.Numbering.{trial_count, raised, nth_trial}
 use Rattle.dg_rank.proofs.Lists.{sum_cons}
 use Rattle.dg_rank.proofs.Numbering.{numbered, some_trial, limits_count, limits_trial}
@@ -152,7 +153,7 @@ among n k c i d r E split j low =
     let here : IsBlock (take d E) (n - d) r n k base j = each j low in
     let begun : nth_trial n k (base + 0) ≡ nth_trial n k i =
     first.trial ∙ ap (λ (T : List ℕ). take d E ++ T) (sym rest) ∙ take-append-drop d E ∙ split.trial in
-    let numbers : IsNumbering n k AnyTrial (trial_count n k) (nth_trial n k) = numbered n k in
+    let numbers : IsTrialNumbering n k AnyTrial (trial_count n k) (nth_trial n k) = numbered n k in
     let least : base + 0 ≤ i =
     no_lower n k AnyTrial (trial_count n k) (trial_count n k) (nth_trial n k) (nth_trial n k) numbers numbers
     (base + 0) i first.within

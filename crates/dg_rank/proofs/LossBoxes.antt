@@ -9,7 +9,7 @@
 --   none_held      a trial of no dollars
 --   class_small    what is equivalent to small amounts is small
 --   taken_small    what is left once dollars are taken
-use Rattle.dg_rank.proofs.Common.{◌≡◌, ℕ, ◌+◌, ◌-◌, ◌<◌, ◌≤◌, List, [], length, arith, ap, ◌∙◌, ⊎_elim, set, length-set, get_or-set_same, get_or-set_other, slice_index, ◌≤ℤ◌, ◌<ℤ◌, cases_eq, ints, by_lt_z, pos, Option, Some, None, MatchOption, Multigraph, Amounts, degree, only_at, AreEquivalent, IsWinnable, less, degree-less, degree-only_at, only_at-here, only_at-other, sum_below-one, sum_below-zero, equivalent-winnable, win_more, amounts_of, BoxWins, IsBoxLoss, IsInBox, IsMultigraph, Vector, at, IsEffectiveDivisor}
+use Rattle.dg_rank.proofs.Common.{◌≡◌, ℕ, ◌+◌, ◌-◌, ◌<◌, ◌≤◌, List, [], length, arith, ap, ◌∙◌, ⊎_elim, set, length-set, get_or-set_same, get_or-set_other, slice_index, ◌≤ℤ◌, ◌<ℤ◌, cases_eq, ints, by_lt_z, pos, Option, Some, None, MatchOption, Multigraph, Amounts, degree, only_at, AreEquivalent, IsWinnable, less, degree-less, degree-only_at, only_at-here, only_at-other, sum_below-one, sum_below-zero, equivalent-winnable, win_more, amounts_of_trial, BoxWins, IsBoxLoss, IsInBox, IsMultigraph, Vector, at, IsEffectiveDivisor}
 use Rattle.std.proofs.Common.{min}
 use Rattle.std.proofs.Math.IntN.{◌+ℤ◌, ◌-ℤ◌}
 use Rattle.dg_rank.proofs.Elsewhere.{degree-given, form_degree}
@@ -60,7 +60,7 @@ box_without n j v t r E inside below placed some = record {
 }
 
 some_more : (E : List ℕ) (p t v : ℕ) → p < length E →
-    amounts_of (set E p (slice_index E p + t)) v ≡ amounts_of E v +ℤ only_at p (pos t) v
+    amounts_of_trial (set E p (slice_index E p + t)) v ≡ amounts_of_trial E v +ℤ only_at p (pos t) v
 some_more E p t v inside = ⊎_elim
     (λ (there : v ≡ p).
     let now : slice_index (set E p (slice_index E p + t)) v ≡ slice_index E p + t =
@@ -85,16 +85,16 @@ loss_beyond g A r j v t E E' below placed roomy few loss is = record {
     few = omega (
       arith,
       ints,
-      degree-given g.size (amounts_of E') (amounts_of E) v t below more,
+      degree-given g.size (amounts_of_trial E') (amounts_of_trial E) v t below more,
       loss.inside.few,
     );
     within = λ u low. omega (arith, ints, more u, loss.inside.within u low, room_left r v t u placed roomy);
   };
-  loses = λ win. loss.loses (win_more g (less A (amounts_of E)) (less (less A (only_at v (pos t))) (amounts_of E'))
+  loses = λ win. loss.loses (win_more g (less A (amounts_of_trial E)) (less (less A (only_at v (pos t))) (amounts_of_trial E'))
       (λ u low. omega (arith, ints, more u)) win);
 } where
-  more : (u : ℕ) → amounts_of E u ≡ amounts_of E' u +ℤ only_at v (pos t) u
-  more u = ap (λ (L : List ℕ). amounts_of L u) is ∙ some_more E' v t u (omega (arith, loss.places))
+  more : (u : ℕ) → amounts_of_trial E u ≡ amounts_of_trial E' u +ℤ only_at v (pos t) u
+  more u = ap (λ (L : List ℕ). amounts_of_trial L u) is ∙ some_more E' v t u (omega (arith, loss.places))
 
 pub nothing_lost : (g : Multigraph) (A : Amounts) (r : List ℕ) (j : ℕ) (E : List ℕ) → length E ≡ g.size →
     ((u : ℕ) → u < g.size → slice_index E u ≡ 0) → (¬ IsWinnable g A) → IsBoxLoss g A r j E
@@ -102,10 +102,10 @@ nothing_lost g A r j E places empty lost = record {
   places = places;
   inside = record {
     effective = λ u low. omega (arith, ints);
-    few = omega (arith, ints, sum_below-zero g.size (amounts_of E) (λ u low. ap pos (empty u low)));
+    few = omega (arith, ints, sum_below-zero g.size (amounts_of_trial E) (λ u low. ap pos (empty u low)));
     within = λ u low. omega (arith, ints, empty u low);
   };
-  loses = λ win. lost (win_more g (less A (amounts_of E)) A (λ u low. omega (arith, ints)) win);
+  loses = λ win. lost (win_more g (less A (amounts_of_trial E)) A (λ u low. omega (arith, ints)) win);
 }
 
 pub box_told : (o : Option (List ℕ)) (g : Multigraph) (A B : Amounts) (r : List ℕ) (j : ℕ) → AreEquivalent g A B →
@@ -116,7 +116,7 @@ box_told None g A B r j (s, leads) wins =
 box_told (Some E) g A B r j (s, leads) loss = record {
   places = loss.places;
   inside = loss.inside;
-  loses = λ win. loss.loses ((equivalent-winnable g (less A (amounts_of E)) (less B (amounts_of E))
+  loses = λ win. loss.loses ((equivalent-winnable g (less A (amounts_of_trial E)) (less B (amounts_of_trial E))
       (s, λ u below. omega (arith, ints, leads u below))).0 win);
 }
 

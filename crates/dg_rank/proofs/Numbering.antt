@@ -6,7 +6,7 @@
 --   past_above       past the limits of a degree are all above it
 --   past_within      no rank test is past the limits and within them
 --   some_trial       on one place or more there is some trial of each degree
-use Rattle.dg_rank.proofs.Common.{◌≡◌, ℕ, zero, suc, ◌+◌, ◌-◌, ◌<◌, ◌≤◌, List, [], ◌∷◌, length, arith, refl, sym, ap, subst, ◌∙◌, ⊎_elim, ◌⊎◌, inl, inr, slice_index, sum, cases_lt, cond_below, cond_above, IsTrial, IsNumbering, AreCounted, AnyTrial, ComesBefore, MAX_TRIALS, IsWithinLimits, ArePastTrialLimits, IsWithin}
+use Rattle.dg_rank.proofs.Common.{◌≡◌, ℕ, zero, suc, ◌+◌, ◌-◌, ◌<◌, ◌≤◌, List, [], ◌∷◌, length, arith, refl, sym, ap, subst, ◌∙◌, ⊎_elim, ◌⊎◌, inl, inr, slice_index, sum, cases_lt, cond_below, cond_above, IsTrial, IsTrialNumbering, AreCounted, AnyTrial, IsTrialBefore, MAX_TRIALS, IsWithinLimits, ArePastTrialLimits, IsRankTestWithinLimits}
 use Rattle.dg_rank.specs.Numbering.{one_place_more, trial_count, raised, with_trial_place, nth_trial}
 use Rattle.dg_rank.proofs.Lists.{sum_cons, no_places, trial_cons, trial_tail, before_cons}
 use Rattle.dg_rank.proofs.CountedOnce.{lower_number, counted_once}
@@ -22,7 +22,7 @@ raised_trial n k (a ∷ E) trial = record {
 
 -- one more at the first place of both
 more_before : (a b : ℕ) (E F : List ℕ) (p : ℕ) → ((u : ℕ) → u < p → slice_index (a ∷ E) u ≡ slice_index (b ∷ F) u) →
-    slice_index (a ∷ E) p < slice_index (b ∷ F) p → ComesBefore (suc a ∷ E) (suc b ∷ F)
+    slice_index (a ∷ E) p < slice_index (b ∷ F) p → IsTrialBefore (suc a ∷ E) (suc b ∷ F)
 more_before a b E F zero same smaller =
     record { place = 0; same = λ u low. absurd (omega arith); smaller = omega (arith, smaller) }
 more_before a b E F (suc p) same smaller = record { place = suc p; same = same_at; smaller = smaller } where
@@ -30,20 +30,20 @@ more_before a b E F (suc p) same smaller = record { place = suc p; same = same_a
   same_at zero low = ap suc (same 0 (omega arith))
   same_at (suc u) low = same (suc u) low
 
-raised_before : (E F : List ℕ) → 0 < length E → 0 < length F → ComesBefore E F → ComesBefore (raised E) (raised F)
+raised_before : (E F : List ℕ) → 0 < length E → 0 < length F → IsTrialBefore E F → IsTrialBefore (raised E) (raised F)
 unfolding raised
 raised_before [] F some other before = absurd (omega arith)
 raised_before (a ∷ E) [] some other before = absurd (omega arith)
 raised_before (a ∷ E) (b ∷ F) some other before = more_before a b E F before.place before.same before.smaller
 
-none_before : (E F : List ℕ) → 0 < length F → ComesBefore (0 ∷ E) (raised F)
+none_before : (E F : List ℕ) → 0 < length F → IsTrialBefore (0 ∷ E) (raised F)
 unfolding raised
 none_before E [] some = absurd (omega arith)
 none_before E (b ∷ F) some = record { place = 0; same = λ u low. absurd (omega arith); smaller = omega arith }
 
 -- with one place more and no dollar, the first amount is 0
-broke_numbered : (n c : ℕ) (f h : ℕ → List ℕ) → IsNumbering n 0 AnyTrial c f → ((i : ℕ) → h i ≡ 0 ∷ f i) →
-    IsNumbering (suc n) 0 AnyTrial c h
+broke_numbered : (n c : ℕ) (f h : ℕ → List ℕ) → IsTrialNumbering n 0 AnyTrial c f → ((i : ℕ) → h i ≡ 0 ∷ f i) →
+    IsTrialNumbering (suc n) 0 AnyTrial c h
 broke_numbered n c f h numbers is = record {
   each = λ i low. (
     subst (λ (E : List ℕ). IsTrial (suc n) 0 E) (sym (is i))
@@ -70,8 +70,8 @@ record IsJoined (c : ℕ) (f g h : ℕ → List ℕ) : Type 0 where
   low : (i : ℕ) → i < c → h i ≡ 0 ∷ f i
   high : (i : ℕ) → h (c + i) ≡ raised (g i)
 
-joined_each : (n k c d : ℕ) (f g h : ℕ → List ℕ) → IsNumbering n (suc k) AnyTrial c f →
-    IsNumbering (suc n) k AnyTrial d g →
+joined_each : (n k c d : ℕ) (f g h : ℕ → List ℕ) → IsTrialNumbering n (suc k) AnyTrial c f →
+    IsTrialNumbering (suc n) k AnyTrial d g →
     IsJoined c f g h → (i : ℕ) → i < c + d → IsTrial (suc n) (suc k) (h i)
 joined_each n k c d f g h first second whole i small = ⊎_elim
     (λ (low : i < c). rw (whole.low i low) (trial_cons n (suc k) 0 (suc k) (f i) (first.each i low).0 (omega arith)))
@@ -80,8 +80,8 @@ joined_each n k c d f g h first second whole i small = ⊎_elim
     rw is (raised_trial n k (g high.0) (second.each high.0 (omega (arith, high.1))).0))
     (parts c i)
 
-joined_all : (n k c d : ℕ) (f g h : ℕ → List ℕ) → IsNumbering n (suc k) AnyTrial c f →
-    IsNumbering (suc n) k AnyTrial d g →
+joined_all : (n k c d : ℕ) (f g h : ℕ → List ℕ) → IsTrialNumbering n (suc k) AnyTrial c f →
+    IsTrialNumbering (suc n) k AnyTrial d g →
     IsJoined c f g h → (E : List ℕ) → IsTrial (suc n) (suc k) E → (i : ℕ) × (i < c + d) × (h i ≡ E)
 unfolding raised
 joined_all n k c d f g h first second whole [] trial = absurd (omega (arith, trial.places))
@@ -94,9 +94,9 @@ joined_all n k c d f g h first second whole (suc a ∷ E) trial =
     let (i, low, found) = second.all (a ∷ E) less tt in
     (c + i, omega arith, whole.high i ∙ ap raised found)
 
-joined_ascending : (n k c d : ℕ) (f g h : ℕ → List ℕ) → IsNumbering n (suc k) AnyTrial c f →
-    IsNumbering (suc n) k AnyTrial d g →
-    IsJoined c f g h → (i j : ℕ) → i < j → j < c + d → ComesBefore (h i) (h j)
+joined_ascending : (n k c d : ℕ) (f g h : ℕ → List ℕ) → IsTrialNumbering n (suc k) AnyTrial c f →
+    IsTrialNumbering (suc n) k AnyTrial d g →
+    IsJoined c f g h → (i j : ℕ) → i < j → j < c + d → IsTrialBefore (h i) (h j)
 joined_ascending n k c d f g h first second whole i j less small = ⊎_elim
     (λ (low : j < c). rw (whole.low i (omega arith), whole.low j low)
     (before_cons 0 (f i) (f j) (first.ascending i j less low)))
@@ -116,13 +116,13 @@ joined_ascending n k c d f g h first second whole i j less small = ⊎_elim
     (parts c i)))
     (parts c j)
 
-place_numbered : (n : ℕ) (c : ℕ → ℕ) (f : ℕ → ℕ → List ℕ) → ((k : ℕ) → IsNumbering n k AnyTrial (c k) (f k)) →
-    (k : ℕ) → IsNumbering (suc n) k AnyTrial (one_place_more c k) (with_trial_place c f k)
+place_numbered : (n : ℕ) (c : ℕ → ℕ) (f : ℕ → ℕ → List ℕ) → ((k : ℕ) → IsTrialNumbering n k AnyTrial (c k) (f k)) →
+    (k : ℕ) → IsTrialNumbering (suc n) k AnyTrial (one_place_more c k) (with_trial_place c f k)
 unfolding one_place_more with_trial_place
 place_numbered n c f numbers zero = broke_numbered n (c 0) (f 0) (with_trial_place c f 0) (numbers 0) (λ i. refl)
 place_numbered n c f numbers (suc k) =
-    let first : IsNumbering n (suc k) AnyTrial (c (suc k)) (f (suc k)) = numbers (suc k) in
-    let second : IsNumbering (suc n) k AnyTrial (one_place_more c k) (with_trial_place c f k) =
+    let first : IsTrialNumbering n (suc k) AnyTrial (c (suc k)) (f (suc k)) = numbers (suc k) in
+    let second : IsTrialNumbering (suc n) k AnyTrial (one_place_more c k) (with_trial_place c f k) =
     place_numbered n c f numbers k in
     let whole : IsJoined (c (suc k)) (f (suc k)) (with_trial_place c f k) (with_trial_place c f (suc k)) = record {
       low = λ i low. sym (cond_below i (c (suc k)) (0 ∷ f (suc k) i) (raised (with_trial_place c f k (i - c (suc k)))) low);
@@ -136,7 +136,7 @@ place_numbered n c f numbers (suc k) =
       ascending = joined_ascending n k _ _ _ _ _ first second whole;
     }
 
-nowhere_numbered : (k : ℕ) → IsNumbering 0 k AnyTrial (trial_count 0 k) (nth_trial 0 k)
+nowhere_numbered : (k : ℕ) → IsTrialNumbering 0 k AnyTrial (trial_count 0 k) (nth_trial 0 k)
 unfolding trial_count nth_trial
 nowhere_numbered zero = record {
   each = λ i low. (record { places = refl; amount = refl }, tt);
@@ -149,12 +149,12 @@ nowhere_numbered (suc k) = record {
   ascending = λ i j less low. absurd (omega arith);
 }
 
-pub numbered : (n k : ℕ) → IsNumbering n k AnyTrial (trial_count n k) (nth_trial n k)
+pub numbered : (n k : ℕ) → IsTrialNumbering n k AnyTrial (trial_count n k) (nth_trial n k)
 unfolding trial_count nth_trial
 numbered zero k = nowhere_numbered k
 numbered (suc n) k = place_numbered n (trial_count n) (nth_trial n) (numbered n) k
 
-pub counted_before : (n k i : ℕ) → i < trial_count n k → AreCounted n k (λ E. ComesBefore E (nth_trial n k i)) i
+pub counted_before : (n k i : ℕ) → i < trial_count n k → AreCounted n k (λ E. IsTrialBefore E (nth_trial n k i)) i
 counted_before n k i small = (
   nth_trial n k,
   record {
@@ -163,13 +163,13 @@ counted_before n k i small = (
         let (j, within, found) = all.all E trial tt in (
           j,
           lower_number n k AnyTrial (trial_count n k) (nth_trial n k) j i all within
-              (subst (λ (F : List ℕ). ComesBefore F (nth_trial n k i)) (sym found) before),
+              (subst (λ (F : List ℕ). IsTrialBefore F (nth_trial n k i)) (sym found) before),
           found,
         );
     ascending = λ j l less small_l. all.ascending j l less (omega arith);
   },
 ) where
-  all : IsNumbering n k AnyTrial (trial_count n k) (nth_trial n k)
+  all : IsTrialNumbering n k AnyTrial (trial_count n k) (nth_trial n k)
   all = numbered n k
 
 pub limits_count : (n k c : ℕ) → IsWithinLimits n k c → c ≡ trial_count n k
@@ -196,7 +196,7 @@ past_above n j k some less (inr (inl much)) = inr (inl much)
 past_above n j k some less (inr (inr (inl high))) = inr (inr (inl (omega arith)))
 past_above n j k some less (inr (inr (inr many))) = inr (inr (inr (more_trials n j k some less many)))
 
-pub past_within : (n k : ℕ) → ArePastTrialLimits n k → IsWithin n k → ⊥
+pub past_within : (n k : ℕ) → ArePastTrialLimits n k → IsRankTestWithinLimits n k → ⊥
 past_within n k (inl none) (c, within) = omega (arith, none, within.some)
 past_within n k (inr (inl many)) (c, within) = omega (arith, many, within.few)
 past_within n k (inr (inr (inl large))) (c, within) = omega (arith, large, within.small)

@@ -7,23 +7,23 @@
 --   needs_too_many    where a test of the next degree after the rank is past the limits, too many tests are needed
 --   past_tests       where tests that nothing tells are needed, too many are
 --   tests_suffice     where all tests up to one that fails are told, none past the limits is needed
-use Rattle.dg_rank.proofs.Common.{◌≡◌, ℕ, zero, suc, ◌+◌, ◌<◌, ◌≤◌, inl, inr, arith, refl, sym, subst, unsigned_abs, ◌≤ℤ◌, ◌<ℤ◌, cases_eq, cases_lt, ints, by_lt_z, ℤ, pos, ◌-ℤ◌, Multigraph, IsMultigraph, genus, Amounts, degree, less, canonical, HasRankAtLeast, IsRank, poor_rank, rank_passes, rank_of_dual, IsDual, high_rank, IsWithinLimits, ArePastTrialLimits, IsRankInLimits, NeedsTooMany, IsUntold, NeedsPastTests, FailsFirstAt}
+use Rattle.dg_rank.proofs.Common.{◌≡◌, ℕ, zero, suc, ◌+◌, ◌<◌, ◌≤◌, inl, inr, arith, refl, sym, subst, unsigned_abs, ◌≤ℤ◌, ◌<ℤ◌, cases_eq, cases_lt, ints, by_lt_z, ℤ, pos, ◌-ℤ◌, Multigraph, IsMultigraph, genus, Amounts, degree, less, canonical, HasRankAtLeast, IsRank, poor_rank, rank_passes, rank_of_dual, IsDual, high_rank, IsWithinLimits, ArePastTrialLimits, IsRankInLimits, NeedsTooMany, IsRankUntold, NeedsPastTests, FailsRankTestsFirstAt}
 use Rattle.std.proofs.Math.IntN.{◌+ℤ◌}
 use Rattle.dg_rank.proofs.AskedVertices.{past_all}
 
-pub rank_before : (g : Multigraph) (D : Amounts) (k : ℕ) → FailsFirstAt g D k → IsRank g D (pos k -ℤ pos 1)
+pub rank_before : (g : Multigraph) (D : Amounts) (k : ℕ) → FailsRankTestsFirstAt g D k → IsRank g D (pos k -ℤ pos 1)
 rank_before g D zero first = (refl, first.fails)
 rank_before g D (suc j) first =
     let less : pos j ≡ pos (suc j) -ℤ pos 1 = omega (arith, ints) in
     let more : j + 1 ≡ suc j = omega arith in
     subst (IsRank g D) less (first.passed j (omega arith), λ rank. first.fails (subst (HasRankAtLeast g D) more rank))
 
-pub rank_of_dual_before : (g : Multigraph) (D : Amounts) (k l : ℕ) → IsMultigraph g → 0 < g.size → FailsFirstAt g D k →
+pub rank_of_dual_before : (g : Multigraph) (D : Amounts) (k l : ℕ) → IsMultigraph g → 0 < g.size → FailsRankTestsFirstAt g D k →
     IsDual g D k l → IsRank g (less (canonical g) D) (pos l -ℤ pos 1)
 rank_of_dual_before g D k l graph some first dual =
     rank_of_dual g D (pos k -ℤ pos 1) (pos l -ℤ pos 1) graph some (omega (arith, ints)) (rank_before g D k first)
 
-pub fails_low : (g : Multigraph) (D : Amounts) (k : ℕ) → IsMultigraph g → 0 < g.size → FailsFirstAt g D k →
+pub fails_low : (g : Multigraph) (D : Amounts) (k : ℕ) → IsMultigraph g → 0 < g.size → FailsRankTestsFirstAt g D k →
     k ≤ unsigned_abs (degree g.size D) + 1
 fails_low g D zero graph some first = omega arith
 fails_low g D (suc j) graph some first =
@@ -53,12 +53,12 @@ in_limits g D k c r rank same within = record {
   within = (c, within);
 }
 
-pub tests_suffice : (g : Multigraph) (D : Amounts) (k : ℕ) → (¬ HasRankAtLeast g D k) → (¬ IsUntold g D k) →
-    ((j : ℕ) → j < k → ¬ IsUntold g D j) → ¬ NeedsPastTests g D
+pub tests_suffice : (g : Multigraph) (D : Amounts) (k : ℕ) → (¬ HasRankAtLeast g D k) → (¬ IsRankUntold g D k) →
+    ((j : ℕ) → j < k → ¬ IsRankUntold g D j) → ¬ NeedsPastTests g D
 tests_suffice g D k fails here before needs = elim (cases_lt k needs.degree) [
   | inl less ↦ fails (needs.passed k less)
   | inr most ↦ elim (cases_eq needs.degree k) [
-    | inl same ↦ here (subst (IsUntold g D) same needs.untold)
+    | inl same ↦ here (subst (IsRankUntold g D) same needs.untold)
     | inr other ↦ before needs.degree (omega (arith, most, other)) needs.untold
   ]
 ]

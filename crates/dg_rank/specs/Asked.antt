@@ -1,8 +1,8 @@
 -- The vertices that rank tests ask: it is enough to lose dollars at these.
 --   DeterminesFrom g d S == no vertex before place d is in S, and a divisor that can bear each loss of r
---                        dollars within S can bear each that holds nothing before place d, for every r
---   IsMadeFor g d S      == S does so; and for place 0 it is the determining set of g
---   AreMade g l          == for each place, the list l has the number of such a set, or 0
+--                           dollars within S can bear each that holds nothing before place d, for every r
+--   IsSetForTrials g d S == S does so; and for place 0 it is the determining set of g
+--   AreSetsForTrials g l == for each place, the list l has the number of such a set, or 0
 use Rattle.std.specs.Prelude.{◌≡◌, ℕ, ◌<◌, ◌⊎◌, Bool, false, List, slice_index}
 use Rattle.dg_theory.specs.Firing.{Amounts}
 use Rattle.dg_theory.specs.Multigraph.{Multigraph}
@@ -15,10 +15,10 @@ pub record DeterminesFrom (g : Multigraph) (d : ℕ) (S : ℕ → Bool) : Type 0
   pub part : (v : ℕ) → v < d → S v ≡ false
   pub wins : (A : Amounts) (r : ℕ) → Bears g S A r → WinFrom g A r d
 
-pub record IsMadeFor (g : Multigraph) (d : ℕ) (S : ℕ → Bool) : Type 0 where
+pub record IsSetForTrials (g : Multigraph) (d : ℕ) (S : ℕ → Bool) : Type 0 where
   pub determines : DeterminesFrom g d S
   pub asked : d ≡ 0 → IsAskedSet g S
 
-abbrev pub AreMade : Multigraph → List ℕ → Type 0
-AreMade g l = (p : ℕ) → p < g.size →
-    (slice_index l p ≡ 0) ⊎ IsMadeFor g p (in_set (slice_index l p))
+abbrev pub AreSetsForTrials : Multigraph → List ℕ → Type 0
+AreSetsForTrials g l = (p : ℕ) → p < g.size →
+    (slice_index l p ≡ 0) ⊎ IsSetForTrials g p (in_set (slice_index l p))

@@ -1,8 +1,9 @@
 -- Pieces of the trials of a rank test. A search is what all of them have in common.
---   piece_start s j == the number of the first trial of piece j; past the last piece it is the
---                      number of all trials
---   CanSearch s     == the trials of the search and its amounts are within the limits
---   Tells s i j x   == x is the first loss of the trials from number i up to j, or they all win
+--   piece_start s j                == the number of the first trial of piece j; past the last piece it is the
+--                                     number of all trials
+--   CanSearch s                    == the trials of the search and its amounts are within the limits
+--   TellsFirstLossOfTrials s i j x == x is the first loss of the trials from number i up to j, or they all
+--                                     win
 use Rattle.std.specs.Prelude.{◌≡◌, ℕ, ◌*◌, ◌/◌, ◌≤◌, List, Option, MatchOption}
 use Rattle.dg_chips.specs.Vector.{at}
 use Rattle.dg_rank.specs.Limits.{IsWithinLimits}
@@ -17,5 +18,5 @@ pub record CanSearch (s : Search) : Type 0 where
   pub range : AreSmallForTrials s.graph.size (at s.chips)
   pub limits : (c : ℕ) × IsWithinLimits s.graph.size s.k c × (s.count ≤ c)
 
-abbrev pub Tells : Search → ℕ → ℕ → Option (List ℕ) → Type 0
-Tells s i j x = MatchOption x (AllWin s.graph (at s.chips) s.k i j) (IsFirstLossIn s.graph (at s.chips) s.k i j)
+abbrev pub TellsFirstLossOfTrials : Search → ℕ → ℕ → Option (List ℕ) → Type 0
+TellsFirstLossOfTrials s i j x = MatchOption x (AllWin s.graph (at s.chips) s.k i j) (IsFirstLossIn s.graph (at s.chips) s.k i j)

@@ -1,52 +1,53 @@
 -- How far rank tests go, what they tell of ranks, and why one is refused.
---   IsWithin n k           == a rank test of degree k on n vertices is within the limits
---   IsRankInLimits g D r   == r is the rank of D, and the test of the next degree is within the
---                             limits
---   AreRanksInLimits g D r == so are the two of r, of D and of its residual
---   NeedsTooMany g D       == D needs too many rank tests: its rank is told by none within the
---                             limits, since D passes all that come before one past them
---   EitherNeedsTooMany g D == D or its residual needs too many rank tests
---   RefusesBothRanks g D   == the residual of D is in range, and D or the residual needs too many rank tests
---   how_many n S           == how many of n vertices are in the set S
---   IsAskedSet g A         == A is the determining set of g: what is left of all vertices if each, from the
---                             first on, is left out where that can be
---   IsPastAsked g k        == the trials of degree k that hold nothing outside this set are past the
---                             limits
---   IsOpen g D k           == no law of the degree tells whether the rank of D is at least k: k is at
---                             most half the degree, and D less k dollars holds less than the genus
---   BothArePast g D k      == the rank test of degree k is past the limits on this set, and so is that
---                             of the residual which passes if it passes
---   IsUntold g D k         == nothing tells whether the rank of D is at least k: that is open, and both
---                             tests are past the limits
---   TellsRankTest g D k result == the result is whether the rank of D is at least k; or it is
---                             `TooMany`, exactly if nothing tells that
---   NeedsPastTests g D     == D passes all rank tests before one that nothing tells
---   AreBothRanks g D r     == r is the ranks of D and of its residual, and nothing is untold that they need
---   FailsFirstAt g D k     == k is the least degree of the rank tests that D fails
---   MayHaveWorkers w       == a rank test may have w workers
---   IsRankFault n k w e    == a rank test with w workers is refused for this cause, and for no
---                             earlier one, and never for want of memory; whether a thread really
---                             did not start, no definition can say
+--   IsRankTestWithinLimits n k   == a rank test of degree k on n vertices is within the limits
+--   IsRankInLimits g D r         == r is the rank of D, and the test of the next degree is within the limits
+--   AreRanksInLimits g D r       == so are the two of r, of D and of its residual
+--   NeedsTooMany g D             == D needs too many rank tests: its rank is told by none within the limits,
+--                                   since D passes all that come before one past them
+--   EitherNeedsTooMany g D       == D or its residual needs too many rank tests
+--   RefusesBothRanks g D         == the residual of D is in range, and D or the residual needs too many rank
+--                                   tests
+--   how_many_trial_places n S    == how many of n vertices are in the set S
+--   IsAskedSet g A               == A is the determining set of g: what is left of all vertices if each, from
+--                                   the first on, is left out where that can be
+--   IsPastAsked g k              == the trials of degree k that hold nothing outside this set are past the
+--                                   limits
+--   IsRankTestOpen g D k         == no law of the degree tells whether the rank of D is at least k: k is at
+--                                   most half the degree, and D less k dollars holds less than the genus
+--   BothArePast g D k            == the rank test of degree k is past the limits on this set, and so is that
+--                                   of the residual which passes if it passes
+--   IsRankUntold g D k           == nothing tells whether the rank of D is at least k: that is open, and both
+--                                   tests are past the limits
+--   DecidesRankTest g D k result == the result is whether the rank of D is at least k; or it is `TooMany`,
+--                                   exactly if nothing tells that
+--   NeedsPastTests g D           == D passes all rank tests before one that nothing tells
+--   AreBothRanks g D r           == r is the ranks of D and of its residual, and nothing is untold that they
+--                                   need
+--   FailsRankTestsFirstAt g D k  == k is the least degree of the rank tests that D fails
+--   MayHaveRankWorkers w         == a rank test may have w workers
+--   IsRankFault n k w e          == a rank test with w workers is refused for this cause, and for no earlier
+--                                   one, and never for want of memory; whether a thread really did not start,
+--                                   no definition can say
 use Rattle.std.specs.Prelude.{if◌then◌else◌, nat_lt, ◌≡◌, ℕ, ◌<◌, ◌≤◌, ◌⊎◌, ℤ, pos, ◌+ℤ◌, ◌-ℤ◌, ◌≤ℤ◌, ◌<ℤ◌, Bool, MatchBool, Result, Ok, Err}
 use Rattle.dg_chips.specs.Vector.{IsInRange}
 use Rattle.dg_theory.specs.Firing.{Amounts, degree}
 use Rattle.dg_theory.specs.Multigraph.{Multigraph, genus}
 use Rattle.dg_theory.specs.Sums.{total_below}
 use Rattle.dg_theory.specs.Rank.{less, canonical, HasRankAtLeast, IsRank}
-use Rattle.dg_burn.specs.Special.{IsGreedy}
+use Rattle.dg_burn.specs.Special.{IsGreedyDeterminingSet}
 use Rattle.dg_rank.specs.Limits.{IsWithinLimits, ArePastTrialLimits}
 use Rattle.dg_rank.specs.declared.rank_fault.RankFault.{RankFault}
 use Rattle.dg_rank.specs.declared.rank_fault.RankFault.TheVariants.{TooMany, Workers, OutOfMemory, Spawn}
 use Rattle.dg_rank.specs.declared.workers.TheConstants.{MAX_WORKERS}
 
-abbrev pub IsWithin : ℕ → ℕ → Type 0
-IsWithin n k = (c : ℕ) × IsWithinLimits n k c
+abbrev pub IsRankTestWithinLimits : ℕ → ℕ → Type 0
+IsRankTestWithinLimits n k = (c : ℕ) × IsWithinLimits n k c
 
 pub record IsRankInLimits (g : Multigraph) (D : Amounts) (r : ℤ) : Type 0 where
   pub is_rank : IsRank g D r
   pub next : ℕ
   pub follows : pos next ≡ r +ℤ pos 1
-  pub within : IsWithin g.size next
+  pub within : IsRankTestWithinLimits g.size next
 
 abbrev pub AreRanksInLimits : Multigraph → Amounts → ℤ × ℤ → Type 0
 AreRanksInLimits g D r =
@@ -64,18 +65,18 @@ pub record RefusesBothRanks (g : Multigraph) (D : Amounts) : Type 0 where
   pub in_range : IsInRange g.size (less (canonical g) D)
   pub either : EitherNeedsTooMany g D
 
-abbrev pub how_many : ℕ → (ℕ → Bool) → ℕ
-how_many n S = total_below n (λ v. if S v then 1 else 0)
+abbrev pub how_many_trial_places : ℕ → (ℕ → Bool) → ℕ
+how_many_trial_places n S = total_below n (λ v. if S v then 1 else 0)
 
 abbrev pub IsAskedSet : Multigraph → (ℕ → Bool) → Type 0
-IsAskedSet g A = IsGreedy g (λ v. nat_lt v g.size) A
+IsAskedSet g A = IsGreedyDeterminingSet g (λ v. nat_lt v g.size) A
 
 pub record IsPastAsked (g : Multigraph) (k : ℕ) : Type 0 where
   pub set : ℕ → Bool
   pub asked : IsAskedSet g set
-  pub past : ArePastTrialLimits (how_many g.size set) k
+  pub past : ArePastTrialLimits (how_many_trial_places g.size set) k
 
-pub record IsOpen (g : Multigraph) (D : Amounts) (k : ℕ) : Type 0 where
+pub record IsRankTestOpen (g : Multigraph) (D : Amounts) (k : ℕ) : Type 0 where
   pub half : (pos k +ℤ pos k) ≤ℤ degree g.size D
   pub most : degree g.size D <ℤ (genus g +ℤ pos k)
 
@@ -85,32 +86,32 @@ pub record BothArePast (g : Multigraph) (D : Amounts) (k : ℕ) : Type 0 where
   pub past : IsPastAsked g k
   pub dual_past : IsPastAsked g other
 
-pub record IsUntold (g : Multigraph) (D : Amounts) (k : ℕ) : Type 0 where
-  pub is_open : IsOpen g D k
+pub record IsRankUntold (g : Multigraph) (D : Amounts) (k : ℕ) : Type 0 where
+  pub is_open : IsRankTestOpen g D k
   pub past : BothArePast g D k
 
-abbrev pub TellsRankTest : Multigraph → Amounts → ℕ → Result Bool RankFault → Type 0
-TellsRankTest g D k (Ok told) =
-    MatchBool told (HasRankAtLeast g D k) (¬ HasRankAtLeast g D k) × (¬ IsUntold g D k)
-TellsRankTest g D k (Err fault) = (fault ≡ TooMany) × IsUntold g D k
+abbrev pub DecidesRankTest : Multigraph → Amounts → ℕ → Result Bool RankFault → Type 0
+DecidesRankTest g D k (Ok told) =
+    MatchBool told (HasRankAtLeast g D k) (¬ HasRankAtLeast g D k) × (¬ IsRankUntold g D k)
+DecidesRankTest g D k (Err fault) = (fault ≡ TooMany) × IsRankUntold g D k
 
 pub record NeedsPastTests (g : Multigraph) (D : Amounts) : Type 0 where
   pub degree : ℕ
-  pub untold : IsUntold g D degree
+  pub untold : IsRankUntold g D degree
   pub passed : (k : ℕ) → k < degree → HasRankAtLeast g D k
 
 abbrev pub AreBothRanks : Multigraph → Amounts → ℤ × ℤ → Type 0
 AreBothRanks g D r = IsRank g D r.0 × IsRank g (less (canonical g) D) r.1 × (¬ NeedsPastTests g D)
 
-pub record FailsFirstAt (g : Multigraph) (D : Amounts) (k : ℕ) : Type 0 where
+pub record FailsRankTestsFirstAt (g : Multigraph) (D : Amounts) (k : ℕ) : Type 0 where
   pub passed : (j : ℕ) → j < k → HasRankAtLeast g D j
   pub fails : ¬ HasRankAtLeast g D k
 
-abbrev pub MayHaveWorkers : ℕ → Type 0
-MayHaveWorkers w = (1 ≤ w) × (w ≤ MAX_WORKERS)
+abbrev pub MayHaveRankWorkers : ℕ → Type 0
+MayHaveRankWorkers w = (1 ≤ w) × (w ≤ MAX_WORKERS)
 
 abbrev pub IsRankFault : ℕ → ℕ → ℕ → RankFault → Type 0
 IsRankFault n k w TooMany = ArePastTrialLimits n k
-IsRankFault n k w Workers = IsWithin n k × (¬ MayHaveWorkers w)
+IsRankFault n k w Workers = IsRankTestWithinLimits n k × (¬ MayHaveRankWorkers w)
 IsRankFault n k w OutOfMemory = ⊥
-IsRankFault n k w Spawn = IsWithin n k × MayHaveWorkers w
+IsRankFault n k w Spawn = IsRankTestWithinLimits n k × MayHaveRankWorkers w

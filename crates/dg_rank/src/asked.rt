@@ -4,10 +4,10 @@ ghost use Rattle.std.specs.Prelude.{◌≡◌, ℕ, ◌<◌, ◌≤◌, ⊤, tru
 ghost use Rattle.dg_theory.specs.Firing.{IsEffective};
 ghost use Rattle.dg_graph.specs.Sets.{in_set};
 ghost use Rattle.dg_chips.specs.Vector.{at};
-ghost use Rattle.dg_rank.specs.Asked.{AreMade, IsMadeFor};
+ghost use Rattle.dg_rank.specs.Asked.{AreSetsForTrials, IsSetForTrials};
 ghost use Rattle.dg_rank.specs.Boxes.{WinFrom, IsLossFrom};
 ghost use Rattle.dg_rank.specs.Losses.{AddUpToFewForTrials};
-ghost use Rattle.dg_rank.specs.Ranks.{IsPastAsked, how_many};
+ghost use Rattle.dg_rank.specs.Ranks.{IsPastAsked, how_many_trial_places};
 
 use crate::boxes::{Stopped, find_in_box};
 use crate::counting::trials;
@@ -33,8 +33,8 @@ pub(crate) fn find_from(
     requires small { AddUpToFewForTrials graph.now.size (at left.now) }
     requires few { dollars ≤ 1000 }
     requires place { place < graph.now.size }
-    requires made { AreMade graph.now made.old }
-    ensures made { AreMade graph.now made.new }
+    requires made { AreSetsForTrials graph.now made.old }
+    ensures made { AreSetsForTrials graph.now made.new }
     ensures told { MatchOption result
         (WinFrom graph.now (at left.now) dollars place)
         (IsLossFrom graph.now (at left.now) dollars place) }
@@ -42,12 +42,12 @@ pub(crate) fn find_from(
     let size = graph.size();
     let mut boxes = FEW_BOXES;
     if made[place] == 0 {
-        let room = room_at(vertices_from(size, place), dollars);
+        let room = box_room_at(trial_places_from(size, place), dollars);
         if let Ok(found) = find_in_box(graph, left, &room, dollars, true, &mut boxes) {
             return found;
         }
     }
-    let room = room_at(asked_from(graph, made, place), dollars);
+    let room = box_room_at(tried_set_from(graph, made, place), dollars);
     match find_in_box(graph, left, &room, dollars, false, &mut boxes) {
         Ok(found) => found,
         Err(Stopped) => unreachable!(),
@@ -55,10 +55,10 @@ pub(crate) fn find_from(
 }
 
 /// Whether the trials of degree k are within the limits, if they are counted on the determining set of all vertices.
-pub(crate) fn may_ask(graph: &Graph, made: &mut [u16; 16], k: u32) -> bool
+pub(crate) fn may_make_trials(graph: &Graph, made: &mut [u16; 16], k: u32) -> bool
     requires some { 0 < graph.now.size }
-    requires made { AreMade graph.now made.old }
-    ensures made { AreMade graph.now made.new }
+    requires made { AreSetsForTrials graph.now made.old }
+    ensures made { AreSetsForTrials graph.now made.new }
     ensures few { MatchBool result (k ≤ 1000) ⊤ }
     ensures asked { MatchBool result (¬ IsPastAsked graph.now k) (IsPastAsked graph.now k) }
 {
@@ -66,32 +66,32 @@ pub(crate) fn may_ask(graph: &Graph, made: &mut [u16; 16], k: u32) -> bool
     if let Some(_count) = trials(size, k) {
         return true;
     }
-    let set = asked_from(graph, made, 0);
-    match trials(count_vertices(size, set), k) {
+    let set = tried_set_from(graph, made, 0);
+    match trials(count_tried_vertices(size, set), k) {
         Some(_count) => true,
         None => false,
     }
 }
 
 /// The determining set for the losses that hold nothing before a place.
-fn asked_from(graph: &Graph, made: &mut [u16; 16], place: usize) -> u16
+fn tried_set_from(graph: &Graph, made: &mut [u16; 16], place: usize) -> u16
     requires place { place < graph.now.size }
-    requires made { AreMade graph.now made.old }
-    ensures made { AreMade graph.now made.new }
-    ensures asked { IsMadeFor graph.now place (in_set result) }
+    requires made { AreSetsForTrials graph.now made.old }
+    ensures made { AreSetsForTrials graph.now made.new }
+    ensures asked { IsSetForTrials graph.now place (in_set result) }
 {
     let size = graph.size();
     let known = made[place];
     if known != 0 {
         return known;
     }
-    let set = determining_set(graph, vertices_from(size, place));
+    let set = determining_set(graph, trial_places_from(size, place));
     made[place] = set;
     set
 }
 
 /// Room for so many dollars at each vertex of a set, and for none elsewhere.
-fn room_at(set: u16, dollars: u32) -> [u32; 16]
+fn box_room_at(set: u16, dollars: u32) -> [u32; 16]
     ensures { (v : ℕ) → v < 16 → slice_index result v ≡ if in_set set v then dollars else 0 }
 {
     let mut room = [0; 16];
@@ -104,7 +104,7 @@ fn room_at(set: u16, dollars: u32) -> [u32; 16]
 }
 
 /// The vertices from a place on.
-fn vertices_from(size: usize, place: usize) -> u16
+fn trial_places_from(size: usize, place: usize) -> u16
     requires few { size ≤ MAX_VERTICES }
     requires place { place ≤ size }
     ensures part { (v : ℕ) → in_set result v ≡ true → (place ≤ v) × (v < size) }
@@ -118,9 +118,9 @@ fn vertices_from(size: usize, place: usize) -> u16
 }
 
 /// How many vertices are in a set.
-fn count_vertices(size: usize, set: u16) -> usize
+fn count_tried_vertices(size: usize, set: u16) -> usize
     requires { size ≤ MAX_VERTICES }
-    ensures { result ≡ how_many size (in_set set) }
+    ensures { result ≡ how_many_trial_places size (in_set set) }
 {
     let mut count = 0;
     for v in 0..size {

@@ -3,18 +3,18 @@ ghost use Rattle.std.specs.Prelude.{◌≡◌, ◌<◌, ◌≤◌};
 ghost use Rattle.dg_theory.specs.Firing.{IsEffective};
 ghost use Rattle.dg_chips.specs.Vector.{at};
 ghost use Rattle.dg_rank.specs.Losses.{AddUpToFewForTrials};
-ghost use Rattle.dg_rank.specs.Asked.{AreMade};
+ghost use Rattle.dg_rank.specs.Asked.{AreSetsForTrials};
 ghost use Rattle.dg_rank.specs.Boxes.{IsLossFrom, IsFirstFrom};
 
 use crate::asked::find_from;
-use crate::boxes::left_after;
+use crate::boxes::left_in_box_after;
 use crate::enumeration::Trial;
 use dg_graph::Graph;
 use dg_reduce::EffectiveDivisor;
 
 /// The first loss of the trials of a degree that hold nothing before a place, if a loss of at most that degree is known
 /// among these: the amounts are fixed from the first on, at each place the least with which there is a loss of the later ones.
-pub(crate) fn first_from(
+pub(crate) fn first_loss_from(
     graph: &Graph,
     made: &mut [u16; 16],
     left: &EffectiveDivisor,
@@ -27,26 +27,26 @@ pub(crate) fn first_from(
     requires small { AddUpToFewForTrials graph.now.size (at left.now) }
     requires few { dollars ≤ 1000 }
     requires place { place < graph.now.size }
-    requires made { AreMade graph.now made.old }
+    requires made { AreSetsForTrials graph.now made.old }
     requires known { IsLossFrom graph.now (at left.now) dollars place known }
-    ensures made { AreMade graph.now made.new }
+    ensures made { AreSetsForTrials graph.now made.new }
     ensures first { IsFirstFrom graph.now (at left.now) dollars place result }
 {
     let size = graph.size();
     if place + 1 == size {
-        return Trial::at_last(size, dollars);
+        return Trial::trial_at_last(size, dollars);
     }
     let held = known.get(place);
     if held == 0 {
-        return first_from(graph, made, left, dollars, place + 1, known);
+        return first_loss_from(graph, made, left, dollars, place + 1, known);
     }
     if let Some(later) = find_from(graph, left, made, dollars, place + 1) {
-        return first_from(graph, made, left, dollars, place + 1, later);
+        return first_loss_from(graph, made, left, dollars, place + 1, later);
     }
-    let Some(other) = left_after(graph, left, place, 1) else {
-        return Trial::at_last(size, dollars - 1).with_more(place, 1);
+    let Some(other) = left_in_box_after(graph, left, place, 1) else {
+        return Trial::trial_at_last(size, dollars - 1).with_more(place, 1);
     };
     let mut fewer = known;
     fewer.set(place, held - 1);
-    first_from(graph, made, &other, dollars - 1, place, fewer).with_more(place, 1)
+    first_loss_from(graph, made, &other, dollars - 1, place, fewer).with_more(place, 1)
 }

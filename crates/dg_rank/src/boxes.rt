@@ -6,7 +6,7 @@ ghost use Rattle.dg_theory.specs.Rank.{less};
 ghost use Rattle.dg_chips.specs.Vector.{at};
 ghost use Rattle.dg_reduce.specs.Effective.{IsEffectiveDivisor};
 ghost use Rattle.dg_rank.specs.Losses.{AddUpToFewForTrials};
-ghost use Rattle.dg_rank.specs.Boxes.{BoxWins, IsBoxLoss, IsLackIn};
+ghost use Rattle.dg_rank.specs.Boxes.{BoxWins, IsBoxLoss, IsLackInBox};
 
 use crate::enumeration::Trial;
 use dg_graph::Graph;
@@ -51,16 +51,16 @@ pub(crate) fn find_in_box(
     *boxes = boxes.saturating_sub(1);
     let mut open = *room;
     let mut best = *left;
-    let mut lack = lack_of(&best, &open, dollars);
+    let mut lack = lack_in_box(&best, &open, dollars);
     'lacking: while let Some(v) = lack.vertex {
-        let held = held_at(&best, v);
+        let held = held_in_box(&best, v);
         let taken = held + 1;
-        let Some(other) = left_after(graph, &best, v, taken) else {
-            return Ok(Some(Trial::at_last(size, 0).with_more(v, taken)));
+        let Some(other) = left_in_box_after(graph, &best, v, taken) else {
+            return Ok(Some(Trial::trial_at_last(size, 0).with_more(v, taken)));
         };
         let mut fuller = other;
         fuller.give(v, taken);
-        let fewer = lack_of(&fuller, &open, dollars);
+        let fewer = lack_in_box(&fuller, &open, dollars);
         if fewer.squares < lack.squares {
             best = fuller;
             lack = fewer;
@@ -72,7 +72,7 @@ pub(crate) fn find_in_box(
                 Ok(None) => open[v] = held,
                 Err(stopped) => return Err(stopped),
             }
-            lack = lack_of(&best, &open, dollars);
+            lack = lack_in_box(&best, &open, dollars);
         }
     }
     Ok(None)
@@ -87,26 +87,27 @@ struct Lack {
 }
 
 /// What is lacking in a box.
-fn lack_of(left: &EffectiveDivisor, room: &[u32; 16], dollars: u32) -> Lack
+fn lack_in_box(left: &EffectiveDivisor, room: &[u32; 16], dollars: u32) -> Lack
     requires size { left.now.size ≤ 16 }
     requires effective { IsEffective left.now.size (at left.now) }
-    ensures { IsLackIn left.now.size (at left.now) room.now dollars result.vertex }
+    ensures { IsLackInBox left.now.size (at left.now) room.now dollars result.vertex }
 {
-    let lacks = left.lacks(room, dollars);
-    let lanes = u32x16::from_array(lacks);
+    let dollars_lacking = left.dollars_lacking(room, dollars);
+    let lanes = u32x16::from_array(dollars_lacking);
     let squares = (lanes * lanes).reduce_sum();
     let most = lanes.simd_eq(u32x16::splat(lanes.reduce_max()));
     let v = most.to_bitmask().trailing_zeros() as usize;
-    let vertex = if v < 16 && lacks[v] > 0 {
+    // No clause of the lanes' greatest says that a vertex has it: so what lacks there is looked at once more.
+    let vertex = if v < 16 && dollars_lacking[v] > 0 {
         Some(v)
     } else {
-        lacks.iter().position(|lack| *lack > 0)
+        dollars_lacking.iter().position(|lack| *lack > 0)
     };
     Lack { vertex, squares }
 }
 
 /// What is left once so many dollars are taken at a vertex and paid back; `None` if that can't be won.
-pub(crate) fn left_after(
+pub(crate) fn left_in_box_after(
     graph: &Graph,
     left: &EffectiveDivisor,
     v: usize,
@@ -131,7 +132,7 @@ pub(crate) fn left_after(
 }
 
 /// The dollars that a vertex has left.
-fn held_at(left: &EffectiveDivisor, v: usize) -> u32
+fn held_in_box(left: &EffectiveDivisor, v: usize) -> u32
     requires vertex { v < left.now.size }
     requires effective { IsEffective left.now.size (at left.now) }
     ensures { pos result ≡ at left.now v }

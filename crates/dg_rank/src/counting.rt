@@ -35,7 +35,7 @@ pub fn trial(n: usize, k: u32, i: u32) -> Divisor
     requires { (c : ℕ) × IsWithinLimits n k c × (i < c) }
     ensures { IsTrialNumber n k i result }
 {
-    Trial::with_number(n, k, i).to_divisor()
+    Trial::trial_with_number(n, k, i).trial_as_divisor()
 }
 
 /// How many trials of degree k there are on n places, or 200,001 if there are more than 200,000. The conditions are

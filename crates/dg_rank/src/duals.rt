@@ -7,12 +7,12 @@ ghost use Rattle.dg_theory.specs.Firing.{degree};
 ghost use Rattle.dg_theory.specs.Rank.{less, canonical, HasRankAtLeast};
 ghost use Rattle.dg_graph.specs.Graph.{IsGraph};
 ghost use Rattle.dg_chips.specs.Vector.{at};
-ghost use Rattle.dg_rank.specs.Asked.{AreMade};
+ghost use Rattle.dg_rank.specs.Asked.{AreSetsForTrials};
 ghost use Rattle.dg_rank.specs.Losses.{AreSmallForTrials};
-ghost use Rattle.dg_rank.specs.Ranks.{TellsRankTest};
+ghost use Rattle.dg_rank.specs.Ranks.{DecidesRankTest};
 ghost use Rattle.dg_rank.specs.declared.rank_fault.RankFault.TheVariants.{TooMany};
 
-use crate::asked::{find_from, may_ask};
+use crate::asked::{find_from, may_make_trials};
 use crate::enumeration::Trial;
 use crate::first_loss::left_before_last;
 use crate::rank_fault::RankFault;
@@ -27,7 +27,7 @@ use dg_reduce::InverseLaplacian;
 pub fn has_rank(graph: &Graph, q: usize, divisor: &Divisor, k: u32) -> Result<bool, RankFault>
     requires size { divisor.now.size ≡ graph.now.size }
     requires vertex { q < graph.now.size }
-    ensures { TellsRankTest graph.now (at divisor.now) k result }
+    ensures { DecidesRankTest graph.now (at divisor.now) k result }
 {
     passes(
         graph,
@@ -48,9 +48,9 @@ pub(crate) fn passes(
 ) -> Result<bool, RankFault>
     requires size { divisor.now.size ≡ graph.now.size }
     requires some { 0 < graph.now.size }
-    requires made { AreMade graph.now made.old }
-    ensures made { AreMade graph.now made.new }
-    ensures tells { TellsRankTest graph.now (at divisor.now) k result }
+    requires made { AreSetsForTrials graph.now made.old }
+    ensures made { AreSetsForTrials graph.now made.new }
+    ensures tells { DecidesRankTest graph.now (at divisor.now) k result }
 {
     let _size = graph.size();
     // The clause of `size` says that the amounts are within their limit.
@@ -63,7 +63,7 @@ pub(crate) fn passes(
         return Ok(false);
     }
     let other = degree_of_dual(graph, divisor, k);
-    if !may_ask(graph, made, k.min(other)) {
+    if !may_make_trials(graph, made, k.min(other)) {
         return Err(RankFault::TooMany);
     }
     if k <= other {
@@ -93,8 +93,8 @@ pub(crate) fn dual_wins(
     requires size { divisor.now.size ≡ graph.now.size }
     requires some { 0 < graph.now.size }
     requires few { k ≤ 1000 }
-    requires made { AreMade graph.now made.old }
-    ensures made { AreMade graph.now made.new }
+    requires made { AreSetsForTrials graph.now made.old }
+    ensures made { AreSetsForTrials graph.now made.new }
     ensures told { MatchBool result (HasRankAtLeast graph.now (at divisor.now) k) ⊤ }
 {
     let _size = graph.size();
@@ -158,13 +158,13 @@ fn all_win(
     requires size { amounts.now.size ≡ graph.now.size }
     requires range { AreSmallForTrials graph.now.size (at amounts.now) }
     requires few { k ≤ 1000 }
-    requires made { AreMade graph.now made.old }
-    ensures made { AreMade graph.now made.new }
+    requires made { AreSetsForTrials graph.now made.old }
+    ensures made { AreSetsForTrials graph.now made.new }
     ensures told { MatchBool result
         (HasRankAtLeast graph.now (at amounts.now) k)
         (¬ HasRankAtLeast graph.now (at amounts.now) k) }
 {
-    let first = Trial::at_last(graph.size(), k);
+    let first = Trial::trial_at_last(graph.size(), k);
     match left_before_last(graph, inverse, amounts, &first) {
         Some(left) => find_from(graph, &left, made, k, 0).is_none(),
         None => false,

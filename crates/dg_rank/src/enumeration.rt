@@ -69,7 +69,7 @@ impl Trial {
     }
 
     /// The trial of degree k on n vertices with this number, counted from 0 in the order of trials.
-    pub fn with_number(n: usize, k: u32, i: u32) -> Trial
+    pub fn trial_with_number(n: usize, k: u32, i: u32) -> Trial
         requires { (c : ℕ) × IsWithinLimits n k c × (i < c) }
         ensures { result ≡ nth_trial n k i }
     {
@@ -80,7 +80,7 @@ impl Trial {
         let mut left = k;
         let mut number = i;
         for v in 0..n - 1 {
-            let (amount, rest) = first_amount(n - 1 - v, left, number);
+            let (amount, rest) = first_amount_of_trial(n - 1 - v, left, number);
             trial.set(v, amount);
             left -= amount;
             number = rest;
@@ -90,7 +90,7 @@ impl Trial {
     }
 
     /// The trial on n places that holds so many dollars at the last, and nothing elsewhere.
-    pub(crate) fn at_last(n: usize, dollars: u32) -> Trial
+    pub(crate) fn trial_at_last(n: usize, dollars: u32) -> Trial
         requires some { 0 < n }
         requires few { n ≤ MAX_VERTICES }
         ensures places { length result ≡ n }
@@ -120,7 +120,7 @@ impl Trial {
     }
 
     /// A trial as a divisor.
-    pub fn to_divisor(&self) -> Divisor
+    pub fn trial_as_divisor(&self) -> Divisor
         requires { sum self.now ≤ 1000 }
         ensures { HoldsTrial (length self.now) self.now result }
     {
@@ -135,7 +135,7 @@ impl Trial {
 
 /// The first amount of the trial with this number on one place more than n, and the number of what it leaves on the
 /// other places.
-fn first_amount(n: usize, k: u32, i: u32) -> (u32, u32)
+fn first_amount_of_trial(n: usize, k: u32, i: u32) -> (u32, u32)
     requires some { 0 < n }
     requires few { n ≤ MAX_VERTICES }
     requires small { k ≤ MAX_DEGREE }

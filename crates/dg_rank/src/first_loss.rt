@@ -3,14 +3,14 @@ ghost use Rattle.std.specs.Prelude.{◌≡◌, ℕ, ◌+◌, ◌-◌, ◌<◌, �
 ghost use Rattle.std.specs.List.{sum};
 ghost use Rattle.dg_graph.specs.Graph.{IsGraph};
 ghost use Rattle.dg_chips.specs.Vector.{at};
-ghost use Rattle.dg_rank.specs.Asked.{AreMade};
+ghost use Rattle.dg_rank.specs.Asked.{AreSetsForTrials};
 ghost use Rattle.dg_rank.specs.Limits.{IsWithinLimits};
 ghost use Rattle.dg_rank.specs.Numbering.{nth_trial, trial_count};
-ghost use Rattle.dg_rank.specs.Losses.{AreSmallForTrials, WinsWithout, AllWin, IsFirstLossIn, IsLeftBeforeLast};
+ghost use Rattle.dg_rank.specs.Losses.{AreSmallForTrials, WinsWithoutTrial, AllWin, IsFirstLossIn, IsTrialLeftBeforeLast};
 ghost use Rattle.dg_rank.specs.declared.counting.TheConstants.{MAX_TRIALS};
 
 use crate::asked::find_from;
-use crate::beginnings::first_from;
+use crate::beginnings::first_loss_from;
 use crate::counting::count;
 use crate::enumeration::Trial;
 use dg_chips::Wide;
@@ -31,8 +31,8 @@ pub fn first_loss(
     requires size { chips.now.size ≡ graph.now.size }
     requires range { AreSmallForTrials graph.now.size (at chips.now) }
     requires limits { (c : ℕ) × IsWithinLimits graph.now.size k c × (to ≤ c) }
-    requires made { AreMade graph.now made.old }
-    ensures made { AreMade graph.now made.new }
+    requires made { AreSetsForTrials graph.now made.old }
+    ensures made { AreSetsForTrials graph.now made.new }
     ensures first { MatchOption result
         (AllWin graph.now (at chips.now) k from to)
         (IsFirstLossIn graph.now (at chips.now) k from to) }
@@ -40,10 +40,10 @@ pub fn first_loss(
     let size = graph.size();
     let mut number = from;
     'parts: while number < to {
-        let trial = Trial::with_number(size, k, number);
-        let place = block_place(&trial, to - number);
+        let trial = Trial::trial_with_number(size, k, number);
+        let place = trial_block_place(&trial, to - number);
         let more = count(size - place, trial.get(size - 1));
-        if let Some(loss) = first_in_block(graph, inverse, made, chips, trial, place) {
+        if let Some(loss) = first_trial_in_block(graph, inverse, made, chips, trial, place) {
             return Some(loss);
         }
         number += more;
@@ -52,7 +52,7 @@ pub fn first_loss(
 }
 
 /// The least place from which on a trial holds nothing before its last place, and at most so many trials begin as it does.
-fn block_place(trial: &Trial, most: u32) -> usize
+fn trial_block_place(trial: &Trial, most: u32) -> usize
     requires some { 0 < length trial.now }
     requires dollars { slice_index trial.now (length trial.now - 1) ≤ 1000 }
     requires most { 1 ≤ most }
@@ -74,7 +74,7 @@ fn block_place(trial: &Trial, most: u32) -> usize
 }
 
 /// The first loss of the trials that hold the same as one before a place, which is the first of these; `None` if all win.
-pub(crate) fn first_in_block(
+pub(crate) fn first_trial_in_block(
     graph: &Graph,
     inverse: &InverseLaplacian,
     made: &mut [u16; 16],
@@ -86,11 +86,11 @@ pub(crate) fn first_in_block(
     requires size { chips.now.size ≡ graph.now.size }
     requires range { AreSmallForTrials graph.now.size (at chips.now) }
     requires place { place < graph.now.size }
-    requires made { AreMade graph.now made.old }
+    requires made { AreSetsForTrials graph.now made.old }
     requires trial { (k : ℕ) × (c : ℕ) × (i : ℕ) × IsWithinLimits graph.now.size k c × (i < c) ×
         (trial ≡ nth_trial graph.now.size k i) }
     requires empty { (u : ℕ) → place ≤ u → u + 1 < graph.now.size → slice_index trial u ≡ 0 }
-    ensures made { AreMade graph.now made.new }
+    ensures made { AreSetsForTrials graph.now made.new }
     ensures first { (k c i : ℕ) → IsWithinLimits graph.now.size k c → i < c →
         trial ≡ nth_trial graph.now.size k i → MatchOption result
         (AllWin graph.now (at chips.now) k i (i + trial_count (graph.now.size - place)
@@ -104,7 +104,7 @@ pub(crate) fn first_in_block(
     };
     match find_from(graph, &left, made, dollars, place) {
         Some(known) => {
-            let later = first_from(graph, made, &left, dollars, place, known);
+            let later = first_loss_from(graph, made, &left, dollars, place, known);
             Some(trial.then(place, &later))
         }
         None => None,
@@ -125,11 +125,11 @@ pub(crate) fn left_before_last(
     requires places { length trial.now ≡ graph.now.size }
     requires few { sum trial.now ≤ 1000 }
     ensures { MatchOption result
-        (¬ WinsWithout graph.now (at chips.now) trial.now)
-        (IsLeftBeforeLast graph.now (at chips.now) trial.now) }
+        (¬ WinsWithoutTrial graph.now (at chips.now) trial.now)
+        (IsTrialLeftBeforeLast graph.now (at chips.now) trial.now) }
 {
     let last = graph.size() - 1;
-    let lost = trial.to_divisor();
+    let lost = trial.trial_as_divisor();
     let reduced = reduce_certified(graph, inverse, 0, &chips.less(&lost))
         .reduced
         .divisor;

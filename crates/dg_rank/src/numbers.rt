@@ -4,7 +4,7 @@ ghost use Rattle.std.specs.Prelude.{◌≡◌, ◌<◌, ◌≤◌, pos, ◌+ℤ�
 ghost use Rattle.dg_theory.specs.Multigraph.{genus};
 ghost use Rattle.dg_theory.specs.Firing.{degree};
 ghost use Rattle.dg_chips.specs.Vector.{at};
-ghost use Rattle.dg_rank.specs.Ranks.{AreBothRanks, IsRankInLimits, AreRanksInLimits, NeedsTooMany, EitherNeedsTooMany, NeedsPastTests, FailsFirstAt};
+ghost use Rattle.dg_rank.specs.Ranks.{AreBothRanks, IsRankInLimits, AreRanksInLimits, NeedsTooMany, EitherNeedsTooMany, NeedsPastTests, FailsRankTestsFirstAt};
 
 use crate::counting::trials;
 use crate::duals::{degree_of_dual, passes, ranks_apart};
@@ -83,7 +83,7 @@ fn first_failing(graph: &Graph, inverse: &InverseLaplacian, divisor: &Divisor) -
     requires some { 0 < graph.now.size }
     ensures { MatchOption result
         (NeedsPastTests graph.now (at divisor.now))
-        (λ k. FailsFirstAt graph.now (at divisor.now) k × (¬ NeedsPastTests graph.now (at divisor.now))) }
+        (λ k. FailsRankTestsFirstAt graph.now (at divisor.now) k × (¬ NeedsPastTests graph.now (at divisor.now))) }
 {
     let _size = graph.size();
     // A divisor passes all tests for which it is rich. It fails the first other one past half its degree, at the genus at last.

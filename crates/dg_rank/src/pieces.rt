@@ -1,8 +1,8 @@
 //! Pieces of the trials of a rank test, each with a thread of its own.
 ghost use Rattle.std.specs.Prelude.{◌≡◌, ℕ, ◌+◌, ◌<◌, ◌≤◌, MatchResult};
-ghost use Rattle.dg_rank.specs.Pieces.{piece_start, CanSearch, Tells};
+ghost use Rattle.dg_rank.specs.Pieces.{piece_start, CanSearch, TellsFirstLossOfTrials};
 ghost use Rattle.dg_rank.specs.declared.pieces.Search.{Search};
-ghost use Rattle.dg_rank.specs.Ranks.{MayHaveWorkers};
+ghost use Rattle.dg_rank.specs.Ranks.{MayHaveRankWorkers};
 ghost use Rattle.dg_rank.specs.declared.rank_fault.RankFault.TheVariants.{Spawn};
 
 use crate::enumeration::Trial;
@@ -39,10 +39,10 @@ pub(crate) fn first_loss_among<R: Threads + Wait, G: Gate>(
     piece: u32,
 ) -> Result<Option<Trial>, RankFault>
     requires search { CanSearch search.now }
-    requires workers { MayHaveWorkers search.now.workers }
+    requires workers { MayHaveRankWorkers search.now.workers }
     requires piece { piece ≤ search.now.workers }
     ensures { MatchResult result
-        (Tells search.now (piece_start search.now piece) search.now.count)
+        (TellsFirstLossOfTrials search.now (piece_start search.now piece) search.now.count)
         (λ e. e ≡ Spawn) }
 {
     if piece == search.workers {
@@ -50,16 +50,16 @@ pub(crate) fn first_loss_among<R: Threads + Wait, G: Gate>(
     }
     let next = piece + 1;
     let mut here = || -> Option<Trial>
-        requires { CanSearch search.now × MayHaveWorkers search.now.workers ×
+        requires { CanSearch search.now × MayHaveRankWorkers search.now.workers ×
             (piece < search.now.workers) }
-        ensures { Tells search.entry.now (piece_start search.entry.now piece)
+        ensures { TellsFirstLossOfTrials search.entry.now (piece_start search.entry.now piece)
             (piece_start search.entry.now (piece + 1)) result }
     { first_loss_of(search, gate, piece) };
     let mut later = || -> Result<Option<Trial>, RankFault>
-        requires { CanSearch search.now × MayHaveWorkers search.now.workers ×
+        requires { CanSearch search.now × MayHaveRankWorkers search.now.workers ×
             (next ≤ search.now.workers) }
         ensures { MatchResult result
-            (Tells search.entry.now (piece_start search.entry.now next) search.entry.now.count)
+            (TellsFirstLossOfTrials search.entry.now (piece_start search.entry.now next) search.entry.now.count)
             (λ e. e ≡ Spawn) }
     { first_loss_among(rt, search, gate, next) };
     let (here, later) = match in_parallel(rt, &mut here, &mut later) {
@@ -67,15 +67,15 @@ pub(crate) fn first_loss_among<R: Threads + Wait, G: Gate>(
         Err(_) => return Err(RankFault::Spawn),
     };
     match later {
-        Ok(later) => Ok(first_of(here, later)),
+        Ok(later) => Ok(first_loss_of_two(here, later)),
         Err(fault) => Err(fault),
     }
 }
 
 /// The first loss of trials, and of others after them.
-fn first_of(here: Option<Trial>, later: Option<Trial>) -> Option<Trial>
-    ensures { (s : Search) (i m j : ℕ) → i ≤ m → m ≤ j → Tells s i m here → Tells s m j later →
-        Tells s i j result }
+fn first_loss_of_two(here: Option<Trial>, later: Option<Trial>) -> Option<Trial>
+    ensures { (s : Search) (i m j : ℕ) → i ≤ m → m ≤ j → TellsFirstLossOfTrials s i m here → TellsFirstLossOfTrials s m j later →
+        TellsFirstLossOfTrials s i j result }
 {
     match here {
         Some(trial) => Some(trial),
@@ -86,9 +86,9 @@ fn first_of(here: Option<Trial>, later: Option<Trial>) -> Option<Trial>
 /// The first loss of a piece, searched once the gate has let it through.
 fn first_loss_of<G: Gate>(search: &Search, gate: &G, piece: u32) -> Option<Trial>
     requires search { CanSearch search.now }
-    requires workers { MayHaveWorkers search.now.workers }
+    requires workers { MayHaveRankWorkers search.now.workers }
     requires piece { piece < search.now.workers }
-    ensures { Tells search.now (piece_start search.now piece) (piece_start search.now (piece + 1)) result }
+    ensures { TellsFirstLossOfTrials search.now (piece_start search.now piece) (piece_start search.now (piece + 1)) result }
 {
     let piece = enter(gate, piece);
     first_loss(
@@ -113,7 +113,7 @@ fn enter<G: Gate>(gate: &G, piece: u32) -> u32
 /// The number of the first trial of a piece, and of the one past all trials for the number past all pieces.
 fn start_of(search: &Search, piece: u32) -> u32
     requires search { CanSearch search.now }
-    requires workers { MayHaveWorkers search.now.workers }
+    requires workers { MayHaveRankWorkers search.now.workers }
     requires piece { piece ≤ search.now.workers }
     ensures { result ≡ piece_start search.now piece }
 {

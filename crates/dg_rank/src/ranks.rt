@@ -6,14 +6,14 @@ ghost use Rattle.dg_theory.specs.Firing.{Amounts, AreEquivalent};
 ghost use Rattle.dg_chips.specs.Vector.{at};
 ghost use Rattle.dg_rank.specs.Limits.{IsWithinLimits};
 ghost use Rattle.dg_rank.specs.Losses.{AllWin, IsFirstLossIn};
-ghost use Rattle.dg_verdict.specs.RankTests.{IsRankTest};
+ghost use Rattle.dg_verdict.specs.RankTests.{IsRightRankVerdict};
 ghost use Rattle.dg_rank.specs.Ladders.{AnswersRankTest};
-ghost use Rattle.dg_rank.specs.Ranks.{IsWithin};
+ghost use Rattle.dg_rank.specs.Ranks.{IsRankTestWithinLimits};
 
 use crate::counting::trials;
 use crate::duals::{degree_left, dual_wins};
 use crate::enumeration::Trial;
-use crate::first_loss::first_in_block;
+use crate::first_loss::first_trial_in_block;
 use crate::rank_fault::RankFault;
 use dg_chips::{Divisor, Wide};
 use dg_graph::Graph;
@@ -74,8 +74,8 @@ pub fn rank_at_least_by(
 /// that has all of them.
 fn tested(graph: &Graph, inverse: &InverseLaplacian, divisor: &Divisor, k: u32) -> RankVerdict
     requires size { divisor.now.size ≡ graph.now.size }
-    requires limits { IsWithin graph.now.size k }
-    ensures { IsRankTest graph.now (at divisor.now) k result }
+    requires limits { IsRankTestWithinLimits graph.now.size k }
+    ensures { IsRightRankVerdict graph.now (at divisor.now) k result }
 {
     let size = graph.size();
     // The clause of `size` says that the amounts are within their limit.
@@ -84,18 +84,18 @@ fn tested(graph: &Graph, inverse: &InverseLaplacian, divisor: &Divisor, k: u32) 
     if dual_wins(graph, inverse, &mut made, divisor, k) {
         return RankVerdict::AtLeast(k);
     }
-    let first = Trial::at_last(size, k);
-    let loss = first_in_block(graph, inverse, &mut made, &Wide::of(divisor), first, 0);
-    verdict_on(k, loss)
+    let first = Trial::trial_at_last(size, k);
+    let loss = first_trial_in_block(graph, inverse, &mut made, &Wide::of(divisor), first, 0);
+    rank_verdict_of(k, loss)
 }
 
 /// The answer of a rank test that the degree alone settles. `None` if trials must be made.
 pub(crate) fn settled(graph: &Graph, divisor: &Divisor, k: u32) -> Option<RankVerdict>
     requires size { divisor.now.size ≡ graph.now.size }
-    requires limits { IsWithin graph.now.size k }
+    requires limits { IsRankTestWithinLimits graph.now.size k }
     ensures { MatchOption result
         ⊤
-        (IsRankTest graph.now (at divisor.now) k) }
+        (IsRightRankVerdict graph.now (at divisor.now) k) }
 {
     let size = graph.size();
     let rest = degree_left(divisor, k);
@@ -103,22 +103,22 @@ pub(crate) fn settled(graph: &Graph, divisor: &Divisor, k: u32) -> Option<RankVe
         return Some(RankVerdict::AtLeast(k));
     }
     if rest < 0 {
-        let first = Trial::at_last(size, k).to_divisor();
+        let first = Trial::trial_at_last(size, k).trial_as_divisor();
         return Some(RankVerdict::Below(k, first));
     }
     None
 }
 
 /// The answer if this is the first loss of all trials, or if none was found.
-pub(crate) fn verdict_on(k: u32, loss: Option<Trial>) -> RankVerdict
+pub(crate) fn rank_verdict_of(k: u32, loss: Option<Trial>) -> RankVerdict
     requires { MatchOption loss ⊤ (λ E. sum E ≤ 1000) }
     ensures { (g : Multigraph) (D x : Amounts) (c : ℕ) → IsWithinLimits g.size k c →
         AreEquivalent g D x →
         MatchOption loss (AllWin g x k 0 c) (IsFirstLossIn g x k 0 c) →
-        IsRankTest g D k result }
+        IsRightRankVerdict g D k result }
 {
     match loss {
-        Some(trial) => RankVerdict::Below(k, trial.to_divisor()),
+        Some(trial) => RankVerdict::Below(k, trial.trial_as_divisor()),
         None => RankVerdict::AtLeast(k),
     }
 }

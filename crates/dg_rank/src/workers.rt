@@ -1,13 +1,13 @@
 //! Rank tests among workers.
 ghost use Rattle.std.specs.Prelude.{◌≡◌, ◌<◌, ◌≤◌, ⊤, MatchOption, MatchResult};
 ghost use Rattle.dg_chips.specs.Vector.{at};
-ghost use Rattle.dg_verdict.specs.RankTests.{IsRankTest};
-ghost use Rattle.dg_rank.specs.Ranks.{IsWithin, IsRankFault, MayHaveWorkers};
+ghost use Rattle.dg_verdict.specs.RankTests.{IsRightRankVerdict};
+ghost use Rattle.dg_rank.specs.Ranks.{IsRankTestWithinLimits, IsRankFault, MayHaveRankWorkers};
 
 use crate::counting::trials;
 use crate::pieces::{Search, first_loss_among};
 use crate::rank_fault::RankFault;
-use crate::ranks::{settled, verdict_on};
+use crate::ranks::{rank_verdict_of, settled};
 use dg_chips::{Divisor, Wide};
 use dg_graph::Graph;
 use dg_verdict::RankVerdict;
@@ -53,8 +53,8 @@ pub fn rank_with<R: Threads + Wait, G: Gate>(
     requires size { divisor.now.size ≡ graph.now.size }
     requires vertex { q < graph.now.size }
     ensures { MatchResult result
-        (λ x. IsWithin graph.now.size k × MayHaveWorkers workers ×
-        IsRankTest graph.now (at divisor.now) k x)
+        (λ x. IsRankTestWithinLimits graph.now.size k × MayHaveRankWorkers workers ×
+        IsRightRankVerdict graph.now (at divisor.now) k x)
         (IsRankFault graph.now.size k workers) }
 {
     let size = graph.size();
@@ -77,7 +77,7 @@ pub fn rank_with<R: Threads + Wait, G: Gate>(
     match first_loss_among(rt, &search, gate, 0) {
         Ok(loss) => match known {
             Some(verdict) => Ok(verdict),
-            None => Ok(verdict_on(k, loss)),
+            None => Ok(rank_verdict_of(k, loss)),
         },
         Err(fault) => Err(fault),
     }

@@ -4,12 +4,12 @@
 --   burning_down-more         it holds after one more such set
 --   burning_down-falls        and the weight falls
 --   burning_down-chips, burning_down-script   amounts and script are within the limits of a firing
-use Rattle.dg_reduce.proofs.Common.{◌≡◌, ℕ, ◌+◌, ◌*◌, ◌^◌, ◌<◌, ◌≤◌, Bool, true, false, arith, sym, ◌∙◌, refl, ints, ℤ, pos, ◌+ℤ◌, ◌-ℤ◌, unsigned_abs, Multigraph, fired, indicator, multiple, IsDistance, within_abs, abs_within, multiple-off, weights, levels_are_potential, weight_of, weight_of-cong, weight_falls_by_firings, IsLed, clear_all, led_start, led_step, led-cong, led_limit, script_between, IsGraph, at, Walk, IsTied, IsFired, IsCleared, IsMost}
+use Rattle.dg_reduce.proofs.Common.{◌≡◌, ℕ, ◌+◌, ◌*◌, ◌^◌, ◌<◌, ◌≤◌, Bool, true, false, arith, sym, ◌∙◌, refl, ints, ℤ, pos, ◌+ℤ◌, ◌-ℤ◌, unsigned_abs, Multigraph, fired, indicator, multiple, IsDistance, within_abs, abs_within, multiple-off, weights, levels_are_potential, weight_of, weight_of-cong, weight_falls_by_firings, IsLed, clear_all, led_start, led_step, led-cong, led_limit, script_between, IsGraph, at, Walk, IsTiedInReduction, IsFiredInReduction, IsCleared, IsMostFirings}
 use Rattle.dg_reduce.specs.States.{level_limit_at}
 use Rattle.dg_reduce.proofs.LevelLimits.{level_limit_at-small}
 
 pub record IsBurningDown (g : Multigraph) (q : ℕ) (x y : Walk) : Type 0 where
-  pub tied : IsTied g y
+  pub tied : IsTiedInReduction g y
   pub begun : y.start ≡ x.start
   pub led : IsLed g q (at x.chips) (at y.chips)
   pub kept : at y.script q ≡ at x.script q
@@ -25,7 +25,8 @@ burning_down-start g q level x distance cleared = record {
 }
 
 pub burning_down-more : (g : Multigraph) (q : ℕ) (S : ℕ → Bool) (m : ℤ) (x y z : Walk) → IsGraph g → q < g.size →
-    IsBurningDown g q x y → S q ≡ false → IsMost g q (at y.chips) S m → IsFired g S m y z → IsBurningDown g q x z
+    IsBurningDown g q x y → S q ≡ false → IsMostFirings g q (at y.chips) S m → IsFiredInReduction g S m y z → IsBurningDown g
+    q x z
 burning_down-more g q S m x y z graph vertex state without most fires = record {
   tied = fires.tied;
   begun = fires.begun ∙ state.begun;
@@ -42,8 +43,8 @@ burning_down-more g q S m x y z graph vertex state without most fires = record {
 
 pub burning_down-falls : (g : Multigraph) (q : ℕ) (level : ℕ → ℕ) (S : ℕ → Bool) (m : ℤ) (x y z : Walk) (v : ℕ) →
     IsGraph g →
-    IsDistance g q level → IsBurningDown g q x y → S q ≡ false → IsMost g q (at y.chips) S m → v < g.size → S v ≡ true →
-    IsFired g S m y z → weight_of g (weights level) (at z.chips) < weight_of g (weights level) (at y.chips)
+    IsDistance g q level → IsBurningDown g q x y → S q ≡ false → IsMostFirings g q (at y.chips) S m → v < g.size → S v ≡ true →
+    IsFiredInReduction g S m y z → weight_of g (weights level) (at z.chips) < weight_of g (weights level) (at y.chips)
 burning_down-falls g q level S m x y z v graph distance state without most inside member fires =
     let less : weight_of g (weights level) (fired g (at y.chips) (multiple m (indicator S)))
     < weight_of g (weights level) (at y.chips) =

@@ -8,13 +8,13 @@ pub use Rattle.dg_graph.proofs.SetLaws.{in_set-none}
 pub use Rattle.dg_graph.proofs.Valences.{valence-few, valence-outside}
 pub use Rattle.dg_graph.specs.Graph.{IsGraph}
 pub use Rattle.dg_graph.specs.Sets.{in_set}
-pub use Rattle.dg_reduce.specs.Burnings.{IsGuessedOff, IsWhole}
+pub use Rattle.dg_reduce.specs.Burnings.{IsGuessedOff, IsWholeBurning}
 pub use Rattle.dg_reduce.specs.Certificates.{IsBurningOrder}
 pub use Rattle.dg_reduce.specs.Effective.{IsEffectiveDivisor}
-pub use Rattle.dg_reduce.specs.Firings.{IsMost, LacksForFirings, LastsAt, SetSendsNothing, largest}
+pub use Rattle.dg_reduce.specs.Firings.{IsMostFirings, LacksForFirings, LastsInReduction, SetSendsNothing, largest}
 pub use Rattle.dg_reduce.specs.Reaching.{HasNearer, IsReached, spread_level}
 pub use Rattle.dg_reduce.specs.Reductions.{IsOnlyReduction, IsReduction}
-pub use Rattle.dg_reduce.specs.States.{IsCleared, IsClearedOff, IsFired, IsLargestDebt, IsTied}
+pub use Rattle.dg_reduce.specs.States.{IsCleared, IsClearedOff, IsFiredInReduction, IsLargestDebt, IsTiedInReduction}
 pub use Rattle.dg_reduce.specs.declared.certificate.Burning.{Burning}
 pub use Rattle.dg_reduce.specs.declared.reduced.Reduced.{Reduced}
 pub use Rattle.dg_reduce.specs.declared.walk.Walk.{Walk}

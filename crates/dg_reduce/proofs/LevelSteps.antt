@@ -7,7 +7,7 @@
 --   debt_small       so as many firings are within their limit
 --   cleared_free     if nobody of the next level is in debt, it is cleared
 --   cleared_paid     and it is cleared once the nearer vertices have lent as often as its largest debt
-use Rattle.dg_reduce.proofs.Common.{if◌then◌else◌, ◌≡◌, ℕ, ◌+◌, ◌-◌, ◌*◌, ◌^◌, ◌<◌, ◌≤◌, Bool, arith, ap, sym, ◌∙◌, inl, inr, ⊎_elim, cases_eq, ints, ℤ, pos, negsuc, ◌+ℤ◌, ◌*ℤ◌, ◌≤ℤ◌, ◌<ℤ◌, unsigned_abs, Multigraph, Amounts, indicator, multiple, IsDistance, within_abs, abs_within, abs-add, fired-cong, multiple-within, nearer, fired_nearer, level_limit, level_paid, clear_step, clear_stays, IsGraph, at, Walk, IsFired, IsCleared, IsLargestDebt}
+use Rattle.dg_reduce.proofs.Common.{if◌then◌else◌, ◌≡◌, ℕ, ◌+◌, ◌-◌, ◌*◌, ◌^◌, ◌<◌, ◌≤◌, Bool, arith, ap, sym, ◌∙◌, inl, inr, ⊎_elim, cases_eq, ints, ℤ, pos, negsuc, ◌+ℤ◌, ◌*ℤ◌, ◌≤ℤ◌, ◌<ℤ◌, unsigned_abs, Multigraph, Amounts, indicator, multiple, IsDistance, within_abs, abs_within, abs-add, fired-cong, multiple-within, nearer, fired_nearer, level_limit, level_paid, clear_step, clear_stays, IsGraph, at, Walk, IsFiredInReduction, IsCleared, IsLargestDebt}
 use Rattle.dg_reduce.specs.States.{level_limit_at}
 use Rattle.dg_reduce.proofs.LevelLimits.{level_limit_at-next, level_limit_at-small}
 
@@ -83,7 +83,7 @@ cleared_free g level j x some few cleared debt =
           let small : unsigned_abs (at x.script v) ≤ level_limit_at ((j + 1) - 1) = cleared.script v inside in omega arith;
     }
 
-nearer_fired : (g : Multigraph) (level : ℕ → ℕ) (j k : ℕ) (S : ℕ → Bool) (x y : Walk) → IsFired g S (pos k) x y →
+nearer_fired : (g : Multigraph) (level : ℕ → ℕ) (j k : ℕ) (S : ℕ → Bool) (x y : Walk) → IsFiredInReduction g S (pos k) x y →
     ((w : ℕ) → w < g.size → S w ≡ nearer level j w) →
     (v : ℕ) → v < g.size → at y.chips v ≡ fired_nearer g level j k (at x.chips) v
 nearer_fired g level j k S x y fires same v inside =
@@ -94,7 +94,7 @@ nearer_fired g level j k S x y fires same v inside =
 
 pub cleared_paid : (g : Multigraph) (q : ℕ) (level : ℕ → ℕ) (j : ℕ) (S : ℕ → Bool) (m : ℤ) (x y : Walk) → IsGraph g →
     IsDistance g q level → 0 < j → j ≤ 15 → IsCleared g level (j + 1) x → IsLargestDebt g.size level j (at x.chips) m →
-    IsFired g S m x y → ((w : ℕ) → w < g.size → S w ≡ nearer level j w) → IsCleared g level j y
+    IsFiredInReduction g S m x y → ((w : ℕ) → w < g.size → S w ≡ nearer level j w) → IsCleared g level j y
 cleared_paid g q level j S (negsuc k) x y graph distance some few cleared debt fires same =
     absurd (omega (arith, ints, debt.some))
 cleared_paid g q level j S (pos k) x y graph distance some few cleared debt fires same =

@@ -7,7 +7,7 @@
 --   some_leaves     a set without q that has a member has an edge that leaves it
 --   least_is_most   over all vertices, the least is how often the set can fire
 --   most_within     and it is at most what a vertex holds
-use Rattle.dg_reduce.proofs.Common.{if◌then◌else◌, ◌≡◌, ◌≢◌, ℕ, ◌+◌, ◌<◌, ◌≤◌, Bool, true, false, arith, ap, sym, ◌∙◌, ◌⊎◌, inl, inr, ⊎_elim, cases_eq, cases_Bool, ints, ℤ, pos, ◌+ℤ◌, ◌*ℤ◌, *ℤ_comm, ◌≤ℤ◌, ◌<ℤ◌, unsigned_abs, Multigraph, IsMultigraph, edges_between, Amounts, gain, fired, indicator, multiple, edges_out, edges_into, FiresFreely, within_abs, abs_within, mulz-add, one-mul, mul-mono, mul-grows, total_below-term, gain-outside, fired-inside, gain-all_inside, gain-all_outside, Leaves, JoinedIn-leaves, IsMost, LastsAt, LacksForFirings, SetSendsNothing, largest}
+use Rattle.dg_reduce.proofs.Common.{if◌then◌else◌, ◌≡◌, ◌≢◌, ℕ, ◌+◌, ◌<◌, ◌≤◌, Bool, true, false, arith, ap, sym, ◌∙◌, ◌⊎◌, inl, inr, ⊎_elim, cases_eq, cases_Bool, ints, ℤ, pos, ◌+ℤ◌, ◌*ℤ◌, *ℤ_comm, ◌≤ℤ◌, ◌<ℤ◌, unsigned_abs, Multigraph, IsMultigraph, edges_between, Amounts, gain, fired, indicator, multiple, edges_out, edges_into, FiresFreely, within_abs, abs_within, mulz-add, one-mul, mul-mono, mul-grows, total_below-term, gain-outside, fired-inside, gain-all_inside, gain-all_outside, Leaves, JoinedIn-leaves, IsMostFirings, LastsInReduction, LacksForFirings, SetSendsNothing, largest}
 
 pub off_q : (S : ℕ → Bool) (q v : ℕ) → S q ≡ false → S v ≡ true → v ≢ q
 off_q S q v without member same = let clash : true ≡ false = sym member ∙ ap S same ∙ without in absurd (cc)
@@ -25,7 +25,7 @@ pub record IsLeast (g : Multigraph) (D : Amounts) (S : ℕ → Bool) (n : ℕ) (
       ((m ≡ largest) × ((u : ℕ) → u < n → SetSendsNothing g S u))
 
 pub least_lower : (g : Multigraph) (D : Amounts) (S : ℕ → Bool) (n : ℕ) (m t : ℤ) → n < g.size → IsLeast g D S n m →
-    LastsAt g D S n t → t <ℤ m → IsLeast g D S (n + 1) t
+    LastsInReduction g D S n t → t <ℤ m → IsLeast g D S (n + 1) t
 least_lower g D S n m t inside before at less = record {
   some = at.some;
   few = at.few;
@@ -38,14 +38,14 @@ least_lower g D S n m t inside before at less = record {
       omega (arith, ints))
       (cases_eq u n);
   last = ⊎_elim
-      (λ (lacks : LacksForFirings g D S n (t +ℤ pos 1)). inl (n, inside, lacks))
+      (λ (dollars_lacking : LacksForFirings g D S n (t +ℤ pos 1)). inl (n, inside, dollars_lacking))
       (λ (top : (t ≡ largest) × SetSendsNothing g S n).
       let is : t ≡ largest = top.0 in let most : m ≤ℤ largest = before.few in absurd (omega (arith, ints)))
       at.last;
 }
 
 pub least_kept : (g : Multigraph) (D : Amounts) (S : ℕ → Bool) (n : ℕ) (m t : ℤ) → n < g.size → IsLeast g D S n m →
-    LastsAt g D S n t → m ≤ℤ t → IsLeast g D S (n + 1) m
+    LastsInReduction g D S n t → m ≤ℤ t → IsLeast g D S (n + 1) m
 least_kept g D S n m t inside before at more = record {
   some = before.some;
   few = before.few;
@@ -62,7 +62,7 @@ least_kept g D S n m t inside before at more = record {
       (λ (top : (m ≡ largest) × ((u : ℕ) → u < n → SetSendsNothing g S u)).
       let is : m ≡ largest = top.0 in let most : t ≤ℤ largest = at.few in let same : t ≡ m = omega (arith, ints) in
       ⊎_elim
-      (λ (lacks : LacksForFirings g D S n (t +ℤ pos 1)). inl (n, inside, rw same at lacks))
+      (λ (dollars_lacking : LacksForFirings g D S n (t +ℤ pos 1)). inl (n, inside, rw same at dollars_lacking))
       (λ (also : (t ≡ largest) × SetSendsNothing g S n). inr (
         is,
         λ u below. ⊎_elim
@@ -87,7 +87,7 @@ some_leaves g q S v graph vertex without inside member =
     (out.a, out.from, out.within, omega arith)
 
 pub least_is_most : (g : Multigraph) (q : ℕ) (D : Amounts) (S : ℕ → Bool) (m : ℤ) → IsMultigraph g → q < g.size →
-    FiresFreely g q D S → (v : ℕ) × (v < g.size) × (S v ≡ true) → IsLeast g D S g.size m → IsMost g q D S m
+    FiresFreely g q D S → (v : ℕ) × (v < g.size) × (S v ≡ true) → IsLeast g D S g.size m → IsMostFirings g q D S m
 least_is_most g q D S m graph vertex free (v, inside, member) least = record {
   some = least.some;
   no_debt = λ u below other. ⊎_elim
@@ -120,7 +120,7 @@ least_is_most g q D S m graph vertex free (v, inside, member) least = record {
 }
 
 pub most_within : (g : Multigraph) (q : ℕ) (D : Amounts) (S : ℕ → Bool) (m : ℤ) (M : ℕ) → S q ≡ false →
-    IsMost g q D S m →
+    IsMostFirings g q D S m →
     ((v : ℕ) → v < g.size → unsigned_abs (D v) ≤ M) → unsigned_abs m ≤ M
 most_within g q D S m M without most small =
     let (u, below, on, less) = most.last in

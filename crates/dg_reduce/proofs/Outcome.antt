@@ -27,10 +27,10 @@ script_near g q D R s M graph vertex range reduced leads v inside =
 
 pub relative_leads : (g : Multigraph) (q : ℕ) (D R s t : Amounts) → ((v : ℕ) → v < g.size → R v ≡ fired g D s v) →
     ((v : ℕ) → v < g.size → t v ≡ s v -ℤ s q) → (v : ℕ) → v < g.size → R v ≡ fired g D t v
-relative_leads g q D R s t leads relative v inside =
+relative_leads g q D R s t leads script_relative_to v inside =
     leads v inside
     ∙ fired-shifted g D s t (s q)
-    (λ w below. let at : t w ≡ s w -ℤ s q = relative w below in omega (arith, ints)) v inside
+    (λ w below. let at : t w ≡ s w -ℤ s q = script_relative_to w below in omega (arith, ints)) v inside
 
 pub reduced_only : (g : Multigraph) (q : ℕ) (D R s : Amounts) → IsGraph g → q < g.size → IsReduced g q R →
     ((v : ℕ) → v < g.size → R v ≡ fired g D s v) → s q ≡ pos 0 → IsOnlyReduction g q D R s

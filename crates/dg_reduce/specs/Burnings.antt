@@ -1,5 +1,5 @@
 -- A burning that is kept for amounts which may be those that burnt.
---   IsWhole g q x     == all vertices burn from q, in the order of x, if they hold what x tells
+--   IsWholeBurning g q x == all vertices burn from q, in the order of x, if they hold what x tells
 --   IsGuessedOff n q D l == each of n vertices but q has as many dollars in D as l tells
 use Rattle.std.specs.Prelude.{◌≡◌, ◌≢◌, ℕ, ◌<◌, List}
 use Rattle.dg_burn.specs.Fires.{dollars}
@@ -9,7 +9,7 @@ use Rattle.dg_theory.specs.Reduced.{IsReduced}
 use Rattle.dg_reduce.specs.declared.certificate.Burning.{Burning}
 use Rattle.dg_reduce.specs.Certificates.{IsBurningOrder}
 
-pub record IsWhole (g : Multigraph) (q : ℕ) (x : Burning) : Type 0 where
+pub record IsWholeBurning (g : Multigraph) (q : ℕ) (x : Burning) : Type 0 where
   pub reduced : IsReduced g q (dollars x.held)
   pub order : IsBurningOrder g q (dollars x.held) x.order
 

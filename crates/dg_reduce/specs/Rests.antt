@@ -1,8 +1,8 @@
 -- What burning leaves, with what it gains as it fires.
---   IsRest g q D x == the set of the rest x has a member and fires freely, and x has what each vertex
---                     gains as it fires once
---   IsFloorOff q f == f is 0 at each vertex but q
---   StaysAbove n f D x == each of n vertices has at least its number in f after such a fire
+--   IsRestInReduction g q D x == the set of the rest x has a member and fires freely, and x has what each
+--                                vertex gains as it fires once
+--   IsFloorOff q f            == f is 0 at each vertex but q
+--   StaysAbove n f D x        == each of n vertices has at least its number in f after such a fire
 use Rattle.std.specs.Prelude.{◌≡◌, ◌≢◌, ℕ, ◌<◌, ◌≤◌, true, List, ℤ, pos, ◌+ℤ◌, ◌≤ℤ◌}
 use Rattle.std.specs.Int.RustNames.{unsigned_abs}
 use Rattle.std.specs.List.{slice_index_or}
@@ -13,7 +13,7 @@ use Rattle.dg_theory.specs.Burning.{FiresFreely}
 use Rattle.dg_theory.specs.Firing.{Amounts, gain, indicator}
 use Rattle.dg_theory.specs.Multigraph.{Multigraph}
 
-pub record IsRest (g : Multigraph) (q : ℕ) (D : Amounts) (x : Rest) : Type 0 where
+pub record IsRestInReduction (g : Multigraph) (q : ℕ) (D : Amounts) (x : Rest) : Type 0 where
   pub free : FiresFreely g q D (in_set x.set)
   pub member : (v : ℕ) × (in_set x.set v ≡ true)
   pub gains : (v : ℕ) → v < MAX_VERTICES → slice_index_or x.gains v (pos 0) ≡ gain g (indicator (in_set x.set)) v

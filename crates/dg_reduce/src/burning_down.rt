@@ -6,7 +6,7 @@ ghost use Rattle.dg_theory.specs.Reduced.{IsReduced};
 ghost use Rattle.dg_graph.specs.Graph.{IsGraph};
 ghost use Rattle.dg_chips.specs.Vector.{at};
 ghost use Rattle.dg_reduce.specs.declared.limits.TheConstants.{MAX_START};
-ghost use Rattle.dg_reduce.specs.States.{IsTied, IsClearedOff};
+ghost use Rattle.dg_reduce.specs.States.{IsTiedInReduction, IsClearedOff};
 
 use crate::next_firing::next_firing;
 use crate::walk::Walk;
@@ -19,7 +19,7 @@ pub fn burn_down(graph: &Graph, q: usize, walk: &Walk) -> Walk
     requires range { (v : ℕ) → v < graph.now.size → unsigned_abs (at walk.now.start v) ≤ MAX_START }
     requires cleared { IsClearedOff graph.now q walk.now }
     ensures reduced { IsReduced graph.now q (at result.chips) }
-    ensures tied { IsTied graph.now result }
+    ensures tied { IsTiedInReduction graph.now result }
     ensures start { result.start ≡ walk.now.start }
 {
     let mut now = *walk;

@@ -70,6 +70,6 @@ pub fn reduce_by_levels(graph: &Graph, q: usize, chips: &Wide) -> Reduced
     let walk = burn_down(graph, q, &cleared);
     Reduced {
         divisor: walk.chips,
-        script: Script::relative(&walk.script, q),
+        script: Script::script_relative_to(&walk.script, q),
     }
 }

@@ -6,7 +6,7 @@ ghost use Rattle.dg_theory.specs.Firing.{HasNoDebtOff};
 ghost use Rattle.dg_theory.specs.Reduced.{IsReduced};
 ghost use Rattle.dg_chips.specs.Vector.{at};
 ghost use Rattle.dg_reduce.specs.Certificates.{IsBurningOrder};
-ghost use Rattle.dg_reduce.specs.Burnings.{IsWhole, IsGuessedOff};
+ghost use Rattle.dg_reduce.specs.Burnings.{IsWholeBurning, IsGuessedOff};
 
 use dg_burn::burn;
 use dg_chips::Wide;
@@ -25,7 +25,7 @@ pub struct Burning {
 pub fn order_by(graph: &Graph, q: usize, chips: &Wide, known: &Option<Burning>) -> Option<[u8; 16]>
     requires size { chips.now.size ≡ graph.now.size }
     requires vertex { q < graph.now.size }
-    requires known { IfSome known.now (λ x. IsWhole graph.now q x) }
+    requires known { IfSome known.now (λ x. IsWholeBurning graph.now q x) }
     ensures { MatchOption result
         (¬ IsReduced graph.now q (at chips.now))
         (λ order. IsReduced graph.now q (at chips.now) ×

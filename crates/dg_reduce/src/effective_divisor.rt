@@ -12,7 +12,7 @@ ghost use Rattle.dg_graph.specs.Sets.{in_set};
 ghost use Rattle.dg_chips.specs.Vector.{at};
 ghost use Rattle.dg_burn.specs.Fires.{IsHeldForBurning};
 ghost use Rattle.dg_reduce.specs.Effective.{IsEffectiveDivisor};
-ghost use Rattle.dg_reduce.specs.Rests.{IsRest, IsFloorOff, StaysAbove};
+ghost use Rattle.dg_reduce.specs.Rests.{IsRestInReduction, IsFloorOff, StaysAbove};
 
 use dg_burn::{BurnCounts, burn_counted};
 use dg_chips::Wide;
@@ -74,20 +74,20 @@ impl EffectiveDivisor {
     }
 
     /// How many dollars each vertex has less than the number there, or than `most` if that is less; 0 past the last vertex.
-    pub fn lacks(&self, numbers: &[u32; 16], most: u32) -> [u32; 16]
+    pub fn dollars_lacking(&self, numbers: &[u32; 16], most: u32) -> [u32; 16]
         requires { IsEffective self.now.size (at self.now) }
-        ensures lacks { (v : ℕ) → v < self.now.size → slice_index result v
+        ensures dollars_lacking { (v : ℕ) → v < self.now.size → slice_index result v
             ≡ min (slice_index numbers.now v) most - unsigned_abs (at self.now v) }
         ensures past { (v : ℕ) → self.now.size ≤ v → slice_index result v ≡ 0 }
     {
         let amounts = &self.amounts;
-        let mut lacks = [0; 16];
+        let mut dollars_lacking = [0; 16];
         for v in 0..self.size {
-            lacks[v] = numbers[v]
+            dollars_lacking[v] = numbers[v]
                 .min(most)
                 .saturating_sub(amounts[v].unsigned_abs());
         }
-        lacks
+        dollars_lacking
     }
 
     /// Gives dollars to a vertex.
@@ -190,7 +190,7 @@ impl EffectiveDivisor {
         requires no_debt { HasNoDebtOff graph.now v (at self.now) }
         ensures { MatchOption result
             (IsReduced graph.now v (at self.now))
-            (IsRest graph.now v (at self.now)) }
+            (IsRestInReduction graph.now v (at self.now)) }
     {
         let _size = graph.size();
         let counted = burn_counted(graph, v, &self.held());

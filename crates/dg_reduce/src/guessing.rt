@@ -9,7 +9,7 @@ ghost use Rattle.std.specs.Int.RustNames.{unsigned_abs};
 ghost use Rattle.dg_chips.specs.Vector.{at};
 ghost use Rattle.dg_chips.specs.declared.limits.TheConstants.{MAX_ENTRY};
 ghost use Rattle.dg_reduce.specs.declared.limits.TheConstants.{MAX_START};
-ghost use Rattle.dg_reduce.specs.Burnings.{IsWhole};
+ghost use Rattle.dg_reduce.specs.Burnings.{IsWholeBurning};
 
 use crate::certificate::Burning;
 use crate::effective_divisor::seen_by_burning;
@@ -61,10 +61,10 @@ pub fn guess(graph: &Graph, inverse: &InverseLaplacian, q: usize, chips: &Wide) 
     requires range { (v : ℕ) → v < graph.now.size → unsigned_abs (at chips.now v) ≤ MAX_START }
     ensures size { result.script.size ≡ graph.now.size }
     ensures at_q { at result.script q ≡ pos 0 }
-    ensures burning { IfSome result.burning (λ x. IsWhole graph.now q x) }
+    ensures burning { IfSome result.burning (λ x. IsWholeBurning graph.now q x) }
 {
     let _size = graph.size();
-    let amounts = amounts_off(q, chips);
+    let amounts = guess_amounts_off(q, chips);
     guess_near(
         graph,
         &inverse.lending,
@@ -81,10 +81,10 @@ pub fn guess_once(graph: &Graph, q: usize, chips: &Wide) -> Guessed
     requires range { (v : ℕ) → v < graph.now.size → unsigned_abs (at chips.now v) ≤ MAX_START }
     ensures size { result.script.size ≡ graph.now.size }
     ensures at_q { at result.script q ≡ pos 0 }
-    ensures burning { IfSome result.burning (λ x. IsWhole graph.now q x) }
+    ensures burning { IfSome result.burning (λ x. IsWholeBurning graph.now q x) }
 {
     let _size = graph.size();
-    let amounts = amounts_off(q, chips);
+    let amounts = guess_amounts_off(q, chips);
     let lending = Lending::new(graph, q);
     let lendings = lendings_once(graph, q, &amounts);
     guess_near(graph, &lending, q, &amounts, &lendings)
@@ -101,11 +101,11 @@ fn guess_near(
     requires { q < graph.now.size }
     ensures size { result.script.size ≡ graph.now.size }
     ensures at_q { at result.script q ≡ pos 0 }
-    ensures burning { IfSome result.burning (λ x. IsWhole graph.now q x) }
+    ensures burning { IfSome result.burning (λ x. IsWholeBurning graph.now q x) }
 {
     let _size = graph.size();
     let script = rounded(lendings);
-    let chips = after_lendings(graph.size(), lending, amounts, &script);
+    let chips = guess_after_lendings(graph.size(), lending, amounts, &script);
     let mut near = GuessState { chips, script };
     pay(lending, &mut near);
     let burning = burn_down(graph, lending, q, &mut near);
@@ -116,7 +116,7 @@ fn guess_near(
 }
 
 /// The amounts, but 0 at q.
-fn amounts_off(q: usize, chips: &Wide) -> [i32; 16]
+fn guess_amounts_off(q: usize, chips: &Wide) -> [i32; 16]
     requires vertex { q < chips.now.size }
     requires range { (v : ℕ) → v < chips.now.size → unsigned_abs (at chips.now v) ≤ MAX_START }
 {
@@ -129,7 +129,12 @@ fn amounts_off(q: usize, chips: &Wide) -> [i32; 16]
 }
 
 /// The amounts after all have lent so often.
-fn after_lendings(size: usize, lending: &Lending, amounts: &[i32; 16], script: &[i32; 16]) -> i32x16
+fn guess_after_lendings(
+    size: usize,
+    lending: &Lending,
+    amounts: &[i32; 16],
+    script: &[i32; 16],
+) -> i32x16
     requires { size ≤ MAX_VERTICES }
 {
     let mut chips = i32x16::from_array(*amounts);
@@ -186,7 +191,7 @@ fn times_to_pay(chips: i32, valence: i32) -> i32 {
 /// Lets those who do not burn lend together, again and again, until all burn: that burning is the result.
 fn burn_down(graph: &Graph, lending: &Lending, q: usize, near: &mut GuessState) -> Option<Burning>
     requires { q < graph.now.size }
-    ensures { IfSome result (λ x. IsWhole graph.now q x) }
+    ensures { IfSome result (λ x. IsWholeBurning graph.now q x) }
 {
     for round in 0..BURNING_ROUNDS {
         let chips = near.chips.to_array();
@@ -241,13 +246,13 @@ fn script_of(graph: &Graph, q: usize, lendings: &[i32; 16]) -> Script
     ensures at_q { at result q ≡ pos 0 }
 {
     let size = graph.size();
-    let mut entries = cut_off(lendings);
+    let mut entries = guess_cut_off(lendings);
     entries[q] = 0;
-    Script::of_first(size, &entries)
+    Script::script_of_first(size, &entries)
 }
 
 /// The lendings, cut off at the most that are guessed.
-fn cut_off(lendings: &[i32; 16]) -> [i32; 16]
+fn guess_cut_off(lendings: &[i32; 16]) -> [i32; 16]
     ensures places { length result ≡ 16 }
     ensures few { (v : ℕ) → unsigned_abs (slice_index_or result v (pos 0)) ≤ MAX_ENTRY }
 {

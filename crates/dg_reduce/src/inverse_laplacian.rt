@@ -64,7 +64,7 @@ impl InverseLaplacian {
 
     /// Whether this may serve a graph and a vertex q: the vertex is the one that it was made for, and so many edges meet at
     /// each vertex. A graph to which edges were added since has more.
-    pub fn may_serve(&self, graph: &Graph, q: usize) -> bool {
+    pub fn may_invert(&self, graph: &Graph, q: usize) -> bool {
         let valences = u8x16::from_array(*graph.valences());
         self.q == q && self.valences.simd_eq(valences).all()
     }
@@ -183,7 +183,7 @@ fn take_pivot(size: usize, rows: &mut [[f64; 16]; 16], pivot: usize)
 /// of the inverse.
 pub(crate) fn lendings_once(graph: &Graph, q: usize, chips: &[i32; 16]) -> [f64; 16] {
     let mut rows = equations(graph, q);
-    let mut wanted = wanted_of(graph, q, chips);
+    let mut wanted = wanted_by_guess(graph, q, chips);
     let size = graph.size();
     for pivot in 0..size {
         clear_below(size, &mut rows, &mut wanted, pivot);
@@ -192,11 +192,11 @@ pub(crate) fn lendings_once(graph: &Graph, q: usize, chips: &[i32; 16]) -> [f64;
 }
 
 /// What the equations come to: what each vertex holds, less what it is to keep.
-fn wanted_of(graph: &Graph, q: usize, chips: &[i32; 16]) -> [f64; 16] {
+fn wanted_by_guess(graph: &Graph, q: usize, chips: &[i32; 16]) -> [f64; 16] {
     let mut wanted = [0.0; 16];
     for v in 0..graph.size() {
         if v != q {
-            wanted[v] = f64::from(chips[v]) - kept_by(graph, v);
+            wanted[v] = f64::from(chips[v]) - kept_by_guess(graph, v);
         }
     }
     wanted
@@ -246,7 +246,7 @@ fn product(row: &[f64; 16], other: &[f64; 16]) -> f64 {
 fn shift_of(graph: &Graph, q: usize, inverse: &[[f64; 16]; 16]) -> [f64; 16] {
     let mut shift = [ROUND_HALVES_UP; 16];
     for v in 0..graph.size() {
-        let kept = kept_by(graph, v);
+        let kept = kept_by_guess(graph, v);
         if v != q && kept != 0.0 {
             shift = plus_times(&shift, &inverse[v], -kept);
         }
@@ -255,7 +255,7 @@ fn shift_of(graph: &Graph, q: usize, inverse: &[[f64; 16]; 16]) -> [f64; 16] {
 }
 
 /// What a vertex is to keep.
-fn kept_by(graph: &Graph, v: usize) -> f64
+fn kept_by_guess(graph: &Graph, v: usize) -> f64
     requires { v < graph.now.size }
 {
     let valence = f64::from(graph.valence(v));

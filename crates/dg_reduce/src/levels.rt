@@ -36,14 +36,14 @@ fn with_next_level(graph: &Graph, levels: &[usize; 16], level: usize) -> [usize;
     let mut reached = *levels;
     for v in 0..graph.size() {
         if reached[v] == level {
-            reached = with_neighbours(graph, v, &reached, level + 1);
+            reached = with_neighbour_levels(graph, v, &reached, level + 1);
         }
     }
     reached
 }
 
 /// The levels after the neighbours of a vertex that were not reached get a level.
-fn with_neighbours(graph: &Graph, v: usize, levels: &[usize; 16], level: usize) -> [usize; 16]
+fn with_neighbour_levels(graph: &Graph, v: usize, levels: &[usize; 16], level: usize) -> [usize; 16]
     requires { v < graph.now.size }
     ensures { (w : ℕ) → w < graph.now.size →
         slice_index result w ≡ spread_level graph.now v level (slice_index levels.now) w }

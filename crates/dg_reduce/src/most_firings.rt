@@ -5,7 +5,7 @@ ghost use Rattle.dg_theory.specs.Reduced.{edges_out};
 ghost use Rattle.dg_theory.specs.Burning.{FiresFreely};
 ghost use Rattle.dg_graph.specs.Sets.{in_set};
 ghost use Rattle.dg_chips.specs.Vector.{at};
-ghost use Rattle.dg_reduce.specs.Firings.{IsMost, LastsAt};
+ghost use Rattle.dg_reduce.specs.Firings.{IsMostFirings, LastsInReduction};
 
 use dg_chips::Wide;
 use dg_graph::{Graph, contains};
@@ -18,7 +18,7 @@ pub fn most_firings(graph: &Graph, chips: &Wide, set: u16) -> i128
         × FiresFreely graph.now q (at chips.now) (in_set set) }
     requires member { (v : ℕ) × (in_set set v ≡ true) }
     ensures { (q : ℕ) → q < graph.now.size → FiresFreely graph.now q (at chips.now) (in_set set) →
-        IsMost graph.now q (at chips.now) (in_set set) result }
+        IsMostFirings graph.now q (at chips.now) (in_set set) result }
 {
     let mut most = i128::MAX;
     for v in 0..graph.size() {
@@ -36,7 +36,7 @@ fn firings_at(graph: &Graph, chips: &Wide, set: u16, v: usize) -> i128
     requires vertex { v < graph.now.size }
     requires once { in_set set v ≡ true →
         pos (edges_out graph.now (in_set set) v) ≤ℤ at chips.now v }
-    ensures { LastsAt graph.now (at chips.now) (in_set set) v result }
+    ensures { LastsInReduction graph.now (at chips.now) (in_set set) v result }
 {
     let _size = graph.size();
     if !contains(set, v) {

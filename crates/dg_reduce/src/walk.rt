@@ -4,7 +4,7 @@ ghost use Rattle.std.specs.Prelude.{◌≡◌, ℕ, ◌<◌, ◌≤◌, ◌^◌,
 ghost use Rattle.std.specs.Int.RustNames.{unsigned_abs};
 ghost use Rattle.dg_graph.specs.Sets.{in_set};
 ghost use Rattle.dg_chips.specs.Vector.{at};
-ghost use Rattle.dg_reduce.specs.States.{IsTied, IsFired};
+ghost use Rattle.dg_reduce.specs.States.{IsTiedInReduction, IsFiredInReduction};
 
 use dg_chips::Wide;
 use dg_graph::Graph;
@@ -24,7 +24,7 @@ impl Walk {
     /// The walk at its start: nobody has lent.
     pub fn new(graph: &Graph, chips: &Wide) -> Walk
         requires { chips.now.size ≡ graph.now.size }
-        ensures tied { IsTied graph.now result }
+        ensures tied { IsTiedInReduction graph.now result }
         ensures start { result.start ≡ chips.now }
         ensures chips { result.chips ≡ chips.now }
         ensures script { (v : ℕ) → at result.script v ≡ pos 0 }
@@ -38,13 +38,13 @@ impl Walk {
 
     /// The walk after each vertex of a set has lent `times` times more.
     pub fn fired(&self, graph: &Graph, set: u16, times: i128) -> Walk
-        requires tied { IsTied graph.now self.now }
+        requires tied { IsTiedInReduction graph.now self.now }
         requires chips { (v : ℕ) → v < graph.now.size →
             unsigned_abs (at self.now.chips v) ≤ 2 ^ 120 }
         requires script { (v : ℕ) → v < graph.now.size →
             unsigned_abs (at self.now.script v) ≤ 2 ^ 126 }
         requires times { unsigned_abs times ≤ 2 ^ 120 }
-        ensures { IsFired graph.now (in_set set) times self.now result }
+        ensures { IsFiredInReduction graph.now (in_set set) times self.now result }
     {
         Walk {
             start: self.start,

@@ -1,22 +1,22 @@
 -- The names that the proofs of this crate cite, passed on from one place. Declares nothing.
 pub use Rattle.dg_chips.proofs.Applying.{moved_once}
 pub use Rattle.dg_chips.specs.Applied.{IsAfterMove}
-pub use Rattle.dg_chips.specs.Moves.{HasOtherSize, IsEmptySet, IsPlayable, NamesNoVertex, script_of}
+pub use Rattle.dg_chips.specs.Moves.{HasOtherSize, IsMoveOfEmptySet, IsApplicableMove, IsMoveOfNoVertex, script_of}
 pub use Rattle.dg_chips.specs.Starts.{StartData}
 pub use Rattle.dg_chips.proofs.VectorLaws.{not_past, one_vector}
 pub use Rattle.dg_chips.specs.Vector.{IsDivisor, IsOutOfRange, Vector, at}
-pub use Rattle.dg_rules.specs.GiftReplies.{IsGivenTo, RefusesGift, RepliesToGift}
-pub use Rattle.dg_rules.specs.History.{after_change, changed, gifts_by_reply, gifts_in, is_change, no_lendings, script_by, scripts_played, scripts_since}
-pub use Rattle.dg_rules.specs.JoinReplies.{IsJoinedTo, RefusesToJoin, RepliesToJoin}
+pub use Rattle.dg_rules.specs.GiftReplies.{IsAcceptedGiftReply, RefusesGift, RepliesToGift}
+pub use Rattle.dg_rules.specs.History.{after_change, changed, gifts_by_reply, gifts_in, is_change, no_lendings, script_by_reply, scripts_played, scripts_since}
+pub use Rattle.dg_rules.specs.JoinReplies.{IsAcceptedJoinReply, RefusesToJoin, RepliesToJoin}
 pub use Rattle.dg_rules.specs.Legal.{IsLegal, IsSeat, LooksBack}
-pub use Rattle.dg_rules.specs.LegalLaws.{LegalGraphsHold, HasSize, LegalIsSized, LooksAreShown}
-pub use Rattle.dg_rules.specs.Look.{IsLookAt, asked_for, asked_on}
+pub use Rattle.dg_rules.specs.LegalLaws.{LegalGraphsHold, IsReplyOfSize, LegalIsSized, LegalLooksAreShown}
+pub use Rattle.dg_rules.specs.Look.{IsLookAt, request_for_finding, request_for_question}
 pub use Rattle.dg_rules.specs.MoveReplies.{RefusesMove, RepliesToMove}
-pub use Rattle.dg_rules.specs.Position.{Position, Shows, fired_by, joined_at, opened, with_gift}
+pub use Rattle.dg_rules.specs.Position.{Position, ShowsPosition, position_fired_by, joined_at, position_at_start, with_gift}
 pub use Rattle.dg_rules.specs.Replies.{Replies, RepliesAt, RepliesToClaim, RepliesToJudge, RepliesToLook, RepliesToRank}
 pub use Rattle.dg_rules.specs.Requests.{asked}
-pub use Rattle.dg_rules.specs.State.{IsNext, IsRightIn, IsState, LeadsTo, GameState, amounts_after, gifts_after, graph_after, position_of}
-pub use Rattle.dg_rules.specs.Step.{GameHasNoEntry, OneMoreEntry, SinceChange, SinceLast, PlayedSinceStart, VerticesStay, after_reply}
+pub use Rattle.dg_rules.specs.State.{IsNextGameState, IsRightReplyInState, IsState, LeadsTo, GameState, amounts_after, gifts_after, graph_after, position_of}
+pub use Rattle.dg_rules.specs.Step.{GameHasNoEntry, OneMoreEntry, PositionSinceChange, PositionSinceLastChange, PlayedSinceStart, VerticesStay, after_reply}
 pub use Rattle.dg_rules.specs.declared.entry.Entry.{Entry}
 pub use Rattle.dg_rules.specs.declared.entry.Plain.{Plain}
 pub use Rattle.dg_rules.specs.declared.entry.Refusal.{Refusal}
@@ -42,7 +42,7 @@ pub use Rattle.dg_theory.specs.Firing.{AgreeOn, Amounts, AreEquivalent, FiresTo,
 pub use Rattle.dg_theory.specs.Multigraph.{Multigraph}
 pub use Rattle.dg_verdict.proofs.Agreement.{right-cong}
 pub use Rattle.dg_verdict.proofs.Between.{between_leads}
-pub use Rattle.dg_verdict.specs.RankTests.{IsRankTest}
+pub use Rattle.dg_verdict.specs.RankTests.{IsRightRankVerdict}
 pub use Rattle.dg_verdict.specs.Rebasing.{IsRebasable}
 pub use Rattle.dg_verdict.specs.Right.{IsRight}
 pub use Rattle.dg_verdict.specs.declared.rank_verdict.RankVerdict.{RankVerdict}

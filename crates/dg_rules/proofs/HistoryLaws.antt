@@ -2,10 +2,10 @@
 --   scripts_played-more   one more entry adds its script to the scripts played
 --   gifts_in-more         one more entry that is a change adds 1 to the gift count
 --   gifts_in-append       the gift counts of a history in two parts add up
-use Rattle.dg_rules.proofs.Common.{◌≡◌, ℕ, ◌+◌, List, [], ◌∷◌, ◌++◌, arith, ints, ◌+ℤ◌, script_by, scripts_played, gifts_by_reply, gifts_in, Entry}
+use Rattle.dg_rules.proofs.Common.{◌≡◌, ℕ, ◌+◌, List, [], ◌∷◌, ◌++◌, arith, ints, ◌+ℤ◌, script_by_reply, scripts_played, gifts_by_reply, gifts_in, Entry}
 
 pub scripts_played-more : (H : List Entry) (e : Entry) (v : ℕ) →
-    scripts_played (H ++ e ∷ []) v ≡ scripts_played H v +ℤ script_by e.request e.reply v
+    scripts_played (H ++ e ∷ []) v ≡ scripts_played H v +ℤ script_by_reply e.request e.reply v
 scripts_played-more [] e v = omega (arith, ints)
 scripts_played-more (x ∷ H) e v = omega (arith, ints, scripts_played-more H e v)
 

@@ -11,7 +11,7 @@
 --   sized_reply        a right reply has the size of the graph
 --   legal_sized        each reply of a legal history has the size of the start
 --   legal_looks        each look of a legal history is what is kept of it
-use Rattle.dg_rules.proofs.Common.{◌≡◌, ℕ, ◌<◌, ◌≤◌, List, [], ◌∷◌, ◌++◌, length, take, slice_get, Some, arith, ap, subst, ◌∙◌, inl, inr, take-append_seam, take-append-le, take-take, length-take, slice_get_within, Multigraph, StartData, AtLeast, Below, Replies, IsSeat, LooksBack, IsLegal, HasSize, LegalIsSized, LooksAreShown, IsLookAt, asked_for, asked_on, asked, Entry, Plain, Request, Move, Gift, Join, Look, Claim, Judge, Reply, Moved, Given, Joined, Looked, Verdict, Stale, Won, NotWon, Refused, Finding, Judged, Ranked, Question, LookData}
+use Rattle.dg_rules.proofs.Common.{◌≡◌, ℕ, ◌<◌, ◌≤◌, List, [], ◌∷◌, ◌++◌, length, take, slice_get, Some, arith, ap, subst, ◌∙◌, inl, inr, take-append_seam, take-append-le, take-take, length-take, slice_get_within, Multigraph, StartData, AtLeast, Below, Replies, IsSeat, LooksBack, IsLegal, IsReplyOfSize, LegalIsSized, LegalLooksAreShown, IsLookAt, request_for_finding, request_for_question, asked, Entry, Plain, Request, Move, Gift, Join, Look, Claim, Judge, Reply, Moved, Given, Joined, Looked, Verdict, Stale, Won, NotWon, Refused, Finding, Judged, Ranked, Question, LookData}
 use Rattle.dg_rules.specs.History.{position_after}
 use Rattle.dg_rules.specs.declared.entry.Plain.TheVariants as plain
 use Rattle.dg_rules.specs.declared.entry.Request.TheVariants.{Rank as RankRequest}
@@ -55,18 +55,18 @@ back_asked H plain.Look = tt
 back_asked H p = tt
 
 pub back_for : (o : StartData) (H : List Entry) (x : LookData) (f : Finding) → IsLookAt o H x →
-    LooksBack H (asked_for x.number f)
+    LooksBack H (request_for_finding x.number f)
 back_for o H x (Judged v) look = look.look
 back_for o H x (Ranked v) look = look.look
 
 pub back_on : (o : StartData) (H : List Entry) (x : LookData) (asks : Question) → IsLookAt o H x →
-    LooksBack H (asked_on x.number asks)
+    LooksBack H (request_for_question x.number asks)
 back_on o H x question.Judge look = look.look
 back_on o H x (question.Rank k) look = look.look
 
 sized_reply : (o : StartData) (H : List Entry) (n : ℕ) (request : Request) (reply : Reply) →
     (position_after o H).graph.size ≡ n →
-    Replies o H request reply → HasSize n reply
+    Replies o H request reply → IsReplyOfSize n reply
 sized_reply o H n (Move m) (Moved d) size right = right.size ∙ size
 sized_reply o H n (Move m) (Refused r) size right = tt
 sized_reply o H n (Gift v x) (Given count d) size right = right.size ∙ size
@@ -88,7 +88,7 @@ pub legal_sized : LegalIsSized
 legal_sized o H i e legal at =
     sized_reply o (take i H) o.graph.size e.request e.reply (vertices_stay o (take i H)) (legal i e at).2
 
-pub legal_looks : LooksAreShown
+pub legal_looks : LegalLooksAreShown
 legal_looks o H e x legal at asks shows =
     let right : Replies o (take x.number H) e.request e.reply = (legal x.number e at).2 in
     let (gifts, amounts, graph) = rw (asks, shows) at right in

@@ -11,7 +11,7 @@
 --   look_new                an entry that is a look is a look of the history
 --   look_size               a look shows as many vertices as the state
 --   carried                 a verdict can be carried along a drift that leads to the amounts of a state
-use Rattle.dg_rules.proofs.Common.{◌≡◌, ◌≢◌, ℕ, ◌+◌, ◌<◌, ◌≤◌, List, [], ◌∷◌, ◌++◌, length, take, drop, slice_get, arith, refl, sym, ap, subst, ◌∙◌, take-append_seam, ints, take-append-le, take-append-drop, slice_get_within, Multigraph, Amounts, fired, FiresTo, Vector, at, StartData, IsRight, IsRebasable, IsRankTest, RankVerdict, Position, fired_by, scripts_played, gifts_in, IsLookAt, asked_on, Replies, GameState, IsState, LeadsTo, Entry, Look, Judge, Verdict, Stale, Question, LookData}
+use Rattle.dg_rules.proofs.Common.{◌≡◌, ◌≢◌, ℕ, ◌+◌, ◌<◌, ◌≤◌, List, [], ◌∷◌, ◌++◌, length, take, drop, slice_get, arith, refl, sym, ap, subst, ◌∙◌, take-append_seam, ints, take-append-le, take-append-drop, slice_get_within, Multigraph, Amounts, fired, FiresTo, Vector, at, StartData, IsRight, IsRebasable, IsRightRankVerdict, RankVerdict, Position, position_fired_by, scripts_played, gifts_in, IsLookAt, request_for_question, Replies, GameState, IsState, LeadsTo, Entry, Look, Judge, Verdict, Stale, Question, LookData}
 use Rattle.dg_verdict.specs.declared.verdict.Verdict.{Verdict as AVerdict}
 use Rattle.dg_rules.specs.History.{position_after}
 use Rattle.dg_rules.specs.declared.entry.Request.TheVariants.{Rank as RankRequest}
@@ -34,7 +34,7 @@ moved_since o H s x leads look same =
     let counts : gifts_in H ≡ gifts_in K + gifts_in L = ap gifts_in (sym whole) ∙ gifts_in-append K L in
     let none : gifts_in L ≡ 0 = omega (arith, counts, same, leads.gifts, look.gifts) in
     let p : Position = position_after o K in
-    let fires : position_after o H ≡ fired_by p (scripts_played L) =
+    let fires : position_after o H ≡ position_fired_by p (scripts_played L) =
     ap (position_after o) (sym whole) ∙ since_change o K L none in
     let graph : s.graph ≡ p.graph = leads.graph ∙ ap (λ (r : Position). r.graph) fires in (
       graph ∙ sym look.graph,
@@ -57,17 +57,17 @@ judged_after o H s x verdict leads look same right =
 
 pub ranked_after : (o : StartData) (H : List Entry) (s : GameState) (x : LookData) (k : ℕ) (verdict : RankVerdict) →
     LeadsTo o H s → IsLookAt o H x →
-    s.gifts ≡ x.gifts → IsRankTest x.graph (at x.position) k verdict →
+    s.gifts ≡ x.gifts → IsRightRankVerdict x.graph (at x.position) k verdict →
     Replies o H (RankRequest x.number k) (RankReply verdict)
 ranked_after o H s x k verdict leads look same right =
     let (graph, t, led) = moved_since o H s x leads look same in
-    let then' : IsRankTest s.graph (at x.position) k verdict = rw graph right in
+    let then' : IsRightRankVerdict s.graph (at x.position) k verdict = rw graph right in
     replies_after o H s (RankRequest x.number k) (RankReply verdict) leads
     (sym look.gifts ∙ sym same, rank_test_led s.graph (at x.position) (at s.amounts) t k verdict led then')
 
 pub stale_after : (o : StartData) (H : List Entry) (s : GameState) (x : LookData) (asks : Question) → LeadsTo o H s →
     IsLookAt o H x →
-    x.gifts ≢ s.gifts → Replies o H (asked_on x.number asks) (Stale s.gifts)
+    x.gifts ≢ s.gifts → Replies o H (request_for_question x.number asks) (Stale s.gifts)
 stale_after o H s x question.Judge leads look other =
     replies_after o H s (Judge x.number) (Stale s.gifts) leads ((λ same. other (look.gifts ∙ same)), refl)
 stale_after o H s x (question.Rank k) leads look other =

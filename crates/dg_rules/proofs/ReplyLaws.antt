@@ -1,7 +1,7 @@
 -- A reply that is right at one position is right at another that has the same graph and the same amounts on it.
 --   out_of_range-cong    amounts that agree with some out of range are out of range
 --   replies-cong         a right reply to a request is right for amounts that agree
-use Rattle.dg_rules.proofs.Common.{◌≡◌, ℕ, arith, ◌∙◌, ints, ℤ, Multigraph, Amounts, AgreeOn, Vector, IsOutOfRange, script_of, fired-here, right-cong, Shows, with_gift, RepliesToMove, RepliesToGift, RepliesToJoin, RepliesToLook, RepliesToClaim, RepliesToJudge, RepliesToRank, RepliesAt, Request, Move, Gift, Join, Look, Claim, Judge, Reply, Moved, Given, Joined, Looked, Verdict, Stale, Won, NotWon, Refused}
+use Rattle.dg_rules.proofs.Common.{◌≡◌, ℕ, arith, ◌∙◌, ints, ℤ, Multigraph, Amounts, AgreeOn, Vector, IsOutOfRange, script_of, fired-here, right-cong, ShowsPosition, with_gift, RepliesToMove, RepliesToGift, RepliesToJoin, RepliesToLook, RepliesToClaim, RepliesToJudge, RepliesToRank, RepliesAt, Request, Move, Gift, Join, Look, Claim, Judge, Reply, Moved, Given, Joined, Looked, Verdict, Stale, Won, NotWon, Refused}
 use Rattle.dg_chips.specs.declared.moves.Move.{Move as AMove}
 use Rattle.dg_rules.specs.declared.entry.Refusal.TheVariants as refusal
 use Rattle.dg_rules.specs.declared.entry.Request.TheVariants.{Rank as RankRequest}
@@ -50,7 +50,7 @@ given-cong g D E n v x (Refused refusal.Range) same right =
 given-cong g D E n v x reply same right = absurd right
 
 shows-cong : (g : Multigraph) (D E : Amounts) (d : Vector) → AgreeOn g.size D E →
-    Shows (record { graph = g; amounts = D }) d → Shows (record { graph = g; amounts = E }) d
+    ShowsPosition (record { graph = g; amounts = D }) d → ShowsPosition (record { graph = g; amounts = E }) d
 shows-cong g D E d same shows = record {
   size = shows.size;
   divisor = shows.divisor;

@@ -7,7 +7,7 @@
 --   replies_after    a reply that is right in a state is right after a history that leads to it
 --   right_in         and the other way round
 --   leads_more       a reply that is right after the history leads with its entry to the next state
-use Rattle.dg_rules.proofs.Common.{◌≡◌, ℕ, ◌+◌, ◌<◌, List, [], ◌∷◌, ◌++◌, take, arith, refl, sym, ap, subst, ◌∙◌, length-append, ints, ℤ, pos, Multigraph, size_stays, one_vector, Vector, IsDivisor, at, StartData, Position, Shows, IsGivenTo, with_gift, joined_at, gifts_in, gifts_by_reply, scripts_played, after_reply, Replies, RepliesAt, GameState, LeadsTo, IsRightIn, IsNext, position_of, amounts_after, gifts_after, graph_after, Entry, Request, Move, Gift, Join, Look, Claim, Judge, Reply, Moved, Given, Joined, Looked, Verdict, Stale, Won, NotWon, Refused}
+use Rattle.dg_rules.proofs.Common.{◌≡◌, ℕ, ◌+◌, ◌<◌, List, [], ◌∷◌, ◌++◌, take, arith, refl, sym, ap, subst, ◌∙◌, length-append, ints, ℤ, pos, Multigraph, size_stays, one_vector, Vector, IsDivisor, at, StartData, Position, ShowsPosition, IsAcceptedGiftReply, with_gift, joined_at, gifts_in, gifts_by_reply, scripts_played, after_reply, Replies, RepliesAt, GameState, LeadsTo, IsRightReplyInState, IsNextGameState, position_of, amounts_after, gifts_after, graph_after, Entry, Request, Move, Gift, Join, Look, Claim, Judge, Reply, Moved, Given, Joined, Looked, Verdict, Stale, Won, NotWon, Refused}
 use Rattle.dg_rules.specs.History.{position_after}
 use Rattle.dg_rules.specs.declared.entry.Request.TheVariants.{Rank as RankRequest}
 use Rattle.dg_rules.specs.declared.entry.Reply.TheVariants.{Rank as RankReply}
@@ -29,7 +29,7 @@ replies_after o H s request reply leads right =
     (subst (λ (q : ℕ). RepliesAt p q before s.gifts request reply) leads.q on_amounts)
 
 pub right_in : (o : StartData) (H : List Entry) (s : GameState) (request : Request) (reply : Reply) → LeadsTo o H s →
-    Replies o H request reply → IsRightIn s request reply
+    Replies o H request reply → IsRightReplyInState s request reply
 right_in o H s request reply leads right =
     let p : Position = position_after o H in
     let before : ℕ → ℕ = λ i. gifts_in (take i H) in
@@ -45,20 +45,20 @@ right_in o H s request reply leads right =
           (sym leads.graph) on_amounts,
     )
 
-pub shown_once : (p : Position) (d e : Vector) → Shows p d → Shows p e → d ≡ e
+pub shown_once : (p : Position) (d e : Vector) → ShowsPosition p d → ShowsPosition p e → d ≡ e
 shown_once p d e first second =
     one_vector 1_000_000 d e first.divisor second.divisor (first.size ∙ sym second.size) (λ v below.
     let here : v < p.graph.size = omega (arith, below, first.size) in
     first.amounts v here ∙ sym (second.amounts v here))
 
-pub given_once : (p : Position) (g v : ℕ) (x : ℤ) (n m : ℕ) (d e : Vector) → IsGivenTo p g v x n d →
-    IsGivenTo p g v x m e → d ≡ e
+pub given_once : (p : Position) (g v : ℕ) (x : ℤ) (n m : ℕ) (d e : Vector) → IsAcceptedGiftReply p g v x n d →
+    IsAcceptedGiftReply p g v x m e → d ≡ e
 given_once p g v x n m d e first second =
     shown_once (record { graph = p.graph; amounts = with_gift p v x }) d e
     (record { size = first.size; divisor = first.divisor; amounts = first.amounts })
     (record { size = second.size; divisor = second.divisor; amounts = second.amounts })
 
-pub shows_joined : (p : Position) (u v : ℕ) (d : Vector) → Shows p d → Shows (joined_at p u v) d
+pub shows_joined : (p : Position) (u v : ℕ) (d : Vector) → ShowsPosition p d → ShowsPosition (joined_at p u v) d
 shows_joined p u v d shows = record {
   size = shows.size ∙ sym (size_stays p.graph u v);
   divisor = shows.divisor;
@@ -66,8 +66,8 @@ shows_joined p u v d shows = record {
 }
 
 pub shows_after : (o : StartData) (H : List Entry) (d : Vector) (request : Request) (reply : Reply) →
-    Shows (position_after o H) d →
-    Replies o H request reply → Shows (after_reply (position_after o H) request reply) (amounts_after d reply)
+    ShowsPosition (position_after o H) d →
+    Replies o H request reply → ShowsPosition (after_reply (position_after o H) request reply) (amounts_after d reply)
 shows_after o H d (Move m) (Moved e) shows right =
     record { size = right.size; divisor = right.divisor; amounts = right.amounts }
 shows_after o H d (Move m) (Refused refusal) shows right = shows
@@ -115,10 +115,10 @@ gifts_counted o H request reply right = absurd right
 
 pub leads_more : (o : StartData) (H : List Entry) (s t : GameState) (e : Entry) → LeadsTo o H s →
     Replies o H e.request e.reply →
-    IsNext s e.request e.reply t → LeadsTo o (H ++ e ∷ []) t
+    IsNextGameState s e.request e.reply t → LeadsTo o (H ++ e ∷ []) t
 leads_more o H s t e leads right next =
     let p : Position = position_after o H in
-    let shown : Shows (after_reply p e.request e.reply) t.amounts =
+    let shown : ShowsPosition (after_reply p e.request e.reply) t.amounts =
     rw next.amounts (shows_after o H s.amounts e.request e.reply leads.amounts right) in
     record {
       graph = next.graph ∙ ap (λ (g : Multigraph). graph_after g e.request e.reply) leads.graph

@@ -6,7 +6,7 @@
 --   since_start         from the start on,
 --   since_last          and from the last change on
 --   vertices_stay       entries neither add nor remove vertices
-use Rattle.dg_rules.proofs.Common.{refl, ◌≡◌, ℕ, Bool, true, false, List, [], ◌∷◌, ◌++◌, reverse, append_assoc, append-nil, arith, sym, ap, ◌∙◌, cond, false≢true, reverse-append, pos, ◌+ℤ◌, Multigraph, Amounts, fired-fired, fired-constant, size_stays, StartData, Position, opened, fired_by, script_by, scripts_played, is_change, changed, scripts_since, after_change, no_lendings, after_reply, GameHasNoEntry, OneMoreEntry, SinceChange, PlayedSinceStart, SinceLast, VerticesStay, Entry, Request, Move, Gift, Join, Reply, Moved, Given, Joined}
+use Rattle.dg_rules.proofs.Common.{refl, ◌≡◌, ℕ, Bool, true, false, List, [], ◌∷◌, ◌++◌, reverse, append_assoc, append-nil, arith, sym, ap, ◌∙◌, cond, false≢true, reverse-append, pos, ◌+ℤ◌, Multigraph, Amounts, fired-fired, fired-constant, size_stays, StartData, Position, position_at_start, position_fired_by, script_by_reply, scripts_played, is_change, changed, scripts_since, after_change, no_lendings, after_reply, GameHasNoEntry, OneMoreEntry, PositionSinceChange, PlayedSinceStart, PositionSinceLastChange, VerticesStay, Entry, Request, Move, Gift, Join, Reply, Moved, Given, Joined}
 use Rattle.dg_rules.specs.History.{position_after}
 
 abbrev placed : Multigraph → Amounts → Position
@@ -16,19 +16,19 @@ placed-cong : (g : Multigraph) (D E : Amounts) → ((v : ℕ) → D v ≡ E v) �
 placed-cong g D E same = λ i. placed g (λ v. same v i)
 
 -- to fire by nothing leaves a position as it is, and to fire twice is to fire by the sum
-still : (p : Position) → p ≡ fired_by p no_lendings
+still : (p : Position) → p ≡ position_fired_by p no_lendings
 still p = sym (placed-cong p.graph _ p.amounts (λ v. fired-constant p.graph p.amounts (pos 0) v))
 
-fired_on : (p : Position) (s t : Amounts) → fired_by (fired_by p s) t ≡ fired_by p (λ v. s v +ℤ t v)
+fired_on : (p : Position) (s t : Amounts) → position_fired_by (position_fired_by p s) t ≡ position_fired_by p (λ v. s v +ℤ t v)
 fired_on p s t = placed-cong p.graph _ _ (λ v. fired-fired p.graph p.amounts s t v)
 
 pub no_entry : GameHasNoEntry
 unfolding position_after
-no_entry o = sym (still (opened o))
+no_entry o = sym (still (position_at_start o))
 
 -- an entry that is no change fires by its script, which is 0 where it is no accepted move; one that is, changes
 fires : (p : Position) (request : Request) (reply : Reply) → is_change reply ≡ false →
-    after_reply p request reply ≡ fired_by p (script_by request reply)
+    after_reply p request reply ≡ position_fired_by p (script_by_reply request reply)
 fires p (Move m) (Moved d) none = refl
 fires p request (Given g d) none = absurd (false≢true (sym none))
 fires p request (Joined g d) none = absurd (false≢true (sym none))
@@ -41,7 +41,7 @@ changes p request reply change = refl
 
 -- the position after entries that stand the latest first
 abbrev ahead : StartData → List Entry → Position
-ahead o R = fired_by (after_change o R) (scripts_since R)
+ahead o R = position_fired_by (after_change o R) (scripts_since R)
 
 ahead_more : (o : StartData) (R : List Entry) (seat : ℕ) (request : Request) (reply : Reply) →
     ahead o (record { seat = seat; request = request; reply = reply } ∷ R) ≡ after_reply (ahead o R) request reply
@@ -50,7 +50,7 @@ ahead_more o R seat request (Given g d) =
 ahead_more o R seat request (Joined g d) =
     sym (still (changed (ahead o R) request (Joined g d))) ∙ sym (changes (ahead o R) request (Joined g d) refl)
 ahead_more o R seat request reply =
-    sym (fired_on (after_change o R) (scripts_since R) (script_by request reply))
+    sym (fired_on (after_change o R) (scripts_since R) (script_by_reply request reply))
     ∙ sym (fires (ahead o R) request reply refl)
 
 pub one_more_entry : OneMoreEntry
@@ -61,25 +61,25 @@ not_counted : (change : Bool) → cond {A = ℕ} change 1 0 ≡ 0 → change ≡
 not_counted true none = absurd (omega (arith, none))
 not_counted false none = refl
 
-pub since_change : SinceChange
+pub since_change : PositionSinceChange
 since_change o K [] none = ap (position_after o) (append-nil K) ∙ still (position_after o K)
 since_change o K (e ∷ L) none =
     let p : Position = position_after o K in
     let parts : position_after o (K ++ (e ∷ L)) ≡ position_after o ((K ++ e ∷ []) ++ L) =
     ap (position_after o) (sym (append_assoc K (e ∷ []) L)) in
-    let more : position_after o (K ++ e ∷ []) ≡ fired_by p (script_by e.request e.reply) =
+    let more : position_after o (K ++ e ∷ []) ≡ position_fired_by p (script_by_reply e.request e.reply) =
     one_more_entry o K e ∙ fires p e.request e.reply (not_counted (is_change e.reply) (omega (arith, none))) in
     parts ∙ since_change o (K ++ e ∷ []) L (omega (arith, none))
-    ∙ ap (λ (q : Position). fired_by q (scripts_played L)) more
-    ∙ fired_on p (script_by e.request e.reply) (scripts_played L)
+    ∙ ap (λ (q : Position). position_fired_by q (scripts_played L)) more
+    ∙ fired_on p (script_by_reply e.request e.reply) (scripts_played L)
 
 pub since_start : PlayedSinceStart
-since_start o L none = since_change o [] L none ∙ ap (λ (p : Position). fired_by p (scripts_played L)) (no_entry o)
+since_start o L none = since_change o [] L none ∙ ap (λ (p : Position). position_fired_by p (scripts_played L)) (no_entry o)
 
-pub since_last : SinceLast
+pub since_last : PositionSinceLastChange
 since_last o K L c change none =
     ap (position_after o) (sym (append_assoc K (c ∷ []) L)) ∙ since_change o (K ++ c ∷ []) L none
-    ∙ ap (λ (p : Position). fired_by p (scripts_played L))
+    ∙ ap (λ (p : Position). position_fired_by p (scripts_played L))
     (one_more_entry o K c ∙ changes (position_after o K) c.request c.reply change)
 
 size_same : (p : Position) (request : Request) (reply : Reply) → (after_reply p request reply).graph.size ≡ p.graph.size

@@ -1,6 +1,6 @@
 -- The names that the specs of this crate cite, passed on from one place. Declares nothing.
 pub use Rattle.dg_chips.specs.Applied.{IsAfterMove}
-pub use Rattle.dg_chips.specs.Moves.{HasOtherSize, IsEmptySet, IsPlayable, NamesNoVertex, script_of}
+pub use Rattle.dg_chips.specs.Moves.{HasOtherSize, IsMoveOfEmptySet, IsApplicableMove, IsMoveOfNoVertex, script_of}
 pub use Rattle.dg_chips.specs.Starts.{StartData}
 pub use Rattle.dg_chips.specs.Vector.{IsDivisor, IsOutOfRange, Vector, at}
 pub use Rattle.dg_chips.specs.declared.limits.TheConstants.{MAX_ENTRY}
@@ -12,7 +12,7 @@ pub use Rattle.dg_graph.specs.declared.fault.JoinFault.{JoinFault}
 pub use Rattle.dg_theory.specs.Firing.{Amounts, IsEffective, fired, only_at}
 pub use Rattle.dg_theory.specs.Joins.{with_edge}
 pub use Rattle.dg_theory.specs.Multigraph.{Multigraph}
-pub use Rattle.dg_verdict.specs.RankTests.{IsRankTest}
+pub use Rattle.dg_verdict.specs.RankTests.{IsRightRankVerdict}
 pub use Rattle.dg_verdict.specs.Right.{IsRight}
 pub use Rattle.dg_verdict.specs.declared.rank_verdict.RankVerdict.{RankVerdict}
 pub use Rattle.dg_verdict.specs.declared.rank_verdict.RankVerdict.TheVariants.{AtLeast, Below}

@@ -1,16 +1,16 @@
 -- Histories. An entry is a seat, a request and a reply; a history is a list of entries, and an
 -- entry's number is its place in it, from 0. What changes a position, but for moves, is a change:
 -- an accepted gift, levy or join.
---   no_lendings                == 0 at each vertex
---   script_by request reply    == the script of an accepted move, and 0 for everything else
---   scripts_played H           == the sum of the scripts of all accepted moves
---   is_change reply            == the reply accepts a gift, a levy or a join
---   changed p request reply    == the position after the change, where it stood at p before: with
---                                 the dollars of the gift, or on the graph with the edge
---   gifts_by_reply reply       == 1 for a change, and 0 for any other reply
---   gifts_in H                 == how many changes there are: gifts, levies and joins
---   with_entry H s q r         == the history H and one more entry, of the seat s with the request
---                                 q and the reply r
+--   no_lendings                   == 0 at each vertex
+--   script_by_reply request reply == the script of an accepted move, and 0 for everything else
+--   scripts_played H              == the sum of the scripts of all accepted moves
+--   is_change reply               == the reply accepts a gift, a levy or a join
+--   changed p request reply       == the position after the change, where it stood at p before: with the
+--                                    dollars of the gift, or on the graph with the edge
+--   gifts_by_reply reply          == 1 for a change, and 0 for any other reply
+--   gifts_in H                    == how many changes there are: gifts, levies and joins
+--   with_entry H s q r            == the history H and one more entry, of the seat s with the request q and
+--                                    the reply r
 -- Of entries that stand the latest first:
 --   scripts_since R            == the sum of the scripts of all moves accepted since the last
 --                                 change
@@ -22,7 +22,7 @@
 --                                 scripts of all moves accepted since
 use Rattle.std.specs.Prelude.{if◌then◌else◌, ℕ, ◌+◌, Bool, true, false, pos, ◌+ℤ◌, List, [], ◌∷◌, ◌++◌, reverse}
 use Rattle.dg_rules.specs.Common.{Amounts, script_of, StartData}
-use Rattle.dg_rules.specs.Position.{Position, opened, with_gift, joined_at, fired_by}
+use Rattle.dg_rules.specs.Position.{Position, position_at_start, with_gift, joined_at, position_fired_by}
 use Rattle.dg_rules.specs.declared.entry.Entry.{Entry}
 use Rattle.dg_rules.specs.declared.entry.Request.{Request}
 use Rattle.dg_rules.specs.declared.entry.Request.TheVariants.{Move, Gift, Join}
@@ -32,13 +32,13 @@ use Rattle.dg_rules.specs.declared.entry.Reply.TheVariants.{Moved, Given, Joined
 abbrev pub no_lendings : Amounts
 no_lendings v = pos 0
 
-abbrev pub script_by : Request → Reply → Amounts
-script_by (Move m) (Moved d) = script_of m
-script_by request reply = no_lendings
+abbrev pub script_by_reply : Request → Reply → Amounts
+script_by_reply (Move m) (Moved d) = script_of m
+script_by_reply request reply = no_lendings
 
 abbrev pub scripts_played : List Entry → Amounts
 scripts_played [] v = pos 0
-scripts_played (e ∷ H) v = script_by e.request e.reply v +ℤ scripts_played H v
+scripts_played (e ∷ H) v = script_by_reply e.request e.reply v +ℤ scripts_played H v
 
 abbrev pub is_change : Reply → Bool
 is_change (Given g d) = true
@@ -71,13 +71,13 @@ with_entry H seat request reply =
 abbrev pub scripts_since : List Entry → Amounts
 scripts_since [] v = pos 0
 scripts_since (e ∷ R) v =
-    if is_change e.reply then pos 0 else (scripts_since R v +ℤ script_by e.request e.reply v)
+    if is_change e.reply then pos 0 else (scripts_since R v +ℤ script_by_reply e.request e.reply v)
 
 abbrev pub after_change : StartData → List Entry → Position
-after_change o [] = opened o
+after_change o [] = position_at_start o
 after_change o (e ∷ R) =
     if is_change e.reply then changed
-    (fired_by (after_change o R) (scripts_since R)) e.request e.reply else after_change o R
+    (position_fired_by (after_change o R) (scripts_since R)) e.request e.reply else after_change o R
 
 unfoldable pub position_after : StartData → List Entry → Position
-position_after o H = fired_by (after_change o (reverse H)) (scripts_since (reverse H))
+position_after o H = position_fired_by (after_change o (reverse H)) (scripts_since (reverse H))

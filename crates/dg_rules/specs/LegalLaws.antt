@@ -1,18 +1,15 @@
 -- The laws of legal histories.
 --   EmptyIsLegal          == a history with no entry is legal
---   OneMoreIsLegal        == a legal history stays legal by an entry that is a seat's, looks back
---                            to a look if it asks for a verdict or for a rank test, and is
---                            answered rightly
---   BeginningsAreLegal    == the first entries of a legal history are a legal history, however many
---                            they are
+--   OneMoreIsLegal        == a legal history stays legal by an entry that is a seat's, looks back to a look
+--                            if it asks for a verdict or for a rank test, and is answered rightly
+--   BeginningsAreLegal    == the first entries of a legal history are a legal history, however many they are
 --   PartsAreLegal         == what comes first in a legal history of two parts is a legal history
---   HasSize n reply       == each divisor, script, wide amount and graph in the reply is one of n
---                            vertices
+--   IsReplyOfSize n reply == each divisor, script, wide amount and graph in the reply is one of n vertices
 --   LegalIsSized          == each reply of a legal history has the size of the start
---   LegalGraphsHold       == a legal history, from a start on a graph within the limits, leads
---                            to a position on one
---   LooksAreShown         == a look of a legal history showed what `IsLookAt` says, whatever drift
---                            is kept with it
+--   LegalGraphsHold       == a legal history, from a start on a graph within the limits, leads to a position
+--                            on one
+--   LegalLooksAreShown    == a look of a legal history showed what `IsLookAt` says, whatever drift is kept
+--                            with it
 use Rattle.std.specs.Prelude.{◌≡◌, ℕ, List, [], ◌∷◌, ◌++◌, take, slice_get, Some, ⊤}
 use Rattle.dg_rules.specs.Common.{IsGraph, StartData, AtLeast, Below}
 use Rattle.dg_rules.specs.History.{position_after}
@@ -39,28 +36,28 @@ BeginningsAreLegal = (o : StartData) (H : List Entry) (k : ℕ) → IsLegal o H 
 abbrev pub PartsAreLegal : Type 0
 PartsAreLegal = (o : StartData) (K L : List Entry) → IsLegal o (K ++ L) → IsLegal o K
 
-abbrev pub HasSize : ℕ → Reply → Type 0
-HasSize n (Moved d) = d.size ≡ n
-HasSize n (Given gifts d) = d.size ≡ n
-HasSize n (Joined gifts d) = d.size ≡ n
-HasSize n (Looked gifts d graph) = (d.size ≡ n) × (graph.size ≡ n)
-HasSize n (Verdict x) = (x.script.size ≡ n) × (x.reduced.size ≡ n)
-HasSize n (Rank (AtLeast k)) = ⊤
-HasSize n (Rank (Below k d)) = d.size ≡ n
-HasSize n (Stale gifts) = ⊤
-HasSize n Won = ⊤
-HasSize n NotWon = ⊤
-HasSize n (Refused refusal) = ⊤
+abbrev pub IsReplyOfSize : ℕ → Reply → Type 0
+IsReplyOfSize n (Moved d) = d.size ≡ n
+IsReplyOfSize n (Given gifts d) = d.size ≡ n
+IsReplyOfSize n (Joined gifts d) = d.size ≡ n
+IsReplyOfSize n (Looked gifts d graph) = (d.size ≡ n) × (graph.size ≡ n)
+IsReplyOfSize n (Verdict x) = (x.script.size ≡ n) × (x.reduced.size ≡ n)
+IsReplyOfSize n (Rank (AtLeast k)) = ⊤
+IsReplyOfSize n (Rank (Below k d)) = d.size ≡ n
+IsReplyOfSize n (Stale gifts) = ⊤
+IsReplyOfSize n Won = ⊤
+IsReplyOfSize n NotWon = ⊤
+IsReplyOfSize n (Refused refusal) = ⊤
 
 abbrev pub LegalIsSized : Type 0
 LegalIsSized = (o : StartData) (H : List Entry) (i : ℕ) (e : Entry) → IsLegal o H →
-    slice_get H i ≡ Some e → HasSize o.graph.size e.reply
+    slice_get H i ≡ Some e → IsReplyOfSize o.graph.size e.reply
 
 abbrev pub LegalGraphsHold : Type 0
 LegalGraphsHold = (o : StartData) (H : List Entry) → IsGraph o.graph → IsLegal o H →
     IsGraph (position_after o H).graph
 
-abbrev pub LooksAreShown : Type 0
-LooksAreShown = (o : StartData) (H : List Entry) (e : Entry) (x : LookData) → IsLegal o H →
+abbrev pub LegalLooksAreShown : Type 0
+LegalLooksAreShown = (o : StartData) (H : List Entry) (e : Entry) (x : LookData) → IsLegal o H →
     slice_get H x.number ≡ Some e →
     e.request ≡ Look → e.reply ≡ Looked x.gifts x.position x.graph → IsLookAt o H x

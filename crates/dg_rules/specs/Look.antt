@@ -1,16 +1,16 @@
 -- What a seat keeps of a look, and what was computed on it.
---   IsLookAt o H x       == x holds the number of a look of the history H, and the gift count, the
---                           graph and the amounts at it, and any drift
---   degree_found v       == the degree of the rank test whose verdict v is
---   IsFoundFor q x f     == the finding f is right on the graph of the look x, from the vertex q,
---                           for its amounts
---   asked_for i f        == the request by which the finding f on the look of number i is entered
---   asked_on i question  == the request by which the question is asked on the look of number i
---   KeepsFinding f reply == a verdict entered keeps the reduced divisor and the burning order that
---                           were found, and that of a rank test is entered as it was found
+--   IsLookAt o H x                  == x holds the number of a look of the history H, and the gift count, the
+--                                      graph and the amounts at it, and any drift
+--   degree_of_finding v             == the degree of the rank test whose verdict v is
+--   IsRightFinding q x f            == the finding f is right on the graph of the look x, from the vertex q,
+--                                      for its amounts
+--   request_for_finding i f         == the request by which the finding f on the look of number i is entered
+--   request_for_question i question == the request by which the question is asked on the look of number i
+--   KeepsFinding f reply            == a verdict entered keeps the reduced divisor and the burning order that
+--                                      were found, and that of a rank test is entered as it was found
 use Rattle.std.specs.Prelude.{◌≡◌, ℕ, List, take, ⊤}
-use Rattle.dg_rules.specs.Common.{at, StartData, IsRight, IsRankTest, RankVerdict, AtLeast, Below}
-use Rattle.dg_rules.specs.Position.{Shows}
+use Rattle.dg_rules.specs.Common.{at, StartData, IsRight, IsRightRankVerdict, RankVerdict, AtLeast, Below}
+use Rattle.dg_rules.specs.Position.{ShowsPosition}
 use Rattle.dg_rules.specs.History.{position_after, gifts_in}
 use Rattle.dg_rules.specs.Legal.{IsLookIn}
 use Rattle.dg_rules.specs.declared.entry.Entry.{Entry}
@@ -28,23 +28,23 @@ pub record IsLookAt (o : StartData) (H : List Entry) (x : LookData) : Type 0 whe
   pub look : IsLookIn H x.number
   pub gifts : x.gifts ≡ gifts_in (take x.number H)
   pub graph : x.graph ≡ (position_after o (take x.number H)).graph
-  pub amounts : Shows (position_after o (take x.number H)) x.position
+  pub amounts : ShowsPosition (position_after o (take x.number H)) x.position
 
-abbrev pub degree_found : RankVerdict → ℕ
-degree_found (AtLeast k) = k
-degree_found (Below k E) = k
+abbrev pub degree_of_finding : RankVerdict → ℕ
+degree_of_finding (AtLeast k) = k
+degree_of_finding (Below k E) = k
 
-abbrev pub IsFoundFor : ℕ → LookData → Finding → Type 0
-IsFoundFor q x (Judged v) = IsRight x.graph q (at x.position) v
-IsFoundFor q x (Ranked v) = IsRankTest x.graph (at x.position) (degree_found v) v
+abbrev pub IsRightFinding : ℕ → LookData → Finding → Type 0
+IsRightFinding q x (Judged v) = IsRight x.graph q (at x.position) v
+IsRightFinding q x (Ranked v) = IsRightRankVerdict x.graph (at x.position) (degree_of_finding v) v
 
-abbrev pub asked_for : ℕ → Finding → Request
-asked_for i (Judged v) = Judge i
-asked_for i (Ranked v) = RankRequest i (degree_found v)
+abbrev pub request_for_finding : ℕ → Finding → Request
+request_for_finding i (Judged v) = Judge i
+request_for_finding i (Ranked v) = RankRequest i (degree_of_finding v)
 
-abbrev pub asked_on : ℕ → Question → Request
-asked_on i question.Judge = Judge i
-asked_on i (question.Rank k) = RankRequest i k
+abbrev pub request_for_question : ℕ → Question → Request
+request_for_question i question.Judge = Judge i
+request_for_question i (question.Rank k) = RankRequest i k
 
 abbrev pub KeepsFinding : Finding → Reply → Type 0
 KeepsFinding (Judged v) (Verdict w) = (w.reduced ≡ v.reduced) × (w.order ≡ v.order)

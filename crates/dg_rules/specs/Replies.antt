@@ -1,18 +1,18 @@
 -- What may be replied.
---   RepliesToLook p g reply        == the gift count, the amounts and the graph, as they are
---   RepliesToClaim p reply         == won if nobody is in debt, and not won if somebody is
---   RepliesToJudge p q h g reply   == the gift count was h before the look: if it is so now, a
---                                     verdict that is right for the position; else stale, with the
---                                     gift count now
---   RepliesToRank p h g k reply    == the gift count was h before the look: if it is so now, the
---                                     verdict of a rank test of degree k that is right for the
---                                     position; else stale, with the gift count now
---   RepliesAt p q before g request reply == the reply is right at the position p, for the vertex q,
---                                     if the gift count is g, and was `before i` at entry i
---   Replies o H request reply      == the reply is right after the history H from the start o
+--   RepliesToLook p g reply              == the gift count, the amounts and the graph, as they are
+--   RepliesToClaim p reply               == won if nobody is in debt, and not won if somebody is
+--   RepliesToJudge p q h g reply         == the gift count was h before the look: if it is so now, a verdict
+--                                           that is right for the position; else stale, with the gift count
+--                                           now
+--   RepliesToRank p h g k reply          == the gift count was h before the look: if it is so now, the
+--                                           verdict of a rank test of degree k that is right for the
+--                                           position; else stale, with the gift count now
+--   RepliesAt p q before g request reply == the reply is right at the position p, for the vertex q, if the
+--                                           gift count is g, and was `before i` at entry i
+--   Replies o H request reply            == the reply is right after the history H from the start o
 use Rattle.std.specs.Prelude.{◌≡◌, ◌≢◌, ℕ, List, take}
-use Rattle.dg_rules.specs.Common.{IsEffective, StartData, IsRight, IsRankTest}
-use Rattle.dg_rules.specs.Position.{Position, Shows}
+use Rattle.dg_rules.specs.Common.{IsEffective, StartData, IsRight, IsRightRankVerdict}
+use Rattle.dg_rules.specs.Position.{Position, ShowsPosition}
 use Rattle.dg_rules.specs.History.{position_after, gifts_in}
 use Rattle.dg_rules.specs.MoveReplies.{RepliesToMove}
 use Rattle.dg_rules.specs.GiftReplies.{RepliesToGift}
@@ -24,7 +24,7 @@ use Rattle.dg_rules.specs.declared.entry.Reply.{Reply}
 use Rattle.dg_rules.specs.declared.entry.Reply.TheVariants.{Looked, Won, NotWon, Verdict, Rank as RankReply, Stale}
 
 abbrev pub RepliesToLook : Position → ℕ → Reply → Type 0
-RepliesToLook p g (Looked count d graph) = (count ≡ g) × Shows p d × (graph ≡ p.graph)
+RepliesToLook p g (Looked count d graph) = (count ≡ g) × ShowsPosition p d × (graph ≡ p.graph)
 RepliesToLook p g reply = ⊥
 
 abbrev pub RepliesToClaim : Position → Reply → Type 0
@@ -38,7 +38,7 @@ RepliesToJudge p q h g (Stale count) = (h ≢ g) × (count ≡ g)
 RepliesToJudge p q h g reply = ⊥
 
 abbrev pub RepliesToRank : Position → ℕ → ℕ → ℕ → Reply → Type 0
-RepliesToRank p h g k (RankReply x) = (h ≡ g) × IsRankTest p.graph p.amounts k x
+RepliesToRank p h g k (RankReply x) = (h ≡ g) × IsRightRankVerdict p.graph p.amounts k x
 RepliesToRank p h g k (Stale count) = (h ≢ g) × (count ≡ g)
 RepliesToRank p h g k reply = ⊥
 

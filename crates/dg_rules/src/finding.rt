@@ -1,6 +1,6 @@
 //! What is asked on a look, and what is computed on it with no game at hand: verdicts and rank tests.
 ghost use Rattle.std.specs.Prelude.{◌≡◌, ℕ, ◌<◌};
-ghost use Rattle.dg_rules.specs.Look.{IsFoundFor, asked_for, asked_on};
+ghost use Rattle.dg_rules.specs.Look.{IsRightFinding, request_for_finding, request_for_question};
 ghost use Rattle.dg_rules.specs.declared.entry.Request.TheVariants.{Judge as JudgeRequest};
 
 use crate::entry::Request;
@@ -21,7 +21,7 @@ pub enum Question {
 impl Question {
     /// What the entry of the question asks, where it was asked on the look with this number.
     pub fn request(&self, number: u32) -> Request
-        ensures { result ≡ asked_on number self.now }
+        ensures { result ≡ request_for_question number self.now }
     {
         match self {
             Question::Judge => Request::Judge(number),
@@ -42,7 +42,7 @@ pub enum Finding {
 impl Finding {
     /// What the entry of the finding asks, where it was computed on the look with this number.
     pub fn request(&self, number: u32) -> Request
-        ensures { result ≡ asked_for number self.now }
+        ensures { result ≡ request_for_finding number self.now }
     {
         match self {
             Finding::Judged(_) => Request::Judge(number),
@@ -55,25 +55,25 @@ impl Finding {
 /// The verdict on the amounts that a look showed, computed from the vertex q of its graph, whatever inverse it is given: one
 /// that was made for the graph and q saves the time to make it anew. The conditions are that the look showed an amount for
 /// each vertex of its graph, and that q is one of them.
-pub fn judge_look(inverse: &InverseLaplacian, q: usize, look: &LookData) -> Finding
+pub fn finding_of_verdict(inverse: &InverseLaplacian, q: usize, look: &LookData) -> Finding
     requires size { look.now.position.size ≡ look.now.graph.size }
     requires vertex { q < look.now.graph.size }
-    ensures found { IsFoundFor q look.now result }
-    ensures asks { (i : ℕ) → asked_for i result ≡ JudgeRequest i }
+    ensures found { IsRightFinding q look.now result }
+    ensures asks { (i : ℕ) → request_for_finding i result ≡ JudgeRequest i }
 {
     Finding::Judged(judge_with_inverse(&look.graph, inverse, q, &look.position))
 }
 
 /// Makes an inverse anew, unless it may serve the verdict on a look, computed from the vertex q. Nothing is promised of it.
-pub fn renew_looks_inverse(inverse: &mut InverseLaplacian, q: usize, look: &LookData) {
-    if !inverse.may_serve(&look.graph, q) {
-        make_looks_inverse(inverse, q, &look.graph);
+pub fn renew_inverse_for_finding(inverse: &mut InverseLaplacian, q: usize, look: &LookData) {
+    if !inverse.may_invert(&look.graph, q) {
+        make_inverse_for_finding(inverse, q, &look.graph);
     }
 }
 
 /// Makes an inverse anew. It stands apart, so that no room for an inverse is cleared if the one that is kept serves.
 #[cold]
 #[inline(never)]
-fn make_looks_inverse(inverse: &mut InverseLaplacian, q: usize, graph: &Graph) {
+fn make_inverse_for_finding(inverse: &mut InverseLaplacian, q: usize, graph: &Graph) {
     *inverse = InverseLaplacian::new(graph, q);
 }

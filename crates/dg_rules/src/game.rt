@@ -13,8 +13,8 @@ ghost use Rattle.dg_rules.specs.JoinReplies.{RepliesToJoin};
 ghost use Rattle.dg_rules.specs.Replies.{Replies, RepliesAt, RepliesToClaim};
 ghost use Rattle.dg_rules.specs.History.{with_entry};
 ghost use Rattle.dg_rules.specs.Legal.{IsSeat, IsLegal};
-ghost use Rattle.dg_rules.specs.Look.{IsLookAt, IsFoundFor, asked_for, asked_on, KeepsFinding};
-ghost use Rattle.dg_rules.specs.State.{IsState, LeadsTo, IsRightIn, IsNext, position_of};
+ghost use Rattle.dg_rules.specs.Look.{IsLookAt, IsRightFinding, request_for_finding, request_for_question, KeepsFinding};
+ghost use Rattle.dg_rules.specs.State.{IsState, LeadsTo, IsRightReplyInState, IsNextGameState, position_of};
 ghost use Rattle.dg_rules.specs.Requests.{asked};
 ghost use Rattle.dg_rules.specs.declared.entry.Entry.{Entry as EntryData};
 ghost use Rattle.dg_rules.specs.declared.entry.Reply.TheVariants.{Given, Refused, Stale};
@@ -157,15 +157,15 @@ impl Game {
             IsLegal o H → IsSeat seat → IsLegal o (with_entry H seat (asked plain) result) }
     {
         let mut entry = BLANK;
-        self.answer_call(0, &plain, &mut entry);
-        self.follow(&entry);
+        self.reply_to_call(0, &plain, &mut entry);
+        self.follow_entry(&entry);
         entry.reply
     }
 
-    /// Writes the entry of a seat's call, as the game answers it after its history. The game stays as it is: `follow` takes
+    /// Writes the entry of a seat's call, as the game answers it after its history. The game stays as it is: `follow_entry` takes
     /// the entry into the history.
     #[inline(always)]
-    pub fn answer_call(&self, seat: u8, plain: &Plain, entry: &mut Entry)
+    pub fn reply_to_call(&self, seat: u8, plain: &Plain, entry: &mut Entry)
         ensures seat { entry.new.seat ≡ seat }
         ensures request { entry.new.request ≡ asked plain.now }
         ensures here { (before : ℕ → ℕ) →
@@ -178,13 +178,13 @@ impl Game {
     {
         entry.seat = seat;
         plain.ask(&mut entry.request);
-        self.answer_now(plain, &mut entry.reply);
+        self.reply_at_position(plain, &mut entry.reply);
     }
 
     /// Writes the reply to a call that is right as the game stands. If the caller knows that the game and the reply lie apart,
     /// what a look shows is copied once.
     #[inline(always)]
-    fn answer_now(&self, plain: &Plain, reply: &mut Reply)
+    fn reply_at_position(&self, plain: &Plain, reply: &mut Reply)
         ensures { (before : ℕ → ℕ) →
             RepliesAt (position_of self.now) self.now.q before self.now.gifts (asked plain.now) reply.new }
     {
@@ -243,22 +243,22 @@ impl Game {
 
     /// Takes an entry that was answered rightly into the history. It takes no memory. The conditions are that there are fewer
     /// than 65,536 entries, and that the reply is the right one as the game stands.
-    pub fn follow(&mut self, entry: &Entry)
+    pub fn follow_entry(&mut self, entry: &Entry)
         requires room { self.old.entries < MAX_ENTRIES }
-        requires right { IsRightIn self.old entry.now.request entry.now.reply }
-        ensures next { IsNext self.old entry.now.request entry.now.reply self.new }
+        requires right { IsRightReplyInState self.old entry.now.request entry.now.reply }
+        ensures next { IsNextGameState self.old entry.now.request entry.now.reply self.new }
         ensures leads { (o : StartData) (H : List EntryData) → LeadsTo o H self.old →
             Replies o H entry.now.request entry.now.reply →
             LeadsTo o (H ++ entry.now ∷ []) self.new }
     {
-        self.follow_now(entry);
+        self.follow_in_game(entry);
     }
 
     /// Takes an entry that was answered rightly into the state of the game.
-    fn follow_now(&mut self, entry: &Entry)
+    fn follow_in_game(&mut self, entry: &Entry)
         requires room { self.old.entries < MAX_ENTRIES }
-        requires right { IsRightIn self.old entry.now.request entry.now.reply }
-        ensures { IsNext self.old entry.now.request entry.now.reply self.new }
+        requires right { IsRightReplyInState self.old entry.now.request entry.now.reply }
+        ensures { IsNextGameState self.old entry.now.request entry.now.reply self.new }
     {
         self.entries += 1;
         match &entry.reply {
@@ -300,32 +300,32 @@ impl Game {
         requires room { self.old.entries < MAX_ENTRIES }
         requires look { (o : StartData) × (H : List EntryData) × LeadsTo o H self.old ×
             IsLookAt o H look.now }
-        requires found { IsFoundFor self.old.q look.now finding.now }
+        requires found { IsRightFinding self.old.q look.now finding.now }
         ensures replies { (o : StartData) (H : List EntryData) → LeadsTo o H self.old →
-            IsLookAt o H look.now → Replies o H (asked_for look.now.number finding.now) result }
+            IsLookAt o H look.now → Replies o H (request_for_finding look.now.number finding.now) result }
         ensures leads { (o : StartData) (H : List EntryData) (seat : ℕ) → LeadsTo o H self.old →
             IsLookAt o H look.now →
-            LeadsTo o (with_entry H seat (asked_for look.now.number finding.now) result) self.new }
+            LeadsTo o (with_entry H seat (request_for_finding look.now.number finding.now) result) self.new }
         ensures legal { (o : StartData) (H : List EntryData) (seat : ℕ) → LeadsTo o H self.old →
             IsLookAt o H look.now → IsLegal o H → IsSeat seat →
-            IsLegal o (with_entry H seat (asked_for look.now.number finding.now) result) }
+            IsLegal o (with_entry H seat (request_for_finding look.now.number finding.now) result) }
         ensures kept { KeepsFinding finding.now result }
     {
         let mut entry = BLANK;
-        self.answer_finding(0, look, finding, &mut entry);
-        self.follow(&entry);
+        self.reply_to_finding(0, look, finding, &mut entry);
+        self.follow_entry(&entry);
         entry.reply
     }
 
-    /// Writes the entry of what was computed on a look, answered as `settle` answers it. The game stays as it is: `follow` takes
-    /// the entry into the history. The conditions are those of `settle` but for the number of entries.
+    /// Writes the entry of what was computed on a look, answered as `settle` answers it. The game stays as it is:
+    /// `follow_entry` takes the entry into the history. The conditions are those of `settle` but for the number of entries.
     #[inline(always)]
-    pub fn answer_finding(&self, seat: u8, look: &LookData, finding: &Finding, entry: &mut Entry)
+    pub fn reply_to_finding(&self, seat: u8, look: &LookData, finding: &Finding, entry: &mut Entry)
         requires look { (o : StartData) × (H : List EntryData) × LeadsTo o H self.now ×
             IsLookAt o H look.now }
-        requires found { IsFoundFor self.now.q look.now finding.now }
+        requires found { IsRightFinding self.now.q look.now finding.now }
         ensures seat { entry.new.seat ≡ seat }
-        ensures request { entry.new.request ≡ asked_for look.now.number finding.now }
+        ensures request { entry.new.request ≡ request_for_finding look.now.number finding.now }
         ensures replies { (o : StartData) (H : List EntryData) → LeadsTo o H self.now →
             IsLookAt o H look.now → Replies o H entry.new.request entry.new.reply }
         ensures legal { (o : StartData) (H : List EntryData) → LeadsTo o H self.now →
@@ -334,17 +334,17 @@ impl Game {
     {
         entry.seat = seat;
         entry.request = finding.request(look.number);
-        self.answer_found(look, finding, &mut entry.reply);
+        self.reply_to_right_finding(look, finding, &mut entry.reply);
     }
 
     /// Writes the reply to a finding that is right as the game stands.
     #[inline(always)]
-    fn answer_found(&self, look: &LookData, finding: &Finding, reply: &mut Reply)
+    fn reply_to_right_finding(&self, look: &LookData, finding: &Finding, reply: &mut Reply)
         requires look { (o : StartData) × (H : List EntryData) × LeadsTo o H self.now ×
             IsLookAt o H look.now }
-        requires found { IsFoundFor self.now.q look.now finding.now }
+        requires found { IsRightFinding self.now.q look.now finding.now }
         ensures replies { (o : StartData) (H : List EntryData) → LeadsTo o H self.now →
-            IsLookAt o H look.now → Replies o H (asked_for look.now.number finding.now) reply.new }
+            IsLookAt o H look.now → Replies o H (request_for_finding look.now.number finding.now) reply.new }
         ensures kept { KeepsFinding finding.now reply.new }
     {
         if self.gifts != look.gifts {
@@ -353,10 +353,10 @@ impl Game {
         }
         match finding {
             Finding::Judged(verdict) => {
-                if self.stands_at(&look.position) {
+                if self.position_stands_at(&look.position) {
                     *reply = Reply::Verdict(*verdict);
                 } else {
-                    let carried = self.verdict_now(&look.position, &look.drift, verdict);
+                    let carried = self.verdict_at_position(&look.position, &look.drift, verdict);
                     *reply = Reply::Verdict(carried);
                 }
             }
@@ -364,13 +364,13 @@ impl Game {
         }
     }
 
-    /// Writes the entry of a question on a look, if gifts, levies or joins were accepted since: it is answered with `Stale`, as
-    /// `settle` answers each finding, so nothing has to be computed. The game stays as it is: `follow` takes the entry into the
-    /// history. The condition is that their number is another than that before the look.
-    pub fn answer_stale(&self, seat: u8, look: &LookData, asks: &Question, entry: &mut Entry)
+    /// Writes the entry of a question on a look, if gifts, levies or joins were accepted since: it is answered with `Stale`,
+    /// as `settle` answers each finding, so nothing has to be computed. The game stays as it is: `follow_entry` takes the
+    /// entry into the history. The condition is that their number is another than that before the look.
+    pub fn reply_as_stale(&self, seat: u8, look: &LookData, asks: &Question, entry: &mut Entry)
         requires { look.now.gifts ≢ self.now.gifts }
         ensures seat { entry.new.seat ≡ seat }
-        ensures request { entry.new.request ≡ asked_on look.now.number asks.now }
+        ensures request { entry.new.request ≡ request_for_question look.now.number asks.now }
         ensures stale { entry.new.reply ≡ Stale self.now.gifts }
         ensures replies { (o : StartData) (H : List EntryData) →
             LeadsTo o H self.now → IsLookAt o H look.now →
@@ -384,14 +384,14 @@ impl Game {
     }
 
     /// Whether the position now is an earlier one.
-    fn stands_at(&self, then: &Divisor) -> bool
+    fn position_stands_at(&self, then: &Divisor) -> bool
         ensures { OnTrue result (then.now.numbers ≡ self.now.amounts.numbers) }
     {
         *then == self.amounts
     }
 
     /// The verdict on an earlier position, carried over to the position now.
-    fn verdict_now(&self, then: &Divisor, drift: &Drift, verdict: &Verdict) -> Verdict
+    fn verdict_at_position(&self, then: &Divisor, drift: &Drift, verdict: &Verdict) -> Verdict
         requires size { then.now.size ≡ self.now.graph.size }
         requires led { AreEquivalent self.now.graph (at then.now) (at self.now.amounts) }
         requires right { IsRight self.now.graph self.now.q (at then.now) verdict.now }
@@ -400,13 +400,13 @@ impl Game {
         ensures order { result.order ≡ verdict.now.order }
     {
         let _size = self.amounts.size();
-        let since = self.drift_from(then, drift);
+        let since = self.drift_to_position(then, drift);
         rebase(self.q(), verdict, &since)
     }
 
     /// A drift that leads from an earlier position to the position now: what was lent since then, if it does; otherwise
     /// what the scripts of two verdicts differ by.
-    fn drift_from(&self, then: &Divisor, drift: &Drift) -> Drift
+    fn drift_to_position(&self, then: &Divisor, drift: &Drift) -> Drift
         requires size { then.now.size ≡ self.now.graph.size }
         requires led { AreEquivalent self.now.graph (at then.now) (at self.now.amounts) }
         ensures size { result.size ≡ self.now.graph.size }

@@ -1,16 +1,16 @@
 //! The laws of histories: functions with empty bodies, whose contracts are the laws.
-ghost use Rattle.dg_rules.specs.Step.{GameHasNoEntry, OneMoreEntry, SinceChange, PlayedSinceStart, SinceLast, VerticesStay};
-ghost use Rattle.dg_rules.specs.LegalLaws.{EmptyIsLegal, OneMoreIsLegal, BeginningsAreLegal, PartsAreLegal, LegalIsSized, LegalGraphsHold, LooksAreShown};
+ghost use Rattle.dg_rules.specs.Step.{GameHasNoEntry, OneMoreEntry, PositionSinceChange, PlayedSinceStart, PositionSinceLastChange, VerticesStay};
+ghost use Rattle.dg_rules.specs.LegalLaws.{EmptyIsLegal, OneMoreIsLegal, BeginningsAreLegal, PartsAreLegal, LegalIsSized, LegalGraphsHold, LegalLooksAreShown};
 
 /// What a history does to the position: without an entry it is that of the start; one more entry does what its
 /// accepted move, gift or join does, and nothing else; entries without an accepted gift or join fire it by their
 /// scripts, from the start on and from the last change on; and the vertices stay.
-pub fn law_of_histories()
+pub fn law_of_positions()
     ensures start { GameHasNoEntry }
     ensures step { OneMoreEntry }
-    ensures since_change { SinceChange }
+    ensures since_change { PositionSinceChange }
     ensures since_start { PlayedSinceStart }
-    ensures since_last { SinceLast }
+    ensures since_last { PositionSinceLastChange }
     ensures vertices { VerticesStay }
 {}
 
@@ -24,5 +24,5 @@ pub fn law_of_legal_histories()
     ensures parts { PartsAreLegal }
     ensures sizes { LegalIsSized }
     ensures graphs { LegalGraphsHold }
-    ensures looks { LooksAreShown }
+    ensures looks { LegalLooksAreShown }
 {}

@@ -10,19 +10,19 @@ pub use Rattle.dg_party.specs.Sessions.{contents}
 pub use Rattle.dg_party.specs.declared.ending.PartyRefusal.{PartyRefusal}
 pub use Rattle.dg_party.specs.declared.ending.PartyRefusal.TheVariants.{Log, Shortage}
 pub use Rattle.dg_server.specs.Parties.{IsPartyOn, IsRefusedOn, early, names_in}
-pub use Rattle.dg_server.specs.Sessions.{IsHeard, IsServed, IsUnclosed}
+pub use Rattle.dg_server.specs.Sessions.{IsHeardInRun, IsServed, IsUnclosedInRun}
 pub use Rattle.dg_server.specs.declared.fault.Fault.TheVariants.{Words}
 pub use Rattle.dg_session.proofs.Entered.{entered_all, full_at_close}
 pub use Rattle.dg_session.specs.Setup.{Setup}
 pub use Rattle.dg_session.specs.Streams.{Passage}
 pub use Rattle.dg_session.specs.declared.ends.SessionEnd.{SessionEnd}
-pub use Rattle.dg_system.specs.AllHeld.{MayHoldAll}
+pub use Rattle.dg_system.specs.AllHeld.{MayHoldAllSourceBytes}
 pub use Rattle.dg_system.specs.Held.{Held}
 pub use Rattle.dg_table.proofs.Complete.{all_there, none_missing}
 pub use Rattle.dg_table.specs.Closing.{IsCloseRefused, IsClosed}
-pub use Rattle.dg_table.specs.Opened.{AreFresh, MayHaveSeats}
+pub use Rattle.dg_table.specs.Opened.{AreFresh, TableMayHaveSeats}
 pub use Rattle.dg_table.specs.Seats.{SeatView}
-pub use Rattle.dg_tasks.specs.Tasks.{DescribesTable}
+pub use Rattle.dg_tasks.specs.Tasks.{DescribesTaskTable}
 pub use Rattle.std.proofs.Common.{Bor, Err, Global, List, None, Ok, Option, Result, Some, Vec, [], ap, arith, inl, inr, length, map, refl, rules, subst, suc, sym, take, ℕ, ◌++◌, ◌+◌, ◌<◌, ◌∙◌, ◌∷◌, ◌≡◌, ◌≤◌}
 pub use Rattle.std.proofs.Math.Seq.{take-append_seam}
 pub use Rattle.std.proofs.lemmas.List.{length-map, length-take-le, take_more}

@@ -9,9 +9,9 @@
 --   reader_anew, writer_anew   a reader, and a writer, to which nothing has happened
 use Rattle.dg_system.specs.Growth.{StreamReading, StreamWriting, reading_anew, writing_anew}
 use Rattle.std.specs.Prelude.{false}
-use Rattle.dg_server.proofs.Common.{◌≡◌, ℕ, suc, ◌≤◌, List, [], ◌∷◌, ◌++◌, length, take, map, Option, None, Some, refl, sym, ap, subst, ◌∙◌, Bor, Vec, Global, length-map, take-append_seam, MAX_SEATS, MayHaveSeats, SeatView, Held, StartData, Entry, IsClosed, IsCloseRefused, all_there, none_missing, entered_all, full_at_close, Setup, Passage, IsHeard, IsServed, IsUnclosed, SessionEnd, contents, IsParty, IsPartyRefused, contents_count, PartyRefusal, PartyTask, DescribesTable, MayHoldAll, Keeps, names_in, IsPartyOn, IsRefusedOn, table_data_of, Result}
+use Rattle.dg_server.proofs.Common.{◌≡◌, ℕ, suc, ◌≤◌, List, [], ◌∷◌, ◌++◌, length, take, map, Option, None, Some, refl, sym, ap, subst, ◌∙◌, Bor, Vec, Global, length-map, take-append_seam, MAX_SEATS, TableMayHaveSeats, SeatView, Held, StartData, Entry, IsClosed, IsCloseRefused, all_there, none_missing, entered_all, full_at_close, Setup, Passage, IsHeardInRun, IsServed, IsUnclosedInRun, SessionEnd, contents, IsParty, IsPartyRefused, contents_count, PartyRefusal, PartyTask, DescribesTaskTable, MayHoldAllSourceBytes, Keeps, names_in, IsPartyOn, IsRefusedOn, table_data_of, Result}
 
-pub held_count : (held : List ℕ → Held) (names all : List (List ℕ)) → MayHoldAll held names all
+pub held_count : (held : List ℕ → Held) (names all : List (List ℕ)) → MayHoldAllSourceBytes held names all
     → length all ≡ length names
 held_count held [] [] known = refl
 held_count held [] (b ∷ all) known = absurd known
@@ -19,8 +19,8 @@ held_count held (n ∷ names) [] known = absurd known
 held_count held (n ∷ names) (b ∷ all) known = ap suc (held_count held names all known.1)
 
 pub may_play : (held : List ℕ → Held) (n : ℕ) (names : List (Bor (List ℕ))) (all : List (Vec ℕ Global)) →
-    MayHoldAll held (map (λ name. name.now) names) (map (λ script. script.items) all) → n ≡ length names → 1 ≤ n
-    → n ≤ MAX_SEATS → MayHaveSeats (length all)
+    MayHoldAllSourceBytes held (map (λ name. name.now) names) (map (λ script. script.items) all) → n ≡ length names → 1 ≤ n
+    → n ≤ MAX_SEATS → TableMayHaveSeats (length all)
 may_play held n names all known count least most =
     let same : length (map (λ (script : Vec ℕ Global). script.items) all)
     ≡ length (map (λ (name : Bor (List ℕ)). name.now) names) =
@@ -34,7 +34,7 @@ may_play held n names all known count least most =
     rw total (least, most)
 
 pub served : {t : Setup} {input output : Passage} {end : Result ℕ SessionEnd}
-    (heard : IsHeard t input output end) (H : List Entry)
+    (heard : IsHeardInRun t input output end) (H : List Entry)
     → map (λ (x : SeatView). x.number) heard.after ≡ map (λ (x : SeatView). x.number) heard.seats
     → IsClosed t.table heard.after H → IsServed t input output end
 served heard H same closed = record {
@@ -46,9 +46,9 @@ served heard H same closed = record {
 }
 
 pub unclosed : {t : Setup} {input output : Passage} {end : Result ℕ SessionEnd}
-    (heard : IsHeard t input output end) (zs : List SeatView) (s : ℕ)
+    (heard : IsHeardInRun t input output end) (zs : List SeatView) (s : ℕ)
     → map (λ (x : SeatView). x.number) heard.after ≡ map (λ (x : SeatView). x.number) heard.seats
-    → IsCloseRefused t.table heard.after zs s → IsUnclosed t input output
+    → IsCloseRefused t.table heard.after zs s → IsUnclosedInRun t input output
 unclosed {t} {end = end} heard zs s same refused =
     let complete = all_there t.table.seats heard.seats heard.after heard.fresh same in
     let none = none_missing t.table heard.after zs s complete refused in
@@ -61,8 +61,8 @@ unclosed {t} {end = end} heard zs s same refused =
 
 pub party_on : (held : List ℕ → Held) (task : PartyTask) (o : StartData) (names : List (List ℕ))
     (all : List (Vec ℕ Global))
-    (ends : List (Result ℕ SessionEnd)) (text : List ℕ) → DescribesTable (held task.file.now) o names →
-    MayHoldAll held (names_in task) (map (λ script. script.items) all)
+    (ends : List (Result ℕ SessionEnd)) (text : List ℕ) → DescribesTaskTable (held task.file.now) o names →
+    MayHoldAllSourceBytes held (names_in task) (map (λ script. script.items) all)
     → IsParty (table_data_of o (length all) task.capacity) names (contents all) ends text →
     IsPartyOn held task ends text
 party_on held task o names all ends text table known party =
@@ -78,8 +78,9 @@ party_on held task o names all ends text table known party =
     }
 
 pub refused_lent : (held : List ℕ → Held) (task : PartyTask) {o o' : StartData} {names names' : List (List ℕ)}
-    (all : List (Vec ℕ Global)) (refusal : PartyRefusal) → o' ≡ o → names' ≡ names → DescribesTable (held task.file.now) o names
-    → MayHoldAll held (names_in task) (map (λ script. script.items) all)
+    (all : List (Vec ℕ Global)) (refusal : PartyRefusal) → o' ≡ o → names' ≡ names → DescribesTaskTable (held task.file.now)
+    o names
+    → MayHoldAllSourceBytes held (names_in task) (map (λ script. script.items) all)
     → IsPartyRefused (table_data_of o' (length all) task.capacity) names' (contents all) refusal → IsRefusedOn held task refusal
 refused_lent held task {o} {o'} {names} {names'} all refusal opened named table known refused =
     let at : ℕ → StartData → List (List ℕ) → Type 0 =

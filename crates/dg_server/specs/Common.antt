@@ -25,10 +25,10 @@ pub use Rattle.dg_sweep.specs.Answers.{AnswersTableWithin}
 pub use Rattle.dg_sweep.specs.Divisors.{AnswersAmounts}
 pub use Rattle.dg_sweep.specs.Sweeps.{IsSweep}
 pub use Rattle.dg_sweep.specs.declared.ends.SweepEnd.{SweepEnd}
-pub use Rattle.dg_system.specs.AllHeld.{IsFirstUnread, MayHoldAll}
-pub use Rattle.dg_system.specs.Growth.{AppendsFront, StreamReading, StreamWriting}
-pub use Rattle.dg_system.specs.Held.{Held, MayHold, RefusesHeld}
-pub use Rattle.dg_system.specs.Streams.{MayGive, RefusesStream}
+pub use Rattle.dg_system.specs.AllHeld.{IsFirstUnreadSource, MayHoldAllSourceBytes}
+pub use Rattle.dg_system.specs.Growth.{AppendsFrontToOutput, StreamReading, StreamWriting}
+pub use Rattle.dg_system.specs.Held.{Held, MayHoldSourceBytes, RefusesSource}
+pub use Rattle.dg_system.specs.Streams.{MayGiveAsStream, RefusesSourceStream}
 pub use Rattle.dg_system.specs.declared.shortage.Shortage.TheVariants.{OutOfMemory}
 pub use Rattle.dg_system.specs.declared.sources.SourceFault.{SourceFault}
 pub use Rattle.dg_system.specs.declared.sources.SourceFault.TheVariants.{TooLong, Unreadable}
@@ -36,6 +36,6 @@ pub use Rattle.dg_table.specs.Closing.{IsCloseRefused, IsClosed}
 pub use Rattle.dg_table.specs.Opened.{AreFresh}
 pub use Rattle.dg_table.specs.Seats.{SeatView}
 pub use Rattle.dg_table.specs.declared.fault.Fault.TheVariants.{Full, Log}
-pub use Rattle.dg_tasks.specs.Tasks.{DescribesTable, IsAnswer, IsOnTable, RefusesContents, RefusesItsTable, RefusesTask}
+pub use Rattle.dg_tasks.specs.Tasks.{DescribesTaskTable, IsAnswer, IsOnTaskTable, RefusesTaskContents, RefusesTaskTable, RefusesTask}
 pub use Rattle.dg_tasks.specs.declared.fault.TaskFault.{TaskFault}
 pub use Rattle.dg_tasks.specs.declared.fault.TaskFault.TheVariants.{File, Source}

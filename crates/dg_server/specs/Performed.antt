@@ -1,18 +1,19 @@
 -- What is asked for, done or refused. `held` tells what is known of the file of each name; input
 -- stands for the bytes that the reader had to give and has left, and old and new for what the output
 -- held and holds, if those are known.
---   Performs held input asked old new == what is asked for is done: the output has grown by the
---                                    answer to the task, by the text of a call for help, by what a
---                                    session said, by the history and the totals of a party, or by
---                                    the answers to the lines of a file
---   LeavesInput asked input rest   == the input is as it was: only a session reads it
---   Refuses held input asked fault old new == what is asked for is refused so, or ended so; or the
---                         output failed at the text of the answer, or of the help
+--   Performs held input asked old new               == what is asked for is done: the output has grown by the
+--                                                      answer to the task, by the text of a call for help, by
+--                                                      what a session said, by the history and the totals of
+--                                                      a party, or by the answers to the lines of a file
+--   LeavesInputOfRun asked input rest               == the input is as it was: only a session reads it
+--   RefusesToPerform held input asked fault old new == what is asked for is refused so, or ended so; or the
+--                                                      output failed at the text of the answer, or of the
+--                                                      help
 use Rattle.std.specs.Prelude.{◌≡◌, ◌⊎◌, ℕ, List, Option, string_bytes, ⊤}
 use Rattle.std.specs.Io.KnownBytes.{Appends, Keeps}
 use Rattle.dg_server.specs.Common.{Passage, StreamReading, Held, IsAnswer, RefusesTask, Invocation, Task, Serve, Party, Sweep, Text}
 use Rattle.dg_server.specs.OfTasks.{IsOfTask}
-use Rattle.dg_server.specs.Streams.{BreaksOff}
+use Rattle.dg_server.specs.Streams.{BreaksOffRun}
 use Rattle.dg_server.specs.Sessions.{Serves, RefusesServing}
 use Rattle.dg_server.specs.Parties.{PlaysParty, RefusesParty}
 use Rattle.dg_server.specs.Sweeping.{Sweeps, RefusesSweeping}
@@ -27,16 +28,16 @@ Performs held input (Party task) old new = PlaysParty held task old new
 Performs held input (Sweep task) old new = Sweeps held task old new
 Performs held input (Text help) old new = Appends old new (string_bytes help)
 
-abbrev pub LeavesInput : Invocation → StreamReading → StreamReading → Type 0
-LeavesInput (Serve task) input rest = ⊤
-LeavesInput asked input rest = rest ≡ input
+abbrev pub LeavesInputOfRun : Invocation → StreamReading → StreamReading → Type 0
+LeavesInputOfRun (Serve task) input rest = ⊤
+LeavesInputOfRun asked input rest = rest ≡ input
 
-abbrev pub Refuses : (List ℕ → Held) → Passage → Invocation → Fault → Option (List ℕ)
+abbrev pub RefusesToPerform : (List ℕ → Held) → Passage → Invocation → Fault → Option (List ℕ)
     → Option (List ℕ) → Type 0
-Refuses held input (Task task) fault old new =
+RefusesToPerform held input (Task task) fault old new =
     (IsOfTask (RefusesTask held task) fault × Keeps old new)
-    ⊎ ((text : List ℕ) × IsAnswer held task text × BreaksOff fault old new text)
-Refuses held input (Serve task) fault old new = RefusesServing held input task fault old new
-Refuses held input (Party task) fault old new = RefusesParty held task fault old new
-Refuses held input (Sweep task) fault old new = RefusesSweeping held task fault old new
-Refuses held input (Text help) fault old new = BreaksOff fault old new (string_bytes help)
+    ⊎ ((text : List ℕ) × IsAnswer held task text × BreaksOffRun fault old new text)
+RefusesToPerform held input (Serve task) fault old new = RefusesServing held input task fault old new
+RefusesToPerform held input (Party task) fault old new = RefusesParty held task fault old new
+RefusesToPerform held input (Sweep task) fault old new = RefusesSweeping held task fault old new
+RefusesToPerform held input (Text help) fault old new = BreaksOffRun fault old new (string_bytes help)

@@ -1,23 +1,24 @@
 -- Runs of the program: how a run ends. `asks` and `refuses` say what the words of the command line
 -- may ask for, and why they may ask for nothing, as their reader has it.
---   Run                   == the words of its command line; what is known of the file of each name;
---                         the input before and after, as input and rest; and the output before and
---                         after, as old and new
+--   Run                                  == the words of its command line; what is known of the file of each
+--                                           name; the input before and after, as input and rest; and the
+--                                           output before and after, as old and new
 --   run_of words held input rest old new == the run of these
---   Succeeds asks run     == what the words ask for is done; the input is as it was, unless that is a
---                         session
---   IsOfWords refuses run fault == the words are refused so, and the input and the output are as they
---                         were
---   IsOfAsked asks run fault == what the words ask for is refused so, or ended so; a fault in
---                         reading the input, or in writing, tells that the input, or the output,
---                         has failed; the input is as it was, unless a session was asked for
---   IsCause asks refuses run fault == one of the two
---   Fails asks refuses run n == n is the status of a fault that has its cause
+--   Succeeds asks run                    == what the words ask for is done; the input is as it was, unless
+--                                           that is a session
+--   IsOfWords refuses run fault          == the words are refused so, and the input and the output are as
+--                                           they were
+--   IsOfAsked asks run fault             == what the words ask for is refused so, or ended so; a fault in
+--                                           reading the input, or in writing, tells that the input, or the
+--                                           output, has failed; the input is as it was, unless a session was
+--                                           asked for
+--   IsCause asks refuses run fault       == one of the two
+--   FailsWithStatus asks refuses run n   == n is the status of a fault that has its cause
 use Rattle.std.specs.Prelude.{◌≡◌, ◌⊎◌, ℕ, List, true}
 use Rattle.std.specs.Io.KnownBytes.{Keeps}
 use Rattle.dg_server.specs.Common.{Invocation, ArgsFault, StreamReading, StreamWriting, Held, passage}
 use Rattle.dg_server.specs.Streams.{IsOfInput, IsOfOutput}
-use Rattle.dg_server.specs.Performed.{Performs, LeavesInput, Refuses}
+use Rattle.dg_server.specs.Performed.{Performs, LeavesInputOfRun, RefusesToPerform}
 use Rattle.dg_server.specs.Status.{status}
 use Rattle.dg_server.specs.declared.fault.Fault.{Fault}
 use Rattle.dg_server.specs.declared.fault.Fault.TheVariants.{Words}
@@ -39,7 +40,7 @@ pub record Succeeds (asks : List (List ℕ) → Invocation → Type 0) (run : Ru
   pub wanted : asks run.words asked
   pub done : Performs run.held (passage run.input.remaining run.rest.remaining) asked
       run.old.contents run.new.contents
-  pub left : LeavesInput asked run.input run.rest
+  pub left : LeavesInputOfRun asked run.input run.rest
 
 pub record IsOfWords (refuses : List (List ℕ) → ArgsFault → Type 0) (run : Run) (fault : Fault)
     : Type 0 where
@@ -53,9 +54,9 @@ pub record IsOfAsked (asks : List (List ℕ) → Invocation → Type 0) (run : R
     : Type 0 where
   pub asked : Invocation
   pub wanted : asks run.words asked
-  pub refused : Refuses run.held (passage run.input.remaining run.rest.remaining) asked fault
+  pub refused : RefusesToPerform run.held (passage run.input.remaining run.rest.remaining) asked fault
       run.old.contents run.new.contents
-  pub left : LeavesInput asked run.input run.rest
+  pub left : LeavesInputOfRun asked run.input run.rest
   pub read : IsOfInput fault → run.rest.has_failed ≡ true
   pub write : IsOfOutput fault → run.new.has_failed ≡ true
 
@@ -63,7 +64,7 @@ abbrev pub IsCause : (List (List ℕ) → Invocation → Type 0) → (List (List
     → Run → Fault → Type 0
 IsCause asks refuses run fault = IsOfWords refuses run fault ⊎ IsOfAsked asks run fault
 
-pub record Fails (asks : List (List ℕ) → Invocation → Type 0)
+pub record FailsWithStatus (asks : List (List ℕ) → Invocation → Type 0)
     (refuses : List (List ℕ) → ArgsFault → Type 0) (run : Run) (n : ℕ) : Type 0 where
   pub fault : Fault
   pub tells : status fault ≡ n

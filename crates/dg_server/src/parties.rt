@@ -2,9 +2,9 @@
 ghost use Rattle.std.specs.Prelude.{◌≡◌, ◌⊎◌, ℕ, List, [], length, map, true, IfOk, IfErr, OnOk};
 ghost use Rattle.std.specs.Io.KnownBytes.{Appends, Keeps};
 ghost use Rattle.dg_system.specs.Held.{Held};
-ghost use Rattle.dg_table.specs.Opened.{MayHaveSeats};
+ghost use Rattle.dg_table.specs.Opened.{TableMayHaveSeats};
 ghost use Rattle.dg_server.specs.OfTasks.{IsOfTask};
-ghost use Rattle.dg_server.specs.Parties.{early, AreHeld, PlaysParty, names_in, RefusesFilesAsked, IsPrintedWith, EndsSome, IsWanting, RefusesParty};
+ghost use Rattle.dg_server.specs.Parties.{early, PartyFilesAreHeld, PlaysParty, names_in, RefusesFilesAsked, IsRunPrintedWith, EndsSomeOfParty, IsWantingInRun, RefusesParty};
 ghost use Rattle.dg_server.specs.Streams.{IsOfInput, IsOfOutput};
 
 use crate::fault::Fault;
@@ -62,14 +62,14 @@ fn play_scripts<R, O>(
 where
     R: AllocGlobal + Threads + Wait + Sync,
     O: Write,
-    requires { MayHaveSeats (length scripts.now) }
+    requires { TableMayHaveSeats (length scripts.now) }
     ensures done { OnOk result ((held : List ℕ → Held)
-        → AreHeld held task.now table.now.start table.now.names (map (λ script. script.items) scripts.now)
+        → PartyFilesAreHeld held task.now table.now.start table.now.names (map (λ script. script.items) scripts.now)
         → PlaysParty held task.now output.old.contents output.new.contents) }
     ensures refused { IfErr result (λ fault. (held : List ℕ → Held)
-        → AreHeld held task.now table.now.start table.now.names (map (λ script. script.items) scripts.now)
-        → (IsWanting held task.now fault × Keeps output.old.contents output.new.contents)
-        ⊎ EndsSome held task.now fault output.old.contents output.new.contents) }
+        → PartyFilesAreHeld held task.now table.now.start table.now.names (map (λ script. script.items) scripts.now)
+        → (IsWantingInRun held task.now fault × Keeps output.old.contents output.new.contents)
+        ⊎ EndsSomeOfParty held task.now fault output.old.contents output.new.contents) }
     ensures read { IfErr result (λ fault. ¬ IsOfInput fault) }
     ensures write { IfErr result (λ fault. IsOfOutput fault → output.new.has_failed ≡ true) }
 {
@@ -99,7 +99,7 @@ where
     R: Files + AllocGlobal,
     S: Sources,
     ensures read { IfOk result
-        (λ r. AreHeld (S.held sources.now) task.now r.0.start r.0.names
+        (λ r. PartyFilesAreHeld (S.held sources.now) task.now r.0.start r.0.names
         (map (λ script. script.items) r.1.items)) }
     ensures refused { IfErr result
         (IsOfTask (RefusesFilesAsked (S.held sources.now) task.now.file.now (names_in task.now))) }
@@ -127,12 +127,12 @@ fn print_played<O: Write>(
     ensures whole { OnOk result ((early 1 played.now.ends.items ≡ []) ×
         Appends output.old.contents output.new.contents played.now.text.items) }
     ensures refused { IfErr result
-        (λ fault. IsPrintedWith played.now.ends.items played.now.text.items fault
+        (λ fault. IsRunPrintedWith played.now.ends.items played.now.text.items fault
         output.old.contents output.new.contents) }
     ensures read { IfErr result (λ fault. ¬ IsOfInput fault) }
     ensures write { IfErr result (λ fault. IsOfOutput fault → output.new.has_failed ≡ true) }
 {
-    let all = match early_ends(alloc, played.ends.as_slice()) {
+    let all = match early_ends_of_run(alloc, played.ends.as_slice()) {
         Ok(all) => all,
         Err(_) => return Err(Fault::Shortage(Shortage::OutOfMemory)),
     };
@@ -150,7 +150,7 @@ fn print_played<O: Write>(
 }
 
 /// The sessions that ended early, each with its seat.
-fn early_ends(
+fn early_ends_of_run(
     alloc: Global,
     ends: &[Result<u32, SessionEnd>],
 ) -> Result<Vec<(usize, SessionEnd)>, AllocError>

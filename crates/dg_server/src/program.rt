@@ -1,7 +1,7 @@
 //! What is asked for is done.
 ghost use Rattle.std.specs.Prelude.{◌≡◌, true, IfErr, OnOk};
 ghost use Rattle.dg_session.specs.Streams.{passage};
-ghost use Rattle.dg_server.specs.Performed.{Performs, LeavesInput, Refuses};
+ghost use Rattle.dg_server.specs.Performed.{Performs, LeavesInputOfRun, RefusesToPerform};
 ghost use Rattle.dg_server.specs.Streams.{IsOfInput, IsOfOutput};
 
 use crate::fault::Fault;
@@ -35,9 +35,9 @@ where
         (Performs (S.held sources.now) (passage input.old.remaining input.new.remaining) asked.entry
         output.old.contents output.new.contents) }
     ensures refused { IfErr result
-        (λ fault. Refuses (S.held sources.now) (passage input.old.remaining input.new.remaining)
+        (λ fault. RefusesToPerform (S.held sources.now) (passage input.old.remaining input.new.remaining)
         asked.entry fault output.old.contents output.new.contents) }
-    ensures left { LeavesInput asked.entry input.old input.new }
+    ensures left { LeavesInputOfRun asked.entry input.old input.new }
     ensures read { IfErr result (λ fault. IsOfInput fault → input.new.has_failed ≡ true) }
     ensures write { IfErr result (λ fault. IsOfOutput fault → output.new.has_failed ≡ true) }
 {

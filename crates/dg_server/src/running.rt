@@ -2,8 +2,8 @@
 ghost use Rattle.std.specs.Prelude.{◌≡◌, ◌≢◌, map, string_bytes};
 ghost use Rattle.dg_system.specs.Growth.{StreamReading, StreamWriting, reading_anew, writing_anew};
 ghost use Rattle.dg_cli.specs.Asks.{Asks};
-ghost use Rattle.dg_cli.specs.Refusals.{Refuses};
-ghost use Rattle.dg_server.specs.Runs.{run_of, Succeeds, Fails};
+ghost use Rattle.dg_cli.specs.Refusals.{RefusesCommandLine};
+ghost use Rattle.dg_server.specs.Runs.{run_of, Succeeds, FailsWithStatus};
 ghost use Rattle.dg_server.specs.Status.{IsStatus};
 
 use crate::fault::{Fault, report};
@@ -37,7 +37,7 @@ where
         Succeeds Asks (run_of (map string_bytes words.now) (S.held sources.now)
         (reading_anew (I.remaining input)) rest (writing_anew (O.contents output)) new) }
     ensures failed { result ≢ 0 → (rest : StreamReading) × (new : StreamWriting) ×
-        Fails Asks Refuses (run_of (map string_bytes words.now) (S.held sources.now)
+        FailsWithStatus Asks RefusesCommandLine (run_of (map string_bytes words.now) (S.held sources.now)
         (reading_anew (I.remaining input)) rest (writing_anew (O.contents output)) new) result }
 {
     let mut input = Input::new(input);
@@ -65,7 +65,7 @@ where
     ensures quiet { result ≡ 0 → faults.new ≡ faults.old }
     ensures done { result ≡ 0 → Succeeds Asks (run_of (map string_bytes words.now) (S.held sources.now)
         input.old input.new output.old output.new) }
-    ensures failed { result ≢ 0 → Fails Asks Refuses (run_of (map string_bytes words.now)
+    ensures failed { result ≢ 0 → FailsWithStatus Asks RefusesCommandLine (run_of (map string_bytes words.now)
         (S.held sources.now) input.old input.new output.old output.new) result }
 {
     match invocation_of(rt.alloc(), words) {

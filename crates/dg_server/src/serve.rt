@@ -4,9 +4,9 @@ ghost use Rattle.dg_invocation.specs.Seats.{seats_asked_for};
 ghost use Rattle.dg_log.specs.Tables.{table_data_of};
 ghost use Rattle.dg_session.specs.Setup.{setup};
 ghost use Rattle.dg_session.specs.Streams.{passage};
-ghost use Rattle.dg_rank.specs.Ranks.{MayHaveWorkers};
-ghost use Rattle.dg_table.specs.Opened.{MayHaveSeats};
-ghost use Rattle.dg_server.specs.Sessions.{line_format, session_of, Serves, EndsEarly, IsServed, RefusesServing};
+ghost use Rattle.dg_rank.specs.Ranks.{MayHaveRankWorkers};
+ghost use Rattle.dg_table.specs.Opened.{TableMayHaveSeats};
+ghost use Rattle.dg_server.specs.Sessions.{line_format, session_of_run, Serves, RunEndsEarly, IsServed, RefusesServing};
 ghost use Rattle.dg_server.specs.Streams.{IsOfInput, IsOfOutput};
 
 use crate::fault::Fault;
@@ -16,7 +16,7 @@ use dg_log::{LogFault, Name, Row};
 use dg_session::{LineFormat, serve_seats};
 use dg_system::{Input, Output, Shortage, Sources};
 use dg_table::Table;
-use dg_tasks::table_in;
+use dg_tasks::table_of_task;
 use std::io::{Read, Write};
 use std::marker::Brand;
 use std::mem::forget;
@@ -47,7 +47,7 @@ where
         (passage input.old.remaining input.new.remaining) task.now fault output.old.contents
         output.new.contents) }
 {
-    let table = match table_in(rt, sources, task.file) {
+    let table = match table_of_task(rt, sources, task.file) {
         Ok(table) => table,
         Err(fault) => return Err(Fault::Task(fault)),
     };
@@ -67,11 +67,11 @@ where
     I: Read,
     O: Write,
     ensures done { OnOk result ((count : ℕ)
-        × IsServed (session_of task.now table.now.start table.now.names)
+        × IsServed (session_of_run task.now table.now.start table.now.names)
         (passage input.old.remaining input.new.remaining) (passage output.old.contents output.new.contents) (Ok count)) }
     ensures read { IfErr result (λ fault. IsOfInput fault → input.new.has_failed ≡ true) }
     ensures write { IfErr result (λ fault. IsOfOutput fault → output.new.has_failed ≡ true) }
-    ensures early { IfErr result (λ fault. EndsEarly (session_of task.now table.now.start table.now.names)
+    ensures early { IfErr result (λ fault. RunEndsEarly (session_of_run task.now table.now.start table.now.names)
         (passage input.old.remaining input.new.remaining) fault (passage output.old.contents output.new.contents)) }
 {
     let row = match Row::new(rt.alloc(), task.capacity) {
@@ -79,12 +79,12 @@ where
         Err(LogFault::Capacity) => unreachable!(),
         Err(LogFault::OutOfMemory) => return Err(Fault::Shortage(Shortage::OutOfMemory)),
     };
-    let (seats, how) = places_of(task.seats);
-    serve_on::<Brand, R, I, O>(rt, row, table, seats, how, task.workers, input, output)
+    let (seats, how) = seats_of_run(task.seats);
+    serve_stream_on::<Brand, R, I, O>(rt, row, table, seats, how, task.workers, input, output)
 }
 
 /// How many seats there are, and how lines name them.
-fn places_of(seats: Option<u8>) -> (u8, LineFormat)
+fn seats_of_run(seats: Option<u8>) -> (u8, LineFormat)
     ensures count { result.0 ≡ seats_asked_for seats }
     ensures how { result.1 ≡ line_format seats }
 {
@@ -95,7 +95,7 @@ fn places_of(seats: Option<u8>) -> (u8, LineFormat)
 }
 
 /// Answers the lines of the input on a new table with so many seats, which is closed at the end: there is one history of all.
-fn serve_on<N, R, I, O>(
+fn serve_stream_on<N, R, I, O>(
     rt: &R,
     row: Row,
     table: &TableFile,
@@ -112,15 +112,15 @@ where
     O: Write,
     requires row { row ≡ N.cells }
     requires table { N.table ≡ table_data_of table.now.start seats (length row) }
-    requires some { MayHaveSeats seats }
-    requires workers { MayHaveWorkers workers }
+    requires some { TableMayHaveSeats seats }
+    requires workers { MayHaveRankWorkers workers }
     ensures done { OnOk result ((count : ℕ)
         × IsServed (setup how (table_data_of table.now.start seats (length row)) table.now.names workers)
         (passage input.old.remaining input.new.remaining) (passage output.old.contents output.new.contents) (Ok count)) }
     ensures read { IfErr result (λ fault. IsOfInput fault → input.new.has_failed ≡ true) }
     ensures write { IfErr result (λ fault. IsOfOutput fault → output.new.has_failed ≡ true) }
     ensures early { IfErr result (λ fault.
-        EndsEarly (setup how (table_data_of table.now.start seats (length row)) table.now.names workers)
+        RunEndsEarly (setup how (table_data_of table.now.start seats (length row)) table.now.names workers)
         (passage input.old.remaining input.new.remaining) fault (passage output.old.contents output.new.contents)) }
 {
     let alloc = rt.alloc();

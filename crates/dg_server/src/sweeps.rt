@@ -1,6 +1,6 @@
 //! Sweeps over the lines of a file.
 ghost use Rattle.std.specs.Prelude.{◌≡◌, true, IfErr, OnOk, Some, None};
-ghost use Rattle.dg_tasks.specs.Tasks.{DescribesTable};
+ghost use Rattle.dg_tasks.specs.Tasks.{DescribesTaskTable};
 ghost use Rattle.dg_server.specs.Sweeping.{Sweeps, RefusesSweeping};
 ghost use Rattle.dg_server.specs.Streams.{IsOfInput, IsOfOutput};
 
@@ -9,7 +9,7 @@ use dg_file::TableFile;
 use dg_invocation::SweepTask;
 use dg_sweep::{sweep, sweep_divisors};
 use dg_system::{Input, Output, Sources};
-use dg_tasks::{TaskFault, table_in};
+use dg_tasks::{TaskFault, table_of_task};
 use std::io::Write;
 use std::rt::Files;
 use std::sync::Wait;
@@ -35,7 +35,7 @@ where
 {
     match task.divisors {
         Some(lines) => {
-            let table = match table_in(rt, sources, task.file) {
+            let table = match table_of_task(rt, sources, task.file) {
                 Ok(table) => table,
                 Err(fault) => return Err(Fault::Task(fault)),
             };
@@ -96,7 +96,7 @@ where
     S: Sources,
     O: Write,
     requires divisors { task.now.divisors ≡ Some lines }
-    requires table { DescribesTable (S.held sources.now task.now.file.now) table.now.start table.now.names }
+    requires table { DescribesTaskTable (S.held sources.now task.now.file.now) table.now.start table.now.names }
     ensures done { OnOk result
         (Sweeps (S.held sources.now) task.now output.old.contents output.new.contents) }
     ensures read { IfErr result (λ fault. ¬ IsOfInput fault) }

@@ -12,9 +12,9 @@
 --   line_one       a line makes at most one entry
 --   refused_made   so does one that is refused
 --   last_made      what was made is the last entry, where there is one more
-use Rattle.dg_session.proofs.Common.{◌≡◌, ℕ, ◌+◌, ◌-◌, ◌<◌, ◌≤◌, inl, inr, List, [], ◌∷◌, ◌++◌, length, length-append, Option, Some, None, slice_get, refl, sym, ap, subst, ◌∙◌, arith, slice_get_within, same_Some, legal_none, Entry, IsHistoryOf, Command, Call, Commit, Rank, ReceiptsAreBelow, StandIn, IsPrefixOf, SeatView, Keeps, Meets, begins_on, begins_length, stand_longer, AnswersAscendFrom, ComeAfter, Setup, Gains, AnswersCommand, AnswersLine, RefusesCommand, RefusesLine, SessionEnd, Table, Memory, Spawn, TableData}
+use Rattle.dg_session.proofs.Common.{◌≡◌, ℕ, ◌+◌, ◌-◌, ◌<◌, ◌≤◌, inl, inr, List, [], ◌∷◌, ◌++◌, length, length-append, Option, Some, None, slice_get, refl, sym, ap, subst, ◌∙◌, arith, slice_get_within, same_Some, legal_none, Entry, IsHistoryOfTable, Command, Call, Commit, Rank, ReceiptsAreBelow, StandIn, IsPrefixOf, SeatView, Keeps, SeatMeetsHistory, begins_on, begins_length, stand_longer, AnswersAscendFrom, ComeAfter, Setup, SessionGains, AnswersCommand, AnswersLine, RefusesCommand, RefusesLine, SessionEnd, Table, Memory, Spawn, TableData}
 
-pub history_none : (table : TableData) → IsHistoryOf table []
+pub history_none : (table : TableData) → IsHistoryOfTable table []
 history_none table = record { legal = legal_none table.start; few = omega arith; seated = λ k e at. absurd (cc) }
 
 pub ascend_from : (a b : ℕ) (ps : List (ℕ × Entry)) → a ≤ b → AnswersAscendFrom b ps → AnswersAscendFrom a ps
@@ -47,7 +47,7 @@ comes_from K M H made begins comes = record {
   after = ascend_from (length K) (length M) made (begins_length K M begins) comes.after;
 }
 
-pub met_keeps : {L : List Entry} {x m : SeatView} → Meets L x m → Keeps x m
+pub met_keeps : {L : List Entry} {x m : SeatView} → SeatMeetsHistory L x m → Keeps x m
 met_keeps meets = record {
   number = meets.number;
   mine = meets.mine;
@@ -57,7 +57,7 @@ met_keeps meets = record {
 }
 
 module _ {x m : SeatView} (meets : Keeps x m) where
-  pub gained_met : (y : SeatView) (made : List (ℕ × Entry)) → Gains m y made → Gains x y made
+  pub gained_met : (y : SeatView) (made : List (ℕ × Entry)) → SessionGains m y made → SessionGains x y made
   gained_met y made g = record {
     number = g.number ∙ meets.number;
     mine = g.mine ∙ ap (λ ps. ps ++ made) meets.mine;
@@ -103,7 +103,7 @@ line_one t k line made after said a = elim a [
 ]
 
 pub refused_made : (t : Setup) (k : Option ℕ) (line : List ℕ) (x y : SeatView) (end : SessionEnd)
-    → RefusesLine t k line x y end → (made : List (ℕ × Entry)) × Gains x y made × (length made ≤ 1)
+    → RefusesLine t k line x y end → (made : List (ℕ × Entry)) × SessionGains x y made × (length made ≤ 1)
 refused_made t k line x y (Table fault) h = ([], h.2.2, omega arith)
 refused_made t k line x y Spawn h = ([], h.2.2, omega arith)
 refused_made t k line x y Memory h = (

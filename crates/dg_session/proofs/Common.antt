@@ -1,10 +1,10 @@
 -- The names that the proofs of this crate cite, passed on from one place. Declares nothing.
-pub use Rattle.dg_analyst.specs.Views.{IsTaken, IsTried, LookView}
+pub use Rattle.dg_analyst.specs.Views.{IsTakenLook, IsTried, LookView}
 pub use Rattle.dg_chips.specs.Starts.{StartData}
 pub use Rattle.dg_rules.proofs.LegalLaws.{legal_none, legal_sized}
 pub use Rattle.dg_rules.proofs.ListLaws.{slice_get-seam}
-pub use Rattle.dg_rules.specs.LegalLaws.{HasSize}
-pub use Rattle.dg_rules.specs.Look.{asked_for, asked_on, degree_found}
+pub use Rattle.dg_rules.specs.LegalLaws.{IsReplyOfSize}
+pub use Rattle.dg_rules.specs.Look.{request_for_finding, request_for_question, degree_of_finding}
 pub use Rattle.dg_rules.specs.Requests.{asked}
 pub use Rattle.dg_rules.specs.declared.entry.Entry.{Entry}
 pub use Rattle.dg_rules.specs.declared.entry.Plain.{Plain}
@@ -19,7 +19,7 @@ pub use Rattle.dg_lines.proofs.Stepping.{seated_parts}
 pub use Rattle.dg_lines.proofs.Streams.{begins_more, begins_none, begins_one, begins_then, come_last, come_then, line_shorter, one_cutting, one_line, part_front, part_line, part_plain, part_whole}
 pub use Rattle.dg_lines.specs.Commands.{IsCommandLine}
 pub use Rattle.dg_lines.specs.LineFaults.{IsLineFault, fault_text}
-pub use Rattle.dg_lines.specs.Steps.{IsSeated}
+pub use Rattle.dg_lines.specs.Steps.{IsSeatedLine}
 pub use Rattle.dg_lines.specs.Streams.{Begins, HasNoNewline, LinesHaveCome, last_line, with_newline}
 pub use Rattle.dg_lines.specs.Texts.{HasNames, entry_text}
 pub use Rattle.dg_lines.specs.declared.line.LineFault.{LineFault}
@@ -27,16 +27,16 @@ pub use Rattle.dg_log.specs.Numbered.{ReceiptsAreBelow, IsPrefixOf, StandIn}
 pub use Rattle.dg_log.specs.Tables.{TableData}
 pub use Rattle.dg_rank.proofs.Numbering.{past_within}
 pub use Rattle.dg_rank.specs.Limits.{ArePastTrialLimits}
-pub use Rattle.dg_rank.specs.Ranks.{IsRankFault, IsWithin}
+pub use Rattle.dg_rank.specs.Ranks.{IsRankFault, IsRankTestWithinLimits}
 unfoldable pub use Rattle.dg_session.specs.Ends.{Answers}
 pub use Rattle.dg_session.specs.EntriesSoFar.{EntriesSoFarView}
-pub use Rattle.dg_session.specs.Ends.{AreInOrder, EndsBy, IsOver, IsSession, SessionReading, StopsAt, Writes, reading}
+pub use Rattle.dg_session.specs.Ends.{AreSessionEntriesInOrder, EndsBy, IsOver, IsSession, SessionReading, StopsAt, Writes, reading}
 pub use Rattle.dg_session.specs.Order.{AnswersAscendFrom, ComeAfter}
 pub use Rattle.dg_session.specs.Refusing.{CallsTable, RefusesCommand, RefusesLine}
-pub use Rattle.dg_session.specs.Saying.{AnswersCommand, AnswersLine, Enters, Gains, speakers_kept_after, speakers_look_after}
+pub use Rattle.dg_session.specs.Saying.{AnswersCommand, AnswersLine, SpeakerEnters, SessionGains, speakers_kept_after, speakers_look_after}
 pub use Rattle.dg_session.specs.Setup.{Setup, setup}
-pub use Rattle.dg_session.specs.SoFar.{Goes, Halts, Handles, Hears, AnswersAreCleared, IsReady, IsSaid, IsWritten, Obeys, RefusesPart, SoFar, Speaker, StaysAt, StopsIn, Takes, TakesEnd, TellsSpeaker, answer_entries, answer_text, beginning, heard, keeping, round, so_far, speaker}
-pub use Rattle.dg_session.specs.Speakers.{AnswersLineOf, GoesOn, IsFor, IsForNone, RefusesLineOf, Replaces, Speakers, kept_number, newcomers, speakers}
+pub use Rattle.dg_session.specs.SoFar.{Goes, HaltsSession, Handles, Hears, AnswersAreCleared, IsReady, IsSaid, IsWrittenInSession, Obeys, SessionRefusesPart, SoFar, Speaker, StaysAt, StopsIn, Takes, TakesEnd, TellsSpeaker, answer_entries, speaker_answer_text, beginning_of_session, heard, keeping, round, so_far, speaker}
+pub use Rattle.dg_session.specs.Speakers.{AnswersLineOf, GoesOn, IsFor, IsForNoSpeaker, RefusesLineOf, Replaces, Speakers, kept_number, new_speakers, speakers}
 pub use Rattle.dg_session.specs.Streams.{AreSessionLines, IsLine, Passage, passage}
 pub use Rattle.dg_session.specs.declared.answering.Answer.{Answer}
 pub use Rattle.dg_session.specs.declared.answering.Answer.TheVariants.{BadLine, Made, NoLook}
@@ -46,16 +46,16 @@ pub use Rattle.dg_session.specs.declared.ends.TheConstants.{MAX_LINE, MAX_LINES,
 pub use Rattle.dg_session.specs.declared.line_format.LineFormat.TheVariants.{BySeat}
 pub use Rattle.dg_system.proofs.Growing.{appends_more, appends_none}
 pub use Rattle.dg_system.proofs.InputReads.{chunk_size, consumes_kept, consumes_more, consumes_none, read_chunk, read_nothing}
-pub use Rattle.dg_system.specs.Growth.{AppendsFront, StreamWriting}
+pub use Rattle.dg_system.specs.Growth.{AppendsFrontToOutput, StreamWriting}
 pub use Rattle.dg_table.proofs.Counts.{seats_counted}
 pub use Rattle.dg_table.proofs.Numbered.{begins_length, begins_on, stand_longer}
 pub use Rattle.dg_table.proofs.Placed.{get_set}
 pub use Rattle.dg_table.specs.Answered.{IsAnswered, IsEnteredAfter, entering}
 pub use Rattle.dg_table.specs.Closing.{IsClosed}
 pub use Rattle.dg_table.specs.Faults.{RefusesCall}
-pub use Rattle.dg_table.specs.Histories.{HasPrefix, IsHistoryOf}
+pub use Rattle.dg_table.specs.Histories.{SeatHasPrefix, IsHistoryOfTable}
 pub use Rattle.dg_table.specs.Opened.{AreFresh}
-pub use Rattle.dg_table.specs.Seats.{Keeps, Meets, SeatView, entries_of}
+pub use Rattle.dg_table.specs.Seats.{Keeps, SeatMeetsHistory, SeatView, entries_of}
 pub use Rattle.dg_table.specs.Settled.{IsSettled, IsStale}
 pub use Rattle.dg_table.specs.declared.fault.Fault.{Fault}
 pub use Rattle.dg_table.specs.declared.fault.Fault.TheVariants.{Full}

@@ -7,7 +7,7 @@
 --   halts_part, halts_line       the session ends at a part that is not taken, and at a line that is refused
 --   last_none, last_one, last_halts   what is pending as the last line: none, one that is answered, and one that is
 --       refused
-use Rattle.dg_session.proofs.Common.{◌≡◌, ◌≢◌, ℕ, ◌+◌, ◌<◌, ◌≤◌, inl, inr, List, [], ◌∷◌, ◌++◌, length, take, drop, refl, sym, ap, subst, ◌∙◌, arith, append_assoc, append-nil, length-append, take-append-drop, All-append, All-nil, All-take, length-take-le, HasNoNewline, Begins, last_line, begins_none, begins_one, begins_then, begins_more, one_line, Setup, IsLine, AreSessionLines, Speakers, AnswersLineOf, RefusesLineOf, SoFar, IsReady, Goes, round, Halts, RefusesPart, StaysAt, MAX_LINE, MAX_LINES, SessionEnd, LongLine, Turns, Answers}
+use Rattle.dg_session.proofs.Common.{◌≡◌, ◌≢◌, ℕ, ◌+◌, ◌<◌, ◌≤◌, inl, inr, List, [], ◌∷◌, ◌++◌, length, take, drop, refl, sym, ap, subst, ◌∙◌, arith, append_assoc, append-nil, length-append, take-append-drop, All-append, All-nil, All-take, length-take-le, HasNoNewline, Begins, last_line, begins_none, begins_one, begins_then, begins_more, one_line, Setup, IsLine, AreSessionLines, Speakers, AnswersLineOf, RefusesLineOf, SoFar, IsReady, Goes, round, HaltsSession, SessionRefusesPart, StaysAt, MAX_LINE, MAX_LINES, SessionEnd, LongLine, Turns, Answers}
 use Rattle.dg_session.proofs.Cutting.{lines_end}
 use Rattle.dg_session.proofs.Seated.{sizes_kept}
 
@@ -112,7 +112,7 @@ module _ {t : Setup} {old at : SoFar} {bytes rest text : List ℕ} (g : Goes t o
       }
 
   stays : (part more : List ℕ) (end : SessionEnd) → rest ≡ part ++ more → HasNoNewline part → 1 ≤ length rest
-      → RefusesPart at.pending at.count part end → StaysAt at rest end
+      → SessionRefusesPart at.pending at.count part end → StaysAt at rest end
   stays part more Turns cut plain some h = (h, some)
   stays part more LongLine cut plain some h = (
     omega (arith, g.ready.few, h.0),
@@ -130,14 +130,14 @@ module _ {t : Setup} {old at : SoFar} {bytes rest text : List ℕ} (g : Goes t o
   stays part more end cut plain some h = absurd h
 
   pub halts_part : {E : Type 0} {end : SessionEnd} (part more : List ℕ) → rest ≡ part ++ more → HasNoNewline part
-      → 1 ≤ length rest → RefusesPart at.pending at.count part end → Halts t E old bytes (round at.who text) end
+      → 1 ≤ length rest → SessionRefusesPart at.pending at.count part end → HaltsSession t E old bytes (round at.who text) end
   halts_part {E} {end} part more cut plain some h =
       record { rest = rest; at = at; goes = g; fails = inl (stays part more end cut plain some h, refl) }
 
   pub halts_line : {E : Type 0} {z : Speakers} {end : SessionEnd} (part more : List ℕ)
       → rest ≡ part ++ 10 ∷ more
       → IsLine (at.pending ++ part) → at.count < MAX_LINES → RefusesLineOf t at.who (at.pending ++ part) z end
-      → Halts t E old bytes (round z text) end
+      → HaltsSession t E old bytes (round z text) end
   halts_line {E} {z} {end} part more cut is few refused = record {
     rest = rest;
     at = at;
@@ -173,7 +173,7 @@ last_one {t} {s} {z} {text} (b ∷ bs) some holds =
     answers_one t s z (b ∷ bs) text (subst (λ l. AnswersLineOf t s l z text) (append-nil (b ∷ bs)) holds)
 
 pub last_halts : {t : Setup} {E : Type 0} {at : SoFar} {z : Speakers} {end : SessionEnd} → E → IsReady at
-    → 1 ≤ length at.pending → RefusesLineOf t at.who (at.pending ++ []) z end → Halts t E at [] (round z []) end
+    → 1 ≤ length at.pending → RefusesLineOf t at.who (at.pending ++ []) z end → HaltsSession t E at [] (round z []) end
 last_halts {t} {E} {at} {z} {end} over ready some refused = record {
   rest = [];
   at = at;

@@ -3,7 +3,7 @@
 --   Fits n s      what the lines entered is in order, and the seats, which had n calls, made no others
 --   fits_begun    so it is before the first line
 --   fits_all      and after all, however the session ends
-use Rattle.dg_session.proofs.Common.{◌≡◌, ℕ, zero, suc, ◌+◌, inl, inr, List, [], ◌∷◌, ◌++◌, length, length-append, Some, slice_get, Result, Ok, Err, refl, sym, ap, subst, ◌∙◌, arith, slice_set, Entry, StandIn, SeatView, get_set, Setup, AnswersAscendFrom, Gains, Speakers, newcomers, Replaces, GoesOn, AnswersLineOf, RefusesLineOf, SessionReading, StopsAt, EndsBy, AreInOrder, SessionEnd, Read, Write, LongLine, Turns, Table, Memory, Spawn, Answers}
+use Rattle.dg_session.proofs.Common.{◌≡◌, ℕ, zero, suc, ◌+◌, inl, inr, List, [], ◌∷◌, ◌++◌, length, length-append, Some, slice_get, Result, Ok, Err, refl, sym, ap, subst, ◌∙◌, arith, slice_set, Entry, StandIn, SeatView, get_set, Setup, AnswersAscendFrom, SessionGains, Speakers, new_speakers, Replaces, GoesOn, AnswersLineOf, RefusesLineOf, SessionReading, StopsAt, EndsBy, AreSessionEntriesInOrder, SessionEnd, Read, Write, LongLine, Turns, Table, Memory, Spawn, Answers}
 use Rattle.dg_session.proofs.Coming.{ascend_more, below_stand, stand_on, stand_both}
 
 abbrev pub calls_of : List SeatView → ℕ
@@ -11,10 +11,10 @@ calls_of [] = 0
 calls_of (x ∷ xs) = length x.mine + calls_of xs
 
 pub record Fits (n : ℕ) (s : Speakers) : Type 0 where
-  pub order : AreInOrder s
+  pub order : AreSessionEntriesInOrder s
   pub counted : calls_of s.seats ≡ n + length s.entered
 
-pub fits_begun : (xs : List SeatView) → Fits (calls_of xs) (newcomers xs)
+pub fits_begun : (xs : List SeatView) → Fits (calls_of xs) (new_speakers xs)
 fits_begun xs = record { order = record { ascend = tt; stand = tt; met = inl refl }; counted = omega arith }
 
 calls_set : (xs : List SeatView) (i k : ℕ) (x y : SeatView) → slice_get xs i ≡ Some x
@@ -26,7 +26,7 @@ calls_set (w ∷ xs) zero k x y at more =
 calls_set (w ∷ xs) (suc i) k x y at more = omega (arith, calls_set xs i k x y at more)
 
 fits_on : {n : ℕ} (i : ℕ) (s z : Speakers) (x y : SeatView) (made : List (ℕ × Entry))
-    → Replaces i s.seats z.seats x y → Gains x y made → GoesOn s z y made → Fits n s → Fits n z
+    → Replaces i s.seats z.seats x y → SessionGains x y made → GoesOn s z y made → Fits n s → Fits n z
 fits_on {n} i s z x y made turn gained goes fits = record {
   order = record {
     ascend = subst (AnswersAscendFrom 0) (sym goes.entered)
@@ -85,8 +85,8 @@ module _ {n : ℕ} (t : Setup) (r : SessionReading) (s z : Speakers) (fits : Fit
   fits_ended (Err Spawn) h = stopped Spawn h
 
 pub fits_all : (t : Setup) (r : SessionReading) (told last : List (List ℕ)) (xs : List SeatView)
-    (m w z : Speakers) (said text : List ℕ) (result : Result ℕ SessionEnd) → Answers t (newcomers xs) told m said
+    (m w z : Speakers) (said text : List ℕ) (result : Result ℕ SessionEnd) → Answers t (new_speakers xs) told m said
     → Answers t m last w text → EndsBy t r w z result → Fits (calls_of xs) z
 fits_all t r told last xs m w z said text result first second ends =
     fits_ended t r w z
-    (fits_answered t last m w text second (fits_answered t told (newcomers xs) m said first (fits_begun xs))) result ends
+    (fits_answered t last m w text second (fits_answered t told (new_speakers xs) m said first (fits_begun xs))) result ends

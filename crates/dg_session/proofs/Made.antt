@@ -12,12 +12,12 @@
 --   obeys_after     a command that is obeyed to a seat after it met a longer history is obeyed to it
 --   unlooked, at_look   so it is with none, and with the look that is kept
 --   call_keeps      a call that is no look keeps the look
-use Rattle.dg_session.proofs.Common.{◌≡◌, ◌≢◌, ℕ, inl, inr, List, [], ◌∷◌, ◌++◌, length, Option, Some, None, slice_get, Result, Ok, Err, OnOk, refl, sym, ap, subst, ◌∙◌, append-nil, codes, arith, StartData, IsWithin, ArePastTrialLimits, past_within, RankVerdict, AtLeast, Below, degree_found, asked_for, asked_on, asked, Entry, Plain, Request, Ranked, Finding, Question, Command, LookView, IsTaken, IsTried, entry_text, HasSize, legal_sized, slice_get-seam, begins_on, begins_length, SeatView, Keeps, RefusesCall, Fault, entering, IsEnteredAfter, IsAnswered, IsSettled, IsStale, Gains, Enters, speakers_kept_after, speakers_look_after, AnswersCommand, SessionEnd, Table, kept_number, CallsTable, RefusesCommand, Setup, Speaker, speaker, keeping, answer_entries, answer_text, Answer, Made, NoLook, Obeys, TableData}
+use Rattle.dg_session.proofs.Common.{◌≡◌, ◌≢◌, ℕ, inl, inr, List, [], ◌∷◌, ◌++◌, length, Option, Some, None, slice_get, Result, Ok, Err, OnOk, refl, sym, ap, subst, ◌∙◌, append-nil, codes, arith, StartData, IsRankTestWithinLimits, ArePastTrialLimits, past_within, RankVerdict, AtLeast, Below, degree_of_finding, request_for_finding, request_for_question, asked, Entry, Plain, Request, Ranked, Finding, Question, Command, LookView, IsTakenLook, IsTried, entry_text, IsReplyOfSize, legal_sized, slice_get-seam, begins_on, begins_length, SeatView, Keeps, RefusesCall, Fault, entering, IsEnteredAfter, IsAnswered, IsSettled, IsStale, SessionGains, SpeakerEnters, speakers_kept_after, speakers_look_after, AnswersCommand, SessionEnd, Table, kept_number, CallsTable, RefusesCommand, Setup, Speaker, speaker, keeping, answer_entries, speaker_answer_text, Answer, Made, NoLook, Obeys, TableData}
 use Rattle.dg_rules.specs.declared.entry.Plain.TheVariants as plain
 use Rattle.dg_rules.specs.declared.entry.Request.TheVariants.{Rank as RankRequest}
 use Rattle.dg_session.proofs.Coming.{gained_met, command_met}
 
-pub gains_none : (x y : SeatView) → Keeps x y → Gains x y []
+pub gains_none : (x y : SeatView) → Keeps x y → SessionGains x y []
 gains_none x y keeps = record {
   number = keeps.number;
   mine = keeps.mine ∙ sym (append-nil x.mine);
@@ -28,7 +28,7 @@ gains_none x y keeps = record {
   still = λ none. (keeps.told, keeps.prefix);
 }
 
-pub gains_same : (x : SeatView) → Gains x x []
+pub gains_same : (x : SeatView) → SessionGains x x []
 gains_same x = gains_none x x (record {
   number = refl;
   mine = refl;
@@ -53,8 +53,8 @@ obeys_after {t = t} {command} {kept = kept} {new = new} {result = Err end} keeps
 
 pub record Stands (o : StartData) (request : Request) (r : ℕ × Entry) (x y : SeatView) : Type 0 where
   pub asked' : r.1.request ≡ request
-  pub sized : HasSize o.graph.size r.1.reply
-  pub gained : Gains x y (r ∷ [])
+  pub sized : IsReplyOfSize o.graph.size r.1.reply
+  pub gained : SessionGains x y (r ∷ [])
 
 pub entry_made : (table : TableData) (H : List Entry) (request : Request) (known heard : List (ℕ × Entry))
     (r : ℕ × Entry) (x y : SeatView)
@@ -86,16 +86,16 @@ call_made {table} {request} {r} {x} {y} answered = entry_made table answered.0 r
     (sym (append-nil x.told)) answered.1
 
 pub settled_made : {table : TableData} {look : ℕ × Entry} {f : Finding} {r : ℕ × Entry} {x y : SeatView}
-    → IsSettled table look f r x y → Stands table.start (asked_for look.0 f) r x y
+    → IsSettled table look f r x y → Stands table.start (request_for_finding look.0 f) r x y
 settled_made {table} {look} {f} {r} {x} {y} settled =
-    entry_made table settled.0 (asked_for look.0 f) _ (look ∷ []) r x y refl settled.1.entered
+    entry_made table settled.0 (request_for_finding look.0 f) _ (look ∷ []) r x y refl settled.1.entered
 
 pub stale_made : {table : TableData} {look r : ℕ × Entry} {x y : SeatView} (asks : Question)
-    → IsStale table look asks r x y → Stands table.start (asked_on look.0 asks) r x y
+    → IsStale table look asks r x y → Stands table.start (request_for_question look.0 asks) r x y
 stale_made {table} {look} {r} {x} {y} asks stale =
-    entry_made table stale.0 (asked_on look.0 asks) _ (look ∷ []) r x y refl stale.1.entered
+    entry_made table stale.0 (request_for_question look.0 asks) _ (look ∷ []) r x y refl stale.1.entered
 
-degree_kept : (look : LookView) (k w : ℕ) (v : RankVerdict) → IsTried look k w v → degree_found v ≡ k
+degree_kept : (look : LookView) (k w : ℕ) (v : RankVerdict) → IsTried look k w v → degree_of_finding v ≡ k
 degree_kept look k w (AtLeast j) tried = tried.right.0
 degree_kept look k w (Below j d) tried = tried.right.0
 
@@ -106,18 +106,18 @@ rank_made {table} {look} {found} {k} {w} {v} {r} {x} {y} same tried settled =
     subst (λ d. Stands table.start (RankRequest look.receipt.0 d) r x y) (degree_kept look k w v tried)
     (settled_made {f = Ranked v} (rw same at settled))
 
-pub rank_within : {o : StartData} {look : LookView} {k : ℕ} → IsTaken o look → IsWithin look.shown.graph.size k
-    → IsWithin o.graph.size k
-rank_within {k = k} taken within = subst (λ n. IsWithin n k) taken.vertices.0 within
+pub rank_within : {o : StartData} {look : LookView} {k : ℕ} → IsTakenLook o look → IsRankTestWithinLimits look.shown.graph.size k
+    → IsRankTestWithinLimits o.graph.size k
+rank_within {k = k} taken within = subst (λ n. IsRankTestWithinLimits n k) taken.vertices.0 within
 
-pub rank_past : {o : StartData} {look : LookView} {k : ℕ} → IsTaken o look → ArePastTrialLimits look.shown.graph.size k
-    → IsWithin o.graph.size k → ⊥
+pub rank_past : {o : StartData} {look : LookView} {k : ℕ} → IsTakenLook o look → ArePastTrialLimits look.shown.graph.size k
+    → IsRankTestWithinLimits o.graph.size k → ⊥
 rank_past {o} {k = k} taken prefix = past_within o.graph.size k (subst (λ n. ArePastTrialLimits n k) taken.vertices.0 prefix)
 
 -- the entry stands, and its line is to be said
 pub entered : {N : Type 0} {t : Setup} {command : Command} {request : Request} {r : ℕ × Entry} {old new : Speaker}
     → length t.names ≡ t.table.start.graph.size → Stands t.table.start request r old.seat new.seat
-    → ((text : List ℕ) → Enters t.names old.kept request (r ∷ []) new.kept text
+    → ((text : List ℕ) → SpeakerEnters t.names old.kept request (r ∷ []) new.kept text
     → AnswersCommand t old.kept command (r ∷ []) new.kept text)
     → new.kept ≡ speakers_look_after old.kept r.0 request
     → Obeys {N = N} t command old new (Ok (Made r))
@@ -126,7 +126,7 @@ entered {t = t} {r = r} {old} size stands opens keeps = record {
     answers = opens (entry_text t.names r.0 r.1.reply)
         (r, stands.asked', refl, keeps ∙ sym (ap (speakers_look_after old.kept r.0) stands.asked'), refl);
     gained = stands.gained;
-    named = subst (λ n. HasSize n r.1.reply) (sym size) stands.sized;
+    named = subst (λ n. IsReplyOfSize n r.1.reply) (sym size) stands.sized;
   };
   refused = tt;
 }
@@ -140,7 +140,7 @@ call_refused {old = old} {new} calls keeps refused =
 
 -- a command that needs a look finds none
 pub unlooked : {N : Type 0} {t : Setup} {command : Command} {x : SeatView} {kept after : Option LookView} → kept ≡ None
-    → after ≡ None → AnswersCommand t None command [] None (answer_text {N = N} t.names NoLook)
+    → after ≡ None → AnswersCommand t None command [] None (speaker_answer_text {N = N} t.names NoLook)
     → Obeys {N = N} t command (speaker x kept) (speaker x after) (Ok NoLook)
 unlooked {N} {t} {command} {x} p q answers = rw (p, q) (record {
   done = record { answers = answers; gained = gains_same x; named = tt };

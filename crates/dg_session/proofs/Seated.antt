@@ -5,10 +5,10 @@
 --   sizes_kept    a line leaves as many seats, and as many looks
 --   numbers       the numbers of the seats
 --   numbers_said, numbers_left   a line leaves each seat its number
-use Rattle.dg_session.proofs.Common.{◌≡◌, ℕ, zero, suc, ◌+◌, ◌<◌, ◌≤◌, inl, inr, List, [], ◌∷◌, ◌++◌, length, length-set, map, Option, Some, Result, Ok, Err, refl, sym, ap, subst, ◌∙◌, arith, slice_get, ⊤, slice_set, slice_index_or, map-set, Entry, SeatView, Meets, LookView, IsSeated, seated_parts, RefusesLine, Gains, Setup, Speakers, speakers, kept_number, IsFor, IsForNone, Replaces, GoesOn, AnswersLineOf, RefusesLineOf, Hears, Handles, Answer, TellsSpeaker, answer_entries, answer_text, speaker, BySeat, SessionEnd, Table, Memory, Spawn}
+use Rattle.dg_session.proofs.Common.{◌≡◌, ℕ, zero, suc, ◌+◌, ◌<◌, ◌≤◌, inl, inr, List, [], ◌∷◌, ◌++◌, length, length-set, map, Option, Some, Result, Ok, Err, refl, sym, ap, subst, ◌∙◌, arith, slice_get, ⊤, slice_set, slice_index_or, map-set, Entry, SeatView, SeatMeetsHistory, LookView, IsSeatedLine, seated_parts, RefusesLine, SessionGains, Setup, Speakers, speakers, kept_number, IsFor, IsForNoSpeaker, Replaces, GoesOn, AnswersLineOf, RefusesLineOf, Hears, Handles, Answer, TellsSpeaker, answer_entries, speaker_answer_text, speaker, BySeat, SessionEnd, Table, Memory, Spawn}
 use Rattle.dg_session.proofs.Coming.{comes_from, met_keeps, gained_met, line_met, line_one, refused_made}
 
-pub seat_past : (n seat : ℕ) (text line : List ℕ) → IsSeated seat text line → (seat ≤ n → ⊥) → IsForNone BySeat n line
+pub seat_past : (n seat : ℕ) (text line : List ℕ) → IsSeatedLine seat text line → (seat ≤ n → ⊥) → IsForNoSpeaker BySeat n line
 seat_past n seat text line is prefix i other for =
     let one = seated_parts line seat text is in
     let two = seated_parts line (i + 1) other for.0 in
@@ -62,8 +62,8 @@ Follows x y ps qs = (before made : List (ℕ × Entry)) → length before ≡ le
     → length made ≤ 1 → qs ≡ ps ++ made
 
 went_on : {H L : List Entry} {ps qs : List (ℕ × Entry)} {x m y : SeatView} (xs ys : List SeatView)
-    (ks ls : List (Option LookView)) (made : List (ℕ × Entry)) → Meets H x m → L ≡ y.met → Follows x y ps qs
-    → Gains m y made → length made ≤ 1 → GoesOn (speakers xs ks H ps) (speakers ys ls L qs) y made
+    (ks ls : List (Option LookView)) (made : List (ℕ × Entry)) → SeatMeetsHistory H x m → L ≡ y.met → Follows x y ps qs
+    → SessionGains m y made → length made ≤ 1 → GoesOn (speakers xs ks H ps) (speakers ys ls L qs) y made
 went_on {H} {x = x} {m} {y} xs ys ks ls made meets latest follows gained one = record {
   order = comes_from H m.met y.met made meets.met.second gained.order;
   latest = latest;
@@ -72,7 +72,8 @@ went_on {H} {x = x} {m} {y} xs ys ks ls made meets latest follows gained one = r
 
 module _ {t : Setup} (line text : List ℕ) (xs : List SeatView) (ks : List (Option LookView)) (i : ℕ) (d m y : SeatView)
     (e l : Option LookView) (H L : List Entry) (ps qs : List (ℕ × Entry)) (for : IsFor t.how (length xs) line i text)
-    (low : i < length xs) (size : length ks ≡ length xs) (meets : Meets H (slice_index_or xs i d) m) (latest : L ≡ y.met)
+    (low : i < length xs) (size : length ks ≡ length xs) (meets : SeatMeetsHistory H (slice_index_or xs i d) m) (latest : L ≡
+    y.met)
     (follows : Follows (slice_index_or xs i d) y ps qs) where
   line_refused_to : (end : SessionEnd) → RefusesLine t (kept_number (slice_index_or ks i e)) text m y end
       → RefusesLineOf t (speakers xs ks H ps) line (speakers (slice_set xs i y) (slice_set ks i l) L qs) end
@@ -104,12 +105,12 @@ module _ {t : Setup} (line text : List ℕ) (xs : List SeatView) (ks : List (Opt
 
   pub spoken : {N B : Type 0} {old new : Option (List ℕ)} {answer : Answer N} {result : Result B SessionEnd}
       → Hears t text (speaker m (slice_index_or ks i e)) (speaker y l) (Ok answer)
-      → TellsSpeaker (answer_text t.names answer) old new result
+      → TellsSpeaker (speaker_answer_text t.names answer) old new result
       → Handles t line (record { who = speakers xs ks H ps; said = old })
       (record { who = speakers (slice_set xs i y) (slice_set ks i l) L qs; said = new }) result
   spoken {answer = answer} {result = Ok b} h told = record {
     done = record {
-      text = answer_text t.names answer;
+      text = speaker_answer_text t.names answer;
       holds = inr (
         i,
         _,
@@ -126,7 +127,7 @@ module _ {t : Setup} (line text : List ℕ) (xs : List SeatView) (ks : List (Opt
           gained = gained_met (met_keeps meets) y (answer_entries answer) h.done.gained;
           goes_on = went_on xs (slice_set xs i y) ks (slice_set ks i l) (answer_entries answer) meets latest follows
               h.done.gained
-              (line_one t _ text (answer_entries answer) _ (answer_text t.names answer) h.done.answers);
+              (line_one t _ text (answer_entries answer) _ (speaker_answer_text t.names answer) h.done.answers);
         },
       );
       said = told;
@@ -140,7 +141,7 @@ module _ {t : Setup} (line text : List ℕ) (xs : List SeatView) (ks : List (Opt
         (sym told.0)
         (line_refused_to Memory (record {
           more = answer_entries answer;
-          next = inr (kept_number l, answer_text t.names answer, h.done.answers);
+          next = inr (kept_number l, speaker_answer_text t.names answer, h.done.answers);
           gained = h.done.gained;
         }));
     unsaid = told.1;

@@ -16,7 +16,7 @@
 --   session_alone    a session of the seat that is alone
 --   one_more         what holds of each seat so far, and of the next
 --   fewer_left       fewer bytes can still be read
-use Rattle.dg_session.proofs.Common.{◌≡◌, ◌≢◌, ℕ, zero, suc, ◌+◌, ◌-◌, ◌*◌, ◌<◌, ◌≤◌, inl, inr, List, [], ◌∷◌, ◌++◌, length, take, map, Option, None, Result, Ok, Err, OnOk, IfErr, true, refl, sym, ap, subst, ◌∙◌, arith, append-nil, length-append, All, flat_map, ⊤, All-nil, All-head, All-tail, All-push, length-map, slice_index_or, Appends, Consumes, IsAtEnd, SeatView, Begins, with_newline, last_line, begins_then, begins_more, one_cutting, StreamWriting, AppendsFront, appends_none, appends_more, consumes_none, consumes_more, consumes_kept, Setup, IsLine, AreSessionLines, Passage, passage, Speakers, newcomers, SessionReading, reading, StopsAt, EndsBy, Writes, IsOver, SoFar, beginning, IsReady, Goes, StopsIn, round, Halts, Takes, TakesEnd, IsWritten, MAX_LINE, MAX_LINES, READ_SIZE, SessionEnd, Read, Write, LongLine, Turns, Table, Memory, Spawn, Answers, IsSession}
+use Rattle.dg_session.proofs.Common.{◌≡◌, ◌≢◌, ℕ, zero, suc, ◌+◌, ◌-◌, ◌*◌, ◌<◌, ◌≤◌, inl, inr, List, [], ◌∷◌, ◌++◌, length, take, map, Option, None, Result, Ok, Err, OnOk, IfErr, true, refl, sym, ap, subst, ◌∙◌, arith, append-nil, length-append, All, flat_map, ⊤, All-nil, All-head, All-tail, All-push, length-map, slice_index_or, Appends, Consumes, IsAtEnd, SeatView, Begins, with_newline, last_line, begins_then, begins_more, one_cutting, StreamWriting, AppendsFrontToOutput, appends_none, appends_more, consumes_none, consumes_more, consumes_kept, Setup, IsLine, AreSessionLines, Passage, passage, Speakers, new_speakers, SessionReading, reading, StopsAt, EndsBy, Writes, IsOver, SoFar, beginning_of_session, IsReady, Goes, StopsIn, round, HaltsSession, Takes, TakesEnd, IsWrittenInSession, MAX_LINE, MAX_LINES, READ_SIZE, SessionEnd, Read, Write, LongLine, Turns, Table, Memory, Spawn, Answers, IsSession}
 use Rattle.std.specs.Io.KnownBytes.{Keeps}
 use Rattle.dg_session.proofs.Cutting.{plain, lines_then, lines_end}
 use Rattle.dg_session.proofs.Going.{answers_none, goes_none, goes_more, empty_line}
@@ -27,11 +27,11 @@ pub record IsSoFar (t : Setup) (input rest old new : Option (List ℕ)) (xs : Li
   pub stream : List ℕ
   pub read : Consumes input rest stream
   pub text : List ℕ
-  pub goes : Goes t (beginning xs) stream [] at text
+  pub goes : Goes t (beginning_of_session xs) stream [] at text
   pub written : Appends old new text
 
 pub so_far_new : {t : Setup} {input old : Option (List ℕ)} {xs : List SeatView} → 1 ≤ length xs
-    → IsSoFar t input input old old xs (beginning xs)
+    → IsSoFar t input input old old xs (beginning_of_session xs)
 so_far_new {t} {input} {old} {xs} some =
     let none_of : SeatView → Option ℕ = λ x. None in record {
       stream = [];
@@ -41,7 +41,7 @@ so_far_new {t} {input} {old} {xs} some =
         ls = [];
         came = record { whole = refl; each = All-nil IsLine };
         counted = refl;
-        answered = answers_none t (newcomers xs);
+        answered = answers_none t (new_speakers xs);
         ready = record {
           line = empty_line [] refl;
           few = omega arith;
@@ -70,7 +70,7 @@ IsHalt Write = ⊥
 IsHalt end = ⊤
 
 pub halts_by : {t : Setup} {E : Type 0} {at : SoFar} {bytes text : List ℕ} {z : Speakers} (end : SessionEnd)
-    → Halts t E at bytes (round z text) end → IsHalt end
+    → HaltsSession t E at bytes (round z text) end → IsHalt end
 halts_by {t} {z = z} Read h = elim h.fails [
   | inl stays ↦ stays.0
   | inr line ↦ ends_by t h.at.who z line.line Read line.stops
@@ -168,7 +168,7 @@ module _ {t : Setup} {input rest old mid : Option (List ℕ)} {xs : List SeatVie
   number g = let size = length-append far.goes.ls g.ls in omega (arith, size, far.goes.counted, g.counted)
 
   stops_at : {E : Type 0} (rest' : Option (List ℕ)) (over : E → IsAtEnd rest') {bytes text : List ℕ} {z : Speakers}
-      {e : SessionEnd} (h : Halts t E at bytes (round z text) e) → StopsIn t E h.at h.rest z e
+      {e : SessionEnd} (h : HaltsSession t E at bytes (round z text) e) → StopsIn t E h.at h.rest z e
       → StopsAt t (reading (far.stream ++ bytes) (far.goes.ls ++ h.goes.ls) rest') h.at.who z e
   stops_at rest' over h f = (
     f.line,
@@ -177,7 +177,7 @@ module _ {t : Setup} {input rest old mid : Option (List ℕ)} {xs : List SeatVie
   )
 
   ends_so : {E : Type 0} (rest' : Option (List ℕ)) (over : E → IsAtEnd rest') {bytes text : List ℕ} {z : Speakers}
-      (e : SessionEnd) (h : Halts t E at bytes (round z text) e)
+      (e : SessionEnd) (h : HaltsSession t E at bytes (round z text) e)
       → EndsBy t (reading (far.stream ++ bytes) (far.goes.ls ++ h.goes.ls) rest') h.at.who z (Err e)
   ends_so rest' over {z = z} LongLine h = elim h.fails [
     | inl stays ↦ (
@@ -202,7 +202,7 @@ module _ {t : Setup} {input rest old mid : Option (List ℕ)} {xs : List SeatVie
   ends_so rest' over e h = absurd (halts_by e h)
 
   unheard : {E : Type 0} (rest' : Option (List ℕ)) (over : E → IsAtEnd rest') {bytes text : List ℕ} {z : Speakers}
-      {e : SessionEnd} (h : Halts t E at bytes (round z text) e)
+      {e : SessionEnd} (h : HaltsSession t E at bytes (round z text) e)
       → EndsBy t (reading (far.stream ++ bytes) (far.goes.ls ++ h.goes.ls) rest') h.at.who z (Err Write)
   unheard rest' over {e = e} h = elim h.fails [ inl stays ↦ inl stays.1 | inr f ↦ inr (e, stops_at rest' over h f) ]
 
@@ -222,7 +222,7 @@ module _ {t : Setup} {input rest old mid : Option (List ℕ)} {xs : List SeatVie
       over_goes at.who g (consumes_none rest) (omega arith) unsaid (inl refl)
 
 pub written_ok : {B P : Type 0} {b : B} (taken : Result B SessionEnd) (text : List ℕ) (w w' : StreamWriting)
-    → IsWritten taken text w w' (Ok b) → OnOk taken P → P × Appends w.contents w'.contents text
+    → IsWrittenInSession taken text w w' (Ok b) → OnOk taken P → P × Appends w.contents w'.contents text
 written_ok {B} {P} taken text w w' written holds = elim written [
   | inl so ↦ (subst (λ r. OnOk r P) so.0 holds, so.1)
   | inr stuck ↦ (cc)
@@ -243,20 +243,20 @@ module _ {t : Setup} {input rest old : Option (List ℕ)} {xs : List SeatView} {
 
   heard : {B E : Type 0} {rest' : Option (List ℕ)} (over : E → IsAtEnd rest') (bytes text : List ℕ) (z : Speakers)
       (taken : Result B SessionEnd) → Consumes rest rest' bytes → length bytes ≤ READ_SIZE
-      → IfErr taken (Halts t E at bytes (round z text))
-      → OnOk taken (AppendsFront old w'.contents far.text text → Over rest' z Write)
-      → AppendsFront old w'.contents far.text text → Over rest' z Write
+      → IfErr taken (HaltsSession t E at bytes (round z text))
+      → OnOk taken (AppendsFrontToOutput old w'.contents far.text text → Over rest' z Write)
+      → AppendsFrontToOutput old w'.contents far.text text → Over rest' z Write
   heard {rest' = rest'} over bytes text z (Ok b) read small halted all front = all front
   heard {rest' = rest'} over bytes text z (Err e) read small h all front =
       over_goes far z h.goes read small front (unheard far rest' over h)
 
   breaks : {B E : Type 0} {rest' : Option (List ℕ)} (over : E → IsAtEnd rest') (bytes text : List ℕ) (z : Speakers)
       (taken : Result B SessionEnd) {end : SessionEnd} → Consumes rest rest' bytes → length bytes ≤ READ_SIZE
-      → IfErr taken (Halts t E at bytes (round z text))
-      → OnOk taken (AppendsFront old w'.contents far.text text → Over rest' z Write)
-      → IsWritten taken text w w' (Err end) → Over rest' z end
+      → IfErr taken (HaltsSession t E at bytes (round z text))
+      → OnOk taken (AppendsFrontToOutput old w'.contents far.text text → Over rest' z Write)
+      → IsWrittenInSession taken text w w' (Err end) → Over rest' z end
   breaks {B} {E} {rest'} over bytes text z taken {end} read small halted all written = elim written [
-    | inl so ↦ let h : Halts t E at bytes (round z text) end = subst (λ r. IfErr r (Halts t E at bytes (round z text))) so.0 halted in
+    | inl so ↦ let h : HaltsSession t E at bytes (round z text) end = subst (λ r. IfErr r (HaltsSession t E at bytes (round z text))) so.0 halted in
         over_goes far z h.goes read small
         (all_written old w'.contents far.text text end (halts_by end h) (grown text so.1)) (ends_so far rest' over end h)
     | inr stuck ↦ let same : end ≡ Write = cc in
@@ -267,7 +267,7 @@ module _ {t : Setup} {input rest old : Option (List ℕ)} {xs : List SeatView} {
   pub session_halts : {rest' : Option (List ℕ)} {B : Type 0} {taken : Result B SessionEnd} {to : SoFar}
       {said : Passage} {bytes : List ℕ} {end : SessionEnd} → Consumes rest rest' bytes
       → length bytes ≤ READ_SIZE → (takes : Takes t at bytes to said taken)
-      → IsWritten taken takes.text w w' (Err end) → Over rest' to.who end
+      → IsWrittenInSession taken takes.text w w' (Err end) → Over rest' to.who end
   session_halts {taken = taken} {to} {bytes = bytes} read small takes written =
       breaks (λ (none : ⊥). absurd none) bytes takes.text to.who taken read small takes.halted
       (on_ok taken (λ (g : Goes t at bytes [] to takes.text) front. over_goes far to.who g read small front (inl refl))
@@ -275,7 +275,7 @@ module _ {t : Setup} {input rest old : Option (List ℕ)} {xs : List SeatView} {
 
   pub session_closes : {rest' : Option (List ℕ)} {B : Type 0} {taken : Result B SessionEnd} {to : SoFar}
       {said : Passage} {end : SessionEnd} → Consumes rest rest' [] → IsAtEnd rest'
-      → (takes : TakesEnd t at to said taken) → IsWritten taken takes.text w w' (Err end)
+      → (takes : TakesEnd t at to said taken) → IsWrittenInSession taken takes.text w w' (Err end)
       → Over rest' to.who end
   session_closes {taken = taken} {to} read over takes written =
       breaks (λ (end : ⊤). over) [] takes.text to.who taken read (omega arith) takes.halted
@@ -284,7 +284,7 @@ module _ {t : Setup} {input rest old : Option (List ℕ)} {xs : List SeatView} {
 
   pub session_ends : {rest' : Option (List ℕ)} {B : Type 0} {taken : Result B SessionEnd} {b : B} {to : SoFar}
       {said : Passage} → Consumes rest rest' [] → IsAtEnd rest'
-      → (takes : TakesEnd t at to said taken) → IsWritten taken takes.text w w' (Ok b)
+      → (takes : TakesEnd t at to said taken) → IsWrittenInSession taken takes.text w w' (Ok b)
       → IsOver t (passage input rest') (passage old w'.contents) xs to.who.seats (Ok to.count)
   session_ends {taken = taken} {to = to} read over takes written =
       let text = takes.text in
@@ -330,7 +330,7 @@ numbers_of {t} {input = input} {xs = xs} {result = result} h =
     ap (map (λ (x : SeatView). x.number)) (sym h.seats)
     ∙ numbers_ended t (reading h.stream (h.told ++ h.last) input.after) h.after h.end result h.ends
     ∙ numbers_answered t h.last h.middle h.after h.text h.second
-    ∙ numbers_answered t h.told (newcomers xs) h.middle h.said h.first
+    ∙ numbers_answered t h.told (new_speakers xs) h.middle h.said h.first
 
 pub session_alone : {t : Setup} {input output : Passage} {xs ys : List SeatView} {result : Result ℕ SessionEnd}
     {x : SeatView} (d : SeatView) → xs ≡ x ∷ [] → IsSession t input output xs ys result

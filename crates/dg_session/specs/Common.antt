@@ -9,15 +9,15 @@ pub use Rattle.dg_rules.specs.declared.step.Command.TheVariants.{Call, Commit, R
 pub use Rattle.dg_lines.specs.Commands.{IsCommandLine}
 pub use Rattle.dg_lines.specs.Cuts.{lines}
 pub use Rattle.dg_lines.specs.LineFaults.{IsLineFault, fault_text}
-pub use Rattle.dg_lines.specs.Steps.{IsSeated}
+pub use Rattle.dg_lines.specs.Steps.{IsSeatedLine}
 pub use Rattle.dg_lines.specs.Streams.{Begins, HasNoNewline, LinesHaveCome, last_line, with_newline}
 pub use Rattle.dg_lines.specs.Texts.{HasNames, entry_text}
 pub use Rattle.dg_lines.specs.declared.line.LineFault.{LineFault}
 pub use Rattle.dg_lines.specs.declared.line.LineFault.TheVariants.{Seat}
 pub use Rattle.dg_log.specs.Numbered.{IsPrefixOf, StandIn}
 pub use Rattle.dg_log.specs.Tables.{TableData}
-pub use Rattle.dg_rank.specs.Ranks.{IsWithin}
-pub use Rattle.dg_system.specs.Growth.{AppendsFront, StreamWriting}
+pub use Rattle.dg_rank.specs.Ranks.{IsRankTestWithinLimits}
+pub use Rattle.dg_system.specs.Growth.{AppendsFrontToOutput, StreamWriting}
 pub use Rattle.dg_table.specs.Faults.{RefusesCall}
-pub use Rattle.dg_table.specs.Histories.{HasPrefix}
+pub use Rattle.dg_table.specs.Histories.{SeatHasPrefix}
 pub use Rattle.dg_table.specs.Seats.{SeatView}

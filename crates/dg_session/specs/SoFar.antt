@@ -1,52 +1,54 @@
 -- How far a session is, and how it goes on: what each floor, from the bytes that are read down to
 -- one command, promises of its states before and after. No public contract speaks of it.
---   heard text == what was said, if it is kept: nobody hears the others
---   Speaker    == how far a seat is: the seat, and the number of the look that it keeps, if it keeps
---                 one
---   answer_entries a, answer_text names a == the entries that the answer says were made, at most
---                 one, and its line
---   AnswerHasNames names a == there are names for what it says
---   Talk       == how far all seats are: who speaks, and what was said
---   SoFar      == how far the session is: what came after the last newline, how many lines are
---                 answered, and who speaks
---   TellsSpeaker words old new result == the words are said; or memory is refused, and nothing is
---   Gives t A old new a == the answer is one that A admits, and the speaker has gained its entries
---   Obeys t command old new result == the speaker's command is done, and is to be answered so; or the
---                 session ends so at it
---   Hears t line old new result    == so is the speaker's line
---   Handles t line old new result  == so is a line, of the seat that it is for
---   IsReady at == the session can go on: what is pending may be of a line, and a look may be kept
---                 for each seat
---   Goes t old bytes rest new text == of the bytes all but the rest are taken: the lines that end
---                 in them are answered with the text
---   RefusesPart pending count part end == the part of a line is not taken, for its length or as one
---                 of a line too many
---   StaysAt at rest end == the session ends so before the rest: a line there is too long or one too
---                 many, or memory is refused
---   StopsIn t ended at rest z end  == or at the line that comes next, as it is refused
---   SessionRound == who speaks after some lines, and the text that answers them
---   round z text == that of these
---   Halts t ended old bytes after end == the bytes are taken but for a rest, and there the session
---                 ends so; `ended` says that no more is to come
---   Takes t old bytes new said result == the bytes are taken, or the session halts in them; what is
---                 said of it comes after what was said before
---   TakesEnd t old new said result == so is the end: what is pending is the last line, if it has a
---                 byte
---   IsSaid said text == what was said, if it is kept, is the text
---   AnswersAreCleared old new == it is kept as before, and is nothing now
---   IsWritten taken text old new result == all that was said is written, and it ends as the taking
---                 did; or a front of it is, and the writer took no more
+--   heard text                                    == what was said, if it is kept: nobody hears the others
+--   Speaker                                       == how far a seat is: the seat, and the number of the look
+--                                                    that it keeps, if it keeps one
+--   answer_entries a, speaker_answer_text names a == the entries that the answer says were made, at most one,
+--                                                    and its line
+--   AnswerHasNames names a                        == there are names for what it says
+--   Talk                                          == how far all seats are: who speaks, and what was said
+--   SoFar                                         == how far the session is: what came after the last
+--                                                    newline, how many lines are answered, and who speaks
+--   TellsSpeaker words old new result             == the words are said; or memory is refused, and nothing is
+--   GivesSpeakerAnswer t A old new a              == the answer is one that A admits, and the speaker has
+--                                                    gained its entries
+--   Obeys t command old new result                == the speaker's command is done, and is to be answered so;
+--                                                    or the session ends so at it
+--   Hears t line old new result                   == so is the speaker's line
+--   Handles t line old new result                 == so is a line, of the seat that it is for
+--   IsReady at                                    == the session can go on: what is pending may be of a line,
+--                                                    and a look may be kept for each seat
+--   Goes t old bytes rest new text                == of the bytes all but the rest are taken: the lines that
+--                                                    end in them are answered with the text
+--   SessionRefusesPart pending count part end     == the part of a line is not taken, for its length or as
+--                                                    one of a line too many
+--   StaysAt at rest end                           == the session ends so before the rest: a line there is too
+--                                                    long or one too many, or memory is refused
+--   StopsIn t ended at rest z end                 == or at the line that comes next, as it is refused
+--   SessionRound                                  == who speaks after some lines, and the text that answers
+--                                                    them
+--   round z text                                  == that of these
+--   HaltsSession t ended old bytes after end      == the bytes are taken but for a rest, and there the
+--                                                    session ends so; `ended` says that no more is to come
+--   Takes t old bytes new said result             == the bytes are taken, or the session halts in them; what
+--                                                    is said of it comes after what was said before
+--   TakesEnd t old new said result                == so is the end: what is pending is the last line, if it
+--                                                    has a byte
+--   IsSaid said text                              == what was said, if it is kept, is the text
+--   AnswersAreCleared old new                     == it is kept as before, and is nothing now
+--   IsWrittenInSession taken text old new result  == all that was said is written, and it ends as the taking
+--                                                    did; or a front of it is, and the writer took no more
 use Rattle.std.specs.Prelude.{◌≡◌, ◌≢◌, ℕ, ◌+◌, ◌<◌, ◌≤◌, ◌⊎◌, List, [], ◌∷◌, ◌++◌, length, true, codes, Option, None, Some, Result, Ok, Err, OnOk, OnErr, IfOk, IfErr, ⊤}
 use Rattle.std.specs.Global.{Vec}
 use Rattle.std.specs.Io.KnownBytes.{Appends, append_known}
-use Rattle.dg_session.specs.Common.{Entry, Command, SeatView, LookView, StreamWriting, AppendsFront, Begins, last_line, entry_text, fault_text, HasNames}
+use Rattle.dg_session.specs.Common.{Entry, Command, SeatView, LookView, StreamWriting, AppendsFrontToOutput, Begins, last_line, entry_text, fault_text, HasNames}
 use Rattle.dg_session.specs.Setup.{Setup}
 use Rattle.dg_session.specs.EntriesSoFar.{EntriesSoFarView}
 use Rattle.dg_session.specs.Streams.{IsLine, AreSessionLines, Passage}
-use Rattle.dg_session.specs.Saying.{Gains, AnswersCommand, AnswersLine}
+use Rattle.dg_session.specs.Saying.{SessionGains, AnswersCommand, AnswersLine}
 use Rattle.dg_session.specs.Refusing.{RefusesCommand, RefusesLine}
-use Rattle.dg_session.specs.Speakers.{Speakers, speakers, newcomers, kept_number, AnswersLineOf, RefusesLineOf}
-use Rattle.dg_session.specs.Ends.{Answers, IsTooLong}
+use Rattle.dg_session.specs.Speakers.{Speakers, speakers, new_speakers, kept_number, AnswersLineOf, RefusesLineOf}
+use Rattle.dg_session.specs.Ends.{Answers, IsTooLongForSession}
 use Rattle.dg_session.specs.declared.answering.Answer.{Answer}
 use Rattle.dg_session.specs.declared.answering.Answer.TheVariants.{Made, NoLook, TooMany, BadLine}
 use Rattle.dg_session.specs.declared.answering.AnswerBuffer.{AnswerBuffer}
@@ -73,11 +75,11 @@ abbrev pub answer_entries : {N : Type 0} → Answer N → List (ℕ × Entry)
 answer_entries (Made r) = r ∷ []
 answer_entries answer = []
 
-abbrev pub answer_text : {N : Type 0} → List (List ℕ) → Answer N → List ℕ
-answer_text names (Made r) = entry_text names r.0 r.1.reply
-answer_text names NoLook = codes "bad look\n"
-answer_text names TooMany = codes "bad trials\n"
-answer_text names (BadLine fault) = fault_text fault
+abbrev pub speaker_answer_text : {N : Type 0} → List (List ℕ) → Answer N → List ℕ
+speaker_answer_text names (Made r) = entry_text names r.0 r.1.reply
+speaker_answer_text names NoLook = codes "bad look\n"
+speaker_answer_text names TooMany = codes "bad trials\n"
+speaker_answer_text names (BadLine fault) = fault_text fault
 
 abbrev pub AnswerHasNames : {N : Type 0} → List (List ℕ) → Answer N → Type 0
 AnswerHasNames names (Made r) = HasNames names r.1.reply
@@ -103,29 +105,29 @@ so_far p xs = record {
   who = speakers xs p.kept.items p.entries_so_far.latest p.entries_so_far.entered;
 }
 
-abbrev pub beginning : List SeatView → SoFar
-beginning xs = record { pending = []; count = 0; who = newcomers xs }
+abbrev pub beginning_of_session : List SeatView → SoFar
+beginning_of_session xs = record { pending = []; count = 0; who = new_speakers xs }
 
 abbrev pub TellsSpeaker : {B : Type 0} → List ℕ → Option (List ℕ) → Option (List ℕ)
     → Result B SessionEnd → Type 0
 TellsSpeaker words old new (Ok b) = new ≡ append_known old words
 TellsSpeaker words old new (Err end) = (end ≡ Memory) × (new ≡ old)
 
-pub record Gives {N : Type 0} (t : Setup) (A : List (ℕ × Entry) → Option ℕ → List ℕ → Type 0)
+pub record GivesSpeakerAnswer {N : Type 0} (t : Setup) (A : List (ℕ × Entry) → Option ℕ → List ℕ → Type 0)
     (old new : Speaker) (answer : Answer N) : Type 0 where
-  pub answers : A (answer_entries answer) new.kept (answer_text t.names answer)
-  pub gained : Gains old.seat new.seat (answer_entries answer)
+  pub answers : A (answer_entries answer) new.kept (speaker_answer_text t.names answer)
+  pub gained : SessionGains old.seat new.seat (answer_entries answer)
   pub named : AnswerHasNames t.names answer
 
 pub record Obeys {N : Type 0} (t : Setup) (command : Command) (old new : Speaker)
     (result : Result (Answer N) SessionEnd) : Type 0 where
-  pub done : IfOk result (Gives t (AnswersCommand t old.kept command) old new)
+  pub done : IfOk result (GivesSpeakerAnswer t (AnswersCommand t old.kept command) old new)
   pub refused : IfErr result
       (RefusesCommand t old.kept command old.seat new.seat)
 
 pub record Hears {N : Type 0} (t : Setup) (line : List ℕ) (old new : Speaker)
     (result : Result (Answer N) SessionEnd) : Type 0 where
-  pub done : IfOk result (Gives t (AnswersLine t old.kept line) old new)
+  pub done : IfOk result (GivesSpeakerAnswer t (AnswersLine t old.kept line) old new)
   pub refused : IfErr result
       (RefusesLine t old.kept line old.seat new.seat)
 
@@ -155,15 +157,15 @@ pub record Goes (t : Setup) (old : SoFar) (bytes rest : List ℕ) (new : SoFar)
   pub answered : Answers t old.who ls new.who text
   pub ready : IsReady new
 
-abbrev pub RefusesPart : List ℕ → ℕ → List ℕ → SessionEnd → Type 0
-RefusesPart pending count part Turns = count ≡ MAX_LINES
-RefusesPart pending count part LongLine =
+abbrev pub SessionRefusesPart : List ℕ → ℕ → List ℕ → SessionEnd → Type 0
+SessionRefusesPart pending count part Turns = count ≡ MAX_LINES
+SessionRefusesPart pending count part LongLine =
     (count ≢ MAX_LINES) × (MAX_LINE < length pending + length part)
-RefusesPart pending count part end = ⊥
+SessionRefusesPart pending count part end = ⊥
 
 abbrev pub StaysAt : SoFar → List ℕ → SessionEnd → Type 0
 StaysAt at rest Turns = (at.count ≡ MAX_LINES) × (1 ≤ length rest)
-StaysAt at rest LongLine = (at.count < MAX_LINES) × IsTooLong (at.pending ++ rest)
+StaysAt at rest LongLine = (at.count < MAX_LINES) × IsTooLongForSession (at.pending ++ rest)
 StaysAt at rest Memory = ⊤
 StaysAt at rest end = ⊥
 
@@ -181,7 +183,7 @@ pub record SessionRound : Type 0 where
 abbrev pub round : Speakers → List ℕ → SessionRound
 round z text = record { who = z; text = text }
 
-pub record Halts (t : Setup) (ended : Type 0) (old : SoFar) (bytes : List ℕ) (after : SessionRound)
+pub record HaltsSession (t : Setup) (ended : Type 0) (old : SoFar) (bytes : List ℕ) (after : SessionRound)
     (end : SessionEnd) : Type 0 where
   pub rest : List ℕ
   pub at : SoFar
@@ -193,7 +195,7 @@ pub record Takes {B : Type 0} (t : Setup) (old : SoFar) (bytes : List ℕ) (new 
   pub text : List ℕ
   pub grown : said.after ≡ append_known said.before text
   pub taken : OnOk result (Goes t old bytes [] new text)
-  pub halted : IfErr result (Halts t ⊥ old bytes (round new.who text))
+  pub halted : IfErr result (HaltsSession t ⊥ old bytes (round new.who text))
 
 pub record TakesEnd {B : Type 0} (t : Setup) (old new : SoFar) (said : Passage)
     (result : Result B SessionEnd) : Type 0 where
@@ -201,7 +203,7 @@ pub record TakesEnd {B : Type 0} (t : Setup) (old new : SoFar) (said : Passage)
   pub grown : said.after ≡ append_known said.before text
   pub answered : OnOk result (Answers t old.who (last_line old.pending) new.who text)
   pub counted : OnOk result (new.count ≡ old.count + length (last_line old.pending))
-  pub halted : IfErr result (Halts t ⊤ old [] (round new.who text))
+  pub halted : IfErr result (HaltsSession t ⊤ old [] (round new.who text))
 
 abbrev pub IsSaid : Option (List ℕ) → List ℕ → Type 0
 IsSaid None text = ⊤
@@ -211,9 +213,9 @@ abbrev pub AnswersAreCleared : Option (List ℕ) → Option (List ℕ) → Type 
 AnswersAreCleared None new = new ≡ None
 AnswersAreCleared (Some text) new = new ≡ Some []
 
-abbrev pub IsWritten : {B : Type 0} → Result B SessionEnd → List ℕ → StreamWriting → StreamWriting
+abbrev pub IsWrittenInSession : {B : Type 0} → Result B SessionEnd → List ℕ → StreamWriting → StreamWriting
     → Result B SessionEnd → Type 0
-IsWritten taken text old new result =
+IsWrittenInSession taken text old new result =
     ((taken ≡ result) × Appends old.contents new.contents text)
-    ⊎ ((result ≡ Err Write) × AppendsFront old.contents new.contents [] text
+    ⊎ ((result ≡ Err Write) × AppendsFrontToOutput old.contents new.contents [] text
     × (new.has_failed ≡ true))

@@ -1,31 +1,29 @@
 -- Who speaks in a session: its seats, in order, and for each the number of the look that it keeps,
 -- if it keeps one. A seat that is not spoken for stays as it is.
---   Speakers           == the seats, and the looks that they keep; the history as the last line left
---                         it; and what all lines have entered, in their order
---   speakers xs looks H ps   == those of these seats and looks, with that history and these entries
---   newcomers xs       == the seats, and no look is kept; there was no line
---   IsFor how n line i text   == of n seats, the line is for that at the place i, from 0, and the
---                                text is its command line: the line begins with the number i + 1
---                                and a space; or it names no seat, and is for the first
---   IsForNone how n line      == the line is for none of n seats
---   Replaces i xs ys x y  == the list xs has x at the place i, and ys is the same with y there
---   GoesOn s z y made  == the line of a seat, which is y then, has entered these entries, after all
---                         that the lines before it left: the history as it leaves it is that which y
---                         has met
---   AnswersIn t i text s z said == the seat at the place i is answered its command line so, and
---                         says nothing else
---   AnswersLineOf t s line z text == the line, with the seats s, is answered with the text, and the
---                                seats are z then: by `bad seat`, or as a line of the seat that it
---                                is for
---   RefusesLineOf t s line z end == at the line the session ends so, and the seats are z then:
---                                memory is refused to it, or its command is refused to the seat
---                                that it is for
+--   Speakers                      == the seats, and the looks that they keep; the history as the last line
+--                                    left it; and what all lines have entered, in their order
+--   speakers xs looks H ps        == those of these seats and looks, with that history and these entries
+--   new_speakers xs               == the seats, and no look is kept; there was no line
+--   IsFor how n line i text       == of n seats, the line is for that at the place i, from 0, and the text is
+--                                    its command line: the line begins with the number i + 1 and a space; or
+--                                    it names no seat, and is for the first
+--   IsForNoSpeaker how n line     == the line is for none of n seats
+--   Replaces i xs ys x y          == the list xs has x at the place i, and ys is the same with y there
+--   GoesOn s z y made             == the line of a seat, which is y then, has entered these entries, after
+--                                    all that the lines before it left: the history as it leaves it is that
+--                                    which y has met
+--   AnswersIn t i text s z said   == the seat at the place i is answered its command line so, and says
+--                                    nothing else
+--   AnswersLineOf t s line z text == the line, with the seats s, is answered with the text, and the seats are
+--                                    z then: by `bad seat`, or as a line of the seat that it is for
+--   RefusesLineOf t s line z end  == at the line the session ends so, and the seats are z then: memory is
+--                                    refused to it, or its command is refused to the seat that it is for
 use Rattle.std.specs.Prelude.{◌≡◌, ℕ, ◌+◌, ◌<◌, ◌⊎◌, List, [], ◌++◌, length, map, Option, None, Some, slice_get}
 use Rattle.std.specs.List.{slice_set}
-use Rattle.dg_session.specs.Common.{Entry, SeatView, LookView, IsSeated, fault_text, Seat}
+use Rattle.dg_session.specs.Common.{Entry, SeatView, LookView, IsSeatedLine, fault_text, Seat}
 use Rattle.dg_session.specs.Setup.{Setup}
 use Rattle.dg_session.specs.Order.{ComeAfter}
-use Rattle.dg_session.specs.Saying.{Gains, AnswersLine}
+use Rattle.dg_session.specs.Saying.{SessionGains, AnswersLine}
 use Rattle.dg_session.specs.Refusing.{RefusesLine}
 use Rattle.dg_session.specs.declared.line_format.LineFormat.{LineFormat}
 use Rattle.dg_session.specs.declared.line_format.LineFormat.TheVariants.{OneSeat, BySeat}
@@ -47,15 +45,15 @@ abbrev pub speakers : List SeatView → List (Option LookView) → List Entry �
 speakers xs looks H ps =
     record { seats = xs; kept = map kept_number looks; latest = H; entered = ps }
 
-abbrev pub newcomers : List SeatView → Speakers
-newcomers xs = record { seats = xs; kept = map (λ x. None) xs; latest = []; entered = [] }
+abbrev pub new_speakers : List SeatView → Speakers
+new_speakers xs = record { seats = xs; kept = map (λ x. None) xs; latest = []; entered = [] }
 
 abbrev pub IsFor : LineFormat → ℕ → List ℕ → ℕ → List ℕ → Type 0
 IsFor OneSeat n line i text = (i ≡ 0) × (text ≡ line)
-IsFor BySeat n line i text = IsSeated (i + 1) text line × (i < n)
+IsFor BySeat n line i text = IsSeatedLine (i + 1) text line × (i < n)
 
-abbrev pub IsForNone : LineFormat → ℕ → List ℕ → Type 0
-IsForNone how n line = (i : ℕ) (text : List ℕ) → ¬ IsFor how n line i text
+abbrev pub IsForNoSpeaker : LineFormat → ℕ → List ℕ → Type 0
+IsForNoSpeaker how n line = (i : ℕ) (text : List ℕ) → ¬ IsFor how n line i text
 
 pub record Replaces {A : Type 0} (i : ℕ) (xs ys : List A) (x y : A) : Type 0 where
   pub old : slice_get xs i ≡ Some x
@@ -76,16 +74,16 @@ pub record AnswersIn (t : Setup) (i : ℕ) (text : List ℕ) (s z : Speakers) (s
   pub look : Replaces i s.kept z.kept kept after
   pub made : List (ℕ × Entry)
   pub answers : AnswersLine t kept text made after said
-  pub gained : Gains x y made
+  pub gained : SessionGains x y made
   pub goes_on : GoesOn s z y made
 
 abbrev pub AnswersLineOf : Setup → Speakers → List ℕ → Speakers → List ℕ → Type 0
 AnswersLineOf t s line z said =
-    (IsForNone t.how (length s.seats) line × (z ≡ s) × (said ≡ fault_text Seat))
+    (IsForNoSpeaker t.how (length s.seats) line × (z ≡ s) × (said ≡ fault_text Seat))
     ⊎ ((i : ℕ) × (text : List ℕ) × IsFor t.how (length s.seats) line i text
     × AnswersIn t i text s z said)
 
-pub record RefusesIn (t : Setup) (i : ℕ) (text : List ℕ) (s z : Speakers) (end : SessionEnd)
+pub record RefusesSpeaker (t : Setup) (i : ℕ) (text : List ℕ) (s z : Speakers) (end : SessionEnd)
     : Type 0 where
   pub x : SeatView
   pub y : SeatView
@@ -95,11 +93,11 @@ pub record RefusesIn (t : Setup) (i : ℕ) (text : List ℕ) (s z : Speakers) (e
   pub look : Replaces i s.kept z.kept kept after
   pub refused : RefusesLine t kept text x y end
   pub made : List (ℕ × Entry)
-  pub gained : Gains x y made
+  pub gained : SessionGains x y made
   pub goes_on : GoesOn s z y made
 
 abbrev pub RefusesLineOf : Setup → Speakers → List ℕ → Speakers → SessionEnd → Type 0
 RefusesLineOf t s line z end =
     ((end ≡ Memory) × (z ≡ s))
     ⊎ ((i : ℕ) × (text : List ℕ) × IsFor t.how (length s.seats) line i text
-    × RefusesIn t i text s z end)
+    × RefusesSpeaker t i text s z end)

@@ -1,10 +1,10 @@
 //! Answering one line of a seat.
 ghost use Rattle.std.specs.Prelude.{◌≡◌, ◌≢◌, ℕ, List, length, Option};
-ghost use Rattle.dg_rank.specs.Ranks.{MayHaveWorkers};
+ghost use Rattle.dg_rank.specs.Ranks.{MayHaveRankWorkers};
 ghost use Rattle.dg_rules.specs.declared.step.Command.TheVariants.{Call, Commit, Rank};
 ghost use Rattle.dg_lines.specs.Texts.{HasNames, entry_text};
 ghost use Rattle.dg_session.specs.Setup.{setup};
-ghost use Rattle.dg_session.specs.SoFar.{answer_text, heard, keeping, speaker, AnswerHasNames, TellsSpeaker, Hears, Obeys};
+ghost use Rattle.dg_session.specs.SoFar.{speaker_answer_text, heard, keeping, speaker, AnswerHasNames, TellsSpeaker, Hears, Obeys};
 
 use crate::ends::SessionEnd;
 use crate::line_format::LineFormat;
@@ -30,7 +30,7 @@ pub(crate) struct Shared<'a, N: Name, R: Threads + Wait> {
     pub(crate) workers: u32,
     pub(crate) how: LineFormat,
     ghost named: { length names.now ≡ N.table.start.graph.size },
-    ghost helped: { MayHaveWorkers workers },
+    ghost helped: { MayHaveRankWorkers workers },
 }
 
 /// What a line is answered with.
@@ -66,7 +66,7 @@ impl AnswerBuffer {
         answer: &Answer<N>,
     ) -> Result<(), SessionEnd>
         requires { AnswerHasNames names.now answer.now }
-        ensures { TellsSpeaker (answer_text names.now answer.now)
+        ensures { TellsSpeaker (speaker_answer_text names.now answer.now)
             (heard self.old.text) (heard self.new.text) result }
     {
         match answer {
@@ -153,18 +153,18 @@ fn obey<N: Name, R: Threads + Wait>(
 {
     match command {
         Command::Call(plain) => match plain {
-            Plain::Look => take_look(shared, kept, seat),
+            Plain::Look => take_look_of_speaker(shared, kept, seat),
             Plain::Move(_) | Plain::Gift(..) | Plain::Join(..) | Plain::Claim => {
                 call(shared, seat, plain)
             }
         },
-        Command::Commit => enter_verdict(shared, kept, inverse, seat),
-        Command::Rank(k) => enter_rank(shared, kept, seat, *k),
+        Command::Commit => enter_verdict_of_speaker(shared, kept, inverse, seat),
+        Command::Rank(k) => enter_rank_of_speaker(shared, kept, seat, *k),
     }
 }
 
 /// Takes a look, and keeps it in place of an older one.
-fn take_look<N: Name, R: Threads + Wait>(
+fn take_look_of_speaker<N: Name, R: Threads + Wait>(
     shared: &Shared<N, R>,
     kept: &mut Option<Look<N>>,
     seat: &mut Seat<N>,
@@ -200,7 +200,7 @@ fn call<N: Name, R: Threads + Wait>(
 }
 
 /// Enters the verdict on the look that is kept, and uses the look up. If the look is stale, nothing is computed.
-fn enter_verdict<N: Name, R: Threads + Wait>(
+fn enter_verdict_of_speaker<N: Name, R: Threads + Wait>(
     shared: &Shared<N, R>,
     kept: &mut Option<Look<N>>,
     inverse: &mut InverseLaplacian,
@@ -231,7 +231,7 @@ fn enter_verdict<N: Name, R: Threads + Wait>(
 
 /// Enters the rank test of degree k on the look that is kept, and uses the look up. If the look is stale, nothing is tried. If
 /// there would be too many trials, the look stays.
-fn enter_rank<N: Name, R: Threads + Wait>(
+fn enter_rank_of_speaker<N: Name, R: Threads + Wait>(
     shared: &Shared<N, R>,
     kept: &mut Option<Look<N>>,
     seat: &mut Seat<N>,
@@ -250,15 +250,15 @@ fn enter_rank<N: Name, R: Threads + Wait>(
                 *kept = None;
                 return Ok(Answer::Made(receipt));
             }
-            Ok(None) => return try_kept(shared, kept, seat, k),
+            Ok(None) => return try_rank_of_speaker(shared, kept, seat, k),
             Err(fault) => return Err(SessionEnd::Table(fault)),
         }
     }
-    try_kept(shared, kept, seat, k)
+    try_rank_of_speaker(shared, kept, seat, k)
 }
 
 /// Tries a rank on the look that is kept, enters the answer, and uses the look up. If there would be too many trials, it stays.
-fn try_kept<N: Name, R: Threads + Wait>(
+fn try_rank_of_speaker<N: Name, R: Threads + Wait>(
     shared: &Shared<N, R>,
     kept: &mut Option<Look<N>>,
     seat: &mut Seat<N>,

@@ -1,8 +1,8 @@
 //! Which seat a line belongs to.
 ghost use Rattle.std.specs.Prelude.{◌≡◌, ◌<◌, ◌≤◌, None, IfSome};
-ghost use Rattle.dg_session.specs.Speakers.{IsFor, IsForNone};
+ghost use Rattle.dg_session.specs.Speakers.{IsFor, IsForNoSpeaker};
 
-use dg_lines::split_seat;
+use dg_lines::split_seat_off_line;
 
 /// How the lines of a session name the seat that makes their calls.
 #[derive(Clone, Copy)]
@@ -18,20 +18,20 @@ pub(crate) fn addressed(how: LineFormat, count: usize, line: &[u8]) -> Option<(u
     requires { 1 ≤ count }
     ensures one { IfSome result (λ p. IsFor how count line.now p.0 p.1.now) }
     ensures there { IfSome result (λ p. p.0 < count) }
-    ensures none { result ≡ None → IsForNone how count line.now }
+    ensures none { result ≡ None → IsForNoSpeaker how count line.now }
 {
     match how {
         LineFormat::OneSeat => Some((0, line)),
-        LineFormat::BySeat => seated(count, line),
+        LineFormat::BySeat => seat_of_line(count, line),
     }
 }
 
-fn seated(count: usize, line: &[u8]) -> Option<(usize, &[u8])>
+fn seat_of_line(count: usize, line: &[u8]) -> Option<(usize, &[u8])>
     ensures one { IfSome result (λ p. IsFor LineFormat.BySeat count line.now p.0 p.1.now) }
     ensures there { IfSome result (λ p. p.0 < count) }
-    ensures none { result ≡ None → IsForNone LineFormat.BySeat count line.now }
+    ensures none { result ≡ None → IsForNoSpeaker LineFormat.BySeat count line.now }
 {
-    let Some((seat, text)) = split_seat(line) else {
+    let Some((seat, text)) = split_seat_off_line(line) else {
         return None;
     };
     let seat = usize::from(seat);

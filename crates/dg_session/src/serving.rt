@@ -1,12 +1,12 @@
 //! Serving a stream of lines.
 ghost use Rattle.std.specs.Prelude.{◌≡◌, ◌≢◌, ◌≤◌, List, ℕ, [], ◌∷◌, length, Option, None, Err, OnOk, All, true};
-ghost use Rattle.dg_rank.specs.Ranks.{MayHaveWorkers};
-ghost use Rattle.dg_table.specs.Histories.{HasPrefix};
+ghost use Rattle.dg_rank.specs.Ranks.{MayHaveRankWorkers};
+ghost use Rattle.dg_table.specs.Histories.{SeatHasPrefix};
 ghost use Rattle.dg_session.specs.Ends.{IsOver, IsSession};
 ghost use Rattle.dg_session.specs.Setup.{setup};
 ghost use Rattle.dg_session.specs.Streams.{passage};
 ghost use Rattle.dg_session.specs.declared.line_format.LineFormat.TheVariants.{OneSeat};
-ghost use Rattle.dg_session.specs.SoFar.{heard, IsSaid, AnswersAreCleared, IsWritten};
+ghost use Rattle.dg_session.specs.SoFar.{heard, IsSaid, AnswersAreCleared, IsWrittenInSession};
 
 use crate::answering::{AnswerBuffer, Shared};
 use crate::ends::{READ_SIZE, SessionEnd};
@@ -41,7 +41,7 @@ pub fn serve<N: Name, R: Threads + Wait, I: Read + Drop, O: Write + Drop>(
     workers: u32,
 ) -> Result<u32, SessionEnd>
     requires names { length names.now ≡ N.table.start.graph.size }
-    requires workers { MayHaveWorkers workers }
+    requires workers { MayHaveRankWorkers workers }
     ensures session { (left said : Option (List ℕ)) × IsSession (setup OneSeat N.table names.now workers)
         (passage (I.remaining reader) left) (passage (O.contents writer) said)
         (seat.old ∷ []) (seat.new ∷ []) result }
@@ -76,7 +76,7 @@ pub fn serve_seats<N: Name, R: Threads + Wait, I: Read, O: Write>(
     how: LineFormat,
 ) -> Result<u32, SessionEnd>
     requires names { length names.now ≡ N.table.start.graph.size }
-    requires workers { MayHaveWorkers workers }
+    requires workers { MayHaveRankWorkers workers }
     requires some { 1 ≤ length seats.old }
     ensures session { IsSession (setup how N.table names.now workers)
         (passage reader.old.remaining reader.new.remaining)
@@ -93,7 +93,7 @@ pub fn serve_seats<N: Name, R: Threads + Wait, I: Read, O: Write>(
         how,
     };
     let ended = serve_lines(&shared, seats, reader, writer, Some(Vec::new(alloc)));
-    seats_have_prefixes(seats);
+    speakers_have_prefixes(seats);
     ended
 }
 
@@ -108,7 +108,7 @@ pub fn serve_unheard<N: Name, R: Threads + Wait, I: Read>(
     workers: u32,
 ) -> Result<u32, SessionEnd>
     requires names { length names.now ≡ N.table.start.graph.size }
-    requires workers { MayHaveWorkers workers }
+    requires workers { MayHaveRankWorkers workers }
     ensures session { IsSession (setup OneSeat N.table names.now workers)
         (passage reader.old.remaining reader.new.remaining) (passage None None)
         (seat.old ∷ []) (seat.new ∷ []) result }
@@ -126,13 +126,13 @@ pub fn serve_unheard<N: Name, R: Threads + Wait, I: Read>(
     let mut writer = Output::new(io::sink());
     let seats = slice::from_mut(seat);
     let ended = serve_lines(&shared, seats, reader, &mut writer, None);
-    seats_have_prefixes(seats);
+    speakers_have_prefixes(seats);
     ended
 }
 
 /// Each seat has found a history of its table. Nothing is done.
-fn seats_have_prefixes<N: Name>(seats: &[Seat<N>])
-    ensures { All (HasPrefix N.table) seats.now }
+fn speakers_have_prefixes<N: Name>(seats: &[Seat<N>])
+    ensures { All (SeatHasPrefix N.table) seats.now }
 {
     for seat in seats {
         let _prefix = seat.prefix();
@@ -194,7 +194,7 @@ fn write_said<O: Write>(
     requires not_read { taken ≢ Err SessionEnd.Read }
     requires not_written { taken ≢ Err SessionEnd.Write }
     ensures written { (text : List ℕ) → IsSaid (heard said.old.text) text →
-        IsWritten taken text writer.old writer.new result }
+        IsWrittenInSession taken text writer.old writer.new result }
     ensures cleared { OnOk result (AnswersAreCleared (heard said.old.text) (heard said.new.text)) }
     ensures still { heard said.old.text ≡ None → writer.new ≡ writer.old }
     ensures read { result ≢ Err SessionEnd.Read }

@@ -4,7 +4,7 @@ ghost use Rattle.dg_session.specs.Speakers.{kept_number};
 ghost use Rattle.dg_session.specs.Setup.{setup};
 ghost use Rattle.dg_session.specs.Streams.{passage};
 ghost use Rattle.dg_session.specs.declared.ends.SessionEnd.TheVariants.{Memory};
-ghost use Rattle.dg_session.specs.SoFar.{beginning, heard, talk, so_far, Handles, IsReady, RefusesPart, Takes, TakesEnd};
+ghost use Rattle.dg_session.specs.SoFar.{beginning_of_session, heard, talk, so_far, Handles, IsReady, SessionRefusesPart, Takes, TakesEnd};
 
 use crate::answering::{AnswerBuffer, Shared};
 use crate::ends::{MAX_LINE, MAX_LINES, SessionEnd};
@@ -42,10 +42,10 @@ impl<N: Name> SessionProgress<N> {
         text: Option<Vec<u8>>,
         inverse: &InverseLaplacian,
     ) -> Option<SessionProgress<N>>
-        ensures begins { IfSome result (λ p. so_far p seats.now ≡ beginning seats.now) }
+        ensures begins { IfSome result (λ p. so_far p seats.now ≡ beginning_of_session seats.now) }
         ensures said { IfSome result (λ p. p.said.text ≡ text) }
     {
-        let kept = match no_looks(alloc, seats) {
+        let kept = match no_looks_of_speakers(alloc, seats) {
             Some(kept) => kept,
             None => return None,
         };
@@ -64,7 +64,7 @@ impl<N: Name> SessionProgress<N> {
 }
 
 /// A place for the look of each seat, all empty. `None` if memory is refused.
-fn no_looks<N: Name>(alloc: Global, seats: &[Seat<N>]) -> Option<Vec<Option<Look<N>>>>
+fn no_looks_of_speakers<N: Name>(alloc: Global, seats: &[Seat<N>]) -> Option<Vec<Option<Look<N>>>>
     ensures { IfSome result (λ looks. map kept_number looks.items ≡ map (λ x. None) seats.now) }
 {
     let mut looks = Vec::new(alloc);
@@ -78,11 +78,11 @@ fn no_looks<N: Name>(alloc: Global, seats: &[Seat<N>]) -> Option<Vec<Option<Look
 }
 
 /// Whether a part of a line may be taken after what is pending.
-fn may_take(pending: &[u8], count: u32, part: &[u8]) -> Result<(), SessionEnd>
+fn session_may_take(pending: &[u8], count: u32, part: &[u8]) -> Result<(), SessionEnd>
     requires { length pending.now ≤ MAX_LINE }
     ensures short { OnOk result (length pending.now + length part.now ≤ MAX_LINE) }
     ensures more { OnOk result (count ≢ MAX_LINES) }
-    ensures refused { IfErr result (RefusesPart pending.now count part.now) }
+    ensures refused { IfErr result (SessionRefusesPart pending.now count part.now) }
 {
     if count == MAX_LINES {
         return Err(SessionEnd::Turns);
@@ -95,7 +95,7 @@ fn may_take(pending: &[u8], count: u32, part: &[u8]) -> Result<(), SessionEnd>
 
 /// The line that is pending, with the part that ends it. If nothing is pending, that is the part, without a copy.
 #[inline(always)]
-fn whole_line<'a>(pending: &'a mut Vec<u8>, part: &'a [u8]) -> Result<&'a [u8], SessionEnd>
+fn whole_session_line<'a>(pending: &'a mut Vec<u8>, part: &'a [u8]) -> Result<&'a [u8], SessionEnd>
     ensures { MatchResult result (λ line. line.now ≡ pending.old.items ++ part.now) (λ end. end ≡ Memory) }
 {
     if pending.is_empty() {
@@ -109,7 +109,7 @@ fn whole_line<'a>(pending: &'a mut Vec<u8>, part: &'a [u8]) -> Result<&'a [u8], 
 
 /// Answers the line that is pending, with the part that ends it. The line is then counted, and no longer pending.
 #[inline(always)]
-fn end_line<N: Name, R: Threads + Wait>(
+fn end_session_line<N: Name, R: Threads + Wait>(
     shared: &Shared<N, R>,
     progress: &mut SessionProgress<N>,
     seats: &mut [Seat<N>],
@@ -125,7 +125,7 @@ fn end_line<N: Name, R: Threads + Wait>(
     ensures pending { OnOk result (progress.new.pending.items ≡ []) }
     ensures count { OnOk result (progress.new.count ≡ progress.old.count + 1) }
 {
-    let line = match whole_line(&mut progress.pending, part) {
+    let line = match whole_session_line(&mut progress.pending, part) {
         Ok(line) => line,
         Err(end) => return Err(end),
     };
@@ -161,7 +161,7 @@ pub(crate) fn take_bytes<N: Name, R: Threads + Wait>(
     let mut rest = bytes;
     'parts: while !rest.is_empty() {
         let (part, after) = cut(rest, b'\n');
-        match may_take(&progress.pending, progress.count, part) {
+        match session_may_take(&progress.pending, progress.count, part) {
             Ok(()) => {}
             Err(end) => return Err(end),
         }
@@ -171,7 +171,7 @@ pub(crate) fn take_bytes<N: Name, R: Threads + Wait>(
                 Err(_) => Err(SessionEnd::Memory),
             };
         };
-        match end_line(shared, progress, seats, part) {
+        match end_session_line(shared, progress, seats, part) {
             Ok(()) => {}
             Err(end) => return Err(end),
         }
@@ -194,7 +194,7 @@ pub(crate) fn take_end<N: Name, R: Threads + Wait>(
     if progress.pending.is_empty() {
         return Ok(());
     }
-    match end_line(shared, progress, seats, &[]) {
+    match end_session_line(shared, progress, seats, &[]) {
         Ok(()) => Ok(()),
         Err(end) => Err(end),
     }

@@ -1,5 +1,5 @@
 -- The names that the proofs of this crate cite, passed on from one place. Declares nothing.
-pub use Rattle.dg_chips.specs.Moves.{IsPlayable}
+pub use Rattle.dg_chips.specs.Moves.{IsApplicableMove}
 pub use Rattle.dg_chips.specs.Starts.{IsStart, StartData}
 pub use Rattle.dg_chips.specs.Vector.{Vector, at}
 pub use Rattle.dg_chips.specs.declared.moves.Move.{Move}
@@ -25,7 +25,7 @@ pub use Rattle.dg_rules.specs.declared.entry.Request.TheVariants.{Claim}
 pub use Rattle.dg_graph.specs.Graph.{IsGraph}
 pub use Rattle.dg_log.specs.Tables.{TableData}
 pub use Rattle.dg_strategy.specs.Choices.{BorrowsAtLeast, BorrowsInDebt, Choosing, IsLeastInDebt}
-pub use Rattle.dg_strategy.specs.Greedy.{AllChosenMoves, AreGreedy, EndsSo, EndsTurn, IsGreedyCall, IsGreedyGame, IsGreedyTurn}
+pub use Rattle.dg_strategy.specs.Greedy.{AllChosenMoves, AreGreedy, EndsGreedyGame, EndsTurn, IsGreedyCall, IsGreedyGame, IsGreedyTurn}
 pub use Rattle.dg_strategy.specs.GreedyLaws.{GreedyGameIsOne, IsGreedyChoice, StrategyIsAloneAt, SettlingOutIsGreedy}
 pub use Rattle.dg_strategy.specs.Plays.{AreMoves, Gains, IsClaimed, ChoiceIsMadeOrPastRange, IsChosenMove, IsPlayed, IsPlayedOut, IsSettlerTurn, IsStopped, IsStrategyTurn, IsTurnBy, Plays}
 pub use Rattle.dg_strategy.specs.declared.playing.Ended.{Ended}

@@ -8,7 +8,7 @@
 --   ends_on         so does a greedy game
 --   one_game_on     greedy games that go on from one history are the same
 --   greedy_game_is_one   so are those from one start
-use Rattle.dg_strategy.proofs.Common.{◌≡◌, ℕ, ◌-◌, ◌<◌, ◌≤◌, Bool, true, false, List, [], ◌∷◌, ◌++◌, length, take, Option, Some, None, ◌⊎◌, inl, inr, arith, refl, sym, ap, subst, ◌∙◌, append_assoc, ⊎_elim, cases_lt, ints, StartData, Vector, shown_once, move_once, Move, Borrow, position_after, gifts_in, IsLegal, Position, Replies, RepliesAt, Entry, Request, Reply, Won, right_here, request_for, IsLeastInDebt, BorrowsAtLeast, IsGreedyCall, AreGreedy, AllChosenMoves, EndsSo, GreedyGameIsOne, IsChosenMove}
+use Rattle.dg_strategy.proofs.Common.{◌≡◌, ℕ, ◌-◌, ◌<◌, ◌≤◌, Bool, true, false, List, [], ◌∷◌, ◌++◌, length, take, Option, Some, None, ◌⊎◌, inl, inr, arith, refl, sym, ap, subst, ◌∙◌, append_assoc, ⊎_elim, cases_lt, ints, StartData, Vector, shown_once, move_once, Move, Borrow, position_after, gifts_in, IsLegal, Position, Replies, RepliesAt, Entry, Request, Reply, Won, right_here, request_for, IsLeastInDebt, BorrowsAtLeast, IsGreedyCall, AreGreedy, AllChosenMoves, EndsGreedyGame, GreedyGameIsOne, IsChosenMove}
 use Rattle.dg_rules.specs.declared.entry.Request.TheVariants as request
 
 least_of : (d : Vector) (m : Move) → BorrowsAtLeast d (Some m) → (v : ℕ) × (m ≡ Borrow v) × IsLeastInDebt d v
@@ -65,7 +65,7 @@ ends_by_claim n [] e moves few claim won = (omega (arith, few), inr (claim, won,
 ends_by_claim n (x ∷ H) e moves few claim won =
     (omega (arith, few), inl (moves.0, ends_by_claim (n - 1) H e moves.1 (omega (arith, few)) claim won))
 
-ends_on : (n : ℕ) (H : List Entry) (settled : Bool) → EndsSo n H settled → EndsOn n H settled
+ends_on : (n : ℕ) (H : List Entry) (settled : Bool) → EndsGreedyGame n H settled → EndsOn n H settled
 ends_on n H false (moves, count) = ends_by_moves n H moves count
 ends_on n H true (moves, claim, is, all, few, asks, won) =
     subst (λ (L : List Entry). EndsOn n L true) (sym is) (ends_by_claim n moves claim all few asks won)

@@ -1,33 +1,32 @@
 -- What may be chosen at a position.
---   Choosing             == what a choice may answer at a graph and amounts: a move, or none, which
---                           is to claim
---   IsAskedAnywhere pre  == what may be called so, may be at every graph and amounts of as many
---                           vertices
---   Chooses post g d m   == what so returns may give m, called at the graph g and the amounts d
---   GivesPlayable post   == each move that it gives there can be made
---   GivesBorrowings post == each move that it gives there is a borrowing by a vertex in debt
---   GivesClaims post     == it gives none there only if nobody is in debt
---   IsInDebt d v         == the vertex v is in debt
---   IsLeastInDebt d v    == v is the least vertex in debt
---   BorrowsInDebt d m    == the move m is a borrowing by a vertex in debt
---   BorrowsAtLeast d m   == m is the borrowing by the least vertex in debt, and no move if
---                           nobody is in debt
+--   Choosing               == what a choice may answer at a graph and amounts: a move, or none, which is to
+--                             claim
+--   MayChooseAnywhere pre  == what may be called so, may be at every graph and amounts of as many vertices
+--   Chooses post g d m     == what so returns may give m, called at the graph g and the amounts d
+--   GivesPlayable post     == each move that it gives there can be made
+--   ChoosesBorrowings post == each move that it gives there is a borrowing by a vertex in debt
+--   GivesClaims post       == it gives none there only if nobody is in debt
+--   IsInDebt d v           == the vertex v is in debt
+--   IsLeastInDebt d v      == v is the least vertex in debt
+--   BorrowsInDebt d m      == the move m is a borrowing by a vertex in debt
+--   BorrowsAtLeast d m     == m is the borrowing by the least vertex in debt, and no move if nobody is in
+--                             debt
 use Rattle.std.specs.Prelude.{◌≡◌, ℕ, ◌<◌, pos, ◌≤ℤ◌, ◌<ℤ◌, Option, Some, None}
 use Rattle.std.specs.Borrow.{Bor}
-use Rattle.dg_strategy.specs.Common.{Multigraph, IsEffective, IsGraph, Vector, at, IsPlayable, Move, Borrow}
+use Rattle.dg_strategy.specs.Common.{Multigraph, IsEffective, IsGraph, Vector, at, IsApplicableMove, Move, Borrow}
 
 abbrev pub Choosing : Type 1
 Choosing = Multigraph → Vector → Option Move → Type 0
 
-abbrev pub IsAskedAnywhere : (Bor Multigraph → Bor Vector → Type 0) → Type 0
-IsAskedAnywhere pre = (p : Bor Multigraph) (q : Bor Vector) → q.now.size ≡ p.now.size → pre p q
+abbrev pub MayChooseAnywhere : (Bor Multigraph → Bor Vector → Type 0) → Type 0
+MayChooseAnywhere pre = (p : Bor Multigraph) (q : Bor Vector) → q.now.size ≡ p.now.size → pre p q
 
 abbrev pub Chooses : (Bor Multigraph → Bor Vector → Option Move → Type 0) → Choosing
 Chooses post g d m = (p : Bor Multigraph) × (q : Bor Vector) × (p.now ≡ g) × (q.now ≡ d) × post p q m
 
 abbrev pub GivesPlayable : (Bor Multigraph → Bor Vector → Option Move → Type 0) → Type 0
 GivesPlayable post = (p : Bor Multigraph) (q : Bor Vector) (m : Move) → IsGraph p.now →
-    q.now.size ≡ p.now.size → post p q (Some m) → IsPlayable p.now.size m
+    q.now.size ≡ p.now.size → post p q (Some m) → IsApplicableMove p.now.size m
 
 abbrev pub IsInDebt : Vector → ℕ → Type 0
 IsInDebt d v = (v < d.size) × (at d v <ℤ pos 0)
@@ -40,8 +39,8 @@ abbrev pub BorrowsInDebt : Vector → Move → Type 0
 BorrowsInDebt d (Borrow v) = IsInDebt d v
 BorrowsInDebt d m = ⊥
 
-abbrev pub GivesBorrowings : (Bor Multigraph → Bor Vector → Option Move → Type 0) → Type 0
-GivesBorrowings post = (p : Bor Multigraph) (q : Bor Vector) (m : Move) → IsGraph p.now →
+abbrev pub ChoosesBorrowings : (Bor Multigraph → Bor Vector → Option Move → Type 0) → Type 0
+ChoosesBorrowings post = (p : Bor Multigraph) (q : Bor Vector) (m : Move) → IsGraph p.now →
     q.now.size ≡ p.now.size → post p q (Some m) → BorrowsInDebt q.now m
 
 abbrev pub GivesClaims : (Bor Multigraph → Bor Vector → Option Move → Type 0) → Type 0

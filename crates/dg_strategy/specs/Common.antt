@@ -1,12 +1,12 @@
 -- The names that the specs of this crate cite, passed on from one place. Declares nothing.
-pub use Rattle.dg_chips.specs.Moves.{IsPlayable}
+pub use Rattle.dg_chips.specs.Moves.{IsApplicableMove}
 pub use Rattle.dg_chips.specs.Starts.{StartData}
 pub use Rattle.dg_chips.specs.Vector.{Vector, at}
 pub use Rattle.dg_chips.specs.declared.moves.Move.{Move}
 pub use Rattle.dg_chips.specs.declared.moves.Move.TheVariants.{Borrow}
 pub use Rattle.dg_rules.specs.History.{gifts_in, position_after}
 pub use Rattle.dg_rules.specs.Legal.{IsLegal}
-pub use Rattle.dg_rules.specs.Position.{Position, Shows}
+pub use Rattle.dg_rules.specs.Position.{Position, ShowsPosition}
 pub use Rattle.dg_rules.specs.Replies.{Replies}
 pub use Rattle.dg_rules.specs.declared.entry.Entry.{Entry}
 pub use Rattle.dg_rules.specs.declared.entry.Refusal.TheVariants.{Range}

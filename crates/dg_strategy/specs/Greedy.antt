@@ -1,24 +1,24 @@
 -- The greedy strategy (Corry and Perkinson, chapter 3: a vertex in debt borrows, until nobody is in
 -- debt): here the least vertex in debt always borrows.
---   IsGreedyCall p request     == the request is for the borrowing by the least vertex in debt at
---                                 the position p; it is a claim if nobody is in debt there
---   AreGreedy o K H            == each of the entries H is of seat 1, and is so asked for, after
---                                 the history K and those before it
+--   IsGreedyCall p request     == the request is for the borrowing by the least vertex in debt at the
+--                                 position p; it is a claim if nobody is in debt there
+--   AreGreedy o K H            == each of the entries H is of seat 1, and is so asked for, after the history
+--                                 K and those before it
 --   AllChosenMoves H           == each of the entries H is a move
---   EndsSo n H settled         == there are n entries, all moves; or, if it is settled, fewer
---                                 moves than n, and then a claim that is won
+--   EndsGreedyGame n H settled == there are n entries, all moves; or, if it is settled, fewer moves than n,
+--                                 and then a claim that is won
 --   IsGreedyGame o n H settled == the history H from the start o is legal and greedy, and ends so
 --   EndsTurn settled e         == the entry is a move; or, if it is settled, a claim that is won
---   IsGreedyTurn o H e settled == after the history H the entry e of seat 1 is so asked for and
---                                 answered rightly, and ends so
+--   IsGreedyTurn o H e settled == after the history H the entry e of seat 1 is so asked for and answered
+--                                 rightly, and ends so
 use Rattle.std.specs.Prelude.{◌≡◌, ℕ, ◌<◌, Bool, true, false, List, [], ◌∷◌, ◌++◌, length, Option, ⊤}
-use Rattle.dg_strategy.specs.Common.{StartData, Vector, Move, Position, Shows, position_after, IsLegal, Replies, Entry, Request, Claim, Won, request_for}
+use Rattle.dg_strategy.specs.Common.{StartData, Vector, Move, Position, ShowsPosition, position_after, IsLegal, Replies, Entry, Request, Claim, Won, request_for}
 use Rattle.dg_strategy.specs.Choices.{BorrowsAtLeast}
 use Rattle.dg_strategy.specs.Plays.{IsChosenMove}
 
 pub record IsGreedyCall (p : Position) (request : Request) : Type 0 where
   pub amounts : Vector
-  pub shown : Shows p amounts
+  pub shown : ShowsPosition p amounts
   pub answer : Option Move
   pub least : BorrowsAtLeast amounts answer
   pub asked : request ≡ request_for answer
@@ -32,16 +32,16 @@ abbrev pub AllChosenMoves : List Entry → Type 0
 AllChosenMoves [] = ⊤
 AllChosenMoves (e ∷ H) = IsChosenMove e.request × AllChosenMoves H
 
-abbrev pub EndsSo : ℕ → List Entry → Bool → Type 0
-EndsSo n H false = AllChosenMoves H × (length H ≡ n)
-EndsSo n H true = (moves : List Entry) × (claim : Entry) × (H ≡ moves ++ claim ∷ []) ×
+abbrev pub EndsGreedyGame : ℕ → List Entry → Bool → Type 0
+EndsGreedyGame n H false = AllChosenMoves H × (length H ≡ n)
+EndsGreedyGame n H true = (moves : List Entry) × (claim : Entry) × (H ≡ moves ++ claim ∷ []) ×
     AllChosenMoves moves × (length moves < n)
     × (claim.request ≡ Claim) × (claim.reply ≡ Won)
 
 pub record IsGreedyGame (o : StartData) (n : ℕ) (H : List Entry) (settled : Bool) : Type 0 where
   pub legal : IsLegal o H
   pub greedy : AreGreedy o [] H
-  pub ends : EndsSo n H settled
+  pub ends : EndsGreedyGame n H settled
 
 abbrev pub EndsTurn : Bool → Entry → Type 0
 EndsTurn false e = IsChosenMove e.request

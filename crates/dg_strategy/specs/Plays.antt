@@ -1,27 +1,26 @@
 -- Playing as a choice says. A has what the choice may answer; x and y are a seat before and after.
 -- Each history of a turn begins with the one that the seat found at the turn before, and that
 -- turn's entry: so all turns are in one.
---   IsChosenMove request    == the request is a move
---   AreMoves es             == each of the entries es is a move
---   IsTurnBy A table x r y  == after some history the seat x is answered with the receipt r, and is
---                              then y; it asked for what A has there
---   ChoiceIsMadeOrPastRange reply == the move was made, or refused only because an amount would have left
---                              the range
---   IsStrategyTurn A table x r y == it is such a turn; the gift count stays, and a move is answered
---                              so
---   IsSettlerTurn A table x r y == it is such a turn too; a move is a borrowing by a vertex in debt,
---                              and a claim is won
---   is_settled ended        == whether it ended with a claim
---   Gains T x es y          == the seat gained the entries es, in order, each by a step of T, and
---                              was told of nothing
---   IsPlayed T n x y ended  == in n turns, all moves, the seat gained n entries; or in fewer, by
---                              moves and then by the claim of the receipt, those entries
---   IsStopped T table n x y fault == after fewer than n turns, all moves, the next one was refused
---                              with the fault
---   Plays T table n x y result == the seat has so played, or was so stopped
+--   IsChosenMove request          == the request is a move
+--   AreMoves es                   == each of the entries es is a move
+--   IsTurnBy A table x r y        == after some history the seat x is answered with the receipt r, and is
+--                                    then y; it asked for what A has there
+--   ChoiceIsMadeOrPastRange reply == the move was made, or refused only because an amount would have left the
+--                                    range
+--   IsStrategyTurn A table x r y  == it is such a turn; the gift count stays, and a move is answered so
+--   IsSettlerTurn A table x r y   == it is such a turn too; a move is a borrowing by a vertex in debt, and a
+--                                    claim is won
+--   is_settled ended              == whether it ended with a claim
+--   Gains T x es y                == the seat gained the entries es, in order, each by a step of T, and was
+--                                    told of nothing
+--   IsPlayed T n x y ended        == in n turns, all moves, the seat gained n entries; or in fewer, by moves
+--                                    and then by the claim of the receipt, those entries
+--   IsStopped T table n x y fault == after fewer than n turns, all moves, the next one was refused with the
+--                                    fault
+--   Plays T table n x y result    == the seat has so played, or was so stopped
 use Rattle.std.specs.Prelude.{◌≡◌, ℕ, ◌<◌, Bool, true, false, List, [], ◌∷◌, ◌++◌, length, Option, Some, None, ⊤, Result, Ok, Err}
 use Rattle.std.specs.List.{FoldsTo}
-use Rattle.dg_strategy.specs.Common.{Vector, Move, Shows, position_after, gifts_in, Entry, Range, Request, Reply, Moved, Refused, Won, entering, IsAnsweredAfter, RefusesCall, SeatView, Keeps, request_for, Fault, TableData}
+use Rattle.dg_strategy.specs.Common.{Vector, Move, ShowsPosition, position_after, gifts_in, Entry, Range, Request, Reply, Moved, Refused, Won, entering, IsAnsweredAfter, RefusesCall, SeatView, Keeps, request_for, Fault, TableData}
 use Rattle.dg_rules.specs.declared.entry.Request.TheVariants as request
 use Rattle.dg_strategy.specs.Choices.{Choosing, BorrowsInDebt}
 use Rattle.dg_strategy.specs.declared.playing.Ended.{Ended}
@@ -40,7 +39,7 @@ pub record IsTurnBy (A : Choosing) (table : TableData) (x : SeatView) (r : ℕ �
   pub history : List Entry
   pub amounts : Vector
   pub answer : Option Move
-  pub shown : Shows (position_after table.start history) amounts
+  pub shown : ShowsPosition (position_after table.start history) amounts
   pub chosen : A (position_after table.start history).graph amounts answer
   pub answered : IsAnsweredAfter table (request_for answer) (entering history r x y)
 

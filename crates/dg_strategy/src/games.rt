@@ -20,7 +20,7 @@ pub fn greedy_turn(game: &mut Game, entry: &mut Entry) -> bool
 {
     let choice = greedy_choice(game.position());
     let settled = choice.is_none();
-    game.answer_call(1, &Plain::of(choice), entry);
-    game.follow(entry);
+    game.reply_to_call(1, &Plain::of(choice), entry);
+    game.follow_entry(entry);
     settled
 }

@@ -3,7 +3,7 @@ ghost use Rattle.std.specs.Prelude.{◌≡◌, length, IfOk, IfErr, true, IsTrue
 ghost use Rattle.dg_table.specs.Faults.{RefusesCall};
 ghost use Rattle.dg_table.specs.Seats.{Keeps};
 ghost use Rattle.dg_rules.specs.declared.entry.Request.TheVariants.{Claim as ClaimRequest};
-ghost use Rattle.dg_strategy.specs.Choices.{Chooses, IsAskedAnywhere, GivesPlayable, GivesBorrowings, GivesClaims};
+ghost use Rattle.dg_strategy.specs.Choices.{Chooses, MayChooseAnywhere, GivesPlayable, ChoosesBorrowings, GivesClaims};
 ghost use Rattle.dg_strategy.specs.Plays.{IsTurnBy, IsStrategyTurn, IsSettlerTurn, Plays};
 
 use crate::settler::Settler;
@@ -50,7 +50,7 @@ pub fn play<N: Name, F: Fn(&Graph, &Divisor) -> Option<Move>>(
     strategy: &Strategy<F>,
     turns: u32,
 ) -> Result<Ended<N>, Fault>
-    requires asked { IsAskedAnywhere (F.pre strategy.now.choice) }
+    requires asked { MayChooseAnywhere (F.pre strategy.now.choice) }
     requires moves { GivesPlayable (F.post strategy.now.choice) }
     ensures { Plays (IsStrategyTurn (Chooses (F.post strategy.now.choice)) N.table)
         N.table turns seat.old seat.new result }
@@ -71,8 +71,8 @@ pub fn settle_out<N: Name, F: Fn(&Graph, &Divisor) -> Option<Move>>(
     settler: &Settler<F>,
     turns: u32,
 ) -> Result<Ended<N>, Fault>
-    requires asked { IsAskedAnywhere (F.pre settler.now.choice) }
-    requires moves { GivesBorrowings (F.post settler.now.choice) }
+    requires asked { MayChooseAnywhere (F.pre settler.now.choice) }
+    requires moves { ChoosesBorrowings (F.post settler.now.choice) }
     requires claims { GivesClaims (F.post settler.now.choice) }
     ensures { Plays (IsSettlerTurn (Chooses (F.post settler.now.choice)) N.table)
         N.table turns seat.old seat.new result }
@@ -90,7 +90,7 @@ fn turns_by<N: Name, F: Fn(&Graph, &Divisor) -> Option<Move>>(
     choice: &F,
     turns: u32,
 ) -> Result<Ended<N>, Fault>
-    requires { IsAskedAnywhere (F.pre choice.now) }
+    requires { MayChooseAnywhere (F.pre choice.now) }
     ensures { Plays (IsTurnBy (Chooses (F.post choice.now)) N.table) N.table turns seat.old seat.new result }
 {
     for _ in 0..turns {
@@ -110,7 +110,7 @@ fn turn_by<N: Name, F: Fn(&Graph, &Divisor) -> Option<Move>>(
     seat: &mut Seat<N>,
     choice: &F,
 ) -> Result<Receipt<N>, Fault>
-    requires { IsAskedAnywhere (F.pre choice.now) }
+    requires { MayChooseAnywhere (F.pre choice.now) }
     ensures turn { IfOk result
         (λ r. IsTurnBy (Chooses (F.post choice.now)) N.table seat.old r seat.new) }
     ensures fault { IfErr result

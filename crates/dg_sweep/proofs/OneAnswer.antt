@@ -2,7 +2,7 @@
 --   answer_once    a table has one answer
 --   table_once, amounts_once   so has a line of a table, and one of amounts
 --   tables_have_one_answer, amounts_have_one_answer   the laws of dg_sweep
-use Rattle.dg_sweep.proofs.Common.{◌≡◌, ℕ, ◌<◌, ◌⊎◌, inl, inr, List, ◌++◌, length, codes, sym, ap, ◌∙◌, arith, subst, Multigraph, IsMultigraph, less, canonical, rank_once, StartData, IsStart, at, IsRankTest, RankVerdict, AtLeast, Below, false, refl, signed_decimal, loss_bounds_rank, past_within, FilesHaveOneMeaning, RefusesFile, FileFault, Form, Words, Numbers, Question, Judge, Rank, RiemannRoch, TablesHaveOneAnswer, AmountsHaveOneAnswer, IsTested, IsBelow, AnswersRankLine, rank_line, ranks_line, AreRanks, AreUntested, AnswersTable, refusal_line, IsRefused, AnswersTableWithin, AnswersLine, RefusesAmounts, AnswersAmounts, file_fault_words}
+use Rattle.dg_sweep.proofs.Common.{◌≡◌, ℕ, ◌<◌, ◌⊎◌, inl, inr, List, ◌++◌, length, codes, sym, ap, ◌∙◌, arith, subst, Multigraph, IsMultigraph, less, canonical, rank_once, StartData, IsStart, at, IsRightRankVerdict, RankVerdict, AtLeast, Below, false, refl, signed_decimal, loss_bounds_rank, past_within, FilesHaveOneMeaning, RefusesFile, FileFault, Form, Words, Numbers, Question, Judge, Rank, RiemannRoch, TablesHaveOneAnswer, AmountsHaveOneAnswer, IsSweptRankTested, IsSweptRankBelow, AnswersRankLine, sweep_rank_line, sweep_ranks_line, AreSweptRanks, AreSweptRanksUntested, AnswersTable, sweep_refusal_line, IsSweptLineRefused, AnswersTableWithin, AnswersLine, RefusesSweptAmounts, AnswersAmounts, sweep_file_fault_words}
 use Rattle.std.proofs.Math.IntN.{ℤ}
 use Rattle.dg_lines.proofs.Given.{vertex_named}
 use Rattle.dg_sweep.proofs.OneMeaning.{amount_lines_have_one_meaning}
@@ -12,15 +12,16 @@ use Rattle.dg_sweep.proofs.OneText.{judgement_same}
 
 module _ (o : StartData) (names : List (List ℕ)) (graph : IsMultigraph o.graph) (vertex : o.q < o.graph.size)
     (fit : length names ≡ o.graph.size) where
-  tested_below : (k : ℕ) (form : Form) (text other : List ℕ) → IsTested o k form names text → IsBelow o k form other → ⊥
+  tested_below : (k : ℕ) (form : Form) (text other : List ℕ) → IsSweptRankTested o k form names text → IsSweptRankBelow o k
+      form other → ⊥
   tested_below k form text other tested below = elim tested.named [
     | inl within ↦ past_within o.graph.size k below.past within
     | inr most ↦
-        below.below (subst (λ (x : RankVerdict). IsRankTest o.graph (at o.divisor) k x) most tested.right).1
+        below.below (subst (λ (x : RankVerdict). IsRightRankVerdict o.graph (at o.divisor) k x) most tested.right).1
   ]
 
-  line_same : (k : ℕ) (form : Form) (x y : RankVerdict) → IsRankTest o.graph (at o.divisor) k x
-      → IsRankTest o.graph (at o.divisor) k y → rank_line form names x ≡ rank_line form names y
+  line_same : (k : ℕ) (form : Form) (x y : RankVerdict) → IsRightRankVerdict o.graph (at o.divisor) k x
+      → IsRightRankVerdict o.graph (at o.divisor) k y → sweep_rank_line form names x ≡ sweep_rank_line form names y
   line_same k Words x y first second =
       ap (λ (t : List ℕ). t ++ codes "\n") (test_same names o.graph (at o.divisor) fit k x y first second)
   line_same k Numbers (AtLeast i) (AtLeast j) first second = refl
@@ -44,13 +45,13 @@ module _ (o : StartData) (names : List (List ℕ)) (graph : IsMultigraph o.graph
   rank_once_more k form text other (inr (inr a)) (inr (inl b)) = absurd (b.told a.untold)
   rank_once_more k form text other (inr (inr a)) (inr (inr b)) = a.printed ∙ sym b.printed
 
-  ranks_once : (form : Form) (text other : List ℕ) → AreRanks o form text ⊎ AreUntested o form text
-      → AreRanks o form other ⊎ AreUntested o form other → text ≡ other
+  ranks_once : (form : Form) (text other : List ℕ) → AreSweptRanks o form text ⊎ AreSweptRanksUntested o form text
+      → AreSweptRanks o form other ⊎ AreSweptRanksUntested o form other → text ≡ other
   ranks_once form text other (inl a) (inl b) =
       a.printed
-      ∙ ap (λ (z : ℤ). ranks_line form o (signed_decimal z) (signed_decimal a.dual_rank))
+      ∙ ap (λ (z : ℤ). sweep_ranks_line form o (signed_decimal z) (signed_decimal a.dual_rank))
       (rank_once o.graph (at o.divisor) a.rank b.rank a.of_divisor b.of_divisor)
-      ∙ ap (λ (z : ℤ). ranks_line form o (signed_decimal b.rank) (signed_decimal z))
+      ∙ ap (λ (z : ℤ). sweep_ranks_line form o (signed_decimal b.rank) (signed_decimal z))
       (rank_once o.graph (less (canonical o.graph) (at o.divisor)) a.dual_rank b.dual_rank a.of_dual b.of_dual)
       ∙ sym b.printed
   ranks_once form text other (inl a) (inr b) = absurd (a.told b.past)
@@ -71,10 +72,10 @@ module _ (o : StartData) (names : List (List ℕ)) (graph : IsMultigraph o.graph
   answer_once (Rank k form) text other a b = rank_once_more k form text other a b
   answer_once (RiemannRoch form) text other a b = ranks_once form text other a b
 
-refused_once : (refuses : FileFault → Type 0) (text other : List ℕ) (a : IsRefused refuses text)
-    (b : IsRefused refuses other) → a.fault ≡ b.fault → text ≡ other
+refused_once : (refuses : FileFault → Type 0) (text other : List ℕ) (a : IsSweptLineRefused refuses text)
+    (b : IsSweptLineRefused refuses other) → a.fault ≡ b.fault → text ≡ other
 refused_once refuses text other a b same =
-    a.printed ∙ ap (λ (f : FileFault). refusal_line (file_fault_words f)) same ∙ sym b.printed
+    a.printed ∙ ap (λ (f : FileFault). sweep_refusal_line (sweep_file_fault_words f)) same ∙ sym b.printed
 
 line_once : (right : List ℕ → List ℕ → Type 0) (line : List ℕ)
     → ((text other : List ℕ) → right line text → right line other → text ≡ other) → (text other : List ℕ)
@@ -107,7 +108,7 @@ module _ (question : Question) where
   amounts_once : (o : StartData) (names : List (List ℕ)) (line text other : List ℕ) → IsStart o → length names ≡ o.graph.size
       → AnswersAmounts question o names line text → AnswersAmounts question o names line other → text ≡ other
   amounts_once o names line text other start fit (inl a) (inl b) =
-      refused_once (RefusesAmounts o.graph.size line) text other a b
+      refused_once (RefusesSweptAmounts o.graph.size line) text other a b
       (amount_lines_have_one_meaning.fault o.graph.size line a.fault b.fault a.found b.found a.refused b.refused)
   amounts_once o names line text other start fit (inl a) (inr b) =
       absurd (amount_lines_have_one_meaning.refused o b.start line a.fault a.found a.refused b.stands)

@@ -1,7 +1,7 @@
 -- A line of amounts has one meaning.
 --   spelled_once      numbers are spelled in one way
 --   amount_lines_have_one_meaning
-use Rattle.dg_sweep.proofs.Common.{◌≡◌, ◌≢◌, ℕ, ℤ, pos, List, [], ◌∷◌, length, map, All, FitsSigned, w64, refl, sym, ap, ◌∙◌, arith, subst, ◌^◌, ◌-◌, neg_ℤ, signed_decimal, signed_decimal_injective, All-head, All-tail, StartData, Vector, HoldsNumbers, IsFirstChipFault, IsNumberWithin, held_once, fits_within, FileFault, AmountLinesHaveOneMeaning, SpellsAmounts, HasAmountsOf, RefusesAmounts}
+use Rattle.dg_sweep.proofs.Common.{◌≡◌, ◌≢◌, ℕ, ℤ, pos, List, [], ◌∷◌, length, map, All, FitsSigned, w64, refl, sym, ap, ◌∙◌, arith, subst, ◌^◌, ◌-◌, neg_ℤ, signed_decimal, signed_decimal_injective, All-head, All-tail, StartData, Vector, HoldsNumbers, IsFirstChipFault, IsSpelledNumberWithin, held_once, fits_within, FileFault, AmountLinesHaveOneMeaning, SpellsAmounts, HasAmountsOf, RefusesSweptAmounts}
 use Rattle.dg_lines.proofs.Meaning.{same_words}
 use Rattle.dg_file.proofs.OneTable.{chip-one, chip-none}
 use Rattle.dg_file.specs.declared.fault.FileFault.TheVariants as fault
@@ -11,7 +11,7 @@ abbrev Fits : ℤ → Type 0
 Fits = FitsSigned w64
 
 abbrev IsWord : List ℕ → Type 0
-IsWord = IsNumberWithin (neg_ℤ (pos (2 ^ 63))) (pos (2 ^ 63 - 1))
+IsWord = IsSpelledNumberWithin (neg_ℤ (pos (2 ^ 63))) (pos (2 ^ 63 - 1))
 
 spelled_once : (xs ys : List ℤ) → map signed_decimal xs ≡ map signed_decimal ys → All Fits xs → All Fits ys → xs ≡ ys
 spelled_once [] [] e first second = refl
@@ -43,7 +43,7 @@ line_once line xs ys first second =
     spelled_once xs ys (sym first.spelled ∙ second.spelled) first.held second.held
 
 fault_once : (n : ℕ) (line : List ℕ) (f h : FileFault) → f ≢ fault.OutOfMemory → h ≢ fault.OutOfMemory
-    → RefusesAmounts n line f → RefusesAmounts n line h → f ≡ h
+    → RefusesSweptAmounts n line f → RefusesSweptAmounts n line h → f ≡ h
 fault_once n line fault.OutOfMemory h known known' a b = absurd (known refl)
 fault_once n line f fault.OutOfMemory known known' a b = absurd (known' refl)
 fault_once n line (fault.Shape shape.Amounts) (fault.Shape shape.Amounts) known known' a b = refl
@@ -57,7 +57,7 @@ fault_once n line (fault.Chip c) h known known' a b = absurd b
 fault_once n line f h known known' a b = absurd a
 
 no_start : (o p : StartData) (line : List ℕ) (f : FileFault) → f ≢ fault.OutOfMemory
-    → RefusesAmounts o.graph.size line f → HasAmountsOf o line p → ⊥
+    → RefusesSweptAmounts o.graph.size line f → HasAmountsOf o line p → ⊥
 no_start o p line fault.OutOfMemory known a has = known refl
 no_start o p line (fault.Shape shape.Amounts) known a has = a has.xs has.spelled
 no_start o p line (fault.Chip c) known (xs, spells, a) has =

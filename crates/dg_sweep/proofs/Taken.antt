@@ -7,7 +7,7 @@
 --   takes_part, takes_lines    bytes without a newline, and with one
 --   nothing                    a list of length 0
 --   takes_no_end, takes_end    the end
-use Rattle.dg_sweep.proofs.Common.{◌≡◌, ◌≢◌, ℕ, ◌+◌, ◌-◌, ◌≤◌, take, drop, inl, inr, List, [], ◌∷◌, ◌++◌, length, refl, sym, ap, subst, ◌∙◌, arith, append_assoc, append-nil, flat_map, All-append, All-head, All-tail, take-append_seam, take-append-drop, AnswersLine, HasNoNewline, Begins, with_newline, last_line, begins_none, begins_one, begins_more, begins_then, StandsFor, KeepsPartOfPiece, AnswersFront, EndsPiece, TakesBytes, AnswersLast}
+use Rattle.dg_sweep.proofs.Common.{◌≡◌, ◌≢◌, ℕ, ◌+◌, ◌-◌, ◌≤◌, take, drop, inl, inr, List, [], ◌∷◌, ◌++◌, length, refl, sym, ap, subst, ◌∙◌, arith, append_assoc, append-nil, flat_map, All-append, All-head, All-tail, take-append_seam, take-append-drop, AnswersLine, HasNoNewline, Begins, with_newline, last_line, begins_none, begins_one, begins_more, begins_then, StandsForSweptPart, KeepsPartOfPiece, AnswersFront, EndsPiece, TakesSweptBytes, AnswersLastSweptLine}
 use Rattle.std.proofs.Common.{length-append}
 use Rattle.dg_sweep.specs.Answers.{AnswersLines}
 
@@ -149,8 +149,8 @@ pieces_both right bytes front back rest rest' last said said' text ends e here t
     }
 
 -- what is pending still stands for the part of the line, with more of it
-stands_more : (old more new part : List ℕ) → StandsFor old part → HasNoNewline more → KeepsPartOfPiece old more new
-    → StandsFor new (part ++ more)
+stands_more : (old more new part : List ℕ) → StandsForSweptPart old part → HasNoNewline more → KeepsPartOfPiece old more new
+    → StandsForSweptPart new (part ++ more)
 stands_more old more new part stands none kept = record {
   no_newline = All-append (λ byte. byte ≢ 10) part more stands.no_newline none;
   same =
@@ -169,7 +169,7 @@ stands_more old more new part stands none kept = record {
 }
 
 -- what stands for a line is answered as it
-same_answer : (right : List ℕ → List ℕ → Type 0) (pending part text : List ℕ) → StandsFor pending part
+same_answer : (right : List ℕ → List ℕ → Type 0) (pending part text : List ℕ) → StandsForSweptPart pending part
     → AnswersLine right pending text
     → AnswersLine right part text
 same_answer right pending part text stands answered = elim stands.same [
@@ -182,14 +182,14 @@ same_answer right pending part text stands answered = elim stands.same [
 
 pub takes_part : (right : List ℕ → List ℕ → Type 0) (old bytes part new text : List ℕ) → text ≡ [] → HasNoNewline part
     → bytes ≡ part ++ [] → KeepsPartOfPiece old part new
-    → TakesBytes right old bytes new text
+    → TakesSweptBytes right old bytes new text
 takes_part right old bytes part new text unsaid none e kept p stands =
     let whole : part ≡ bytes = sym (e ∙ append-nil part) in
     record {
       ls = [];
       part = p ++ bytes;
       cut = begins_none (p ++ bytes);
-      stands = subst (λ l. StandsFor new (p ++ l)) whole (stands_more old part new p stands none kept);
+      stands = subst (λ l. StandsForSweptPart new (p ++ l)) whole (stands_more old part new p stands none kept);
       few = omega arith;
       answers = subst (AnswersLines right []) (sym unsaid) (answers_none right);
     }
@@ -199,12 +199,12 @@ pub takes_lines : (right : List ℕ → List ℕ → Type 0) (old bytes part aft
     → KeepsPartOfPiece old part mid → (line : List ℕ) → line ≡ mid → AnswersLine right line first
     → (said : List ℕ) × AnswersFront right after rest said × (text ≡ first ++ said) → (empty : List ℕ) → empty ≡ []
     → KeepsPartOfPiece empty rest new
-    → TakesBytes right old bytes new text
+    → TakesSweptBytes right old bytes new text
 takes_lines right old bytes part after mid first text rest new none e kept shown is_mid answered lines empty is_empty
     kept' p stands =
     let (said, front, grown) = lines in
     let line = p ++ part in
-    let is_line : StandsFor mid line = stands_more old part mid p stands none kept in
+    let is_line : StandsForSweptPart mid line = stands_more old part mid p stands none kept in
     let cut : p ++ bytes ≡ line ++ 10 ∷ after = ap (λ l. p ++ l) e ∙ sym (append_assoc p part (10 ∷ after)) in
     record {
       ls = line ∷ front.ls;
@@ -219,7 +219,7 @@ takes_lines right old bytes part after mid first text rest new none e kept shown
           (subst (λ l. AnswersLine right l first) is_mid answered))) front.answers);
     }
   where
-    stands_alone : (rest new : List ℕ) → HasNoNewline rest → KeepsPartOfPiece [] rest new → StandsFor new rest
+    stands_alone : (rest new : List ℕ) → HasNoNewline rest → KeepsPartOfPiece [] rest new → StandsForSweptPart new rest
     stands_alone rest new none kept = record {
       no_newline = none;
       same = elim kept [ inl grown ↦ inl grown | inr full ↦ absurd (omega (arith, full.0)) ];
@@ -230,7 +230,7 @@ nothing [] e = refl
 nothing (x ∷ xs) e = absurd (omega (arith, e))
 
 pub takes_no_end : (right : List ℕ → List ℕ → Type 0) (pending text : List ℕ) → text ≡ [] → pending ≡ []
-    → AnswersLast right pending text
+    → AnswersLastSweptLine right pending text
 takes_no_end right pending text unsaid e part stands = elim stands.same [
   | inl same ↦
       subst (λ l. AnswersLines right (last_line l) text) (sym e ∙ same)
@@ -240,7 +240,7 @@ takes_no_end right pending text unsaid e part stands = elim stands.same [
 
 pub takes_end : (right : List ℕ → List ℕ → Type 0) (pending text shown : List ℕ) → pending ≢ [] → shown ≡ pending
     → AnswersLine right shown text
-    → AnswersLast right pending text
+    → AnswersLastSweptLine right pending text
 takes_end right pending text shown some is_pending answered [] stands = elim stands.same [
   | inl same ↦ absurd (some same)
   | inr long ↦ absurd (omega (arith, long.1))

@@ -1,43 +1,44 @@
 -- What the line of a table is answered.
 -- In words it is as for one table; in numbers it has one column for each number.
---   IsVerdictRow o text    == the text is the row of the verdict on the amounts of o, computed from
---                             its vertex q
---   rank_line form names x == the answer that is a rank verdict, and a newline
---   unnamed_line form n k  == the answer that the rank is below k, without the first loss
---   IsTested o k form names text == the text is that of a rank verdict of degree k which is right for
---                         the amounts of o, and a newline; something tells it, and if it names a
---                         loss, the test is within the limits
---   IsBelow o k form text  == the rank of the amounts is below k, and that the text says; something
---                             tells it, but there are too many trials to name the first loss
---   IsUntested o k text    == nothing tells whether the rank is at least k, and that the text says
---   AnswersRankLine o k form names text == one of these
---   label form words       == the words, if the answer is in words
---   mark form              == what stands for a number that nothing tells
---   field form words z     == the label and the number, and a space
---   front form o           == the degree of the amounts and the genus of the graph
---   ranks_line form o rank dual == these, and two texts for the ranks
---   AreRanks o form text   == the text is that of the rank of the amounts and that of their residual;
---                             no test is needed that nothing tells
---   AreUntested o form text == all rank tests are passed before one that nothing tells; the text has
---                             marks in the place of the ranks
---   AnswersTable question o names text == the text answers the question for the start o with
---                         these names
---   refusal_line words     == `refused`, the words and a newline
---   IsRefused refuses text == there is a fault that refuses, and the text says which
---   IsOfTable question line text == the line describes a table, and the text answers the question
---                         for it
---   AnswersTableWithin question line text == the line describes a table, and the text answers the
---                         question for it; or it is refused as a table, and the text says why
---   AnswersLine right line text == the text answers the line; a longer one than a line may be is
---                         refused unread
---   AnswersTableLine question line text == the text answers the line of a table so
---   AnswersLines right ls text == the text is the answers to the lines ls, one after another
+--   IsVerdictRow o text                   == the text is the row of the verdict on the amounts of o, computed
+--                                            from its vertex q
+--   sweep_rank_line form names x          == the answer that is a rank verdict, and a newline
+--   unnamed_line form n k                 == the answer that the rank is below k, without the first loss
+--   IsSweptRankTested o k form names text == the text is that of a rank verdict of degree k which is right
+--                                            for the amounts of o, and a newline; something tells it, and if
+--                                            it names a loss, the test is within the limits
+--   IsSweptRankBelow o k form text        == the rank of the amounts is below k, and that the text says;
+--                                            something tells it, but there are too many trials to name the
+--                                            first loss
+--   IsSweptRankUntested o k text          == nothing tells whether the rank is at least k, and that the text
+--                                            says
+--   AnswersRankLine o k form names text   == one of these
+--   label form words                      == the words, if the answer is in words
+--   sweep_mark form                       == what stands for a number that nothing tells
+--   sweep_field form words z              == the label and the number, and a space
+--   front form o                          == the degree of the amounts and the genus of the graph
+--   sweep_ranks_line form o rank dual     == these, and two texts for the ranks
+--   AreSweptRanks o form text             == the text is that of the rank of the amounts and that of their
+--                                            residual; no test is needed that nothing tells
+--   AreSweptRanksUntested o form text     == all rank tests are passed before one that nothing tells; the
+--                                            text has marks in the place of the ranks
+--   AnswersTable question o names text    == the text answers the question for the start o with these names
+--   sweep_refusal_line words              == `refused`, the words and a newline
+--   IsSweptLineRefused refuses text       == there is a fault that refuses, and the text says which
+--   IsOfSweptTable question line text     == the line describes a table, and the text answers the question
+--                                            for it
+--   AnswersTableWithin question line text == the line describes a table, and the text answers the question
+--                                            for it; or it is refused as a table, and the text says why
+--   AnswersLine right line text           == the text answers the line; a longer one than a line may be is
+--                                            refused unread
+--   AnswersTableLine question line text   == the text answers the line of a table so
+--   AnswersLines right ls text            == the text is the answers to the lines ls, one after another
 use Rattle.std.specs.Prelude.{◌≡◌, ◌≢◌, ℕ, ◌<◌, ◌≤◌, ◌⊎◌, ℤ, true, false, List, [], ◌∷◌, ◌++◌, None, Some, length, codes, decimal}
 use Rattle.std.specs.Fmt.{signed_decimal}
-use Rattle.dg_sweep.specs.Common.{genus, degree, less, canonical, HasRankAtLeast, IsRank, StartData, at, ArePastTrialLimits, IsRankTest, IsWithin, IsUntold, NeedsPastTests, RankVerdict, AtLeast, Below, IsJudgement, IsVerdictOn, Verdict, rank_row, verdict_row, text_of, IsTableFile, RefusesFile, FileFault, OutOfMemory, Form, Words, Numbers, Question, Judge, Rank, RiemannRoch}
+use Rattle.dg_sweep.specs.Common.{genus, degree, less, canonical, HasRankAtLeast, IsRank, StartData, at, ArePastTrialLimits, IsRightRankVerdict, IsRankTestWithinLimits, IsRankUntold, NeedsPastTests, RankVerdict, AtLeast, Below, IsJudgementText, IsVerdictOn, Verdict, rank_row, verdict_row, text_of, IsTableFile, RefusesFile, FileFault, OutOfMemory, Form, Words, Numbers, Question, Judge, Rank, RiemannRoch}
 use Rattle.dg_invocation.specs.declared.question.VerdictForm.TheVariants as verdict
 use Rattle.dg_rules.specs.declared.entry.Reply.TheVariants.{Rank as Tested}
-use Rattle.dg_sweep.specs.FaultTexts.{file_fault_words}
+use Rattle.dg_sweep.specs.FaultTexts.{sweep_file_fault_words}
 use Rattle.dg_sweep.specs.declared.ends.TheConstants.{MAX_LINE}
 
 pub record IsVerdictRow (o : StartData) (text : List ℕ) : Type 0 where
@@ -45,86 +46,86 @@ pub record IsVerdictRow (o : StartData) (text : List ℕ) : Type 0 where
   pub found : IsVerdictOn o.graph o.q (at o.divisor) verdict
   pub printed : text ≡ verdict_row verdict
 
-abbrev pub rank_line : Form → List (List ℕ) → RankVerdict → List ℕ
-rank_line Words names x = text_of names (Tested x) ++ codes "\n"
-rank_line Numbers names (AtLeast k) = rank_row (length names) true None
-rank_line Numbers names (Below k loss) = rank_row (length names) false (Some loss)
+abbrev pub sweep_rank_line : Form → List (List ℕ) → RankVerdict → List ℕ
+sweep_rank_line Words names x = text_of names (Tested x) ++ codes "\n"
+sweep_rank_line Numbers names (AtLeast k) = rank_row (length names) true None
+sweep_rank_line Numbers names (Below k loss) = rank_row (length names) false (Some loss)
 
 abbrev pub unnamed_line : Form → ℕ → ℕ → List ℕ
 unnamed_line Words n k = codes "rank below " ++ decimal k ++ codes " at ?\n"
 unnamed_line Numbers n k = rank_row n false None
 
-pub record IsTested (o : StartData) (k : ℕ) (form : Form) (names : List (List ℕ)) (text : List ℕ)
+pub record IsSweptRankTested (o : StartData) (k : ℕ) (form : Form) (names : List (List ℕ)) (text : List ℕ)
     : Type 0 where
   pub verdict : RankVerdict
-  pub right : IsRankTest o.graph (at o.divisor) k verdict
-  pub told : ¬ IsUntold o.graph (at o.divisor) k
-  pub named : IsWithin o.graph.size k ⊎ (verdict ≡ AtLeast k)
-  pub printed : text ≡ rank_line form names verdict
+  pub right : IsRightRankVerdict o.graph (at o.divisor) k verdict
+  pub told : ¬ IsRankUntold o.graph (at o.divisor) k
+  pub named : IsRankTestWithinLimits o.graph.size k ⊎ (verdict ≡ AtLeast k)
+  pub printed : text ≡ sweep_rank_line form names verdict
 
-pub record IsBelow (o : StartData) (k : ℕ) (form : Form) (text : List ℕ) : Type 0 where
+pub record IsSweptRankBelow (o : StartData) (k : ℕ) (form : Form) (text : List ℕ) : Type 0 where
   pub past : ArePastTrialLimits o.graph.size k
-  pub told : ¬ IsUntold o.graph (at o.divisor) k
+  pub told : ¬ IsRankUntold o.graph (at o.divisor) k
   pub below : ¬ HasRankAtLeast o.graph (at o.divisor) k
   pub printed : text ≡ unnamed_line form o.graph.size k
 
-pub record IsUntested (o : StartData) (k : ℕ) (text : List ℕ) : Type 0 where
-  pub untold : IsUntold o.graph (at o.divisor) k
+pub record IsSweptRankUntested (o : StartData) (k : ℕ) (text : List ℕ) : Type 0 where
+  pub untold : IsRankUntold o.graph (at o.divisor) k
   pub printed : text ≡ codes "refused too many trials\n"
 
 abbrev pub AnswersRankLine : StartData → ℕ → Form → List (List ℕ) → List ℕ → Type 0
 AnswersRankLine o k form names text =
-    IsTested o k form names text ⊎ IsBelow o k form text ⊎ IsUntested o k text
+    IsSweptRankTested o k form names text ⊎ IsSweptRankBelow o k form text ⊎ IsSweptRankUntested o k text
 
 abbrev pub label : Form → List ℕ → List ℕ
 label Words words = words
 label Numbers words = []
 
-abbrev pub mark : Form → List ℕ
-mark Words = codes "?"
-mark Numbers = codes "NA"
+abbrev pub sweep_mark : Form → List ℕ
+sweep_mark Words = codes "?"
+sweep_mark Numbers = codes "NA"
 
-abbrev pub field : Form → List ℕ → ℤ → List ℕ
-field form words z = label form words ++ signed_decimal z ++ codes " "
+abbrev pub sweep_field : Form → List ℕ → ℤ → List ℕ
+sweep_field form words z = label form words ++ signed_decimal z ++ codes " "
 
 abbrev pub front : Form → StartData → List ℕ
 front form o =
-    field form (codes "degree ") (degree o.graph.size (at o.divisor))
-    ++ field form (codes "genus ") (genus o.graph)
+    sweep_field form (codes "degree ") (degree o.graph.size (at o.divisor))
+    ++ sweep_field form (codes "genus ") (genus o.graph)
 
-abbrev pub ranks_line : Form → StartData → List ℕ → List ℕ → List ℕ
-ranks_line form o rank dual =
+abbrev pub sweep_ranks_line : Form → StartData → List ℕ → List ℕ → List ℕ
+sweep_ranks_line form o rank dual =
     front form o ++ label form (codes "rank ") ++ rank ++ codes " " ++ label form (codes "dual ")
     ++ dual ++ codes "\n"
 
-pub record AreRanks (o : StartData) (form : Form) (text : List ℕ) : Type 0 where
+pub record AreSweptRanks (o : StartData) (form : Form) (text : List ℕ) : Type 0 where
   pub told : ¬ NeedsPastTests o.graph (at o.divisor)
   pub rank : ℤ
   pub of_divisor : IsRank o.graph (at o.divisor) rank
   pub dual_rank : ℤ
   pub of_dual : IsRank o.graph (less (canonical o.graph) (at o.divisor)) dual_rank
-  pub printed : text ≡ ranks_line form o (signed_decimal rank) (signed_decimal dual_rank)
+  pub printed : text ≡ sweep_ranks_line form o (signed_decimal rank) (signed_decimal dual_rank)
 
-pub record AreUntested (o : StartData) (form : Form) (text : List ℕ) : Type 0 where
+pub record AreSweptRanksUntested (o : StartData) (form : Form) (text : List ℕ) : Type 0 where
   pub past : NeedsPastTests o.graph (at o.divisor)
-  pub printed : text ≡ ranks_line form o (mark form) (mark form)
+  pub printed : text ≡ sweep_ranks_line form o (sweep_mark form) (sweep_mark form)
 
 abbrev pub AnswersTable : Question → StartData → List (List ℕ) → List ℕ → Type 0
-AnswersTable (Judge (verdict.Words ordered)) o names text = IsJudgement o names ordered text
+AnswersTable (Judge (verdict.Words ordered)) o names text = IsJudgementText o names ordered text
 AnswersTable (Judge verdict.Numbers) o names text = IsVerdictRow o text
 AnswersTable (Rank k form) o names text = AnswersRankLine o k form names text
-AnswersTable (RiemannRoch form) o names text = AreRanks o form text ⊎ AreUntested o form text
+AnswersTable (RiemannRoch form) o names text = AreSweptRanks o form text ⊎ AreSweptRanksUntested o form text
 
-abbrev pub refusal_line : List ℕ → List ℕ
-refusal_line words = codes "refused " ++ words ++ codes "\n"
+abbrev pub sweep_refusal_line : List ℕ → List ℕ
+sweep_refusal_line words = codes "refused " ++ words ++ codes "\n"
 
-pub record IsRefused (refuses : FileFault → Type 0) (text : List ℕ) : Type 0 where
+pub record IsSweptLineRefused (refuses : FileFault → Type 0) (text : List ℕ) : Type 0 where
   pub fault : FileFault
   pub found : fault ≢ OutOfMemory
   pub refused : refuses fault
-  pub printed : text ≡ refusal_line (file_fault_words fault)
+  pub printed : text ≡ sweep_refusal_line (sweep_file_fault_words fault)
 
-pub record IsOfTable (question : Question) (line text : List ℕ) : Type 0 where
+pub record IsOfSweptTable (question : Question) (line text : List ℕ) : Type 0 where
   pub start : StartData
   pub names : List (List ℕ)
   pub table : IsTableFile line start names
@@ -132,11 +133,11 @@ pub record IsOfTable (question : Question) (line text : List ℕ) : Type 0 where
 
 abbrev pub AnswersTableWithin : Question → List ℕ → List ℕ → Type 0
 AnswersTableWithin question line text =
-    IsRefused (RefusesFile line) text ⊎ IsOfTable question line text
+    IsSweptLineRefused (RefusesFile line) text ⊎ IsOfSweptTable question line text
 
 abbrev pub AnswersLine : (List ℕ → List ℕ → Type 0) → List ℕ → List ℕ → Type 0
 AnswersLine right line text =
-    ((MAX_LINE < length line) × (text ≡ refusal_line (codes "file too long")))
+    ((MAX_LINE < length line) × (text ≡ sweep_refusal_line (codes "file too long")))
     ⊎ ((length line ≤ MAX_LINE) × right line text)
 
 abbrev pub AnswersTableLine : Question → List ℕ → List ℕ → Type 0

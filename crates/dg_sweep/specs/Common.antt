@@ -18,16 +18,16 @@ pub use Rattle.dg_invocation.specs.declared.question.Question.{Question}
 pub use Rattle.dg_invocation.specs.declared.question.Question.TheVariants.{Judge, Rank, RiemannRoch}
 pub use Rattle.dg_lines.specs.Columns.{rank_row, verdict_row}
 pub use Rattle.dg_lines.specs.Cuts.{lines, words}
-pub use Rattle.dg_lines.specs.Judgements.{IsJudgement}
+pub use Rattle.dg_lines.specs.Judgements.{IsJudgementText}
 pub use Rattle.dg_lines.specs.Streams.{Begins, HasNoNewline, LinesHaveCome, last_line}
 pub use Rattle.dg_lines.specs.Texts.{text_of}
 pub use Rattle.dg_rank.specs.Limits.{ArePastTrialLimits}
-pub use Rattle.dg_rank.specs.Ranks.{IsUntold, IsWithin, NeedsPastTests}
-pub use Rattle.dg_system.specs.Growth.{AppendsFront}
+pub use Rattle.dg_rank.specs.Ranks.{IsRankUntold, IsRankTestWithinLimits, NeedsPastTests}
+pub use Rattle.dg_system.specs.Growth.{AppendsFrontToOutput}
 pub use Rattle.dg_theory.specs.Firing.{degree}
 pub use Rattle.dg_theory.specs.Multigraph.{genus}
 pub use Rattle.dg_theory.specs.Rank.{HasRankAtLeast, IsRank, canonical, less}
-pub use Rattle.dg_verdict.specs.RankTests.{IsRankTest}
+pub use Rattle.dg_verdict.specs.RankTests.{IsRightRankVerdict}
 pub use Rattle.dg_verdict.specs.Right.{IsVerdictOn}
 pub use Rattle.dg_verdict.specs.declared.rank_verdict.RankVerdict.{RankVerdict}
 pub use Rattle.dg_verdict.specs.declared.rank_verdict.RankVerdict.TheVariants.{AtLeast, Below}

@@ -1,19 +1,22 @@
 -- Lines that are amounts for the vertices of one table, the start o with these names. A line stands
 -- for that table with its amounts, as the file of a table would have them.
---   SpellsAmounts line xs   == the words of the line are the decimals of the numbers xs, which 64 bits
---                              hold
---   SpellsNoAmounts line    == it spells no numbers so
---   IsDivisorOf n line d    == d is the divisor on n vertices with the amounts that the line spells
---   HasAmountsOf o line p   == the line stands for the start p: o with the amounts that it spells
---   RefusesAmounts n line fault == the first fault of the line's amounts for n vertices, which a table
---                              file with these amounts would have; of want of memory nothing is said
---   AnswersAmounts question o names line text == the line stands for a table, and the text answers
---                              the question for it; or it is refused, and the text says why
+--   SpellsAmounts line xs                     == the words of the line are the decimals of the numbers xs,
+--                                                which 64 bits hold
+--   SpellsNoAmounts line                      == it spells no numbers so
+--   IsSweptDivisor n line d                   == d is the divisor on n vertices with the amounts that the
+--                                                line spells
+--   HasAmountsOf o line p                     == the line stands for the start p: o with the amounts that it
+--                                                spells
+--   RefusesSweptAmounts n line fault          == the first fault of the line's amounts for n vertices, which
+--                                                a table file with these amounts would have; of want of
+--                                                memory nothing is said
+--   AnswersAmounts question o names line text == the line stands for a table, and the text answers the
+--                                                question for it; or it is refused, and the text says why
 use Rattle.std.specs.Prelude.{◌≡◌, ℕ, ◌⊎◌, ℤ, List, map, All, FitsSigned, ⊤}
 use Rattle.std.specs.Fmt.{signed_decimal}
 use Rattle.std.specs.Int.{w64}
 use Rattle.dg_sweep.specs.Common.{StartData, Vector, HoldsNumbers, IsDivisor, IsFirstChipFault, words, FileFault, Shape, Chip, OutOfMemory, Amounts, Question}
-use Rattle.dg_sweep.specs.Answers.{AnswersTable, IsRefused}
+use Rattle.dg_sweep.specs.Answers.{AnswersTable, IsSweptLineRefused}
 
 pub record SpellsAmounts (line : List ℕ) (xs : List ℤ) : Type 0 where
   pub spelled : words line ≡ map signed_decimal xs
@@ -22,7 +25,7 @@ pub record SpellsAmounts (line : List ℕ) (xs : List ℤ) : Type 0 where
 abbrev pub SpellsNoAmounts : List ℕ → Type 0
 SpellsNoAmounts line = (xs : List ℤ) → ¬ SpellsAmounts line xs
 
-pub record IsDivisorOf (n : ℕ) (line : List ℕ) (d : Vector) : Type 0 where
+pub record IsSweptDivisor (n : ℕ) (line : List ℕ) (d : Vector) : Type 0 where
   pub xs : List ℤ
   pub spelled : SpellsAmounts line xs
   pub amounts : HoldsNumbers xs d
@@ -38,14 +41,14 @@ pub record HasAmountsOf (o : StartData) (line : List ℕ) (p : StartData) : Type
   pub within : IsDivisor divisor
   pub rest : p ≡ record o { divisor = divisor }
 
-abbrev pub RefusesAmounts : ℕ → List ℕ → FileFault → Type 0
-RefusesAmounts n line (Shape Amounts) = SpellsNoAmounts line
-RefusesAmounts n line (Chip fault) =
+abbrev pub RefusesSweptAmounts : ℕ → List ℕ → FileFault → Type 0
+RefusesSweptAmounts n line (Shape Amounts) = SpellsNoAmounts line
+RefusesSweptAmounts n line (Chip fault) =
     (xs : List ℤ) × SpellsAmounts line xs × IsFirstChipFault n xs fault
-RefusesAmounts n line OutOfMemory = ⊤
-RefusesAmounts n line fault = ⊥
+RefusesSweptAmounts n line OutOfMemory = ⊤
+RefusesSweptAmounts n line fault = ⊥
 
-pub record IsOfAmounts (question : Question) (o : StartData) (names : List (List ℕ))
+pub record IsOfSweptAmounts (question : Question) (o : StartData) (names : List (List ℕ))
     (line text : List ℕ) : Type 0 where
   pub start : StartData
   pub stands : HasAmountsOf o line start
@@ -53,4 +56,4 @@ pub record IsOfAmounts (question : Question) (o : StartData) (names : List (List
 
 abbrev pub AnswersAmounts : Question → StartData → List (List ℕ) → List ℕ → List ℕ → Type 0
 AnswersAmounts question o names line text =
-    IsRefused (RefusesAmounts o.graph.size line) text ⊎ IsOfAmounts question o names line text
+    IsSweptLineRefused (RefusesSweptAmounts o.graph.size line) text ⊎ IsOfSweptAmounts question o names line text

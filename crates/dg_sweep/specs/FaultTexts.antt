@@ -1,39 +1,39 @@
 -- What is said of bytes that are refused as a table.
---   shape_fault_words shape == of a part that has another shape than it should
---   graph_fault_words fault == of vertices and edges that are no graph
---   chip_fault_words fault == of amounts that are no divisor
---   file_fault_words fault == of any fault of a table
+--   sweep_shape_fault_words shape == of a part that has another shape than it should
+--   sweep_graph_fault_words fault == of vertices and edges that are no graph
+--   sweep_chip_fault_words fault  == of amounts that are no divisor
+--   sweep_file_fault_words fault  == of any fault of a table
 use Rattle.std.specs.Prelude.{ℕ, List, ◌++◌, codes, decimal}
 use Rattle.dg_sweep.specs.Common.{GraphFault, Size, NoVertex, Loop, Multiplicity, Valence, NotConnected, ChipFault, Length, Range, Top, Vertices, Edges, Edge, Amounts, Q, FileFault, Json, Graph, Name, Twice, Chip, NoQ, OutOfMemory}
 use Rattle.dg_file.specs.declared.fault.Shape.{Shape}
 use Rattle.dg_file.specs.declared.fault.FileFault.TheVariants.{Shape as OfShape}
 
-abbrev pub shape_fault_words : Shape → List ℕ
-shape_fault_words Top = codes "shape of top"
-shape_fault_words Vertices = codes "shape of vertices"
-shape_fault_words Edges = codes "shape of edges"
-shape_fault_words (Edge i) = codes "shape of edge " ++ decimal i
-shape_fault_words Amounts = codes "shape of amounts"
-shape_fault_words Q = codes "shape of q"
+abbrev pub sweep_shape_fault_words : Shape → List ℕ
+sweep_shape_fault_words Top = codes "shape of top"
+sweep_shape_fault_words Vertices = codes "shape of vertices"
+sweep_shape_fault_words Edges = codes "shape of edges"
+sweep_shape_fault_words (Edge i) = codes "shape of edge " ++ decimal i
+sweep_shape_fault_words Amounts = codes "shape of amounts"
+sweep_shape_fault_words Q = codes "shape of q"
 
-abbrev pub graph_fault_words : GraphFault → List ℕ
-graph_fault_words Size = codes "number of vertices"
-graph_fault_words (NoVertex i) = (codes "edge " ++ decimal i) ++ codes " has no vertex"
-graph_fault_words (Loop i) = (codes "edge " ++ decimal i) ++ codes " is a loop"
-graph_fault_words (Multiplicity i) = (codes "edge " ++ decimal i) ++ codes " is empty"
-graph_fault_words (Valence v) = codes "valence of vertex " ++ decimal v
-graph_fault_words NotConnected = codes "not connected"
+abbrev pub sweep_graph_fault_words : GraphFault → List ℕ
+sweep_graph_fault_words Size = codes "number of vertices"
+sweep_graph_fault_words (NoVertex i) = (codes "edge " ++ decimal i) ++ codes " has no vertex"
+sweep_graph_fault_words (Loop i) = (codes "edge " ++ decimal i) ++ codes " is a loop"
+sweep_graph_fault_words (Multiplicity i) = (codes "edge " ++ decimal i) ++ codes " is empty"
+sweep_graph_fault_words (Valence v) = codes "valence of vertex " ++ decimal v
+sweep_graph_fault_words NotConnected = codes "not connected"
 
-abbrev pub chip_fault_words : ChipFault → List ℕ
-chip_fault_words Length = codes "number of amounts"
-chip_fault_words (Range v) = codes "amount of vertex " ++ decimal v
+abbrev pub sweep_chip_fault_words : ChipFault → List ℕ
+sweep_chip_fault_words Length = codes "number of amounts"
+sweep_chip_fault_words (Range v) = codes "amount of vertex " ++ decimal v
 
-abbrev pub file_fault_words : FileFault → List ℕ
-file_fault_words Json = codes "not JSON"
-file_fault_words (OfShape shape) = shape_fault_words shape
-file_fault_words (Graph fault) = graph_fault_words fault
-file_fault_words (Name v) = codes "name of vertex " ++ decimal v
-file_fault_words (Twice v) = (codes "vertex " ++ decimal v) ++ codes " named twice"
-file_fault_words (Chip fault) = chip_fault_words fault
-file_fault_words NoQ = codes "no vertex q"
-file_fault_words OutOfMemory = codes "out of memory"
+abbrev pub sweep_file_fault_words : FileFault → List ℕ
+sweep_file_fault_words Json = codes "not JSON"
+sweep_file_fault_words (OfShape shape) = sweep_shape_fault_words shape
+sweep_file_fault_words (Graph fault) = sweep_graph_fault_words fault
+sweep_file_fault_words (Name v) = codes "name of vertex " ++ decimal v
+sweep_file_fault_words (Twice v) = (codes "vertex " ++ decimal v) ++ codes " named twice"
+sweep_file_fault_words (Chip fault) = sweep_chip_fault_words fault
+sweep_file_fault_words NoQ = codes "no vertex q"
+sweep_file_fault_words OutOfMemory = codes "out of memory"

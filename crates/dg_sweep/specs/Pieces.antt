@@ -1,8 +1,8 @@
 -- Pieces of bytes, which workers answer in any order.
---   AnswersPiece right piece text == the text is the answers to the lines of the piece
+--   AnswersPiece right piece text    == the text is the answers to the lines of the piece
 --   IsAnswered right pieces answered == its text is those to the piece at its place
---   Leads right front said == whatever answers the bytes after the front, it answers the front and
---                             them once what was said is put before it
+--   LeadsSweptPiece right front said == whatever answers the bytes after the front, it answers the front and
+--                                       them once what was said is put before it
 use Rattle.std.specs.Prelude.{ℕ, List, [], ◌++◌, get_or}
 use Rattle.dg_sweep.specs.Steps.{AnswersFront}
 use Rattle.dg_sweep.specs.declared.workers.Answered.{Answered}
@@ -13,6 +13,6 @@ AnswersPiece right piece text = (rest : List ℕ) × AnswersFront right piece re
 abbrev pub IsAnswered : (List ℕ → List ℕ → Type 0) → List (List ℕ) → Answered → Type 0
 IsAnswered right pieces answered = AnswersPiece right (get_or pieces answered.place []) answered.text.items
 
-abbrev pub Leads : (List ℕ → List ℕ → Type 0) → List ℕ → List ℕ → Type 0
-Leads right front said = (back rest text : List ℕ) → AnswersFront right back rest text
+abbrev pub LeadsSweptPiece : (List ℕ → List ℕ → Type 0) → List ℕ → List ℕ → Type 0
+LeadsSweptPiece right front said = (back rest text : List ℕ) → AnswersFront right back rest text
     → AnswersFront right (front ++ back) rest (said ++ text)

@@ -3,15 +3,15 @@ ghost use Rattle.std.specs.Prelude.{◌≡◌, ◌++◌, ℕ, List, [], length, 
 ghost use Rattle.dg_chips.specs.Starts.{IsStart};
 ghost use Rattle.dg_chips.specs.Vector.{at};
 ghost use Rattle.dg_verdict.specs.Right.{IsVerdictOn};
-ghost use Rattle.dg_lines.specs.Judgements.{IsJudgement};
+ghost use Rattle.dg_lines.specs.Judgements.{IsJudgementText};
 ghost use Rattle.dg_lines.specs.Texts.{HasNames, text_of};
-ghost use Rattle.dg_sweep.specs.FaultTexts.{file_fault_words};
-ghost use Rattle.dg_sweep.specs.Subjects.{start_of};
-ghost use Rattle.dg_sweep.specs.Answers.{AnswersLine, AnswersTableLine, AnswersTable, IsVerdictRow, refusal_line};
+ghost use Rattle.dg_sweep.specs.FaultTexts.{sweep_file_fault_words};
+ghost use Rattle.dg_sweep.specs.Subjects.{swept_start};
+ghost use Rattle.dg_sweep.specs.Answers.{AnswersLine, AnswersTableLine, AnswersTable, IsVerdictRow, sweep_refusal_line};
 
 use crate::ends::MAX_LINE;
-use crate::fault_words::push_file_fault_words;
-use crate::ranking::{push_rank, push_ranks};
+use crate::fault_words::push_swept_fault;
+use crate::ranking::{push_rank, push_swept_ranks};
 use crate::tables::Tables;
 use dg_chips::Divisor;
 use dg_file::FileFault;
@@ -72,10 +72,10 @@ pub(crate) fn answer_of_kind<K: LineKind>(
 /// `refused`, the text of the fault and a newline, into an empty buffer.
 pub(crate) fn push_refusal(fault: &FileFault, answer: &mut Vec<u8>) -> Result<(), AllocError>
     requires { answer.old.items ≡ [] }
-    ensures { OnOk result (answer.new.items ≡ refusal_line (file_fault_words fault.now)) }
+    ensures { OnOk result (answer.new.items ≡ sweep_refusal_line (sweep_file_fault_words fault.now)) }
 {
     answer.extend_from_slice(b"refused ")?;
-    push_file_fault_words(answer, fault)?;
+    push_swept_fault(answer, fault)?;
     answer.push(b'\n')?;
     Ok(())
 }
@@ -97,10 +97,10 @@ pub(crate) fn push_answer(
     names: &Names,
     answer: &mut Vec<u8>,
 ) -> Result<(), AllocError>
-    requires start { IsStart (start_of subject.now) }
+    requires start { IsStart (swept_start subject.now) }
     requires names { length names.now ≡ subject.now.graph.now.size }
     requires empty { answer.old.items ≡ [] }
-    ensures { OnOk result (AnswersTable question (start_of subject.now) names.now answer.new.items) }
+    ensures { OnOk result (AnswersTable question (swept_start subject.now) names.now answer.new.items) }
 {
     match question {
         Question::Judge(VerdictForm::Words { ordered }) => {
@@ -108,7 +108,7 @@ pub(crate) fn push_answer(
         }
         Question::Judge(VerdictForm::Numbers) => push_columns(subject, answer),
         Question::Rank(k, form) => push_rank(subject, names, k, form, answer),
-        Question::RiemannRoch(form) => push_ranks(subject, form, answer),
+        Question::RiemannRoch(form) => push_swept_ranks(subject, form, answer),
     }
 }
 
@@ -119,28 +119,28 @@ fn push_verdict(
     ordered: bool,
     answer: &mut Vec<u8>,
 ) -> Result<(), AllocError>
-    requires start { IsStart (start_of subject.now) }
+    requires start { IsStart (swept_start subject.now) }
     requires names { length names.now ≡ subject.now.graph.now.size }
     requires empty { answer.old.items ≡ [] }
-    ensures { OnOk result (IsJudgement (start_of subject.now) names.now ordered answer.new.items) }
+    ensures { OnOk result (IsJudgementText (swept_start subject.now) names.now ordered answer.new.items) }
 {
-    let verdict = verdict_on(subject);
+    let verdict = verdict_on_subject(subject);
     push_judgement(answer, names, &verdict, ordered)
 }
 
 /// The verdict on a subject in columns of numbers, into an empty buffer.
 fn push_columns(subject: &Subject<'_>, answer: &mut Vec<u8>) -> Result<(), AllocError>
-    requires start { IsStart (start_of subject.now) }
+    requires start { IsStart (swept_start subject.now) }
     requires empty { answer.old.items ≡ [] }
-    ensures { OnOk result (IsVerdictRow (start_of subject.now) answer.new.items) }
+    ensures { OnOk result (IsVerdictRow (swept_start subject.now) answer.new.items) }
 {
-    let verdict = verdict_on(subject);
+    let verdict = verdict_on_subject(subject);
     push_verdict_row(answer, &verdict)
 }
 
 /// The verdict on a subject.
-fn verdict_on(subject: &Subject<'_>) -> Verdict
-    requires { IsStart (start_of subject.now) }
+fn verdict_on_subject(subject: &Subject<'_>) -> Verdict
+    requires { IsStart (swept_start subject.now) }
     ensures { IsVerdictOn subject.now.graph.now subject.now.q (at subject.now.divisor.now) result }
 {
     let q = subject.q;

@@ -4,7 +4,7 @@ ghost use Rattle.std.specs.Option.{option_copied};
 ghost use Rattle.std.specs.Fmt.{signed_decimal};
 ghost use Rattle.std.specs.Int.{w64};
 ghost use Rattle.dg_lines.specs.Cuts.{before, after};
-ghost use Rattle.dg_sweep.specs.Divisors.{IsDivisorOf, RefusesAmounts, SpellsAmounts, SpellsNoAmounts};
+ghost use Rattle.dg_sweep.specs.Divisors.{IsSweptDivisor, RefusesSweptAmounts, SpellsAmounts, SpellsNoAmounts};
 
 use crate::answering::{LineKind, Subject, push_answer, push_refusal};
 use dg_chips::{Divisor, Start};
@@ -33,13 +33,13 @@ impl<'a> Divisors<'a> {
         Divisors {
             question,
             table,
-            inverse: inverse_for(question, table.start()),
+            inverse: inverse_for_sweep(question, table.start()),
         }
     }
 }
 
 /// The inverse by which a question for a start is answered soonest: verdicts are computed from q, ranks from the first vertex.
-fn inverse_for(question: Question, start: &Start) -> InverseLaplacian {
+fn inverse_for_sweep(question: Question, start: &Start) -> InverseLaplacian {
     let vertex = match question {
         Question::Judge(_) => start.q(),
         Question::Rank(_, _) | Question::RiemannRoch(_) => 0,
@@ -54,7 +54,7 @@ impl LineKind for Divisors<'_> {
 
     fn answer(&self, alloc: Global, line: &[u8], answer: &mut Vec<u8>) -> Result<(), AllocError> {
         let start = self.table.start();
-        match divisor_of(alloc, start.graph(), line) {
+        match divisor_of_swept_line(alloc, start.graph(), line) {
             Ok(divisor) => {
                 let subject = Subject {
                     graph: start.graph(),
@@ -74,9 +74,9 @@ impl LineKind for Divisors<'_> {
 ///
 /// Refused with `Shape(Amounts)` if a word is no whole number within 64 bits, and then with `Chip`. `OutOfMemory` comes if a
 /// growth is refused.
-fn divisor_of(alloc: Global, graph: &Graph, line: &[u8]) -> Result<Divisor, FileFault>
-    ensures divisor { IfOk result (IsDivisorOf graph.now.size line.now) }
-    ensures refused { IfErr result (RefusesAmounts graph.now.size line.now) }
+fn divisor_of_swept_line(alloc: Global, graph: &Graph, line: &[u8]) -> Result<Divisor, FileFault>
+    ensures divisor { IfOk result (IsSweptDivisor graph.now.size line.now) }
+    ensures refused { IfErr result (RefusesSweptAmounts graph.now.size line.now) }
 {
     let Some(amounts) = amounts_of(alloc, line)? else {
         return Err(FileFault::Shape(Shape::Amounts));
@@ -92,7 +92,7 @@ fn amounts_of(alloc: Global, line: &[u8]) -> Result<Option<Vec<i64>>, AllocError
     let mut amounts = Vec::with_capacity(alloc, MAX_VERTICES)?;
     let mut rest = Some(line);
     'words: while let Some(text) = rest {
-        let Some((amount, after)) = first_amount(text) else {
+        let Some((amount, after)) = first_amount_of_line(text) else {
             return Ok(None);
         };
         amounts.push(amount)?;
@@ -103,7 +103,7 @@ fn amounts_of(alloc: Global, line: &[u8]) -> Result<Option<Vec<i64>>, AllocError
 
 /// The whole number that the first word is, if 64 bits hold it, and what stands after the space that ends the word, if one does.
 #[inline(always)]
-fn first_amount(text: &[u8]) -> Option<(i64, Option<&[u8]>)>
+fn first_amount_of_line(text: &[u8]) -> Option<(i64, Option<&[u8]>)>
     ensures { MatchOption result
         ((z : ℤ) → FitsSigned w64 z → before 32 text.now ≢ signed_decimal z)
         (λ r. (before 32 text.now ≡ signed_decimal r.0)

@@ -1,6 +1,6 @@
 //! What is said of bytes that are refused as a table.
 ghost use Rattle.std.specs.Prelude.{◌≡◌, ◌++◌, decimal, OnOk};
-ghost use Rattle.dg_sweep.specs.FaultTexts.{file_fault_words, shape_fault_words, graph_fault_words, chip_fault_words};
+ghost use Rattle.dg_sweep.specs.FaultTexts.{sweep_file_fault_words, sweep_shape_fault_words, sweep_graph_fault_words, sweep_chip_fault_words};
 
 use dg_chips::ChipFault;
 use dg_file::{FileFault, Shape};
@@ -9,23 +9,23 @@ use itoa::Buffer;
 use std::alloc::AllocError;
 
 /// What is said of a fault, after the text.
-pub(crate) fn push_file_fault_words(text: &mut Vec<u8>, fault: &FileFault) -> Result<(), AllocError>
-    ensures { OnOk result (text.new.items ≡ text.old.items ++ file_fault_words fault.now) }
+pub(crate) fn push_swept_fault(text: &mut Vec<u8>, fault: &FileFault) -> Result<(), AllocError>
+    ensures { OnOk result (text.new.items ≡ text.old.items ++ sweep_file_fault_words fault.now) }
 {
     match fault {
         FileFault::Json => text.extend_from_slice(b"not JSON"),
-        FileFault::Shape(shape) => push_shape_fault_words(text, *shape),
-        FileFault::Graph(fault) => push_graph_fault_words(text, *fault),
+        FileFault::Shape(shape) => push_swept_shape_fault(text, *shape),
+        FileFault::Graph(fault) => push_swept_graph_fault(text, *fault),
         FileFault::Name(v) => push_labelled(text, b"name of vertex ", *v),
-        FileFault::Twice(v) => push_numbered(text, b"vertex ", *v, b" named twice"),
-        FileFault::Chip(fault) => push_chip_fault_words(text, *fault),
+        FileFault::Twice(v) => push_numbered_fault(text, b"vertex ", *v, b" named twice"),
+        FileFault::Chip(fault) => push_swept_chip_fault(text, *fault),
         FileFault::NoQ => text.extend_from_slice(b"no vertex q"),
         FileFault::OutOfMemory => text.extend_from_slice(b"out of memory"),
     }
 }
 
-fn push_shape_fault_words(text: &mut Vec<u8>, shape: Shape) -> Result<(), AllocError>
-    ensures { OnOk result (text.new.items ≡ text.old.items ++ shape_fault_words shape) }
+fn push_swept_shape_fault(text: &mut Vec<u8>, shape: Shape) -> Result<(), AllocError>
+    ensures { OnOk result (text.new.items ≡ text.old.items ++ sweep_shape_fault_words shape) }
 {
     match shape {
         Shape::Top => text.extend_from_slice(b"shape of top"),
@@ -37,21 +37,21 @@ fn push_shape_fault_words(text: &mut Vec<u8>, shape: Shape) -> Result<(), AllocE
     }
 }
 
-fn push_graph_fault_words(text: &mut Vec<u8>, fault: GraphFault) -> Result<(), AllocError>
-    ensures { OnOk result (text.new.items ≡ text.old.items ++ graph_fault_words fault) }
+fn push_swept_graph_fault(text: &mut Vec<u8>, fault: GraphFault) -> Result<(), AllocError>
+    ensures { OnOk result (text.new.items ≡ text.old.items ++ sweep_graph_fault_words fault) }
 {
     match fault {
         GraphFault::Size => text.extend_from_slice(b"number of vertices"),
-        GraphFault::NoVertex(i) => push_numbered(text, b"edge ", i, b" has no vertex"),
-        GraphFault::Loop(i) => push_numbered(text, b"edge ", i, b" is a loop"),
-        GraphFault::Multiplicity(i) => push_numbered(text, b"edge ", i, b" is empty"),
+        GraphFault::NoVertex(i) => push_numbered_fault(text, b"edge ", i, b" has no vertex"),
+        GraphFault::Loop(i) => push_numbered_fault(text, b"edge ", i, b" is a loop"),
+        GraphFault::Multiplicity(i) => push_numbered_fault(text, b"edge ", i, b" is empty"),
         GraphFault::Valence(v) => push_labelled(text, b"valence of vertex ", v),
         GraphFault::NotConnected => text.extend_from_slice(b"not connected"),
     }
 }
 
-fn push_chip_fault_words(text: &mut Vec<u8>, fault: ChipFault) -> Result<(), AllocError>
-    ensures { OnOk result (text.new.items ≡ text.old.items ++ chip_fault_words fault) }
+fn push_swept_chip_fault(text: &mut Vec<u8>, fault: ChipFault) -> Result<(), AllocError>
+    ensures { OnOk result (text.new.items ≡ text.old.items ++ sweep_chip_fault_words fault) }
 {
     match fault {
         ChipFault::Length => text.extend_from_slice(b"number of amounts"),
@@ -68,7 +68,7 @@ fn push_labelled(text: &mut Vec<u8>, label: &[u8], number: usize) -> Result<(), 
 }
 
 /// A label, a number and words, after the text.
-fn push_numbered(
+fn push_numbered_fault(
     text: &mut Vec<u8>,
     label: &[u8],
     number: usize,

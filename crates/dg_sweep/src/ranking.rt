@@ -6,8 +6,8 @@ ghost use Rattle.dg_chips.specs.Vector.{at};
 ghost use Rattle.dg_lines.specs.Texts.{HasNames};
 ghost use Rattle.dg_rank.specs.Ladders.{AnswersRankTest};
 ghost use Rattle.dg_rank.specs.Ranks.{AreBothRanks, NeedsPastTests};
-ghost use Rattle.dg_sweep.specs.Answers.{AnswersRankLine, AreRanks, AreUntested, field, front, label, mark, rank_line, ranks_line, unnamed_line};
-ghost use Rattle.dg_sweep.specs.Subjects.{start_of};
+ghost use Rattle.dg_sweep.specs.Answers.{AnswersRankLine, AreSweptRanks, AreSweptRanksUntested, sweep_field, front, label, sweep_mark, sweep_rank_line, sweep_ranks_line, unnamed_line};
+ghost use Rattle.dg_sweep.specs.Subjects.{swept_start};
 ghost use Rattle.dg_rules.specs.declared.entry.Reply.TheVariants.{Rank};
 
 use crate::answering::{Subject, push_verdict_line};
@@ -29,14 +29,14 @@ pub(crate) fn push_rank(
     form: Form,
     answer: &mut Vec<u8>,
 ) -> Result<(), AllocError>
-    requires start { IsStart (start_of subject.now) }
+    requires start { IsStart (swept_start subject.now) }
     requires names { length names.now ≡ subject.now.graph.now.size }
     requires empty { answer.old.items ≡ [] }
     ensures { OnOk result
-        (AnswersRankLine (start_of subject.now) k form names.now answer.new.items) }
+        (AnswersRankLine (swept_start subject.now) k form names.now answer.new.items) }
 {
-    if let Ok(verdict) = rank_on(subject, k) {
-        push_test(answer, form, &verdict, names)?;
+    if let Ok(verdict) = rank_of_subject(subject, k) {
+        push_swept_test(answer, form, &verdict, names)?;
         return Ok(());
     }
     let Ok(passes) = has_rank(subject.graph, subject.q, subject.divisor, k) else {
@@ -45,15 +45,15 @@ pub(crate) fn push_rank(
     };
     if passes {
         let verdict = RankVerdict::AtLeast(k);
-        push_test(answer, form, &verdict, names)?;
+        push_swept_test(answer, form, &verdict, names)?;
         return Ok(());
     }
-    push_below(k, form, names.len(), answer)?;
+    push_swept_below(k, form, names.len(), answer)?;
     Ok(())
 }
 
 /// The answer that is a rank test, into an empty buffer.
-fn push_test(
+fn push_swept_test(
     answer: &mut Vec<u8>,
     form: Form,
     verdict: &RankVerdict,
@@ -61,22 +61,22 @@ fn push_test(
 ) -> Result<(), AllocError>
     requires names { HasNames names.now (Rank verdict.now) }
     requires empty { answer.old.items ≡ [] }
-    ensures { OnOk result (answer.new.items ≡ rank_line form names.now verdict.now) }
+    ensures { OnOk result (answer.new.items ≡ sweep_rank_line form names.now verdict.now) }
 {
     match form {
         Form::Words => push_verdict_line(answer, &Reply::Rank(*verdict), names),
-        Form::Numbers => push_test_row(answer, verdict, names),
+        Form::Numbers => push_swept_test_row(answer, verdict, names),
     }
 }
 
 /// The rank test in columns of numbers, into an empty buffer.
-fn push_test_row(
+fn push_swept_test_row(
     answer: &mut Vec<u8>,
     verdict: &RankVerdict,
     names: &Names,
 ) -> Result<(), AllocError>
     requires { answer.old.items ≡ [] }
-    ensures { OnOk result (answer.new.items ≡ rank_line Form.Numbers names.now verdict.now) }
+    ensures { OnOk result (answer.new.items ≡ sweep_rank_line Form.Numbers names.now verdict.now) }
 {
     match verdict {
         RankVerdict::AtLeast(_) => push_rank_row(answer, names.len(), true, None),
@@ -85,8 +85,8 @@ fn push_test_row(
 }
 
 /// The rank test of a subject.
-fn rank_on(subject: &Subject<'_>, k: u32) -> Result<RankVerdict, RankFault>
-    requires { IsStart (start_of subject.now) }
+fn rank_of_subject(subject: &Subject<'_>, k: u32) -> Result<RankVerdict, RankFault>
+    requires { IsStart (swept_start subject.now) }
     ensures { AnswersRankTest subject.now.graph.now (at subject.now.divisor.now) k result }
 {
     match subject.inverse {
@@ -96,8 +96,8 @@ fn rank_on(subject: &Subject<'_>, k: u32) -> Result<RankVerdict, RankFault>
 }
 
 /// Both ranks of a subject.
-fn ranks_on(subject: &Subject<'_>) -> Option<(i64, i64)>
-    requires { IsStart (start_of subject.now) }
+fn ranks_of_subject(subject: &Subject<'_>) -> Option<(i64, i64)>
+    requires { IsStart (swept_start subject.now) }
     ensures { MatchOption result
         (NeedsPastTests subject.now.graph.now (at subject.now.divisor.now))
         (AreBothRanks subject.now.graph.now (at subject.now.divisor.now)) }
@@ -109,18 +109,18 @@ fn ranks_on(subject: &Subject<'_>) -> Option<(i64, i64)>
 }
 
 /// That the rank is below k, with marks in place of the first loss, into an empty buffer.
-fn push_below(k: u32, form: Form, size: usize, answer: &mut Vec<u8>) -> Result<(), AllocError>
+fn push_swept_below(k: u32, form: Form, size: usize, answer: &mut Vec<u8>) -> Result<(), AllocError>
     requires { answer.old.items ≡ [] }
     ensures { OnOk result (answer.new.items ≡ unnamed_line form size k) }
 {
     match form {
-        Form::Words => push_below_words(k, answer),
+        Form::Words => push_swept_below_words(k, answer),
         Form::Numbers => push_rank_row(answer, size, false, None),
     }
 }
 
 /// The same in words.
-fn push_below_words(k: u32, answer: &mut Vec<u8>) -> Result<(), AllocError>
+fn push_swept_below_words(k: u32, answer: &mut Vec<u8>) -> Result<(), AllocError>
     requires { answer.old.items ≡ [] }
     ensures { OnOk result (answer.new.items ≡ codes "rank below " ++ decimal k ++ codes " at ?\n") }
 {
@@ -131,27 +131,33 @@ fn push_below_words(k: u32, answer: &mut Vec<u8>) -> Result<(), AllocError>
 
 /// The degree, the genus and the two ranks of a subject, into an empty buffer; with marks in place of ranks that no test
 /// within the limits tells.
-pub(crate) fn push_ranks(
+pub(crate) fn push_swept_ranks(
     subject: &Subject<'_>,
     form: Form,
     answer: &mut Vec<u8>,
 ) -> Result<(), AllocError>
-    requires start { IsStart (start_of subject.now) }
+    requires start { IsStart (swept_start subject.now) }
     requires empty { answer.old.items ≡ [] }
-    ensures { OnOk result (AreRanks (start_of subject.now) form answer.new.items
-        ⊎ AreUntested (start_of subject.now) form answer.new.items) }
+    ensures { OnOk result (AreSweptRanks (swept_start subject.now) form answer.new.items
+        ⊎ AreSweptRanksUntested (swept_start subject.now) form answer.new.items) }
 {
-    let Some((rank, dual_rank)) = ranks_on(subject) else {
-        push_line(subject, form, mark_of(form), mark_of(form), answer)?;
+    let Some((rank, dual_rank)) = ranks_of_subject(subject) else {
+        push_swept_line(
+            subject,
+            form,
+            mark_in_sweep(form),
+            mark_in_sweep(form),
+            answer,
+        )?;
         return Ok(());
     };
-    push_told(subject, form, rank, dual_rank, answer)?;
+    push_swept_told(subject, form, rank, dual_rank, answer)?;
     Ok(())
 }
 
 /// What stands in the place of a rank that is not told.
-fn mark_of(form: Form) -> &'static str
-    ensures { result.now ≡ mark form }
+fn mark_in_sweep(form: Form) -> &'static str
+    ensures { result.now ≡ sweep_mark form }
 {
     match form {
         Form::Words => "?",
@@ -160,20 +166,20 @@ fn mark_of(form: Form) -> &'static str
 }
 
 /// The line of a subject with these two ranks, into an empty buffer.
-fn push_told(
+fn push_swept_told(
     subject: &Subject<'_>,
     form: Form,
     rank: i64,
     dual_rank: i64,
     answer: &mut Vec<u8>,
 ) -> Result<(), AllocError>
-    requires start { IsStart (start_of subject.now) }
+    requires start { IsStart (swept_start subject.now) }
     requires empty { answer.old.items ≡ [] }
     ensures { OnOk result (answer.new.items
-        ≡ ranks_line form (start_of subject.now) (signed_decimal rank) (signed_decimal dual_rank)) }
+        ≡ sweep_ranks_line form (swept_start subject.now) (signed_decimal rank) (signed_decimal dual_rank)) }
 {
     let (mut first, mut second) = (Buffer::new(), Buffer::new());
-    push_line(
+    push_swept_line(
         subject,
         form,
         first.format(rank),
@@ -183,19 +189,19 @@ fn push_told(
 }
 
 /// The degree and the genus of a subject and two texts for its ranks, into an empty buffer.
-fn push_line(
+fn push_swept_line(
     subject: &Subject<'_>,
     form: Form,
     rank: &str,
     dual_rank: &str,
     answer: &mut Vec<u8>,
 ) -> Result<(), AllocError>
-    requires start { IsStart (start_of subject.now) }
+    requires start { IsStart (swept_start subject.now) }
     requires empty { answer.old.items ≡ [] }
     ensures { OnOk result
-        (answer.new.items ≡ ranks_line form (start_of subject.now) rank.now dual_rank.now) }
+        (answer.new.items ≡ sweep_ranks_line form (swept_start subject.now) rank.now dual_rank.now) }
 {
-    push_front(subject, form, answer)?;
+    push_swept_front(subject, form, answer)?;
     push_labelled(answer, form, "rank ", rank)?;
     answer.push(b' ')?;
     push_labelled(answer, form, "dual ", dual_rank)?;
@@ -204,10 +210,14 @@ fn push_line(
 }
 
 /// The degree and the genus of a subject, with a space after each, into an empty buffer.
-fn push_front(subject: &Subject<'_>, form: Form, answer: &mut Vec<u8>) -> Result<(), AllocError>
-    requires start { IsStart (start_of subject.now) }
+fn push_swept_front(
+    subject: &Subject<'_>,
+    form: Form,
+    answer: &mut Vec<u8>,
+) -> Result<(), AllocError>
+    requires start { IsStart (swept_start subject.now) }
     requires empty { answer.old.items ≡ [] }
-    ensures { OnOk result (answer.new.items ≡ front form (start_of subject.now)) }
+    ensures { OnOk result (answer.new.items ≡ front form (swept_start subject.now)) }
 {
     push_number(answer, form, "degree ", subject.divisor.degree())?;
     push_number(answer, form, "genus ", i64::from(subject.graph.genus()))
@@ -215,7 +225,7 @@ fn push_front(subject: &Subject<'_>, form: Form, answer: &mut Vec<u8>) -> Result
 
 /// A number after its label, and a space.
 fn push_number(answer: &mut Vec<u8>, form: Form, words: &str, number: i64) -> Result<(), AllocError>
-    ensures { OnOk result (answer.new.items ≡ answer.old.items ++ field form words.now number) }
+    ensures { OnOk result (answer.new.items ≡ answer.old.items ++ sweep_field form words.now number) }
 {
     push_labelled(answer, form, words, Buffer::new().format(number))?;
     answer.push(b' ')?;
@@ -231,12 +241,12 @@ fn push_labelled(
 ) -> Result<(), AllocError>
     ensures { OnOk result (answer.new.items ≡ answer.old.items ++ (label form words.now ++ text.now)) }
 {
-    push_label(answer, form, words)?;
+    push_swept_label(answer, form, words)?;
     answer.extend_from_slice(text.as_bytes())
 }
 
 /// The label of a text, in words alone.
-fn push_label(answer: &mut Vec<u8>, form: Form, words: &str) -> Result<(), AllocError>
+fn push_swept_label(answer: &mut Vec<u8>, form: Form, words: &str) -> Result<(), AllocError>
     ensures { OnOk result (answer.new.items ≡ answer.old.items ++ label form words.now) }
 {
     match form {

@@ -40,7 +40,7 @@ pub fn sweep<R: Threads + Wait + Sync, I: Read, O: Write>(
     ensures write { result ≡ Err SweepEnd.Write → writer.new.has_failed ≡ true }
     ensures spawn { result ≡ Err (SweepEnd.Shortage Spawn) → 2 ≤ workers }
 {
-    sweep_kind(rt, alloc, &Tables { question }, workers, reader, writer)
+    sweep_lines_of_kind(rt, alloc, &Tables { question }, workers, reader, writer)
 }
 
 /// Answers the lines that the reader gives, each of which has amounts for the vertices of a table, as numbers with one space
@@ -62,11 +62,11 @@ pub fn sweep_divisors<R: Threads + Wait + Sync, I: Read, O: Write>(
     ensures spawn { result ≡ Err (SweepEnd.Shortage Spawn) → 2 ≤ workers }
 {
     let kind = Divisors::new(question, table);
-    sweep_kind(rt, alloc, &kind, workers, reader, writer)
+    sweep_lines_of_kind(rt, alloc, &kind, workers, reader, writer)
 }
 
 /// The same for lines of any kind.
-fn sweep_kind<R: Threads + Wait + Sync, K: LineKind + Sync, I: Read, O: Write>(
+fn sweep_lines_of_kind<R: Threads + Wait + Sync, K: LineKind + Sync, I: Read, O: Write>(
     rt: &R,
     alloc: Global,
     kind: &K,
@@ -114,9 +114,9 @@ fn sweep_reads<R: Threads + Wait + Sync, K: LineKind + Sync, I: Read, O: Write>(
             return Err(SweepEnd::Read);
         };
         if size == 0 {
-            return progress.pass_end(context.alloc, context.kind, writer);
+            return progress.sweep_end(context.alloc, context.kind, writer);
         }
-        match progress.pass_bytes(context, writer, &buffer[..size]) {
+        match progress.sweep_bytes(context, writer, &buffer[..size]) {
             Ok(()) => {}
             Err(end) => return Err(end),
         }

@@ -1,6 +1,6 @@
 //! Taking what was read: bytes that are cut into lines, and the end.
 ghost use Rattle.std.specs.Prelude.{◌≡◌, ◌≢◌, ◌≤◌, ◌++◌, ℕ, List, [], true, IfOk, OnOk, Err};
-ghost use Rattle.dg_sweep.specs.Steps.{AnswersFront, KeepsPartOfPiece, PassesAnswers, TakesBytes, AnswersLast};
+ghost use Rattle.dg_sweep.specs.Steps.{AnswersFront, KeepsPartOfPiece, PassesAnswers, TakesSweptBytes, AnswersLastSweptLine};
 ghost use Rattle.dg_sweep.specs.declared.ends.SweepEnd.TheVariants.{Write as WriteEnd, Shortage as ShortageEnd};
 ghost use Rattle.dg_system.specs.declared.shortage.Shortage.TheVariants.{Spawn};
 
@@ -38,14 +38,14 @@ impl SweepProgress {
     }
 
     /// Takes bytes that were read, and writes the answers to the lines that end in them.
-    pub(crate) fn pass_bytes<R: Threads + Wait + Sync, K: LineKind + Sync, O: Write>(
+    pub(crate) fn sweep_bytes<R: Threads + Wait + Sync, K: LineKind + Sync, O: Write>(
         &mut self,
         context: &SweepContext<'_, R, K>,
         writer: &mut Output<O>,
         bytes: &[u8],
     ) -> Result<(), SweepEnd>
         ensures passed { PassesAnswers
-            (TakesBytes (K.answers context.now.kind.now) self.old.pending.items bytes.now self.new.pending.items)
+            (TakesSweptBytes (K.answers context.now.kind.now) self.old.pending.items bytes.now self.new.pending.items)
             writer.old.contents writer.new.contents result }
         ensures write { result ≡ Err WriteEnd → writer.new.has_failed ≡ true }
         ensures spawn { result ≡ Err (ShortageEnd Spawn) → 2 ≤ context.now.workers }
@@ -60,13 +60,13 @@ impl SweepProgress {
     }
 
     /// Takes the end, and writes the answer to the last line, if there is one.
-    pub(crate) fn pass_end<K: LineKind, O: Write>(
+    pub(crate) fn sweep_end<K: LineKind, O: Write>(
         &mut self,
         alloc: Global,
         kind: &K,
         writer: &mut Output<O>,
     ) -> Result<(), SweepEnd>
-        ensures passed { PassesAnswers (AnswersLast (K.answers kind.now) self.old.pending.items)
+        ensures passed { PassesAnswers (AnswersLastSweptLine (K.answers kind.now) self.old.pending.items)
             writer.old.contents writer.new.contents result }
         ensures write { result ≡ Err WriteEnd → writer.new.has_failed ≡ true }
         ensures spawn { result ≢ Err (ShortageEnd Spawn) }
@@ -86,7 +86,7 @@ impl SweepProgress {
         context: &SweepContext<'_, R, K>,
         bytes: &[u8],
     ) -> Result<(), Shortage>
-        ensures taken { OnOk result (TakesBytes (K.answers context.now.kind.now)
+        ensures taken { OnOk result (TakesSweptBytes (K.answers context.now.kind.now)
             self.old.pending.items bytes.now self.new.pending.items self.new.text.items) }
         ensures spawn { result ≡ Err Spawn → 2 ≤ context.now.workers }
     {
@@ -105,7 +105,7 @@ impl SweepProgress {
 
     /// Takes the end: answers what is pending as the last line, if it has a byte.
     fn take_end<K: LineKind>(&mut self, alloc: Global, kind: &K) -> Result<(), AllocError>
-        ensures { OnOk result (AnswersLast (K.answers kind.now) self.old.pending.items self.new.text.items) }
+        ensures { OnOk result (AnswersLastSweptLine (K.answers kind.now) self.old.pending.items self.new.text.items) }
     {
         self.text.clear();
         if self.pending.is_empty() {

@@ -1,7 +1,7 @@
 //! Lines answered among workers, each with a thread of its own.
 ghost use Rattle.std.specs.Prelude.{◌≡◌, ◌<◌, ◌≤◌, ◌++◌, ℕ, List, [], length, get_or, map, flat_map, All, Contains, IfOk, IfSome, OnOk, Err};
 ghost use Rattle.dg_sweep.specs.Steps.{AnswersFront, EndsPiece};
-ghost use Rattle.dg_sweep.specs.Pieces.{AnswersPiece, IsAnswered, Leads};
+ghost use Rattle.dg_sweep.specs.Pieces.{AnswersPiece, IsAnswered, LeadsSweptPiece};
 ghost use Rattle.dg_system.specs.declared.shortage.Shortage.TheVariants.{Spawn};
 
 use crate::answering::LineKind;
@@ -83,12 +83,12 @@ fn answer_among<R: Threads + Wait + Sync, K: LineKind + Sync>(
         All (IsAnswered (K.answers context.now.kind.now) (map (λ piece. piece.now) pieces.now)) done.items) }
 {
     if workers < 2 {
-        return Ok(answer_next(context, pieces, next)?);
+        return Ok(answer_next_piece(context, pieces, next)?);
     }
     let mut first = || -> Result<Vec<Answered>, AllocError>
         ensures { IfOk result (λ done. All (IsAnswered (K.answers context.entry.now.kind.now)
             (map (λ piece. piece.now) pieces.entry.now)) done.items) }
-    { answer_next(context, pieces, next) };
+    { answer_next_piece(context, pieces, next) };
     let mut others = || -> Result<Vec<Answered>, Shortage>
         requires { 2 ≤ workers }
         ensures { IfOk result (λ done. All (IsAnswered (K.answers context.entry.now.kind.now)
@@ -113,7 +113,7 @@ fn answer_among<R: Threads + Wait + Sync, K: LineKind + Sync>(
 }
 
 /// The answers to the pieces that one worker takes.
-fn answer_next<R, K: LineKind>(
+fn answer_next_piece<R, K: LineKind>(
     context: &SweepContext<'_, R, K>,
     pieces: &[&[u8]],
     next: &AtomicUsize,
@@ -161,10 +161,10 @@ fn put_answers<R, K: LineKind>(
     requires lines { All (λ piece. EndsPiece piece.now) pieces.now }
     requires done { All (IsAnswered (K.answers context.now.kind.now) (map (λ piece. piece.now) pieces.now)) done.now }
     ensures { OnOk result ((said : List ℕ) ×
-        Leads (K.answers context.now.kind.now) (flat_map (λ piece. piece.now) pieces.now) said
+        LeadsSweptPiece (K.answers context.now.kind.now) (flat_map (λ piece. piece.now) pieces.now) said
         × (text.new.items ≡ text.old.items ++ said)) }
 {
-    let found = indices_of(context.alloc, done, pieces.len())?;
+    let found = indices_of_pieces(context.alloc, done, pieces.len())?;
     for place in 0..pieces.len() {
         put_answer(context, pieces, place, done, &found, text)?;
     }
@@ -172,7 +172,11 @@ fn put_answers<R, K: LineKind>(
 }
 
 /// For each of `count` pieces, the index of its answers in `done`, or the length of `done` if they are not there.
-fn indices_of(alloc: Global, done: &[Answered], count: usize) -> Result<Vec<usize>, AllocError> {
+fn indices_of_pieces(
+    alloc: Global,
+    done: &[Answered],
+    count: usize,
+) -> Result<Vec<usize>, AllocError> {
     let mut found = vec![in alloc; done.len(); count]?;
     for (index, answered) in done.iter().enumerate() {
         if let Some(at) = found.get_mut(answered.place) {
@@ -197,7 +201,7 @@ fn put_answer<R, K: LineKind>(
         × AnswersPiece (K.answers context.now.kind.now) (get_or (map (λ piece. piece.now) pieces.now) place []) said
         × (text.new.items ≡ text.old.items ++ said)) }
 {
-    if let Some(answers) = text_at(done, found, place) {
+    if let Some(answers) = text_of_piece(done, found, place) {
         text.extend_from_slice(answers)?;
         return Ok(());
     }
@@ -213,7 +217,7 @@ fn put_answer<R, K: LineKind>(
 }
 
 /// The text of the answer to the piece at the place, if it is found where it should be.
-fn text_at<'a>(done: &'a [Answered], found: &[usize], place: usize) -> Option<&'a [u8]>
+fn text_of_piece<'a>(done: &'a [Answered], found: &[usize], place: usize) -> Option<&'a [u8]>
     ensures { IfSome result (λ text. (answered : Answered) × Contains done.now answered
         × (answered.place ≡ place) × (text.now ≡ answered.text.items)) }
 {

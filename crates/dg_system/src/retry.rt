@@ -26,7 +26,7 @@ pub(crate) fn retry_read<I: Read>(reader: &mut I, buffer: &mut [u8]) -> io::Resu
             }
         }
     }
-    Err(given_up())
+    Err(retry_given_up())
 }
 
 /// One write of a front of the text, asked for again as long as it is interrupted.
@@ -47,7 +47,7 @@ pub(crate) fn retry_write<O: Write>(writer: &mut O, text: &[u8]) -> io::Result<u
             }
         }
     }
-    Err(given_up())
+    Err(retry_given_up())
 }
 
 /// A flush, asked for again as long as it is interrupted.
@@ -67,11 +67,11 @@ pub(crate) fn retry_flush<O: Write>(writer: &mut O) -> io::Result<()>
             }
         }
     }
-    Err(given_up())
+    Err(retry_given_up())
 }
 
 /// That 2^64 - 1 tries were interrupted, which nobody will see.
-fn given_up() -> Error
+fn retry_given_up() -> Error
     ensures { error_kind result ≢ ErrorKind.Interrupted }
 {
     Error::from(ErrorKind::TimedOut)

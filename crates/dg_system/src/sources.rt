@@ -1,7 +1,7 @@
 //! Where the bytes of files come from.
 ghost use Rattle.std.specs.Prelude.{◌≡◌, ◌≢◌, ◌<◌, ◌≤◌, ℕ, List, length, map, vec_len, IfOk, IfErr, IfSome};
-ghost use Rattle.dg_system.specs.Held.{Held, MayHold, RefusesHeld, held_among, held_by, unknown};
-ghost use Rattle.dg_system.specs.Streams.{MayGive, RefusesStream, stream_remaining};
+ghost use Rattle.dg_system.specs.Held.{Held, MayHoldSourceBytes, RefusesSource, held_among, held_by_source, unknown};
+ghost use Rattle.dg_system.specs.Streams.{MayGiveAsStream, RefusesSourceStream, stream_remaining};
 ghost use Rattle.std.specs.Option.{option_copied};
 
 use crate::shortage::Shortage;
@@ -52,16 +52,16 @@ pub trait Sources {
     /// Refused with `Unreadable` if there is no such file or a read fails, with `TooLong` if one more byte can be
     /// read, and with `OutOfMemory` at the growth that was refused.
     fn bytes<R: Files + AllocGlobal>(&self, rt: &R, name: &str) -> Result<Vec<u8>, SourceFault>
-        ensures read { IfOk result (λ bytes. MayHold (held self.now name.now) bytes.items) }
-        ensures refused { IfErr result (RefusesHeld (held self.now name.now)) };
+        ensures read { IfOk result (λ bytes. MayHoldSourceBytes (held self.now name.now) bytes.items) }
+        ensures refused { IfErr result (RefusesSource (held self.now name.now)) };
 
     /// The file with this name, to be read as it comes; it may have any number of bytes, and need have no end.
     ///
     /// Refused with `Unreadable` if there is no such file, and with `OutOfMemory`.
     fn open<'s, R: Files>(&'s self, rt: &R, name: &str) -> Result<Stream<'s, R::File>, SourceFault>
         ensures opened { IfOk result
-            (λ s. MayGive (held self.now name.now) (stream_remaining R.File.remaining s)) }
-        ensures refused { IfErr result (RefusesStream (held self.now name.now)) };
+            (λ s. MayGiveAsStream (held self.now name.now) (stream_remaining R.File.remaining s)) }
+        ensures refused { IfErr result (RefusesSourceStream (held self.now name.now)) };
 }
 
 /// The files of the machine.
@@ -100,8 +100,8 @@ impl Sources for MemoryFiles<'_> {
     ghost held = { λ shelf. held_among (map (λ file. (file.0.now, file.1.now)) shelf.files.now) };
 
     fn bytes<R: Files + AllocGlobal>(&self, rt: &R, name: &str) -> Result<Vec<u8>, SourceFault> {
-        match found(self.files, name) {
-            Some(bytes) => copied(rt.alloc(), bytes),
+        match file_found(self.files, name) {
+            Some(bytes) => copied_file(rt.alloc(), bytes),
             None => Err(SourceFault::Unreadable),
         }
     }
@@ -111,7 +111,7 @@ impl Sources for MemoryFiles<'_> {
         _rt: &R,
         name: &str,
     ) -> Result<Stream<'s, R::File>, SourceFault> {
-        match found(self.files, name) {
+        match file_found(self.files, name) {
             Some(bytes) => Ok(Stream::Kept(bytes)),
             None => Err(SourceFault::Unreadable),
         }
@@ -120,20 +120,20 @@ impl Sources for MemoryFiles<'_> {
 
 /// The bytes of the first of the files with that name.
 #[tactic(auto, unfolding(crate::specs::Held::held_among))]
-fn found<'a>(files: &[(&'a str, &'a [u8])], name: &str) -> Option<&'a [u8]>
+fn file_found<'a>(files: &[(&'a str, &'a [u8])], name: &str) -> Option<&'a [u8]>
     ensures { held_among (map (λ file. (file.0.now, file.1.now)) files.now) name.now
-        ≡ held_by (option_copied result) }
+        ≡ held_by_source (option_copied result) }
 {
     let (file, after) = files.split_first()?;
     if file.0 == name {
         Some(file.1)
     } else {
-        found(after, name)
+        file_found(after, name)
     }
 }
 
 /// A copy of the bytes, if they are at most 1,048,576.
-fn copied(alloc: Global, bytes: &[u8]) -> Result<Vec<u8>, SourceFault>
+fn copied_file(alloc: Global, bytes: &[u8]) -> Result<Vec<u8>, SourceFault>
     ensures read { IfOk result (λ copy. (copy.items ≡ bytes.now) × (length bytes.now ≤ MAX_FILE)) }
     ensures refused { IfErr result (λ fault. fault ≢ SourceFault.Unreadable) }
     ensures long { result ≡ Err SourceFault.TooLong → MAX_FILE < length bytes.now }

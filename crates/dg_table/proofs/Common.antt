@@ -8,8 +8,8 @@ pub use Rattle.dg_rules.proofs.StateLaws.{right_in}
 pub use Rattle.dg_rules.proofs.StepLaw.{vertices_stay}
 pub use Rattle.dg_rules.specs.History.{gifts_in, position_after}
 pub use Rattle.dg_rules.specs.Legal.{IsLegal}
-pub use Rattle.dg_rules.specs.Look.{IsLookAt, KeepsFinding, asked_for, asked_on}
-pub use Rattle.dg_rules.specs.Position.{Shows}
+pub use Rattle.dg_rules.specs.Look.{IsLookAt, KeepsFinding, request_for_finding, request_for_question}
+pub use Rattle.dg_rules.specs.Position.{ShowsPosition}
 pub use Rattle.dg_rules.specs.Replies.{Replies}
 pub use Rattle.dg_rules.specs.State.{LeadsTo, GameState}
 pub use Rattle.dg_rules.specs.declared.entry.Entry.{Entry}
@@ -27,14 +27,14 @@ pub use Rattle.dg_log.specs.Tables.{TableData}
 pub use Rattle.dg_log.specs.Written.{Written}
 pub use Rattle.dg_log.specs.declared.name.Name.{Ghosts}
 pub use Rattle.dg_table.specs.Answered.{IsAnsweredAfter, IsEnteredAfter, entering}
-pub use Rattle.dg_table.specs.Closing.{AllHeld, AreTotals, TableHasSeat, HaveMet, IsCloseRefused, IsComplete}
-pub use Rattle.dg_table.specs.Faults.{RefusesSettling, RefusesStep}
-pub use Rattle.dg_table.specs.Histories.{IsHistoryOf}
+pub use Rattle.dg_table.specs.Closing.{AllHeld, AreAuditTotals, TableHasSeat, SeatsHaveMetHistory, IsCloseRefused, IsComplete}
+pub use Rattle.dg_table.specs.Faults.{RefusesSettling, RefusesStepAtTable}
+pub use Rattle.dg_table.specs.Histories.{IsHistoryOfTable}
 pub use Rattle.dg_table.specs.Lock.{AreSeatCounts, IsKeptLook, IsReady, IsSeatState, IsUnderLock}
 pub use Rattle.dg_table.specs.Looks.{KeptLookHasVertices, IsLastLook, IsLookOf, SeatKeepsLastLook, asks_for_kept_look, is_look, last_look}
 pub use Rattle.dg_table.specs.Opened.{AreFresh}
 pub use Rattle.dg_table.specs.SeatLaws.{SeatEntriesStand, SeatHasNoEntries, OneSeatHasAll, OtherSeatsEntry, OwnSeatsEntry}
-pub use Rattle.dg_table.specs.Seats.{AreOfTableSeats, Holds, IsAdmissible, Meets, SeatView, entries_of}
+pub use Rattle.dg_table.specs.Seats.{AreOfTableSeats, Holds, IsAdmissibleSeat, SeatMeetsHistory, SeatView, entries_of}
 pub use Rattle.dg_table.specs.Settled.{IsSettledFor, IsNotStaleAfter, IsSettledAfter, IsStaleAfter}
 pub use Rattle.dg_table.specs.Turns.{IsAskedToEnter, asking_at_table}
 pub use Rattle.dg_table.specs.declared.audit.Audit.{Audit}

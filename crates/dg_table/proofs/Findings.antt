@@ -9,7 +9,7 @@
 --   stale_both       the reply to a finding on an entry is stale just where a gift was accepted after it
 --   carried_over     where none was, the finding is carried to the position now
 --   look_stands      what is kept of an entry of a legal history that is a look, is of a look of it
-use Rattle.dg_table.proofs.Common.{◌≡◌, ◌≢◌, ◌↔◌, ℕ, Bool, true, false, cond, List, [], ◌∷◌, ◌++◌, take, slice_get, Option, Some, None, refl, sym, ap, subst, ◌∙◌, filter, last_or, append-nil, same_Some, filter-append, Multigraph, StartData, Vector, position_after, gifts_in, IsLegal, IsLookAt, asked_for, KeepsFinding, Replies, Entry, Request, Look, Reply, Looked, Verdict, Stale, Finding, Judged, Ranked, LookData, legal_looks, vertices_stay, IsKeptLook, SeatKeepsLastLook, KeptLookHasVertices, IsLastLook, IsLookOf, is_look, last_look, asks_for_kept_look, IsSettledFor, RankReply}
+use Rattle.dg_table.proofs.Common.{◌≡◌, ◌≢◌, ◌↔◌, ℕ, Bool, true, false, cond, List, [], ◌∷◌, ◌++◌, take, slice_get, Option, Some, None, refl, sym, ap, subst, ◌∙◌, filter, last_or, append-nil, same_Some, filter-append, Multigraph, StartData, Vector, position_after, gifts_in, IsLegal, IsLookAt, request_for_finding, KeepsFinding, Replies, Entry, Request, Look, Reply, Looked, Verdict, Stale, Finding, Judged, Ranked, LookData, legal_looks, vertices_stay, IsKeptLook, SeatKeepsLastLook, KeptLookHasVertices, IsLastLook, IsLookOf, is_look, last_look, asks_for_kept_look, IsSettledFor, RankReply}
 
 last_or-snoc : {A : Type 0} (o : Option A) (xs : List A) (x : A) → last_or o (xs ++ x ∷ []) ≡ Some x
 last_or-snoc o [] x = refl
@@ -59,7 +59,7 @@ looked_vertices o H x right =
     (size, shows.size ∙ vertices_stay o H)
 
 pub stale_both : (o : StartData) (H : List Entry) (i : ℕ) (f : Finding) (reply : Reply) →
-    Replies o H (asked_for i f) reply →
+    Replies o H (request_for_finding i f) reply →
     (gifts_in (take i H) ≢ gifts_in H) ↔ (reply ≡ Stale (gifts_in H))
 stale_both o H i (Judged v) (Verdict w) right = ((λ other. absurd (other right.0)), (λ is. absurd (cc)))
 stale_both o H i (Judged v) (Stale count) right = ((λ other. ap Stale right.1), (λ is. right.0))
@@ -68,7 +68,7 @@ stale_both o H i (Ranked v) (Stale count) right = ((λ other. ap Stale right.1),
 stale_both o H i f reply right = absurd right
 
 pub carried_over : (o : StartData) (H : List Entry) (i : ℕ) (f : Finding) (reply : Reply) → KeepsFinding f reply →
-    Replies o H (asked_for i f) reply → gifts_in (take i H) ≡ gifts_in H → IsSettledFor (position_after o H) o.q f reply
+    Replies o H (request_for_finding i f) reply → gifts_in (take i H) ≡ gifts_in H → IsSettledFor (position_after o H) o.q f reply
 carried_over o H i (Judged v) (Verdict w) kept right same = (right.1, rw kept.0 at right.1.led)
 carried_over o H i (Judged v) (Stale count) kept right same = right.0 same
 carried_over o H i (Ranked v) (RankReply w) kept right same = right.1

@@ -13,7 +13,7 @@
 --                 is refused
 --   held_none     what the lock holds at the start
 --   held_more     what the lock holds after one more entry
-use Rattle.dg_table.proofs.Common.{inl, inr, ◌≡◌, ◌≢◌, Option, take, ℕ, ◌+◌, ◌<◌, ◌≤◌, List, [], ◌∷◌, ◌++◌, length, get_or, set, slice_get, Some, arith, refl, sym, ap, subst, ◌∙◌, length-set, length_push, append-nil, slice_get_within, StartData, IsLegal, gifts_in, IsLookAt, asked_for, asked_on, KeepsFinding, Replies, GameState, LeadsTo, Entry, MAX_SEATS, Stale, Request, Finding, Question, LookData, legal_none, slice_get-append, entering, IsEnteredAfter, IsAnsweredAfter, RefusesStep, RefusesSettling, Fault, OutOfMemory, Full, Log, IsUnderLock, IsReady, IsKeptLook, IsSeatState, IsPrefixOf, IsHistoryOf, IsLookOf, SeatView, Holds, IsAdmissible, Meets, AreOfTableSeats, entries_of, IsSettledAfter, IsStaleAfter, IsNotStaleAfter, TableData, Written}
+use Rattle.dg_table.proofs.Common.{inl, inr, ◌≡◌, ◌≢◌, Option, take, ℕ, ◌+◌, ◌<◌, ◌≤◌, List, [], ◌∷◌, ◌++◌, length, get_or, set, slice_get, Some, arith, refl, sym, ap, subst, ◌∙◌, length-set, length_push, append-nil, slice_get_within, StartData, IsLegal, gifts_in, IsLookAt, request_for_finding, request_for_question, KeepsFinding, Replies, GameState, LeadsTo, Entry, MAX_SEATS, Stale, Request, Finding, Question, LookData, legal_none, slice_get-append, entering, IsEnteredAfter, IsAnsweredAfter, RefusesStepAtTable, RefusesSettling, Fault, OutOfMemory, Full, Log, IsUnderLock, IsReady, IsKeptLook, IsSeatState, IsPrefixOf, IsHistoryOfTable, IsLookOf, SeatView, Holds, IsAdmissibleSeat, SeatMeetsHistory, AreOfTableSeats, entries_of, IsSettledAfter, IsStaleAfter, IsNotStaleAfter, TableData, Written}
 use Rattle.dg_table.proofs.Entries.{own_more}
 use Rattle.dg_table.proofs.Findings.{stale_both, carried_over}
 use Rattle.dg_table.proofs.Numbered.{stand_more, stand_longer}
@@ -32,7 +32,7 @@ holds_more H e x y holds own number mine told prefix met = record {
 
 pub history_more : (table : TableData) (H : List Entry) (e : Entry) → AreOfTableSeats table.seats H → 1 ≤ e.seat →
     e.seat ≤ table.seats →
-    length H < table.capacity → IsLegal table.start (H ++ e ∷ []) → IsHistoryOf table (H ++ e ∷ [])
+    length H < table.capacity → IsLegal table.start (H ++ e ∷ []) → IsHistoryOfTable table (H ++ e ∷ [])
 history_more table H e seated least most room legal = record {
   legal = legal;
   few = omega (arith, length_push H e);
@@ -40,7 +40,7 @@ history_more table H e seated least most room legal = record {
 }
 
 pub kept_more : {table : TableData} {x y : SeatView} {told : List (ℕ × Entry)} {look next : Option LookData}
-    (H : List Entry) (e : Entry) → IsSeatState table x told look → IsHistoryOf table (H ++ e ∷ []) →
+    (H : List Entry) (e : Entry) → IsSeatState table x told look → IsHistoryOfTable table (H ++ e ∷ []) →
     entries_of x.number H ≡ x.mine → e.seat ≡ x.number → IsKeptLook table.start (x.mine ++ (length H, e) ∷ []) next →
     y.number ≡ x.number → y.mine ≡ x.mine ++ (length H, e) ∷ [] → y.told ≡ x.told → y.prefix ≡ H ++ e ∷ [] →
     y.met ≡ H ++ e ∷ [] → IsSeatState table y told next
@@ -56,7 +56,7 @@ kept_more {table} {x} {y} {told} {look} {next} H e seated found held own last nu
 }
 
 pub answered : {table : TableData} {H : List Entry} {x : SeatView} (e : Entry) (y : SeatView) →
-    Replies table.start H e.request e.reply → IsHistoryOf table (H ++ e ∷ []) → Holds H x → e.seat ≡ x.number →
+    Replies table.start H e.request e.reply → IsHistoryOfTable table (H ++ e ∷ []) → Holds H x → e.seat ≡ x.number →
     y.number ≡ x.number →
     y.mine ≡ x.mine ++ (length H, e) ∷ [] → y.told ≡ x.told → y.prefix ≡ H ++ e ∷ [] → y.met ≡ H ++ e ∷ [] →
     IsAnsweredAfter table e.request (entering H (length H, e) x y)
@@ -107,16 +107,16 @@ told_of {table} {H} {request} {r} {s} {m} look t answered stands number mine tol
 
 pub settled : (table : TableData) (H : List Entry) (look : ℕ × Entry) (x : LookData) (f : Finding) (r : ℕ × Entry)
     (s m t : SeatView) →
-    IsAnsweredAfter table (asked_for x.number f) (entering H r s m) → IsLookOf look x →
+    IsAnsweredAfter table (request_for_finding x.number f) (entering H r s m) → IsLookOf look x →
     slice_get H look.0 ≡ Some look.1 →
     KeepsFinding f r.1.reply →
     t.number ≡ m.number → t.mine ≡ m.mine → t.told ≡ m.told ++ look ∷ [] → t.prefix ≡ m.prefix →
     t.met ≡ m.met →
     IsSettledAfter table look f (entering H r s t)
 settled table H look x f r s m t answered of stands kept number mine told prefix met =
-    let replies : Replies table.start H (asked_for look.0 f) r.1.reply =
-    subst (λ i. Replies table.start H (asked_for i f) r.1.reply) of.number answered.reply in
-    let answered_on = subst (λ i. IsAnsweredAfter table (asked_for i f) (entering H r s m)) of.number answered in
+    let replies : Replies table.start H (request_for_finding look.0 f) r.1.reply =
+    subst (λ i. Replies table.start H (request_for_finding i f) r.1.reply) of.number answered.reply in
+    let answered_on = subst (λ i. IsAnsweredAfter table (request_for_finding i f) (entering H r s m)) of.number answered in
     record {
       entered = told_of look t answered_on stands number mine told prefix met;
       stands = stands;
@@ -128,14 +128,14 @@ settled table H look x f r s m t answered of stands kept number mine told prefix
 pub staled : (table : TableData) (H : List Entry) (look : ℕ × Entry) (x : LookData) (asks : Question)
     (game : GameState) (r : ℕ × Entry)
     (s m t : SeatView) →
-    IsAnsweredAfter table (asked_on x.number asks) (entering H r s m) → IsLookOf look x →
+    IsAnsweredAfter table (request_for_question x.number asks) (entering H r s m) → IsLookOf look x →
     slice_get H look.0 ≡ Some look.1 →
     LeadsTo table.start H game → IsLookAt table.start H x → x.gifts ≢ game.gifts → r.1.reply ≡ Stale game.gifts →
     t.number ≡ m.number → t.mine ≡ m.mine → t.told ≡ m.told ++ look ∷ [] → t.prefix ≡ m.prefix →
     t.met ≡ m.met →
     IsStaleAfter table look asks (entering H r s t)
 staled table H look x asks game r s m t answered of stands leads at other reply number mine told prefix met =
-    let answered_on = subst (λ i. IsAnsweredAfter table (asked_on i asks) (entering H r s m)) of.number answered in
+    let answered_on = subst (λ i. IsAnsweredAfter table (request_for_question i asks) (entering H r s m)) of.number answered in
     record {
       entered = told_of look t answered_on stands number mine told prefix met;
       stands = stands;
@@ -144,8 +144,8 @@ staled table H look x asks game r s m t answered of stands leads at other reply 
     }
 
 pub not_stale : {table : TableData} {H : List Entry} {look : ℕ × Entry} {x : LookData} {game : GameState} {s t : SeatView} →
-    IsHistoryOf table H → IsReady table.capacity H s → slice_get H look.0 ≡ Some look.1 → IsLookOf look x →
-    IsLookAt table.start H x → LeadsTo table.start H game → game.gifts ≡ x.gifts → Meets H s t →
+    IsHistoryOfTable table H → IsReady table.capacity H s → slice_get H look.0 ≡ Some look.1 → IsLookOf look x →
+    IsLookAt table.start H x → LeadsTo table.start H game → game.gifts ≡ x.gifts → SeatMeetsHistory H s t →
     IsNotStaleAfter table look H s t
 not_stale {H = H} history ready stands of at leads same met = record {
   history = history;
@@ -163,7 +163,7 @@ not_stale {H = H} history ready stands of at leads same met = record {
 }
 
 pub settling_refused : (table : TableData) (p q : Written) (i : ℕ) (x : SeatView) (f : Fault) →
-    IsAdmissible p.entries x → i < length p.entries → RefusesStep table p q x f → RefusesSettling table p q i x f
+    IsAdmissibleSeat p.entries x → i < length p.entries → RefusesStepAtTable table p q x f → RefusesSettling table p q i x f
 settling_refused table p q i x OutOfMemory admissible read refused = refused
 settling_refused table p q i x Full admissible read refused = refused
 settling_refused table p q i x Log admissible read (room, refused) = (

@@ -1,17 +1,17 @@
 -- How a call is answered at a table.
---   Entering                == a history, the receipt of the entry that comes after it, and the seat
---                              that makes the entry, before and after
---   entering H r x y        == of these
---   history_after e         == the history with the entry at its end
---   IsEnteredAfter table request known e == the request is so entered: the history holds what the
---                              seat knew before, and with the entry what it knows after. It was told
---                              of the entries known. The one history is the history with the entry,
---                              whose place is the last
---   IsAnsweredAfter table request e == the call is so entered, and the seat is told of nothing more
---   IsAnswered table request r x y  == it is so answered after some history
+--   Entering                             == a history, the receipt of the entry that comes after it, and the
+--                                           seat that makes the entry, before and after
+--   entering H r x y                     == of these
+--   table_history_after e                == the history with the entry at its end
+--   IsEnteredAfter table request known e == the request is so entered: the history holds what the seat knew
+--                                           before, and with the entry what it knows after. It was told of
+--                                           the entries known. The one history is the history with the entry,
+--                                           whose place is the last
+--   IsAnsweredAfter table request e      == the call is so entered, and the seat is told of nothing more
+--   IsAnswered table request r x y       == it is so answered after some history
 use Rattle.std.specs.Prelude.{◌≡◌, ℕ, List, [], ◌∷◌, ◌++◌, length}
 use Rattle.dg_table.specs.Common.{Replies, Entry, Request, TableData}
-use Rattle.dg_table.specs.Histories.{IsHistoryOf}
+use Rattle.dg_table.specs.Histories.{IsHistoryOfTable}
 use Rattle.dg_table.specs.Seats.{SeatView, Holds}
 
 pub record Entering : Type 0 where
@@ -23,8 +23,8 @@ pub record Entering : Type 0 where
 abbrev pub entering : List Entry → ℕ × Entry → SeatView → SeatView → Entering
 entering H r x y = record { history = H; receipt = r; before = x; after = y }
 
-abbrev pub history_after : Entering → List Entry
-history_after e = e.history ++ e.receipt.1 ∷ []
+abbrev pub table_history_after : Entering → List Entry
+table_history_after e = e.history ++ e.receipt.1 ∷ []
 
 pub record IsEnteredAfter (table : TableData) (request : Request) (known : List (ℕ × Entry))
     (e : Entering) : Type 0 where
@@ -33,13 +33,13 @@ pub record IsEnteredAfter (table : TableData) (request : Request) (known : List 
   pub request' : e.receipt.1.request ≡ request
   pub reply : Replies table.start e.history request e.receipt.1.reply
   pub before : Holds e.history e.before
-  pub history : IsHistoryOf table (history_after e)
-  pub holds : Holds (history_after e) e.after
+  pub history : IsHistoryOfTable table (table_history_after e)
+  pub holds : Holds (table_history_after e) e.after
   pub number : e.after.number ≡ e.before.number
   pub mine : e.after.mine ≡ e.before.mine ++ e.receipt ∷ []
   pub told : e.after.told ≡ known
-  pub prefix : e.after.prefix ≡ history_after e
-  pub met : e.after.met ≡ history_after e
+  pub prefix : e.after.prefix ≡ table_history_after e
+  pub met : e.after.met ≡ table_history_after e
 
 abbrev pub IsAnsweredAfter : TableData → Request → Entering → Type 0
 IsAnsweredAfter table request e = IsEnteredAfter table request e.before.told e

@@ -4,8 +4,8 @@ pub use Rattle.dg_chips.specs.Vector.{Vector, at}
 pub use Rattle.dg_chips.specs.declared.moves.Move.{Move}
 pub use Rattle.dg_rules.specs.History.{gifts_in, position_after}
 pub use Rattle.dg_rules.specs.Legal.{IsLegal, IsSeat}
-pub use Rattle.dg_rules.specs.Look.{KeepsFinding, asked_for, asked_on, degree_found}
-pub use Rattle.dg_rules.specs.Position.{Position, Shows}
+pub use Rattle.dg_rules.specs.Look.{KeepsFinding, request_for_finding, request_for_question, degree_of_finding}
+pub use Rattle.dg_rules.specs.Position.{Position, ShowsPosition}
 pub use Rattle.dg_rules.specs.Replies.{Replies}
 pub use Rattle.dg_rules.specs.Requests.{request_for}
 pub use Rattle.dg_rules.specs.State.{LeadsTo, GameState}
@@ -26,5 +26,5 @@ pub use Rattle.dg_log.specs.Written.{Written}
 pub use Rattle.dg_log.specs.declared.name.Name.{Ghosts}
 pub use Rattle.dg_theory.specs.Firing.{FiresTo}
 pub use Rattle.dg_theory.specs.Multigraph.{Multigraph}
-pub use Rattle.dg_verdict.specs.RankTests.{IsRankTest}
+pub use Rattle.dg_verdict.specs.RankTests.{IsRightRankVerdict}
 pub use Rattle.dg_verdict.specs.Right.{IsRight}

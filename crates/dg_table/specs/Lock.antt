@@ -1,25 +1,23 @@
 -- What the lock holds.
---   AreSeatCounts counts H        == at the place of each seat, from 0, is the number of its entries
---                                    in H
---   IsUnderLock o n H game counts == the game and the counts are those of the legal history H, whose
---                                    entries are of the seats 1 to n
---   IsReady cap H x               == the history H has room for an entry of the seat x, which is
---                                    admissible, and holds what it knows
+--   AreSeatCounts counts H        == at the place of each seat, from 0, is the number of its entries in H
+--   IsUnderLock o n H game counts == the game and the counts are those of the legal history H, whose entries
+--                                    are of the seats 1 to n
+--   IsReady cap H x               == the history H has room for an entry of the seat x, which is admissible,
+--                                    and holds what it knows
 --   IsKeptLook o ps look          == the look that is kept is the last of the entries ps, and has the
 --                                    vertices of the start o
 --   seat_view x                   == what a contract sees of a seat, by its fields x
---   IsSeatState table x d look     == what the seat x keeps fits together: the history that it found
---                                    is one of the table, with the seat's entries as its own; so is
---                                    the history that it has met, which begins with that; the
---                                    receipt set d is of the entries that it was told of, and look
---                                    is its last look
+--   IsSeatState table x d look    == what the seat x keeps fits together: the history that it found is one of
+--                                    the table, with the seat's entries as its own; so is the history that it
+--                                    has met, which begins with that; the receipt set d is of the entries
+--                                    that it was told of, and look is its last look
 use Rattle.std.specs.Prelude.{◌≡◌, ℕ, ◌+◌, ◌<◌, ◌≤◌, ◌&&◌, nat_lt, List, length, Option, IfSome}
 use Rattle.std.specs.List.{slice_index}
 use Rattle.std.specs.Vec.{vec_len, vec_capacity}
 use Rattle.dg_table.specs.Common.{StartData, IsSeat, IsLegal, GameState, LeadsTo, Entry, MAX_SEATS, MAX_ENTRIES, LookData, IsPrefixOf, TableData}
-use Rattle.dg_table.specs.Histories.{IsHistoryOf}
+use Rattle.dg_table.specs.Histories.{IsHistoryOfTable}
 use Rattle.dg_table.specs.Looks.{KeptLookHasVertices, IsLastLook}
-use Rattle.dg_table.specs.Seats.{SeatView, Holds, IsAdmissible, AreOfTableSeats, entries_of}
+use Rattle.dg_table.specs.Seats.{SeatView, Holds, IsAdmissibleSeat, AreOfTableSeats, entries_of}
 use Rattle.dg_table.specs.declared.seat.Seat.TheInside.{Inside}
 
 abbrev pub AreSeatCounts : List ℕ → List Entry → Type 0
@@ -39,7 +37,7 @@ pub record IsReady (cap : ℕ) (H : List Entry) (x : SeatView) : Type 0 where
   pub room : length H < cap
   pub limit : cap ≤ MAX_ENTRIES
   pub seat : IsSeat x.number
-  pub admissible : IsAdmissible H x
+  pub admissible : IsAdmissibleSeat H x
   pub holds : Holds H x
 
 pub record IsKeptLook (o : StartData) (ps : List (ℕ × Entry)) (look : Option LookData) : Type 0 where
@@ -61,9 +59,9 @@ pub record IsSeatState (table : TableData) (x : SeatView) (d : List (ℕ × Entr
     (look : Option LookData) : Type 0 where
   pub least : 1 ≤ x.number
   pub most : x.number ≤ table.seats
-  pub found : IsHistoryOf table x.prefix
+  pub found : IsHistoryOfTable table x.prefix
   pub own : entries_of x.number x.prefix ≡ x.mine
-  pub met : IsHistoryOf table x.met
+  pub met : IsHistoryOfTable table x.met
   pub since : IsPrefixOf x.prefix x.met
   pub told_said : d ≡ x.told
   pub look_kept : IsKeptLook table.start x.mine look

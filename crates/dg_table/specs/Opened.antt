@@ -1,18 +1,18 @@
 -- Opening a table.
---   MayHaveSeats n         == a table may have n seats
+--   TableMayHaveSeats n    == a table may have n seats
 --   AreFresh n xs          == xs are the seats 1 to n, in order, which know of no entry
---   RefusesOpening n fault   == a table with n seats is refused with the fault
+--   RefusesOpening n fault == a table with n seats is refused with the fault
 use Rattle.std.specs.Prelude.{◌≡◌, ℕ, ◌+◌, ◌≤◌, List, [], length, slice_get, Some}
 use Rattle.dg_table.specs.Common.{MAX_SEATS}
 use Rattle.dg_table.specs.Seats.{SeatView}
 use Rattle.dg_table.specs.declared.fault.TableFault.{TableFault}
 use Rattle.dg_table.specs.declared.fault.TableFault.TheVariants.{Seats, OutOfMemory}
 
-abbrev pub MayHaveSeats : ℕ → Type 0
-MayHaveSeats n = (1 ≤ n) × (n ≤ MAX_SEATS)
+abbrev pub TableMayHaveSeats : ℕ → Type 0
+TableMayHaveSeats n = (1 ≤ n) × (n ≤ MAX_SEATS)
 
 pub record AreFresh (n : ℕ) (xs : List SeatView) : Type 0 where
-  pub seats : MayHaveSeats n
+  pub seats : TableMayHaveSeats n
   pub count : length xs ≡ n
   pub number : (i : ℕ) (x : SeatView) → slice_get xs i ≡ Some x → x.number ≡ i + 1
   pub mine : (i : ℕ) (x : SeatView) → slice_get xs i ≡ Some x → x.mine ≡ []
@@ -21,5 +21,5 @@ pub record AreFresh (n : ℕ) (xs : List SeatView) : Type 0 where
   pub met : (i : ℕ) (x : SeatView) → slice_get xs i ≡ Some x → x.met ≡ []
 
 abbrev pub RefusesOpening : ℕ → TableFault → Type 0
-RefusesOpening n Seats = ¬ MayHaveSeats n
-RefusesOpening n OutOfMemory = MayHaveSeats n
+RefusesOpening n Seats = ¬ TableMayHaveSeats n
+RefusesOpening n OutOfMemory = TableMayHaveSeats n

@@ -2,21 +2,21 @@
 ghost use Rattle.std.specs.Prelude.{ℕ, List, Some, slice_get, ◌≡◌, ◌<◌, ◌≤◌, ◌↔◌, [], ◌∷◌, ◌++◌, true, false, length, IsTrue, IfOk, IfSome, IfErr, MatchOption, MatchResult, MatchBool, OnErr};
 ghost use Rattle.dg_chips.specs.Starts.{StartData};
 ghost use Rattle.dg_rules.specs.Legal.{IsSeat, IsLegal};
-ghost use Rattle.dg_rules.specs.Look.{IsFoundFor};
+ghost use Rattle.dg_rules.specs.Look.{IsRightFinding};
 ghost use Rattle.dg_rules.specs.Replies.{Replies};
 ghost use Rattle.dg_rules.specs.Requests.{asked};
 ghost use Rattle.dg_rules.specs.State.{LeadsTo};
-ghost use Rattle.dg_log.specs.Written.{blank, with_entry, after_refusal};
+ghost use Rattle.dg_log.specs.Written.{nothing_written, with_entry, written_after_refusal};
 ghost use Rattle.dg_table.specs.Answered.{entering, IsAnsweredAfter};
-ghost use Rattle.dg_table.specs.Closing.{TableHasSeat, IsComplete, AllHeld, AreTotals, IsMissing, SomeKeepsMore, RefusesClose, HaveMet};
-ghost use Rattle.dg_table.specs.Faults.{RefusesStep, RefusesSettling};
+ghost use Rattle.dg_table.specs.Closing.{TableHasSeat, IsComplete, AllHeld, AreAuditTotals, IsMissing, HasInadmissibleSeat, RefusesClose, SeatsHaveMetHistory};
+ghost use Rattle.dg_table.specs.Faults.{RefusesStepAtTable, RefusesSettling};
 ghost use Rattle.dg_table.specs.declared.fault.Fault.TheVariants.{Log as LogFault};
 ghost use Rattle.dg_rules.specs.declared.entry.Entry.{Entry as EntryData};
-ghost use Rattle.dg_table.specs.Histories.{IsHistoryOf};
+ghost use Rattle.dg_table.specs.Histories.{IsHistoryOfTable};
 ghost use Rattle.dg_table.specs.Lock.{IsReady, IsKeptLook};
 ghost use Rattle.dg_table.specs.Looks.{IsLookOf};
-ghost use Rattle.dg_table.specs.Opened.{MayHaveSeats};
-ghost use Rattle.dg_table.specs.Seats.{SeatView, Holds, IsAdmissible, Meets};
+ghost use Rattle.dg_table.specs.Opened.{TableMayHaveSeats};
+ghost use Rattle.dg_table.specs.Seats.{SeatView, Holds, IsAdmissibleSeat, SeatMeetsHistory};
 ghost use Rattle.dg_table.specs.Settled.{IsSettledAfter, IsStaleAfter, IsNotStaleAfter};
 ghost use Rattle.dg_table.specs.Turns.{MayBeAsked, asking_at_table, IsTurnAfter, IsAskedToEnter};
 
@@ -55,11 +55,11 @@ impl<N: Name> Model for Held<N> {
 impl<N: Name> Held<N> {
     /// What the lock of a table holds before its first entry.
     pub(crate) fn new(pen: Pen<N>, start: &Start, seats: u8) -> Held<N>
-        requires pen { pen ≡ blank }
+        requires pen { pen ≡ nothing_written }
         requires start { start.now ≡ N.table.start }
         requires seats { seats ≡ N.table.seats }
-        requires count { MayHaveSeats seats }
-        ensures { result ≡ blank }
+        requires count { TableMayHaveSeats seats }
+        ensures { result ≡ nothing_written }
     {
         Held {
             game: Game::new(start),
@@ -72,7 +72,7 @@ impl<N: Name> Held<N> {
     /// Whether the history has as many entries as the one that the seat has met, or more, an entry of each number that it
     /// was told of, and as many entries of the seat as it keeps. Then the history holds what the seat knows.
     pub fn admits(&self, seat: &Seat<N>) -> bool
-        ensures admits { IsTrue result ↔ IsAdmissible self.now.entries seat.now }
+        ensures admits { IsTrue result ↔ IsAdmissibleSeat self.now.entries seat.now }
         ensures holds { IsTrue result → Holds self.now.entries seat.now }
         ensures number { IsSeat seat.now.number }
     {
@@ -91,15 +91,15 @@ impl<N: Name> Held<N> {
 
     /// Tells the seat of the history as it stands.
     fn meet(&self, seat: &mut Seat<N>)
-        ensures { Meets self.now.entries seat.old seat.new }
+        ensures { SeatMeetsHistory self.now.entries seat.old seat.new }
     {
         let _len = self.pen.len();
         seat.meet(&self.pen.prefix());
     }
 
     /// Tells each of these seats of the history as it stands.
-    pub(crate) fn meet_all(&self, seats: &mut [Seat<N>])
-        ensures { HaveMet self.now.entries seats.old seats.new }
+    pub(crate) fn meet_all_seats(&self, seats: &mut [Seat<N>])
+        ensures { SeatsHaveMetHistory self.now.entries seats.old seats.new }
     {
         for seat in seats.iter_mut() {
             self.meet(seat);
@@ -110,9 +110,9 @@ impl<N: Name> Held<N> {
     fn ready(&self, log: &Log<N>, seat: &Seat<N>) -> Result<(), Fault>
         ensures stands { MatchResult result
             (λ _. IsReady N.table.capacity self.now.entries seat.now)
-            (RefusesStep N.table self.now self.now seat.now) }
+            (RefusesStepAtTable N.table self.now self.now seat.now) }
         ensures barred { IfErr result
-            (λ f. f ≡ LogFault → ¬ IsAdmissible self.now.entries seat.now) }
+            (λ f. f ≡ LogFault → ¬ IsAdmissibleSeat self.now.entries seat.now) }
     {
         let len = self.pen.len();
         if len == log.len() {
@@ -146,11 +146,11 @@ impl<N: Name> Held<N> {
             (λ r. IsAnsweredAfter N.table (asked plain) (entering self.old.entries r seat.old seat.new) ×
             (self.new ≡ with_entry self.old r.1)) }
         ensures refused { IfErr result
-            (λ f. (self.new.entries ≡ self.old.entries) × Meets self.old.entries seat.old seat.new ×
-            RefusesStep N.table self.old self.new seat.old f) }
+            (λ f. (self.new.entries ≡ self.old.entries) × SeatMeetsHistory self.old.entries seat.old seat.new ×
+            RefusesStepAtTable N.table self.old self.new seat.old f) }
     {
         match self.ready(log, seat) {
-            Ok(()) => self.answer_ready(log, slot, seat, &plain),
+            Ok(()) => self.answer_ready_seat(log, slot, seat, &plain),
             Err(fault) => {
                 self.meet(seat);
                 Err(fault)
@@ -177,15 +177,15 @@ impl<N: Name> Held<N> {
             (entering self.old.entries r seat.old seat.new) ×
             (self.new ≡ with_entry self.old r.1)) }
         ensures refused { IfErr result
-            (λ f. (self.new.entries ≡ self.old.entries) × Meets self.old.entries seat.old seat.new ×
-            RefusesStep N.table self.old self.new seat.old f) }
+            (λ f. (self.new.entries ≡ self.old.entries) × SeatMeetsHistory self.old.entries seat.old seat.new ×
+            RefusesStepAtTable N.table self.old self.new seat.old f) }
         ensures asked { OnErr result
             (IsAskedToEnter F.FnMut N.table self.old.entries seat.old (asking_at_table choose.old choose.new)) }
     {
         match self.ready(log, seat) {
             Ok(()) => {
                 let chosen = Plain::of(choose(self.game.graph(), self.game.position()));
-                self.answer_ready(log, slot, seat, &chosen)
+                self.answer_ready_seat(log, slot, seat, &chosen)
             }
             Err(fault) => {
                 self.meet(seat);
@@ -195,7 +195,7 @@ impl<N: Name> Held<N> {
     }
 
     /// Answers a call of a seat that is ready, and enters it as the last of the history.
-    fn answer_ready(
+    fn answer_ready_seat(
         &mut self,
         log: &Log<N>,
         slot: Box<Entry>,
@@ -208,11 +208,11 @@ impl<N: Name> Held<N> {
             (λ r. IsAnsweredAfter N.table (asked plain.now) (entering self.old.entries r seat.old seat.new) ×
             (self.new ≡ with_entry self.old r.1)) }
         ensures refused { IfErr result
-            (λ f. (self.new.entries ≡ self.old.entries) × Meets self.old.entries seat.old seat.new ×
-            RefusesStep N.table self.old self.new seat.old f) }
+            (λ f. (self.new.entries ≡ self.old.entries) × SeatMeetsHistory self.old.entries seat.old seat.new ×
+            RefusesStepAtTable N.table self.old self.new seat.old f) }
     {
         let mut slot = slot;
-        self.game.answer_call(seat.number(), plain, &mut *slot);
+        self.game.reply_to_call(seat.number(), plain, &mut *slot);
         self.enter(log, slot, seat)
     }
 
@@ -232,15 +232,15 @@ impl<N: Name> Held<N> {
     ) -> Result<Receipt<N>, Fault>
         requires space { seat.old.space ≡ true }
         requires look { IsLookOf look.now shown.now }
-        requires found { IsFoundFor N.table.start.q shown.now finding.now }
+        requires found { IsRightFinding N.table.start.q shown.now finding.now }
         ensures settled { IfOk result (λ r.
             IsSettledAfter N.table look.now finding.now (entering self.old.entries r seat.old seat.new) ×
             (self.new ≡ with_entry self.old r.1)) }
         ensures refused { IfErr result
-            (λ f. (self.new.entries ≡ self.old.entries) × Meets self.old.entries seat.old seat.new ×
+            (λ f. (self.new.entries ≡ self.old.entries) × SeatMeetsHistory self.old.entries seat.old seat.new ×
             RefusesSettling N.table self.old self.new look.now.0 seat.old f) }
     {
-        match self.ready_on(log, seat, look) {
+        match self.seat_is_ready_on(log, seat, look) {
             Ok(()) => {}
             Err(fault) => {
                 self.meet(seat);
@@ -249,7 +249,7 @@ impl<N: Name> Held<N> {
         }
         let mut slot = slot;
         self.game
-            .answer_finding(seat.number(), shown, finding, &mut *slot);
+            .reply_to_finding(seat.number(), shown, finding, &mut *slot);
         let receipt = self.enter(log, slot, seat)?;
         seat.hear(look);
         Ok(receipt)
@@ -276,10 +276,10 @@ impl<N: Name> Held<N> {
             (λ r. IsStaleAfter N.table taken.now asks.now (entering self.old.entries r seat.old seat.new) ×
             (self.new ≡ with_entry self.old r.1))) }
         ensures refused { IfErr result
-            (λ f. (self.new.entries ≡ self.old.entries) × Meets self.old.entries seat.old seat.new ×
+            (λ f. (self.new.entries ≡ self.old.entries) × SeatMeetsHistory self.old.entries seat.old seat.new ×
             RefusesSettling N.table self.old self.new taken.now.0 seat.old f) }
     {
-        match self.ready_on(log, seat, taken) {
+        match self.seat_is_ready_on(log, seat, taken) {
             Ok(()) => {}
             Err(fault) => {
                 self.meet(seat);
@@ -292,7 +292,7 @@ impl<N: Name> Held<N> {
         }
         let mut slot = slot;
         self.game
-            .answer_stale(seat.number(), shown, asks, &mut *slot);
+            .reply_as_stale(seat.number(), shown, asks, &mut *slot);
         let receipt = self.enter(log, slot, seat)?;
         seat.hear(taken);
         Ok(Some(receipt))
@@ -300,7 +300,7 @@ impl<N: Name> Held<N> {
 
     /// Whether the history has room for an entry of the seat, which knows nothing that the history does not hold, and
     /// has the entry of the receipt; or why not.
-    fn ready_on(&self, log: &Log<N>, seat: &Seat<N>, look: &Receipt<N>) -> Result<(), Fault>
+    fn seat_is_ready_on(&self, log: &Log<N>, seat: &Seat<N>, look: &Receipt<N>) -> Result<(), Fault>
         ensures { MatchResult result
             (λ _. IsReady N.table.capacity self.now.entries seat.now ×
             (slice_get self.now.entries look.now.0 ≡ Some look.now.1))
@@ -334,9 +334,9 @@ impl<N: Name> Held<N> {
         ensures reply { IfOk result (λ r. r.1.reply ≡ slot.value.reply) }
         ensures hears { IfOk result (λ _. seat.new.hears ≡ true) }
         ensures refused { IfErr result
-            (λ f. (self.new ≡ after_refusal self.old) ×
-            Meets self.old.entries seat.old seat.new ×
-            RefusesStep N.table self.old self.new seat.old f) }
+            (λ f. (self.new ≡ written_after_refusal self.old) ×
+            SeatMeetsHistory self.old.entries seat.old seat.new ×
+            RefusesStepAtTable N.table self.old self.new seat.old f) }
     {
         let Ok(receipt) = self.pen.put(log, slot) else {
             self.meet(seat);
@@ -345,7 +345,7 @@ impl<N: Name> Held<N> {
         let place = usize::from(seat.number - 1);
         let entry = log.entry(&receipt);
         keep_seats_look(&mut seat.look, &self.game, entry);
-        self.game.follow(entry);
+        self.game.follow_entry(entry);
         self.counts[place] += 1;
         seat.prefix = self.pen.prefix();
         seat.met = self.pen.prefix();
@@ -359,13 +359,13 @@ impl<N: Name> Held<N> {
         ensures missing { MatchOption result
             (IsComplete N.table.seats seats.now × AllHeld self.now.entries seats.now)
             (RefusesClose self.now.entries N.table.seats seats.now) }
-        ensures history { IsHistoryOf N.table self.now.entries }
+        ensures history { IsHistoryOfTable N.table self.now.entries }
     {
         let _entries = self.pen.len();
         if let Some(number) = first_missing(seats, self.seats) {
             return Some(number);
         }
-        if self.admits_all(seats) {
+        if self.admits_all_seats(seats) {
             None
         } else {
             Some(0)
@@ -373,10 +373,10 @@ impl<N: Name> Held<N> {
     }
 
     /// Whether each of these seats is admitted.
-    fn admits_all(&self, seats: &[Seat<N>]) -> bool
+    fn admits_all_seats(&self, seats: &[Seat<N>]) -> bool
         ensures { MatchBool result
             (AllHeld self.now.entries seats.now)
-            (SomeKeepsMore self.now.entries seats.now) }
+            (HasInadmissibleSeat self.now.entries seats.now) }
     {
         for seat in seats {
             if !self.admits(seat) {
@@ -390,7 +390,7 @@ impl<N: Name> Held<N> {
     pub(crate) fn audit(self, log: Log<N>) -> Audit<N>
         ensures history { result.pen.entries ≡ self.entries }
         ensures totals { (xs : List SeatView) → AllHeld self.entries xs →
-            AreTotals N.table xs result }
+            AreAuditTotals N.table xs result }
     {
         let Held {
             game,

@@ -2,10 +2,10 @@
 ghost use Rattle.std.specs.Prelude.{◌≡◌, ◌-◌, ◌<◌, ◌≤◌, [], ◌∷◌, ◌++◌, length, slice_get, true, None, Some, IfOk, IfSome, MatchBool, MatchOption, MatchResult};
 ghost use Rattle.std.specs.Vec.{vec_capacity, vec_len};
 ghost use Rattle.dg_table.specs.Faults.{StandsFull};
-ghost use Rattle.dg_table.specs.Histories.{HasPrefix, IsHistoryOf};
+ghost use Rattle.dg_table.specs.Histories.{SeatHasPrefix, IsHistoryOfTable};
 ghost use Rattle.dg_table.specs.Looks.{KeptLookHasVertices, IsLastLook};
-ghost use Rattle.dg_table.specs.Opened.{MayHaveSeats, AreFresh};
-ghost use Rattle.dg_table.specs.Seats.{Keeps, Meets};
+ghost use Rattle.dg_table.specs.Opened.{TableMayHaveSeats, AreFresh};
+ghost use Rattle.dg_table.specs.Seats.{Keeps, SeatMeetsHistory};
 
 use dg_log::{Log, Name, Prefix, Receipt, ReceiptSet, Seating};
 use dg_rules::{BLANK, Entry, LookData};
@@ -50,7 +50,7 @@ impl<N: Name> Seat<N> {
         _seating: Seating<N>,
     ) -> Vec<Seat<N>>
         requires count { count ≡ N.table.seats }
-        requires seats { MayHaveSeats count }
+        requires seats { TableMayHaveSeats count }
         requires empty { space.items ≡ [] }
         requires room { count ≤ vec_capacity space }
         ensures { AreFresh count result.items }
@@ -101,7 +101,7 @@ impl<N: Name> Seat<N> {
     /// history of the table, and the seat's entries in it are just those of its own calls.
     pub fn prefix(&self) -> &Prefix<N>
         ensures prefix { result.now ≡ self.now.prefix }
-        ensures found { HasPrefix N.table self.now }
+        ensures found { SeatHasPrefix N.table self.now }
     {
         &self.prefix
     }
@@ -110,7 +110,7 @@ impl<N: Name> Seat<N> {
     /// was told of. It is a history of the table.
     pub fn met(&self) -> &Prefix<N>
         ensures met { result.now ≡ self.now.met }
-        ensures found { HasPrefix N.table self.now }
+        ensures found { SeatHasPrefix N.table self.now }
     {
         &self.met
     }
@@ -118,14 +118,14 @@ impl<N: Name> Seat<N> {
     /// Tells the seat of a history; each later call then comes after all its entries. It takes no memory. The condition is
     /// that it is a history of the table, as what a seat has met is.
     pub fn meet(&mut self, met: &Prefix<N>)
-        requires { IsHistoryOf N.table met.now }
-        ensures { Meets met.now self.old self.new }
+        requires { IsHistoryOfTable N.table met.now }
+        ensures { SeatMeetsHistory met.now self.old self.new }
     {
         self.met = self.met.longer(met);
     }
 
     /// Whether the history that the seat has met has as many entries as there may be.
-    pub(crate) fn has_met_full(&self, log: &Log<N>) -> bool
+    pub(crate) fn seat_has_met_full(&self, log: &Log<N>) -> bool
         ensures { MatchBool result
             (StandsFull N.table self.now.met self.now)
             (length self.now.met < N.table.capacity) }
@@ -204,13 +204,13 @@ impl<N: Name> Seat<N> {
         ensures met { self.new.met ≡ self.old.met }
         ensures space { IfOk result (λ _. self.new.space ≡ true) }
     {
-        reserve_each(&mut self.mine, &mut self.told)?;
+        reserve_for_seat(&mut self.mine, &mut self.told)?;
         blank_entry(alloc)
     }
 }
 
 /// Makes space for one more receipt in each list.
-fn reserve_each<N: Name>(
+fn reserve_for_seat<N: Name>(
     mine: &mut Vec<Receipt<N>>,
     told: &mut Vec<Receipt<N>>,
 ) -> Result<(), AllocError>

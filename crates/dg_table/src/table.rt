@@ -1,10 +1,10 @@
 //! The table that seats call.
 ghost use Rattle.std.specs.Prelude.{◌≡◌, ◌≢◌, ◌<◌, length, true, IfOk, IfErr, MatchOption, MatchResult};
-ghost use Rattle.dg_rules.specs.Look.{IsFoundFor};
+ghost use Rattle.dg_rules.specs.Look.{IsRightFinding};
 ghost use Rattle.dg_rules.specs.Requests.{asked};
 ghost use Rattle.dg_log.specs.Tables.{table_data_of};
 ghost use Rattle.dg_table.specs.Answered.{IsAnswered};
-ghost use Rattle.dg_table.specs.Closing.{IsClosed, AreTotals, IsCloseRefused};
+ghost use Rattle.dg_table.specs.Closing.{IsClosed, AreAuditTotals, IsCloseRefused};
 ghost use Rattle.dg_table.specs.Faults.{RefusesCall};
 ghost use Rattle.dg_table.specs.Looks.{IsLookOf};
 ghost use Rattle.dg_table.specs.Opened.{AreFresh, RefusesOpening};
@@ -104,7 +104,7 @@ impl<N: Name> Table<N> {
         let Ok(slot) = seat.room(alloc) else {
             return Err(Fault::OutOfMemory);
         };
-        if seat.has_met_full(&self.log) {
+        if seat.seat_has_met_full(&self.log) {
             return Err(Fault::Full);
         }
         Ok(slot)
@@ -172,7 +172,7 @@ impl<N: Name> Table<N> {
         finding: &Finding,
     ) -> Result<Receipt<N>, Fault>
         requires look { IsLookOf look.now shown.now }
-        requires found { IsFoundFor N.table.start.q shown.now finding.now }
+        requires found { IsRightFinding N.table.start.q shown.now finding.now }
         ensures settled { IfOk result
             (λ r. IsSettled N.table look.now finding.now r seat.old seat.new) }
         ensures fault { IfErr result (λ f. Keeps seat.old seat.new ×
@@ -237,7 +237,7 @@ impl<N: Name> Table<N> {
     /// here (`Held::missing` does), so none says why a table with all its seats is refused.
     pub fn close(self, seats: Vec<Seat<N>>) -> Result<Audit<N>, CloseFault<N>>
         ensures { MatchResult result
-            (λ a. IsClosed N.table seats.items a.pen.entries × AreTotals N.table seats.items a)
+            (λ a. IsClosed N.table seats.items a.pen.entries × AreAuditTotals N.table seats.items a)
             (λ f. IsCloseRefused N.table seats.items f.seats.items f.missing) }
     {
         let Table {
@@ -250,7 +250,7 @@ impl<N: Name> Table<N> {
         match held.missing(&seats) {
             Some(missing) => {
                 let mut seats = seats;
-                held.meet_all(&mut seats);
+                held.meet_all_seats(&mut seats);
                 let held = Mutex::new(held);
                 Err(CloseFault {
                     missing,

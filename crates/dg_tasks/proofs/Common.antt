@@ -29,9 +29,9 @@ pub use Rattle.dg_lines.specs.Steps.{IsStepLine}
 pub use Rattle.dg_lines.specs.Texts.{HasNames, entry_text, text_of}
 pub use Rattle.dg_lines.specs.declared.lines.Lines.{Lines}
 pub use Rattle.dg_rank.specs.Ranks.{RefusesBothRanks, IsRankInLimits}
-pub use Rattle.dg_game.specs.Rehearsal.{IsPlaying, PlaysOn, StopsPlay}
-pub use Rattle.dg_game.specs.Schedule.{IsAsked, IsEntryOf, IsKept}
-pub use Rattle.dg_game.specs.ScheduleFaults.{IsFirstFault}
+pub use Rattle.dg_game.specs.Rehearsal.{IsPlayingSchedule, PlaysOn, StopsPlay}
+pub use Rattle.dg_game.specs.Schedule.{IsAskedInSchedule, IsEntryOfSchedule, IsKept}
+pub use Rattle.dg_game.specs.ScheduleFaults.{IsFirstRehearsalFault}
 pub use Rattle.dg_game.specs.declared.schedule.Rehearsal.{Rehearsal}
 pub use Rattle.dg_game.specs.declared.schedule.RehearseFault.{RehearseFault}
 pub use Rattle.dg_game.specs.declared.schedule.RehearseFault.TheVariants.{Seat}
@@ -39,10 +39,10 @@ pub use Rattle.dg_strategy.proofs.Greedily.{IsUnderWay, begun, legal_turn, settl
 pub use Rattle.dg_strategy.proofs.OneGame.{greedy_game_is_one}
 pub use Rattle.dg_strategy.specs.Greedy.{IsGreedyTurn}
 pub use Rattle.dg_tasks.specs.Games.{IsGreedyAnswer, turns_text}
-pub use Rattle.dg_tasks.specs.OneText.{GreedyHasOneText, LegalAnswersAreOneText, RehearsalsHaveOneText, printed_requests}
+pub use Rattle.dg_tasks.specs.OneText.{GreedyHasOneText, LegalAnswersAreOneText, RehearsalsHaveOneText, requests_in_task}
 pub use Rattle.dg_tasks.specs.RankTests.{IsRiemannRoch, riemann_roch_text}
-pub use Rattle.dg_tasks.specs.Refusals.{IsFaultOf}
-pub use Rattle.dg_tasks.specs.Rehearsals.{IsPlayed, IsPrinted, StopsRehearsalTask}
+pub use Rattle.dg_tasks.specs.Refusals.{IsTaskFaultOfSteps}
+pub use Rattle.dg_tasks.specs.Rehearsals.{IsPlayedInTask, IsPrintedInTask, StopsRehearsalTask}
 pub use Rattle.dg_theory.proofs.RankNumbers.{riemann_roch}
 pub use Rattle.dg_theory.specs.Rank.{canonical, less}
 pub use Rattle.std.proofs.Common.{Bool, List, None, Option, Some, [], ap, append-nil, append_assoc, arith, codes, cond, false, length, length-append, not, of_z, refl, rules, slice_get, subst, suc, sym, take, to_z, true, w64, zero, ℕ, ⊎_elim, ◌++◌, ◌+◌, ◌<◌, ◌==◌, ◌∙◌, ◌∷◌, ◌≡◌, ◌≤◌}

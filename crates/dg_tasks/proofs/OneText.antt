@@ -10,7 +10,7 @@
 --   asked_once        so a step makes one request
 --   rehearsals_have_one_text   histories of the same steps have one text
 --   greedy_has_one_text   what is printed of a greedy game
-use Rattle.dg_tasks.proofs.Common.{◌≡◌, ℕ, zero, suc, ◌+◌, ◌<◌, ◌≤◌, Bool, List, [], ◌∷◌, ◌++◌, length, take, slice_get, Some, arith, refl, sym, ap, subst, ◌∙◌, append_assoc, ⊎_elim, codes, decimal, slice_get_within, cases_lt, StartData, IsStart, position_after, gifts_in, gifts_by_reply, IsLegal, Position, Replies, RepliesAt, after_reply, Entry, Request, Reply, Command, Call, Commit, Step, graphs_hold, legal_part, right_here, one_more_entry, vertices_stay, IsKept, IsAsked, IsEntryOf, greedy_game_is_one, entry_text, turns_text, printed_requests, LegalAnswersAreOneText, RehearsalsHaveOneText, GreedyHasOneText}
+use Rattle.dg_tasks.proofs.Common.{◌≡◌, ℕ, zero, suc, ◌+◌, ◌<◌, ◌≤◌, Bool, List, [], ◌∷◌, ◌++◌, length, take, slice_get, Some, arith, refl, sym, ap, subst, ◌∙◌, append_assoc, ⊎_elim, codes, decimal, slice_get_within, cases_lt, StartData, IsStart, position_after, gifts_in, gifts_by_reply, IsLegal, Position, Replies, RepliesAt, after_reply, Entry, Request, Reply, Command, Call, Commit, Step, graphs_hold, legal_part, right_here, one_more_entry, vertices_stay, IsKept, IsAskedInSchedule, IsEntryOfSchedule, greedy_game_is_one, entry_text, turns_text, requests_in_task, LegalAnswersAreOneText, RehearsalsHaveOneText, GreedyHasOneText}
 use Rattle.dg_rules.specs.declared.entry.Request.TheVariants as request
 use Rattle.dg_rules.specs.declared.step.Command.TheVariants.{Rank}
 use Rattle.dg_lines.specs.Texts.{history_text}
@@ -55,7 +55,7 @@ module _ (o : StartData) (start : IsStart o) (names : List (List ℕ)) (fit : le
       (subst (λ (p : Position). RepliesAt p o.q (λ i. gifts_in (take i L)) (gifts_in L) r b) (sym same) right'))
 
   seen_on : (K L H M : List Entry) (n : ℕ) → position_after o K ≡ position_after o L → counts K ≡ counts L →
-      IsLegal o (K ++ H) → IsLegal o (L ++ M) → printed_requests H ≡ printed_requests M →
+      IsLegal o (K ++ H) → IsLegal o (L ++ M) → requests_in_task H ≡ requests_in_task M →
       history_text names n H ≡ history_text names n M
   unfolding history_text
   seen_on K L [] [] n same counted legal legal' asks = refl
@@ -104,12 +104,12 @@ legal_have_one_text o names H K start fit legal legal' asks =
 
 asked_alike : (H K : List Entry) → length H ≡ length K →
     ((i : ℕ) (d e : Entry) → slice_get H i ≡ Some d → slice_get K i ≡ Some e → d.request ≡ e.request) →
-    printed_requests H ≡ printed_requests K
+    requests_in_task H ≡ requests_in_task K
 asked_alike [] [] count same = refl
 asked_alike [] (e ∷ K) count same = absurd (omega (arith, count))
 asked_alike (d ∷ H) [] count same = absurd (omega (arith, count))
 asked_alike (d ∷ H) (e ∷ K) count same =
-    ap (λ (r : Request). r ∷ printed_requests H) (same 0 d e refl refl)
+    ap (λ (r : Request). r ∷ requests_in_task H) (same 0 d e refl refl)
     ∙ ap (λ (rs : List Request). e.request ∷ rs)
     (asked_alike H K (omega (arith, count)) (λ i x y here there. same (suc i) x y here there))
 
@@ -126,8 +126,8 @@ kept_once steps seat j i k first second = ⊎_elim
     (cases_lt k i))
     (cases_lt i k)
 
-asked_once : (steps : List Step) (seat j : ℕ) (c : Command) (r s : Request) → IsAsked steps seat j c r →
-    IsAsked steps seat j c s → r ≡ s
+asked_once : (steps : List Step) (seat j : ℕ) (c : Command) (r s : Request) → IsAskedInSchedule steps seat j c r →
+    IsAskedInSchedule steps seat j c s → r ≡ s
 asked_once steps seat j (Call p) r s first second = first ∙ sym second
 asked_once steps seat j Commit r s (i, kept, is) (k, kept', is') =
     is ∙ ap request.Judge (kept_once steps seat j i k kept kept') ∙ sym is'
@@ -145,8 +145,8 @@ rehearsals_have_one_text o names steps H K start fit first second =
     (asked_alike H K (first.length' ∙ sym second.length') (λ i d e here there.
     let inside : i < length steps = omega (arith, slice_get_within H i d here, first.length') in
     let (step, at) = step_at steps i inside in
-    let one : IsEntryOf steps i step d = first.entries i step d at here in
-    let other : IsEntryOf steps i step e = second.entries i step e at there in
+    let one : IsEntryOfSchedule steps i step d = first.entries i step d at here in
+    let other : IsEntryOfSchedule steps i step e = second.entries i step e at there in
     asked_once steps step.seat i step.command d.request e.request one.request other.request))
 
 pub greedy_has_one_text : GreedyHasOneText

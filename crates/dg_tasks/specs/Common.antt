@@ -15,21 +15,21 @@ pub use Rattle.dg_invocation.specs.Files.{file_of}
 pub use Rattle.dg_invocation.specs.declared.invocation.Task.{Task}
 pub use Rattle.dg_invocation.specs.declared.invocation.Task.TheVariants.{Greedy, Judge, Rehearse, RiemannRoch}
 pub use Rattle.dg_lines.specs.Cuts.{lines}
-pub use Rattle.dg_lines.specs.Judgements.{IsJudgement}
-pub use Rattle.dg_lines.specs.Schedules.{AreStepsOf, IsFirstRefused}
+pub use Rattle.dg_lines.specs.Judgements.{IsJudgementText}
+pub use Rattle.dg_lines.specs.Schedules.{AreStepsOf, IsFirstRefusedLine}
 pub use Rattle.dg_lines.specs.Texts.{history_text, text_of}
 pub use Rattle.dg_rank.specs.Limits.{ArePastTrialLimits}
-pub use Rattle.dg_rank.specs.Ranks.{RefusesBothRanks, IsRankInLimits, IsWithin}
-pub use Rattle.dg_game.specs.Rehearsal.{IsPlaying}
+pub use Rattle.dg_rank.specs.Ranks.{RefusesBothRanks, IsRankInLimits, IsRankTestWithinLimits}
+pub use Rattle.dg_game.specs.Rehearsal.{IsPlayingSchedule}
 pub use Rattle.dg_game.specs.Schedule.{IsRehearsal}
-pub use Rattle.dg_game.specs.ScheduleFaults.{IsFirstFault}
+pub use Rattle.dg_game.specs.ScheduleFaults.{IsFirstRehearsalFault}
 pub use Rattle.dg_game.specs.declared.schedule.Rehearsal.{Rehearsal}
 pub use Rattle.dg_game.specs.declared.schedule.RehearseFault.{RehearseFault}
 pub use Rattle.dg_strategy.specs.Greedy.{IsGreedyGame}
-pub use Rattle.dg_system.specs.Held.{Held, MayHold, RefusesHeld}
+pub use Rattle.dg_system.specs.Held.{Held, MayHoldSourceBytes, RefusesSource}
 pub use Rattle.dg_system.specs.declared.shortage.Shortage.TheVariants.{OutOfMemory, Spawn}
 pub use Rattle.dg_theory.specs.Firing.{degree}
 pub use Rattle.dg_theory.specs.Multigraph.{genus}
 pub use Rattle.dg_theory.specs.Rank.{canonical, less}
-pub use Rattle.dg_verdict.specs.RankTests.{IsRankTest}
+pub use Rattle.dg_verdict.specs.RankTests.{IsRightRankVerdict}
 pub use Rattle.dg_verdict.specs.declared.rank_verdict.RankVerdict.{RankVerdict}

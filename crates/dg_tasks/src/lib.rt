@@ -15,5 +15,5 @@ pub use laws::rehearsals_have_one_text;
 pub use printed::judgement;
 pub use ranks::{rank_alone, rank_answer, riemann_roch};
 pub use rehearsing::rehearsal;
-pub use table_source::table_in;
-pub use tasks::{answer, answer_alone};
+pub use table_source::table_of_task;
+pub use tasks::{answer, answer_task_alone};

@@ -1,6 +1,6 @@
 //! Tables that are judged, and replies that are printed.
 ghost use Rattle.std.specs.Prelude.{IfOk, IfErr, ◌≡◌, ◌++◌, codes};
-ghost use Rattle.dg_lines.specs.Judgements.{IsJudgement, judgement_text};
+ghost use Rattle.dg_lines.specs.Judgements.{IsJudgementText, judgement_text};
 ghost use Rattle.dg_lines.specs.Texts.{HasNames, text_of};
 
 use crate::fault::TaskFault;
@@ -18,7 +18,7 @@ use std::alloc::{AllocError, Global};
 /// Refused with `Shortage` at the growth that was refused, and with nothing else.
 pub fn judgement(alloc: Global, table: &TableFile, ordered: bool) -> Result<Vec<u8>, TaskFault>
     ensures judged { IfOk result
-        (λ text. IsJudgement table.now.start table.now.names ordered text.items) }
+        (λ text. IsJudgementText table.now.start table.now.names ordered text.items) }
     ensures refused { IfErr result (λ fault. fault ≡ TaskFault.Shortage Shortage.OutOfMemory) }
 {
     let start = table.start();
@@ -31,7 +31,7 @@ pub fn judgement(alloc: Global, table: &TableFile, ordered: bool) -> Result<Vec<
 }
 
 /// The text of a reply, and a newline.
-pub(crate) fn printed_reply(
+pub(crate) fn reply_of_task(
     alloc: Global,
     reply: &Reply,
     names: &Names,

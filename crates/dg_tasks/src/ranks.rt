@@ -1,12 +1,12 @@
 //! Rank tests that are printed, and both sides of Riemann-Roch.
 ghost use Rattle.std.specs.Prelude.{◌≡◌, ℤ, ◌++◌, codes, IfOk, IfErr, OnOk};
-ghost use Rattle.dg_rank.specs.Ranks.{MayHaveWorkers};
+ghost use Rattle.dg_rank.specs.Ranks.{MayHaveRankWorkers};
 ghost use Rattle.dg_lines.specs.Texts.{HasNames, text_of};
 ghost use Rattle.dg_rules.specs.declared.entry.Reply.TheVariants.{Rank};
-ghost use Rattle.dg_tasks.specs.RankTests.{IsRankAnswer, RefusesRank, answer_line, riemann_roch_text, IsRiemannRoch, RefusesRiemannRoch};
+ghost use Rattle.dg_tasks.specs.RankTests.{IsRankAnswer, RefusesRank, task_answer_line, riemann_roch_text, IsRiemannRoch, RefusesRiemannRoch};
 
 use crate::fault::TaskFault;
-use crate::printed::printed_reply;
+use crate::printed::reply_of_task;
 use dg_chips::{Start, dual};
 use dg_file::TableFile;
 use dg_rank::{OpenGate, RankFault, RankVerdict, both_ranks_in_limits, rank_at_least, rank_with};
@@ -30,7 +30,7 @@ pub fn rank_answer<R: Threads + Wait>(
     k: u32,
     workers: u32,
 ) -> Result<Vec<u8>, TaskFault>
-    requires { MayHaveWorkers workers }
+    requires { MayHaveRankWorkers workers }
     ensures ranked { IfOk result
         (λ text. IsRankAnswer table.now.start k table.now.names text.items) }
     ensures refused { IfErr result (RefusesRank table.now.start.graph.size k workers) }
@@ -41,7 +41,7 @@ pub fn rank_answer<R: Threads + Wait>(
     let start = table.start();
     let (graph, q, divisor) = (start.graph(), start.q(), start.divisor());
     match rank_with(rt, graph, q, divisor, k, workers, &OpenGate) {
-        Ok(verdict) => rank_line(alloc, verdict, table.names()),
+        Ok(verdict) => rank_task_line(alloc, verdict, table.names()),
         Err(RankFault::TooMany) => Err(TaskFault::TooMany),
         Err(RankFault::Workers) => unreachable!(),
         Err(RankFault::OutOfMemory) => unreachable!(),
@@ -58,19 +58,19 @@ pub fn rank_alone(alloc: Global, table: &TableFile, k: u32) -> Result<Vec<u8>, T
     let start = table.start();
     let (graph, q, divisor) = (start.graph(), start.q(), start.divisor());
     match rank_at_least(graph, q, divisor, k) {
-        Ok(verdict) => rank_line(alloc, verdict, table.names()),
+        Ok(verdict) => rank_task_line(alloc, verdict, table.names()),
         Err(_) => Err(TaskFault::TooMany),
     }
 }
 
 /// The line of a rank verdict.
-fn rank_line(alloc: Global, verdict: RankVerdict, names: &Names) -> Result<Vec<u8>, TaskFault>
+fn rank_task_line(alloc: Global, verdict: RankVerdict, names: &Names) -> Result<Vec<u8>, TaskFault>
     requires { HasNames names.now (Rank verdict) }
     ensures printed { IfOk result
         (λ text. text.items ≡ text_of names.now (Rank verdict) ++ codes "\n") }
     ensures refused { IfErr result (λ fault. fault ≡ TaskFault.Shortage Shortage.OutOfMemory) }
 {
-    match printed_reply(alloc, &Reply::Rank(verdict), names) {
+    match reply_of_task(alloc, &Reply::Rank(verdict), names) {
         Ok(text) => Ok(text),
         Err(_) => Err(TaskFault::Shortage(Shortage::OutOfMemory)),
     }
@@ -111,16 +111,16 @@ fn riemann_roch_lines(
     ensures { IfOk result (λ text. text.items ≡ riemann_roch_text start.now rank dual_rank) }
 {
     let mut text = Vec::new(alloc);
-    push_answer_line(&mut text, "degree ", start.divisor().degree())?;
-    push_answer_line(&mut text, "genus ", i64::from(start.graph().genus()))?;
-    push_answer_line(&mut text, "rank ", rank)?;
-    push_answer_line(&mut text, "dual ", dual_rank)?;
+    push_task_line(&mut text, "degree ", start.divisor().degree())?;
+    push_task_line(&mut text, "genus ", i64::from(start.graph().genus()))?;
+    push_task_line(&mut text, "rank ", rank)?;
+    push_task_line(&mut text, "dual ", dual_rank)?;
     Ok(text)
 }
 
 /// A label, a number and a newline.
-fn push_answer_line(text: &mut Vec<u8>, label: &str, number: i64) -> Result<(), AllocError>
-    ensures { OnOk result (text.new.items ≡ text.old.items ++ answer_line label.now number) }
+fn push_task_line(text: &mut Vec<u8>, label: &str, number: i64) -> Result<(), AllocError>
+    ensures { OnOk result (text.new.items ≡ text.old.items ++ task_answer_line label.now number) }
 {
     text.extend_from_slice(label.as_bytes())?;
     text.extend_from_slice(Buffer::new().format(number).as_bytes())?;

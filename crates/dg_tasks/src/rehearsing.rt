@@ -1,8 +1,8 @@
 //! Schedules that are read, played and printed line by line: neither the steps nor the history are kept.
 ghost use Rattle.std.specs.Prelude.{ℕ, List, ◌≢◌, IfOk, IfErr};
 ghost use Rattle.dg_lines.specs.Cuts.{lines};
-ghost use Rattle.dg_tasks.specs.Rehearsals.{IsPrinted, MayGoOn, played, GoesOn};
-ghost use Rattle.dg_tasks.specs.Refusals.{IsFaultOf, RefusesSchedule};
+ghost use Rattle.dg_tasks.specs.Rehearsals.{IsPrintedInTask, TaskMayGoOn, played, GoesOn};
+ghost use Rattle.dg_tasks.specs.Refusals.{IsTaskFaultOfSteps, RefusesSchedule};
 
 use crate::fault::TaskFault;
 use dg_file::TableFile;
@@ -15,14 +15,14 @@ use std::alloc::Global;
 
 /// The history of a schedule as text: a line for each entry, with its number, from 0 on, and the text of its reply. The
 /// history is the legal one that the steps make from the table's start, as `rehearse` of `dg_game` does: it promises
-/// `IsRehearsal`, too, and `IsFirstFault` of a step that is refused.
+/// `IsRehearsal`, too, and `IsFirstRehearsalFault` of a step that is refused.
 ///
 /// Refused with `Line` for the first line that spells no step; then for the first step that is refused, with `Full` if
 /// it is the step after 65,536 others, with `NoLook` if it wants a look while its seat keeps none, or with `StepTrials`
 /// if it asks for a rank test past the limits. `Shortage` comes in the place of a step whose line did not fit.
 pub fn rehearsal(alloc: Global, table: &TableFile, steps: &[u8]) -> Result<Vec<u8>, TaskFault>
     ensures printed { IfOk result
-        (λ text. IsPrinted table.now.start table.now.names (lines steps.now) text.items) }
+        (λ text. IsPrintedInTask table.now.start table.now.names (lines steps.now) text.items) }
     ensures refused { IfErr result
         (RefusesSchedule table.now.start.graph.size table.now.names (lines steps.now)) }
 {
@@ -39,7 +39,7 @@ pub fn rehearsal(alloc: Global, table: &TableFile, steps: &[u8]) -> Result<Vec<u
             Err(fault) => return Err(TaskFault::Line { line, fault }),
         };
         if stopped.is_none() {
-            match play_on(&mut rehearsal, &mut entry, &mut text, names, &step) {
+            match play_on_task(&mut rehearsal, &mut entry, &mut text, names, &step) {
                 Ok(()) => {}
                 Err(fault) => stopped = Some(fault),
             }
@@ -54,7 +54,7 @@ pub fn rehearsal(alloc: Global, table: &TableFile, steps: &[u8]) -> Result<Vec<u
 /// Why a schedule is not played whose step is refused so. The condition is that the step has a seat.
 fn task_fault(fault: RehearseFault) -> TaskFault
     requires { (i : ℕ) → fault ≢ RehearseFault.Seat i }
-    ensures { (n : ℕ) (names all : List (List ℕ)) → IsFaultOf n names all fault → RefusesSchedule n names all result }
+    ensures { (n : ℕ) (names all : List (List ℕ)) → IsTaskFaultOfSteps n names all fault → RefusesSchedule n names all result }
 {
     match fault {
         RehearseFault::Seat(_) => unreachable!(),
@@ -66,14 +66,14 @@ fn task_fault(fault: RehearseFault) -> TaskFault
 }
 
 /// Plays the next step, and writes the line of its entry; or why it can't be played. The entry is written if it is lent.
-fn play_on(
+fn play_on_task(
     rehearsal: &mut Rehearsal,
     entry: &mut Entry,
     text: &mut Vec<u8>,
     names: &Names,
     step: &Step,
 ) -> Result<(), RehearseFault>
-    requires { MayGoOn names.now rehearsal.old text.old.items }
+    requires { TaskMayGoOn names.now rehearsal.old text.old.items }
     ensures { GoesOn names.now step.now (played rehearsal.old text.old.items)
         (played rehearsal.new text.new.items) result }
 {

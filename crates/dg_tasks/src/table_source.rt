@@ -1,6 +1,6 @@
 //! Tables that are read from files.
 ghost use Rattle.std.specs.Prelude.{IfOk, IfErr};
-ghost use Rattle.dg_tasks.specs.Tasks.{RefusesItsTable, DescribesTable};
+ghost use Rattle.dg_tasks.specs.Tasks.{RefusesTaskTable, DescribesTaskTable};
 
 use crate::fault::TaskFault;
 use dg_file::{TableFile, read_table};
@@ -10,13 +10,13 @@ use std::rt::Files;
 /// The table of the file with that name.
 ///
 /// Refused with `Source` if the file is not read, and then with `File` if it is no table file.
-pub fn table_in<R, S>(rt: &R, sources: &S, file: &str) -> Result<TableFile, TaskFault>
+pub fn table_of_task<R, S>(rt: &R, sources: &S, file: &str) -> Result<TableFile, TaskFault>
 where
     R: Files + AllocGlobal,
     S: Sources,
     ensures table { IfOk result
-        (λ table. DescribesTable (S.held sources.now file.now) table.start table.names) }
-    ensures refused { IfErr result (RefusesItsTable (S.held sources.now file.now)) }
+        (λ table. DescribesTaskTable (S.held sources.now file.now) table.start table.names) }
+    ensures refused { IfErr result (RefusesTaskTable (S.held sources.now file.now)) }
 {
     let bytes = match sources.bytes(rt, file) {
         Ok(bytes) => bytes,

@@ -7,7 +7,7 @@ use crate::games::greedy_history;
 use crate::printed::judgement;
 use crate::ranks::{rank_alone, rank_answer, riemann_roch};
 use crate::rehearsing::rehearsal;
-use crate::table_source::table_in;
+use crate::table_source::table_of_task;
 use dg_file::TableFile;
 use dg_invocation::Task;
 use dg_system::{Shortage, Sources};
@@ -16,7 +16,7 @@ use std::sync::Wait;
 use std::thread::Threads;
 
 /// The answer to a task, as text. Only a rank test by two workers or more starts threads and waits for them; all else is done
-/// as `answer_alone` does it.
+/// as `answer_task_alone` does it.
 ///
 /// Refused with `Source` or `File` if its table is not read or is refused, and then as the function is that does the task:
 /// `rehearsal`, which comes after `Source` for the steps, `judgement`, `rank_answer`, `riemann_roch`, or the greedy game with
@@ -30,19 +30,19 @@ where
 {
     match task {
         Task::Rank(test) if test.workers > 1 => {
-            let table = match table_in(rt, sources, test.file) {
+            let table = match table_of_task(rt, sources, test.file) {
                 Ok(table) => table,
                 Err(fault) => return Err(fault),
             };
             rank_answer(rt, rt.alloc(), &table, test.degree, test.workers)
         }
-        _ => answer_alone(rt, task, sources),
+        _ => answer_task_alone(rt, task, sources),
     }
 }
 
 /// The answer to a task by the thread that calls, which makes the trials of a rank test itself, whatever number of workers the
 /// task has. It starts no thread and waits for nothing, and it is refused as `answer` is, but never with `Spawn`.
-pub fn answer_alone<R, S>(rt: &R, task: &Task<'_>, sources: &S) -> Result<Vec<u8>, TaskFault>
+pub fn answer_task_alone<R, S>(rt: &R, task: &Task<'_>, sources: &S) -> Result<Vec<u8>, TaskFault>
 where
     R: Files + AllocGlobal,
     S: Sources,
@@ -50,7 +50,7 @@ where
     ensures refused { IfErr result (RefusesTask (S.held sources.now) task.now) }
     ensures alone { IfErr result (λ fault. fault ≢ TaskFault.Shortage Shortage.Spawn) }
 {
-    let table = match table_in(rt, sources, task.file()) {
+    let table = match table_of_task(rt, sources, task.file()) {
         Ok(table) => table,
         Err(fault) => return Err(fault),
     };

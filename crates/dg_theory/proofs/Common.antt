@@ -13,7 +13,7 @@ pub use Rattle.dg_theory.specs.JoinLaws.{EdgeIsAdded, JoinedIsMultigraph, EdgeKe
 pub use Rattle.dg_theory.specs.Joins.{at_either, edge_entry_more, on_pair, one_edge_more}
 pub use Rattle.dg_theory.specs.Multigraph.{IsMultigraph, JoinedIn, Multigraph, along, edge_count, edges_between, genus, here, valence}
 pub use Rattle.dg_theory.specs.Play.{IsWinnable, Play, lend, played, script_of_play}
-pub use Rattle.dg_theory.specs.Rank.{HasRankAtLeast, IsBefore, IsFirstLoss, IsRank, canonical, less}
+pub use Rattle.dg_theory.specs.Rank.{HasRankAtLeast, IsDivisorBefore, IsFirstLoss, IsRank, canonical, less}
 pub use Rattle.dg_theory.specs.RankLaws.{EquivalentLoss, EquivalentRank, LossBoundsRank, LossOnce, PoorRank, RankBelow, RankZero, RichRank}
 pub use Rattle.dg_theory.specs.Reduced.{IsReduced, edges_out}
 pub use Rattle.dg_theory.specs.ReducedLaws.{ReducedBelowGenus, ReducedDecides, ReducedOnce}

@@ -6,11 +6,11 @@ use Rattle.dg_verdict.proofs.Common.{◌≡◌, ℕ, ◌+◌, ◌*◌, ◌<◌, 
 
 pub rebased_leads : (g : Multigraph) (q : ℕ) (D R s m t : Amounts) → FiresTo g s D R →
     AgreeOn g.size t (λ v. s v -ℤ m v +ℤ m q) → FiresTo g t (fired g D m) R
-rebased_leads g q D R s m t leads rebased v inside =
+rebased_leads g q D R s m t leads less_drift v inside =
     leads v inside
     ∙ sym (fired-fired g D m t v
     ∙ fired-shifted g D (λ w. m w +ℤ t w) s (m q)
-    (λ w below. let here : t w ≡ s w -ℤ m w +ℤ m q = rebased w below in omega (arith, ints)) v inside)
+    (λ w below. let here : t w ≡ s w -ℤ m w +ℤ m q = less_drift w below in omega (arith, ints)) v inside)
 
 pub rebased_small : (q : ℕ) (x : Verdict) (m : Vector) → IsRebasable q x m → (v : ℕ) → v < x.script.size →
     unsigned_abs (at x.script v -ℤ at m v +ℤ at m q) ≤ 1000000000
@@ -32,9 +32,9 @@ pub rebased_right : (g : Multigraph) (q : ℕ) (D : Amounts) (x : Verdict) (m t 
     m.size ≡ g.size → t.size ≡ x.script.size →
     ((v : ℕ) → v < x.script.size → at t v ≡ at x.script v -ℤ at m v +ℤ at m q) →
     IsRight g q (fired g D (at m)) record { winnable = x.winnable; script = t; reduced = x.reduced; order = x.order }
-rebased_right g q D x m t vertex right drift size rebased =
+rebased_right g q D x m t vertex right drift size less_drift =
     let within : (v : ℕ) → v < g.size → at t v ≡ at x.script v -ℤ at m v +ℤ at m q =
-    λ v inside. rebased v (omega (arith, right.script_size)) in
+    λ v inside. less_drift v (omega (arith, right.script_size)) in
     record {
       script_size = size ∙ right.script_size;
       reduced_size = right.reduced_size;

@@ -26,7 +26,7 @@ pub fn rebase(q: usize, verdict: &Verdict, drift: &Drift) -> Verdict
 {
     Verdict {
         winnable: verdict.winnable,
-        script: verdict.script.rebased(drift, q),
+        script: verdict.script.less_drift(drift, q),
         reduced: verdict.reduced,
         order: verdict.order,
     }

@@ -2,7 +2,7 @@
 
 ghost use Rattle.std.specs.Prelude.{◌≡◌, ℕ, ◌<◌, pos, IfSome};
 ghost use Rattle.dg_chips.specs.Vector.{at};
-ghost use Rattle.dg_reduce.specs.Burnings.{IsWhole};
+ghost use Rattle.dg_reduce.specs.Burnings.{IsWholeBurning};
 ghost use Rattle.dg_verdict.specs.Right.{IsVerdictOn};
 
 use dg_chips::{Divisor, Script, Wide};
@@ -49,7 +49,7 @@ pub fn judge_with_inverse(
     requires vertex { q < graph.now.size }
     ensures { IsVerdictOn graph.now q (at divisor.now) result }
 {
-    if !inverse.may_serve(graph, q) {
+    if !inverse.may_invert(graph, q) {
         return judge(graph, q, divisor);
     }
     // The clauses of `size` say that graph and divisor are within their limits.
@@ -67,7 +67,7 @@ fn judge_by(graph: &Graph, q: usize, divisor: &Divisor, chips: &Wide, guess: &Gu
     requires chips { (chips.now.size ≡ graph.now.size) ×
         ((v : ℕ) → v < graph.now.size → at chips.now v ≡ at divisor.now v) }
     requires script { (guess.now.script.size ≡ graph.now.size) × (at guess.now.script q ≡ pos 0) }
-    requires burning { IfSome guess.now.burning (λ x. IsWhole graph.now q x) }
+    requires burning { IfSome guess.now.burning (λ x. IsWholeBurning graph.now q x) }
     ensures { IsVerdictOn graph.now q (at divisor.now) result }
 {
     let _size = graph.size();

@@ -4,7 +4,7 @@ ghost use Rattle.std.specs.Prelude.{◌<◌};
 
 use crate::burn::reference::burn_anew;
 use crate::edges::{PATH, SQUARE, TRIANGLE};
-use dg_burn::{BurnCounts, burn, burn_counted, capped_at};
+use dg_burn::{BurnCounts, amounts_to_burn, burn, burn_counted};
 use dg_chips::Wide;
 use dg_graph::Graph;
 use dg_reduce::is_solvent_off;
@@ -109,7 +109,7 @@ fn is_as_anew(rt: &impl Abort, graph: &Graph, q: usize, chips: &Wide) {
     assert!(rt; is_solvent_off(graph, q, chips));
     let burnt = burn(graph, q, chips);
     assert!(rt; burnt == burn_anew(graph, q, chips));
-    let counted = burn_counted(graph, q, &capped_at(chips));
+    let counted = burn_counted(graph, q, &amounts_to_burn(chips));
     assert!(rt; counted.burnt == burnt);
     is_joined(rt, graph, &counted);
 }

@@ -100,7 +100,7 @@ fn agrees(graph: &Graph, q: usize, chips: &Wide) -> bool
         graph,
         q,
         chips,
-        &Script::relative(&Wide::zero(graph), q),
+        &Script::script_relative_to(&Wide::zero(graph), q),
         &None,
     );
     found.reduced == reduce_by_levels(graph, q, chips)

@@ -5,7 +5,7 @@ ghost use Rattle.std.specs.Int.RustNames.{unsigned_abs};
 ghost use Rattle.dg_chips.specs.Vector.{at};
 
 use crate::reduce::guesses::is_wanted;
-use dg_burn::capped_at;
+use dg_burn::amounts_to_burn;
 use dg_chips::{Script, Wide};
 use dg_graph::Graph;
 use dg_reduce::{
@@ -163,7 +163,7 @@ fn blunt(graph: &Graph, q: usize, script: &Script) -> Script
     for v in 0..graph.size() {
         blunt = blunt.with_amount(v, i128::from(blunted(script.get(v))));
     }
-    Script::relative(&blunt, q)
+    Script::script_relative_to(&blunt, q)
 }
 
 /// Whether all vertices but q hold the same.
@@ -210,7 +210,7 @@ fn is_right(graph: &Graph, q: usize, left: &Wide, burning: &Option<Burning>) -> 
     requires vertex { q < graph.now.size }
 {
     let known = match burning {
-        Some(burning) => is_same_off(q, &burning.held, &capped_at(left)),
+        Some(burning) => is_same_off(q, &burning.held, &amounts_to_burn(left)),
         None => false,
     };
     known && order_if_reduced(graph, q, left).is_some()

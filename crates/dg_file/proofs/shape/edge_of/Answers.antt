@@ -1,13 +1,13 @@
 -- The array has three items, and each is what an edge wants there.
-use Rattle.dg_file.proofs.Common.{◌≡◌, sym, ◌∙◌, arith, as_str, view, edge_in, edge_from, count_in}
+use Rattle.dg_file.proofs.Common.{◌≡◌, sym, ◌∙◌, arith, as_str, view, edge_in_json, edge_from_json, edge_count_in_json}
 use Rattle.dg_file.proofs.Listing.{edge-three, edge-others}
 use Rattle.dg_file.proofs.shape.edge_of.Goals as goal
 use Rattle.dg_file.proofs.shape.edge_of.Goals.{After-index-3}
 
 parts : (c : After-index-3)
-    → edge_in (view c.args.value.now)
-    ≡ edge_from (as_str (view c.index.result.now)) (as_str (view c.index-2.result.now))
-    (count_in (view c.index-3.result.now))
+    → edge_in_json (view c.args.value.now)
+    ≡ edge_from_json (as_str (view c.index.result.now)) (as_str (view c.index-2.result.now))
+    (edge_count_in_json (view c.index-3.result.now))
 parts c =
     edge-three (view c.args.value.now) c.in_ok-items.items.now.items c.index.result.now c.index-2.result.now
     c.index-3.result.now c.in_ok-items.ensures
@@ -30,13 +30,13 @@ returns-in_err-as_str-2 c =
     c.from_residual-in_err-as_str-2.ensures
     ∙ sym (rw (← c.in_ok-as_str.ensures, ← c.in_err-as_str-2.ensures) at read)
 
-pub returns-in_err-count_of : goal.returns-in_err-count_of
-returns-in_err-count_of c =
-    let read = parts (goal.at.returns-in_err-count_of c).After-index-3 in
-    c.from_residual-in_err-count_of.ensures
-    ∙ sym (rw (← c.in_ok-as_str.ensures, ← c.in_ok-as_str-2.ensures, ← c.in_err-count_of.ensures) at read)
+pub returns-in_err-edge_count_from_json : goal.returns-in_err-edge_count_from_json
+returns-in_err-edge_count_from_json c =
+    let read = parts (goal.at.returns-in_err-edge_count_from_json c).After-index-3 in
+    c.from_residual-in_err-edge_count_from_json.ensures
+    ∙ sym (rw (← c.in_ok-as_str.ensures, ← c.in_ok-as_str-2.ensures, ← c.in_err-edge_count_from_json.ensures) at read)
 
 pub returns : goal.returns
 returns c =
     let read = parts (goal.at.returns c).After-index-3 in
-    sym (rw (← c.in_ok-as_str.ensures, ← c.in_ok-as_str-2.ensures, ← c.in_ok-count_of.ensures) at read)
+    sym (rw (← c.in_ok-as_str.ensures, ← c.in_ok-as_str-2.ensures, ← c.in_ok-edge_count_from_json.ensures) at read)

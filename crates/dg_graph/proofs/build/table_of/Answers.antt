@@ -10,8 +10,8 @@ items-init c = record {
   square = none_square;
 }
 
-pub add_item-requires-clause-item : goal.add_item-requires-clause-item
-add_item-requires-clause-item c =
+pub add_item_of_edges-requires-clause-item : goal.add_item_of_edges-requires-clause-item
+add_item_of_edges-requires-clause-item c =
     item-right c.args.size 16 c.args.items.now c.items.item-index (0, 0, 0) c.requires.size.1 c.requires.items
     c.items-test.true
 
@@ -21,8 +21,8 @@ items-preserved c = record {
       omega (
         arith,
         c.items.invariant.cells a b,
-        c.add_item.ensures.cells a b,
+        c.add_item_of_edges.ensures.cells a b,
         edges_listed-more c.args.items.now c.items.item-index (0, 0, 0) a b c.items-test.true,
       );
-  square = c.add_item.ensures.square;
+  square = c.add_item_of_edges.ensures.square;
 }

@@ -17,11 +17,11 @@ returns-in_err-vertex_of-in-Borrow c =
     rw c.in-Borrow.is (unnamed c.args.names.now of.Borrow _ (rw c.in-Borrow.is at c.requires) _ _
     c.from_residual-in_err-vertex_of-in-Borrow.ensures.1 same (λ named. bad named.0))
 
-pub returns-in_err-set_of-in-Fire : goal.returns-in_err-set_of-in-Fire
-returns-in_err-set_of-in-Fire c =
-    let (same, bad) = c.in_err-set_of-in-Fire.ensures in
+pub returns-in_err-set_in_word-in-Fire : goal.returns-in_err-set_in_word-in-Fire
+returns-in_err-set_in_word-in-Fire c =
+    let (same, bad) = c.in_err-set_in_word-in-Fire.ensures in
     rw c.in-Fire.is (unnamed c.args.names.now of.Fire _ (rw c.in-Fire.is at c.requires) _ _
-    c.from_residual-in_err-set_of-in-Fire.ensures.1 same (λ named. bad named.0))
+    c.from_residual-in_err-set_in_word-in-Fire.ensures.1 same (λ named. bad named.0))
 
 pub returns-in_err-script_of-in-Script : goal.returns-in_err-script_of-in-Script
 returns-in_err-script_of-in-Script c =
@@ -35,12 +35,12 @@ returns-in_err-v-in-Gift c =
     rw c.in-Gift.is (unnamed c.args.names.now of.Gift _ (rw c.in-Gift.is at c.requires) _ _
     c.from_residual-in_err-v-in-Gift.ensures.1 same (λ named. bad named.0))
 
-pub returns-in_err-dollars_of-in-Gift : goal.returns-in_err-dollars_of-in-Gift
-returns-in_err-dollars_of-in-Gift c =
-    let (same, bad) = c.in_err-dollars_of-in-Gift.ensures in
+pub returns-in_err-dollars_in_word-in-Gift : goal.returns-in_err-dollars_in_word-in-Gift
+returns-in_err-dollars_in_word-in-Gift c =
+    let (same, bad) = c.in_err-dollars_in_word-in-Gift.ensures in
     let names = c.args.names.now in
     rw c.in-Gift.is (misnumbered c.args.names.now of.Gift _ (rw c.in-Gift.is at c.requires) _ _
-    c.from_residual-in_err-dollars_of-in-Gift.ensures.1 same
+    c.from_residual-in_err-dollars_in_word-in-Gift.ensures.1 same
     (named_alone names c.args.first.now _ c.in_ok-v-in-Gift.ensures, (none_given names, tt))
     (λ all. bad (All-head (IsNumberFor dollars) c.args.second.now [] all.1.0)))
 
@@ -56,9 +56,9 @@ returns-in_err-vertex_of-in-Join c =
     rw c.in-Join.is (unnamed c.args.names.now of.Join _ (rw c.in-Join.is at c.requires) _ _
     c.from_residual-in_err-vertex_of-in-Join.ensures.1 same (λ named. bad named.1.0))
 
-pub returns-in_err-degree_of-in-Rank : goal.returns-in_err-degree_of-in-Rank
-returns-in_err-degree_of-in-Rank c =
-    let (same, bad) = c.in_err-degree_of-in-Rank.ensures in
+pub returns-in_err-degree_in_word-in-Rank : goal.returns-in_err-degree_in_word-in-Rank
+returns-in_err-degree_in_word-in-Rank c =
+    let (same, bad) = c.in_err-degree_in_word-in-Rank.ensures in
     rw c.in-Rank.is (misnumbered c.args.names.now of.Rank _ (rw c.in-Rank.is at c.requires) _ _
-    c.from_residual-in_err-degree_of-in-Rank.ensures.1 same
+    c.from_residual-in_err-degree_in_word-in-Rank.ensures.1 same
     (none_given c.args.names.now, tt) (λ all. bad (All-head (IsNumberFor degree) c.args.first.now [] all.0)))

@@ -1,5 +1,5 @@
 -- Each step refuses the line by its own case of the definition, or hands on what the definition says of the rest.
-use Rattle.dg_lines.proofs.Common.{option_copied, refl, words_after, spelling, kinds}
+use Rattle.dg_lines.proofs.Common.{option_copied, refl, words_after, spelling, keyword_kinds}
 use Rattle.dg_lines.proofs.Cutting.{line_words}
 use Rattle.dg_lines.proofs.Keywords.{wanted_of, well_formed, ill_formed}
 use Rattle.dg_lines.proofs.Meaning.{line_read}
@@ -21,14 +21,14 @@ returns-in_default-words_of-clause-refused c =
       keyword = spelling k;
       rest = words_after (option_copied c.cut.result.1);
       cut = line_words _ _ _ _ _ c.cut.ensures.before c.cut.ensures.after spelled refl;
-      refused = ill_formed _ (kinds k) _ (wanted_of k) (rw count at c.in_default-words_of.ensures);
+      refused = ill_formed _ (keyword_kinds k) _ (wanted_of k) (rw count at c.in_default-words_of.ensures);
     }
 
 pub command_of-requires : goal.command_of-requires
 command_of-requires c =
     let k = c.in-Some.keyword in
     let words = rw c.in-Some.ensures.1 at c.in-Some-words_of.ensures in
-    well_formed (spelling k) (kinds k) _ (wanted_of k) words.0
+    well_formed (spelling k) (keyword_kinds k) _ (wanted_of k) words.0
 
 pub returns : goal.returns
 returns c =
@@ -37,5 +37,5 @@ returns c =
     let known =
     line_read c.args.names.now c.args.line.now (spelling k) _
     (line_words _ _ _ _ _ c.cut.ensures.before c.cut.ensures.after c.in-Some.ensures.0 words.1)
-    c.command_of.result (well_formed (spelling k) (kinds k) _ (wanted_of k) words.0) c.command_of.ensures in
+    c.command_of.result (well_formed (spelling k) (keyword_kinds k) _ (wanted_of k) words.0) c.command_of.ensures in
     record { command = known.0; refused = known.1 }

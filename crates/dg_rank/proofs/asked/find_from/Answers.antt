@@ -5,17 +5,17 @@ use Rattle.dg_rank.proofs.asked.find_from.Goals as goal
 pub returns-in-Ok-clause-told : goal.returns-in-Ok-clause-told
 returns-in-Ok-clause-told c =
     let g = c.args.graph.now in
-    told_from g (at c.args.left.now) c.args.place (in_set c.vertices_from.result) c.room_at-room.result c.args.dollars
+    told_from g (at c.args.left.now) c.args.place (in_set c.trial_places_from.result) c.box_room_at-room.result c.args.dollars
     c.in-Ok.found c.size-size.ensures.graph.few (omega (arith, c.requires.place))
-    (all_determine g c.args.place (in_set c.vertices_from.result) (record {
-      part = rw c.size-size.ensures.size at c.vertices_from.ensures.part;
-      all = rw c.size-size.ensures.size at c.vertices_from.ensures.all;
+    (all_determine g c.args.place (in_set c.trial_places_from.result) (record {
+      part = rw c.size-size.ensures.size at c.trial_places_from.ensures.part;
+      all = rw c.size-size.ensures.size at c.trial_places_from.ensures.all;
     }))
-    c.room_at-room.ensures c.in-Ok.ensures
+    c.box_room_at-room.ensures c.in-Ok.ensures
 
 pub returns-clause-told : goal.returns-clause-told
 returns-clause-told c =
     let g = c.args.graph.now in
-    told_from g (at c.args.left.now) c.args.place (in_set c.asked_from.result) c.room_at-room-2.result c.args.dollars
+    told_from g (at c.args.left.now) c.args.place (in_set c.tried_set_from.result) c.box_room_at-room-2.result c.args.dollars
     c.in-Ok-find_in_box.found c.size-size.ensures.graph.few (omega (arith, c.requires.place))
-    c.asked_from.ensures.asked.determines c.room_at-room-2.ensures c.in-Ok-find_in_box.ensures
+    c.tried_set_from.ensures.asked.determines c.box_room_at-room-2.ensures c.in-Ok-find_in_box.ensures

@@ -1,4 +1,4 @@
-use Rattle.dg_rank.proofs.Common.{◌+◌, ◌-◌, ◌<◌, ◌≤◌, Some, None, length-set, set, slice_index, ◌∙◌, amounts_of, arith, ints, unsigned_abs, pos, only_at, less, at}
+use Rattle.dg_rank.proofs.Common.{◌+◌, ◌-◌, ◌<◌, ◌≤◌, Some, None, length-set, set, slice_index, ◌∙◌, amounts_of_trial, arith, ints, unsigned_abs, pos, only_at, less, at}
 use Rattle.dg_rank.proofs.Elsewhere.{given_back, rich_small}
 use Rattle.dg_rank.proofs.LossBoxes.{in_few, rich_box, box_told, box_opened, loss_beyond, nothing_lost, none_held, class_small, taken_small}
 use Rattle.dg_rank.proofs.boxes.+find_in_box.Goals as goal
@@ -8,34 +8,34 @@ returns-then-dollars-eq0 t c =
     rich_box c.args.graph.now (at c.args.left.now) c.args.room.now c.args.dollars
     (λ v below. omega (arith, ints, c.requires.effective v below))
 
-pub returns-in_default-left_after : goal.returns-in_default-left_after
-returns-in_default-left_after t c =
+pub returns-in_default-left_in_box_after : goal.returns-in_default-left_in_box_after
+returns-in_default-left_in_box_after t c =
     let g = c.args.graph.now in
     let v = c.in-Some.v in
-    let taken = c.held_at-held.result + 1 in
+    let taken = c.held_in_box-held.result + 1 in
     let below : v < g.size = omega (arith, (rw c.in-Some.is at c.lacking.invariant.lack).0, c.lacking.invariant.size) in
     c.lacking.invariant.tells (Some c.with_more.result)
-    (loss_beyond g (at c.lacking.best) c.lacking.open c.args.dollars v taken c.with_more.result c.at_last.result below
+    (loss_beyond g (at c.lacking.best) c.lacking.open c.args.dollars v taken c.with_more.result c.trial_at_last.result below
     (omega (arith, c.lacking.invariant.places, c.size-size.ensures.graph.few))
-    (omega (arith, ints, (rw c.in-Some.is at c.lacking.invariant.lack).1, c.held_at-held.ensures))
-    (omega (arith, ints, (rw c.in-Some.is at c.lacking.invariant.lack).1, c.held_at-held.ensures))
+    (omega (arith, ints, (rw c.in-Some.is at c.lacking.invariant.lack).1, c.held_in_box-held.ensures))
+    (omega (arith, ints, (rw c.in-Some.is at c.lacking.invariant.lack).1, c.held_in_box-held.ensures))
     (nothing_lost g (less (at c.lacking.best) (only_at v (pos taken)))
-    (set c.lacking.open v (slice_index c.lacking.open v - taken)) (c.args.dollars - taken) c.at_last.result
-    (c.at_last.ensures.places ∙ c.size-size.ensures.size)
-    (none_held g.size c.at_last.result (rw c.size-size.ensures.size at c.at_last.ensures.held)
-    (rw c.size-size.ensures.size at c.at_last.ensures.empty))
-    c.in_default-left_after.ensures)
+    (set c.lacking.open v (slice_index c.lacking.open v - taken)) (c.args.dollars - taken) c.trial_at_last.result
+    (c.trial_at_last.ensures.places ∙ c.size-size.ensures.size)
+    (none_held g.size c.trial_at_last.result (rw c.size-size.ensures.size at c.trial_at_last.ensures.held)
+    (rw c.size-size.ensures.size at c.trial_at_last.ensures.empty))
+    c.in_default-left_in_box_after.ensures)
     c.with_more.ensures)
 
 pub give-requires-clause-range : goal.give-requires-clause-range
 give-requires-clause-range t c =
     let g = c.args.graph.now in
     let v = c.in-Some.v in
-    let form = c.in-Some-left_after.ensures in
+    let form = c.in-Some-left_in_box_after.ensures in
     let below : v < g.size = omega (arith, (rw c.in-Some.is at c.lacking.invariant.lack).0, c.lacking.invariant.size) in
-    let small : unsigned_abs (at c.in-Some-left_after.other v) ≤ 32000000 =
-    rich_small g.size (at c.in-Some-left_after.other) 32000000 v form.effective
-    (taken_small g (at c.lacking.best) c.in-Some-left_after.other v (c.held_at-held.result + 1)
+    let small : unsigned_abs (at c.in-Some-left_in_box_after.other v) ≤ 32000000 =
+    rich_small g.size (at c.in-Some-left_in_box_after.other) 32000000 v form.effective
+    (taken_small g (at c.lacking.best) c.in-Some-left_in_box_after.other v (c.held_in_box-held.result + 1)
     c.size-size.ensures.graph.multigraph below c.lacking.invariant.small form)
     below in
     omega arith
@@ -44,9 +44,9 @@ pub lacking-preserved-then-fewer-lack : goal.lacking-preserved-then-fewer-lack
 lacking-preserved-then-fewer-lack t c =
     let g = c.args.graph.now in
     let v = c.in-Some.v in
-    let taken = c.held_at-held.result + 1 in
+    let taken = c.held_in_box-held.result + 1 in
     let form = given_back g (less (at c.lacking.best) (only_at v (pos taken))) (at c.lacking.best)
-    c.in-Some-left_after.other c.give.new.self v taken c.in-Some-left_after.ensures c.give.ensures.size
+    c.in-Some-left_in_box_after.other c.give.new.self v taken c.in-Some-left_in_box_after.ensures c.give.ensures.size
     (λ w. omega (arith, ints)) c.give.ensures.amounts in
     record {
       places = c.lacking.invariant.places;
@@ -54,23 +54,24 @@ lacking-preserved-then-fewer-lack t c =
       effective = form.effective;
       small = class_small g (at c.lacking.best) c.give.new.self c.size-size.ensures.graph.multigraph
           c.lacking.invariant.small form;
-      lack = c.lack_of-fewer.ensures;
+      lack = c.lack_in_box-fewer.ensures;
       tells = λ o told. c.lacking.invariant.tells o (box_told o g (at c.lacking.best) (at c.give.new.self) c.lacking.open
           c.args.dollars form.led told);
     }
 
 pub find_in_box-requires : goal.find_in_box-requires
 find_in_box-requires t c =
-    let form = c.in-Some-left_after.ensures in (
-      omega (arith, ints, (rw c.in-Some.is at c.lacking.invariant.lack).1, c.held_at-held.ensures),
+    let form = c.in-Some-left_in_box_after.ensures in (
+      omega (arith, ints, (rw c.in-Some.is at c.lacking.invariant.lack).1, c.held_in_box-held.ensures),
       (
         form.size,
         (
           form.effective,
           (
-            taken_small c.args.graph.now (at c.lacking.best) c.in-Some-left_after.other c.in-Some.v
-                (c.held_at-held.result + 1) c.size-size.ensures.graph.multigraph
-                (omega (arith, (rw c.in-Some.is at c.lacking.invariant.lack).0, c.lacking.invariant.size)) c.lacking.invariant.small form,
+            taken_small c.args.graph.now (at c.lacking.best) c.in-Some-left_in_box_after.other c.in-Some.v
+                (c.held_in_box-held.result + 1) c.size-size.ensures.graph.multigraph
+                (omega (arith, (rw c.in-Some.is at c.lacking.invariant.lack).0, c.lacking.invariant.size))
+                c.lacking.invariant.small form,
             omega (arith, c.requires.few),
           ),
         ),
@@ -79,11 +80,11 @@ find_in_box-requires t c =
 
 pub with_more-requires-in-Ok-Some-clause-few : goal.with_more-requires-in-Ok-Some-clause-few
 with_more-requires-in-Ok-Some-clause-few t c =
-    let held = c.held_at-held.result in
+    let held = c.held_in_box-held.result in
     let v = c.in-Some.v in
     let told = rw c.in-Ok-Some.field-0-is at c.in-Ok-Some.ensures in
     let most = in_few c.args.graph.now.size (c.args.dollars - (held + 1)) v
-    (set c.lacking.open v (slice_index c.lacking.open v - (held + 1))) (amounts_of c.in-Ok-Some.trial)
+    (set c.lacking.open v (slice_index c.lacking.open v - (held + 1))) (amounts_of_trial c.in-Ok-Some.trial)
     told.inside (omega (arith, (rw c.in-Some.is at c.lacking.invariant.lack).0, c.lacking.invariant.size)) in
     omega (arith, ints, most, c.requires.few)
 
@@ -91,17 +92,17 @@ pub returns-in-Ok-Some : goal.returns-in-Ok-Some
 returns-in-Ok-Some t c =
     let g = c.args.graph.now in
     let v = c.in-Some.v in
-    let taken = c.held_at-held.result + 1 in
+    let taken = c.held_in_box-held.result + 1 in
     let below : v < g.size = omega (arith, (rw c.in-Some.is at c.lacking.invariant.lack).0, c.lacking.invariant.size) in
     c.lacking.invariant.tells (Some c.with_more-in-Ok-Some.result)
     (loss_beyond g (at c.lacking.best) c.lacking.open c.args.dollars v taken c.with_more-in-Ok-Some.result
     c.in-Ok-Some.trial below
     (omega (arith, c.lacking.invariant.places, c.size-size.ensures.graph.few))
-    (omega (arith, ints, (rw c.in-Some.is at c.lacking.invariant.lack).1, c.held_at-held.ensures))
-    (omega (arith, ints, (rw c.in-Some.is at c.lacking.invariant.lack).1, c.held_at-held.ensures))
+    (omega (arith, ints, (rw c.in-Some.is at c.lacking.invariant.lack).1, c.held_in_box-held.ensures))
+    (omega (arith, ints, (rw c.in-Some.is at c.lacking.invariant.lack).1, c.held_in_box-held.ensures))
     (box_told (Some c.in-Ok-Some.trial) g (less (at c.lacking.best) (only_at v (pos taken)))
-    (at c.in-Some-left_after.other) (set c.lacking.open v (slice_index c.lacking.open v - taken))
-    (c.args.dollars - taken) c.in-Some-left_after.ensures.led (rw c.in-Ok-Some.field-0-is at c.in-Ok-Some.ensures))
+    (at c.in-Some-left_in_box_after.other) (set c.lacking.open v (slice_index c.lacking.open v - taken))
+    (c.args.dollars - taken) c.in-Some-left_in_box_after.ensures.led (rw c.in-Ok-Some.field-0-is at c.in-Ok-Some.ensures))
     c.with_more-in-Ok-Some.ensures)
 
 pub lacking-preserved : goal.lacking-preserved
@@ -109,14 +110,14 @@ lacking-preserved t c =
     let g = c.args.graph.now in
     let B = at c.lacking.best in
     let v = c.in-Some.v in
-    let held = c.held_at-held.result in
+    let held = c.held_in_box-held.result in
     let open' = c.lacking.open in
     record {
       places = length-set open' v held ∙ c.lacking.invariant.places;
       size = c.lacking.invariant.size;
       effective = c.lacking.invariant.effective;
       small = c.lacking.invariant.small;
-      lack = c.lack_of-lack-else-fewer-lack.ensures;
+      lack = c.lack_in_box-lack-else-fewer-lack.ensures;
       tells = λ o told. c.lacking.invariant.tells o (box_opened o g B open' c.args.dollars v held
           (omega (arith, (rw c.in-Some.is at c.lacking.invariant.lack).0, c.lacking.invariant.size))
           (omega (
@@ -126,9 +127,9 @@ lacking-preserved t c =
             c.lacking.invariant.places,
             c.size-size.ensures.graph.few,
           ))
-          (omega (arith, ints, (rw c.in-Some.is at c.lacking.invariant.lack).1, c.held_at-held.ensures))
-          (box_told None g (less B (only_at v (pos (held + 1)))) (at c.in-Some-left_after.other)
-          (set open' v (slice_index open' v - (held + 1))) (c.args.dollars - (held + 1)) c.in-Some-left_after.ensures.led
+          (omega (arith, ints, (rw c.in-Some.is at c.lacking.invariant.lack).1, c.held_in_box-held.ensures))
+          (box_told None g (less B (only_at v (pos (held + 1)))) (at c.in-Some-left_in_box_after.other)
+          (set open' v (slice_index open' v - (held + 1))) (c.args.dollars - (held + 1)) c.in-Some-left_in_box_after.ensures.led
           (rw c.in-Ok-None.field-0-is at c.in-Ok-None.ensures)) told);
     }
 

@@ -1,5 +1,5 @@
 use Rattle.dg_rank.proofs.Common.{◌≡◌, length, List, Option, MatchOption, ℕ, ◌+◌, ◌*◌, ◌≤ℤ◌, pos, sum, degree, IsEffective, at, BoxWins, IsBoxLoss}
-use Rattle.dg_rank.specs.Boxes.{IsLackIn}
+use Rattle.dg_rank.specs.Boxes.{IsLackInBox}
 use Rattle.dg_rank.proofs.boxes.+find_in_box.Given as goal
 
 abbrev pub decreases-find_in_box : goal.decreases-find_in_box
@@ -14,7 +14,7 @@ invariant-lacking l = record {
   size : l.best.size ≡ l.graph.size;
   effective : IsEffective l.graph.size (at l.best);
   small : degree l.graph.size (at l.best) ≤ℤ pos 32000000;
-  lack : IsLackIn l.best.size (at l.best) l.open l.dollars l.lack.vertex;
+  lack : IsLackInBox l.best.size (at l.best) l.open l.dollars l.lack.vertex;
   tells : (o : Option (List ℕ)) →
       MatchOption o (BoxWins l.graph (at l.best) l.open l.dollars) (IsBoxLoss l.graph (at l.best) l.open l.dollars) →
       MatchOption o (BoxWins l.graph (at l.left) l.room l.dollars) (IsBoxLoss l.graph (at l.left) l.room l.dollars);

@@ -25,13 +25,13 @@ returns-then-rest-from-2-clause-tells c =
       told_past_half g D c.args.k past,
     )
 
-pub returns-then-not-may_ask-clause-tells : goal.returns-then-not-may_ask-clause-tells
-returns-then-not-may_ask-clause-tells c =
+pub returns-then-not-may_make_trials-clause-tells : goal.returns-then-not-may_make_trials-clause-tells
+returns-then-not-may_make_trials-clause-tells c =
     let g = c.args.graph.now in
     let rest : c.degree_left-rest.result ≡ degree g.size (at c.args.divisor.now) -ℤ pos c.args.k =
     rw c.requires.size at c.degree_left-rest.ensures in
     let past : IsPastAsked g (min c.args.k c.degree_of_dual-other.result) =
-    rw c.min.ensures at c.if-not-may_ask.ensures.asked in (
+    rw c.min.ensures at c.if-not-may_make_trials.ensures.asked in (
       refl,
       record {
         is_open = record { half = omega (arith, ints, rest); most = omega (arith, ints, rest) };
@@ -49,7 +49,7 @@ pub returns-then-k-other-clause-tells : goal.returns-then-k-other-clause-tells
 returns-then-k-other-clause-tells c =
     let g = c.args.graph.now in
     let within : ¬ IsPastAsked g (min c.args.k c.degree_of_dual-other.result) =
-    rw c.min.ensures at c.if-not-may_ask.ensures.asked in (
+    rw c.min.ensures at c.if-not-may_make_trials.ensures.asked in (
       decided c.all_win.result
           (equivalent-rank g (at c.of.result) (at c.args.divisor.now) c.args.k
           (equivalent-refl g (at c.of.result) (at c.args.divisor.now)
@@ -62,7 +62,7 @@ pub returns-else-k-other-clause-tells : goal.returns-else-k-other-clause-tells
 returns-else-k-other-clause-tells c =
     let g = c.args.graph.now in
     let within : ¬ IsPastAsked g (min c.args.k c.degree_of_dual-other.result) =
-    rw c.min.ensures at c.if-not-may_ask.ensures.asked in (
+    rw c.min.ensures at c.if-not-may_make_trials.ensures.asked in (
       decided c.all_win-else-k-other.result
           (dual_passes g (at c.args.divisor.now) (at c.dual_of.result) c.args.k c.degree_of_dual-other.result
           c.size-size.ensures.graph.multigraph (omega arith) c.degree_of_dual-other.ensures c.dual_of.ensures.amounts)

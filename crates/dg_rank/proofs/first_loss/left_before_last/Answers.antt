@@ -1,23 +1,23 @@
-use Rattle.dg_rank.proofs.Common.{◌≡◌, ◌-◌, slice_index, ◌≤◌, arith, refl, ◌∙◌, ◌≤ℤ◌, unsigned_abs, pos, ints, AgreeOn, AreEquivalent, less, equivalent-refl, equivalent-trans, effective_from, reduced_decides, at, IsEffectiveDivisor, amounts_of}
+use Rattle.dg_rank.proofs.Common.{◌≡◌, ◌-◌, slice_index, ◌≤◌, arith, refl, ◌∙◌, ◌≤ℤ◌, unsigned_abs, pos, ints, AgreeOn, AreEquivalent, less, equivalent-refl, equivalent-trans, effective_from, reduced_decides, at, IsEffectiveDivisor, amounts_of_trial}
 use Rattle.dg_rank.proofs.Elsewhere.{degree-given, given_back, left_degree, left_small, form_kept, rich_small, trial_small}
 use Rattle.dg_rank.proofs.first_loss.left_before_last.Goals as goal
 use Rattle.dg_rank.proofs.first_loss.left_before_last.Goals.{After-size-last, After-less, After-reduce_certified-reduced, After-of-left}
 
 -- the amounts without the trial's
 left : (c : After-less) →
-    AgreeOn c.args.graph.now.size (less (at c.args.chips.now) (amounts_of c.args.trial.now)) (at c.less.result)
+    AgreeOn c.args.graph.now.size (less (at c.args.chips.now) (amounts_of_trial c.args.trial.now)) (at c.less.result)
 left c v inside =
     omega (
       arith,
       ints,
       c.less.ensures.amounts v (omega arith),
-      c.to_divisor-lost.ensures.amounts v (omega (arith, c.requires.places)),
+      c.trial_as_divisor-lost.ensures.amounts v (omega (arith, c.requires.places)),
     )
 
 -- they are fired to the reduced ones
 led : (c : After-reduce_certified-reduced) →
-    AgreeOn c.args.graph.now.size (less (at c.args.chips.now) (amounts_of c.args.trial.now)) (at c.less.result) →
-    AreEquivalent c.args.graph.now (less (at c.args.chips.now) (amounts_of c.args.trial.now))
+    AgreeOn c.args.graph.now.size (less (at c.args.chips.now) (amounts_of_trial c.args.trial.now)) (at c.less.result) →
+    AreEquivalent c.args.graph.now (less (at c.args.chips.now) (amounts_of_trial c.args.trial.now))
     (at c.reduce_certified-reduced.result.reduced.divisor)
 led c same = equivalent-trans c.args.graph.now _ (at c.less.result) _
     (equivalent-refl c.args.graph.now _ (at c.less.result) same)
@@ -25,10 +25,10 @@ led c same = equivalent-trans c.args.graph.now _ (at c.less.result) _
 
 -- so the reduced ones, where q owes nothing, are a form of them
 form : (c : After-reduce_certified-reduced) →
-    AgreeOn c.args.graph.now.size (less (at c.args.chips.now) (amounts_of c.args.trial.now)) (at c.less.result) →
+    AgreeOn c.args.graph.now.size (less (at c.args.chips.now) (amounts_of_trial c.args.trial.now)) (at c.less.result) →
     pos 0 ≤ℤ at c.reduce_certified-reduced.result.reduced.divisor 0 →
     IsEffectiveDivisor c.args.graph.now
-    (less (at c.args.chips.now) (amounts_of c.args.trial.now)) c.reduce_certified-reduced.result.reduced.divisor
+    (less (at c.args.chips.now) (amounts_of_trial c.args.trial.now)) c.reduce_certified-reduced.result.reduced.divisor
 form c same paid = record {
   size = c.reduce_certified-reduced.ensures.reduction.sizes.0;
   effective = effective_from c.args.graph.now 0
@@ -45,7 +45,7 @@ reduce_certified-reduced-requires-clause-range c v inside =
 pub returns-then-get-lt0 : goal.returns-then-get-lt0
 returns-then-get-lt0 c = λ win.
     let paid : pos 0 ≤ℤ at c.reduce_certified-reduced.result.reduced.divisor 0 =
-    (reduced_decides c.args.graph.now 0 (less (at c.args.chips.now) (amounts_of c.args.trial.now))
+    (reduced_decides c.args.graph.now 0 (less (at c.args.chips.now) (amounts_of_trial c.args.trial.now))
     (at c.reduce_certified-reduced.result.reduced.divisor)
     (omega (arith, c.requires.graph.some))
     (led (goal.at.returns-then-get-lt0 c).After-reduce_certified-reduced (left (goal.at.returns-then-get-lt0 c).After-less))
@@ -56,7 +56,7 @@ pub of-left-requires : goal.of-left-requires
 of-left-requires c = record {
   range = λ v inside.
       let rich : IsEffectiveDivisor c.args.graph.now
-      (less (at c.args.chips.now) (amounts_of c.args.trial.now)) c.reduce_certified-reduced.result.reduced.divisor =
+      (less (at c.args.chips.now) (amounts_of_trial c.args.trial.now)) c.reduce_certified-reduced.result.reduced.divisor =
       form (goal.at.of-left-requires c).After-reduce_certified-reduced (left (goal.at.of-left-requires c).After-less)
       (omega (arith, ints)) in
       let small : unsigned_abs (at c.reduce_certified-reduced.result.reduced.divisor v) ≤ 31984000 =
@@ -68,7 +68,7 @@ of-left-requires c = record {
 }
 
 good : (c : After-of-left) → pos 0 ≤ℤ at c.reduce_certified-reduced.result.reduced.divisor 0 →
-    IsEffectiveDivisor c.args.graph.now (less (at c.args.chips.now) (amounts_of c.args.trial.now)) c.of-left.result
+    IsEffectiveDivisor c.args.graph.now (less (at c.args.chips.now) (amounts_of_trial c.args.trial.now)) c.of-left.result
 good c paid = form_kept c.args.graph.now _ _ c.reduce_certified-reduced.result.reduced.divisor c.of-left.result
     (λ v inside. refl)
     (form (goal.at.After-of-left c).After-reduce_certified-reduced (left (goal.at.After-of-left c).After-less) paid)
@@ -103,7 +103,7 @@ returns c =
     let rich = good (goal.at.returns c).After-of-left (omega (arith, ints)) in
     let given = rw (c.get-2.ensures, c.size-last.ensures.size) at c.give.ensures.amounts in
     record {
-      left = given_back g (less (at c.args.chips.now) (amounts_of E)) _ c.of-left.result c.give.new.self (g.size - 1)
+      left = given_back g (less (at c.args.chips.now) (amounts_of_trial E)) _ c.of-left.result c.give.new.self (g.size - 1)
           (slice_index E (g.size - 1)) rich c.give.ensures.size (λ v. refl) given;
       few = omega (
         arith,

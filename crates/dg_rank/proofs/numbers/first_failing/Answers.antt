@@ -1,4 +1,4 @@
-use Rattle.dg_rank.proofs.Common.{◌≡◌, arith, sym, subst, ⊎_elim, ◌≤ℤ◌, cases_eq, ints, pos, genus, degree, HasRankAtLeast, rich_rank, natural, at, IsUntold}
+use Rattle.dg_rank.proofs.Common.{◌≡◌, arith, sym, subst, ⊎_elim, ◌≤ℤ◌, cases_eq, ints, pos, genus, degree, HasRankAtLeast, rich_rank, natural, at, IsRankUntold}
 use Rattle.std.proofs.Math.IntN.{◌+ℤ◌}
 use Rattle.dg_rank.proofs.AskedVertices.{none_made}
 use Rattle.dg_rank.proofs.DualTests.{told_rich}
@@ -39,11 +39,11 @@ pub loop-k-preserved : goal.loop-k-preserved
 loop-k-preserved c =
     let g = c.args.graph.now in
     let D = at c.args.divisor.now in
-    let told : HasRankAtLeast g D c.loop-k.k × (¬ IsUntold g D c.loop-k.k) =
+    let told : HasRankAtLeast g D c.loop-k.k × (¬ IsRankUntold g D c.loop-k.k) =
     rw c.in-Ok-true.field-0-test at c.in-Ok-true.ensures.tells in
     record {
       told = λ j below. ⊎_elim
-          (λ (same : j ≡ c.loop-k.k). subst (λ i. HasRankAtLeast g D i × (¬ IsUntold g D i)) (sym same) told)
+          (λ (same : j ≡ c.loop-k.k). subst (λ i. HasRankAtLeast g D i × (¬ IsRankUntold g D i)) (sym same) told)
           (λ (other : j ≡ c.loop-k.k → ⊥). c.loop-k.invariant.told j (omega arith))
           (cases_eq j c.loop-k.k);
       made = c.in-Ok-true.ensures.made;

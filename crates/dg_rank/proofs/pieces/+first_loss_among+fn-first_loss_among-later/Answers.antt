@@ -7,5 +7,5 @@ returns-in-Ok-later g t c =
     let s = c.args.search.now in
     let some : 0 < s.workers = omega arith in
     let inside : c.args.piece + 1 ≤ s.workers = omega arith in
-    c.first_of.ensures s (piece_start s c.args.piece) (piece_start s (c.args.piece + 1)) s.count
+    c.first_loss_of_two.ensures s (piece_start s c.args.piece) (piece_start s (c.args.piece + 1)) s.count
     (piece_ends s c.args.piece some) (piece_within s (c.args.piece + 1) inside) (search rules) (search rules)

@@ -16,11 +16,11 @@ returns-then-rest-from c =
           (at c.args.divisor.now) c.args.k c.size-size.ensures.graph.multigraph within.some rich,
     )
 
-pub to_divisor-first-requires : goal.to_divisor-first-requires
-to_divisor-first-requires c =
+pub trial_as_divisor-first-requires : goal.trial_as_divisor-first-requires
+trial_as_divisor-first-requires c =
     let (count, within) = c.requires.limits in
-    let all = first_sum c.size-size.result c.args.k c.at_last.result (omega (arith, within.some, c.size-size.ensures.size))
-    c.at_last.ensures.places c.at_last.ensures.held c.at_last.ensures.empty in
+    let all = first_sum c.size-size.result c.args.k c.trial_at_last.result (omega (arith, within.some, c.size-size.ensures.size))
+    c.trial_at_last.ensures.places c.trial_at_last.ensures.held c.trial_at_last.ensures.empty in
     omega (arith, within.small)
 
 pub returns-then-rest-lt0 : goal.returns-then-rest-lt0
@@ -30,10 +30,10 @@ returns-then-rest-lt0 c =
     let (count, within) = c.requires.limits in
     let rest : c.degree_left-rest.result ≡ degree g.size D -ℤ pos c.args.k =
     rw c.requires.size at c.degree_left-rest.ensures in
-    let loss : IsFirstLossIn g D c.args.k 0 count c.at_last.result =
-    rw (first_at g.size c.args.k c.at_last.result within.some (c.at_last.ensures.places ∙ c.size-size.ensures.size)
-    (rw c.size-size.ensures.size at c.at_last.ensures.held) (rw c.size-size.ensures.size at c.at_last.ensures.empty))
+    let loss : IsFirstLossIn g D c.args.k 0 count c.trial_at_last.result =
+    rw (first_at g.size c.args.k c.trial_at_last.result within.some (c.trial_at_last.ensures.places ∙ c.size-size.ensures.size)
+    (rw c.size-size.ensures.size at c.trial_at_last.ensures.held) (rw c.size-size.ensures.size at c.trial_at_last.ensures.empty))
     (poor_loss g D c.args.k count c.size-size.ensures.graph.multigraph (omega (arith, ints)) within) in
-    let (size, found) = found_loss g D c.args.k count c.at_last.result c.to_divisor-first.result within loss
-    c.to_divisor-first.ensures in
+    let (size, found) = found_loss g D c.args.k count c.trial_at_last.result c.trial_as_divisor-first.result within loss
+    c.trial_as_divisor-first.ensures in
     (refl, size, found)

@@ -1,5 +1,5 @@
 use Rattle.dg_rank.proofs.Common.{◌≡◌, ℕ, ◌<◌, List, Option, MatchOption, subst, ◌∙◌, arith, ints, equivalent-refl, Vector, at, Multigraph, IsWithinLimits, AllWin, IsFirstLossIn, Search}
-use Rattle.dg_rank.specs.Pieces.{piece_start, Tells}
+use Rattle.dg_rank.specs.Pieces.{piece_start, TellsFirstLossOfTrials}
 use Rattle.dg_rank.proofs.FirstLosses.{found_trial}
 use Rattle.dg_rank.proofs.PieceLosses.{piece_first}
 use Rattle.dg_rank.proofs.workers.rank_with.Given.{Over}
@@ -20,27 +20,27 @@ search g x k count w = record { graph = g; chips = x; k = k; count = count; work
 
 -- the first piece starts with the first trial
 found : (g : Multigraph) (x : Vector) (k count w : ℕ) (loss : Option (List ℕ)) →
-    Tells (search g x k count w) (piece_start (search g x k count w) 0) count loss →
+    TellsFirstLossOfTrials (search g x k count w) (piece_start (search g x k count w) 0) count loss →
     MatchOption loss (AllWin g (at x) k 0 count) (IsFirstLossIn g (at x) k 0 count)
 found g x k count w loss told =
-    subst (λ (m : ℕ). Tells (search g x k count w) m count loss) (piece_first (search g x k count w)) told
+    subst (λ (m : ℕ). TellsFirstLossOfTrials (search g x k count w) m count loss) (piece_first (search g x k count w)) told
 
 limits : (g : Over) (c : In-None g) → IsWithinLimits c.args.graph.now.size c.args.k c.trials_to_make.result
 limits g c =
     let all : c.trials_to_make.result ≡ c.in-Some.count = rw c.in-None.is at c.trials_to_make.ensures.all in
     rw all (rw c.size-size.ensures.size at c.in-Some.ensures)
 
-pub verdict_on-requires : goal.verdict_on-requires
-verdict_on-requires g c =
+pub rank_verdict_of-requires : goal.rank_verdict_of-requires
+rank_verdict_of-requires g c =
     found_trial c.args.graph.now (at c.of.result) c.args.k c.trials_to_make.result c.in-Ok.loss
-    (limits g (goal.at.verdict_on-requires g c).In-None)
+    (limits g (goal.at.rank_verdict_of-requires g c).In-None)
     (found c.args.graph.now c.of.result c.args.k c.trials_to_make.result c.args.workers c.in-Ok.loss c.in-Ok.ensures)
 
 pub returns-in-None : goal.returns-in-None
 returns-in-None g c = (
   (c.in-Some.count, rw c.size-size.ensures.size at c.in-Some.ensures),
   (omega arith, c.if-workers-gt-MAX_WORKERS.false),
-  c.verdict_on.ensures c.args.graph.now (at c.args.divisor.now) (at c.of.result) c.trials_to_make.result
+  c.rank_verdict_of.ensures c.args.graph.now (at c.args.divisor.now) (at c.of.result) c.trials_to_make.result
       (limits g (goal.at.returns-in-None g c).In-None)
       (equivalent-refl c.args.graph.now (at c.args.divisor.now) (at c.of.result)
       (λ v inside. omega (arith, ints, c.of.ensures.amounts v (omega (arith, c.requires.size)))))

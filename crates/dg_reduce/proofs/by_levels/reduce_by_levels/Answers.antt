@@ -2,7 +2,7 @@ use Rattle.dg_reduce.proofs.Common.{◌≡◌, ℕ, ◌*◌, ◌+◌, ◌<◌, �
 use Rattle.dg_reduce.proofs.Cleared.{levels_cleared}
 use Rattle.dg_reduce.proofs.Outcome.{script_near, relative_leads, reduction_within}
 use Rattle.dg_reduce.proofs.by_levels.reduce_by_levels.Goals as goal
-use Rattle.dg_reduce.proofs.by_levels.reduce_by_levels.Goals.{After-burn_down-walk, After-relative}
+use Rattle.dg_reduce.proofs.by_levels.reduce_by_levels.Goals.{After-burn_down-walk, After-script_relative_to}
 
 -- the script before its entry at q is taken off
 leads : (c : After-burn_down-walk) → (v : ℕ) → v < c.args.graph.now.size →
@@ -20,20 +20,20 @@ near c =
     (at c.burn_down-walk.result.script)
     2000000 c.size-size.ensures.graph c.requires.vertex c.requires.range c.burn_down-walk.ensures.reduced (leads c)
 
-relative_is : (c : After-relative) → (v : ℕ) → v < c.args.graph.now.size →
-    at c.relative.result v ≡ at c.burn_down-walk.result.script v -ℤ at c.burn_down-walk.result.script c.args.q
-relative_is c v inside = c.relative.ensures.entries v (omega (arith, c.burn_down-walk.ensures.tied.script_size))
+relative_is : (c : After-script_relative_to) → (v : ℕ) → v < c.args.graph.now.size →
+    at c.script_relative_to.result v ≡ at c.burn_down-walk.result.script v -ℤ at c.burn_down-walk.result.script c.args.q
+relative_is c v inside = c.script_relative_to.ensures.entries v (omega (arith, c.burn_down-walk.ensures.tied.script_size))
 
 pub burn_down-walk-requires-clause-cleared : goal.burn_down-walk-requires-clause-cleared
 burn_down-walk-requires-clause-cleared c =
     levels_cleared c.args.graph.now c.args.q (slice_index c.levels_from-levels.result) c.clear_levels-cleared.result
     c.levels_from-levels.ensures c.clear_levels-cleared.ensures.cleared
 
-pub relative-requires-clause-limit : goal.relative-requires-clause-limit
-relative-requires-clause-limit c = λ v below.
+pub script_relative_to-requires-clause-limit : goal.script_relative_to-requires-clause-limit
+script_relative_to-requires-clause-limit c = λ v below.
     let close : unsigned_abs (at c.burn_down-walk.result.script v -ℤ at c.burn_down-walk.result.script c.args.q)
     ≤ 225 * (2000000 + 62) =
-    near (goal.at.relative-requires-clause-limit c).After-burn_down-walk v
+    near (goal.at.script_relative_to-requires-clause-limit c).After-burn_down-walk v
     (omega (arith, c.burn_down-walk.ensures.tied.script_size)) in
     omega arith
 
@@ -42,10 +42,10 @@ returns c =
     reduction_within c.args.graph.now c.args.q (at c.args.chips.now) 2000000 451000000 _ c.size-size.ensures.graph
     c.requires.vertex c.requires.range (omega arith, omega arith) c.burn_down-walk.ensures.reduced
     (relative_leads c.args.graph.now c.args.q (at c.args.chips.now) (at c.burn_down-walk.result.chips)
-    (at c.burn_down-walk.result.script) (at c.relative.result) (leads (goal.at.returns c).After-burn_down-walk)
-    (relative_is (goal.at.returns c).After-relative))
-    (let own : at c.relative.result c.args.q
+    (at c.burn_down-walk.result.script) (at c.script_relative_to.result) (leads (goal.at.returns c).After-burn_down-walk)
+    (relative_is (goal.at.returns c).After-script_relative_to))
+    (let own : at c.script_relative_to.result c.args.q
     ≡ at c.burn_down-walk.result.script c.args.q -ℤ at c.burn_down-walk.result.script c.args.q =
-    relative_is (goal.at.returns c).After-relative c.args.q c.requires.vertex in
+    relative_is (goal.at.returns c).After-script_relative_to c.args.q c.requires.vertex in
     omega (arith, ints))
     (omega arith)

@@ -1,4 +1,4 @@
-use Rattle.dg_reduce.proofs.Common.{◌≡◌, ◌+◌, ◌≤◌, ◌^◌, arith, subst, w128, unsigned_abs, to_z, of_z, ints, pos, in_set, at, times_held, IsFired, IsLargestDebt}
+use Rattle.dg_reduce.proofs.Common.{◌≡◌, ◌+◌, ◌≤◌, ◌^◌, arith, subst, w128, unsigned_abs, to_z, of_z, ints, pos, in_set, at, times_held, IsFiredInReduction, IsLargestDebt}
 use Rattle.std.specs.Prelude.{slice_index}
 use Rattle.dg_reduce.proofs.LevelSteps.{chips_small, script_small, debt_small, cleared_free, cleared_paid}
 use Rattle.dg_reduce.proofs.clearing.clear_level.Goals as goal
@@ -56,6 +56,6 @@ returns-clause-cleared c =
     (in_set c.nearer_set-set.result)
     c.largest_debt-debt.result c.args.walk.now c.fired.result c.size.ensures.graph c.requires.distance.1 c.requires.some
     c.requires.few c.requires.cleared (largest (goal.at.returns-clause-cleared c).After-largest_debt-debt)
-    (subst (λ k. IsFired c.args.graph.now (in_set c.nearer_set-set.result) k c.args.walk.now c.fired.result)
+    (subst (λ k. IsFiredInReduction c.args.graph.now (in_set c.nearer_set-set.result) k c.args.walk.now c.fired.result)
     (held (goal.at.returns-clause-cleared c).After-largest_debt-debt) c.fired.ensures)
     (λ w below. c.nearer_set-set.ensures w (omega (arith, c.size.ensures.size)))

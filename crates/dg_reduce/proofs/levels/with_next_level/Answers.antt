@@ -8,7 +8,7 @@ loop-v-preserved c = elim c.if-reached-v.branch [
   | then-reached-v w ↦ rw w.reached-is (λ q vertex before.
       reached-passed c.args.graph.now q c.args.level c.loop-v.v (slice_index c.loop-v.reached) _
       c.size-v-end.ensures.graph.multigraph vertex (omega arith) c.requires (c.loop-v.invariant q vertex before)
-      (omega arith) w.with_neighbours-reached.ensures)
+      (omega arith) w.with_neighbour_levels-reached.ensures)
   | else-reached-v w ↦ rw w.reached-is (λ q vertex before.
       reached-other c.args.graph.now q c.args.level c.loop-v.v (slice_index c.loop-v.reached)
       (c.loop-v.invariant q vertex before) (omega arith))

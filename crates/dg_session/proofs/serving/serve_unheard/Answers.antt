@@ -5,6 +5,6 @@ pub returns-clause-session : goal.returns-clause-session
 returns-clause-session g c =
     session_alone _ c.from_mut-seats.ensures.value (record {
       over = rw (c.serve_lines-ended.ensures.still cc, c.new-writer.ensures.contents) at c.serve_lines-ended.ensures.session;
-      found = c.seats_have_prefixes.ensures;
+      found = c.speakers_have_prefixes.ensures;
       numbers = numbers_of c.serve_lines-ended.ensures.session;
     })

@@ -1,5 +1,5 @@
 -- All but the rest is taken at each turn.
-use Rattle.dg_session.proofs.Common.{◌<◌, ◌≤◌, ◌+◌, ◌∙◌, ◌++◌, List, [], ℕ, length, refl, subst, append-nil, nil_from_length, rules, tests, RefusesPart, MAX_LINE, MAX_LINES, part_plain, part_front, part_whole, part_line, line_shorter}
+use Rattle.dg_session.proofs.Common.{◌<◌, ◌≤◌, ◌+◌, ◌∙◌, ◌++◌, List, [], ℕ, length, refl, subst, append-nil, nil_from_length, rules, tests, SessionRefusesPart, MAX_LINE, MAX_LINES, part_plain, part_front, part_whole, part_line, line_shorter}
 use Rattle.dg_session.proofs.Going.{goes_none, goes_part, goes_line, halts_part, halts_line, line_with}
 use Rattle.dg_session.proofs.Spoken.{said_none, said_more}
 use Rattle.dg_session.proofs.taking.take_bytes.Goals as goal
@@ -17,7 +17,7 @@ returns-in-Err g c =
       grown = c.parts.invariant.said;
       taken = tt;
       halted = halts_part c.parts.invariant.goes part more whole (part_plain c.parts.rest.now part c.cut.ensures.before) some
-          (subst (λ (l : List ℕ). RefusesPart l c.parts.progress.count part c.in-Err.end) c.deref.ensures.value
+          (subst (λ (l : List ℕ). SessionRefusesPart l c.parts.progress.count part c.in-Err.end) c.deref.ensures.value
           c.in-Err.ensures.refused);
     }
 
@@ -36,8 +36,8 @@ returns-in-Ok-extend_from_slice g c =
       halted = tt;
     }
 
-pub returns-in-Err-end_line : goal.returns-in-Err-end_line
-returns-in-Err-end_line g c =
+pub returns-in-Err-end_session_line : goal.returns-in-Err-end_session_line
+returns-in-Err-end_session_line g c =
     let part = c.cut.result.0.now in
     let few : c.parts.progress.count < MAX_LINES = search rules in
     let cut = part_line c.parts.rest.now part c.cut.result.1 c.in-Some.after c.cut.ensures.before c.cut.ensures.after
@@ -46,10 +46,10 @@ returns-in-Err-end_line g c =
     (subst (λ (l : List ℕ). length l + length part ≤ MAX_LINE) c.deref.ensures.value c.in-Ok.ensures.short) in
     record {
       text = c.parts.invariant.text;
-      grown = c.in-Err-end_line.ensures.handled.unsaid ∙ c.parts.invariant.said;
+      grown = c.in-Err-end_session_line.ensures.handled.unsaid ∙ c.parts.invariant.said;
       taken = tt;
       halted = halts_line c.parts.invariant.goes part c.in-Some.after.now cut is few
-          c.in-Err-end_line.ensures.handled.refused;
+          c.in-Err-end_session_line.ensures.handled.refused;
     }
 
 pub parts-smaller : goal.parts-smaller
@@ -66,12 +66,12 @@ parts-preserved g c =
     c.in-Some.is in
     let is = line_with part c.parts.invariant.goes.ready (part_plain c.parts.rest.now part c.cut.ensures.before)
     (subst (λ (l : List ℕ). length l + length part ≤ MAX_LINE) c.deref.ensures.value c.in-Ok.ensures.short) in
-    let done = c.in-Ok-end_line.ensures.handled.done in
+    let done = c.in-Ok-end_session_line.ensures.handled.done in
     record {
       text = c.parts.invariant.text ++ done.text;
       said = said_more _ _ _ c.parts.invariant.said done.said;
-      goes = goes_line c.parts.invariant.goes part cut is few done.holds c.in-Ok-end_line.ensures.pending
-          c.in-Ok-end_line.ensures.count;
+      goes = goes_line c.parts.invariant.goes part cut is few done.holds c.in-Ok-end_session_line.ensures.pending
+          c.in-Ok-end_session_line.ensures.count;
     }
 
 pub returns : goal.returns

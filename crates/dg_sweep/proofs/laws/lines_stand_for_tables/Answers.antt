@@ -1,5 +1,5 @@
 -- The table with other amounts has the same names, graph and q.
-use Rattle.dg_sweep.proofs.Common.{◌≡◌, ℕ, ℤ, List, length, sym, ap, ◌∙◌, subst, StartData, IsFirstChipFault, ChipFault, Content, IsTable, RefusesTable, Chip, SpellsAmounts, HasAmountsOf, RefusesAmounts, with_amounts_of_line}
+use Rattle.dg_sweep.proofs.Common.{◌≡◌, ℕ, ℤ, List, length, sym, ap, ◌∙◌, subst, StartData, IsFirstChipFault, ChipFault, Content, IsTable, RefusesTable, Chip, SpellsAmounts, HasAmountsOf, RefusesSweptAmounts, with_amounts_of_line}
 use Rattle.dg_sweep.proofs.laws.lines_stand_for_tables.Goals as goal
 
 stands : (content : Content) (o p : StartData) (names : List (List ℕ)) (line : List ℕ) → IsTable content o names
@@ -19,7 +19,7 @@ stands content o p names line table has = (
 )
 
 refused : (content : Content) (o : StartData) (names : List (List ℕ)) (line : List ℕ) (fault : ChipFault)
-    → IsTable content o names → RefusesAmounts o.graph.size line (Chip fault)
+    → IsTable content o names → RefusesSweptAmounts o.graph.size line (Chip fault)
     → (xs : List ℤ) × SpellsAmounts line xs × RefusesTable (with_amounts_of_line content xs) (Chip fault)
 refused content o names line fault table (xs, spelled, first) =
     let size : o.graph.size ≡ length content.vertices = table.graph.size ∙ ap length table.given in (
@@ -29,7 +29,8 @@ refused content o names line fault table (xs, spelled, first) =
         record {
           names = subst (λ ns. Rattle.dg_tokens.specs.Names.AreNames ns) table.given table.are_names;
           graph = o.graph;
-          given = subst (λ n. Rattle.dg_graph.specs.Items.IsGiven n (Rattle.dg_file.specs.TableFiles.items_of content) o.graph)
+          given = subst
+              (λ n. Rattle.dg_graph.specs.Items.IsGiven n (Rattle.dg_file.specs.TableFiles.items_of_file_content content) o.graph)
               (ap length table.given) table.graph;
         },
         subst (λ n. IsFirstChipFault n xs fault) size first,

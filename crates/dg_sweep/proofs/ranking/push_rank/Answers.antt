@@ -9,7 +9,7 @@ returns-in-Ok c =
       right = told.1;
       told = λ untold. asked_within _ _ c.requires.start.graph.multigraph told.0 untold.past.past;
       named = inl told.0;
-      printed = c.in_ok-push_test.ensures;
+      printed = c.in_ok-push_swept_test.ensures;
     })
 
 pub returns-then-passes : goal.returns-then-passes
@@ -20,7 +20,7 @@ returns-then-passes c =
       right = (refl, told.0);
       told = told.1;
       named = inr refl;
-      printed = c.in_ok-push_test-2.ensures;
+      printed = c.in_ok-push_swept_test-2.ensures;
     })
 
 pub returns : goal.returns
@@ -30,5 +30,5 @@ returns c =
       past = c.in_default.ensures.1;
       told = told.1;
       below = told.0;
-      printed = rw (c.len.ensures.len, c.requires.names) at c.in_ok-push_below.ensures;
+      printed = rw (c.len.ensures.len, c.requires.names) at c.in_ok-push_swept_below.ensures;
     }))

@@ -21,25 +21,25 @@ overflow_add-line c =
           c.in-Some.ensures.steps c.lines.invariant,
     )
 
-pub lines-preserved-in-Ok-play_on : goal.lines-preserved-in-Ok-play_on
-lines-preserved-in-Ok-play_on c =
+pub lines-preserved-in-Ok-play_on_task : goal.lines-preserved-in-Ok-play_on_task
+lines-preserved-in-Ok-play_on_task c =
     one_played c.args.table.now.start c.args.table.now.names c.names-names.result.now (lines c.args.steps.now)
     (lines c.lines.bytes-iterator.rest.now)
-    (lines c.next.new.self.rest.now) c.in-Some.bytes.now c.lines.line c.lines.rehearsal c.play_on.new.rehearsal
-    c.lines.text.items c.play_on.new.text.items
+    (lines c.next.new.self.rest.now) c.in-Some.bytes.now c.lines.line c.lines.rehearsal c.play_on_task.new.rehearsal
+    c.lines.text.items c.play_on_task.new.text.items
     c.lines.stopped c.in-Ok.step c.names-names.ensures.value c.in-Some.ensures.steps c.in-Ok.ensures.step
     (ap not c.if-is_none.ensures)
-    c.in-Ok-play_on.ensures c.lines.invariant
+    c.in-Ok-play_on_task.ensures c.lines.invariant
 
-pub lines-preserved-in-Err-play_on : goal.lines-preserved-in-Err-play_on
-lines-preserved-in-Err-play_on c =
+pub lines-preserved-in-Err-play_on_task : goal.lines-preserved-in-Err-play_on_task
+lines-preserved-in-Err-play_on_task c =
     one_refused c.args.table.now.start c.args.table.now.names c.names-names.result.now (lines c.args.steps.now)
     (lines c.lines.bytes-iterator.rest.now)
-    (lines c.next.new.self.rest.now) c.in-Some.bytes.now c.lines.line c.lines.rehearsal c.play_on.new.rehearsal
-    c.lines.text.items c.play_on.new.text.items
-    c.lines.stopped c.in-Ok.step c.in-Err-play_on.fault c.names-names.ensures.value c.in-Some.ensures.steps
+    (lines c.next.new.self.rest.now) c.in-Some.bytes.now c.lines.line c.lines.rehearsal c.play_on_task.new.rehearsal
+    c.lines.text.items c.play_on_task.new.text.items
+    c.lines.stopped c.in-Ok.step c.in-Err-play_on_task.fault c.names-names.ensures.value c.in-Some.ensures.steps
     c.in-Ok.ensures.step
-    (ap not c.if-is_none.ensures) c.in-Err-play_on.ensures c.lines.invariant
+    (ap not c.if-is_none.ensures) c.in-Err-play_on_task.ensures c.lines.invariant
 
 pub lines-preserved : goal.lines-preserved
 lines-preserved c =

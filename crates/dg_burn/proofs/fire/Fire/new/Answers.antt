@@ -9,5 +9,5 @@ returns c =
     record {
       inside = all_inside c.args.graph.now.size c.complement.result all;
       none_burns = none_burnt c.args.graph.now.size c.complement.result all;
-      cold = c.lack_of.ensures;
+      cold = c.lack_of_heat.ensures;
     }

@@ -13,10 +13,10 @@ loop-w-preserved c =
     let moved : Amounts = fired c.args.graph.now (at c.args.self.now) (indicator S) in
     let few : w < 16 = omega arith in
     let within : w < length xs = omega arith in
-    let got : ℕ = slice_index c.flows.result.0 w in
-    let lent : ℕ = slice_index c.flows.result.1 w in
+    let got : ℕ = slice_index c.set_firing_sums.result.0 w in
+    let lent : ℕ = slice_index c.set_firing_sums.result.1 w in
     let flow : gain c.args.graph.now (indicator S) w ≡ pos got -ℤ pos lent =
-    set-gain c.args.graph.now S w got lent (c.flows.ensures.got w few) (c.flows.ensures.lent w few) in
+    set-gain c.args.graph.now S w got lent (c.set_firing_sums.ensures.got w few) (c.set_firing_sums.ensures.lent w few) in
     let same : slice_index_or c.self.inside.amounts w (pos 0) ≡ at c.args.self.now w =
     ap (λ (d : Vector). at d w) c.self.view_is in
     let ahead : slice_index_or xs w (pos 0) ≡ at c.args.self.now w = c.loop-w.invariant.ahead w (omega arith) in
@@ -24,7 +24,7 @@ loop-w-preserved c =
     rw (ahead, ← same) (within_all 1000000 _ c.self.invariant w) in
     let less : lent ≤ 255 = omega (
       arith,
-      c.flows.ensures.lent w few,
+      c.set_firing_sums.ensures.lent w few,
       if-le (in_set c.args.set w) (valence c.args.graph.now w),
       valence-few c.args.graph.now w c.size-size.ensures.graph,
     ) in
@@ -62,8 +62,8 @@ returns-then-not-fits c =
           absurd (omega (arith, ap unsigned_abs empty))
     ]
 
-pub of_row-requires : goal.of_row-requires
-of_row-requires c =
+pub of_vector_row-requires : goal.of_vector_row-requires
+of_vector_row-requires c =
     let near = rw c.if-not-fits.false at c.loop-w.invariant.range in
     record {
       few = omega arith;

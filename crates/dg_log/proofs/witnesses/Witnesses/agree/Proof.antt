@@ -1,5 +1,5 @@
 -- Notes of one cell know one value, whichever list they stand in.
-use Rattle.dg_log.proofs.Common.{ℕ, List, [], ◌∷◌, refl, a_type, named, Val, vunit, vptr, inst_fn, SProp, ‵, raw, ◌⊛◌, ◌$◌, ◌∵◌, !, qed, by, move, keep, drop, use2, split, fsplit, fsplit3, fjoin, feq_i, unit_lit, of_opd, returns, enter, alloc_all, pass_all, free_all, look_at, sets, tables, fact, yes, RattleType, owns, types_at, plain, nothing, unhide, param, layouts, RefOf, shr_vals, shr_Tells, alive, Stays, stay_dropped, walk_of, Goes-dropped, proved, leaves, Agree}
+use Rattle.dg_log.proofs.Common.{ℕ, List, [], ◌∷◌, refl, a_type, named, Val, vunit, vptr, inst_fn, SProp, ‵, raw, ◌⊛◌, ◌$◌, ◌∵◌, !, qed, by, move, keep, drop, use2, split, fsplit, fsplit3, fjoin, feq_i, unit_lit, of_opd, returns, enter, alloc_all, pass_all, free_all, look_at, sets, tables, fact, yes, RattleType, owns, types_at, plain, nothing, unhide, param, layouts, RefOf, shr_vals, shr_Tells, alive, Stays, stay_dropped, walk_of, Goes-dropped, proved, leaves, AgreeOnCells}
 use Rattle.dg_log.specs.contracts.witnesses.Witnesses as witnesses
 use Rattle.dg_log.proofs.AllNoted.{all_agree}
 use Rattle.dg_log.specs.contracts.witnesses.Witnesses.agree.{ended, clauses}
@@ -29,7 +29,7 @@ agree_spec 𝓤 𝓛 𝓜 𝓡 wired T L =
     raw ((c κs a).requires gh) ∷ []) ∵ split ! $
     move ! (1 ∷ []) $ fsplit3 ! $ fsplit ! $ move ! (2 ∷ []) $ fsplit ! $ keep ! (1 ∷ 3 ∷ 5 ∷ []) $
     unhide ! $ fsplit ! $ drop ! $ move ! (1 ∷ []) $ unhide ! $ fsplit ! $ drop ! $
-    use2 𝓛 (raw (fact 𝓤 (Agree items others))) (all_agree 𝓛 R items others) $
+    use2 𝓛 (raw (fact 𝓤 (AgreeOnCells items others))) (all_agree 𝓛 R items others) $
     enter ! 𝓣.C 𝓣.Λ fn (p ∷ p' ∷ []) Post $ alloc_all ! (λ l. pass_all ! refl ((tt, tt), ((tt, tt), tt)) $
     sets ! (of_opd ! (unit_lit !)) refl (tt, tt) $ feq_i ! (List Val) (vunit ∷ []) (vunit ∷ []) refl $
     nothing ! $ nothing ! $ fjoin ! $ nothing ! $ fjoin ! $

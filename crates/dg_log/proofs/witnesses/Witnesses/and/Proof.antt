@@ -1,5 +1,5 @@
 -- `and` copies what both references hold, and joins the one note to the many.
-use Rattle.dg_log.proofs.Common.{◌≡◌, ℕ, List, [], ◌∷◌, ◌++◌, refl, w32, a_type, named, Val, vptr, vint, inst_fn, SProp, emp, ‵, raw, ◌⊛◌, ◌$◌, ◌∵◌, !, qed, by, move, keep, drop, use0, use1, use2, split, fsplit, fsplit3, fjoin, no_more, and_then, returns, enter, alloc_all, pass_all, free_all, look_at, get, sets, agg, tables, fact, fact_i, yes, RattleType, owns, types_at, plain, nothing, unhide, param, layouts, RefOf, u32, uint_vals, uint_Tells, shr_vals, shr_Tells, alive, Stays, stay_dropped, walk_of, Goes-dropped, proved, leaves, noted_all}
+use Rattle.dg_log.proofs.Common.{◌≡◌, ℕ, List, [], ◌∷◌, ◌++◌, refl, w32, a_type, named, Val, vptr, vint, inst_fn, SProp, emp, ‵, raw, ◌⊛◌, ◌$◌, ◌∵◌, !, qed, by, move, keep, drop, use0, use1, use2, split, fsplit, fsplit3, fjoin, no_more, and_then, returns, enter, alloc_all, pass_all, free_all, look_at, get, sets, agg, tables, fact, fact_i, yes, RattleType, owns, types_at, plain, nothing, unhide, param, layouts, RefOf, u32, uint_vals, uint_Tells, shr_vals, shr_Tells, alive, Stays, stay_dropped, walk_of, Goes-dropped, proved, leaves, noted_cells}
 use Rattle.dg_log.specs.contracts.witnesses.Witnesses as witnesses
 use Rattle.dg_log.specs.contracts.witness.Witness as witness
 use Rattle.dg_log.proofs.AllNoted.{all_more}
@@ -37,7 +37,7 @@ and_spec 𝓤 𝓛 𝓜 𝓡 wired T L =
     fsplit3 ! $ move ! (2 ∷ []) $ fsplit ! $ fsplit ! $ move ! (3 ∷ []) $ fsplit ! $ keep ! (1 ∷ 3 ∷ 6 ∷ []) $
     -- [what self's `&` holds; what the other's holds; the tokens]
     unhide ! $ fsplit ! $ drop ! $ move ! (1 ∷ []) $ unhide ! $ fsplit ! $ drop ! $ move ! (1 ∷ 0 ∷ []) $
-    use2 𝓛 (‵ (noted_all R more)) (all_more 𝓛 R items n γ x) $
+    use2 𝓛 (‵ (noted_cells R more)) (all_more 𝓛 R items n γ x) $
     use1 𝓛 (‵ (S.own_val r (token ∷ []))) (witnesses_made 𝓛 R more) $
     enter ! 𝓣.C 𝓣.Λ fn (p ∷ vint w32 n ∷ p' ∷ []) Post $
     alloc_all ! (λ l. pass_all ! refl ((tt, tt), ((tt, record { fits = are.1.0.1 }), ((tt, tt), tt))) $

@@ -1,12 +1,12 @@
 use Rattle.dg_reduce.proofs.Common.{◌≤◌, ◌*◌, ◌^◌, arith, unsigned_abs, ints, at}
 use Rattle.dg_graph.specs.Sets.{in_set}
-use Rattle.dg_reduce.specs.Rests.{IsRest}
+use Rattle.dg_reduce.specs.Rests.{IsRestInReduction}
 use Rattle.dg_reduce.proofs.DebtSteps.{repaying-start, repaying-done, repaying-lost}
 use Rattle.dg_reduce.proofs.FormSteps.{rest_again, once_more, once_falls, once_limit}
 use Rattle.dg_reduce.proofs.effective_divisor.EffectiveDivisor.pay.Goals as goal
 use Rattle.dg_reduce.proofs.effective_divisor.EffectiveDivisor.pay.Goals.{After-fire, then-not-can_lend+in-Some-rest, else-not-can_lend}
 
-lends : (c : After-fire) → IsRest c.args.graph.now c.args.v (at c.paying.self) c.if-not-can_lend.rest
+lends : (c : After-fire) → IsRestInReduction c.args.graph.now c.args.v (at c.paying.self) c.if-not-can_lend.rest
 lends c =
     elim c.if-not-can_lend.branch [
       | then-not-can_lend+in-Some-rest w ↦ rw w.rest-is w.in-Some-rest.ensures

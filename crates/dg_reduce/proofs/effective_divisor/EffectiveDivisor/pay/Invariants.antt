@@ -1,12 +1,12 @@
 use Rattle.dg_reduce.proofs.Common.{Amounts, weights, weight_of, distance_from, at}
-use Rattle.dg_reduce.specs.Rests.{IsRest}
+use Rattle.dg_reduce.specs.Rests.{IsRestInReduction}
 use Rattle.dg_reduce.proofs.DebtSteps.{IsRepaying}
 use Rattle.dg_reduce.proofs.effective_divisor.EffectiveDivisor.pay.Given as goal
 
 abbrev pub invariant-paying : goal.invariant-paying
 invariant-paying l = record {
   repaying : IsRepaying l.graph l.v l.fn.self l.self;
-  left : (D : Amounts) × IsRest l.graph l.v D l.rest;
+  left : (D : Amounts) × IsRestInReduction l.graph l.v D l.rest;
 }
 
 abbrev pub decreases-paying : goal.decreases-paying

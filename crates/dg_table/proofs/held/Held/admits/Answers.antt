@@ -1,11 +1,11 @@
-use Rattle.dg_table.proofs.Common.{rules, IsAdmissible}
+use Rattle.dg_table.proofs.Common.{rules, IsAdmissibleSeat}
 use Rattle.dg_table.proofs.Entries.{all_own}
 use Rattle.dg_table.proofs.Numbered.{begins_on}
 use Rattle.dg_table.proofs.held.Held.admits.Goals as goal
 
 pub returns-clause-holds : goal.returns-clause-holds
 returns-clause-holds g c = λ is.
-    let admissible : IsAdmissible c.args.self.now.entries c.args.seat.now = search rules in
+    let admissible : IsAdmissibleSeat c.args.self.now.entries c.args.seat.now = search rules in
     let count = rw (← c.seat.view_is, ← c.self.view_is) at admissible.count in
     let seated = c.seat.invariant in
     rw (← c.seat.view_is, ← c.self.view_is) (record {

@@ -2,8 +2,8 @@ use Rattle.dg_table.proofs.Common.{◌≡◌, ℕ, [], ◌∷◌, ◌++◌, leng
 use Rattle.dg_table.proofs.Steps.{held_more, history_more, kept_more, answered}
 use Rattle.dg_table.proofs.held.Held.enter.Goals as goal
 
-pub follow-requires-clause-right : goal.follow-requires-clause-right
-follow-requires-clause-right g c =
+pub follow_entry-requires-clause-right : goal.follow_entry-requires-clause-right
+follow_entry-requires-clause-right g c =
     let e : Entry = c.args.slot.value in
     let replies = rw (← c.self.view_is) at c.requires.replies in
     let entry : c.entry-entry.result.now ≡ e = c.entry-entry.ensures ∙ ap (λ (r : ℕ × Entry). r.1) c.in-Ok.ensures.0 in
@@ -19,8 +19,8 @@ invariant_of-self-2 g c =
     let entry : c.entry-entry.result.now ≡ e = c.entry-entry.ensures ∙ ap (λ (r : ℕ × Entry). r.1) c.in-Ok.ensures.0 in
     let H = c.self.inside.pen.entries in
     let shown = subst (λ (x : Entry). Replies g.N.Name.table.start H x.request x.reply) (sym entry) replies in
-    let leads = subst (λ (x : Entry). LeadsTo g.N.Name.table.start (H ++ x ∷ []) c.follow.new.self) entry
-    (c.follow.ensures.leads g.N.Name.table.start H c.self.invariant.0.game' shown) in
+    let leads = subst (λ (x : Entry). LeadsTo g.N.Name.table.start (H ++ x ∷ []) c.follow_entry.new.self) entry
+    (c.follow_entry.ensures.leads g.N.Name.table.start H c.self.invariant.0.game' shown) in
     let own : e.seat ≡ c.seat.inside.number = rw (← c.seat.view_is) at c.requires.seat in
     let seated = c.seat.invariant in (
       rw history (held_more e c.from-place.result _ c.self.invariant.0 legal leads

@@ -3,25 +3,25 @@ use Rattle.dg_table.proofs.Findings.{look_stands}
 use Rattle.dg_table.proofs.Steps.{settling_refused, settled}
 use Rattle.dg_table.proofs.held.Held.settle.Goals as goal
 
-pub answer_finding-requires-clause-look : goal.answer_finding-requires-clause-look
-answer_finding-requires-clause-look g c =
+pub reply_to_finding-requires-clause-look : goal.reply_to_finding-requires-clause-look
+reply_to_finding-requires-clause-look g c =
     let held = rw c.self.view_is at c.self.invariant.0 in
     (_, _, held.game', look_stands _ _ _ _ held.legal c.requires.look c.in-Ok.ensures.1)
 
-pub answer_finding-requires-clause-found : goal.answer_finding-requires-clause-found
-answer_finding-requires-clause-found g c =
+pub reply_to_finding-requires-clause-found : goal.reply_to_finding-requires-clause-found
+reply_to_finding-requires-clause-found g c =
     let held = rw c.self.view_is at c.self.invariant.0 in
     rw held.game'.q c.requires.found
 
 pub enter-requires-clause-replies : goal.enter-requires-clause-replies
 enter-requires-clause-replies g c =
     let held = rw c.self.view_is at c.self.invariant.0 in
-    c.answer_finding.ensures.replies _ _ held.game' (look_stands _ _ _ _ held.legal c.requires.look c.in-Ok.ensures.1)
+    c.reply_to_finding.ensures.replies _ _ held.game' (look_stands _ _ _ _ held.legal c.requires.look c.in-Ok.ensures.1)
 
 pub enter-requires-clause-legal : goal.enter-requires-clause-legal
 enter-requires-clause-legal g c =
     let held = rw c.self.view_is at c.self.invariant.0 in
-    c.answer_finding.ensures.legal _ _ held.game' (look_stands _ _ _ _ held.legal c.requires.look c.in-Ok.ensures.1)
+    c.reply_to_finding.ensures.legal _ _ held.game' (look_stands _ _ _ _ held.legal c.requires.look c.in-Ok.ensures.1)
     held.legal (rw c.number.ensures c.in-Ok.ensures.0.seat)
 
 pub returns-in_err-receipt-clause-refused : goal.returns-in_err-receipt-clause-refused
@@ -37,10 +37,10 @@ returns-clause-settled g c =
     let H = c.args.self.now.entries in
     let entered = c.in_ok-receipt.ensures.entered in
     let kept : KeepsFinding c.args.finding.now c.in_ok-receipt.receipt.1.reply =
-    rw c.in_ok-receipt.ensures.reply c.answer_finding.ensures.kept in (
+    rw c.in_ok-receipt.ensures.reply c.reply_to_finding.ensures.kept in (
       settled g.N.Name.table H c.args.look.now c.args.shown.now c.args.finding.now c.in_ok-receipt.receipt
           c.args.seat.now c.enter.new.seat
-          c.hear.new.self (rw c.answer_finding.ensures.request at entered.0) c.requires.look c.in-Ok.ensures.1
+          c.hear.new.self (rw c.reply_to_finding.ensures.request at entered.0) c.requires.look c.in-Ok.ensures.1
           kept c.hear.ensures.number c.hear.ensures.mine c.hear.ensures.told c.hear.ensures.prefix c.hear.ensures.met,
       entered.1,
     )

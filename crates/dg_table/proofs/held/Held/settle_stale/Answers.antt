@@ -7,12 +7,12 @@ use Rattle.dg_table.proofs.held.Held.settle_stale.Goals as goal
 pub enter-requires-clause-replies : goal.enter-requires-clause-replies
 enter-requires-clause-replies g c =
     let held = rw c.self.view_is at c.self.invariant.0 in
-    c.answer_stale.ensures.replies _ _ held.game' (look_stands _ _ _ _ held.legal c.requires.look c.in-Ok.ensures.1)
+    c.reply_as_stale.ensures.replies _ _ held.game' (look_stands _ _ _ _ held.legal c.requires.look c.in-Ok.ensures.1)
 
 pub enter-requires-clause-legal : goal.enter-requires-clause-legal
 enter-requires-clause-legal g c =
     let held = rw c.self.view_is at c.self.invariant.0 in
-    c.answer_stale.ensures.legal _ _ held.game' (look_stands _ _ _ _ held.legal c.requires.look c.in-Ok.ensures.1)
+    c.reply_as_stale.ensures.legal _ _ held.game' (look_stands _ _ _ _ held.legal c.requires.look c.in-Ok.ensures.1)
     held.legal (rw c.number.ensures c.in-Ok.ensures.0.seat)
 
 pub returns-in_err-receipt-clause-refused : goal.returns-in_err-receipt-clause-refused
@@ -40,8 +40,8 @@ returns-clause-settled g c =
     let entered = c.in_ok-receipt.ensures.entered in (
       staled g.N.Name.table c.args.self.now.entries c.args.taken.now c.args.shown.now c.args.asks.now c.self.inside.game
           c.in_ok-receipt.receipt c.args.seat.now c.enter.new.seat
-          c.hear.new.self (rw c.answer_stale.ensures.request at entered.0) c.requires.look c.in-Ok.ensures.1
-          held.game' look (λ same. search rules) (rw c.in_ok-receipt.ensures.reply c.answer_stale.ensures.stale)
+          c.hear.new.self (rw c.reply_as_stale.ensures.request at entered.0) c.requires.look c.in-Ok.ensures.1
+          held.game' look (λ same. search rules) (rw c.in_ok-receipt.ensures.reply c.reply_as_stale.ensures.stale)
           c.hear.ensures.number c.hear.ensures.mine c.hear.ensures.told c.hear.ensures.prefix c.hear.ensures.met,
       entered.1,
     )
