@@ -13,7 +13,7 @@ ghost use Rattle.dg_table.specs.Faults.{RefusesStepAtTable, RefusesSettling};
 ghost use Rattle.dg_table.specs.declared.fault.Fault.TheVariants.{Log as LogFault};
 ghost use Rattle.dg_rules.specs.declared.entry.Entry.{Entry as EntryData};
 ghost use Rattle.dg_table.specs.Histories.{IsHistoryOfTable};
-ghost use Rattle.dg_table.specs.Lock.{IsReady, IsKeptLook};
+ghost use Rattle.dg_table.specs.Lock.{IsReady};
 ghost use Rattle.dg_table.specs.Looks.{IsLookOf};
 ghost use Rattle.dg_table.specs.Opened.{TableMayHaveSeats};
 ghost use Rattle.dg_table.specs.Seats.{SeatView, Holds, IsAdmissibleSeat, SeatMeetsHistory};
@@ -26,7 +26,7 @@ use crate::seat::Seat;
 use dg_chips::{Divisor, Move, Start};
 use dg_graph::Graph;
 use dg_log::{Log, Name, Pen, Receipt};
-use dg_rules::{Entry, Finding, Game, LookData, Plain, Question, Reply};
+use dg_rules::{Entry, Finding, Game, LookData, Plain, Question};
 use std::marker::Model;
 
 /// The game of the table N, the pen that writes its history, and how many entries each seat has. A contract sees what
@@ -76,16 +76,13 @@ impl<N: Name> Held<N> {
         ensures holds { IsTrue result → Holds self.now.entries seat.now }
         ensures number { IsSeat seat.now.number }
     {
-        let count = self.counts[usize::from(seat.number - 1)];
+        let count = self.counts[usize::from(seat.place())];
         let len = self.pen.len();
-        if seat.mine.len() as u64 != count
-            || seat.met.len() > len
-            || !seat.told_receipt_set.below(len)
-        {
+        if seat.calls() != count || seat.met().len() > len || !seat.told_receipt_set().below(len) {
             return false;
         }
-        self.pen.began(&seat.met);
-        self.pen.holds(&seat.told_receipt_set);
+        self.pen.began(seat.met());
+        self.pen.holds(seat.told_receipt_set());
         true
     }
 
@@ -116,9 +113,9 @@ impl<N: Name> Held<N> {
     {
         let len = self.pen.len();
         if len == log.len() {
-            self.pen.began(&seat.met);
-            if seat.told_receipt_set.below(len) {
-                self.pen.holds(&seat.told_receipt_set);
+            self.pen.began(seat.met());
+            if seat.told_receipt_set().below(len) {
+                self.pen.holds(seat.told_receipt_set());
             }
             return Err(Fault::Full);
         }
@@ -342,14 +339,11 @@ impl<N: Name> Held<N> {
             self.meet(seat);
             return Err(Fault::Log);
         };
-        let place = usize::from(seat.number - 1);
+        let place = usize::from(seat.place());
         let entry = log.entry(&receipt);
-        keep_seats_look(&mut seat.look, &self.game, entry);
+        seat.take_receipt(&self.game, &self.pen.prefix(), entry, &receipt);
         self.game.follow_entry(entry);
         self.counts[place] += 1;
-        seat.prefix = self.pen.prefix();
-        seat.met = self.pen.prefix();
-        seat.mine.push(receipt.again()).unwrap();
         Ok(receipt)
     }
 
@@ -407,33 +401,6 @@ impl<N: Name> Held<N> {
             log,
             pen,
         }
-    }
-}
-
-/// Keeps the look that an entry after the game's history takes, if it takes one, in place of an older look.
-fn keep_seats_look(look: &mut Option<LookData>, game: &Game, entry: &Entry)
-    ensures { (o : StartData) (H : List EntryData) (ps : List (ℕ × EntryData)) →
-        LeadsTo o H game.now → Replies o H entry.now.request entry.now.reply →
-        IsKeptLook o ps look.old → IsKeptLook o (ps ++ (length H, entry.now) ∷ []) look.new }
-{
-    match &entry.reply {
-        Reply::Looked(gifts, position, graph) => {
-            *look = Some(LookData {
-                gifts: *gifts,
-                position: *position,
-                graph: *graph,
-                ..game.look_data()
-            });
-        }
-        Reply::Moved(_)
-        | Reply::Given(..)
-        | Reply::Joined(..)
-        | Reply::Verdict(_)
-        | Reply::Rank(_)
-        | Reply::Stale(_)
-        | Reply::Won
-        | Reply::NotWon
-        | Reply::Refused(_) => {}
     }
 }
 

@@ -1,14 +1,19 @@
 //! Seats: who calls a table, and what they know of its history.
-ghost use Rattle.std.specs.Prelude.{◌≡◌, ◌-◌, ◌<◌, ◌≤◌, [], ◌∷◌, ◌++◌, length, slice_get, true, None, Some, IfOk, IfSome, MatchBool, MatchOption, MatchResult};
+ghost use Rattle.std.specs.Prelude.{ℕ, List, ◌≡◌, ◌+◌, ◌-◌, ◌<◌, ◌≤◌, [], ◌∷◌, ◌++◌, length, slice_get, true, None, Some, IfOk, IfSome, MatchBool, MatchOption, MatchResult};
+ghost use Rattle.dg_chips.specs.Starts.{StartData};
+ghost use Rattle.dg_rules.specs.Replies.{Replies};
+ghost use Rattle.dg_rules.specs.State.{LeadsTo};
+ghost use Rattle.dg_rules.specs.declared.entry.Entry.{Entry as EntryData};
 ghost use Rattle.std.specs.Vec.{vec_capacity, vec_len};
 ghost use Rattle.dg_table.specs.Faults.{StandsFull};
 ghost use Rattle.dg_table.specs.Histories.{SeatHasPrefix, IsHistoryOfTable};
+ghost use Rattle.dg_table.specs.Lock.{IsKeptLook};
 ghost use Rattle.dg_table.specs.Looks.{KeptLookHasVertices, IsLastLook};
 ghost use Rattle.dg_table.specs.Opened.{TableMayHaveSeats, AreFresh};
-ghost use Rattle.dg_table.specs.Seats.{Keeps, SeatMeetsHistory};
+ghost use Rattle.dg_table.specs.Seats.{Holds, Keeps, SeatMeetsHistory};
 
 use dg_log::{Log, Name, Prefix, Receipt, ReceiptSet, Seating};
-use dg_rules::{BLANK, Entry, LookData};
+use dg_rules::{BLANK, Entry, Game, LookData, Reply};
 use std::alloc::{AllocError, Global};
 use std::marker::{Model, PhantomData};
 
@@ -17,14 +22,14 @@ use std::marker::{Model, PhantomData};
 /// histories, whether it has space for one more call, and whether it has space to be told of one more entry.
 #[derive(Drop)]
 pub struct Seat<N: Name> {
-    pub(crate) number: u8,
-    pub(crate) mine: Vec<Receipt<N>>,
-    pub(crate) told: Vec<Receipt<N>>,
-    pub(crate) prefix: Prefix<N>,
-    pub(crate) met: Prefix<N>,
-    pub(crate) told_receipt_set: ReceiptSet<N>,
-    pub(crate) look: Option<LookData>,
-    // Private: so a seat is made here alone, with the leave to make it.
+    // Private: so a seat is made here alone, with the leave to make it, and what it knows only grows.
+    number: u8,
+    mine: Vec<Receipt<N>>,
+    told: Vec<Receipt<N>>,
+    prefix: Prefix<N>,
+    met: Prefix<N>,
+    told_receipt_set: ReceiptSet<N>,
+    look: Option<LookData>,
     of: PhantomData<N>,
 }
 
@@ -88,6 +93,14 @@ impl<N: Name> Seat<N> {
         ensures { result ≡ self.now.number }
     {
         self.number
+    }
+
+    /// The seat's place among all seats, from 0.
+    pub(crate) fn place(&self) -> u8
+        ensures place { result + 1 ≡ self.now.number }
+        ensures most { self.now.number ≤ N.table.seats }
+    {
+        self.number - 1
     }
 
     /// How many of the table's entries are the seat's.
@@ -196,6 +209,41 @@ impl<N: Name> Seat<N> {
         self.told.push(receipt.again()).unwrap();
     }
 
+    /// The receipts of the entries that the seat was told of, as a set.
+    pub(crate) fn told_receipt_set(&self) -> &ReceiptSet<N>
+        ensures { result.now ≡ self.now.told }
+    {
+        &self.told_receipt_set
+    }
+
+    /// Gives the seat the receipt of its next call, whose entry is the last of a history, and keeps the look that it takes. The
+    /// conditions are that the seat has the space, that the history is one of the table, which before the entry holds what
+    /// the seat knows, and that the game stands there.
+    pub(crate) fn take_receipt(
+        &mut self,
+        game: &Game,
+        history: &Prefix<N>,
+        entry: &Entry,
+        receipt: &Receipt<N>,
+    )
+        requires space { self.old.space ≡ true }
+        requires found { IsHistoryOfTable N.table history.now }
+        requires next { (H : List EntryData) × (history.now ≡ H ++ entry.now ∷ []) ×
+            (receipt.now ≡ (length H, entry.now)) × (entry.now.seat ≡ self.old.number) × Holds H self.old ×
+            LeadsTo N.table.start H game.now × Replies N.table.start H entry.now.request entry.now.reply }
+        ensures number { self.new.number ≡ self.old.number }
+        ensures mine { self.new.mine ≡ self.old.mine ++ receipt.now ∷ [] }
+        ensures told { self.new.told ≡ self.old.told }
+        ensures prefix { self.new.prefix ≡ history.now }
+        ensures met { self.new.met ≡ history.now }
+        ensures hears { self.new.hears ≡ true }
+    {
+        keep_seats_look(&mut self.look, game, entry);
+        self.prefix = history.copy();
+        self.met = history.copy();
+        self.mine.push(receipt.again()).unwrap();
+    }
+
     /// Makes space for one more call, and a box for its entry; what is in the box means nothing.
     ///
     /// Refused if there is not enough memory.
@@ -206,6 +254,33 @@ impl<N: Name> Seat<N> {
     {
         reserve_for_seat(&mut self.mine, &mut self.told)?;
         blank_entry(alloc)
+    }
+}
+
+/// Keeps the look that an entry after the game's history takes, if it takes one, in place of an older look.
+fn keep_seats_look(look: &mut Option<LookData>, game: &Game, entry: &Entry)
+    ensures { (o : StartData) (H : List EntryData) (ps : List (ℕ × EntryData)) →
+        LeadsTo o H game.now → Replies o H entry.now.request entry.now.reply →
+        IsKeptLook o ps look.old → IsKeptLook o (ps ++ (length H, entry.now) ∷ []) look.new }
+{
+    match &entry.reply {
+        Reply::Looked(gifts, position, graph) => {
+            *look = Some(LookData {
+                gifts: *gifts,
+                position: *position,
+                graph: *graph,
+                ..game.look_data()
+            });
+        }
+        Reply::Moved(_)
+        | Reply::Given(..)
+        | Reply::Joined(..)
+        | Reply::Verdict(_)
+        | Reply::Rank(_)
+        | Reply::Stale(_)
+        | Reply::Won
+        | Reply::NotWon
+        | Reply::Refused(_) => {}
     }
 }
 

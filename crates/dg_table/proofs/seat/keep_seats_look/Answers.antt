@@ -1,6 +1,6 @@
 use Rattle.dg_table.proofs.Common.{◌≡◌, ◌∙◌, length, Replies, Look, Looked, LookData}
 use Rattle.dg_table.proofs.Findings.{look_asked, look_seen, looked_vertices}
-use Rattle.dg_table.proofs.held.keep_seats_look.Goals as goal
+use Rattle.dg_table.proofs.seat.keep_seats_look.Goals as goal
 
 pub returns-in-Looked : goal.returns-in-Looked
 returns-in-Looked c = λ o H ps leads replies kept.
