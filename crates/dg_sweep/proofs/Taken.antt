@@ -158,8 +158,8 @@ stands_more old more new part stands none kept = record {
       let size' = length-append old more in
       elim kept [
         | inl grown ↦ elim stands.same [
-          | inl e ↦ inl (grown ∙ ap (λ l. l ++ more) e)
-          | inr long ↦ inr (omega (arith, size', ap length grown, long.0), omega (arith, size, long.1))
+          | inl e ↦ inl (grown.1 ∙ ap (λ l. l ++ more) e)
+          | inr long ↦ inr (omega (arith, size', ap length grown.1, long.0), omega (arith, size, long.1))
         ]
         | inr full ↦ elim stands.same [
           | inl e ↦ inr (omega (arith, ap length full.1, full.0), omega (arith, size, ap length e, full.0))
@@ -222,7 +222,7 @@ takes_lines right old bytes part after mid first text rest new none e kept shown
     stands_alone : (rest new : List ℕ) → HasNoNewline rest → KeepsPartOfPiece [] rest new → StandsForSweptPart new rest
     stands_alone rest new none kept = record {
       no_newline = none;
-      same = elim kept [ inl grown ↦ inl grown | inr full ↦ absurd (omega (arith, full.0)) ];
+      same = elim kept [ inl grown ↦ inl grown.1 | inr full ↦ absurd (omega (arith, full.0)) ];
     }
 
 pub nothing : (xs : List ℕ) → length xs ≡ 0 → xs ≡ []

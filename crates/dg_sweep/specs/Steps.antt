@@ -1,8 +1,8 @@
 -- The steps of a sweep. What is pending stands for the part of a line that was read last.
 --   StandsForSweptPart pending part          == the part has no newline, and it is what is pending, or both
 --                                               are longer than a line may be
---   KeepsPartOfPiece old part new            == the part is put after what is pending, or that is longer
---                                               already than a line may be
+--   KeepsPartOfPiece old part new            == the part is put after what is pending, if that is no longer
+--                                               than a line may be; else nothing is
 --   AnswersFront right bytes rest text       == the bytes are lines, each with its newline, and then the
 --                                               rest, which has none; and the text is the answers to the
 --                                               lines
@@ -28,7 +28,8 @@ pub record StandsForSweptPart (pending part : List ℕ) : Type 0 where
   pub same : (pending ≡ part) ⊎ ((MAX_LINE < length pending) × (MAX_LINE < length part))
 
 abbrev pub KeepsPartOfPiece : List ℕ → List ℕ → List ℕ → Type 0
-KeepsPartOfPiece old part new = (new ≡ old ++ part) ⊎ ((MAX_LINE < length old) × (new ≡ old))
+KeepsPartOfPiece old part new =
+    ((length old ≤ MAX_LINE) × (new ≡ old ++ part)) ⊎ ((MAX_LINE < length old) × (new ≡ old))
 
 pub record AnswersFront (right : List ℕ → List ℕ → Type 0) (bytes rest text : List ℕ) : Type 0 where
   pub ls : List (List ℕ)
