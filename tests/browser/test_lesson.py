@@ -97,6 +97,7 @@ def first_table(ann, others, desk, wall, networks):
     for word in "edges", "roads":
         desk.click("#may-houses")
         ann.until(f"$('#note').textContent.endsWith(' {word}.') && $('#legend').textContent.includes(' {word[:-1]} was')")
+        desk.until(f"state.may.houses === {str(word == 'roads').lower()}")
     for name, size in SIZES.items():
         ann.size(*size)
         equal(ann.value(BELOW), [], f"what can't be seen on a {name}")
