@@ -89,16 +89,16 @@ def commands():
 def kinds():
     """The kinds of words: how a page shows one, and the least and the most number that may stand in it."""
     ranges = {}
-    for given, body in equations(KINDS_OF)["IsNumberFor"]:
+    for given, body in equations(KINDS_OF)["IsNumberForWord"]:
         bounds = re.fullmatch(r"IsSpelledNumberWithin \((.*)\) \((.*)\) text", body)
         if not bounds:
-            raise unread(KINDS_OF, "IsNumberFor")
+            raise unread(KINDS_OF, "IsNumberForWord")
         ranges[given.split(" ")[0]] = [value_of(bound) for bound in bounds.groups()]
     found = {}
     for kind in dict.fromkeys(kind for given in commands().values() for kind in given):
         if kind not in KINDS:
             raise ValueError("tools/words.py: KINDS has no form for words of the kind %s" % kind)
-        has_numbers = "[]" not in next(body for given, body in equations(KINDS_OF)["numbers_in"] if given.split(" ")[0] == kind)[:2]
+        has_numbers = "[]" not in next(body for given, body in equations(KINDS_OF)["numbers_in_word"] if given.split(" ")[0] == kind)[:2]
         least, most = ranges.get(kind, ranges["kind"])
         found[kind] = {"form": KINDS[kind], **({"least": least, "most": most} if has_numbers else {})}
     return found

@@ -19,9 +19,9 @@ pub struct Look<N: Name> {
 
 impl<N: Name> Model for Look<N> {
     ghost use Rattle.std.specs.Prelude.{◌≡◌, ◌<◌};
-    ghost use Rattle.dg_analyst.specs.Views.{LookView, IsTakenLook};
+    ghost use Rattle.dg_analyst.specs.Views.{TakenLookView, IsTakenLook};
 
-    ghost Value = { LookView };
+    ghost Value = { TakenLookView };
 
     ghost view = { λ l. record { receipt = l.receipt; shown = l.shown } };
 

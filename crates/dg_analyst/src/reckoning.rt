@@ -2,7 +2,7 @@
 ghost use Rattle.std.specs.Prelude.{◌≡◌, ◌≤◌, MatchResult, IfErr};
 ghost use Rattle.dg_analyst.specs.Commits.{IsReckoned};
 ghost use Rattle.dg_analyst.specs.Views.{IsTried};
-ghost use Rattle.dg_rank.specs.Ranks.{IsRankFault};
+ghost use Rattle.dg_rank.specs.Ranks.{IsRankTestFault};
 ghost use Rattle.dg_rules.specs.Look.{IsRightFinding};
 
 use crate::looks::Look;
@@ -22,12 +22,12 @@ pub struct Reckoned<N: Name> {
 }
 
 impl<N: Name> Model for Reckoned<N> {
-    ghost use Rattle.dg_analyst.specs.Views.{Found};
+    ghost use Rattle.dg_analyst.specs.Views.{FoundOnLook};
     ghost use Rattle.dg_rules.specs.declared.finding.Finding.TheVariants.{Judged};
     ghost use Rattle.dg_rules.specs.Look.{IsRightFinding};
     ghost use Rattle.dg_verdict.specs.declared.verdict.Verdict.{Verdict as VerdictData};
 
-    ghost Value = { Found VerdictData };
+    ghost Value = { FoundOnLook VerdictData };
 
     ghost view = { λ r. record { look = r.look; verdict = r.verdict } };
 
@@ -59,12 +59,12 @@ pub struct Tried<N: Name> {
 }
 
 impl<N: Name> Model for Tried<N> {
-    ghost use Rattle.dg_analyst.specs.Views.{Found};
+    ghost use Rattle.dg_analyst.specs.Views.{FoundOnLook};
     ghost use Rattle.dg_rules.specs.declared.finding.Finding.TheVariants.{Ranked};
     ghost use Rattle.dg_verdict.specs.declared.rank_verdict.RankVerdict.{RankVerdict as RankData};
     ghost use Rattle.dg_rules.specs.Look.{IsRightFinding};
 
-    ghost Value = { Found RankData };
+    ghost Value = { FoundOnLook RankData };
 
     ghost view = { λ t. record { look = t.look; verdict = t.verdict } };
 
@@ -111,7 +111,7 @@ pub fn try_rank<N: Name, R: Threads + Wait, G: Gate>(
 ) -> Result<Tried<N>, (Look<N>, RankFault)>
     ensures { MatchResult result
         (λ t. (t.look ≡ look) × IsTried look k workers t.verdict)
-        (λ e. (e.0 ≡ look) × IsRankFault look.shown.graph.size k workers e.1) }
+        (λ e. (e.0 ≡ look) × IsRankTestFault look.shown.graph.size k workers e.1) }
 {
     let position = &look.shown.position;
     match rank_with(rt, &look.shown.graph, look.q, position, k, workers, gate) {
@@ -132,7 +132,7 @@ pub fn try_rank_by<N: Name, R: Threads + Wait>(
 ) -> Result<Tried<N>, (Look<N>, RankFault)>
     ensures tried { MatchResult result
         (λ t. (t.look ≡ look) × IsTried look k workers t.verdict)
-        (λ e. (e.0 ≡ look) × IsRankFault look.shown.graph.size k workers e.1) }
+        (λ e. (e.0 ≡ look) × IsRankTestFault look.shown.graph.size k workers e.1) }
     ensures alone { workers ≡ 1 → IfErr result (λ e. e.1 ≡ RankFault.TooMany) }
     ensures spawn { IfErr result (λ e. e.1 ≡ RankFault.Spawn → 2 ≤ workers) }
 {

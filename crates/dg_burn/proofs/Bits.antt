@@ -4,7 +4,7 @@
 --   least_bit      the lowest bit of a number that is not 0
 --   all_inside     all vertices below n are below n
 --   none_burnt     and where they are left none burns
-use Rattle.dg_burn.proofs.Common.{◌≡◌, ℕ, zero, suc, ◌+◌, ◌*◌, ◌%◌, ◌^◌, ◌<◌, Bool, true, false, not, ◌&&◌, nat_eq, min, arith, refl, sym, ap, ap₂, ◌∙◌, bit_and, w16, nat_lt, bit_xor, bit_at, trailing_zeros, eqb-true, ltb-true, and_parts, one_shl, bit_at-lt, bit_at_and, bit_at_xor, bit_at-pow_same, bit_at-pow_other, bit_at-trailing_zeros, IsVertexSet, in_set-none, IsLeastIn, IsWithout, in_set}
+use Rattle.dg_burn.proofs.Common.{◌≡◌, ℕ, zero, suc, ◌+◌, ◌*◌, ◌%◌, ◌^◌, ◌<◌, Bool, true, false, not, ◌&&◌, nat_eq, min, arith, refl, sym, ap, ap₂, ◌∙◌, bit_and, w16, nat_lt, bit_xor, bit_at, trailing_zeros, eqb-true, ltb-true, and_parts, one_shl, bit_at-lt, bit_at_and, bit_at_xor, bit_at-pow_same, bit_at-pow_other, bit_at-trailing_zeros, IsVertexSet, in_set-none, IsLeastInFire, IsFireWithout, in_set}
 
 both_ones : (a b : ℕ) → a < 2 → b < 2 → nat_eq (min a b) 1 ≡ (nat_eq a 1 && nat_eq b 1)
 both_ones zero b few_a few_b = let none : min 0 b ≡ 0 = omega arith in rw none refl
@@ -26,7 +26,7 @@ turned (suc zero) b few is = rw is refl
 turned (suc (suc a)) b few is = absurd (omega arith)
 
 pub without_bit : (set v : ℕ) → v < 16 → in_set set v ≡ true →
-    IsWithout (in_set set) v (in_set (bit_xor set (1 * 2 ^ v % 2 ^ 16)))
+    IsFireWithout (in_set set) v (in_set (bit_xor set (1 * 2 ^ v % 2 ^ 16)))
 unfolding in_set
 without_bit set v few member = record {
   here =
@@ -40,7 +40,7 @@ without_bit set v few member = record {
       ∙ sym (ap (λ m. nat_eq (bit_at (bit_xor set m) w) 1) (one_shl v 16 few));
 }
 
-pub least_bit : (set : ℕ) → 0 < set → set < 2 ^ 16 → IsLeastIn (in_set set) (trailing_zeros w16 set)
+pub least_bit : (set : ℕ) → 0 < set → set < 2 ^ 16 → IsLeastInFire (in_set set) (trailing_zeros w16 set)
 unfolding in_set
 least_bit set some few =
     let least = bit_at-trailing_zeros w16 set some few in

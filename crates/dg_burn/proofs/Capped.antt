@@ -2,7 +2,7 @@
 --   capped-less    capped and not, an amount without debt is below the same numbers up to 63
 --   same-may       who may burn is the same, where q burns
 --   same-order     so the order is the same
-use Rattle.dg_burn.proofs.Common.{◌≡◌, ℕ, suc, ◌<◌, ◌≤◌, Bool, true, false, List, [], ◌∷◌, take, arith, refl, ap, ◌∙◌, ◌↔◌, ℤ, negsuc, slice_get, Some, ◌<ℤ◌, ◌≤ℤ◌, pos, both_ways, eq-eqb, ints, Multigraph, Amounts, HasNoDebtOff, among, edges_into, MayBurn, BurnsNext, BurnsInOrder, IsGraph, dollars, capped_for_fire, IsHeldForBurning}
+use Rattle.dg_burn.proofs.Common.{◌≡◌, ℕ, suc, ◌<◌, ◌≤◌, Bool, true, false, List, [], ◌∷◌, take, arith, refl, ap, ◌∙◌, ◌↔◌, ℤ, negsuc, slice_get, Some, ◌<ℤ◌, ◌≤ℤ◌, pos, both_ways, eq-eqb, ints, Multigraph, Amounts, HasNoDebtOff, among, edges_into, MayBurn, BurnsNext, BurnsInOrder, IsGraph, dollars, capped_for_fire, IsHeldForFire}
 use Rattle.dg_theory.proofs.BurningOrder.{among_first}
 use Rattle.dg_burn.proofs.Fires.{into-few}
 
@@ -11,7 +11,7 @@ capped-less (pos n) e some few = (λ less. omega (arith, ints), λ less. omega (
 capped-less (negsuc n) e some few = absurd (omega (arith, ints))
 
 pub same-may : (g : Multigraph) (q : ℕ) (D : Amounts) (held : List ℕ) (B : ℕ → Bool) (v : ℕ) → IsGraph g →
-    HasNoDebtOff g q D → IsHeldForBurning g.size D held → B q ≡ true → MayBurn g (dollars held) B v ↔ MayBurn g D B v
+    HasNoDebtOff g q D → IsHeldForFire g.size D held → B q ≡ true → MayBurn g (dollars held) B v ↔ MayBurn g D B v
 same-may g q D held B v graph solvent same burns = (
   λ may. record {
     vertex = may.vertex;
@@ -38,7 +38,7 @@ among-first (x ∷ l) q i first =
     rw (eq-eqb x q is_q) refl
 
 pub same-order : (g : Multigraph) (q : ℕ) (D : Amounts) (held l : List ℕ) → IsGraph g →
-    HasNoDebtOff g q D → IsHeldForBurning g.size D held → BurnsInOrder g q (dollars held) l → BurnsInOrder g q D l
+    HasNoDebtOff g q D → IsHeldForFire g.size D held → BurnsInOrder g q (dollars held) l → BurnsInOrder g q D l
 same-order g q D held l graph solvent same order = record {
   begun = record {
     first = order.begun.first;

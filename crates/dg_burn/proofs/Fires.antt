@@ -12,7 +12,7 @@
 --   left-less      where one is left less, one burns more
 --   burnt_out      in a fire, nobody may burn where each has burnt whose heat is above 127
 --   least_burns    in a fire, the least vertex that has not and whose heat is burns next
-use Rattle.dg_burn.proofs.Common.{if◌then◌else◌, ◌≡◌, ℕ, zero, suc, ◌+◌, ◌-◌, ◌<◌, ◌≤◌, Bool, true, false, not, ◌&&◌, List, arith, refl, sym, ap, ap₂, ◌∙◌, ⊎_elim, nat_lt, slice_index, ◌<ℤ◌, pos, cases_Bool, cases_eq, cases_lt, lt-ltb, both_ways, not-false, ints, total_below, Multigraph, IsMultigraph, edges_between, valence, edges_into, MayBurn, BurnsNext, total_below-cong, total_below-term, total_below-differ_at, into-le-valence, IsGraph, IsVertexSet, IsWith, valence-few, valence-outside, Fire, dollars, heat, burns, IsUnlit, IsOut, IsLeastToBurn, IsWithout, IsFire, in_set}
+use Rattle.dg_burn.proofs.Common.{if◌then◌else◌, ◌≡◌, ℕ, zero, suc, ◌+◌, ◌-◌, ◌<◌, ◌≤◌, Bool, true, false, not, ◌&&◌, List, arith, refl, sym, ap, ap₂, ◌∙◌, ⊎_elim, nat_lt, slice_index, ◌<ℤ◌, pos, cases_Bool, cases_eq, cases_lt, lt-ltb, both_ways, not-false, ints, total_below, Multigraph, IsMultigraph, edges_between, valence, edges_into, MayBurn, BurnsNext, total_below-cong, total_below-term, total_below-differ_at, into-le-valence, IsGraph, IsVertexSet, IsSetWith, valence-few, valence-outside, Fire, dollars, heat, burns, IsUnlit, IsFireOut, IsLeastToBurn, IsFireWithout, IsFire, in_set}
 
 total-zero : (n : ℕ) → total_below n (λ _. 0) ≡ 0
 total-zero zero = refl
@@ -28,7 +28,7 @@ into-none g B v none =
     (λ w below. ap (λ b. counted b (edges_between g v w)) (none w)) in
     omega (arith, total-zero g.size)
 
-pub into-more : (g : Multigraph) (S T : ℕ → Bool) (v w : ℕ) → IsMultigraph g → v < g.size → S v ≡ false → IsWith S v T →
+pub into-more : (g : Multigraph) (S T : ℕ → Bool) (v w : ℕ) → IsMultigraph g → v < g.size → S v ≡ false → IsSetWith S v T →
     edges_into g S w + edges_between g v w ≡ edges_into g T w
 into-more g S T v w graph below new more =
     let differ : edges_into g T w + counted (S v) (edges_between g w v)
@@ -76,8 +76,8 @@ out-left n x v below out = not-false (in_set x.left v)
     (sym (ap (λ b. b && not (in_set x.left v)) (lt-ltb v n below)) ∙ out)
 
 -- where one is left less, one burns more
-pub left-less : (n : ℕ) (x y : Fire) (v : ℕ) → v < n → IsWithout (in_set x.left) v (in_set y.left) →
-    IsWith (burns n x) v (burns n y)
+pub left-less : (n : ℕ) (x y : Fire) (v : ℕ) → v < n → IsFireWithout (in_set x.left) v (in_set y.left) →
+    IsSetWith (burns n x) v (burns n y)
 left-less n x y v below less = record {
   here = ap₂ (λ b c. b && not c) (lt-ltb v n below) less.here;
   others = λ w other. ap (λ b. nat_lt w n && not b) (sym (less.others w other));
@@ -97,7 +97,7 @@ left-rest n k x size inside v = ⊎_elim
     neither true = refl
     neither false = refl
 
-inside-less : (n : ℕ) (x y : Fire) (v : ℕ) → IsWithout (in_set x.left) v (in_set y.left) →
+inside-less : (n : ℕ) (x y : Fire) (v : ℕ) → IsFireWithout (in_set x.left) v (in_set y.left) →
     IsVertexSet n (in_set x.left) → IsVertexSet n (in_set y.left)
 inside-less n x y v less inside w member = ⊎_elim
     (λ (equal : w ≡ v). absurd (both_ways _ (ap (in_set y.left) equal ∙ less.here) member))
@@ -105,7 +105,7 @@ inside-less n x y v less inside w member = ⊎_elim
     (cases_eq w v)
 
 pub fire-more : (g : Multigraph) (held : List ℕ) (x y : Fire) (v : ℕ) → IsMultigraph g → v < g.size →
-    burns g.size x v ≡ false → IsFire g held x → IsWithout (in_set x.left) v (in_set y.left) →
+    burns g.size x v ≡ false → IsFire g held x → IsFireWithout (in_set x.left) v (in_set y.left) →
     ((w : ℕ) → w < 16 → heat y w ≡ heat x w + edges_between g v w) → IsFire g held y
 fire-more g held x y v graph below new fire less heats = record {
   inside = inside-less g.size x y v less fire.inside;
@@ -130,7 +130,7 @@ fire-counts g held x y counts v graph unlit fire gained past = ⊎_elim
     ))
     (cases_lt v 16)
 
-pub burnt_out : (g : Multigraph) (held : List ℕ) (x : Fire) → IsGraph g → IsFire g held x → IsOut x →
+pub burnt_out : (g : Multigraph) (held : List ℕ) (x : Fire) → IsGraph g → IsFire g held x → IsFireOut x →
     (v : ℕ) → ¬ MayBurn g (dollars held) (burns g.size x) v
 burnt_out g held x graph fire none v may =
     let below : v < g.size = may.vertex in

@@ -7,7 +7,7 @@
 --   burning-fewer     a vertex that burns leaves one less that is not reached
 --   burning-more      the state after one vertex more
 --   burning-done      the order is whole where no vertex may burn
-use Rattle.dg_burn.proofs.Common.{if◌then◌else◌, ◌≡◌, ◌≢◌, ℕ, zero, suc, ◌+◌, ◌<◌, ◌≤◌, Bool, true, false, List, [], ◌∷◌, ◌++◌, arith, refl, sym, ap, subst, ◌∙◌, ⊎_elim, length-append, ◌==◌, ◌||◌, cases_eq, eq-eqb, ne_eqb, or_right, list_any-append, total_below, Multigraph, Amounts, among, MayBurn, BurnsNext, BurnsInOrder, total_below-cong, total_below-term, IsWith, count_unburnt, IsBurning}
+use Rattle.dg_burn.proofs.Common.{if◌then◌else◌, ◌≡◌, ◌≢◌, ℕ, zero, suc, ◌+◌, ◌<◌, ◌≤◌, Bool, true, false, List, [], ◌∷◌, ◌++◌, arith, refl, sym, ap, subst, ◌∙◌, ⊎_elim, length-append, ◌==◌, ◌||◌, cases_eq, eq-eqb, ne_eqb, or_right, list_any-append, total_below, Multigraph, Amounts, among, MayBurn, BurnsNext, BurnsInOrder, total_below-cong, total_below-term, IsSetWith, count_unburnt, IsFireBurning}
 use Rattle.dg_burn.proofs.Orders.{so_far-first, so_far-more, so_far-done}
 
 abbrev pub one_unless : Bool → ℕ
@@ -27,7 +27,7 @@ one_less (suc n) f h v below same more = ⊎_elim
     omega arith)
     (cases_eq v n)
 
-pub count_unburnt-fewer : (n : ℕ) (S T : ℕ → Bool) (v : ℕ) → v < n → S v ≡ false → IsWith S v T →
+pub count_unburnt-fewer : (n : ℕ) (S T : ℕ → Bool) (v : ℕ) → v < n → S v ≡ false → IsSetWith S v T →
     count_unburnt n S ≡ count_unburnt n T + 1
 count_unburnt-fewer n S T v below new more = one_less n _ _ v below
     (λ w other. ap one_unless (sym (more.others w other)))
@@ -38,7 +38,7 @@ all_unreached zero S none = refl
 all_unreached (suc n) S none =
     rw (none n) (let front : count_unburnt n S ≡ n = all_unreached n S none in omega arith)
 
-pub same-more : (l : List ℕ) (S T : ℕ → Bool) (v : ℕ) → IsWith S v T → ((w : ℕ) → S w ≡ among l w) →
+pub same-more : (l : List ℕ) (S T : ℕ → Bool) (v : ℕ) → IsSetWith S v T → ((w : ℕ) → S w ≡ among l w) →
     (w : ℕ) → T w ≡ among (l ++ v ∷ []) w
 same-more l S T v more same w = ⊎_elim
     (λ (equal : w ≡ v). rw (equal, list_any-append (λ u. u == v) l (v ∷ []))
@@ -59,7 +59,7 @@ count_unburnt-some g D S v burns =
     omega arith
 
 pub burning-lit : (g : Multigraph) (q : ℕ) (D : Amounts) (S T : ℕ → Bool) → q < g.size → ((v : ℕ) → S v ≡ false) →
-    IsWith S q T → IsBurning g q D (q ∷ []) 1 T
+    IsSetWith S q T → IsFireBurning g q D (q ∷ []) 1 T
 burning-lit g q D S T vertex none lit = record {
   so_far = so_far-first g q D;
   same = same-more [] S T q lit none;
@@ -67,12 +67,12 @@ burning-lit g q D S T vertex none lit = record {
   left = omega (arith, count_unburnt-fewer g.size S T q vertex (none q) lit, all_unreached g.size S none);
 }
 
-pub burning-fewer : (g : Multigraph) (D : Amounts) (S T : ℕ → Bool) (v : ℕ) → BurnsNext g D S v → IsWith S v T →
+pub burning-fewer : (g : Multigraph) (D : Amounts) (S T : ℕ → Bool) (v : ℕ) → BurnsNext g D S v → IsSetWith S v T →
     count_unburnt g.size S ≡ count_unburnt g.size T + 1
 burning-fewer g D S T v burns more = count_unburnt-fewer g.size S T v burns.may.vertex burns.may.unburnt more
 
 pub burning-more : (g : Multigraph) (q : ℕ) (D : Amounts) (l : List ℕ) (n : ℕ) (S T : ℕ → Bool) (v : ℕ) →
-    IsBurning g q D l n S → BurnsNext g D S v → IsWith S v T → IsBurning g q D (l ++ v ∷ []) (n + 1) T
+    IsFireBurning g q D l n S → BurnsNext g D S v → IsSetWith S v T → IsFireBurning g q D (l ++ v ∷ []) (n + 1) T
 burning-more g q D l n S T v state burns more = record {
   so_far = so_far-more g q D l v state.so_far (subst (λ B. BurnsNext g D B v) (λ i w. state.same w i) burns);
   same = same-more l S T v more state.same;
@@ -81,6 +81,6 @@ burning-more g q D l n S T v state burns more = record {
 }
 
 pub burning-done : (g : Multigraph) (q : ℕ) (D : Amounts) (l : List ℕ) (n : ℕ) (S : ℕ → Bool) →
-    IsBurning g q D l n S → ((v : ℕ) → ¬ MayBurn g D S v) → BurnsInOrder g q D l
+    IsFireBurning g q D l n S → ((v : ℕ) → ¬ MayBurn g D S v) → BurnsInOrder g q D l
 burning-done g q D l n S state none = so_far-done g q D l state.so_far
     (subst (λ B. (v : ℕ) → ¬ MayBurn g D B v) (λ i w. state.same w i) none)

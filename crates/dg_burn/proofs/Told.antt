@@ -7,7 +7,7 @@
 --   unburnt_member  if it is not empty, some vertex is in it
 --   none_unreached  if no vertex is unreached, each is reached
 --   none_whole      it is empty exactly where as many vertices burn as there are
-use Rattle.dg_burn.proofs.Common.{◌≡◌, ◌≢◌, ℕ, zero, suc, ◌<◌, ◌≤◌, Bool, true, false, not, ◌&&◌, List, arith, refl, sym, ap, subst, ◌∙◌, ⊎_elim, nat_lt, ◌↔◌, cases_lt, lt-ltb, le-ltb, and_left, and_right, not-false, not_from_true, true_from_ne_false, Multigraph, IsMultigraph, Amounts, HasNoDebtOff, edges_out, IsReduced, among, edges_into, BurnsInOrder, IsGreatestFree, unburnt_by, unburnt_by-below, rest-out, rest_fires, unburnt_fires, burnt_reduced, reduced_burnt, member_or_none, total_below-term, in_set-none, no_set, count_unburnt, IsBurning, in_set}
+use Rattle.dg_burn.proofs.Common.{◌≡◌, ◌≢◌, ℕ, zero, suc, ◌<◌, ◌≤◌, Bool, true, false, not, ◌&&◌, List, arith, refl, sym, ap, subst, ◌∙◌, ⊎_elim, nat_lt, ◌↔◌, cases_lt, lt-ltb, le-ltb, and_left, and_right, not-false, not_from_true, true_from_ne_false, Multigraph, IsMultigraph, Amounts, HasNoDebtOff, edges_out, IsReduced, among, edges_into, BurnsInOrder, IsGreatestFree, unburnt_by, unburnt_by-below, rest-out, rest_fires, unburnt_fires, burnt_reduced, reduced_burnt, member_or_none, total_below-term, in_set-none, no_set, count_unburnt, IsFireBurning, in_set}
 use Rattle.dg_burn.proofs.Steps.{one_unless}
 
 pub set_is_rest : (g : Multigraph) (l : List ℕ) (S : ℕ → Bool) (k m : ℕ) → k ≡ g.size →
@@ -69,7 +69,7 @@ none_unreached n S v below none = true_from_ne_false (S v) (λ missed.
     absurd (omega arith))
 
 pub none_whole : (g : Multigraph) (q : ℕ) (D : Amounts) (l : List ℕ) (n : ℕ) (S : ℕ → Bool) (k m : ℕ) →
-    IsBurning g q D l n S → k ≡ g.size → ((v : ℕ) → in_set m v ≡ (nat_lt v k && not (S v))) →
+    IsFireBurning g q D l n S → k ≡ g.size → ((v : ℕ) → in_set m v ≡ (nat_lt v k && not (S v))) →
     (m ≡ 0) ↔ (n ≡ g.size)
 none_whole g q D l n S k m state size rest = (
   λ none.

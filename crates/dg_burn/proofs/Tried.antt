@@ -18,7 +18,7 @@
 --   turned-skip      a vertex that is not in U needs no turn
 --   turned-kept      a vertex is kept, and turned-out: left out
 --   turned-all       after all turns
-use Rattle.dg_burn.proofs.Common.{zero, suc, if◌then◌else◌, ◌≡◌, ◌≢◌, ℕ, ◌+◌, ◌<◌, ◌≤◌, ◌&&◌, ◌⊎◌, inl, inr, ⊎_elim, Bool, true, false, not, nat_lt, List, arith, refl, sym, ap, subst, ◌∙◌, pos, ◌≤ℤ◌, cases_Bool, cases_eq, cases_lt, both_ways, and_parts, ints, eq-eqb, le-ltb, lt-ltb, ltb-true, ne_eqb, true_from_ne_false, Multigraph, IsMultigraph, IsGraph, edges_between, edges_into, edges_out, total_below-term, member_or_none, IsReduced, BurnsInOrder, IsGreatestFree, unburnt_by, IsWith, IsWithout, in_set, in_set-none, no_set, dollars}
+use Rattle.dg_burn.proofs.Common.{zero, suc, if◌then◌else◌, ◌≡◌, ◌≢◌, ℕ, ◌+◌, ◌<◌, ◌≤◌, ◌&&◌, ◌⊎◌, inl, inr, ⊎_elim, Bool, true, false, not, nat_lt, List, arith, refl, sym, ap, subst, ◌∙◌, pos, ◌≤ℤ◌, cases_Bool, cases_eq, cases_lt, both_ways, and_parts, ints, eq-eqb, le-ltb, lt-ltb, ltb-true, ne_eqb, true_from_ne_false, Multigraph, IsMultigraph, IsGraph, edges_between, edges_into, edges_out, total_below-term, member_or_none, IsReduced, BurnsInOrder, IsGreatestFree, unburnt_by, IsSetWith, IsFireWithout, in_set, in_set-none, no_set, dollars}
 use Rattle.std.proofs.lemmas.Bool.{and_from, false_from_ne_true, not-true, not_from_false}
 use Rattle.dg_theory.specs.Burning.{FiresFreely}
 use Rattle.dg_theory.specs.Determining.{HangsLoosely, IsConnectedSet, MeetsSpecialSets, beside}
@@ -28,7 +28,7 @@ use Rattle.dg_theory.proofs.Debts.{out-le-valence}
 use Rattle.dg_theory.proofs.SetFiring.{fired-inside, inside-fired, outside-fired}
 use Rattle.dg_theory.proofs.Special.{edge_into, fires_hangs, hangs_not_reduced, total_some}
 use Rattle.dg_theory.proofs.TotalLaws.{total_below-le}
-use Rattle.dg_burn.specs.Special.{AllHang, Hangs, IsGreedyDeterminingSet, IsGrowing, IsOff, IsPartOf, IsSpecialFrom, only, others, fire_wall}
+use Rattle.dg_burn.specs.Special.{AllHang, Hangs, IsGreedyDeterminingSet, IsGrowingSpecial, IsOffSpecial, IsPartOfSpecial, IsSpecialFrom, only, others, fire_wall}
 use Rattle.dg_burn.proofs.Told.{none_reduced}
 
 pub joined_by : (g : Multigraph) (S : ℕ → Bool) (v w : ℕ) → w < g.size → S w ≡ true → 0 < edges_between g v w →
@@ -186,10 +186,10 @@ found-some g S L best seen w some hangs = record {
 }
 
 pub record Passed (g : Multigraph) (S E X P : ℕ → Bool) (v : ℕ) : Type 0 where
-  pub more : IsPartOf E P
-  pub off : IsOff S P
+  pub more : IsPartOfSpecial E P
+  pub off : IsOffSpecial S P
   pub reached : (w : ℕ) → w < v → X w ≡ true → 0 < edges_into g S w → P w ≡ true
-  pub hang : (T : ℕ → Bool) → IsConnectedSet g T → IsPartOf S T → IsOff T E →
+  pub hang : (T : ℕ → Bool) → IsConnectedSet g T → IsPartOfSpecial S T → IsOffSpecial T E →
       (w : ℕ) → T w ≡ true → P w ≡ true → Hangs g T
 
 pub passed-skip : (g : Multigraph) (S E X P : ℕ → Bool) (v : ℕ) → Passed g S E X P v →
@@ -206,7 +206,7 @@ passed-skip g S E X P v passed skipped = record {
 
 -- a set meets another, or has none of it
 meets_or_off : (g : Multigraph) (T P : ℕ → Bool) → IsConnectedSet g T →
-    ((w : ℕ) × (T w ≡ true) × (P w ≡ true)) ⊎ IsOff T P
+    ((w : ℕ) × (T w ≡ true) × (P w ≡ true)) ⊎ IsOffSpecial T P
 meets_or_off g T P connected =
     ⊎_elim
     (λ (some : (w : ℕ) × (w < g.size) × ((T w && P w) ≡ true)).
@@ -216,7 +216,7 @@ meets_or_off g T P connected =
     both_ways _ (none w (connected.vertices w in_T)) (and_from _ _ in_T in_P))))
     (member_or_none g.size (λ w. T w && P w))
 
-with-part : (S T : ℕ → Bool) (v : ℕ) → IsWith S v T → IsPartOf S T
+with-part : (S T : ℕ → Bool) (v : ℕ) → IsSetWith S v T → IsPartOfSpecial S T
 with-part S T v is w member =
     ⊎_elim
     (λ (same : w ≡ v). rw same is.here)
@@ -224,9 +224,9 @@ with-part S T v is w member =
     (cases_eq w v)
 
 pub passed-more : (g : Multigraph) (S S' E X P P' : ℕ → Bool) (v : ℕ) → Passed g S E X P v → S v ≡ false →
-    IsWith S v S' → IsWith P v P' → AllHang g S' P → Passed g S E X P' (v + 1)
+    IsSetWith S v S' → IsSetWith P v P' → AllHang g S' P → Passed g S E X P' (v + 1)
 passed-more g S S' E X P P' v passed out with_v passed_v all =
-    let more : IsPartOf P P' = with-part P P' v passed_v in
+    let more : IsPartOfSpecial P P' = with-part P P' v passed_v in
     record {
       more = λ w member. more w (passed.more w member);
       off = λ w member.
@@ -239,7 +239,7 @@ passed-more g S S' E X P P' v passed out with_v passed_v all =
       hang = λ T connected part apart w in_T in_P'. ⊎_elim
           (λ (met : (u : ℕ) × (T u ≡ true) × (P u ≡ true)).
           passed.hang T connected part apart met.0 met.1 met.2)
-          (λ (off : IsOff T P). ⊎_elim
+          (λ (off : IsOffSpecial T P). ⊎_elim
           (λ (same : w ≡ v). all T connected
           (λ u member. ⊎_elim
           (λ (at : u ≡ v). rw (at ∙ sym same) in_T)
@@ -258,7 +258,8 @@ into-le-once true true e none = omega arith
 into-le-once true false e none = omega (arith, none refl refl)
 
 -- what hangs on a set hangs on a larger one that has nothing of it
-hangs-larger : (g : Multigraph) (S T X : ℕ → Bool) → HangsLoosely g S X → IsPartOf S T → IsOff T X → HangsLoosely g T X
+hangs-larger : (g : Multigraph) (S T X : ℕ → Bool) → HangsLoosely g S X → IsPartOfSpecial S T → IsOffSpecial T X
+    → HangsLoosely g T X
 hangs-larger g S T X hangs part off = record {
   vertices = hangs.vertices;
   some = hangs.some;
@@ -271,12 +272,12 @@ hangs-larger g S T X hangs part off = record {
       omega (arith, hangs.loose v member);
 }
 
-pub passed-all : (g : Multigraph) (S E X P : ℕ → Bool) (q n : ℕ) → IsMultigraph g → n ≡ g.size → IsGrowing g S q E →
+pub passed-all : (g : Multigraph) (S E X P : ℕ → Bool) (q n : ℕ) → IsMultigraph g → n ≡ g.size → IsGrowingSpecial g S q E →
     HangsLoosely g S X → Passed g S E X P n → AllHang g S E
 passed-all g S E X P q n graph size growing hangs passed T connected part apart =
     ⊎_elim
     (λ (met : (u : ℕ) × (T u ≡ true) × (P u ≡ true)). passed.hang T connected part apart met.0 met.1 met.2)
-    (λ (off : IsOff T P). ⊎_elim
+    (λ (off : IsOffSpecial T P). ⊎_elim
     (λ (met : (u : ℕ) × (T u ≡ true) × (X u ≡ true)).
     let B : ℕ → Bool = λ v. T v && not (X v) in
     let clear : X q ≡ false = false_from_ne_true (X q) (λ in_X. both_ways _ (hangs.apart q in_X) growing.start) in
@@ -294,13 +295,13 @@ passed-all g S E X P q n graph size growing hangs passed T connected part apart 
     joined_by g S b a (connected.vertices a a_in_T) a_in_S (omega (arith, graph.symmetric a b)) in
     absurd (both_ways _ (off b in_b)
     (passed.reached b (omega (arith, connected.vertices b in_b)) b_in_X next)))
-    (λ (off_X : IsOff T X). (X, hangs-larger g S T X hangs part off_X))
+    (λ (off_X : IsOffSpecial T X). (X, hangs-larger g S T X hangs part off_X))
     (meets_or_off g T X connected))
     (meets_or_off g T P connected)
 
 pub growing-more : (g : Multigraph) (S S' E X P : ℕ → Bool) (q v : ℕ) → IsMultigraph g → v < g.size →
-    IsGrowing g S q E → Passed g S E X P v → S v ≡ false → P v ≡ false → 0 < edges_into g S v → IsWith S v S' →
-    IsGrowing g S' q P
+    IsGrowingSpecial g S q E → Passed g S E X P v → S v ≡ false → P v ≡ false → 0 < edges_into g S v → IsSetWith S v S' →
+    IsGrowingSpecial g S' q P
 growing-more g S S' E X P q v graph inside growing passed out free next with_v =
     let (a, below, in_a, edge) = edge_into g S v next in
     record {
@@ -315,7 +316,7 @@ growing-more g S S' E X P q v graph inside growing passed out free next with_v =
 
 -- a vertex alone
 pub growing-alone : (g : Multigraph) (S T E : ℕ → Bool) (v : ℕ) → v < g.size → ((w : ℕ) → S w ≡ false) →
-    IsWith S v T → E v ≡ false → IsGrowing g T v E
+    IsSetWith S v T → E v ≡ false → IsGrowingSpecial g T v E
 growing-alone g S T E v inside none with_v free =
     let only : (w : ℕ) → T w ≡ true → w ≡ v = λ w member. ⊎_elim
     (λ (same : w ≡ v). same)
@@ -327,8 +328,8 @@ growing-alone g S T E v inside none with_v free =
       off = λ w member. rw (only w member) free;
     }
 
-meets-fewer : (g : Multigraph) (A B U S T : ℕ → Bool) (v : ℕ) → MeetsSpecialSets g A U → IsWithout A v B →
-    ((w : ℕ) → S w ≡ false) → IsWith S v T → AllHang g T B → MeetsSpecialSets g B U
+meets-fewer : (g : Multigraph) (A B U S T : ℕ → Bool) (v : ℕ) → MeetsSpecialSets g A U → IsFireWithout A v B →
+    ((w : ℕ) → S w ≡ false) → IsSetWith S v T → AllHang g T B → MeetsSpecialSets g B U
 meets-fewer g A B U S T v meets without none with_v all R u connected in_R in_U off =
     ⊎_elim
     (λ (here : R v ≡ true). all R connected
@@ -342,7 +343,7 @@ meets-fewer g A B U S T v meets without none with_v all R u connected in_R in_U 
     without.others w other ∙ off w member))
     (cases_Bool (R v))
 
-part-fewer : (A B U : ℕ → Bool) (v : ℕ) → IsPartOf A U → IsWithout A v B → IsPartOf B U
+part-fewer : (A B U : ℕ → Bool) (v : ℕ) → IsPartOfSpecial A U → IsFireWithout A v B → IsPartOfSpecial B U
 part-fewer A B U v part without w member =
     ⊎_elim
     (λ (same : w ≡ v). absurd (both_ways _ without.here (ap B (sym same) ∙ member)))
@@ -356,7 +357,7 @@ others-same A B U v same w =
     (λ (after : v ≤ w). rw (le-ltb w v after) refl)
     (cases_lt w v)
 
-others-at : (A B U : ℕ → Bool) (v : ℕ) → IsWithout A v B → ((w : ℕ) → v ≤ w → A w ≡ U w) →
+others-at : (A B U : ℕ → Bool) (v : ℕ) → IsFireWithout A v B → ((w : ℕ) → v ≤ w → A w ≡ U w) →
     (w : ℕ) → B w ≡ others A U v w
 others-at A B U v without rest w =
     ⊎_elim
@@ -367,7 +368,7 @@ others-at A B U v without rest w =
     (cases_eq w v))
     (cases_lt w v)
 
-only-at : (S T : ℕ → Bool) (v : ℕ) → ((w : ℕ) → S w ≡ false) → IsWith S v T → (w : ℕ) → T w ≡ only v w
+only-at : (S T : ℕ → Bool) (v : ℕ) → ((w : ℕ) → S w ≡ false) → IsSetWith S v T → (w : ℕ) → T w ≡ only v w
 only-at S T v none with_v w =
     ⊎_elim
     (λ (same : w ≡ v). rw (eq-eqb w v same) (ap T same ∙ with_v.here))
@@ -375,7 +376,7 @@ only-at S T v none with_v w =
     (cases_eq w v)
 
 pub record Turned (g : Multigraph) (U A : ℕ → Bool) (n : ℕ) : Type 0 where
-  pub part : IsPartOf A U
+  pub part : IsPartOfSpecial A U
   pub meets : MeetsSpecialSets g A U
   pub rest : (w : ℕ) → n ≤ w → A w ≡ U w
   pub left_out : (v : ℕ) → v < n → U v ≡ true → A v ≡ false → AllHang g (only v) (others A U v)
@@ -405,8 +406,8 @@ turned-skip g U A n turned off = record {
       (cases_eq v n);
 }
 
-pub turned-kept : (g : Multigraph) (U A B S T : ℕ → Bool) (n : ℕ) → Turned g U A n → A n ≡ true → IsWithout A n B →
-    ((w : ℕ) → S w ≡ false) → IsWith S n T → IsSpecialFrom g n T B → Turned g U A (n + 1)
+pub turned-kept : (g : Multigraph) (U A B S T : ℕ → Bool) (n : ℕ) → Turned g U A n → A n ≡ true → IsFireWithout A n B →
+    ((w : ℕ) → S w ≡ false) → IsSetWith S n T → IsSpecialFrom g n T B → Turned g U A (n + 1)
 turned-kept g U A B S T n turned member without none with_n special = record {
   part = turned.part;
   meets = turned.meets;
@@ -423,8 +424,8 @@ turned-kept g U A B S T n turned member without none with_n special = record {
       (cases_eq v n);
 }
 
-pub turned-out : (g : Multigraph) (U A B S T : ℕ → Bool) (n : ℕ) → Turned g U A n → IsWithout A n B →
-    ((w : ℕ) → S w ≡ false) → IsWith S n T → AllHang g T B → Turned g U B (n + 1)
+pub turned-out : (g : Multigraph) (U A B S T : ℕ → Bool) (n : ℕ) → Turned g U A n → IsFireWithout A n B →
+    ((w : ℕ) → S w ≡ false) → IsSetWith S n T → AllHang g T B → Turned g U B (n + 1)
 turned-out g U A B S T n turned without none with_n all =
     let same_others : (v : ℕ) → v ≤ n → (w : ℕ) → others A U v w ≡ others B U v w =
     λ v early. others-same A B U v (λ w below. without.others w (omega arith)) in

@@ -1,22 +1,22 @@
 -- A fire on a graph: which vertices burn, and the heat of each: how many dollars it lacks to 127,
 -- and how many edges join it to those that burn. No vertex has more than 63 edges, so who holds
 -- more than 127 dollars burns as who holds 127.
---   dollars held v         == what v holds, if a list tells it
---   capped_for_fire z      == the amount z, but 0 for a debt and 64 for more than 64: as no vertex has more
---                             than 63 edges, it burns with one exactly if it burns with the other
---   IsHeldForBurning n D l == l are the amounts D of n vertices, capped
---   heat x v               == the heat of v
---   burns n x v            == v burns: it is one of n vertices and not one of those that do not
---   IsUnlit n l x          == those that do not burn are below n, none of n vertices burns, and the heat of
---                             each is what it lacks to 127 dollars
---   IsOut x                == no vertex that does not burn has a heat above 127
---   IsLeastToBurn x v      == v is the least vertex that does not burn and has
---   IsEmpty S              == S has no vertex
---   IsLeastIn S v          == v is the least vertex of S
---   IsWithout S v T        == T is the set S without v
---   IsFire g l x           == those that do not burn are vertices of the graph, and the heat of each vertex
---                             is what it lacks to 127 dollars, if it holds what l tells, and its edges to
---                             those that burn
+--   dollars held v      == what v holds, if a list tells it
+--   capped_for_fire z   == the amount z, but 0 for a debt and 64 for more than 64: as no vertex has more than
+--                          63 edges, it burns with one exactly if it burns with the other
+--   IsHeldForFire n D l == l are the amounts D of n vertices, capped
+--   heat x v            == the heat of v
+--   burns n x v         == v burns: it is one of n vertices and not one of those that do not
+--   IsUnlit n l x       == those that do not burn are below n, none of n vertices burns, and the heat of each
+--                          is what it lacks to 127 dollars
+--   IsFireOut x         == no vertex that does not burn has a heat above 127
+--   IsLeastToBurn x v   == v is the least vertex that does not burn and has
+--   IsEmptyFire S       == S has no vertex
+--   IsLeastInFire S v   == v is the least vertex of S
+--   IsFireWithout S v T == T is the set S without v
+--   IsFire g l x        == those that do not burn are vertices of the graph, and the heat of each vertex is
+--                          what it lacks to 127 dollars, if it holds what l tells, and its edges to those
+--                          that burn
 use Rattle.std.specs.Prelude.{◌≡◌, ◌≢◌, ℕ, ◌+◌, ◌-◌, ◌<◌, ◌≤◌, ◌&&◌, min, nat_lt, not, Bool, true, false, List, ℤ, pos, negsuc, slice_index}
 use Rattle.dg_graph.specs.Sets.{in_set, IsVertexSet}
 use Rattle.dg_graph.specs.declared.limits.TheConstants.{MAX_VERTICES}
@@ -32,8 +32,8 @@ abbrev pub capped_for_fire : ℤ → ℕ
 capped_for_fire (pos n) = min 64 n
 capped_for_fire (negsuc n) = 0
 
-abbrev pub IsHeldForBurning : ℕ → Amounts → List ℕ → Type 0
-IsHeldForBurning n D held = (v : ℕ) → v < n → slice_index held v ≡ capped_for_fire (D v)
+abbrev pub IsHeldForFire : ℕ → Amounts → List ℕ → Type 0
+IsHeldForFire n D held = (v : ℕ) → v < n → slice_index held v ≡ capped_for_fire (D v)
 
 abbrev pub heat : Fire → ℕ → ℕ
 heat x v = slice_index x.heat v
@@ -46,8 +46,8 @@ pub record IsUnlit (n : ℕ) (l : List ℕ) (x : Fire) : Type 0 where
   pub none_burns : (v : ℕ) → burns n x v ≡ false
   pub cold : (v : ℕ) → v < MAX_VERTICES → heat x v ≡ 127 - slice_index l v
 
-abbrev pub IsOut : Fire → Type 0
-IsOut x = (v : ℕ) → v < MAX_VERTICES → in_set x.left v ≡ true → heat x v ≤ 127
+abbrev pub IsFireOut : Fire → Type 0
+IsFireOut x = (v : ℕ) → v < MAX_VERTICES → in_set x.left v ≡ true → heat x v ≤ 127
 
 pub record IsLeastToBurn (x : Fire) (v : ℕ) : Type 0 where
   pub few : v < MAX_VERTICES
@@ -55,15 +55,15 @@ pub record IsLeastToBurn (x : Fire) (v : ℕ) : Type 0 where
   pub burns : 127 < heat x v
   pub least : (u : ℕ) → u < v → in_set x.left u ≡ true → heat x u ≤ 127
 
-abbrev pub IsEmpty : (ℕ → Bool) → Type 0
-IsEmpty S = (v : ℕ) → S v ≡ false
+abbrev pub IsEmptyFire : (ℕ → Bool) → Type 0
+IsEmptyFire S = (v : ℕ) → S v ≡ false
 
-pub record IsLeastIn (S : ℕ → Bool) (v : ℕ) : Type 0 where
+pub record IsLeastInFire (S : ℕ → Bool) (v : ℕ) : Type 0 where
   pub few : v < MAX_VERTICES
   pub here : S v ≡ true
   pub least : (u : ℕ) → u < v → S u ≡ false
 
-pub record IsWithout (S : ℕ → Bool) (v : ℕ) (T : ℕ → Bool) : Type 0 where
+pub record IsFireWithout (S : ℕ → Bool) (v : ℕ) (T : ℕ → Bool) : Type 0 where
   pub here : T v ≡ false
   pub others : (w : ℕ) → w ≢ v → S w ≡ T w
 

@@ -1,10 +1,10 @@
 -- The search for the special sets that a set of vertices does not meet.
---   IsPartOf S T                 == each vertex of S is in T
---   IsOff S T                    == no vertex of S is in T
+--   IsPartOfSpecial S T          == each vertex of S is in T
+--   IsOffSpecial S T             == no vertex of S is in T
 --   Hangs g S                    == something hangs loosely on the set S
 --   fire_wall S                  == 64 dollars at each vertex of S, more than it has edges, and none
 --                                   elsewhere
---   IsGrowing g S q E            == S is a connected set that has q, and none of E
+--   IsGrowingSpecial g S q E     == S is a connected set that has q, and none of E
 --   AllHang g S E                == something hangs on each connected set that has all of S and none of E
 --   IsSpecialFrom g q S E        == some connected set that has all of S and none of E is special: the
 --                                   dollars beside it are reduced for q
@@ -21,11 +21,11 @@ use Rattle.dg_theory.specs.Firing.{Amounts}
 use Rattle.dg_theory.specs.Reduced.{IsReduced}
 use Rattle.dg_theory.specs.Determining.{IsConnectedSet, HangsLoosely, beside}
 
-abbrev pub IsPartOf : (ℕ → Bool) → (ℕ → Bool) → Type 0
-IsPartOf S T = (v : ℕ) → S v ≡ true → T v ≡ true
+abbrev pub IsPartOfSpecial : (ℕ → Bool) → (ℕ → Bool) → Type 0
+IsPartOfSpecial S T = (v : ℕ) → S v ≡ true → T v ≡ true
 
-abbrev pub IsOff : (ℕ → Bool) → (ℕ → Bool) → Type 0
-IsOff S T = (v : ℕ) → S v ≡ true → T v ≡ false
+abbrev pub IsOffSpecial : (ℕ → Bool) → (ℕ → Bool) → Type 0
+IsOffSpecial S T = (v : ℕ) → S v ≡ true → T v ≡ false
 
 abbrev pub Hangs : Multigraph → (ℕ → Bool) → Type 0
 Hangs g S = (X : ℕ → Bool) × HangsLoosely g S X
@@ -33,20 +33,20 @@ Hangs g S = (X : ℕ → Bool) × HangsLoosely g S X
 abbrev pub fire_wall : (ℕ → Bool) → Amounts
 fire_wall S v = if S v then pos 64 else pos 0
 
-pub record IsGrowing (g : Multigraph) (S : ℕ → Bool) (q : ℕ) (E : ℕ → Bool) : Type 0 where
+pub record IsGrowingSpecial (g : Multigraph) (S : ℕ → Bool) (q : ℕ) (E : ℕ → Bool) : Type 0 where
   pub connected : IsConnectedSet g S
   pub start : S q ≡ true
-  pub off : IsOff S E
+  pub off : IsOffSpecial S E
 
 abbrev pub AllHang : Multigraph → (ℕ → Bool) → (ℕ → Bool) → Type 0
 AllHang g S E =
-    (T : ℕ → Bool) → IsConnectedSet g T → IsPartOf S T → IsOff T E → Hangs g T
+    (T : ℕ → Bool) → IsConnectedSet g T → IsPartOfSpecial S T → IsOffSpecial T E → Hangs g T
 
 pub record IsSpecialFrom (g : Multigraph) (q : ℕ) (S E : ℕ → Bool) : Type 0 where
   pub set : ℕ → Bool
   pub connected : IsConnectedSet g set
-  pub part : IsPartOf S set
-  pub off : IsOff set E
+  pub part : IsPartOfSpecial S set
+  pub off : IsOffSpecial set E
   pub reduced : IsReduced g q (beside g set)
 
 abbrev pub only : ℕ → ℕ → Bool
@@ -56,7 +56,7 @@ abbrev pub others : (ℕ → Bool) → (ℕ → Bool) → ℕ → ℕ → Bool
 others A U v w = if nat_lt w v then A w else (if w == v then false else U w)
 
 pub record IsGreedyDeterminingSet (g : Multigraph) (U A : ℕ → Bool) : Type 0 where
-  pub part : IsPartOf A U
+  pub part : IsPartOfSpecial A U
   pub left_out : (v : ℕ) → U v ≡ true → A v ≡ false → AllHang g (only v) (others A U v)
   pub kept : (v : ℕ) → A v ≡ true → IsSpecialFrom g v (only v) (others A U v)
 

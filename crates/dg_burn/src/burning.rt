@@ -8,7 +8,7 @@ ghost use Rattle.dg_theory.specs.BurningLaws.{unburnt_by};
 ghost use Rattle.dg_theory.specs.Reduced.{edges_out, IsReduced};
 ghost use Rattle.dg_graph.specs.Sets.{in_set};
 ghost use Rattle.dg_chips.specs.Vector.{at};
-ghost use Rattle.dg_burn.specs.Fires.{dollars, IsHeldForBurning};
+ghost use Rattle.dg_burn.specs.Fires.{dollars, IsHeldForFire};
 
 use crate::fire::{Fire, gained};
 use dg_chips::Wide;
@@ -96,7 +96,7 @@ pub fn burn_counted(graph: &Graph, q: usize, held: &[u8; 16]) -> BurnCounts
 
 /// The amounts as far as burning looks at them: 0 for a debt, and 64 for more than 64.
 pub fn amounts_to_burn(chips: &Wide) -> [u8; 16]
-    ensures { IsHeldForBurning chips.now.size (at chips.now) result }
+    ensures { IsHeldForFire chips.now.size (at chips.now) result }
 {
     let mut held = [0; 16];
     for v in 0..chips.size() {

@@ -4,7 +4,7 @@ ghost use Rattle.std.specs.Prelude.{◌≡◌, ℕ, ◌+◌, ◌-◌, ◌<◌, �
 ghost use Rattle.dg_theory.specs.Multigraph.{edges_between};
 ghost use Rattle.dg_graph.specs.declared.limits.TheConstants.{MAX_VERTICES};
 ghost use Rattle.dg_graph.specs.Sets.{in_set};
-ghost use Rattle.dg_burn.specs.Fires.{heat, IsUnlit, IsOut, IsLeastToBurn, IsLeastIn, IsEmpty, IsWithout};
+ghost use Rattle.dg_burn.specs.Fires.{heat, IsUnlit, IsFireOut, IsLeastToBurn, IsLeastInFire, IsEmptyFire, IsFireWithout};
 
 use dg_graph::{Graph, complement};
 use std::simd::prelude::*;
@@ -35,7 +35,7 @@ impl Fire {
 
     /// The least vertex that does not burn with more edges to burning ones than it holds dollars.
     pub fn next_vertex_to_burn(&self) -> Option<usize>
-        ensures { MatchOption result (IsOut self.now) (IsLeastToBurn self.now) }
+        ensures { MatchOption result (IsFireOut self.now) (IsLeastToBurn self.now) }
     {
         least_to_burn(hot_and_left(hot(self.heat), self.left))
     }
@@ -46,12 +46,12 @@ impl Fire {
         requires left { in_set self.old.left v ≡ true }
         requires room { (w : ℕ) → w < MAX_VERTICES →
             heat self.old w + edges_between graph.now v w ≤ 255 }
-        ensures left { IsWithout (in_set self.old.left) v (in_set self.new.left) }
+        ensures left { IsFireWithout (in_set self.old.left) v (in_set self.new.left) }
         ensures heat { (w : ℕ) → w < MAX_VERTICES →
             heat self.new w ≡ heat self.old w + edges_between graph.now v w }
     {
         let _size = graph.size();
-        self.left = without_vertex(self.left, v);
+        self.left = fire_without_vertex(self.left, v);
         self.heat = with_heat_of_row(self.heat, u8x16::from_array(*graph.row(v)));
     }
 }
@@ -97,17 +97,17 @@ fn hot_and_left(set: u16, other: u16) -> u16
 }
 
 /// The set without one of its vertices.
-pub(crate) fn without_vertex(set: u16, v: usize) -> u16
+pub(crate) fn fire_without_vertex(set: u16, v: usize) -> u16
     requires few { v < MAX_VERTICES }
     requires member { in_set set v ≡ true }
-    ensures { IsWithout (in_set set) v (in_set result) }
+    ensures { IsFireWithout (in_set set) v (in_set result) }
 {
     set ^ 1 << v
 }
 
 /// The least vertex of a set.
 fn least_to_burn(set: u16) -> Option<usize>
-    ensures { MatchOption result (IsEmpty (in_set set)) (IsLeastIn (in_set set)) }
+    ensures { MatchOption result (IsEmptyFire (in_set set)) (IsLeastInFire (in_set set)) }
 {
     if set == 0 {
         return None;

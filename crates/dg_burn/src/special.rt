@@ -6,10 +6,10 @@ ghost use Rattle.dg_theory.specs.Determining.{beside, Determines, HangsLoosely, 
 ghost use Rattle.dg_theory.specs.Reduced.{IsReduced};
 ghost use Rattle.dg_graph.specs.Sets.{in_set, IsVertexSet};
 ghost use Rattle.dg_burn.specs.Fires.{dollars};
-ghost use Rattle.dg_burn.specs.Special.{IsGreedyDeterminingSet, fire_wall, IsGrowing, AllHang, IsSpecialFrom, GreedyDeterminingSetIsOne};
+ghost use Rattle.dg_burn.specs.Special.{IsGreedyDeterminingSet, fire_wall, IsGrowingSpecial, AllHang, IsSpecialFrom, GreedyDeterminingSetIsOne};
 
 use crate::burning::burn_counted;
-use crate::fire::without_vertex;
+use crate::fire::fire_without_vertex;
 use dg_graph::{Graph, complement, contains, with_vertex};
 
 /// A set of vertices that determines the losses within another: a divisor that can bear each loss of k dollars within
@@ -24,7 +24,7 @@ pub fn determining_set(graph: &Graph, within: u16) -> u16
     let mut asked = within;
     for v in 0..graph.size() {
         if contains(asked, v) {
-            let fewer = without_vertex(asked, v);
+            let fewer = fire_without_vertex(asked, v);
             if determines_without(graph, v, with_vertex(0, v), fewer) {
                 asked = fewer;
             }
@@ -41,7 +41,7 @@ pub fn determining_sets_are_one()
 /// Whether something hangs loosely on each connected set that has all vertices of one set, and none of another. Where
 /// something hangs on the one, only a larger set that takes a vertex of it can be special.
 fn determines_without(graph: &Graph, q: usize, set: u16, stop: u16) -> bool
-    requires { IsGrowing graph.now (in_set set) q (in_set stop) }
+    requires { IsGrowingSpecial graph.now (in_set set) q (in_set stop) }
     ensures { MatchBool result
         (AllHang graph.now (in_set set) (in_set stop))
         (IsSpecialFrom graph.now q (in_set set) (in_set stop)) }
@@ -52,7 +52,7 @@ fn determines_without(graph: &Graph, q: usize, set: u16, stop: u16) -> bool
     }
     let mut passed = stop;
     for v in 0..graph.size() {
-        if contains(loose, v) && !contains(passed, v) && is_joined(graph, v, set) {
+        if contains(loose, v) && !contains(passed, v) && is_joined_to_fire(graph, v, set) {
             if !determines_without(graph, q, with_vertex(set, v), passed) {
                 return false;
             }
@@ -71,7 +71,7 @@ fn part_to_determine_by(graph: &Graph, q: usize, set: u16, stop: u16) -> u16
     ensures special { result ≡ 0 → IsReduced graph.now q (beside graph.now (in_set set)) }
 {
     let _size = graph.size();
-    let loose = burn_counted(graph, q, &burning_amounts_beside(graph, set))
+    let loose = burn_counted(graph, q, &dollars_beside_fire(graph, set))
         .burnt
         .unburnt;
     let mut best = 0;
@@ -109,7 +109,7 @@ fn burnt_component(graph: &Graph, set: u16, loose: u16, w: usize) -> u16
 fn count_ways_for_fire(graph: &Graph, set: u16, part: u16, stop: u16) -> usize {
     let mut count = 0;
     for v in 0..graph.size() {
-        if contains(part, v) && !contains(stop, v) && is_joined(graph, v, set) {
+        if contains(part, v) && !contains(stop, v) && is_joined_to_fire(graph, v, set) {
             count += 1;
         }
     }
@@ -130,12 +130,12 @@ fn walled_against_fire(graph: &Graph, set: u16) -> [u8; 16]
 }
 
 /// A dollar at each vertex outside a set from which an edge leads into the set.
-fn burning_amounts_beside(graph: &Graph, set: u16) -> [u8; 16]
+fn dollars_beside_fire(graph: &Graph, set: u16) -> [u8; 16]
     ensures { (v : ℕ) → v < graph.now.size → dollars result v ≡ beside graph.now (in_set set) v }
 {
     let mut held = [0; 16];
     for v in 0..graph.size() {
-        if !contains(set, v) && is_joined(graph, v, set) {
+        if !contains(set, v) && is_joined_to_fire(graph, v, set) {
             held[v] = 1;
         }
     }
@@ -143,7 +143,7 @@ fn burning_amounts_beside(graph: &Graph, set: u16) -> [u8; 16]
 }
 
 /// Whether an edge leads from a vertex into a set.
-fn is_joined(graph: &Graph, v: usize, set: u16) -> bool
+fn is_joined_to_fire(graph: &Graph, v: usize, set: u16) -> bool
     requires { v < graph.now.size }
     ensures { MatchBool result
         (0 < edges_into graph.now (in_set set) v)

@@ -3,12 +3,12 @@
 use Rattle.std.specs.Prelude.{◌≡◌, ℕ, ◌<◌}
 use Rattle.dg_theory.specs.Firing.{Amounts, fired}
 use Rattle.dg_theory.specs.Multigraph.{Multigraph}
-use Rattle.dg_chips.specs.Vector.{Vector, at, IsDivisor}
-use Rattle.dg_chips.specs.Moves.{script_of, IsApplicableMove}
+use Rattle.dg_chips.specs.Vector.{Vector, at, IsDivisorVector}
+use Rattle.dg_chips.specs.Moves.{script_of_move, IsMoveOnDivisor}
 use Rattle.dg_chips.specs.declared.moves.Move.{Move}
 
 pub record IsAfterMove (g : Multigraph) (D : Amounts) (m : Move) (d : Vector) : Type 0 where
-  pub playable : IsApplicableMove g.size m
+  pub playable : IsMoveOnDivisor g.size m
   pub size : d.size ≡ g.size
-  pub divisor : IsDivisor d
-  pub amounts : (v : ℕ) → v < g.size → at d v ≡ fired g D (script_of m) v
+  pub divisor : IsDivisorVector d
+  pub amounts : (v : ℕ) → v < g.size → at d v ≡ fired g D (script_of_move m) v

@@ -1,7 +1,7 @@
 -- The residual of a divisor (Baker and Norine 2007, theorem 1.12).
 --   DualOf g D E          == E is the residual of D: at each vertex the canonical divisor less D
 --   IsDualFault g D fault == the residual of D is refused as a divisor, for this cause
-use Rattle.dg_theory.specs.Firing.{Amounts, AgreeOn}
+use Rattle.dg_theory.specs.Firing.{Amounts, DivisorsAgreeOn}
 use Rattle.dg_theory.specs.Multigraph.{Multigraph}
 use Rattle.dg_theory.specs.Rank.{less, canonical}
 use Rattle.dg_chips.specs.VectorFaults.{IsFirstBeyond}
@@ -10,7 +10,7 @@ use Rattle.dg_chips.specs.declared.limits.TheConstants.{MAX_AMOUNT}
 use Rattle.dg_chips.specs.declared.divisor.ChipFault.TheVariants.{Length, Range}
 
 abbrev pub DualOf : Multigraph → Amounts → Amounts → Type 0
-DualOf g D E = AgreeOn g.size E (less (canonical g) D)
+DualOf g D E = DivisorsAgreeOn g.size E (less (canonical g) D)
 
 abbrev pub IsDualFault : Multigraph → Amounts → ChipFault → Type 0
 IsDualFault g D Length = ⊥

@@ -5,14 +5,14 @@
 use Rattle.std.specs.Prelude.{◌≡◌, ℕ, ◌<◌, ◌≤◌, ℤ}
 use Rattle.dg_theory.specs.Firing.{Amounts, fired, only_at}
 use Rattle.dg_theory.specs.Multigraph.{Multigraph}
-use Rattle.dg_chips.specs.Vector.{Vector, at, IsDivisor, IsOutOfRange}
+use Rattle.dg_chips.specs.Vector.{Vector, at, IsDivisorVector, IsOutOfRange}
 use Rattle.dg_chips.specs.declared.moves.MoveFault.{MoveFault}
 use Rattle.dg_chips.specs.declared.moves.MoveFault.TheVariants.{NoVertex, Empty, Script, Range}
 
 pub record IsLent (g : Multigraph) (D : Amounts) (v : ℕ) (x : ℤ) (d : Vector) : Type 0 where
   pub vertex : v < g.size
   pub size : d.size ≡ g.size
-  pub divisor : IsDivisor d
+  pub divisor : IsDivisorVector d
   pub amounts : (w : ℕ) → w < g.size → at d w ≡ fired g D (only_at v x) w
 
 abbrev pub IsLendingRefusal : Multigraph → Amounts → ℕ → ℤ → MoveFault → Type 0

@@ -1,9 +1,9 @@
 -- Moves (Corry and Perkinson, chapters 1 and 2).
---   script_of m          == the script of the move: 1 or -1 at the vertex, 1 on the set, or the script given
+--   script_of_move m     == the script of the move: 1 or -1 at the vertex, 1 on the set, or the script given
 --   IsMoveOfNoVertex n m == the move names a number that is none of the n vertices
 --   IsMoveOfEmptySet m   == the move fires the empty set
 --   HasOtherSize n m     == the move is a script for another number of vertices
---   IsApplicableMove n m == the move names vertices alone, fires no empty set, and is no script of another
+--   IsMoveOnDivisor n m  == the move names vertices alone, fires no empty set, and is no script of another
 --                           size
 -- To fire the empty set would change nothing; on a table it is refused, since it is no move.
 use Rattle.std.specs.Prelude.{◌≡◌, ◌≢◌, ℕ, ◌<◌, ◌≤◌, true, pos, negsuc}
@@ -13,11 +13,11 @@ use Rattle.dg_chips.specs.Vector.{at}
 use Rattle.dg_chips.specs.declared.moves.Move.{Move}
 use Rattle.dg_chips.specs.declared.moves.Move.TheVariants.{Lend, Borrow, Fire, Script}
 
-abbrev pub script_of : Move → Amounts
-script_of (Lend v) = only_at v (pos 1)
-script_of (Borrow v) = only_at v (negsuc 0)
-script_of (Fire m) = indicator (in_set m)
-script_of (Script s) = at s
+abbrev pub script_of_move : Move → Amounts
+script_of_move (Lend v) = only_at v (pos 1)
+script_of_move (Borrow v) = only_at v (negsuc 0)
+script_of_move (Fire m) = indicator (in_set m)
+script_of_move (Script s) = at s
 
 abbrev pub IsMoveOfNoVertex : ℕ → Move → Type 0
 IsMoveOfNoVertex n (Lend v) = n ≤ v
@@ -37,8 +37,8 @@ HasOtherSize n (Borrow v) = ⊥
 HasOtherSize n (Fire m) = ⊥
 HasOtherSize n (Script s) = s.size ≢ n
 
-abbrev pub IsApplicableMove : ℕ → Move → Type 0
-IsApplicableMove n (Lend v) = v < n
-IsApplicableMove n (Borrow v) = v < n
-IsApplicableMove n (Fire m) = (m ≢ 0) × IsVertexSet n (in_set m)
-IsApplicableMove n (Script s) = s.size ≡ n
+abbrev pub IsMoveOnDivisor : ℕ → Move → Type 0
+IsMoveOnDivisor n (Lend v) = v < n
+IsMoveOnDivisor n (Borrow v) = v < n
+IsMoveOnDivisor n (Fire m) = (m ≢ 0) × IsVertexSet n (in_set m)
+IsMoveOnDivisor n (Script s) = s.size ≡ n

@@ -4,7 +4,7 @@
 use Rattle.std.specs.Prelude.{◌≡◌, ℕ, ◌<◌}
 use Rattle.dg_graph.specs.Graph.{IsGraph}
 use Rattle.dg_theory.specs.Multigraph.{Multigraph}
-use Rattle.dg_chips.specs.Vector.{Vector, IsDivisor}
+use Rattle.dg_chips.specs.Vector.{Vector, IsDivisorVector}
 
 pub record StartData : Type 0 where
   pub graph : Multigraph
@@ -13,6 +13,6 @@ pub record StartData : Type 0 where
 
 pub record IsStart (o : StartData) : Type 0 where
   pub graph : IsGraph o.graph
-  pub divisor : IsDivisor o.divisor
+  pub divisor : IsDivisorVector o.divisor
   pub size : o.divisor.size ≡ o.graph.size
   pub vertex : o.q < o.graph.size

@@ -1,15 +1,15 @@
 -- A whole number for each vertex, as divisors and scripts hold it.
---   Vector               == a size, and a list of whole numbers
---   at x v               == the number at v, and 0 past the list
---   IsVector limit x     == a list of 16 numbers, each within the limit, and 0 past the size; so two
---                           vectors of one size are one if they have the same numbers
---   IsDivisor x          == the numbers are within the limit of an amount
---   IsScript x           == they are within the limit of an entry of a script
---   IsDrift x            == they are within the limit of a sum of scripts
---   IsWide x             == a list of 16 numbers of any size, and 0 past the size of the vector
---   HoldsNumbers xs x    == the vector holds just the numbers of the list xs
---   IsInRange n D        == all n amounts are within the limit of a divisor
---   IsOutOfRange n D     == some of the n amounts is past the limit of a divisor
+--   Vector            == a size, and a list of whole numbers
+--   at x v            == the number at v, and 0 past the list
+--   IsVector limit x  == a list of 16 numbers, each within the limit, and 0 past the size; so two vectors of
+--                        one size are one if they have the same numbers
+--   IsDivisorVector x == the numbers are within the limit of an amount
+--   IsScriptVector x  == they are within the limit of an entry of a script
+--   IsDrift x         == they are within the limit of a sum of scripts
+--   IsWide x          == a list of 16 numbers of any size, and 0 past the size of the vector
+--   HoldsNumbers xs x == the vector holds just the numbers of the list xs
+--   IsInRange n D     == all n amounts are within the limit of a divisor
+--   IsOutOfRange n D  == some of the n amounts is past the limit of a divisor
 use Rattle.std.specs.Prelude.{◌≡◌, ℕ, ◌<◌, ◌≤◌, ℤ, pos, List, length}
 use Rattle.std.specs.Int.RustNames.{unsigned_abs}
 use Rattle.std.specs.List.{slice_index_or}
@@ -30,11 +30,11 @@ pub record IsVector (limit : ℕ) (x : Vector) : Type 0 where
   pub within : (v : ℕ) → v < x.size → unsigned_abs (at x v) ≤ limit
   pub inside : (v : ℕ) → x.size ≤ v → at x v ≡ pos 0
 
-abbrev pub IsDivisor : Vector → Type 0
-IsDivisor x = IsVector MAX_AMOUNT x
+abbrev pub IsDivisorVector : Vector → Type 0
+IsDivisorVector x = IsVector MAX_AMOUNT x
 
-abbrev pub IsScript : Vector → Type 0
-IsScript x = IsVector MAX_ENTRY x
+abbrev pub IsScriptVector : Vector → Type 0
+IsScriptVector x = IsVector MAX_ENTRY x
 
 abbrev pub IsDrift : Vector → Type 0
 IsDrift x = IsVector MAX_DRIFT x

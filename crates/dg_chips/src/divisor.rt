@@ -6,13 +6,13 @@ ghost use Rattle.std.specs.Int.RustNames.{unsigned_abs};
 ghost use Rattle.dg_theory.specs.Rank.{canonical};
 ghost use Rattle.dg_theory.specs.Firing.{degree, IsEffective, only_at, indicator, fired};
 ghost use Rattle.dg_graph.specs.Sets.{in_set, IsVertexSet};
-ghost use Rattle.dg_chips.specs.Vector.{at, HoldsNumbers, IsDivisor, IsOutOfRange};
+ghost use Rattle.dg_chips.specs.Vector.{at, HoldsNumbers, IsDivisorVector, IsOutOfRange};
 ghost use Rattle.dg_chips.specs.DivisorFaults.{IsFirstChipFault, IsFirstMinusFault};
 
 use crate::firing::dollars_carried_once;
 use crate::limits::MAX_AMOUNT;
 use crate::set_firing::set_firing_sums;
-use crate::vector::{first_past, narrowed};
+use crate::vector::{first_amount_past, narrowed};
 use dg_graph::{Graph, MAX_VERTICES};
 use std::marker::Model;
 use thiserror::Error;
@@ -36,13 +36,13 @@ pub struct Divisor {
 }
 
 impl Model for Divisor {
-    ghost use Rattle.dg_chips.specs.Vector.{Vector, IsDivisor};
+    ghost use Rattle.dg_chips.specs.Vector.{Vector, IsDivisorVector};
 
     ghost Value = { Vector };
 
     ghost view = { λ a. record { size = a.size; numbers = a.amounts } };
 
-    ghost invariant = { λ a. IsDivisor (record { size = a.size; numbers = a.amounts }) };
+    ghost invariant = { λ a. IsDivisorVector (record { size = a.size; numbers = a.amounts }) };
 
     ghost inverse = { λ x. record { size = x.size; amounts = x.numbers } };
 }
@@ -54,14 +54,14 @@ impl Divisor {
     /// amount is not within 1,000,000.
     pub fn new(graph: &Graph, amounts: &[i64]) -> Result<Divisor, ChipFault>
         ensures { MatchResult result
-            (λ d. (d.size ≡ graph.now.size) × HoldsNumbers amounts.now d × IsDivisor d)
+            (λ d. (d.size ≡ graph.now.size) × HoldsNumbers amounts.now d × IsDivisorVector d)
             (IsFirstChipFault graph.now.size amounts.now) }
     {
         let size = graph.size();
         if amounts.len() != size {
             return Err(ChipFault::Length);
         }
-        if let Some(v) = first_past(amounts, MAX_AMOUNT) {
+        if let Some(v) = first_amount_past(amounts, MAX_AMOUNT) {
             return Err(ChipFault::Range(v));
         }
         Ok(Divisor::sized(amounts))
@@ -80,9 +80,9 @@ impl Divisor {
 
     /// The divisor that is kept as this row.
     fn of_vector_row(size: usize, amounts: [i32; 16]) -> Divisor
-        requires { IsDivisor (record { size = size; numbers = amounts }) }
+        requires { IsDivisorVector (record { size = size; numbers = amounts }) }
         ensures row { result ≡ record { size = size; numbers = amounts } }
-        ensures divisor { IsDivisor result }
+        ensures divisor { IsDivisorVector result }
     {
         let size = size as u8;
         Divisor { size, amounts }
@@ -129,7 +129,7 @@ impl Divisor {
     /// The number of vertices.
     pub fn size(&self) -> usize
         ensures size { result ≡ self.now.size }
-        ensures divisor { IsDivisor self.now }
+        ensures divisor { IsDivisorVector self.now }
     {
         usize::from(self.size)
     }
@@ -177,7 +177,7 @@ impl Divisor {
             (MAX_AMOUNT < unsigned_abs (at self.now v +ℤ dollars))
             (λ d. (d.size ≡ self.now.size)
             × ((w : ℕ) → w < self.now.size → at d w ≡ at self.now w +ℤ only_at v dollars w)
-            × IsDivisor d) }
+            × IsDivisorVector d) }
     {
         let amount = self.get(v) + dollars;
         if amount.unsigned_abs() > MAX_AMOUNT {
@@ -200,7 +200,7 @@ impl Divisor {
             (λ d. (d.size ≡ graph.now.size)
             × ((w : ℕ) → w < graph.now.size →
             at d w ≡ fired graph.now (at self.now) (only_at v times) w)
-            × IsDivisor d) }
+            × IsDivisorVector d) }
     {
         let size = graph.size();
         let row = graph.row(v);
@@ -226,7 +226,7 @@ impl Divisor {
             (λ d. (d.size ≡ graph.now.size)
             × ((w : ℕ) → w < graph.now.size →
             at d w ≡ fired graph.now (at self.now) (indicator (in_set set)) w)
-            × IsDivisor d) }
+            × IsDivisorVector d) }
     {
         let size = graph.size();
         let (got, lent) = set_firing_sums(graph, set);

@@ -3,7 +3,7 @@
 ghost use Rattle.std.specs.Prelude.{◌≡◌, ℕ, ◌<◌, ◌≤◌, ◌+ℤ◌, ◌-ℤ◌, pos, MatchOption, MatchBool};
 ghost use Rattle.std.specs.Int.RustNames.{unsigned_abs};
 ghost use Rattle.dg_chips.specs.Vector.{at, IsDrift};
-ghost use Rattle.dg_chips.specs.Moves.{script_of, IsApplicableMove};
+ghost use Rattle.dg_chips.specs.Moves.{script_of_move, IsMoveOnDivisor};
 ghost use Rattle.dg_theory.specs.Firing.{FiresTo, only_at, indicator};
 ghost use Rattle.dg_graph.specs.Sets.{in_set};
 ghost use Rattle.dg_chips.specs.Drifts.{IsPastDrift};
@@ -71,12 +71,12 @@ impl Drift {
     /// and its script has the graph's size. With it no vertex has lent or borrowed more than 100,000,000,000,000 times.
     pub fn plus(&self, graph: &Graph, chip_move: &Move) -> Drift
         requires size { self.now.size ≡ graph.now.size }
-        requires playable { IsApplicableMove graph.now.size chip_move.now }
+        requires playable { IsMoveOnDivisor graph.now.size chip_move.now }
         requires limit { (v : ℕ) → v < graph.now.size →
-            unsigned_abs (at self.now v +ℤ script_of chip_move.now v) ≤ MAX_DRIFT }
+            unsigned_abs (at self.now v +ℤ script_of_move chip_move.now v) ≤ MAX_DRIFT }
         ensures size { result.size ≡ graph.now.size }
         ensures entries { (v : ℕ) → v < graph.now.size →
-            at result v ≡ at self.now v +ℤ script_of chip_move.now v }
+            at result v ≡ at self.now v +ℤ script_of_move chip_move.now v }
     {
         let _size = graph.size();
         match chip_move {

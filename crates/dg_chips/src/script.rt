@@ -4,14 +4,14 @@ ghost use Rattle.std.specs.Prelude.{◌≡◌, ℕ, ◌<◌, ◌≤◌, pos, len
 ghost use Rattle.std.specs.List.{slice_index_or};
 ghost use Rattle.std.specs.Int.RustNames.{unsigned_abs};
 ghost use Rattle.dg_theory.specs.Firing.{FiresTo};
-ghost use Rattle.dg_chips.specs.Vector.{at, HoldsNumbers, IsScript};
+ghost use Rattle.dg_chips.specs.Vector.{at, HoldsNumbers, IsScriptVector};
 ghost use Rattle.dg_chips.specs.ScriptFaults.{IsFirstScriptFault};
 
 use crate::divisor::Divisor;
 use crate::drift::Drift;
 use crate::firing::leads;
 use crate::limits::MAX_ENTRY;
-use crate::vector::{first_past, narrowed, widened};
+use crate::vector::{first_amount_past, narrowed, widened};
 use crate::wide::Wide;
 use dg_graph::{Graph, MAX_VERTICES};
 use std::marker::Model;
@@ -36,13 +36,13 @@ pub struct Script {
 }
 
 impl Model for Script {
-    ghost use Rattle.dg_chips.specs.Vector.{Vector, IsScript};
+    ghost use Rattle.dg_chips.specs.Vector.{Vector, IsScriptVector};
 
     ghost Value = { Vector };
 
     ghost view = { λ a. record { size = a.size; numbers = a.entries } };
 
-    ghost invariant = { λ a. IsScript (record { size = a.size; numbers = a.entries }) };
+    ghost invariant = { λ a. IsScriptVector (record { size = a.size; numbers = a.entries }) };
 
     ghost inverse = { λ x. record { size = x.size; entries = x.numbers } };
 }
@@ -54,14 +54,14 @@ impl Script {
     /// entry is not within 1,000,000,000.
     pub fn new(graph: &Graph, entries: &[i64]) -> Result<Script, ScriptFault>
         ensures { MatchResult result
-            (λ s. (s.size ≡ graph.now.size) × HoldsNumbers entries.now s × IsScript s)
+            (λ s. (s.size ≡ graph.now.size) × HoldsNumbers entries.now s × IsScriptVector s)
             (IsFirstScriptFault graph.now.size entries.now) }
     {
         let size = graph.size();
         if entries.len() != size {
             return Err(ScriptFault::Length);
         }
-        if let Some(v) = first_past(entries, MAX_ENTRY) {
+        if let Some(v) = first_amount_past(entries, MAX_ENTRY) {
             return Err(ScriptFault::Limit(v));
         }
         Ok(Script::sized(entries))
@@ -80,7 +80,7 @@ impl Script {
 
     /// The script with the first `size` of these entries. The conditions are that `size` is at most 16, and that each entry is
     /// within 1,000,000,000.
-    pub fn script_of_first(size: usize, entries: &[i32; 16]) -> Script
+    pub fn script_of_first_vertices(size: usize, entries: &[i32; 16]) -> Script
         requires few { size ≤ MAX_VERTICES }
         requires limit { (v : ℕ) → unsigned_abs (slice_index_or entries.now v (pos 0)) ≤ MAX_ENTRY }
         ensures size { result.size ≡ size }
@@ -96,7 +96,7 @@ impl Script {
 
     /// The script that is kept as this row.
     fn of_vector_row(size: usize, entries: [i32; 16]) -> Script
-        requires { IsScript (record { size = size; numbers = entries }) }
+        requires { IsScriptVector (record { size = size; numbers = entries }) }
         ensures { result ≡ record { size = size; numbers = entries } }
     {
         let size = size as u8;
@@ -171,7 +171,7 @@ impl Script {
     /// The number of vertices.
     pub fn size(&self) -> usize
         ensures size { result ≡ self.now.size }
-        ensures script { IsScript self.now }
+        ensures script { IsScriptVector self.now }
     {
         usize::from(self.size)
     }
@@ -179,7 +179,7 @@ impl Script {
     /// How often each vertex lends, and 0 past the last one.
     pub(crate) fn entries(&self) -> [i64; 16]
         ensures entries { result ≡ self.now.numbers }
-        ensures script { IsScript self.now }
+        ensures script { IsScriptVector self.now }
     {
         widened(&self.entries)
     }
@@ -187,7 +187,7 @@ impl Script {
     /// The same in 32 bits.
     pub(crate) fn in_32_bits(&self) -> &[i32; 16]
         ensures entries { result.now ≡ self.now.numbers }
-        ensures script { IsScript self.now }
+        ensures script { IsScriptVector self.now }
     {
         &self.entries
     }

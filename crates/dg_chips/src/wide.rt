@@ -12,7 +12,7 @@ use crate::firing::gained_by;
 use crate::light::is_light;
 use crate::script::Script;
 use crate::set_firing::{gained_by_set, lendings};
-use crate::vector::padded;
+use crate::vector::padded_vector;
 use dg_graph::Graph;
 use std::marker::Model;
 
@@ -46,7 +46,7 @@ impl Wide {
         if amounts.len() != size {
             return Err(ChipFault::Length);
         }
-        let amounts = padded(amounts, 0);
+        let amounts = padded_vector(amounts, 0);
         Ok(Wide { size, amounts })
     }
 

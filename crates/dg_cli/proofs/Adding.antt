@@ -6,7 +6,7 @@
 --   all_arguments               with all its arguments it is the command
 --   no_command, one_command     the bare program has no command, and then one more
 --   all_commands                with all its commands it is the program
-use Rattle.dg_cli.proofs.Common.{◌≡◌, ℕ, ◌+◌, ◌<◌, ◌≤◌, ◌||◌, List, [], ◌∷◌, ◌++◌, length, map, take, get_or, false, refl, sym, ap, ap₂, ◌∙◌, append_assoc, append-nil, map-append, take_more, take_all, AddsArg, AddsSubcommand, App, Rule, Text, app_of, new_app, with_rule, with_subcommand, on_top, Arg, Command, IsArgument, HasSubcommandShape, rule_for, shape_for, bare_program, command, Argument, Subcommand}
+use Rattle.dg_cli.proofs.Common.{◌≡◌, ℕ, ◌+◌, ◌<◌, ◌≤◌, ◌||◌, List, [], ◌∷◌, ◌++◌, length, map, take, get_or, false, refl, sym, ap, ap₂, ◌∙◌, append_assoc, append-nil, map-append, take_more, take_all, AddsArg, AddsSubcommand, App, Rule, Text, app_of, new_app, with_rule, with_subcommand, on_top, Arg, Command, IsArgument, HasSubcommandShape, clap_rule_for, shape_for, bare_program, command_shape, Argument, Subcommand}
 use Rattle.clap.specs.declared.builder.command.Command.TheViews.{out-Command as fields_of}
 use Rattle.dg_cli.specs.Commands.{dollar}
 use Rattle.dg_cli.specs.declared.commands.Subcommand.TheVariants as subcommand
@@ -27,7 +27,7 @@ one_more f things i d within =
     ap (map f) (take_more things i d within) ∙ map-append f (take i things) (get_or things i d ∷ [])
 
 pub record HasArguments (name : Text) (texts : List Argument) (i : ℕ) (made : Command) : Type 0 where
-  pub reads : app_of made ≡ added with_rule (new_app name) (map rule_for (take i texts))
+  pub reads : app_of made ≡ added with_rule (new_app name) (map clap_rule_for (take i texts))
   pub own : (fields_of made).has_globals ≡ false
 
 pub no_argument : (name : Text) (texts : List Argument) (made : Command) → app_of made ≡ new_app name →
@@ -35,12 +35,12 @@ pub no_argument : (name : Text) (texts : List Argument) (made : Command) → app
 no_argument name texts made reads own = record { reads = reads; own = own }
 
 pub one_argument : (name : Text) (arguments : List Argument) (i : ℕ) (d : Argument) (old new : Command) (a : Arg) →
-    i < length arguments → AddsArg old a new → IsArgument (rule_for (get_or arguments i d)) a →
+    i < length arguments → AddsArg old a new → IsArgument (clap_rule_for (get_or arguments i d)) a →
     HasArguments name arguments i old → HasArguments name arguments (i + 1) new
 one_argument name arguments i d old new a within adds argument has = record {
   reads = adds.shape argument.own ∙ ap₂ with_rule has.reads argument.reads
-      ∙ sym (added_more with_rule (new_app name) (map rule_for (take i arguments)) (rule_for (get_or arguments i d)))
-      ∙ ap (added with_rule (new_app name)) (sym (one_more rule_for arguments i d within));
+      ∙ sym (added_more with_rule (new_app name) (map clap_rule_for (take i arguments)) (clap_rule_for (get_or arguments i d)))
+      ∙ ap (added with_rule (new_app name)) (sym (one_more clap_rule_for arguments i d within));
   own = adds.globals ∙ ap₂ (λ x y. x || y) has.own argument.own;
 }
 
@@ -51,7 +51,7 @@ all_rules a (r ∷ rules) =
     all_rules (with_rule a r) rules
     ∙ ap (λ l. on_top (λ s. record s { rules = l }) a) (append_assoc a.top.rules (r ∷ []) rules)
 
-shape_whole : (s : Subcommand) → command (shape_for s).name (shape_for s).rules ≡ shape_for s
+shape_whole : (s : Subcommand) → command_shape (shape_for s).name (shape_for s).rules ≡ shape_for s
 shape_whole subcommand.Judge = refl
 shape_whole subcommand.Rank = refl
 shape_whole subcommand.RiemannRoch = refl
@@ -61,12 +61,12 @@ shape_whole subcommand.Serve = refl
 shape_whole subcommand.Party = refl
 
 pub all_arguments : (s : Subcommand) (name : Text) (texts : List Argument) (i : ℕ) (made : Command) →
-    name ≡ (shape_for s).name → map rule_for texts ≡ (shape_for s).rules → length texts ≤ i →
+    name ≡ (shape_for s).name → map clap_rule_for texts ≡ (shape_for s).rules → length texts ≤ i →
     HasArguments name texts i made → HasSubcommandShape (shape_for s) made
 all_arguments s name texts i made named rules all has = record {
   reads = ap (λ (a : App). a.top) (has.reads
-      ∙ ap (λ l. added with_rule (new_app name) (map rule_for l)) (take_all i texts all)
-      ∙ all_rules (new_app name) (map rule_for texts)) ∙ ap₂ command named rules ∙ shape_whole s;
+      ∙ ap (λ l. added with_rule (new_app name) (map clap_rule_for l)) (take_all i texts all)
+      ∙ all_rules (new_app name) (map clap_rule_for texts)) ∙ ap₂ command_shape named rules ∙ shape_whole s;
   own = has.own;
 }
 

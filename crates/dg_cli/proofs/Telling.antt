@@ -1,5 +1,5 @@
 -- How the library's account is read.
-use Rattle.dg_cli.proofs.Common.{◌≡◌, ◌≢◌, ◌∙◌, ◌⊎◌, ◌<◌, ◌^◌, ℕ, Option, Some, None, Result, Ok, Err, IsErrAnd, true≢false, is_some, inl, inr, sym, ap, arith, decimal, option_map, ok_or, Bor, decimal_injective, Text, IsArgumentNumber, IsGiven, IsGivenOr, TellsSubcommand, least, most, NumberArgument, Capacity, Workers, Seats, Degree, Turns, Refusal}
+use Rattle.dg_cli.proofs.Common.{◌≡◌, ◌≢◌, ◌∙◌, ◌⊎◌, ◌<◌, ◌^◌, ℕ, Option, Some, None, Result, Ok, Err, IsErrAnd, true≢false, is_some, inl, inr, sym, ap, arith, decimal, option_map, ok_or, Bor, decimal_injective, Text, IsArgumentNumber, IsGiven, IsGivenOr, TellsSubcommand, least_of_argument, most_of_argument, NumberArgument, Capacity, Workers, Seats, Degree, Turns, Refusal}
 use Rattle.dg_cli.specs.declared.reading.Refusal.TheVariants.{Command}
 
 pub none≢some : {X : Type 0} (x : X) → None ≡ Some x → ⊥
@@ -38,7 +38,7 @@ number_before low high text (Some u) e (Some n) h = (n, subst_text (sym (some_in
     subst_text : {u v : Text} → u ≡ v → IsArgumentNumber low high u n → IsArgumentNumber low high v n
     subst_text e h = record { spelled = sym e ∙ h.spelled; not_less = h.not_less; not_more = h.not_more }
 
-most_fits : (argument : NumberArgument) → most argument < 2 ^ 64
+most_fits : (argument : NumberArgument) → most_of_argument argument < 2 ^ 64
 most_fits Capacity = omega arith
 most_fits Workers = omega arith
 most_fits Seats = omega arith
@@ -48,14 +48,15 @@ most_fits Turns = omega arith
 -- a text that is the decimal of no number, or of one out of the range, is no number of the argument
 pub no_decimal : (argument : NumberArgument) (text : Text) → ((n : ℕ) → n < 2 ^ 64 → text ≢ decimal n) → (x : ℕ) →
     IsArgumentNumber
-    (least argument) (most argument) text x → ⊥
+    (least_of_argument argument) (most_of_argument argument) text x → ⊥
 no_decimal argument text none x h =
     let fits = most_fits argument in
     none x (omega (arith, h.not_more)) h.spelled
 
-pub out_of_range : (argument : NumberArgument) (text : Text) (n : ℕ) → n < 2 ^ 64 → text ≡ decimal n → ((n < least argument) ⊎
-    (most argument < n))
-    → (x : ℕ) → IsArgumentNumber (least argument) (most argument) text x → ⊥
+pub out_of_range : (argument : NumberArgument) (text : Text) (n : ℕ) → n < 2 ^ 64 → text ≡ decimal n
+    → ((n < least_of_argument argument) ⊎
+    (most_of_argument argument < n))
+    → (x : ℕ) → IsArgumentNumber (least_of_argument argument) (most_of_argument argument) text x → ⊥
 out_of_range argument text n small is out x h =
     let fits = most_fits argument in
     let same : x ≡ n = decimal_injective x n (omega (arith, h.not_more)) small (sym h.spelled ∙ is) in

@@ -1,6 +1,6 @@
 -- What the library is told.
---   rule_by form name             == the rule of an argument of that form and name
---   rule_for argument             == the rule of an argument
+--   clap_rule_by form name        == the rule of an argument of that form and name
+--   clap_rule_for argument        == the rule of an argument
 --   shape_for subcommand          == the shape of a command
 --   IsArgument rule arg           == the argument is the one of the rule, and of its command alone
 --   HasSubcommandShape shape made == the command has the shape, and no argument that others share
@@ -9,7 +9,7 @@ use Rattle.clap.specs.Words.{Rule, Shape, Text, rule_of, shape_of}
 use Rattle.clap.specs.declared.builder.arg.Arg.{Arg}
 use Rattle.clap.specs.declared.builder.command.Command.{Command}
 use Rattle.clap.specs.declared.builder.command.Command.TheViews.{out-Command as fields_of}
-use Rattle.dg_cli.specs.Commands.{flag, greedy, judge, option, party, rank, rehearse, riemann_roch, serve, word, words}
+use Rattle.dg_cli.specs.Commands.{flag_argument, greedy_command, judge_command, option_argument, party_command, rank_command, rehearse_command, riemann_roch_command, serve_command, word_argument, words_argument}
 use Rattle.dg_cli.specs.declared.arguments.Argument.{Argument}
 use Rattle.dg_cli.specs.declared.arguments.Argument.TheVariants as argument
 use Rattle.dg_cli.specs.declared.arguments.Form.{Form}
@@ -17,36 +17,36 @@ use Rattle.dg_cli.specs.declared.arguments.Form.TheVariants as form
 use Rattle.dg_cli.specs.declared.commands.Subcommand.{Subcommand}
 use Rattle.dg_cli.specs.declared.commands.Subcommand.TheVariants as subcommand
 
-abbrev pub rule_by : Form → Text → Rule
-rule_by form.Word name = word name
-rule_by form.Words name = words name
-rule_by form.Option name = option name
-rule_by form.Flag name = flag name
+abbrev pub clap_rule_by : Form → Text → Rule
+clap_rule_by form.Word name = word_argument name
+clap_rule_by form.Words name = words_argument name
+clap_rule_by form.Option name = option_argument name
+clap_rule_by form.Flag name = flag_argument name
 
-abbrev pub rule_for : Argument → Rule
-rule_for argument.File = word (codes "file")
-rule_for argument.Steps = word (codes "steps")
-rule_for argument.Scripts = words (codes "script")
-rule_for argument.Degree = word (codes "degree")
-rule_for argument.Turns = word (codes "turns")
-rule_for argument.Lines = flag (codes "lines")
-rule_for argument.Divisors = option (codes "divisors")
-rule_for argument.Order = flag (codes "order")
-rule_for argument.Numbers = flag (codes "numbers")
-rule_for argument.Seats = option (codes "seats")
-rule_for argument.Capacity = option (codes "cap")
-rule_for argument.Workers = option (codes "workers")
-rule_for argument.RankWorkers = option (codes "workers")
-rule_for argument.LineWorkers = option (codes "workers")
+abbrev pub clap_rule_for : Argument → Rule
+clap_rule_for argument.File = word_argument (codes "file")
+clap_rule_for argument.Steps = word_argument (codes "steps")
+clap_rule_for argument.Scripts = words_argument (codes "script")
+clap_rule_for argument.Degree = word_argument (codes "degree")
+clap_rule_for argument.Turns = word_argument (codes "turns")
+clap_rule_for argument.Lines = flag_argument (codes "lines")
+clap_rule_for argument.Divisors = option_argument (codes "divisors")
+clap_rule_for argument.Order = flag_argument (codes "order")
+clap_rule_for argument.Numbers = flag_argument (codes "numbers")
+clap_rule_for argument.Seats = option_argument (codes "seats")
+clap_rule_for argument.Capacity = option_argument (codes "cap")
+clap_rule_for argument.Workers = option_argument (codes "workers")
+clap_rule_for argument.RankWorkers = option_argument (codes "workers")
+clap_rule_for argument.LineWorkers = option_argument (codes "workers")
 
 abbrev pub shape_for : Subcommand → Shape
-shape_for subcommand.Judge = judge
-shape_for subcommand.Rank = rank
-shape_for subcommand.RiemannRoch = riemann_roch
-shape_for subcommand.Greedy = greedy
-shape_for subcommand.Rehearse = rehearse
-shape_for subcommand.Serve = serve
-shape_for subcommand.Party = party
+shape_for subcommand.Judge = judge_command
+shape_for subcommand.Rank = rank_command
+shape_for subcommand.RiemannRoch = riemann_roch_command
+shape_for subcommand.Greedy = greedy_command
+shape_for subcommand.Rehearse = rehearse_command
+shape_for subcommand.Serve = serve_command
+shape_for subcommand.Party = party_command
 
 pub record IsArgument (rule : Rule) (arg : Arg) : Type 0 where
   pub reads : rule_of arg ≡ rule

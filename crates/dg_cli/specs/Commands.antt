@@ -1,65 +1,66 @@
 -- The commands of the program and their arguments, as the library of command lines has them. An
 -- argument goes by its name, which is also the word of an option or a flag after `--`.
---   word name                == a word that has to be there
---   words name               == one word or more, after all others
---   option name              == `--name` with a word that is its value
---   flag name                == `--name` alone
---   command name arguments   == the command of that name
---   judge, rank, riemann_roch, greedy, rehearse, serve, party == the seven commands
---   bare_program             == the program without its commands: it has a version, one of them has to
---                               be named, and `help` is none of them
---   dollar                   == the program
+--   word_argument name           == a word that has to be there
+--   words_argument name          == one word or more, after all others
+--   option_argument name         == `--name` with a word that is its value
+--   flag_argument name           == `--name` alone
+--   command_shape name arguments == the command of that name
+--   judge_command, rank_command, riemann_roch_command, greedy_command, rehearse_command, serve_command, party_command == the
+--                                   seven commands
+--   bare_program                 == the program without its commands: it has a version, one of them has to be
+--                                   named, and `help` is none of them
+--   dollar                       == the program
 use Rattle.std.specs.Prelude.{List, [], ◌∷◌, Some, true, false, codes}
 use Rattle.clap.specs.Lexer.{usize_max}
 use Rattle.clap.specs.Simple.{new_shape}
 use Rattle.clap.specs.Words.{App, Rule, Shape, Text, new_rule}
 use Rattle.clap.specs.declared.builder.action.ArgAction.TheVariants.{SetTrue}
 
-abbrev pub word : Text → Rule
-word name = record (new_rule name) { value_names = 1; required = true }
+abbrev pub word_argument : Text → Rule
+word_argument name = record (new_rule name) { value_names = 1; required = true }
 
-abbrev pub words : Text → Rule
-words name =
-    record (word name) { range = Some (record { start_inclusive = 1; end_inclusive = usize_max }) }
+abbrev pub words_argument : Text → Rule
+words_argument name =
+    record (word_argument name) { range = Some (record { start_inclusive = 1; end_inclusive = usize_max }) }
 
-abbrev pub option : Text → Rule
-option name = record (new_rule name) { long = Some name; value_names = 1 }
+abbrev pub option_argument : Text → Rule
+option_argument name = record (new_rule name) { long = Some name; value_names = 1 }
 
-abbrev pub flag : Text → Rule
-flag name = record (new_rule name) { long = Some name; action = Some SetTrue }
+abbrev pub flag_argument : Text → Rule
+flag_argument name = record (new_rule name) { long = Some name; action = Some SetTrue }
 
-abbrev pub command : Text → List Rule → Shape
-command name arguments = record (new_shape name) { rules = arguments }
+abbrev pub command_shape : Text → List Rule → Shape
+command_shape name arguments = record (new_shape name) { rules = arguments }
 
-abbrev pub judge : Shape
-judge = command (codes "judge")
-    (word (codes "file") ∷ flag (codes "lines") ∷ option (codes "divisors") ∷ flag (codes "order")
-    ∷ flag (codes "numbers") ∷ option (codes "workers") ∷ [])
+abbrev pub judge_command : Shape
+judge_command = command_shape (codes "judge")
+    (word_argument (codes "file") ∷ flag_argument (codes "lines") ∷ option_argument (codes "divisors")
+    ∷ flag_argument (codes "order") ∷ flag_argument (codes "numbers") ∷ option_argument (codes "workers") ∷ [])
 
-abbrev pub rank : Shape
-rank = command (codes "rank")
-    (word (codes "file") ∷ flag (codes "lines") ∷ option (codes "divisors") ∷ flag (codes "numbers")
-    ∷ word (codes "degree") ∷ option (codes "workers") ∷ [])
+abbrev pub rank_command : Shape
+rank_command = command_shape (codes "rank")
+    (word_argument (codes "file") ∷ flag_argument (codes "lines") ∷ option_argument (codes "divisors")
+    ∷ flag_argument (codes "numbers") ∷ word_argument (codes "degree") ∷ option_argument (codes "workers") ∷ [])
 
-abbrev pub riemann_roch : Shape
-riemann_roch = command (codes "rr")
-    (word (codes "file") ∷ flag (codes "lines") ∷ option (codes "divisors") ∷ flag (codes "numbers")
-    ∷ option (codes "workers") ∷ [])
+abbrev pub riemann_roch_command : Shape
+riemann_roch_command = command_shape (codes "rr")
+    (word_argument (codes "file") ∷ flag_argument (codes "lines") ∷ option_argument (codes "divisors")
+    ∷ flag_argument (codes "numbers") ∷ option_argument (codes "workers") ∷ [])
 
-abbrev pub greedy : Shape
-greedy = command (codes "greedy") (word (codes "file") ∷ word (codes "turns") ∷ [])
+abbrev pub greedy_command : Shape
+greedy_command = command_shape (codes "greedy") (word_argument (codes "file") ∷ word_argument (codes "turns") ∷ [])
 
-abbrev pub rehearse : Shape
-rehearse = command (codes "rehearse") (word (codes "file") ∷ word (codes "steps") ∷ [])
+abbrev pub rehearse_command : Shape
+rehearse_command = command_shape (codes "rehearse") (word_argument (codes "file") ∷ word_argument (codes "steps") ∷ [])
 
-abbrev pub serve : Shape
-serve = command (codes "serve")
-    (word (codes "file") ∷ option (codes "seats") ∷ option (codes "cap")
-    ∷ option (codes "workers") ∷ [])
+abbrev pub serve_command : Shape
+serve_command = command_shape (codes "serve")
+    (word_argument (codes "file") ∷ option_argument (codes "seats") ∷ option_argument (codes "cap")
+    ∷ option_argument (codes "workers") ∷ [])
 
-abbrev pub party : Shape
-party = command (codes "party")
-    (word (codes "file") ∷ words (codes "script") ∷ option (codes "cap") ∷ [])
+abbrev pub party_command : Shape
+party_command = command_shape (codes "party")
+    (word_argument (codes "file") ∷ words_argument (codes "script") ∷ option_argument (codes "cap") ∷ [])
 
 abbrev pub bare_program : App
 bare_program = record {
@@ -75,5 +76,6 @@ bare_program = record {
 unfoldable pub dollar : App
 dollar = record {
   top = record bare_program.top { is_leaf = false };
-  subs = judge ∷ rank ∷ riemann_roch ∷ greedy ∷ rehearse ∷ serve ∷ party ∷ [];
+  subs = judge_command ∷ rank_command ∷ riemann_roch_command ∷ greedy_command ∷ rehearse_command
+      ∷ serve_command ∷ party_command ∷ [];
 }

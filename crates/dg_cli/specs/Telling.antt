@@ -22,19 +22,19 @@ argument_name Seats = codes "seats"
 argument_name Degree = codes "degree"
 argument_name Turns = codes "turns"
 
-abbrev pub least : NumberArgument → ℕ
-least Capacity = 1
-least Workers = 1
-least Seats = 1
-least Degree = 0
-least Turns = 0
+abbrev pub least_of_argument : NumberArgument → ℕ
+least_of_argument Capacity = 1
+least_of_argument Workers = 1
+least_of_argument Seats = 1
+least_of_argument Degree = 0
+least_of_argument Turns = 0
 
-abbrev pub most : NumberArgument → ℕ
-most Capacity = MAX_CAPACITY
-most Workers = MAX_WORKERS
-most Seats = MAX_SEATS
-most Degree = 2 ^ 32 - 1
-most Turns = MAX_TURNS
+abbrev pub most_of_argument : NumberArgument → ℕ
+most_of_argument Capacity = MAX_CAPACITY
+most_of_argument Workers = MAX_WORKERS
+most_of_argument Seats = MAX_SEATS
+most_of_argument Degree = 2 ^ 32 - 1
+most_of_argument Turns = MAX_TURNS
 
 abbrev pub TellsSubcommand : {T : Type 0} → (T → Type 0) → Result T Refusal → Type 0
 TellsSubcommand asks (Ok x) = asks x

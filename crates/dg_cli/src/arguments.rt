@@ -1,6 +1,6 @@
 //! The arguments of the commands: their names and forms, and what the help says of them.
 ghost use Rattle.std.specs.Prelude.{◌≡◌};
-ghost use Rattle.dg_cli.specs.Building.{IsArgument, rule_by, rule_for};
+ghost use Rattle.dg_cli.specs.Building.{IsArgument, clap_rule_by, clap_rule_for};
 
 use crate::help_texts::{
     CAPACITY_HELP, DEGREE_HELP, DIVISORS_HELP, FILE_HELP, LINE_WORKERS_HELP, LINES_HELP,
@@ -59,7 +59,7 @@ pub(crate) enum Form {
 impl Argument {
     /// The argument as the library is told of it.
     pub(crate) fn to_clap<'a>(self, alloc: Global) -> Arg<'a>
-        ensures { IsArgument (rule_for self) result }
+        ensures { IsArgument (clap_rule_for self) result }
     {
         let name = self.name();
         let argument = Arg::new(alloc, name).help(self.help());
@@ -76,7 +76,7 @@ impl Argument {
 
     /// Its name, which is also the word of an option or a flag after `--`.
     fn name<'a>(self) -> &'a str
-        ensures { result.now ≡ (rule_for self).id }
+        ensures { result.now ≡ (clap_rule_for self).id }
     {
         match self {
             Argument::File => "file",
@@ -96,7 +96,7 @@ impl Argument {
 
     /// Whether it is one word or more at its place, a flag, or an option with a value.
     fn form(self) -> Form
-        ensures { rule_for self ≡ rule_by result (rule_for self).id }
+        ensures { clap_rule_for self ≡ clap_rule_by result (clap_rule_for self).id }
     {
         match self {
             Argument::File | Argument::Steps | Argument::Degree | Argument::Turns => Form::Word,

@@ -7,7 +7,7 @@ ghost use Rattle.dg_cli.specs.Refusals.{AskNothing, RefusesCommandLine};
 ghost use Rattle.dg_cli.specs.Faults.{IsNoCallForHelp, IsSaid, IsWhyWordsAskNothing};
 
 use crate::commands::{SUBCOMMANDS, dollar};
-use crate::reading::{Refusal, asked_by};
+use crate::reading::{Refusal, asked_by_words};
 use clap::Command;
 use clap::error::ErrorKind;
 use dg_invocation::{ArgsFault, Invocation};
@@ -65,7 +65,7 @@ fn command_of<'a>(alloc: Global, words: &'a [String]) -> Result<Invocation<'a>, 
     ensures refused { IfErr result (λ error. IsWhyWordsAskNothing (map string_bytes words.entry.now) (kind_of error)) }
 {
     let matches = dollar(alloc)?.try_get_matches_from(words)?;
-    match asked_by(alloc, &matches) {
+    match asked_by_words(alloc, &matches) {
         Ok(asked) => Ok(asked),
         Err(refusal) => Err(error_of(alloc, matches.subcommand_name(), refusal)?),
     }
@@ -85,12 +85,12 @@ fn error_of(
         return Ok(clap::Error::from(AllocError));
     }
     let text = format!(in alloc; "{refusal}")?;
-    let kind = kind_for(&refusal);
+    let kind = clap_kind_for(&refusal);
     clap_error(alloc, name.unwrap_or(""), kind, text.as_str())
 }
 
 /// The library's kind of such an error.
-fn kind_for(refusal: &Refusal<'_>) -> ErrorKind
+fn clap_kind_for(refusal: &Refusal<'_>) -> ErrorKind
     ensures { IsNoCallForHelp result }
 {
     match refusal {
@@ -111,12 +111,12 @@ fn clap_error(
 ) -> Result<clap::Error, AllocError>
     ensures { IfOk result (λ error. kind_of error ≡ kind) }
 {
-    let mut command = shown_command(alloc, name)?;
+    let mut command = command_for_usage(alloc, name)?;
     command.error(kind, text)
 }
 
 /// The command of that name, as its usage shows it; any other name stands for the whole program.
-fn shown_command<'a>(alloc: Global, name: &str) -> Result<Command<'a>, AllocError> {
+fn command_for_usage<'a>(alloc: Global, name: &str) -> Result<Command<'a>, AllocError> {
     for subcommand in SUBCOMMANDS {
         if subcommand.name() == name {
             return subcommand.to_clap(alloc)?.bin_name(subcommand.usage());

@@ -1,7 +1,7 @@
 //! The commands of the program, as the library of command lines is told of them.
 ghost use Rattle.std.specs.Prelude.{◌≡◌, IfOk, map};
 ghost use Rattle.clap.specs.Words.{app_of};
-ghost use Rattle.dg_cli.specs.Building.{HasSubcommandShape, rule_for, shape_for};
+ghost use Rattle.dg_cli.specs.Building.{HasSubcommandShape, clap_rule_for, shape_for};
 ghost use Rattle.dg_cli.specs.Commands.{bare_program, dollar};
 
 use crate::arguments::Argument;
@@ -99,7 +99,7 @@ impl Subcommand {
 
     /// Its arguments, in the order of the help.
     fn arguments(self) -> &'static [Argument]
-        ensures { map rule_for result.now ≡ (shape_for self).rules }
+        ensures { map clap_rule_for result.now ≡ (shape_for self).rules }
     {
         match self {
             Subcommand::Judge => JUDGE_ARGUMENTS,

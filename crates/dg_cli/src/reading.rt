@@ -15,15 +15,15 @@ ghost use Rattle.dg_cli.specs.Asks.{
   HasLinesFlag,
   HasNumbersFlag,
   HasOrderFlag,
-  HasOneTable,
-  IsInForm,
+  HasOneTableArgument,
+  HasFormFlag,
   HasVerdictFormFlags,
-  word_of,
+  word_of_argument,
   words_of,
   HasNumberArgument,
 };
 ghost use Rattle.dg_cli.specs.Numbers.{IsGiven, IsGivenOr, IsArgumentNumber};
-ghost use Rattle.dg_cli.specs.Telling.{TellsSubcommand, least, most, argument_name, argument_rows};
+ghost use Rattle.dg_cli.specs.Telling.{TellsSubcommand, least_of_argument, most_of_argument, argument_name, argument_rows};
 
 use clap::ArgMatches;
 use dg_invocation::{
@@ -77,7 +77,7 @@ impl NumberArgument {
 
     /// The least number that it takes, and the greatest.
     fn range(self) -> (u64, u64)
-        ensures { (result.0 ≡ least self) × (result.1 ≡ most self) }
+        ensures { (result.0 ≡ least_of_argument self) × (result.1 ≡ most_of_argument self) }
     {
         match self {
             NumberArgument::Capacity => (1, u64::from(MAX_CAPACITY)),
@@ -125,7 +125,7 @@ pub(crate) enum Refusal<'a> {
 }
 
 /// What the words ask for, by the command that they name.
-pub(crate) fn asked_by<'a>(
+pub(crate) fn asked_by_words<'a>(
     alloc: Global,
     matches: &ArgMatches<'a>,
 ) -> Result<Invocation<'a>, Refusal<'a>>
@@ -133,11 +133,11 @@ pub(crate) fn asked_by<'a>(
         (λ asked. IsSomeAnd (subcommand_rows_of matches.now) (λ entered. AsksFor entered.0 entered.1 asked)) result }
 {
     let (name, inner) = matches.subcommand().ok_or(Refusal::Command)?;
-    command_in(alloc, name, inner)
+    subcommand_in(alloc, name, inner)
 }
 
 /// What a command with its arguments asks for.
-fn command_in<'a>(
+fn subcommand_in<'a>(
     alloc: Global,
     name: &str,
     inner: &ArgMatches<'a>,
@@ -192,7 +192,7 @@ fn party_in<'a>(alloc: Global, inner: &ArgMatches<'a>) -> Result<PartyTask<'a>, 
 ///
 /// Refused if both are there, then for the number of workers, then for the degree.
 fn sweep_in<'a>(name: &str, inner: &ArgMatches<'a>) -> Result<SweepTask<'a>, Refusal<'a>>
-    requires { (word_of (codes "divisors") (argument_rows inner.now) ≡ None) → HasLinesFlag (argument_rows inner.now) }
+    requires { (word_of_argument (codes "divisors") (argument_rows inner.now) ≡ None) → HasLinesFlag (argument_rows inner.now) }
     ensures { TellsSubcommand (AsksSweep name.now (argument_rows inner.now)) result }
 {
     let file = word_in(inner, "file")?;
@@ -241,7 +241,7 @@ fn verdict_form_in<'a>(inner: &ArgMatches<'a>) -> Result<VerdictForm, Refusal<'a
 
 /// How other answers are printed.
 fn form_in(inner: &ArgMatches<'_>) -> Form
-    ensures { IsInForm (argument_rows inner.now) result }
+    ensures { HasFormFlag (argument_rows inner.now) result }
 {
     if has_numbers_flag(inner) {
         Form::Numbers
@@ -254,7 +254,7 @@ fn form_in(inner: &ArgMatches<'_>) -> Form
 ///
 /// Refused if there are numbers, which are for lines.
 fn task_in<'a>(name: &str, inner: &ArgMatches<'a>) -> Result<Task<'a>, Refusal<'a>>
-    requires lines { HasOneTable (argument_rows inner.now) }
+    requires lines { HasOneTableArgument (argument_rows inner.now) }
     requires others { (name.now ≢ codes "greedy") × (name.now ≢ codes "rehearse") }
     ensures { TellsSubcommand (AsksTask name.now (argument_rows inner.now)) result }
 {
@@ -286,8 +286,8 @@ fn rehearsal_in<'a>(inner: &ArgMatches<'a>) -> Result<Task<'a>, Refusal<'a>>
 /// The table file of a command that has workers for lines alone.
 fn file_alone_in<'a>(inner: &ArgMatches<'a>) -> Result<&'a str, Refusal<'a>>
     ensures { TellsSubcommand
-        (λ file. (word_of (codes "file") (argument_rows inner.now) ≡ Some file.now)
-        × (word_of (codes "workers") (argument_rows inner.now) ≡ None))
+        (λ file. (word_of_argument (codes "file") (argument_rows inner.now) ≡ Some file.now)
+        × (word_of_argument (codes "workers") (argument_rows inner.now) ≡ None))
         result }
 {
     let file = word_in(inner, "file")?;
@@ -345,14 +345,14 @@ fn has_numbers_flag(inner: &ArgMatches<'_>) -> bool
 
 /// The name of the file of amounts, if there is one.
 fn divisors_in<'a>(inner: &ArgMatches<'a>) -> Option<&'a str>
-    ensures { option_map (λ text. text.now) result ≡ word_of (codes "divisors") (argument_rows inner.now) }
+    ensures { option_map (λ text. text.now) result ≡ word_of_argument (codes "divisors") (argument_rows inner.now) }
 {
     text_in(inner, "divisors")
 }
 
 /// The word of an argument, if it has one.
 fn text_in<'a>(inner: &ArgMatches<'a>, name: &str) -> Option<&'a str>
-    ensures { option_map (λ text. text.now) result ≡ word_of name.now (argument_rows inner.now) }
+    ensures { option_map (λ text. text.now) result ≡ word_of_argument name.now (argument_rows inner.now) }
 {
     inner.get_str(name)
 }
@@ -366,7 +366,7 @@ fn texts_in<'a, 'm>(inner: &'m ArgMatches<'a>, name: &str) -> Option<&'m [&'a st
 
 /// The word of an argument that has to be there.
 fn word_in<'a>(inner: &ArgMatches<'a>, name: &str) -> Result<&'a str, Refusal<'a>>
-    ensures { TellsSubcommand (λ word. word_of name.now (argument_rows inner.now) ≡ Some word.now) result }
+    ensures { TellsSubcommand (λ word. word_of_argument name.now (argument_rows inner.now) ≡ Some word.now) result }
 {
     text_in(inner, name).ok_or(Refusal::Command)
 }
@@ -378,7 +378,8 @@ fn given_or<'a>(
     default: u32,
 ) -> Result<u32, Refusal<'a>>
     ensures { TellsSubcommand
-        (IsGivenOr default (least argument) (most argument) (word_of (argument_name argument) (argument_rows inner.now))) result }
+        (IsGivenOr default (least_of_argument argument) (most_of_argument argument)
+        (word_of_argument (argument_name argument) (argument_rows inner.now))) result }
 {
     match given_in(inner, argument)? {
         Some(number) => Ok(number),
@@ -388,7 +389,7 @@ fn given_or<'a>(
 
 /// The number of seats, if one is given.
 fn seats_in<'a>(inner: &ArgMatches<'a>) -> Result<Option<u8>, Refusal<'a>>
-    ensures { TellsSubcommand (IsGiven 1 MAX_SEATS (word_of (codes "seats") (argument_rows inner.now))) result }
+    ensures { TellsSubcommand (IsGiven 1 MAX_SEATS (word_of_argument (codes "seats") (argument_rows inner.now))) result }
 {
     match given_in(inner, NumberArgument::Seats)? {
         Some(seats) => Ok(Some(seats as u8)),
@@ -398,7 +399,8 @@ fn seats_in<'a>(inner: &ArgMatches<'a>) -> Result<Option<u8>, Refusal<'a>>
 
 /// The number of an argument that has to be there.
 fn number_in<'a>(inner: &ArgMatches<'a>, argument: NumberArgument) -> Result<u32, Refusal<'a>>
-    ensures { TellsSubcommand (HasNumberArgument (argument_name argument) (least argument) (most argument) (argument_rows
+    ensures { TellsSubcommand (HasNumberArgument (argument_name argument)
+        (least_of_argument argument) (most_of_argument argument) (argument_rows
         inner.now)) result }
 {
     match text_in(inner, argument.name()) {
@@ -413,7 +415,8 @@ fn given_in<'a>(
     argument: NumberArgument,
 ) -> Result<Option<u32>, Refusal<'a>>
     ensures { TellsSubcommand
-        (IsGiven (least argument) (most argument) (word_of (argument_name argument) (argument_rows inner.now))) result }
+        (IsGiven (least_of_argument argument) (most_of_argument argument)
+        (word_of_argument (argument_name argument) (argument_rows inner.now))) result }
 {
     match text_in(inner, argument.name()) {
         Some(word) => Ok(Some(number_of_argument(argument, word)?)),
@@ -423,7 +426,7 @@ fn given_in<'a>(
 
 /// The number that the word of an argument is.
 fn number_of_argument(argument: NumberArgument, word: &str) -> Result<u32, Refusal<'_>>
-    ensures { TellsSubcommand (IsArgumentNumber (least argument) (most argument) word.entry.now) result }
+    ensures { TellsSubcommand (IsArgumentNumber (least_of_argument argument) (most_of_argument argument) word.entry.now) result }
 {
     let (least, most) = argument.range();
     match natural(word.as_bytes()) {

@@ -1,7 +1,7 @@
 -- Two things that the rows of one command ask for are written alike: each as the rows tell.
 --   told name rows     == the words that the rows of the command of that name tell
 --   asks-told          what is asked for is written as the rows tell
-use Rattle.dg_cli_laws.proofs.Common.{◌≡◌, ◌∙◌, ◌+◌, ◌*◌, ℕ, Bool, true, false, cond, List, [], ◌∷◌, ◌++◌, Option, None, Some, IsSomeAnd, true≢false, codes, decimal, map, refl, sym, ap, slice_index, unwrap_or, is_some, option_map_or, bytes_eq, bytes_eq-Decides, Form, VerdictForm, Invocation, Question, Judge, Rank, RiemannRoch, MAX_CAPACITY, IsGiven, IsGivenOr, IsArgumentNumber, AsksFor, AsksQuestion, HasOneTable, IsInForm, HasVerdictFormFlags, IsOrderedByFlag, HasLinesOption, divisors_option, word_of, words_of, form_words, lines_words, order_words, question_words, verdict_words, seats_words, written}
+use Rattle.dg_cli_laws.proofs.Common.{◌≡◌, ◌∙◌, ◌+◌, ◌*◌, ℕ, Bool, true, false, cond, List, [], ◌∷◌, ◌++◌, Option, None, Some, IsSomeAnd, true≢false, codes, decimal, map, refl, sym, ap, slice_index, unwrap_or, is_some, option_map_or, bytes_eq, bytes_eq-Decides, Form, VerdictForm, Invocation, Question, Judge, Rank, RiemannRoch, MAX_CAPACITY, IsGiven, IsGivenOr, IsArgumentNumber, AsksFor, AsksQuestion, HasOneTableArgument, HasFormFlag, HasVerdictFormFlags, IsOrderedByFlag, HasLinesOption, divisors_option, word_of_argument, words_of, form_as_written, lines_as_written, order_as_written, question_as_written, verdict_as_written, seats_as_written, written}
 use Rattle.std.proofs.Common.{◌==◌}
 use Rattle.clap.specs.Words.{Row, Text}
 use Rattle.dg_invocation.specs.declared.invocation.Invocation.TheVariants as asked
@@ -14,13 +14,13 @@ abbrev is_set : Option Text → Bool
 is_set o = option_map_or (bytes_eq (codes "true")) o false
 
 abbrev has_lines : List Row → Bool
-has_lines rows = cond (is_some (divisors_option rows)) true (is_set (word_of (codes "lines") rows))
+has_lines rows = cond (is_some (divisors_option rows)) true (is_set (word_of_argument (codes "lines") rows))
 
 abbrev the : Text → List Row → Text
-the name rows = unwrap_or (word_of name rows) []
+the name rows = unwrap_or (word_of_argument name rows) []
 
 abbrev number_or : ℕ → Text → List Row → Text
-number_or default name rows = unwrap_or (word_of name rows) (decimal default)
+number_or default name rows = unwrap_or (word_of_argument name rows) (decimal default)
 
 abbrev some : Option Text → List Text
 some None = []
@@ -31,13 +31,13 @@ abbrev key : Text → ℕ
 key name = slice_index name 0 * 256 + slice_index name 1
 
 abbrev order_told : List Row → List Text
-order_told rows = order_words (is_set (word_of (codes "order") rows))
+order_told rows = order_as_written (is_set (word_of_argument (codes "order") rows))
 
 abbrev form_told : List Row → List Text
-form_told rows = cond (is_set (word_of (codes "numbers") rows)) (codes "--numbers" ∷ []) []
+form_told rows = cond (is_set (word_of_argument (codes "numbers") rows)) (codes "--numbers" ∷ []) []
 
 abbrev verdict_told : List Row → List Text
-verdict_told rows = cond (is_set (word_of (codes "numbers") rows)) (codes "--numbers" ∷ []) (order_told rows)
+verdict_told rows = cond (is_set (word_of_argument (codes "numbers") rows)) (codes "--numbers" ∷ []) (order_told rows)
 
 abbrev question_told : ℕ → List Row → List Text
 question_told n rows =
@@ -46,7 +46,7 @@ question_told n rows =
 
 abbrev sweep_told : ℕ → List Row → List Text
 sweep_told n rows =
-    lines_words (divisors_option rows)
+    lines_as_written (divisors_option rows)
     ++ the (codes "file") rows ∷ number_or 1 (codes "workers") rows ∷ question_told n rows
 
 abbrev table_told : ℕ → List Row → List Text
@@ -62,7 +62,7 @@ other_told n rows =
     (cond (n == 29285) (codes "rehearse" ∷ the (codes "file") rows ∷ the (codes "steps") rows ∷ [])
     (cond (n == 29541)
     (codes "serve" ∷ the (codes "file") rows ∷ number_or MAX_CAPACITY (codes "cap") rows ∷ number_or 1 (codes "workers") rows
-    ∷ some (word_of (codes "seats") rows))
+    ∷ some (word_of_argument (codes "seats") rows))
     (codes "party" ∷ the (codes "file") rows ∷ number_or MAX_CAPACITY (codes "cap") rows
     ∷ unwrap_or (words_of (codes "script") rows) [])))
 
@@ -91,22 +91,22 @@ not-set o never = go (is_set o) refl
     go false is = is
 
 with_divisors : List Row → Option Text → Bool
-with_divisors rows o = cond (is_some o) true (is_set (word_of (codes "lines") rows))
+with_divisors rows o = cond (is_some o) true (is_set (word_of_argument (codes "lines") rows))
 
 -- a command on one table has no lines, and a sweep has
-one-table : (rows : List Row) → HasOneTable rows → has_lines rows ≡ false
+one-table : (rows : List Row) → HasOneTableArgument rows → has_lines rows ≡ false
 unfolding with_divisors
-one-table rows alone = ap (with_divisors rows) alone.1 ∙ not-set (word_of (codes "lines") rows) alone.0
+one-table rows alone = ap (with_divisors rows) alone.1 ∙ not-set (word_of_argument (codes "lines") rows) alone.0
 
 swept : (rows : List Row) → HasLinesOption rows (divisors_option rows) → has_lines rows ≡ true
 unfolding with_divisors
 swept rows lines = go (divisors_option rows) refl lines
   where
     go : (o : Option Text) → divisors_option rows ≡ o → HasLinesOption rows o → has_lines rows ≡ true
-    go None is flag = ap (with_divisors rows) is ∙ set (word_of (codes "lines") rows) flag
+    go None is flag = ap (with_divisors rows) is ∙ set (word_of_argument (codes "lines") rows) flag
     go (Some name) is flag = ap (with_divisors rows) is
 
-a-word : (name : Text) (rows : List Row) (text : Text) → word_of name rows ≡ Some text → text ≡ the name rows
+a-word : (name : Text) (rows : List Row) (text : Text) → word_of_argument name rows ≡ Some text → text ≡ the name rows
 a-word name rows text is = sym (ap (λ (o : Option Text). unwrap_or o []) is)
 
 a-number : (low high n : ℕ) (o : Option Text) → IsSomeAnd o (λ text. IsArgumentNumber low high text n) → decimal n ≡
@@ -119,32 +119,33 @@ a-default : (default low high n : ℕ) (o : Option Text) → IsGivenOr default l
 a-default default low high n None h = ap decimal h
 a-default default low high n (Some text) h = sym h.spelled
 
-some-seats : (low high : ℕ) (o : Option Text) (n : Option ℕ) → IsGiven low high o n → seats_words n ≡ some o
+some-seats : (low high : ℕ) (o : Option Text) (n : Option ℕ) → IsGiven low high o n → seats_as_written n ≡ some o
 some-seats low high None None h = refl
 some-seats low high None (Some n) h = absurd h
 some-seats low high (Some text) None h = absurd h
 some-seats low high (Some text) (Some n) h = ap (λ (t : Text). t ∷ []) (sym h.spelled)
 
-an-order : (rows : List Row) (ordered : Bool) → IsOrderedByFlag rows ordered → order_words ordered ≡ order_told rows
-an-order rows true h = ap order_words (sym (set (word_of (codes "order") rows) (h.0 refl)))
+an-order : (rows : List Row) (ordered : Bool) → IsOrderedByFlag rows ordered → order_as_written ordered ≡ order_told rows
+an-order rows true h = ap order_as_written (sym (set (word_of_argument (codes "order") rows) (h.0 refl)))
 an-order rows false h =
-    ap order_words (sym (not-set (word_of (codes "order") rows) (λ is. true≢false (sym (h.1 is)))))
+    ap order_as_written (sym (not-set (word_of_argument (codes "order") rows) (λ is. true≢false (sym (h.1 is)))))
 
-a-form : (rows : List Row) (form : Form) → IsInForm rows form → form_words form ≡ form_told rows
+a-form : (rows : List Row) (form : Form) → HasFormFlag rows form → form_as_written form ≡ form_told rows
 a-form rows form.Words h =
-    ap (λ (b : Bool). cond b (codes "--numbers" ∷ []) []) (sym (not-set (word_of (codes "numbers") rows) h))
+    ap (λ (b : Bool). cond b (codes "--numbers" ∷ []) []) (sym (not-set (word_of_argument (codes "numbers") rows) h))
 a-form rows form.Numbers h =
-    ap (λ (b : Bool). cond b (codes "--numbers" ∷ []) []) (sym (set (word_of (codes "numbers") rows) h))
+    ap (λ (b : Bool). cond b (codes "--numbers" ∷ []) []) (sym (set (word_of_argument (codes "numbers") rows) h))
 
-a-verdict-form : (rows : List Row) (form : VerdictForm) → HasVerdictFormFlags rows form → verdict_words form ≡ verdict_told rows
+a-verdict-form : (rows : List Row) (form : VerdictForm) → HasVerdictFormFlags rows form → verdict_as_written form
+    ≡ verdict_told rows
 a-verdict-form rows (verdict.Words ordered) h =
     an-order rows ordered h.1
     ∙ ap (λ (b : Bool). cond b (codes "--numbers" ∷ []) (order_told rows))
-    (sym (not-set (word_of (codes "numbers") rows) h.0))
+    (sym (not-set (word_of_argument (codes "numbers") rows) h.0))
 a-verdict-form rows verdict.Numbers h =
-    ap (λ (b : Bool). cond b (codes "--numbers" ∷ []) (order_told rows)) (sym (set (word_of (codes "numbers") rows) h.0))
+    ap (λ (b : Bool). cond b (codes "--numbers" ∷ []) (order_told rows)) (sym (set (word_of_argument (codes "numbers") rows) h.0))
 
-by-table : (n : ℕ) (name : Text) (rows : List Row) → key name ≡ n → of_lines n ≡ true → HasOneTable rows
+by-table : (n : ℕ) (name : Text) (rows : List Row) → key name ≡ n → of_lines n ≡ true → HasOneTableArgument rows
     → table_told n rows ≡ told name rows
 by-table n name rows is lined alone =
     sym (ap (λ (m : ℕ). told_by m rows) is
@@ -164,15 +165,15 @@ by-other n name rows is lined =
     ∙ ap (λ (b : Bool). cond b (cond (has_lines rows) (sweep_told n rows) (table_told n rows)) (other_told n rows)) lined)
 
 a-question : (name : Text) (rows : List Row) (question : Question) → AsksQuestion name rows question
-    → (n : ℕ) × (key name ≡ n) × (of_lines n ≡ true) × (question_words question ≡ question_told n rows)
+    → (n : ℕ) × (key name ≡ n) × (of_lines n ≡ true) × (question_as_written question ≡ question_told n rows)
 a-question name rows (Judge form) h =
     (27253, ap key h.0, refl, ap (λ (ws : List Text). codes "judge" ∷ ws) (a-verdict-form rows form h.1))
 a-question name rows (Rank k form) h = (
   29281,
   ap key h.0,
   refl,
-  ap (λ (t : Text). codes "rank" ∷ t ∷ form_words form)
-      (a-number _ _ k (word_of (codes "degree") rows) h.1)
+  ap (λ (t : Text). codes "rank" ∷ t ∷ form_as_written form)
+      (a-number _ _ k (word_of_argument (codes "degree") rows) h.1)
       ∙ ap (λ (ws : List Text). codes "rank" ∷ the (codes "degree") rows ∷ ws) (a-form rows form h.2),
 )
 a-question name rows (RiemannRoch form) h =
@@ -180,16 +181,16 @@ a-question name rows (RiemannRoch form) h =
 
 pub asks-told : (name : Text) (rows : List Row) (it : Invocation) → AsksFor name rows it → written it ≡ told name rows
 asks-told name rows (asked.Task (task.Judge file ordered)) h =
-    ap (λ (t : Text). codes "judge" ∷ t ∷ order_words ordered) (a-word (codes "file") rows file.now h.1)
+    ap (λ (t : Text). codes "judge" ∷ t ∷ order_as_written ordered) (a-word (codes "file") rows file.now h.1)
     ∙ ap (λ (ws : List Text). codes "judge" ∷ the (codes "file") rows ∷ ws) (an-order rows ordered h.3)
     ∙ by-table 27253 name rows (ap key h.0) refl h.2.0.0
 asks-told name rows (asked.Task (task.Rank test)) h =
     ap (λ (t : Text). codes "rank" ∷ t ∷ decimal test.degree ∷ decimal test.workers ∷ [])
     (a-word (codes "file") rows test.file.now h.1.file)
     ∙ ap (λ (t : Text). codes "rank" ∷ the (codes "file") rows ∷ t ∷ decimal test.workers ∷ [])
-    (a-number _ _ test.degree (word_of (codes "degree") rows) h.1.degree)
+    (a-number _ _ test.degree (word_of_argument (codes "degree") rows) h.1.degree)
     ∙ ap (λ (t : Text). codes "rank" ∷ the (codes "file") rows ∷ the (codes "degree") rows ∷ t ∷ [])
-    (a-default _ _ _ test.workers (word_of (codes "workers") rows) h.1.workers)
+    (a-default _ _ _ test.workers (word_of_argument (codes "workers") rows) h.1.workers)
     ∙ by-table 29281 name rows (ap key h.0) refl h.2.0
 asks-told name rows (asked.Task (task.RiemannRoch file)) h =
     ap (λ (t : Text). codes "rr" ∷ t ∷ []) (a-word (codes "file") rows file.now h.1)
@@ -197,40 +198,42 @@ asks-told name rows (asked.Task (task.RiemannRoch file)) h =
 asks-told name rows (asked.Task (task.Greedy play)) h =
     ap (λ (t : Text). codes "greedy" ∷ t ∷ decimal play.turns ∷ []) (a-word (codes "file") rows play.file.now h.1.file)
     ∙ ap (λ (t : Text). codes "greedy" ∷ the (codes "file") rows ∷ t ∷ [])
-    (a-number _ _ play.turns (word_of (codes "turns") rows) h.1.turns)
+    (a-number _ _ play.turns (word_of_argument (codes "turns") rows) h.1.turns)
     ∙ by-other 26482 name rows (ap key h.0) refl
 asks-told name rows (asked.Task (task.Rehearse file steps)) h =
     ap (λ (t : Text). codes "rehearse" ∷ t ∷ steps.now ∷ []) (a-word (codes "file") rows file.now h.1)
     ∙ ap (λ (t : Text). codes "rehearse" ∷ the (codes "file") rows ∷ t ∷ []) (a-word (codes "steps") rows steps.now h.2)
     ∙ by-other 29285 name rows (ap key h.0) refl
 asks-told name rows (asked.Serve session) h =
-    ap (λ (t : Text). codes "serve" ∷ t ∷ decimal session.capacity ∷ decimal session.workers ∷ seats_words session.seats)
+    ap (λ (t : Text). codes "serve" ∷ t ∷ decimal session.capacity ∷ decimal session.workers ∷ seats_as_written session.seats)
     (a-word (codes "file") rows session.file.now h.1.file)
-    ∙ ap (λ (t : Text). codes "serve" ∷ the (codes "file") rows ∷ t ∷ decimal session.workers ∷ seats_words session.seats)
-    (a-default _ _ _ session.capacity (word_of (codes "cap") rows) h.1.capacity)
+    ∙ ap (λ (t : Text). codes "serve" ∷ the (codes "file") rows ∷ t ∷ decimal session.workers ∷ seats_as_written session.seats)
+    (a-default _ _ _ session.capacity (word_of_argument (codes "cap") rows) h.1.capacity)
     ∙ ap (λ (t : Text). codes "serve" ∷ the (codes "file") rows ∷ number_or MAX_CAPACITY (codes "cap") rows ∷ t
-    ∷ seats_words session.seats)
-    (a-default _ _ _ session.workers (word_of (codes "workers") rows) h.1.workers)
+    ∷ seats_as_written session.seats)
+    (a-default _ _ _ session.workers (word_of_argument (codes "workers") rows) h.1.workers)
     ∙ ap (λ (ws : List Text). codes "serve" ∷ the (codes "file") rows ∷ number_or MAX_CAPACITY (codes "cap") rows
     ∷ number_or 1 (codes "workers") rows ∷ ws)
-    (some-seats _ _ (word_of (codes "seats") rows) session.seats h.1.seats)
+    (some-seats _ _ (word_of_argument (codes "seats") rows) session.seats h.1.seats)
     ∙ by-other 29541 name rows (ap key h.0) refl
 asks-told name rows (asked.Party party) h =
     ap (λ (t : Text). codes "party" ∷ t ∷ decimal party.capacity ∷ map (λ script. script.now) party.scripts.items)
     (a-word (codes "file") rows party.file.now h.1.file)
     ∙ ap (λ (t : Text). codes "party" ∷ the (codes "file") rows ∷ t ∷ map (λ script. script.now) party.scripts.items)
-    (a-default _ _ _ party.capacity (word_of (codes "cap") rows) h.1.capacity)
+    (a-default _ _ _ party.capacity (word_of_argument (codes "cap") rows) h.1.capacity)
     ∙ ap (λ (ws : List Text). codes "party" ∷ the (codes "file") rows ∷ number_or MAX_CAPACITY (codes "cap") rows ∷ ws)
     (sym (ap (λ (o : Option (List Text)). unwrap_or o []) h.1.scripts))
     ∙ by-other 28769 name rows (ap key h.0) refl
 asks-told name rows (asked.Sweep sweep) h =
     let (n, is, lined, words) = a-question name rows sweep.question h.question in
-    ap (λ (o : Option Text). lines_words o ++ sweep.file.now ∷ decimal sweep.workers ∷ question_words sweep.question) h.divisors
-    ∙ ap (λ (t : Text). lines_words (divisors_option rows) ++ t ∷ decimal sweep.workers ∷ question_words sweep.question)
+    ap (λ (o : Option Text). lines_as_written o ++ sweep.file.now ∷ decimal sweep.workers ∷ question_as_written sweep.question)
+    h.divisors
+    ∙ ap (λ (t : Text). lines_as_written (divisors_option rows) ++ t ∷ decimal sweep.workers ∷ question_as_written sweep.question)
     (a-word (codes "file") rows sweep.file.now h.file)
-    ∙ ap (λ (t : Text). lines_words (divisors_option rows) ++ the (codes "file") rows ∷ t ∷ question_words sweep.question)
-    (a-default _ _ _ sweep.workers (word_of (codes "workers") rows) h.workers)
-    ∙ ap (λ (ws : List Text). lines_words (divisors_option rows) ++ the (codes "file") rows
+    ∙ ap (λ (t : Text). lines_as_written (divisors_option rows) ++ the
+    (codes "file") rows ∷ t ∷ question_as_written sweep.question)
+    (a-default _ _ _ sweep.workers (word_of_argument (codes "workers") rows) h.workers)
+    ∙ ap (λ (ws : List Text). lines_as_written (divisors_option rows) ++ the (codes "file") rows
     ∷ number_or 1 (codes "workers") rows ∷ ws) words
     ∙ by-sweep n name rows is lined h.lines
 asks-told name rows (asked.Text text) h = absurd h

@@ -2,24 +2,24 @@
 pub use Rattle.dg_chips.proofs.VectorLaws.{held_once}
 pub use Rattle.dg_chips.specs.DivisorFaults.{IsFirstChipFault}
 pub use Rattle.dg_chips.specs.Starts.{StartData}
-pub use Rattle.dg_chips.specs.Vector.{HoldsNumbers, IsDivisor, Vector, at}
+pub use Rattle.dg_chips.specs.Vector.{HoldsNumbers, IsDivisorVector, Vector, at}
 pub use Rattle.dg_chips.specs.VectorFaults.{IsFirstPast}
 pub use Rattle.dg_chips.specs.declared.divisor.ChipFault.{ChipFault}
 pub use Rattle.dg_chips.specs.declared.divisor.ChipFault.TheVariants.{Length, Range}
-pub use Rattle.dg_file.specs.Content.{Content, HasParts, IsContent, IsNotJson, JsonParts, Reads, edge_count_in_json, edge_from_json, edge_in_json, edges_in_json, listed_in_json, numbers_in, put_first_json, texts_in, whole}
-pub use Rattle.dg_file.specs.FileFaults.{GivesDivisor, GivesGraph, IsEdgeFault, IsGraphFault, IsNameFault, IsFileContentFault, IsShapeFault, IsShapeFaultOf, IsTwiceFault, RefusesFile, RefusesTable}
+pub use Rattle.dg_file.specs.Content.{Content, HasJsonParts, IsContent, IsNotJson, JsonParts, ReadsJson, edge_count_in_json, edge_from_json, edge_in_json, edges_in_json, listed_in_json, numbers_in_json, put_first_json, texts_in_json, whole}
+pub use Rattle.dg_file.specs.FileFaults.{FileGivesDivisor, FileGivesGraph, IsEdgeFault, IsFileGraphFault, IsFileNameFault, IsFileContentFault, IsShapeFault, IsShapeFaultOf, IsFileTwiceFault, RefusesTableFile, RefusesTable}
 pub use Rattle.dg_file.specs.FileLaws.{FilesHaveOneMeaning}
-pub use Rattle.dg_file.specs.TableFiles.{IsTable, IsTableFile, item_of_file_edge, items_of_file_content}
+pub use Rattle.dg_file.specs.TableFiles.{IsTableInFile, IsTableFile, item_of_file_edge, items_of_file_content}
 pub use Rattle.dg_file.specs.declared.fault.FileFault.{FileFault}
 pub use Rattle.dg_file.specs.declared.fault.FileFault.TheVariants.{Chip, Graph, Json, Name, NoQ, OutOfMemory, Twice}
 pub use Rattle.dg_file.specs.declared.fault.Shape.{Shape}
-pub use Rattle.dg_file.specs.declared.fault.Shape.TheVariants.{Amounts, Edge, Edges, Q, Top, Vertices}
+pub use Rattle.dg_file.specs.declared.fault.Shape.TheVariants.{Amounts, FileEdge, Edges, Q, Top, Vertices}
 pub use Rattle.dg_graph.proofs.Squares.{one_graph}
-pub use Rattle.dg_graph.specs.Faults.{IsEmptyEdgeItem, IsFirstGraphFault, IsFirstHighValence, IsLoop, IsPartedEdgeList, IsSize, JoinsNoVertex}
-pub use Rattle.dg_graph.specs.Items.{HasEdgeItem, IsGiven, IsEdgeItem, AreEdgeItems, AreEdgeItemsBefore, EdgeItem, edges_listed, valence_listed}
+pub use Rattle.dg_graph.specs.Faults.{IsEmptyGraphItem, IsFirstGraphFault, IsFirstHighValence, IsGraphLoop, IsPartedGraph, IsSize, JoinsNoVertex}
+pub use Rattle.dg_graph.specs.Items.{HasGraphItem, IsGiven, IsGraphItem, AreGraphItems, AreGraphItemsBefore, GraphItem, edges_listed, valence_listed}
 pub use Rattle.dg_graph.specs.declared.fault.GraphFault.{GraphFault}
 pub use Rattle.dg_graph.specs.declared.fault.GraphFault.TheVariants.{Loop, Multiplicity, NoVertex, NotConnected, Size, Valence}
-pub use Rattle.dg_theory.proofs.Chains.{JoinedIn-cong}
+pub use Rattle.dg_theory.proofs.Chains.{JoinedInMultigraph-cong}
 pub use Rattle.dg_theory.proofs.TotalLaws.{total_below-cong}
 pub use Rattle.dg_theory.specs.Multigraph.{Multigraph, edges_between}
 pub use Rattle.dg_theory.specs.Sums.{total_below}

@@ -9,7 +9,7 @@
 --   parts-counted  an object of another number of members has no parts
 --   edge-three     an array of three values is an edge where they are two texts and a number of edges
 --   edge-others    an array of another number of values is no edge
-use Rattle.dg_file.proofs.Common.{◌≡◌, ◌≢◌, ℕ, suc, ◌+◌, ◌<◌, ◌≤◌, List, [], ◌∷◌, ◌++◌, length, get_or, drop, Option, Some, None, option_map, Bor, Vec, String, Global, refl, sym, ap, ◌∙◌, codes, inl, inr, arith, IsSome, option_and_then, cases_order, append_assoc, append-nil, drop_more, drop_all, Data, null, boolean, number, string, array, object, Members, get, get_member, get_item, as_object, as_array, as_str, view, items_view, members_view, Value, get_item_within, JsonParts, HasParts, put_first_json, edge_in_json, edge_from_json, edge_count_in_json, listed_in_json, IsEdgeFault}
+use Rattle.dg_file.proofs.Common.{◌≡◌, ◌≢◌, ℕ, suc, ◌+◌, ◌<◌, ◌≤◌, List, [], ◌∷◌, ◌++◌, length, get_or, drop, Option, Some, None, option_map, Bor, Vec, String, Global, refl, sym, ap, ◌∙◌, codes, inl, inr, arith, IsSome, option_and_then, cases_order, append_assoc, append-nil, drop_more, drop_all, Data, null, boolean, number, string, array, object, Members, get, get_member, get_item, as_object, as_array, as_str, view, items_view, members_view, Value, get_item_within, JsonParts, HasJsonParts, put_first_json, edge_in_json, edge_from_json, edge_count_in_json, listed_in_json, IsEdgeFault}
 use Rattle.dg_file.specs.Content.{member_count, each, edge_of}
 
 abbrev pub after : {A : Type 0} → List A → Option (List A) → Option (List A)
@@ -84,7 +84,7 @@ member_count-view (e ∷ es) = ap suc (member_count-view es)
 
 pub parts-given : (value : Data) (es : List Entry) (parts : JsonParts) → Some (members_view es) ≡ as_object value
     → length es ≡ 4 → Some parts.vertices ≡ get (codes "vertices") value → Some parts.edges ≡ get (codes "edges") value
-    → Some parts.amounts ≡ get (codes "amounts") value → Some parts.q ≡ get (codes "q") value → HasParts value parts
+    → Some parts.amounts ≡ get (codes "amounts") value → Some parts.q ≡ get (codes "q") value → HasJsonParts value parts
 parts-given value es parts is four vertices edges amounts q = record {
   members = members_view es;
   object = sym is;
@@ -96,7 +96,7 @@ parts-given value es parts is four vertices edges amounts q = record {
 }
 
 pub parts-counted : (value : Data) (es : List Entry) (parts : JsonParts) → Some (members_view es) ≡ as_object value
-    → (length es ≡ 4 → ⊥) → ¬ HasParts value parts
+    → (length es ≡ 4 → ⊥) → ¬ HasJsonParts value parts
 parts-counted value es parts is other has =
     let both : Some (members_view es) ≡ Some has.members = is ∙ has.object in
     let same : members_view es ≡ has.members = cc in

@@ -9,7 +9,7 @@
 --   name-fault          a text that is no name
 --   twice-fault         a name that stood before
 --   stood               a name stood before just if it was not added
-use Rattle.dg_file.proofs.Common.{◌≡◌, ℕ, ◌+◌, ◌<◌, ◌≤◌, Bool, true, false, not, cond, refl, List, [], ◌∷◌, ◌++◌, length, get_or, take, map, Some, Bor, option_map, sym, ap, ◌∙◌, arith, slice_get, length-map, length-take, take-map, take_all, map_more, slice_get-map, slice_get-get_or, IsSize, IsName, AreNames, has, added, IsNameFault, IsTwiceFault}
+use Rattle.dg_file.proofs.Common.{◌≡◌, ℕ, ◌+◌, ◌<◌, ◌≤◌, Bool, true, false, not, cond, refl, List, [], ◌∷◌, ◌++◌, length, get_or, take, map, Some, Bor, option_map, sym, ap, ◌∙◌, arith, slice_get, length-map, length-take, take-map, take_all, map_more, slice_get-map, slice_get-get_or, IsSize, IsName, AreNames, has, added, IsFileNameFault, IsFileTwiceFault}
 
 abbrev pub the_text : Bor (List ℕ) → List ℕ
 the_text t = t.now
@@ -42,7 +42,7 @@ module _ (vertices : List (Bor (List ℕ))) (v : ℕ) (names : List (List ℕ)) 
   names-few few = rw so_far (omega (arith, length-take v (texts vertices)))
 
   pub name-fault : IsSize (length vertices) → AreNames names → ¬ IsName (text_at vertices v)
-      → IsNameFault (texts vertices) v
+      → IsFileNameFault (texts vertices) v
   name-fault size are bad = record {
     size = rw length-map size;
     before = rw so_far at are;
@@ -50,7 +50,7 @@ module _ (vertices : List (Bor (List ℕ))) (v : ℕ) (names : List (List ℕ)) 
   }
 
   pub twice-fault : IsSize (length vertices) → AreNames names → IsName (text_at vertices v)
-      → has names (text_at vertices v) ≡ true → IsTwiceFault (texts vertices) v
+      → has names (text_at vertices v) ≡ true → IsFileTwiceFault (texts vertices) v
   twice-fault size are is stood = record {
     size = rw length-map size;
     before = rw so_far at are;

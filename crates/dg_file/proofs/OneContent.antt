@@ -5,7 +5,7 @@
 --   same-value     the value of bytes
 --   same-parts     the parts of a value
 --   same-content   the content of a value
-use Rattle.dg_file.proofs.Common.{◌≡◌, ℕ, ◌<◌, List, Option, Some, None, inl, inr, sym, ◌∙◌, codes, IsSome, false≢true, cases_order, Data, get_member, as_object, as_str, Content, JsonParts, Reads, HasParts, IsContent, texts_in, edges_in_json, numbers_in}
+use Rattle.dg_file.proofs.Common.{◌≡◌, ℕ, ◌<◌, List, Option, Some, None, inl, inr, sym, ◌∙◌, codes, IsSome, false≢true, cases_order, Data, get_member, as_object, as_str, Content, JsonParts, ReadsJson, HasJsonParts, IsContent, texts_in_json, edges_in_json, numbers_in_json}
 
 pub found-once : {A : Type 0} (o : Option A) (x y : A) → o ≡ Some x → o ≡ Some y → x ≡ y
 found-once o x y a b = let e : Some x ≡ Some y = sym a ∙ b in cc
@@ -24,13 +24,13 @@ first-once i j before after = elim (cases_order i j) [
   | inr (inr more) ↦ absurd (after more)
 ]
 
-pub same-value : (bytes : List ℕ) (u v : Data) → Reads bytes u → Reads bytes v → u ≡ v
+pub same-value : (bytes : List ℕ) (u v : Data) → ReadsJson bytes u → ReadsJson bytes v → u ≡ v
 same-value bytes u v a b = found-once _ u v a.1 b.1
 
 parts-equal : (o p : JsonParts) → o.vertices ≡ p.vertices → o.edges ≡ p.edges → o.amounts ≡ p.amounts → o.q ≡ p.q → o ≡ p
 parts-equal o p a b c d = λ i. record { vertices = a i; edges = b i; amounts = c i; q = d i }
 
-pub same-parts : (value : Data) (o p : JsonParts) → HasParts value o → HasParts value p → o ≡ p
+pub same-parts : (value : Data) (o p : JsonParts) → HasJsonParts value o → HasJsonParts value p → o ≡ p
 same-parts value o p a b =
     let members : a.members ≡ b.members = found-once (as_object value) a.members b.members a.object b.object in
     parts-equal o p
@@ -47,7 +47,7 @@ pub same-content : (value : Data) (o p : Content) → IsContent value o → IsCo
 same-content value o p a b =
     let parts : a.parts ≡ b.parts = same-parts value a.parts b.parts a.has b.has in
     content-equal o p
-    (found-once (texts_in b.parts.vertices) o.vertices p.vertices (rw parts at a.vertices) b.vertices)
+    (found-once (texts_in_json b.parts.vertices) o.vertices p.vertices (rw parts at a.vertices) b.vertices)
     (found-once (edges_in_json b.parts.edges) o.edges p.edges (rw parts at a.edges) b.edges)
-    (found-once (numbers_in b.parts.amounts) o.amounts p.amounts (rw parts at a.amounts) b.amounts)
+    (found-once (numbers_in_json b.parts.amounts) o.amounts p.amounts (rw parts at a.amounts) b.amounts)
     (found-once (as_str b.parts.q) o.q p.q (rw parts at a.q) b.q)

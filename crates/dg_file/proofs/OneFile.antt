@@ -1,7 +1,7 @@
 -- Bytes have one fault at most, want of memory aside, and none where they are a table file.
 --   file-one      one fault
 --   file-none     no fault where there is a table
-use Rattle.dg_file.proofs.Common.{◌≡◌, ◌≢◌, ℕ, List, refl, ap, Data, StartData, Reads, IsNotJson, IsTableFile, IsShapeFault, IsFileContentFault, RefusesFile, Shape, FileFault, Json, Graph, Name, Twice, Chip, NoQ, OutOfMemory}
+use Rattle.dg_file.proofs.Common.{◌≡◌, ◌≢◌, ℕ, List, refl, ap, Data, StartData, ReadsJson, IsNotJson, IsTableFile, IsShapeFault, IsFileContentFault, RefusesTableFile, Shape, FileFault, Json, Graph, Name, Twice, Chip, NoQ, OutOfMemory}
 use Rattle.dg_file.specs.declared.fault.FileFault.TheVariants.{Shape as OfShape}
 use Rattle.dg_file.proofs.OneContent.{none-found, same-value, same-content}
 use Rattle.dg_file.proofs.OneShape.{shape-one, shape-none}
@@ -10,10 +10,10 @@ use Rattle.dg_file.proofs.OneTable.{table-one, table-none}
 -- Why bytes are refused: no JSON, a shape, or a table.
 data Cause (bytes : List ℕ) : FileFault → Type 0 where
   no_json : IsNotJson bytes → Cause bytes Json
-  shape : (s : Shape) (value : Data) → Reads bytes value → IsShapeFault value s → Cause bytes (OfShape s)
+  shape : (s : Shape) (value : Data) → ReadsJson bytes value → IsShapeFault value s → Cause bytes (OfShape s)
   table : (f : FileFault) → IsFileContentFault bytes f → Cause bytes f
 
-cause : (bytes : List ℕ) (f : FileFault) → f ≢ OutOfMemory → RefusesFile bytes f → Cause bytes f
+cause : (bytes : List ℕ) (f : FileFault) → f ≢ OutOfMemory → RefusesTableFile bytes f → Cause bytes f
 cause bytes Json known fault = no_json fault
 cause bytes (OfShape s) known fault = shape s fault.0 fault.1 fault.2
 cause bytes (Graph f) known fault = table (Graph f) fault
@@ -24,10 +24,10 @@ cause bytes NoQ known fault = table NoQ fault
 cause bytes OutOfMemory known fault = absurd (known refl)
 
 module _ (bytes : List ℕ) where
-  json-none : (value : Data) → Reads bytes value → IsNotJson bytes → ⊥
+  json-none : (value : Data) → ReadsJson bytes value → IsNotJson bytes → ⊥
   json-none value reads none = none-found _ value reads.1 (none reads.0)
 
-  shape-table : (s : Shape) (value : Data) (f : FileFault) → Reads bytes value → IsShapeFault value s
+  shape-table : (s : Shape) (value : Data) (f : FileFault) → ReadsJson bytes value → IsShapeFault value s
       → IsFileContentFault bytes f → ⊥
   shape-table s value f reads fault refused =
       let same : value ≡ refused.value = same-value bytes value refused.value reads refused.reads in
@@ -61,10 +61,10 @@ module _ (bytes : List ℕ) where
       table-none file.content o names file.describes g (rw content at a.refused)
 
 pub file-one : (bytes : List ℕ) (one other : FileFault) → one ≢ OutOfMemory → other ≢ OutOfMemory
-    → RefusesFile bytes one → RefusesFile bytes other → one ≡ other
+    → RefusesTableFile bytes one → RefusesTableFile bytes other → one ≡ other
 file-one bytes one other known_one known_other a b =
     cause-one bytes one other (cause bytes one known_one a) (cause bytes other known_other b)
 
 pub file-none : (bytes : List ℕ) (fault : FileFault) (o : StartData) (names : List (List ℕ)) → fault ≢ OutOfMemory
-    → RefusesFile bytes fault → ¬ IsTableFile bytes o names
+    → RefusesTableFile bytes fault → ¬ IsTableFile bytes o names
 file-none bytes fault o names known refused file = cause-none bytes fault o names (cause bytes fault known refused) file

@@ -4,7 +4,7 @@
 --   stops-twice       a name that stood before
 --   stops-one         one place at which they stop
 --   name-or-twice     a name is at fault in one way
-use Rattle.dg_file.proofs.Common.{◌≡◌, ℕ, zero, suc, ◌<◌, true, false, List, [], ◌∷◌, length, take, Some, refl, sym, ◌∙◌, ⊎_elim, arith, bytes_eq, slice_get, AllByRecursion, false≢true, or_cases, take-take, take_all, All-get_or, slice_get_within, get_or_from_slice_get, IsName, AreNames, has, IsNameFault, IsTwiceFault, bytes_eq-swap}
+use Rattle.dg_file.proofs.Common.{◌≡◌, ℕ, zero, suc, ◌<◌, true, false, List, [], ◌∷◌, length, take, Some, refl, sym, ◌∙◌, ⊎_elim, arith, bytes_eq, slice_get, AllByRecursion, false≢true, or_cases, take-take, take_all, All-get_or, slice_get_within, get_or_from_slice_get, IsName, AreNames, has, IsFileNameFault, IsFileTwiceFault, bytes_eq-swap}
 use Rattle.std.specs.List.{IsDistinct}
 use Rattle.dg_file.proofs.OneContent.{found-once, first-once}
 
@@ -51,20 +51,20 @@ module _ (names : List (List ℕ)) (i : ℕ) where
     whole = λ are. after (length names) within (rw (take_all (length names) names (omega arith)) are);
   }
 
-  pub stops-name : IsNameFault names i → Stops names i
+  pub stops-name : IsFileNameFault names i → Stops names i
   stops-name fault =
       let name = fault.refused.0 in let there = fault.refused.1 in
       stops fault.before (slice_get_within names i name there)
       (λ j below are. fault.refused.2 (is-name (take j names) i name are (slice_get-take names i j below ∙ there)))
 
-  pub stops-twice : IsTwiceFault names i → Stops names i
+  pub stops-twice : IsFileTwiceFault names i → Stops names i
   stops-twice fault =
       let name = fault.refused.0 in let there = fault.refused.1 in
       stops fault.before (slice_get_within names i name there)
       (λ j below are. is-new (take j names) i name are.different (slice_get-take names i j below ∙ there)
       (rw (take-take i j names (omega arith)) fault.refused.2.1))
 
-  pub name-or-twice : (j : ℕ) → i ≡ j → IsNameFault names i → IsTwiceFault names j → ⊥
+  pub name-or-twice : (j : ℕ) → i ≡ j → IsFileNameFault names i → IsFileTwiceFault names j → ⊥
   name-or-twice j same bad old =
       let name : bad.refused.0 ≡ old.refused.0 =
       found-once (slice_get names j) bad.refused.0 old.refused.0 (rw same at bad.refused.1) old.refused.1 in

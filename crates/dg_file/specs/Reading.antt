@@ -3,16 +3,16 @@
 --   json_parts_of members        == the values of the four members
 --   shape_fault_for fault        == the same as a fault of the file
 --   RefusesShape value fault     == that is the fault of the value's shape
---   RefusesValue value fault     == that is the fault of the value's shape, or of the content that it says
+--   RefusesJsonValue value fault == that is the fault of the value's shape, or of the content that it says
 --   RefusesContent content fault == that is the first fault of the content
---   RefusesNames names fault     == the number of names is at fault, or else that is the first name at fault
+--   RefusesFileNames names fault == the number of names is at fault, or else that is the first name at fault
 use Rattle.std.specs.Prelude.{ℕ, List, length, ⊤}
 use Rattle.dg_graph.specs.Faults.{IsSize}
 use Rattle.dg_graph.specs.declared.fault.GraphFault.TheVariants.{Size}
 use Rattle.serde_json.specs.Data.{Data}
 use Rattle.serde_json.specs.View.{view}
 use Rattle.dg_file.specs.Content.{JsonParts, Content, IsContent}
-use Rattle.dg_file.specs.FileFaults.{IsShapeFault, IsNameFault, IsTwiceFault, RefusesTable}
+use Rattle.dg_file.specs.FileFaults.{IsShapeFault, IsFileNameFault, IsFileTwiceFault, RefusesTable}
 use Rattle.dg_file.specs.declared.fault.FileFault.{FileFault}
 use Rattle.dg_file.specs.declared.fault.FileFault.TheVariants as file
 use Rattle.dg_file.specs.declared.shape.Members.{Members}
@@ -35,20 +35,20 @@ abbrev pub RefusesShape : Data → ShapeFault → Type 0
 RefusesShape value (shape.Shape part) = IsShapeFault value part
 RefusesShape value shape.OutOfMemory = ⊤
 
-abbrev pub RefusesNames : List (List ℕ) → FileFault → Type 0
-RefusesNames names (file.Graph Size) = ¬ IsSize (length names)
-RefusesNames names (file.Name v) = IsNameFault names v
-RefusesNames names (file.Twice v) = IsTwiceFault names v
-RefusesNames names file.OutOfMemory = ⊤
-RefusesNames names fault = ⊥
+abbrev pub RefusesFileNames : List (List ℕ) → FileFault → Type 0
+RefusesFileNames names (file.Graph Size) = ¬ IsSize (length names)
+RefusesFileNames names (file.Name v) = IsFileNameFault names v
+RefusesFileNames names (file.Twice v) = IsFileTwiceFault names v
+RefusesFileNames names file.OutOfMemory = ⊤
+RefusesFileNames names fault = ⊥
 
 abbrev pub RefusesContent : Content → FileFault → Type 0
 RefusesContent content file.OutOfMemory = ⊤
 RefusesContent content fault = RefusesTable content fault
 
-abbrev pub RefusesValue : Data → FileFault → Type 0
-RefusesValue value file.Json = ⊥
-RefusesValue value (file.Shape part) = IsShapeFault value part
-RefusesValue value file.OutOfMemory = ⊤
-RefusesValue value fault =
+abbrev pub RefusesJsonValue : Data → FileFault → Type 0
+RefusesJsonValue value file.Json = ⊥
+RefusesJsonValue value (file.Shape part) = IsShapeFault value part
+RefusesJsonValue value file.OutOfMemory = ⊤
+RefusesJsonValue value fault =
     (content : Content) × IsContent value content × RefusesTable content fault

@@ -2,7 +2,7 @@
 ghost use Rattle.std.specs.Prelude.{◌≡◌, ◌<◌, Some, IfOk, IfErr, MatchOption, map, option_map};
 ghost use Rattle.serde_json.specs.Data.{array};
 ghost use Rattle.serde_json.specs.View.{view, items_view};
-ghost use Rattle.dg_file.specs.Content.{JsonParts, HasParts, Reads, IsNotJson, IsContent, texts_in, numbers_in, edges_in_json, edge_in_json, edge_count_in_json};
+ghost use Rattle.dg_file.specs.Content.{JsonParts, HasJsonParts, ReadsJson, IsNotJson, IsContent, texts_in_json, numbers_in_json, edges_in_json, edge_in_json, edge_count_in_json};
 ghost use Rattle.dg_file.specs.FileFaults.{IsEdgeFault};
 ghost use Rattle.dg_file.specs.Reading.{json_parts_of, RefusesShape};
 
@@ -18,7 +18,7 @@ pub struct Content<'v> {
     /// The names of the vertices.
     pub vertices: Vec<&'v str>,
     /// The edges.
-    pub edges: Vec<Edge<'v>>,
+    pub edges: Vec<FileEdge<'v>>,
     /// The amounts.
     pub amounts: Vec<i64>,
     /// The name of the vertex q.
@@ -41,7 +41,7 @@ impl<'v> Model for Content<'v> {
 
 /// An edge as a table file gives it.
 #[derive(Drop)]
-pub struct Edge<'v> {
+pub struct FileEdge<'v> {
     /// The name of one end.
     pub one: &'v str,
     /// The name of the other end.
@@ -50,8 +50,8 @@ pub struct Edge<'v> {
     pub count: u8,
 }
 
-impl<'v> Model for Edge<'v> {
-    ghost use Rattle.dg_file.specs.Content.{Edge as Says};
+impl<'v> Model for FileEdge<'v> {
+    ghost use Rattle.dg_file.specs.Content.{FileEdge as Says};
 
     ghost Value = { Says };
 
@@ -61,7 +61,7 @@ impl<'v> Model for Edge<'v> {
 /// The JSON value of the bytes, if they have one.
 pub fn value_from_json(alloc: Global, bytes: &[u8]) -> Result<Option<Value>, AllocError>
     ensures { IfOk result (λ value. MatchOption value (IsNotJson bytes.now)
-        (λ value. Reads bytes.now (view value))) }
+        (λ value. ReadsJson bytes.now (view value))) }
 {
     match Value::from_slice(alloc, bytes) {
         Ok(value) => Ok(Some(value)),
@@ -105,7 +105,7 @@ impl From<ShapeFault> for FileFault {
 }
 
 /// What a JSON value says as a table file. Its members are judged in the order of `Shape`.
-pub fn content_of<'v>(alloc: Global, value: &'v Value) -> Result<Content<'v>, ShapeFault>
+pub fn content_from_json<'v>(alloc: Global, value: &'v Value) -> Result<Content<'v>, ShapeFault>
     ensures says { IfOk result (IsContent (view value.now)) }
     ensures refused { IfErr result (RefusesShape (view value.now)) }
 {
@@ -120,9 +120,9 @@ pub fn content_of<'v>(alloc: Global, value: &'v Value) -> Result<Content<'v>, Sh
     };
     let edges = match edges_from_json(alloc, items)? {
         Ok(edges) => edges,
-        Err(i) => return Err(ShapeFault::Shape(Shape::Edge(i))),
+        Err(i) => return Err(ShapeFault::Shape(Shape::FileEdge(i))),
     };
-    let Some(amounts) = amounts_of(alloc, members.amounts)? else {
+    let Some(amounts) = amounts_from_json(alloc, members.amounts)? else {
         return Err(ShapeFault::Shape(Shape::Amounts));
     };
     let Some(q) = members.q.as_str() else {
@@ -146,8 +146,8 @@ struct Members<'v> {
 }
 
 fn members_from_json(value: &Value) -> Option<Members<'_>>
-    ensures { MatchOption result ((parts : JsonParts) → ¬ HasParts (view value.now) parts)
-        (λ members. HasParts (view value.now) (json_parts_of members)) }
+    ensures { MatchOption result ((parts : JsonParts) → ¬ HasJsonParts (view value.now) parts)
+        (λ members. HasJsonParts (view value.now) (json_parts_of members)) }
 {
     let has_four = value.as_object()?.len() == 4;
     if !has_four {
@@ -163,7 +163,7 @@ fn members_from_json(value: &Value) -> Option<Members<'_>>
 
 /// The texts of an array of texts.
 fn vertices_from_json(alloc: Global, value: &Value) -> Result<Option<Vec<&str>>, AllocError>
-    ensures { IfOk result (λ texts. texts_in (view value.now)
+    ensures { IfOk result (λ texts. texts_in_json (view value.now)
         ≡ option_map (λ texts. map (λ vertex. vertex.now) texts.items) texts) }
 {
     let Some(items) = value.as_array() else {
@@ -183,7 +183,7 @@ fn vertices_from_json(alloc: Global, value: &Value) -> Result<Option<Vec<&str>>,
 fn edges_from_json<'v>(
     alloc: Global,
     items: &'v [Value],
-) -> Result<Result<Vec<Edge<'v>>, usize>, AllocError>
+) -> Result<Result<Vec<FileEdge<'v>>, usize>, AllocError>
     ensures edges { IfOk result (λ edges. IfOk edges (λ edges.
         edges_in_json (array (items_view items.now)) ≡ Some edges.items)) }
     ensures refused { IfOk result (λ edges. IfErr edges
@@ -199,7 +199,7 @@ fn edges_from_json<'v>(
     Ok(Ok(edges))
 }
 
-fn edge_of(value: &Value) -> Option<Edge<'_>>
+fn edge_of(value: &Value) -> Option<FileEdge<'_>>
     ensures { result ≡ edge_in_json (view value.now) }
 {
     let items = value.as_array()?;
@@ -207,7 +207,7 @@ fn edge_of(value: &Value) -> Option<Edge<'_>>
         return None;
     }
     let (one, other, count) = (&items[0], &items[1], &items[2]);
-    Some(Edge {
+    Some(FileEdge {
         one: one.as_str()?,
         other: other.as_str()?,
         count: edge_count_from_json(count)?,
@@ -221,8 +221,8 @@ fn edge_count_from_json(value: &Value) -> Option<u8>
 }
 
 /// The numbers of an array of whole numbers.
-fn amounts_of(alloc: Global, value: &Value) -> Result<Option<Vec<i64>>, AllocError>
-    ensures { IfOk result (λ amounts. numbers_in (view value.now)
+fn amounts_from_json(alloc: Global, value: &Value) -> Result<Option<Vec<i64>>, AllocError>
+    ensures { IfOk result (λ amounts. numbers_in_json (view value.now)
         ≡ option_map (λ amounts. amounts.items) amounts) }
 {
     let Some(items) = value.as_array() else {

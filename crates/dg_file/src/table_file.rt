@@ -2,14 +2,14 @@
 ghost use Rattle.std.specs.Prelude.{◌≡◌, [], length, map, IfOk, IfErr, OnOk};
 ghost use Rattle.dg_graph.specs.Faults.{IsSize};
 ghost use Rattle.dg_tokens.specs.Names.{AreNames};
-ghost use Rattle.dg_file.specs.TableFiles.{IsTable, IsTableFile, vertex_named_in_file, items_of_file_content};
-ghost use Rattle.dg_file.specs.FileFaults.{RefusesTable, RefusesFile};
-ghost use Rattle.dg_file.specs.Reading.{RefusesNames, RefusesContent, RefusesValue};
+ghost use Rattle.dg_file.specs.TableFiles.{IsTableInFile, IsTableFile, vertex_named_in_file, items_of_file_content};
+ghost use Rattle.dg_file.specs.FileFaults.{RefusesTable, RefusesTableFile};
+ghost use Rattle.dg_file.specs.Reading.{RefusesFileNames, RefusesContent, RefusesJsonValue};
 ghost use Rattle.dg_file.specs.Content.{Content, IsContent};
 ghost use Rattle.serde_json.specs.View.{view};
 
 use crate::fault::FileFault;
-use crate::shape::{Content, content_of, value_from_json};
+use crate::shape::{Content, content_from_json, value_from_json};
 use dg_chips::{Divisor, Start};
 use dg_graph::{Graph, GraphFault, MAX_VERTICES};
 use dg_tokens::{Names, is_name};
@@ -48,30 +48,30 @@ impl TableFile {
 /// has is `NoVertex`; `Chip`; `NoQ`. `OutOfMemory` means that a growth was refused, and says nothing of the bytes.
 pub fn read_table(alloc: Global, bytes: &[u8]) -> Result<TableFile, FileFault>
     ensures table { IfOk result (λ table. IsTableFile bytes.now table.start table.names) }
-    ensures refused { IfErr result (RefusesFile bytes.now) }
+    ensures refused { IfErr result (RefusesTableFile bytes.now) }
 {
     let value = value_from_json(alloc, bytes)?.ok_or(FileFault::Json)?;
-    table_of(alloc, &value)
+    table_from_json(alloc, &value)
 }
 
 /// The table that a value of JSON describes.
-fn table_of(alloc: Global, value: &Value) -> Result<TableFile, FileFault>
+fn table_from_json(alloc: Global, value: &Value) -> Result<TableFile, FileFault>
     ensures table { IfOk result (λ table. (content : Content) × IsContent (view value.now) content
-        × IsTable content table.start table.names) }
-    ensures refused { IfErr result (RefusesValue (view value.now)) }
+        × IsTableInFile content table.start table.names) }
+    ensures refused { IfErr result (RefusesJsonValue (view value.now)) }
 {
-    let content = content_of(alloc, value)?;
+    let content = content_from_json(alloc, value)?;
     table_of_content(alloc, &content)
 }
 
 /// The table of what a table file says.
 fn table_of_content(alloc: Global, content: &Content<'_>) -> Result<TableFile, FileFault>
-    ensures table { IfOk result (λ table. IsTable content.now table.start table.names) }
+    ensures table { IfOk result (λ table. IsTableInFile content.now table.start table.names) }
     ensures refused { IfErr result (RefusesContent content.now) }
 {
     let names = names_of(alloc, content.vertices.as_slice())?;
     let items = items_of_file_content(alloc, content, &names)?;
-    let start = start_of(content, &names, items.as_slice())?;
+    let start = start_from_json(content, &names, items.as_slice())?;
     Ok(TableFile { start, names })
 }
 
@@ -79,23 +79,23 @@ fn table_of_content(alloc: Global, content: &Content<'_>) -> Result<TableFile, F
 fn names_of(alloc: Global, vertices: &[&str]) -> Result<Names, FileFault>
     ensures names { IfOk result (λ names. names ≡ map (λ vertex. vertex.now) vertices.now) }
     ensures are_names { IfOk result AreNames }
-    ensures refused { IfErr result (RefusesNames (map (λ vertex. vertex.now) vertices.now)) }
+    ensures refused { IfErr result (RefusesFileNames (map (λ vertex. vertex.now) vertices.now)) }
 {
     if vertices.is_empty() || vertices.len() > MAX_VERTICES {
         return Err(FileFault::Graph(GraphFault::Size));
     }
     let mut names = Names::new(alloc);
-    add_names(alloc, vertices, &mut names)?;
+    add_names_from_json(alloc, vertices, &mut names)?;
     Ok(names)
 }
 
 /// Puts the texts, whose number is within the limits, into names of which there are none yet.
-fn add_names(alloc: Global, vertices: &[&str], names: &mut Names) -> Result<(), FileFault>
+fn add_names_from_json(alloc: Global, vertices: &[&str], names: &mut Names) -> Result<(), FileFault>
     requires size { IsSize (length vertices.now) }
     requires empty { names.old ≡ [] }
     ensures names { OnOk result (names.new ≡ map (λ vertex. vertex.now) vertices.now) }
     ensures are_names { OnOk result (AreNames names.new) }
-    ensures refused { IfErr result (RefusesNames (map (λ vertex. vertex.now) vertices.now)) }
+    ensures refused { IfErr result (RefusesFileNames (map (λ vertex. vertex.now) vertices.now)) }
 {
     for (v, vertex) in vertices.iter().enumerate() {
         if !is_name(vertex.as_bytes()) {
@@ -127,7 +127,7 @@ fn items_of_file_content(
 }
 
 /// The start on the graph of the items.
-fn start_of(
+fn start_from_json(
     content: &Content<'_>,
     names: &Names,
     items: &[(u8, u8, u8)],
@@ -135,7 +135,7 @@ fn start_of(
     requires given { names.now ≡ content.now.vertices }
     requires are_names { AreNames names.now }
     requires items { items.now ≡ items_of_file_content content.now }
-    ensures table { IfOk result (λ start. IsTable content.now start names.now) }
+    ensures table { IfOk result (λ start. IsTableInFile content.now start names.now) }
     ensures refused { IfErr result (RefusesTable content.now) }
 {
     let graph = Graph::new(names.len(), items)?;

@@ -5,10 +5,10 @@ pub use Rattle.dg_rules.proofs.ListLaws.{more_holds}
 pub use Rattle.dg_rules.proofs.LookLaws.{look_fits, look_kept, look_new, look_vertices}
 pub use Rattle.dg_rules.proofs.StateLaws.{right_in}
 pub use Rattle.dg_rules.proofs.StepLaw.{vertices_stay}
-pub use Rattle.dg_rules.specs.Legal.{IsLegal, IsSeat}
+pub use Rattle.dg_rules.specs.Legal.{IsLegal, IsSeatInGame}
 pub use Rattle.dg_rules.specs.Look.{IsLookAt}
 pub use Rattle.dg_rules.specs.Requests.{asked}
-pub use Rattle.dg_rules.specs.State.{LeadsTo, GameState}
+pub use Rattle.dg_rules.specs.State.{HistoryLeadsTo, GameState}
 pub use Rattle.dg_rules.specs.declared.entry.Entry.{Entry}
 pub use Rattle.dg_rules.specs.declared.entry.Plain.{Plain}
 pub use Rattle.dg_rules.specs.declared.game.TheConstants.{MAX_ENTRIES}
@@ -17,8 +17,8 @@ pub use Rattle.dg_rules.specs.declared.step.Command.{Command}
 pub use Rattle.dg_rules.specs.declared.step.Command.TheVariants.{Call, Commit, Rank}
 pub use Rattle.dg_rules.specs.declared.step.Step.{Step}
 pub use Rattle.dg_rank.specs.Limits.{ArePastTrialLimits}
-pub use Rattle.dg_game.specs.Rehearsal.{IsPlayingSchedule, KeepsLook, PlaysOn, StopsPlay}
-pub use Rattle.dg_game.specs.Schedule.{IsScheduleGoodBefore, HasLook, ScheduleHasTrials, IsAskedInSchedule, IsEntryOfSchedule, IsGoodScheduleStep, IsKept, StepUsesKeptLook, UsesUpKeptLook}
+pub use Rattle.dg_game.specs.Rehearsal.{IsPlayingSchedule, KeepsLook, PlaysScheduleOn, StopsSchedule}
+pub use Rattle.dg_game.specs.Schedule.{IsScheduleGoodBefore, HasScheduleLook, ScheduleHasTrials, IsAskedInSchedule, IsEntryOfSchedule, IsGoodScheduleStep, IsKeptInSchedule, StepUsesKeptLook, UsesUpKeptLook}
 pub use Rattle.dg_game.specs.ScheduleFaults.{IsFirstRehearsalFault}
 pub use Rattle.dg_game.specs.declared.schedule.Rehearsal.{Rehearsal}
 pub use Rattle.dg_game.specs.declared.schedule.RehearseFault.{RehearseFault}

@@ -6,7 +6,7 @@
 --   keeps_more     the look that a seat keeps stays, unless the step is the seat's and uses looks
 --   keeps_new      after a look by the seat it keeps that one
 --   keeps_none     after a step of the seat that uses its look up it keeps none
-use Rattle.dg_game.proofs.Common.{◌≡◌, ℕ, ◌+◌, List, [], ◌∷◌, ◌++◌, length, length-append, slice_get, Option, Some, None, arith, refl, sym, ap, subst, ◌∙◌, inl, inr, cases_lt, StartData, IsLookAt, KeepsLook, UsesUpKeptLook, StepUsesKeptLook, IsKept, Entry, LookData, Command, Call, Commit, Rank, Step, look_kept}
+use Rattle.dg_game.proofs.Common.{◌≡◌, ℕ, ◌+◌, List, [], ◌∷◌, ◌++◌, length, length-append, slice_get, Option, Some, None, arith, refl, sym, ap, subst, ◌∙◌, inl, inr, cases_lt, StartData, IsLookAt, KeepsLook, UsesUpKeptLook, StepUsesKeptLook, IsKeptInSchedule, Entry, LookData, Command, Call, Commit, Rank, Step, look_kept}
 use Rattle.dg_rules.specs.declared.entry.Plain.TheVariants as plain
 
 -- the step is another seat's, or uses no look
@@ -18,7 +18,7 @@ one_step steps n s t first second = let same : Some s ≡ Some t = sym first ∙
 
 pub kept_more : (steps : List Step) (seat n i : ℕ) (step : Step) → slice_get steps n ≡ Some step →
     LeavesLook seat step →
-    IsKept steps seat n i → IsKept steps seat (n + 1) i
+    IsKeptInSchedule steps seat n i → IsKeptInSchedule steps seat (n + 1) i
 kept_more steps seat n i step there leaves kept = record {
   before = omega (arith, kept.before);
   look = kept.look;
@@ -33,7 +33,7 @@ kept_more steps seat n i step there leaves kept = record {
 
 pub kept_less : (steps : List Step) (seat n i : ℕ) (step : Step) → slice_get steps n ≡ Some step →
     LeavesLook seat step →
-    IsKept steps seat (n + 1) i → IsKept steps seat n i
+    IsKeptInSchedule steps seat (n + 1) i → IsKeptInSchedule steps seat n i
 kept_less steps seat n i step there leaves kept = elim (cases_lt i n) [
   | inl earlier ↦ record {
     before = earlier;
@@ -49,7 +49,7 @@ kept_less steps seat n i step there leaves kept = elim (cases_lt i n) [
 
 pub kept_new : (steps : List Step) (seat n : ℕ) →
     slice_get steps n ≡ Some (record { seat = seat; command = Call plain.Look }) →
-    IsKept steps seat (n + 1) n
+    IsKeptInSchedule steps seat (n + 1) n
 kept_new steps seat n there = record {
   before = omega arith;
   look = there;
@@ -73,7 +73,7 @@ uses_look (Rank k) up = tt
 
 pub kept_none : (steps : List Step) (seat n i : ℕ) (c : Command) →
     slice_get steps n ≡ Some (record { seat = seat; command = c }) →
-    UsesUpKeptLook c → ¬ IsKept steps seat (n + 1) i
+    UsesUpKeptLook c → ¬ IsKeptInSchedule steps seat (n + 1) i
 kept_none steps seat n i c there up kept = elim (cases_lt i n) [
   | inl earlier ↦ kept.last n _ earlier (omega arith) there refl (uses_look c up)
   | inr now ↦
@@ -96,7 +96,7 @@ keeps_more o H e steps seat step (Some x) there leaves (kept, look) =
     (rw (longer H e) (kept_more steps seat (length H) x.number step there leaves kept), look_kept o H e x look)
 keeps_more o H e steps seat step None there leaves none =
     λ i kept. none i (kept_less steps seat (length H) i step there leaves
-    (subst (λ n. IsKept steps seat n i) (longer H e) kept))
+    (subst (λ n. IsKeptInSchedule steps seat n i) (longer H e) kept))
 
 pub keeps_new : (o : StartData) (H : List Entry) (e : Entry) (steps : List Step) (seat : ℕ) (x : LookData) →
     slice_get steps (length H) ≡ Some (record { seat = seat; command = Call plain.Look }) → x.number ≡ length H →
@@ -107,4 +107,4 @@ pub keeps_none : (o : StartData) (H : List Entry) (e : Entry) (steps : List Step
     slice_get steps (length H) ≡ Some (record { seat = seat; command = c }) → UsesUpKeptLook c →
     KeepsLook o (H ++ e ∷ []) steps seat None
 keeps_none o H e steps seat c there up i kept =
-    kept_none steps seat (length H) i c there up (subst (λ n. IsKept steps seat n i) (longer H e) kept)
+    kept_none steps seat (length H) i c there up (subst (λ n. IsKeptInSchedule steps seat n i) (longer H e) kept)

@@ -2,11 +2,11 @@
 --   IsLookOfSchedule call              == the call is a look
 --   UsesUpKeptLook command             == the command uses a look up
 --   StepUsesKeptLook command           == the command takes a look, or uses one up
---   IsKept steps seat j i              == before step j, step i is the last look that the seat has taken and
+--   IsKeptInSchedule steps seat j i    == before step j, step i is the last look that the seat has taken and
 --                                         not used up
 --   IsAskedInSchedule steps seat j c r == r is the request of the command c, if the seat gives it as step j
 --   IsEntryOfSchedule steps j step e   == the entry has the seat of step j, and the request of its command
---   HasLook steps seat j c             == if the command c enters what was computed on a look, the seat keeps
+--   HasScheduleLook steps seat j c     == if the command c enters what was computed on a look, the seat keeps
 --                                         one before step j
 --   ScheduleHasTrials n c              == if the command c is a rank test, it is within the limits on n
 --                                         vertices
@@ -18,7 +18,7 @@
 --                                         has room for
 use Rattle.std.specs.Prelude.{◌≡◌, ℕ, ◌<◌, ◌≤◌, List, length, slice_get, Some, ⊤}
 use Rattle.dg_chips.specs.Starts.{StartData}
-use Rattle.dg_rules.specs.Legal.{IsSeat, IsLegal}
+use Rattle.dg_rules.specs.Legal.{IsSeatInGame, IsLegal}
 use Rattle.dg_rules.specs.Requests.{asked}
 use Rattle.dg_rules.specs.declared.entry.Entry.{Entry}
 use Rattle.dg_rules.specs.declared.entry.Plain.{Plain}
@@ -45,7 +45,7 @@ StepUsesKeptLook (Call p) = IsLookOfSchedule p
 StepUsesKeptLook Commit = ⊤
 StepUsesKeptLook (Rank k) = ⊤
 
-pub record IsKept (steps : List Step) (seat j i : ℕ) : Type 0 where
+pub record IsKeptInSchedule (steps : List Step) (seat j i : ℕ) : Type 0 where
   pub before : i < j
   pub look : slice_get steps i ≡ Some (record { seat = seat; command = Call plain.Look })
   pub last : (k : ℕ) (step : Step) → i < k → k < j → slice_get steps k ≡ Some step →
@@ -53,17 +53,17 @@ pub record IsKept (steps : List Step) (seat j i : ℕ) : Type 0 where
 
 abbrev pub IsAskedInSchedule : List Step → ℕ → ℕ → Command → Request → Type 0
 IsAskedInSchedule steps seat j (Call p) r = r ≡ asked p
-IsAskedInSchedule steps seat j Commit r = (i : ℕ) × IsKept steps seat j i × (r ≡ request.Judge i)
-IsAskedInSchedule steps seat j (Rank k) r = (i : ℕ) × IsKept steps seat j i × (r ≡ request.Rank i k)
+IsAskedInSchedule steps seat j Commit r = (i : ℕ) × IsKeptInSchedule steps seat j i × (r ≡ request.Judge i)
+IsAskedInSchedule steps seat j (Rank k) r = (i : ℕ) × IsKeptInSchedule steps seat j i × (r ≡ request.Rank i k)
 
 pub record IsEntryOfSchedule (steps : List Step) (j : ℕ) (step : Step) (e : Entry) : Type 0 where
   pub seat : e.seat ≡ step.seat
   pub request : IsAskedInSchedule steps step.seat j step.command e.request
 
-abbrev pub HasLook : List Step → ℕ → ℕ → Command → Type 0
-HasLook steps seat j (Call p) = ⊤
-HasLook steps seat j Commit = (i : ℕ) × IsKept steps seat j i
-HasLook steps seat j (Rank k) = (i : ℕ) × IsKept steps seat j i
+abbrev pub HasScheduleLook : List Step → ℕ → ℕ → Command → Type 0
+HasScheduleLook steps seat j (Call p) = ⊤
+HasScheduleLook steps seat j Commit = (i : ℕ) × IsKeptInSchedule steps seat j i
+HasScheduleLook steps seat j (Rank k) = (i : ℕ) × IsKeptInSchedule steps seat j i
 
 abbrev pub ScheduleHasTrials : ℕ → Command → Type 0
 ScheduleHasTrials n (Call p) = ⊤
@@ -72,7 +72,7 @@ ScheduleHasTrials n (Rank k) = IsRankTestWithinLimits n k
 
 abbrev pub IsGoodScheduleStep : ℕ → List Step → ℕ → Step → Type 0
 IsGoodScheduleStep n steps j step =
-    IsSeat step.seat × HasLook steps step.seat j step.command × ScheduleHasTrials n step.command
+    IsSeatInGame step.seat × HasScheduleLook steps step.seat j step.command × ScheduleHasTrials n step.command
 
 abbrev pub IsScheduleGoodBefore : ℕ → List Step → ℕ → Type 0
 IsScheduleGoodBefore n steps j =

@@ -13,7 +13,7 @@ use dg_rules::{Finding, LookData};
 /// `dg_rules`.
 ///
 /// Refused with `TooMany` alone, if k is above 1,000 or there are more than 200,000 trials.
-pub(crate) fn rank_kept_look(q: usize, look: &LookData, k: u32) -> Result<Finding, RankFault>
+pub(crate) fn rank_look_of_schedule(q: usize, look: &LookData, k: u32) -> Result<Finding, RankFault>
     requires size { look.now.position.size ≡ look.now.graph.size }
     requires vertex { q < look.now.graph.size }
     ensures { MatchResult result

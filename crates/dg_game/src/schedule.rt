@@ -1,23 +1,23 @@
 //! Schedules: their steps are played one after another.
 ghost use Rattle.std.specs.Prelude.{◌≡◌, ◌≢◌, ℕ, ◌<◌, ◌≤◌, List, [], ◌∷◌, ◌++◌, length, slice_get, Some, MatchResult, MatchOption, OnErr, None};
 ghost use Rattle.dg_chips.specs.Starts.{StartData};
-ghost use Rattle.dg_rules.specs.Legal.{IsSeat};
+ghost use Rattle.dg_rules.specs.Legal.{IsSeatInGame};
 ghost use Rattle.dg_rules.specs.Look.{IsRightFinding, request_for_finding, request_for_question};
-ghost use Rattle.dg_game.specs.Schedule.{UsesUpKeptLook, IsKept, IsAskedInSchedule, ScheduleHasTrials, IsRehearsal};
+ghost use Rattle.dg_game.specs.Schedule.{UsesUpKeptLook, IsKeptInSchedule, IsAskedInSchedule, ScheduleHasTrials, IsRehearsal};
 ghost use Rattle.dg_game.specs.ScheduleFaults.{IsFirstRehearsalFault};
-ghost use Rattle.dg_game.specs.Rehearsal.{KeepsLook, IsPlayingSchedule, IsRehearsalInPlay, PlaysOn, StopsPlay};
+ghost use Rattle.dg_game.specs.Rehearsal.{KeepsLook, IsPlayingSchedule, IsRehearsalInPlay, PlaysScheduleOn, StopsSchedule};
 ghost use Rattle.dg_rules.specs.declared.entry.Entry.{Entry};
 ghost use Rattle.dg_rules.specs.declared.step.Command.{Command};
 ghost use Rattle.dg_rules.specs.declared.step.Step.{Step};
 ghost use Rattle.dg_rules.specs.declared.step.Command.TheVariants.{Call, Commit, Rank};
 
-use crate::ranking::rank_kept_look;
+use crate::ranking::rank_look_of_schedule;
 use dg_chips::Start;
 use dg_rank::{RankFault, trials};
 use dg_reduce::InverseLaplacian;
 use dg_rules::{
     BLANK, Command, Entry, Finding, Game, LookData, MAX_ENTRIES, MAX_SEATS, Plain, Question, Step,
-    finding_of_verdict, renew_inverse_for_finding,
+    finding_of_verdict, renew_game_inverse,
 };
 use std::alloc::Allocator;
 use thiserror::Error;
@@ -104,12 +104,12 @@ impl Rehearsal {
     pub fn play(&mut self, step: &Step, entry: &mut Entry) -> Result<(), RehearseFault>
         requires { IsRehearsalInPlay self.old }
         ensures plays { MatchResult result
-            (λ _. (self.old.game.entries < MAX_ENTRIES) × PlaysOn self.old step.now entry.new self.new)
-            (StopsPlay self.old step.now) }
+            (λ _. (self.old.game.entries < MAX_ENTRIES) × PlaysScheduleOn self.old step.now entry.new self.new)
+            (StopsSchedule self.old step.now) }
         ensures same { OnErr result ((self.new ≡ self.old) × (entry.new ≡ entry.old)) }
     {
         let seat = step.seat;
-        if let Some(fault) = self.barred_from_schedule(seat) {
+        if let Some(fault) = self.seat_barred_from_schedule(seat) {
             return Err(fault);
         }
         match &step.command {
@@ -123,12 +123,12 @@ impl Rehearsal {
     }
 
     /// Why the seat can have no step next, whatever its command.
-    fn barred_from_schedule(&self, seat: u8) -> Option<RehearseFault>
+    fn seat_barred_from_schedule(&self, seat: u8) -> Option<RehearseFault>
         requires { IsRehearsalInPlay self.now }
         ensures { MatchOption result
-            (IsSeat seat × (self.now.game.entries < MAX_ENTRIES))
+            (IsSeatInGame seat × (self.now.game.entries < MAX_ENTRIES))
             (λ fault. (c : Command) →
-            StopsPlay self.now (record { seat = seat; command = c }) fault) }
+            StopsSchedule self.now (record { seat = seat; command = c }) fault) }
     {
         let i = self.game.entries() as usize;
         if seat < 1 || seat > MAX_SEATS {
@@ -144,8 +144,8 @@ impl Rehearsal {
     fn call(&mut self, seat: u8, plain: &Plain, entry: &mut Entry)
         requires playing { IsRehearsalInPlay self.old }
         requires room { self.old.game.entries < MAX_ENTRIES }
-        requires seat { IsSeat seat }
-        ensures { PlaysOn self.old (record { seat = seat; command = Call plain.now }) entry.new self.new }
+        requires seat { IsSeatInGame seat }
+        ensures { PlaysScheduleOn self.old (record { seat = seat; command = Call plain.now }) entry.new self.new }
     {
         if let Plain::Look = plain {
             self.looks[usize::from(seat)] = Some(self.game.look_data());
@@ -158,10 +158,10 @@ impl Rehearsal {
     fn commit(&mut self, seat: u8, entry: &mut Entry) -> Result<(), RehearseFault>
         requires playing { IsRehearsalInPlay self.old }
         requires room { self.old.game.entries < MAX_ENTRIES }
-        requires seat { IsSeat seat }
+        requires seat { IsSeatInGame seat }
         ensures plays { MatchResult result
-            (λ _. PlaysOn self.old (record { seat = seat; command = Commit }) entry.new self.new)
-            (StopsPlay self.old (record { seat = seat; command = Commit })) }
+            (λ _. PlaysScheduleOn self.old (record { seat = seat; command = Commit }) entry.new self.new)
+            (StopsSchedule self.old (record { seat = seat; command = Commit })) }
         ensures same { OnErr result ((self.new ≡ self.old) × (entry.new ≡ entry.old)) }
     {
         let i = self.game.entries() as usize;
@@ -173,7 +173,7 @@ impl Rehearsal {
             return Ok(());
         }
         let q = self.q();
-        renew_inverse_for_finding(&mut self.inverse, q, &look);
+        renew_game_inverse(&mut self.inverse, q, &look);
         let finding = finding_of_verdict(&self.inverse, q, &look);
         self.enter_finding_as_step(seat, &look, &finding, entry);
         Ok(())
@@ -183,10 +183,10 @@ impl Rehearsal {
     fn rank(&mut self, seat: u8, k: u32, entry: &mut Entry) -> Result<(), RehearseFault>
         requires playing { IsRehearsalInPlay self.old }
         requires room { self.old.game.entries < MAX_ENTRIES }
-        requires seat { IsSeat seat }
+        requires seat { IsSeatInGame seat }
         ensures plays { MatchResult result
-            (λ _. PlaysOn self.old (record { seat = seat; command = Rank k }) entry.new self.new)
-            (StopsPlay self.old (record { seat = seat; command = Rank k })) }
+            (λ _. PlaysScheduleOn self.old (record { seat = seat; command = Rank k }) entry.new self.new)
+            (StopsSchedule self.old (record { seat = seat; command = Rank k })) }
         ensures same { OnErr result ((self.new ≡ self.old) × (entry.new ≡ entry.old)) }
     {
         let i = self.game.entries() as usize;
@@ -199,7 +199,7 @@ impl Rehearsal {
             self.enter_stale_as_step(seat, &look, &Question::Rank(k), entry);
             return Ok(());
         }
-        let Ok(finding) = rank_kept_look(self.q(), &look, k) else {
+        let Ok(finding) = rank_look_of_schedule(self.q(), &look, k) else {
             return Err(RehearseFault::TooMany(i));
         };
         self.enter_finding_as_step(seat, &look, &finding, entry);
@@ -219,7 +219,7 @@ impl Rehearsal {
     /// The look that a seat keeps, if it keeps one.
     fn kept(&self, seat: u8) -> Option<LookData>
         requires playing { IsRehearsalInPlay self.now }
-        requires seat { IsSeat seat }
+        requires seat { IsSeatInGame seat }
         ensures { (o : StartData) (H : List Entry) (steps : List Step) →
             IsPlayingSchedule o steps H self.now → KeepsLook o H steps seat result }
     {
@@ -239,7 +239,7 @@ impl Rehearsal {
             IsPlayingSchedule o steps H self.old × KeepsLook o H steps seat (Some look.now) }
         requires found { IsRightFinding self.old.game.q look.now finding.now }
         requires room { self.old.game.entries < MAX_ENTRIES }
-        requires seat { IsSeat seat }
+        requires seat { IsSeatInGame seat }
         ensures { (o : StartData) (H : List Entry) (steps : List Step) (c : Command) →
             IsPlayingSchedule o steps H self.old → KeepsLook o H steps seat (Some look.now) →
             slice_get steps (length H) ≡ Some (record { seat = seat; command = c }) →
@@ -258,7 +258,7 @@ impl Rehearsal {
             IsPlayingSchedule o steps H self.old × KeepsLook o H steps seat (Some look.now) }
         requires stale { look.now.gifts ≢ self.old.game.gifts }
         requires room { self.old.game.entries < MAX_ENTRIES }
-        requires seat { IsSeat seat }
+        requires seat { IsSeatInGame seat }
         ensures { (o : StartData) (H : List Entry) (steps : List Step) (c : Command) →
             IsPlayingSchedule o steps H self.old → KeepsLook o H steps seat (Some look.now) →
             slice_get steps (length H) ≡ Some (record { seat = seat; command = c }) →

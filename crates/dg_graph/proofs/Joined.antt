@@ -6,7 +6,7 @@
 --   edges_few_back    also in the table with one more edge from the other vertex
 --   joined_is         the table after both steps is that of the graph with one more edge,
 --   joined_graph      which is within the limits
-use Rattle.dg_graph.proofs.Common.{◌≡◌, ℕ, zero, suc, ◌+◌, ◌<◌, ◌≤◌, List, [], ◌∷◌, length, set, arith, refl, sym, ap, subst, ◌∙◌, slice_index, slice_index_or, nat_tests, Multigraph, edges_between, valence, one_edge_more, edge_entry_more, at_either, edge_entry_more-row, size_stays, joined_is_multigraph, valence_grows, total_below-term, IsGraph, IsSquare, IsJoinable, length-set}
+use Rattle.dg_graph.proofs.Common.{◌≡◌, ℕ, zero, suc, ◌+◌, ◌<◌, ◌≤◌, List, [], ◌∷◌, length, set, arith, refl, sym, ap, subst, ◌∙◌, slice_index, slice_index_or, nat_tests, Multigraph, edges_between, valence, one_edge_more, edge_entry_more, at_either, edge_entry_more-row, size_stays, joined_is_multigraph, valence_grows, total_below-term, IsGraph, HasGraphRows, IsJoinable, length-set}
 use Rattle.dg_theory.specs.Multigraph.{entry}
 use Rattle.dg_theory.specs.Joins.{with_edge}
 use Rattle.dg_graph.proofs.Squares.{set_square}
@@ -27,12 +27,12 @@ one_edge_more-length : (row : List ℕ) (v : ℕ) → v < length row → length 
 one_edge_more-length row v inside =
     sym (ap (length {A = ℕ}) (set-one_edge_more row v inside)) ∙ length-set row v (slice_index row v + 1)
 
-edge_entry_more-square : (table : List (List ℕ)) (u v : ℕ) → u < 16 → v < 16 → IsSquare table →
-    IsSquare (edge_entry_more table u v)
+edge_entry_more-square : (table : List (List ℕ)) (u v : ℕ) → u < 16 → v < 16 → HasGraphRows table →
+    HasGraphRows (edge_entry_more table u v)
 edge_entry_more-square table u v row column square =
     let inside : u < length table = omega (arith, square.rows) in
     let last : v < length (slice_index_or table u []) = omega (arith, square.places u row) in
-    subst IsSquare (set-edge_entry_more table u v inside)
+    subst HasGraphRows (set-edge_entry_more table u v inside)
     (set_square table u (one_edge_more (slice_index_or table u []) v) row
     (one_edge_more-length (slice_index_or table u []) v last ∙ square.places u row) square)
 
@@ -58,7 +58,7 @@ joined_is g u v once both first second =
     ap (λ (table : List (List ℕ)). record { size = g.size; table = table })
     (second ∙ ap (λ (table : List (List ℕ)). edge_entry_more table v u) first)
 
-with_edge-square : (g : Multigraph) (u v : ℕ) → IsGraph g → IsJoinable g u v → IsSquare (with_edge g u v).table
+with_edge-square : (g : Multigraph) (u v : ℕ) → IsGraph g → IsJoinable g u v → HasGraphRows (with_edge g u v).table
 unfolding with_edge
 with_edge-square g u v graph joinable =
     let first : u < 16 = omega (arith, joinable.first, graph.few) in

@@ -4,7 +4,7 @@
 --   no_set            a number that stands for a set without members is 0
 --   with_bit          to set a bit adds its place to the set
 --   complement_bits   the bits below n that are not set, as a mask of n ones picks them
-use Rattle.dg_graph.proofs.Common.{◌≡◌, ◌≢◌, ℕ, zero, suc, ◌-◌, ◌*◌, ◌/◌, ◌%◌, ◌^◌, ◌<◌, ◌≤◌, true, false, not, ◌&&◌, nat_eq, min, arith, refl, ap, sym, ◌∙◌, inl, inr, bit_and, bit_or, w16, nat_lt, bit_at, bit_not, cases_lt, lt-ltb, le-ltb, eqb-false, bit_at-zero, bit_at-lt, same_from_bits, bit_at_set_same, bit_at_set_other, bit_at_and, bit_at_not, bit_at_above, bit_at_ones, bit_at_ones_above, ones_shr, IsWith}
+use Rattle.dg_graph.proofs.Common.{◌≡◌, ◌≢◌, ℕ, zero, suc, ◌-◌, ◌*◌, ◌/◌, ◌%◌, ◌^◌, ◌<◌, ◌≤◌, true, false, not, ◌&&◌, nat_eq, min, arith, refl, ap, sym, ◌∙◌, inl, inr, bit_and, bit_or, w16, nat_lt, bit_at, bit_not, cases_lt, lt-ltb, le-ltb, eqb-false, bit_at-zero, bit_at-lt, same_from_bits, bit_at_set_same, bit_at_set_other, bit_at_and, bit_at_not, bit_at_above, bit_at_ones, bit_at_ones_above, ones_shr, IsSetWith}
 use Rattle.dg_graph.specs.Sets.{in_set}
 
 pub in_set_below : (set v : ℕ) → set < 2 ^ 16 → in_set set v ≡ true → v < 16
@@ -25,7 +25,7 @@ no_set m none = same_from_bits m 0 (λ v.
     let other : bit_at m v ≢ 1 = eqb-false (bit_at m v) 1 (none v) in
     omega (arith, bit_at-lt m v, bit_at-zero v))
 
-pub with_bit : (set v : ℕ) → v < 16 → IsWith (in_set set) v (in_set (bit_or set (1 * 2 ^ v % 2 ^ 16)))
+pub with_bit : (set v : ℕ) → v < 16 → IsSetWith (in_set set) v (in_set (bit_or set (1 * 2 ^ v % 2 ^ 16)))
 unfolding in_set
 with_bit set v few = record {
   here = ap (λ bit. nat_eq bit 1) (bit_at_set_same w16 set v few);

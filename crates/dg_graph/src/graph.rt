@@ -7,9 +7,9 @@ ghost use Rattle.dg_theory.specs.Joins.{with_edge};
 ghost use Rattle.dg_graph.specs.Graph.{IsGraph};
 ghost use Rattle.dg_graph.specs.Items.{IsGiven};
 ghost use Rattle.dg_graph.specs.Faults.{IsFirstGraphFault};
-ghost use Rattle.dg_graph.specs.Joins.{IsJoinable, RefusesJoin};
+ghost use Rattle.dg_graph.specs.Joins.{IsJoinable, RefusesGraphJoin};
 
-use crate::build::{first_edge_item_fault, table_of};
+use crate::build::{edge_table_of, first_graph_item_fault};
 use crate::connected::is_connected;
 use crate::fault::{GraphFault, JoinFault};
 use crate::limits::{MAX_VALENCE, MAX_VERTICES};
@@ -54,10 +54,10 @@ impl Graph {
         if size == 0 || size > MAX_VERTICES {
             return Err(GraphFault::Size);
         }
-        if let Some(fault) = first_edge_item_fault(size, items) {
+        if let Some(fault) = first_graph_item_fault(size, items) {
             return Err(fault);
         }
-        let table = table_of(size, items);
+        let table = edge_table_of(size, items);
         if let Some(v) = first_high_valence(size, &table) {
             return Err(GraphFault::Valence(v));
         }
@@ -79,7 +79,7 @@ impl Graph {
     pub fn join(&self, u: u8, v: u8) -> Result<Graph, JoinFault>
         ensures { MatchResult result
             (λ g. (g ≡ with_edge self.now u v) × IsGraph g × IsJoinable self.now u v)
-            (RefusesJoin self.now u v) }
+            (RefusesGraphJoin self.now u v) }
     {
         self.may_join(u, v)?;
         let (u, v) = (usize::from(u), usize::from(v));
@@ -97,7 +97,7 @@ impl Graph {
     pub fn may_join(&self, u: u8, v: u8) -> Result<(), JoinFault>
         ensures { MatchResult result
             (λ _. IsJoinable self.now u v)
-            (RefusesJoin self.now u v) }
+            (RefusesGraphJoin self.now u v) }
     {
         let (u, v) = (usize::from(u), usize::from(v));
         if u >= self.size || v >= self.size {

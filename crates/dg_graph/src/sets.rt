@@ -2,7 +2,7 @@
 
 ghost use Rattle.std.specs.Prelude.{◌≡◌, ℕ, ◌<◌, ◌≤◌, ◌&&◌, not, nat_lt, true, false};
 ghost use Rattle.std.specs.Bool.{OnTrue, OnFalse};
-ghost use Rattle.dg_graph.specs.Sets.{in_set, IsVertexSet, IsWith};
+ghost use Rattle.dg_graph.specs.Sets.{in_set, IsVertexSet, IsSetWith};
 
 use crate::limits::MAX_VERTICES;
 
@@ -17,7 +17,7 @@ pub fn contains(set: u16, v: usize) -> bool
 /// The set with a vertex, 0 to 15.
 pub fn with_vertex(set: u16, v: usize) -> u16
     requires { v < MAX_VERTICES }
-    ensures { IsWith (in_set set) v (in_set result) }
+    ensures { IsSetWith (in_set set) v (in_set result) }
 {
     set | 1 << v
 }

@@ -13,7 +13,7 @@ use crate::limits::{MAX_VALENCE, MAX_VERTICES};
 pub type Table = [[u8; MAX_VERTICES]; MAX_VERTICES];
 
 /// The sum of a row's first `size` numbers.
-pub fn row_sum(size: usize, row: &[u8; MAX_VERTICES]) -> u32
+pub fn valence_of_row(size: usize, row: &[u8; MAX_VERTICES]) -> u32
     requires { size ≤ MAX_VERTICES }
     ensures sum { result ≡ total_below size (slice_index row.now) }
     ensures limit { result ≤ 255 * size }
@@ -33,7 +33,7 @@ pub fn valences_of(size: usize, table: &Table) -> [u8; MAX_VERTICES]
 {
     let mut valences = [0; MAX_VERTICES];
     for v in 0..MAX_VERTICES {
-        valences[v] = row_sum(size, &table[v]) as u8;
+        valences[v] = valence_of_row(size, &table[v]) as u8;
     }
     valences
 }
@@ -45,7 +45,7 @@ fn edges_before(table: &Table, v: usize) -> u32
     ensures sum { result ≡ total_below v (entry table.now v) }
     ensures limit { result ≤ 255 * v }
 {
-    row_sum(v, &table[v])
+    valence_of_row(v, &table[v])
 }
 
 /// The sum of all numbers before the diagonal.
@@ -71,7 +71,7 @@ pub fn first_high_valence(size: usize, table: &Table) -> Option<usize>
         × ((u : ℕ) → u < v → total_below size (entry table.now u) ≤ MAX_VALENCE)) }
 {
     for v in 0..size {
-        if row_sum(size, &table[v]) > MAX_VALENCE {
+        if valence_of_row(size, &table[v]) > MAX_VALENCE {
             return Some(v);
         }
     }

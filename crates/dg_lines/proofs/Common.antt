@@ -1,7 +1,7 @@
 -- The names that the proofs of this crate cite, passed on from one place. Declares nothing.
 pub use Rattle.dg_chips.specs.Starts.{StartData}
 pub use Rattle.dg_chips.proofs.VectorLaws.{one_vector}
-pub use Rattle.dg_chips.specs.Vector.{HoldsNumbers, IsScript, Vector, at}
+pub use Rattle.dg_chips.specs.Vector.{HoldsNumbers, IsScriptVector, Vector, at}
 pub use Rattle.dg_chips.specs.declared.limits.TheConstants.{MAX_ENTRY}
 pub use Rattle.dg_chips.specs.declared.moves.Move.{Move}
 pub use Rattle.dg_chips.specs.declared.moves.Move.TheVariants.{Borrow, Fire, Script}
@@ -13,16 +13,16 @@ pub use Rattle.dg_rules.specs.declared.entry.Plain.TheVariants.{Claim, Gift, Joi
 pub use Rattle.dg_rules.specs.declared.step.Command.{Command}
 pub use Rattle.dg_rules.specs.declared.step.Command.TheVariants.{Call, Commit, Rank}
 pub use Rattle.dg_rules.specs.declared.step.Step.{Step}
-pub use Rattle.dg_lines.specs.CommandWords.{AreNamesOnLine, WordsAreNamed, AreNumbers, IsNumberFor, IsSpelledNumberWithin, IsScriptSpelledBy, IsScriptWord, IsSetSpelledBy, Kind, degree, dollars, name_part, number_part, vertex, vertices}
+pub use Rattle.dg_lines.specs.CommandWords.{AreNamesOnLine, WordsAreNamed, AreNumbersOnLine, IsNumberForWord, IsSpelledNumberWithin, IsScriptSpelledBy, IsScriptWord, IsSetSpelledBy, Kind, degree, dollars, name_part_of_item, number_part_of_item, vertex, vertices}
 pub use Rattle.dg_lines.specs.Commands.{IsCommandLine, IsWellFormedLine, Means, kinds_on_line, kinds_wanted_on_line, words_wanted}
-pub use Rattle.dg_lines.specs.Cuts.{items, onto_first, pieces_after, words, words_after}
-pub use Rattle.dg_lines.specs.Judgements.{HasNamesIn, burning_text}
+pub use Rattle.dg_lines.specs.Cuts.{items, onto_first_piece, text_pieces_after, words, words_after}
+pub use Rattle.dg_lines.specs.Judgements.{JudgementHasNames, burning_text}
 pub use Rattle.dg_lines.specs.Keywords.{AreWords, IsBadScriptWord, keyword_kinds, spelling}
-pub use Rattle.dg_lines.specs.LineFaults.{AreRefusedLines, IsLineFault}
-pub use Rattle.dg_lines.specs.LineLaws.{IsDigit, IsNumeral, IsShortNumeral, IsUnsignedNumeral, LinesHaveOneMeaning, NumeralsAreDecimals, StepsHaveOneMeaning}
+pub use Rattle.dg_lines.specs.LineFaults.{AreRefusedStepLines, IsLineFault}
+pub use Rattle.dg_lines.specs.LineLaws.{IsLineDigit, IsLineNumeral, IsShortLineNumeral, IsUnsignedLineNumeral, LinesHaveOneMeaning, LineNumeralsAreDecimals, StepsHaveOneMeaning}
 pub use Rattle.dg_lines.specs.Schedules.{AreStepsOf, StepLinesHaveSeats}
 pub use Rattle.dg_lines.specs.Steps.{IsSeatedLine, IsStepFault, IsStepLine, IsTextFault}
-pub use Rattle.dg_lines.specs.Streams.{Begins, HasNoNewline, LinesHaveCome, last_line, with_newline}
+pub use Rattle.dg_lines.specs.Streams.{BeginsWithLines, HasNoNewline, LinesOfTextHaveCome, last_line, with_newline}
 pub use Rattle.dg_lines.specs.Texts.{RepliesHaveNames, entry_text, pair, rank_text, verdict_text, verdict_word}
 pub use Rattle.dg_lines.specs.declared.command.Keyword.{Keyword}
 pub use Rattle.dg_lines.specs.declared.command.Keyword.TheVariants.{Lend}
@@ -33,7 +33,7 @@ pub use Rattle.dg_theory.proofs.Equivalence.{equivalent-sym, equivalent-trans}
 pub use Rattle.dg_theory.proofs.LossLaws.{loss_bounds_rank, loss_once}
 pub use Rattle.dg_theory.proofs.ReducedLaws.{reduced_once}
 pub use Rattle.dg_theory.specs.Burning.{BurnsAll}
-pub use Rattle.dg_theory.specs.Firing.{AgreeOn, Amounts}
+pub use Rattle.dg_theory.specs.Firing.{DivisorsAgreeOn, Amounts}
 pub use Rattle.dg_theory.specs.Multigraph.{IsMultigraph, Multigraph}
 pub use Rattle.dg_theory.specs.Play.{IsWinnable}
 pub use Rattle.dg_tokens.specs.Names.{has, label, name_at}

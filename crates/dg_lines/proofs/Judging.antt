@@ -1,7 +1,7 @@
 -- Verdicts that are printed.
 --   burning-vertices  an order in which all vertices burn is one of vertices
 --   judged-named      a verdict on a table with names has names in its order
-use Rattle.dg_lines.proofs.Common.{◌≡◌, ℕ, zero, suc, ◌<◌, List, length, take, sym, ap, subst, ◌∙◌, slice_index_or, slice_get-get_or, Multigraph, Amounts, BurnsAll, Verdict, IsVerdictOn, HasNamesIn}
+use Rattle.dg_lines.proofs.Common.{◌≡◌, ℕ, zero, suc, ◌<◌, List, length, take, sym, ap, subst, ◌∙◌, slice_index_or, slice_get-get_or, Multigraph, Amounts, BurnsAll, Verdict, IsVerdictOn, JudgementHasNames}
 use Rattle.std.proofs.Common.{All}
 use Rattle.std.specs.Prelude.{Option, Some, unwrap_or}
 
@@ -14,7 +14,7 @@ burning-vertices g q D l vertex burns (suc i) d some =
     (burns.next i (slice_index_or l (suc i) d) (slice_get-get_or l (suc i) d some)).vertex
 
 pub judged-named : (names : List (List ℕ)) (g : Multigraph) (q : ℕ) (D : Amounts) (x : Verdict) → length names ≡ g.size →
-    q < g.size → IsVerdictOn g q D x → HasNamesIn names x
+    q < g.size → IsVerdictOn g q D x → JudgementHasNames names x
 judged-named names g q D x fit vertex found = record {
   script = fit ∙ sym found.right.script_size;
   reduced = fit ∙ sym found.right.reduced_size;

@@ -5,9 +5,9 @@
 --   verdict_same   and one text
 --   test_same      so have right rank tests of one degree
 --   verdict_row_same, loss_row_same   a verdict has one row, and so has a first loss
-use Rattle.dg_lines.proofs.Common.{◌≡◌, ℕ, ◌+◌, ◌<◌, Bool, true, false, List, [], ◌∷◌, ◌++◌, length, codes, arith, refl, sym, ap, ◌∙◌, ◌↔◌, decimal, ints, Multigraph, IsMultigraph, Amounts, AgreeOn, IsWinnable, same_by_constant, equivalent-sym, equivalent-trans, loss_once, loss_bounds_rank, reduced_once, Some, Vector, at, IsRight, IsRightRankVerdict, Verdict, RankVerdict, AtLeast, Below, pair, verdict_word, verdict_text, rank_text}
+use Rattle.dg_lines.proofs.Common.{◌≡◌, ℕ, ◌+◌, ◌<◌, Bool, true, false, List, [], ◌∷◌, ◌++◌, length, codes, arith, refl, sym, ap, ◌∙◌, ◌↔◌, decimal, ints, Multigraph, IsMultigraph, Amounts, DivisorsAgreeOn, IsWinnable, same_by_constant, equivalent-sym, equivalent-trans, loss_once, loss_bounds_rank, reduced_once, Some, Vector, at, IsRight, IsRightRankVerdict, Verdict, RankVerdict, AtLeast, Below, pair, verdict_word, verdict_text, rank_text}
 use Rattle.std.proofs.Math.IntN.{ℤ}
-use Rattle.dg_lines.specs.Columns.{columns, rank_row, truth, vector_columns, verdict_row}
+use Rattle.dg_lines.specs.Columns.{columns, rank_row, truth_text, vector_columns, verdict_row}
 use Rattle.dg_lines.specs.Texts.{more_pairs, pairs}
 use Rattle.dg_lines.proofs.Rows.{columns_same}
 
@@ -20,7 +20,7 @@ more_same (name ∷ names) x y n same =
     ∙ ap (λ (rest : List ℕ). codes " " ++ pair name (y n) ++ rest)
     (more_same names x y (n + 1) (λ v below. same v (omega (arith, below))))
 
-pub pairs_same : (names : List (List ℕ)) (x y : Amounts) → AgreeOn (length names) x y → pairs names x ≡ pairs names y
+pub pairs_same : (names : List (List ℕ)) (x y : Amounts) → DivisorsAgreeOn (length names) x y → pairs names x ≡ pairs names y
 unfolding pairs
 pairs_same [] x y same = refl
 pairs_same (name ∷ names) x y same =
@@ -35,11 +35,11 @@ win_once P false true first second = first.1 (second.0 refl)
 win_once P false false first second = refl
 
 module _ (names : List (List ℕ)) (g : Multigraph) (D : Amounts) (fit : length names ≡ g.size) where
-  shown_same : (d e : Vector) → AgreeOn g.size (at d) (at e) → pairs names (at d) ≡ pairs names (at e)
+  shown_same : (d e : Vector) → DivisorsAgreeOn g.size (at d) (at e) → pairs names (at d) ≡ pairs names (at e)
   shown_same d e same = pairs_same names (at d) (at e) (λ v below. same v (omega (arith, below, fit)))
 
   pub reduced_same : (q : ℕ) → q < g.size → (x y : Verdict) → IsRight g q D x → IsRight g q D y
-      → AgreeOn g.size (at x.reduced) (at y.reduced)
+      → DivisorsAgreeOn g.size (at x.reduced) (at y.reduced)
   reduced_same q vertex x y first second =
       reduced_once g q (at x.reduced) (at y.reduced) vertex
       (equivalent-trans g (at x.reduced) D (at y.reduced)
@@ -47,7 +47,7 @@ module _ (names : List (List ℕ)) (g : Multigraph) (D : Amounts) (fit : length 
       first.reduced second.reduced
 
   script_same : (q : ℕ) → IsMultigraph g → q < g.size → (x y : Verdict) → IsRight g q D x → IsRight g q D y
-      → AgreeOn g.size (at x.script) (at y.script)
+      → DivisorsAgreeOn g.size (at x.script) (at y.script)
   script_same q graph vertex x y first second =
       let (z, apart) = (same_by_constant g D (at x.script) (at y.script) graph).0
       (λ v below. sym (first.led v below) ∙ reduced_same q vertex x y first second v below ∙ second.led v below) in
@@ -75,7 +75,7 @@ module _ (names : List (List ℕ)) (g : Multigraph) (D : Amounts) (fit : length 
       (shown_same d e (loss_once g D k (at d) (at e) first.2 second.2))
 
 module _ (g : Multigraph) (D : Amounts) where
-  vector_same : (d e : Vector) → d.size ≡ g.size → e.size ≡ g.size → AgreeOn g.size (at d) (at e)
+  vector_same : (d e : Vector) → d.size ≡ g.size → e.size ≡ g.size → DivisorsAgreeOn g.size (at d) (at e)
       → vector_columns d ≡ vector_columns e
   vector_same d e one other same =
       columns_same (at d) (at e) 0 d.size (λ v below. same v (omega (arith, below, one)))
@@ -84,12 +84,12 @@ module _ (g : Multigraph) (D : Amounts) where
   pub verdict_row_same : (names : List (List ℕ)) → length names ≡ g.size → (q : ℕ) → IsMultigraph g → q < g.size
       → (x y : Verdict) → IsRight g q D x → IsRight g q D y → verdict_row x ≡ verdict_row y
   verdict_row_same names fit q graph vertex x y first second =
-      ap (λ (w : Bool). truth w ++ vector_columns x.script ++ vector_columns x.reduced ++ codes "\n")
+      ap (λ (w : Bool). truth_text w ++ vector_columns x.script ++ vector_columns x.reduced ++ codes "\n")
       (win_once (IsWinnable g D) x.winnable y.winnable first.winnable second.winnable)
-      ∙ ap (λ (l : List ℕ). truth y.winnable ++ l ++ vector_columns x.reduced ++ codes "\n")
+      ∙ ap (λ (l : List ℕ). truth_text y.winnable ++ l ++ vector_columns x.reduced ++ codes "\n")
       (vector_same x.script y.script first.script_size second.script_size
       (script_same names g D fit q graph vertex x y first second))
-      ∙ ap (λ (l : List ℕ). truth y.winnable ++ vector_columns y.script ++ l ++ codes "\n")
+      ∙ ap (λ (l : List ℕ). truth_text y.winnable ++ vector_columns y.script ++ l ++ codes "\n")
       (vector_same x.reduced y.reduced first.reduced_size second.reduced_size
       (reduced_same names g D fit q vertex x y first second))
 
@@ -97,5 +97,5 @@ module _ (g : Multigraph) (D : Amounts) where
       k (Below k e)
       → rank_row n holds (Some d) ≡ rank_row n holds (Some e)
   loss_row_same n k holds d e first second =
-      ap (λ (l : List ℕ). truth holds ++ l ++ codes "\n")
+      ap (λ (l : List ℕ). truth_text holds ++ l ++ codes "\n")
       (vector_same d e first.1 second.1 (loss_once g D k (at d) (at e) first.2 second.2))

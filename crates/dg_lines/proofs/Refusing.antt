@@ -2,21 +2,21 @@
 --   unnamed       a word names no vertex, or one twice
 --   misnumbered   all names are good, and a word has a number that is none of its kind
 --   no_script     the one word of a script is none
-use Rattle.dg_lines.proofs.Common.{◌≡◌, ℕ, List, [], ◌∷◌, Result, refl, ap, sym, subst, MatchResult, IsErrAnd, err_from_is_err_and, Command, Keyword, LineFault, Seat, Word, Form, Name, Number, WordsAreNamed, AreNumbers, kinds_on_line, IsWellFormedLine, Means, AreRefusedLines, spelling, keyword_kinds, IsBadScriptWord}
+use Rattle.dg_lines.proofs.Common.{◌≡◌, ℕ, List, [], ◌∷◌, Result, refl, ap, sym, subst, MatchResult, IsErrAnd, err_from_is_err_and, Command, Keyword, LineFault, Seat, Word, Form, Name, Number, WordsAreNamed, AreNumbersOnLine, kinds_on_line, IsWellFormedLine, Means, AreRefusedStepLines, spelling, keyword_kinds, IsBadScriptWord}
 use Rattle.std.specs.Prelude.{unwrap_or}
 use Rattle.dg_lines.specs.declared.command.Keyword.TheVariants as of
 use Rattle.dg_lines.proofs.Keywords.{wanted_of}
 
 abbrev IsRead : List (List ℕ) → Keyword → List (List ℕ) → Result Command LineFault → Type 0
 IsRead names k rest result = MatchResult result
-    (λ command. Means names command (spelling k) rest) (λ fault. AreRefusedLines names fault (spelling k) rest)
+    (λ command. Means names command (spelling k) rest) (λ fault. AreRefusedStepLines names fault (spelling k) rest)
 
 module _ (names : List (List ℕ)) (k : Keyword) (rest : List (List ℕ)) (formed : IsWellFormedLine (spelling k) rest)
     (result : Result Command LineFault) (fault : LineFault) (handed : IsErrAnd result (λ e. e ≡ fault)) where
   own : keyword_kinds k ≡ kinds_on_line (spelling k)
   own = sym (ap (λ o. unwrap_or o []) (wanted_of k))
 
-  refused : AreRefusedLines names fault (spelling k) rest → IsRead names k rest result
+  refused : AreRefusedStepLines names fault (spelling k) rest → IsRead names k rest result
   refused bad = let told = err_from_is_err_and result handed in rw (told.1, told.2) bad
 
   pub unnamed : fault ≡ Name → (WordsAreNamed names (keyword_kinds k) rest → ⊥)
@@ -24,13 +24,13 @@ module _ (names : List (List ℕ)) (k : Keyword) (rest : List (List ℕ)) (forme
   unnamed same never =
       refused (rw same (formed, subst (λ ks. WordsAreNamed names ks rest → ⊥) own never))
 
-  pub misnumbered : fault ≡ Number → WordsAreNamed names (keyword_kinds k) rest → (AreNumbers (keyword_kinds k) rest → ⊥)
+  pub misnumbered : fault ≡ Number → WordsAreNamed names (keyword_kinds k) rest → (AreNumbersOnLine (keyword_kinds k) rest → ⊥)
       → IsRead names k rest result
   misnumbered same named never =
       refused (rw same (
         formed,
         subst (λ ks. WordsAreNamed names ks rest) own named,
-        subst (λ ks. AreNumbers ks rest → ⊥) own never,
+        subst (λ ks. AreNumbersOnLine ks rest → ⊥) own never,
       ))
 
 pub no_script : (names : List (List ℕ)) (word : List ℕ) → IsWellFormedLine (spelling of.Script) (word ∷ [])

@@ -6,27 +6,27 @@
 --   part_plain, part_front, part_whole, part_line   what `cut` gives of bytes: a part with no newline, and what
 --       follows it
 --   line_shorter  what stands after a line is shorter
-use Rattle.dg_lines.proofs.Common.{Bor, length, ◌<◌, ◌≤◌, inl, inr, subst, ◌≡◌, ◌≢◌, ℕ, ◌==◌, cond, Bool, true, false, List, [], ◌∷◌, ◌++◌, Option, Some, None, refl, sym, ap, ◌∙◌, arith, append_assoc, flat_map, All-head, All-tail, All-append, All-cons, All-nil, flat_map-append, nat_tests, option_copied, onto_first, HasNoNewline, Begins, LinesHaveCome, with_newline, last_line}
+use Rattle.dg_lines.proofs.Common.{Bor, length, ◌<◌, ◌≤◌, inl, inr, subst, ◌≡◌, ◌≢◌, ℕ, ◌==◌, cond, Bool, true, false, List, [], ◌∷◌, ◌++◌, Option, Some, None, refl, sym, ap, ◌∙◌, arith, append_assoc, flat_map, All-head, All-tail, All-append, All-cons, All-nil, flat_map-append, nat_tests, option_copied, onto_first_piece, HasNoNewline, BeginsWithLines, LinesOfTextHaveCome, with_newline, last_line}
 use Rattle.std.proofs.Common.{length-append, append-nil, All}
 use Rattle.dg_lines.specs.Cuts.{before, after, lines}
 
 module _ {P : List ℕ → Type 0} where
-  pub begins_none : (stream : List ℕ) → Begins P stream [] stream
+  pub begins_none : (stream : List ℕ) → BeginsWithLines P stream [] stream
   begins_none stream = record { whole = refl; each = All-nil P }
 
-  pub begins_one : {line : List ℕ} (more : List ℕ) → P line → Begins P (line ++ 10 ∷ more) (line ∷ []) more
+  pub begins_one : {line : List ℕ} (more : List ℕ) → P line → BeginsWithLines P (line ++ 10 ∷ more) (line ∷ []) more
   begins_one {line} more is = record {
     whole = sym (append_assoc line (10 ∷ []) more) ∙ ap (λ l. l ++ more) (sym (append-nil (line ++ 10 ∷ [])));
     each = All-cons P line [] is (All-nil P);
   }
 
-  pub begins_more : {bytes rest : List ℕ} {ls : List (List ℕ)} (more : List ℕ) → Begins P bytes ls rest
-      → Begins P (bytes ++ more) ls (rest ++ more)
+  pub begins_more : {bytes rest : List ℕ} {ls : List (List ℕ)} (more : List ℕ) → BeginsWithLines P bytes ls rest
+      → BeginsWithLines P (bytes ++ more) ls (rest ++ more)
   begins_more {bytes} {rest} {ls} more b =
       record { whole = ap (λ l. l ++ more) b.whole ∙ append_assoc (flat_map with_newline ls) rest more; each = b.each }
 
-  pub begins_then : {stream mid rest : List ℕ} {ls last : List (List ℕ)} → Begins P stream ls mid
-      → Begins P mid last rest → Begins P stream (ls ++ last) rest
+  pub begins_then : {stream mid rest : List ℕ} {ls last : List (List ℕ)} → BeginsWithLines P stream ls mid
+      → BeginsWithLines P mid last rest → BeginsWithLines P stream (ls ++ last) rest
   begins_then {stream} {mid} {rest} {ls} {last} p q = record {
     whole = p.whole ∙ ap (λ l. flat_map with_newline ls ++ l) q.whole
         ∙ sym (append_assoc (flat_map with_newline ls) (flat_map with_newline last) rest)
@@ -52,19 +52,19 @@ line_first : (line rest : List ℕ) → HasNoNewline line → lines (line ++ 10 
 unfolding lines
 line_first [] rest none = refl
 line_first (x ∷ xs) rest none =
-    ap (λ t. cond t ([] ∷ lines (xs ++ 10 ∷ rest)) (onto_first x (lines (xs ++ 10 ∷ rest))))
+    ap (λ t. cond t ([] ∷ lines (xs ++ 10 ∷ rest)) (onto_first_piece x (lines (xs ++ 10 ∷ rest))))
     (other_byte x (All-head Other x xs none))
-    ∙ ap (onto_first x) (line_first xs rest (All-tail Other x xs none))
+    ∙ ap (onto_first_piece x) (line_first xs rest (All-tail Other x xs none))
 
 rest_last : (rest : List ℕ) → HasNoNewline rest → lines rest ≡ last_line rest
 unfolding lines
 rest_last [] none = refl
 rest_last (x ∷ []) none =
-    ap (λ t. cond t ([] ∷ lines []) (onto_first x (lines []))) (other_byte x (All-head Other x [] none))
+    ap (λ t. cond t ([] ∷ lines []) (onto_first_piece x (lines []))) (other_byte x (All-head Other x [] none))
 rest_last (x ∷ y ∷ ys) none =
-    ap (λ t. cond t ([] ∷ lines (y ∷ ys)) (onto_first x (lines (y ∷ ys))))
+    ap (λ t. cond t ([] ∷ lines (y ∷ ys)) (onto_first_piece x (lines (y ∷ ys))))
     (other_byte x (All-head Other x (y ∷ ys) none))
-    ∙ ap (onto_first x) (rest_last (y ∷ ys) (All-tail Other x (y ∷ ys) none))
+    ∙ ap (onto_first_piece x) (rest_last (y ∷ ys) (All-tail Other x (y ∷ ys) none))
 
 -- no line has a newline
 module _ {P : List ℕ → Type 0} (plain : (line : List ℕ) → P line → HasNoNewline line) where
@@ -77,21 +77,22 @@ module _ {P : List ℕ → Type 0} (plain : (line : List ℕ) → P line → Has
       ∙ line_first line (flat_map with_newline ls ++ rest) (plain line (All-head P line ls each))
       ∙ ap (λ more. line ∷ more) (lines_after ls rest (All-tail P line ls each))
 
-  lines_of : {stream rest : List ℕ} {ls : List (List ℕ)} → Begins P stream ls rest → lines stream ≡ ls ++ lines rest
+  lines_of : {stream rest : List ℕ} {ls : List (List ℕ)} → BeginsWithLines P stream ls rest → lines stream ≡ ls ++ lines rest
   lines_of {stream} {rest} {ls} cut = ap lines cut.whole ∙ lines_after ls rest cut.each
 
-  pub one_cutting : (stream rest : List ℕ) (ls : List (List ℕ)) → Begins P stream ls rest → HasNoNewline rest
+  pub one_cutting : (stream rest : List ℕ) (ls : List (List ℕ)) → BeginsWithLines P stream ls rest → HasNoNewline rest
       → lines stream ≡ ls ++ last_line rest
   one_cutting stream rest ls cut none = lines_of cut ∙ ap (λ l. ls ++ l) (rest_last rest none)
 
   pub come_then : {E ended : Type 0} (over : E → ended) {stream rest : List ℕ} {ls : List (List ℕ)}
-      (last : List (List ℕ)) → Begins P stream ls rest → LinesHaveCome P E rest last → LinesHaveCome P ended stream (ls ++ last)
+      (last : List (List ℕ)) → BeginsWithLines P stream ls rest → LinesOfTextHaveCome P E rest last
+      → LinesOfTextHaveCome P ended stream (ls ++ last)
   come_then over {stream} {rest} {ls} last p come = elim come [
     | inl more ↦ inl (more.0, begins_then p more.1)
     | inr all ↦ inr (over all.0, ap (λ l. ls ++ l) all.1 ∙ sym (lines_of p), All-append P ls last p.each all.2)
   ]
 
-  pub come_last : {ended : Type 0} (p : List ℕ) → ended → P p → LinesHaveCome P ended p (last_line p)
+  pub come_last : {ended : Type 0} (p : List ℕ) → ended → P p → LinesOfTextHaveCome P ended p (last_line p)
   come_last p over is = inr (over, sym (rest_last p (plain p is)), each_last P p is)
 
 no_newline : (bytes : List ℕ) → HasNoNewline (before 10 bytes)

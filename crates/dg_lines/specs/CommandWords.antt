@@ -2,20 +2,20 @@
 -- `=`, and `names` are the names of the vertices, in vertex order.
 --   Kind                                    == a vertex, a set of vertices, a script, the degree of a rank
 --                                              test, or dollars
---   name_part item                          == what stands before the first `=` of the item, or all of it if
+--   name_part_of_item item                  == what stands before the first `=` of the item, or all of it if
 --                                              there is none
---   number_part item                        == what stands after the first `=` of the item, and nothing if
+--   number_part_of_item item                == what stands after the first `=` of the item, and nothing if
 --                                              there is none
---   names_in kind word                      == the names that a word of that kind gives, in their order
---   numbers_in kind word                    == the numbers that it gives, in their order
+--   names_in_word kind word                 == the names that a word of that kind gives, in their order
+--   numbers_in_word kind word               == the numbers that it gives, in their order
 --   IsSpelledNumberWithin low high text     == the text is the decimal of a number from low to high
---   IsNumberFor kind text                   == the text is the decimal of a number that may stand in a word
+--   IsNumberForWord kind text               == the text is the decimal of a number that may stand in a word
 --                                              of that kind: a degree, an entry of a script, or else a number
 --                                              that 64 bits hold
 --   AreNamesOnLine names given              == each of the names given is among the names, and no two are the
 --                                              same
 --   WordsAreNamed names kinds rest          == the names that each of the words gives are given so
---   AreNumbers kinds rest                   == all numbers that they give may stand in a word of its kind
+--   AreNumbersOnLine kinds rest             == all numbers that they give may stand in a word of its kind
 --   IsSetSpelledBy names given set          == set has just the vertices of the names given
 --   number_in_script given numbers name     == the number beside the name, and 0 if the name is not given
 --   IsScriptSpelledBy names given numbers s == s has at each vertex the number given for its name, and 0 if
@@ -26,7 +26,7 @@ use Rattle.std.specs.Prelude.{◌≡◌, ℕ, ◌<◌, ◌≤◌, ◌-◌, ◌^�
 use Rattle.std.specs.Fmt.{signed_decimal}
 use Rattle.std.specs.Int.RustNames.{unsigned_abs}
 use Rattle.std.specs.List.{IsDistinct}
-use Rattle.dg_chips.specs.Vector.{Vector, IsScript, at}
+use Rattle.dg_chips.specs.Vector.{Vector, IsScriptVector, at}
 use Rattle.dg_chips.specs.declared.limits.TheConstants.{MAX_ENTRY}
 use Rattle.dg_graph.specs.Sets.{in_set, IsVertexSet}
 use Rattle.dg_tokens.specs.Names.{has, name_at}
@@ -39,25 +39,25 @@ pub data Kind : Type 0 where
   degree : Kind
   dollars : Kind
 
-abbrev pub name_part : List ℕ → List ℕ
-name_part item = before 61 item
+abbrev pub name_part_of_item : List ℕ → List ℕ
+name_part_of_item item = before 61 item
 
-abbrev pub number_part : List ℕ → List ℕ
-number_part item = unwrap_or (after 61 item) []
+abbrev pub number_part_of_item : List ℕ → List ℕ
+number_part_of_item item = unwrap_or (after 61 item) []
 
-abbrev pub names_in : Kind → List ℕ → List (List ℕ)
-names_in vertex word = word ∷ []
-names_in vertices word = items word
-names_in script word = map name_part (items word)
-names_in degree word = []
-names_in dollars word = []
+abbrev pub names_in_word : Kind → List ℕ → List (List ℕ)
+names_in_word vertex word = word ∷ []
+names_in_word vertices word = items word
+names_in_word script word = map name_part_of_item (items word)
+names_in_word degree word = []
+names_in_word dollars word = []
 
-abbrev pub numbers_in : Kind → List ℕ → List (List ℕ)
-numbers_in vertex word = []
-numbers_in vertices word = []
-numbers_in script word = map number_part (items word)
-numbers_in degree word = word ∷ []
-numbers_in dollars word = word ∷ []
+abbrev pub numbers_in_word : Kind → List ℕ → List (List ℕ)
+numbers_in_word vertex word = []
+numbers_in_word vertices word = []
+numbers_in_word script word = map number_part_of_item (items word)
+numbers_in_word degree word = word ∷ []
+numbers_in_word dollars word = word ∷ []
 
 pub record IsSpelledNumberWithin (low high : ℤ) (text : List ℕ) : Type 0 where
   pub number : ℤ
@@ -65,10 +65,10 @@ pub record IsSpelledNumberWithin (low high : ℤ) (text : List ℕ) : Type 0 whe
   pub not_less : low ≤ℤ number
   pub not_more : number ≤ℤ high
 
-abbrev pub IsNumberFor : Kind → List ℕ → Type 0
-IsNumberFor degree text = IsSpelledNumberWithin (pos 0) (pos (2 ^ 32 - 1)) text
-IsNumberFor script text = IsSpelledNumberWithin (neg_ℤ (pos MAX_ENTRY)) (pos MAX_ENTRY) text
-IsNumberFor kind text = IsSpelledNumberWithin (neg_ℤ (pos (2 ^ 63))) (pos (2 ^ 63 - 1)) text
+abbrev pub IsNumberForWord : Kind → List ℕ → Type 0
+IsNumberForWord degree text = IsSpelledNumberWithin (pos 0) (pos (2 ^ 32 - 1)) text
+IsNumberForWord script text = IsSpelledNumberWithin (neg_ℤ (pos MAX_ENTRY)) (pos MAX_ENTRY) text
+IsNumberForWord kind text = IsSpelledNumberWithin (neg_ℤ (pos (2 ^ 63))) (pos (2 ^ 63 - 1)) text
 
 pub record AreNamesOnLine (names : List (List ℕ)) (given : List (List ℕ)) : Type 0 where
   pub each : All (λ name. IsTrue (has names name)) given
@@ -78,13 +78,13 @@ abbrev pub WordsAreNamed : List (List ℕ) → List Kind → List (List ℕ) →
 WordsAreNamed names [] rest = Unit {0}
 WordsAreNamed names (kind ∷ kinds) [] = Unit {0}
 WordsAreNamed names (kind ∷ kinds) (word ∷ rest) =
-    AreNamesOnLine names (names_in kind word) × WordsAreNamed names kinds rest
+    AreNamesOnLine names (names_in_word kind word) × WordsAreNamed names kinds rest
 
-abbrev pub AreNumbers : List Kind → List (List ℕ) → Type 0
-AreNumbers [] rest = Unit {0}
-AreNumbers (kind ∷ kinds) [] = Unit {0}
-AreNumbers (kind ∷ kinds) (word ∷ rest) =
-    All (IsNumberFor kind) (numbers_in kind word) × AreNumbers kinds rest
+abbrev pub AreNumbersOnLine : List Kind → List (List ℕ) → Type 0
+AreNumbersOnLine [] rest = Unit {0}
+AreNumbersOnLine (kind ∷ kinds) [] = Unit {0}
+AreNumbersOnLine (kind ∷ kinds) (word ∷ rest) =
+    All (IsNumberForWord kind) (numbers_in_word kind word) × AreNumbersOnLine kinds rest
 
 pub record IsSetSpelledBy (names : List (List ℕ)) (given : List (List ℕ)) (set : ℕ) : Type 0 where
   pub are_given : AreNamesOnLine names given
@@ -101,10 +101,10 @@ pub record IsScriptSpelledBy (names given : List (List ℕ)) (numbers : List ℤ
   pub are_given : AreNamesOnLine names given
   pub size : s.size ≡ length names
   pub entries : (v : ℕ) → v < length names → at s v ≡ number_in_script given numbers (name_at names v)
-  pub within : IsScript s
+  pub within : IsScriptVector s
 
 pub record IsScriptWord (names : List (List ℕ)) (word : List ℕ) (s : Vector) : Type 0 where
   pub numbers : List ℤ
-  pub spelled : map number_part (items word) ≡ map signed_decimal numbers
+  pub spelled : map number_part_of_item (items word) ≡ map signed_decimal numbers
   pub limit : All (λ x. unsigned_abs x ≤ MAX_ENTRY) numbers
-  pub script : IsScriptSpelledBy names (map name_part (items word)) numbers s
+  pub script : IsScriptSpelledBy names (map name_part_of_item (items word)) numbers s

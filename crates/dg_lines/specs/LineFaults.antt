@@ -1,37 +1,37 @@
 -- Why a command line is refused: each case says that all that is judged before it is good.
---   AreRefusedLines names fault keyword rest == the first word of a line and the words after it are
---                                          refused with the fault
+--   AreRefusedStepLines names fault keyword rest == the first word of a line and the words after it are
+--                                                   refused with the fault
 --     Word     the first word is no command word
 --     Form     it is one, and the words after it have the wrong number, or one is empty
 --     Name     the line is well formed, and a name that it gives is that of no vertex, or stands
 --              twice
 --     Number   all names of the line are good, and a number that it gives is not spelled as numbers
 --              are, or is out of its range
---   IsLineFault names fault line        == the words of the line are refused with the fault; none
---                                          are for a seat
---   fault_text fault                    == `bad`, what is wrong with the line, and a newline
+--   IsLineFault names fault line                 == the words of the line are refused with the fault; none
+--                                                   are for a seat
+--   fault_text fault                             == `bad`, what is wrong with the line, and a newline
 use Rattle.std.specs.Prelude.{◌≡◌, ℕ, List, ◌∷◌, None, IsSome, codes}
 use Rattle.dg_lines.specs.Cuts.{words}
-use Rattle.dg_lines.specs.CommandWords.{WordsAreNamed, AreNumbers}
+use Rattle.dg_lines.specs.CommandWords.{WordsAreNamed, AreNumbersOnLine}
 use Rattle.dg_lines.specs.Commands.{kinds_wanted_on_line, kinds_on_line, IsWellFormedLine}
 use Rattle.dg_lines.specs.declared.line.LineFault.{LineFault}
 use Rattle.dg_lines.specs.declared.line.LineFault.TheVariants.{Seat, Word, Form, Name, Number}
 
-abbrev pub AreRefusedLines : List (List ℕ) → LineFault → List ℕ → List (List ℕ) → Type 0
-AreRefusedLines names Seat keyword rest = ⊥
-AreRefusedLines names Word keyword rest = kinds_wanted_on_line keyword ≡ None
-AreRefusedLines names Form keyword rest = IsSome (kinds_wanted_on_line keyword) × ¬ IsWellFormedLine keyword rest
-AreRefusedLines names Name keyword rest =
+abbrev pub AreRefusedStepLines : List (List ℕ) → LineFault → List ℕ → List (List ℕ) → Type 0
+AreRefusedStepLines names Seat keyword rest = ⊥
+AreRefusedStepLines names Word keyword rest = kinds_wanted_on_line keyword ≡ None
+AreRefusedStepLines names Form keyword rest = IsSome (kinds_wanted_on_line keyword) × ¬ IsWellFormedLine keyword rest
+AreRefusedStepLines names Name keyword rest =
     IsWellFormedLine keyword rest × ¬ WordsAreNamed names (kinds_on_line keyword) rest
-AreRefusedLines names Number keyword rest =
+AreRefusedStepLines names Number keyword rest =
     IsWellFormedLine keyword rest × WordsAreNamed names (kinds_on_line keyword) rest
-    × ¬ AreNumbers (kinds_on_line keyword) rest
+    × ¬ AreNumbersOnLine (kinds_on_line keyword) rest
 
 pub record IsLineFault (names : List (List ℕ)) (fault : LineFault) (line : List ℕ) : Type 0 where
   pub keyword : List ℕ
   pub rest : List (List ℕ)
   pub cut : words line ≡ keyword ∷ rest
-  pub refused : AreRefusedLines names fault keyword rest
+  pub refused : AreRefusedStepLines names fault keyword rest
 
 abbrev pub fault_text : LineFault → List ℕ
 fault_text Seat = codes "bad seat\n"

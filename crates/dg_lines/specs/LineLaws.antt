@@ -3,12 +3,12 @@
 --   LinesHaveOneMeaning                 == no line spells a command and has a fault, and no line spells two
 --                                          commands or has two faults
 --   HasStepMeaning, StepsHaveOneMeaning == the same of a line of a seat and a command line, as a step
---   IsDigit byte                        == an ASCII digit
---   IsUnsignedNumeral text              == a digit from 1 to 9, and any digits after it
---   IsNumeral text                      == `0`, or an optional `-`, a digit from 1 to 9 and any digits after
+--   IsLineDigit byte                    == an ASCII digit
+--   IsUnsignedLineNumeral text          == a digit from 1 to 9, and any digits after it
+--   IsLineNumeral text                  == `0`, or an optional `-`, a digit from 1 to 9 and any digits after
 --                                          it
---   IsShortNumeral z                    == the whole number z has at most 64 digits
---   NumeralsAreDecimals                 == a text of at most 64 bytes is the decimal of a whole number of at
+--   IsShortLineNumeral z                == the whole number z has at most 64 digits
+--   LineNumeralsAreDecimals             == a text of at most 64 bytes is the decimal of a whole number of at
 --                                          most 64 digits exactly if it is a numeral; and no text is that of
 --                                          two such numbers
 use Rattle.std.specs.Prelude.{◌≡◌, ℕ, ◌<◌, ◌≤◌, ◌^◌, ℤ, ◌⊎◌, ◌↔◌, List, ◌∷◌, length, All, codes}
@@ -45,26 +45,26 @@ pub record StepsHaveOneMeaning : Type 0 where
   pub fault : (names : List (List ℕ)) (line : List ℕ) (one other : LineFault)
       → IsStepFault names one line → IsStepFault names other line → one ≡ other
 
-pub record IsDigit (byte : ℕ) : Type 0 where
+pub record IsLineDigit (byte : ℕ) : Type 0 where
   pub low : 48 ≤ byte
   pub high : byte ≤ 57
 
-pub record IsUnsignedNumeral (text : List ℕ) : Type 0 where
+pub record IsUnsignedLineNumeral (text : List ℕ) : Type 0 where
   pub first : ℕ
   pub rest : List ℕ
   pub whole : text ≡ first ∷ rest
   pub low : 49 ≤ first
   pub high : first ≤ 57
-  pub digits : All IsDigit rest
+  pub digits : All IsLineDigit rest
 
-abbrev pub IsNumeral : List ℕ → Type 0
-IsNumeral text =
-    (text ≡ codes "0") ⊎ IsUnsignedNumeral text ⊎ ((rest : List ℕ) × (text ≡ 45 ∷ rest) × IsUnsignedNumeral rest)
+abbrev pub IsLineNumeral : List ℕ → Type 0
+IsLineNumeral text =
+    (text ≡ codes "0") ⊎ IsUnsignedLineNumeral text ⊎ ((rest : List ℕ) × (text ≡ 45 ∷ rest) × IsUnsignedLineNumeral rest)
 
-abbrev pub IsShortNumeral : ℤ → Type 0
-IsShortNumeral z = unsigned_abs z < 10 ^ 64
+abbrev pub IsShortLineNumeral : ℤ → Type 0
+IsShortLineNumeral z = unsigned_abs z < 10 ^ 64
 
-pub record NumeralsAreDecimals : Type 0 where
+pub record LineNumeralsAreDecimals : Type 0 where
   pub just : (text : List ℕ) → length text ≤ 64
-      → ((z : ℤ) × IsShortNumeral z × (text ≡ signed_decimal z)) ↔ IsNumeral text
-  pub one : (y z : ℤ) → IsShortNumeral y → IsShortNumeral z → signed_decimal y ≡ signed_decimal z → y ≡ z
+      → ((z : ℤ) × IsShortLineNumeral z × (text ≡ signed_decimal z)) ↔ IsLineNumeral text
+  pub one : (y z : ℤ) → IsShortLineNumeral y → IsShortLineNumeral z → signed_decimal y ≡ signed_decimal z → y ≡ z

@@ -1,18 +1,16 @@
 -- The texts of replies, over the names of the vertices, in vertex order.
---   HasNames names reply          == there are as many names as the amounts of the reply, its
---                                    script and its graph have vertices
+--   TextHasNames names reply      == there are as many names as the amounts of the reply, its script and its
+--                                    graph have vertices
 --   pair name amount              == `name=amount`
 --   more_pairs names amounts v    == the pairs from the vertex v on, each after a space
 --   pairs names amounts           == the pairs of all vertices, with one space between two
 --   refusal_text refusal          == `refused` and the cause
 --   verdict_word won              == the words before the script of a verdict
---   verdict_text names verdict    == the word of the verdict, the pairs of its script and those of
---                                    its reduced divisor
---   rank_text names x             == that the rank is at least k, or below k with the pairs of the
---                                    first loss
+--   verdict_text names verdict    == the word of the verdict, the pairs of its script and those of its
+--                                    reduced divisor
+--   rank_text names x             == that the rank is at least k, or below k with the pairs of the first loss
 --   text_of names reply           == the text of the reply, with no number and no newline
---   entry_text names number reply == the line of an entry: its number, a space, the text and a
---                                    newline
+--   entry_text names number reply == the line of an entry: its number, a space, the text and a newline
 --   history_text names n H        == the lines of the entries H, numbered from n on
 --   RepliesHaveNames names H      == there are as many names as each reply of H has amounts
 use Rattle.std.specs.Prelude.{◌≡◌, ℕ, ◌+◌, ℤ, Bool, true, false, List, [], ◌∷◌, ◌++◌, length, slice_get, Some, codes, decimal}
@@ -28,8 +26,8 @@ use Rattle.dg_rules.specs.declared.entry.Reply.TheVariants.{Moved, Given, Joined
 use Rattle.dg_rules.specs.declared.entry.Refusal.TheVariants.{NoVertex, Empty, Range, Loop, Valence, Script, Gift}
 use Rattle.dg_verdict.specs.declared.verdict.Verdict.{Verdict as VerdictFound}
 
-abbrev pub HasNames : List (List ℕ) → Reply → Type 0
-HasNames names reply = IsReplyOfSize (length names) reply
+abbrev pub TextHasNames : List (List ℕ) → Reply → Type 0
+TextHasNames names reply = IsReplyOfSize (length names) reply
 
 abbrev pub pair : List ℕ → ℤ → List ℕ
 pair name amount = name ++ codes "=" ++ signed_decimal amount
@@ -86,4 +84,4 @@ history_text names n [] = []
 history_text names n (e ∷ H) = entry_text names n e.reply ++ history_text names (n + 1) H
 
 abbrev pub RepliesHaveNames : List (List ℕ) → List Entry → Type 0
-RepliesHaveNames names H = (k : ℕ) (e : Entry) → slice_get H k ≡ Some e → HasNames names e.reply
+RepliesHaveNames names H = (k : ℕ) (e : Entry) → slice_get H k ≡ Some e → TextHasNames names e.reply

@@ -1,6 +1,6 @@
 //! Answers in columns of bare numbers, with one space between two.
 ghost use Rattle.std.specs.Prelude.{◌≡◌, ◌++◌, OnOk, option_map};
-ghost use Rattle.dg_lines.specs.Columns.{loss_columns, marks, rank_row, truth, vector_columns, verdict_row};
+ghost use Rattle.dg_lines.specs.Columns.{loss_columns, marks, rank_row, truth_text, vector_columns, verdict_row};
 
 use crate::amounts::Amounts;
 use crate::digits::MAX_DIGITS;
@@ -52,13 +52,13 @@ fn push_loss<A: Allocator>(
 {
     match loss {
         Some(loss) => push_columns(text, loss),
-        None => push_marks(text, size),
+        None => push_mark_columns(text, size),
     }
 }
 
 /// 1 for yes, 0 for no.
 fn push_truth<A: Allocator>(text: &mut Vec<u8, A>, holds: bool) -> Result<(), AllocError>
-    ensures { OnOk result (text.new.items ≡ text.old.items ++ truth holds) }
+    ensures { OnOk result (text.new.items ≡ text.old.items ++ truth_text holds) }
 {
     if holds {
         text.extend_from_slice(b"1")
@@ -68,7 +68,7 @@ fn push_truth<A: Allocator>(text: &mut Vec<u8, A>, holds: bool) -> Result<(), Al
 }
 
 /// So many times ` NA`.
-fn push_marks<A: Allocator>(text: &mut Vec<u8, A>, count: usize) -> Result<(), AllocError>
+fn push_mark_columns<A: Allocator>(text: &mut Vec<u8, A>, count: usize) -> Result<(), AllocError>
     ensures { OnOk result (text.new.items ≡ text.old.items ++ marks count) }
 {
     'marks: for _ in 0..count {

@@ -1,11 +1,11 @@
 //! Commands: the word of each, how many words follow it, and what they come to.
 ghost use Rattle.std.specs.Prelude.{◌≡◌, None, MatchOption, MatchResult, length};
 ghost use Rattle.dg_lines.specs.Commands.{kinds_wanted_on_line, IsWellFormedLine, Means};
-ghost use Rattle.dg_lines.specs.LineFaults.{AreRefusedLines};
+ghost use Rattle.dg_lines.specs.LineFaults.{AreRefusedStepLines};
 ghost use Rattle.dg_lines.specs.Keywords.{spelling, keyword_kinds, first_words};
 
 use crate::line::LineFault;
-use crate::word::{degree_in_word, dollars_in_word, script_of, set_in_word, vertex_of};
+use crate::word::{degree_in_word, dollars_in_word, script_in_word, set_in_word, vertex_in_word};
 use dg_chips::Move;
 use dg_rules::{Command, Plain};
 use dg_tokens::Names;
@@ -77,20 +77,24 @@ pub(crate) fn command_of(
     ensures { let rest = first_words (length (keyword_kinds keyword)) first.now second.now in
         MatchResult result
         (λ command. Means names.now command (spelling keyword) rest)
-        (λ fault. AreRefusedLines names.now fault (spelling keyword) rest) }
+        (λ fault. AreRefusedStepLines names.now fault (spelling keyword) rest) }
 {
     match keyword {
-        Keyword::Lend => Ok(Command::Call(Plain::Move(Move::Lend(vertex_of(first, names)?)))),
-        Keyword::Borrow => Ok(Command::Call(Plain::Move(Move::Borrow(vertex_of(first, names)?)))),
+        Keyword::Lend => Ok(Command::Call(Plain::Move(Move::Lend(vertex_in_word(first, names)?)))),
+        Keyword::Borrow => Ok(Command::Call(Plain::Move(Move::Borrow(vertex_in_word(
+            first, names,
+        )?)))),
         Keyword::Fire => Ok(Command::Call(Plain::Move(Move::Fire(set_in_word(first, names)?)))),
-        Keyword::Script => Ok(Command::Call(Plain::Move(Move::Script(script_of(first, names)?)))),
+        Keyword::Script => Ok(Command::Call(Plain::Move(Move::Script(script_in_word(
+            first, names,
+        )?)))),
         Keyword::Gift => {
-            let v = vertex_of(first, names)?;
+            let v = vertex_in_word(first, names)?;
             Ok(Command::Call(Plain::Gift(v, dollars_in_word(second)?)))
         }
         Keyword::Join => {
-            let u = vertex_of(first, names)?;
-            Ok(Command::Call(Plain::Join(u, vertex_of(second, names)?)))
+            let u = vertex_in_word(first, names)?;
+            Ok(Command::Call(Plain::Join(u, vertex_in_word(second, names)?)))
         }
         Keyword::Look => Ok(Command::Call(Plain::Look)),
         Keyword::Claim => Ok(Command::Call(Plain::Claim)),

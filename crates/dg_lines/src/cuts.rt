@@ -12,14 +12,14 @@ pub fn cut(bytes: &[u8], at: u8) -> (&[u8], Option<&[u8]>)
     ensures before { result.0.now ≡ before at bytes.now }
     ensures after { option_copied result.1 ≡ after at bytes.now }
 {
-    match first_cut(bytes, at) {
+    match first_cut_in_line(bytes, at) {
         Some(place) => (&bytes[..place], Some(&bytes[place + 1..])),
         None => (bytes, None),
     }
 }
 
 /// The first place of the byte. If there are 32 bytes, these are looked at together, because most words end there.
-fn first_cut(bytes: &[u8], at: u8) -> Option<usize>
+fn first_cut_in_line(bytes: &[u8], at: u8) -> Option<usize>
     ensures { result ≡ position (λ byte. byte == at) bytes.now }
 {
     if bytes.len() < 32 {
@@ -29,12 +29,12 @@ fn first_cut(bytes: &[u8], at: u8) -> Option<usize>
     if places != 0 {
         return Some(places.trailing_zeros() as usize);
     }
-    far_cut(bytes, at)
+    far_cut_in_line(bytes, at)
 }
 
 /// The first place of the byte, if it is far. This stands apart, so that a byte that is near costs nothing for it.
 #[inline(never)]
-fn far_cut(bytes: &[u8], at: u8) -> Option<usize>
+fn far_cut_in_line(bytes: &[u8], at: u8) -> Option<usize>
     ensures { result ≡ position (λ byte. byte == at) bytes.now }
 {
     memchr(at, bytes)

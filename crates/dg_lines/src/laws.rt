@@ -1,5 +1,5 @@
 //! Laws over what lines spell, each the contract of a function that no call needs.
-ghost use Rattle.dg_lines.specs.LineLaws.{HasMeaning, HasStepMeaning, LinesHaveOneMeaning, StepsHaveOneMeaning, NumeralsAreDecimals};
+ghost use Rattle.dg_lines.specs.LineLaws.{HasMeaning, HasStepMeaning, LinesHaveOneMeaning, StepsHaveOneMeaning, LineNumeralsAreDecimals};
 
 use crate::line::{parse_line, parse_step};
 use dg_tokens::Names;
@@ -26,6 +26,6 @@ pub fn steps_have_one_meaning(line: &[u8], names: &Names)
 
 /// A text of at most 64 bytes is the decimal of a whole number exactly if it is `0`, or a digit from 1 to 9 and further
 /// digits, with or without a `-` before them; and no text is that of two numbers below 10^64, with either sign.
-pub fn numerals_are_decimals()
-    ensures { NumeralsAreDecimals }
+pub fn line_numerals_are_decimals()
+    ensures { LineNumeralsAreDecimals }
 {}

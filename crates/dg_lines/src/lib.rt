@@ -18,7 +18,7 @@ mod word;
 pub use columns::{push_rank_row, push_verdict_row};
 pub use cuts::cut;
 pub use judgement::push_judgement;
-pub use laws::{lines_have_one_meaning, numerals_are_decimals, steps_have_one_meaning};
+pub use laws::{line_numerals_are_decimals, lines_have_one_meaning, steps_have_one_meaning};
 pub use line::{LineFault, parse_line, parse_step, split_seat_off_line};
 pub use lines::Lines;
 pub use steps_file::{StepsFault, parse_steps};

@@ -47,19 +47,19 @@ pub fn seat(text: &[u8]) -> Option<u8>
         (λ n. (1 ≤ n) × (n ≤ MAX_SEATS) × (text.now ≡ decimal n)) }
 {
     match text.len() {
-        1 => seat_in_digits(b'0', text[0]),
+        1 => seat_number_in_word(b'0', text[0]),
         2 => {
             if text[0] == b'0' {
                 return None;
             }
-            seat_in_digits(text[0], text[1])
+            seat_number_in_word(text[0], text[1])
         }
         _ => None,
     }
 }
 
 /// The seat, 1 to 64, that has these two digits.
-fn seat_in_digits(tens: u8, ones: u8) -> Option<u8>
+fn seat_number_in_word(tens: u8, ones: u8) -> Option<u8>
     ensures { MatchOption result
         ((n : ℕ) → 1 ≤ n → n ≤ MAX_SEATS → tens ≡ 48 + n / 10 → ones ≢ 48 + n % 10)
         (λ n. (1 ≤ n) × (n ≤ MAX_SEATS) × (tens ≡ 48 + n / 10) × (ones ≡ 48 + n % 10)) }

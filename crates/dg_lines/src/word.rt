@@ -4,7 +4,7 @@ ghost use Rattle.std.specs.Int.{w64};
 ghost use Rattle.std.specs.Fmt.{signed_decimal};
 ghost use Rattle.dg_tokens.specs.Names.{place_of};
 ghost use Rattle.dg_lines.specs.Cuts.{items};
-ghost use Rattle.dg_lines.specs.CommandWords.{vertex, vertices, degree, dollars, names_in, IsNumberFor, AreNamesOnLine, IsSetSpelledBy, IsScriptWord};
+ghost use Rattle.dg_lines.specs.CommandWords.{vertex, vertices, degree, dollars, names_in_word, IsNumberForWord, AreNamesOnLine, IsSetSpelledBy, IsScriptWord};
 ghost use Rattle.dg_lines.specs.Keywords.{IsBadScriptWord};
 
 use crate::cuts::cut;
@@ -15,10 +15,10 @@ use dg_graph::{MAX_VERTICES, contains, with_vertex};
 use dg_tokens::{Names, integer};
 
 /// The vertex of that name.
-pub(crate) fn vertex_of(word: &[u8], names: &Names) -> Result<u8, LineFault>
+pub(crate) fn vertex_in_word(word: &[u8], names: &Names) -> Result<u8, LineFault>
     ensures { MatchResult result
         (λ v. place_of names.now word.now ≡ Some v)
-        (λ fault. (fault ≡ LineFault.Name) × ¬ AreNamesOnLine names.now (names_in vertex word.now)) }
+        (λ fault. (fault ≡ LineFault.Name) × ¬ AreNamesOnLine names.now (names_in_word vertex word.now)) }
 {
     match names.place(word) {
         Some(v) => Ok(v),
@@ -30,7 +30,7 @@ pub(crate) fn vertex_of(word: &[u8], names: &Names) -> Result<u8, LineFault>
 pub(crate) fn degree_in_word(word: &[u8]) -> Result<u32, LineFault>
     ensures { MatchResult result
         (λ k. (word.now ≡ decimal k) × (k < 2 ^ 32))
-        (λ fault. (fault ≡ LineFault.Number) × ¬ IsNumberFor degree word.now) }
+        (λ fault. (fault ≡ LineFault.Number) × ¬ IsNumberForWord degree word.now) }
 {
     match degree(word) {
         Some(k) => Ok(k),
@@ -42,7 +42,7 @@ pub(crate) fn degree_in_word(word: &[u8]) -> Result<u32, LineFault>
 pub(crate) fn dollars_in_word(word: &[u8]) -> Result<i64, LineFault>
     ensures { MatchResult result
         (λ x. (word.now ≡ signed_decimal x) × FitsSigned w64 x)
-        (λ fault. (fault ≡ LineFault.Number) × ¬ IsNumberFor dollars word.now) }
+        (λ fault. (fault ≡ LineFault.Number) × ¬ IsNumberForWord dollars word.now) }
 {
     match integer(word) {
         Some(x) => Ok(x),
@@ -54,7 +54,7 @@ pub(crate) fn dollars_in_word(word: &[u8]) -> Result<i64, LineFault>
 pub(crate) fn set_in_word(text: &[u8], names: &Names) -> Result<u16, LineFault>
     ensures { MatchResult result
         (IsSetSpelledBy names.now (items text.now))
-        (λ fault. (fault ≡ LineFault.Name) × ¬ AreNamesOnLine names.now (names_in vertices text.now)) }
+        (λ fault. (fault ≡ LineFault.Name) × ¬ AreNamesOnLine names.now (names_in_word vertices text.now)) }
 {
     // No two names of a table are the same.
     let _size = names.len();
@@ -78,7 +78,7 @@ pub(crate) fn set_in_word(text: &[u8], names: &Names) -> Result<u16, LineFault>
 /// The script of the items, each the name of a vertex that no earlier item names, `=` and a number.
 ///
 /// Refused with `Name` before `Number`.
-pub(crate) fn script_of(text: &[u8], names: &Names) -> Result<Script, LineFault>
+pub(crate) fn script_in_word(text: &[u8], names: &Names) -> Result<Script, LineFault>
     ensures { MatchResult result
         (IsScriptWord names.now text.now) (λ fault. IsBadScriptWord names.now fault text.now) }
 {

@@ -1,6 +1,6 @@
 -- The names that the proofs of this crate cite, passed on from one place. Declares nothing.
 pub use Rattle.dg_rules.specs.declared.entry.Entry.{Entry}
-pub use Rattle.dg_log.specs.Numbered.{IsLonger, IsPrefixOf, ReceiptsAreBelow, StandIn}
+pub use Rattle.dg_log.specs.Numbered.{IsLongerPrefix, IsPrefixOf, ReceiptsAreBelow, StandInLog}
 pub use Rattle.dg_log.specs.ReceiptSets.{AreReceiptsNamed, IsReceiptSetEnd, entries_of_receipts}
 pub use Rattle.dg_log.specs.Witnesses.{AgreeOnCells, AgreesOnCell, noted_cells}
 pub use Rattle.dg_log.specs.Written.{Written}

@@ -16,7 +16,7 @@
 --   seen_length, began_seen, stands_seen   so it is of what a contract sees of these
 --   begins_itself  a history begins with itself
 --   longer_second, longer_first   of a history and its beginning, it is the longer
-use Rattle.dg_log.proofs.Common.{◌≡◌, ℕ, zero, suc, ◌+◌, ◌<◌, ◌≤◌, List, [], ◌∷◌, ◌++◌, length, map, take, slice_get, Some, arith, refl, sym, ap, subst, ◌∙◌, length-append, slice_get_within, length-map, append-nil, Entry, AgreesOnCell, AgreeOnCells, ReceiptsAreBelow, StandIn, IsPrefixOf, IsLonger, entries_of_receipts, AreReceiptsNamed, IsReceiptSetEnd}
+use Rattle.dg_log.proofs.Common.{◌≡◌, ℕ, zero, suc, ◌+◌, ◌<◌, ◌≤◌, List, [], ◌∷◌, ◌++◌, length, map, take, slice_get, Some, arith, refl, sym, ap, subst, ◌∙◌, length-append, slice_get_within, length-map, append-nil, Entry, AgreesOnCell, AgreeOnCells, ReceiptsAreBelow, StandInLog, IsPrefixOf, IsLongerPrefix, entries_of_receipts, AreReceiptsNamed, IsReceiptSetEnd}
 
 pub below_up : (m n : ℕ) (ps : List (ℕ × Entry)) → m ≤ n → ReceiptsAreBelow m ps → ReceiptsAreBelow n ps
 below_up m n [] up below = tt
@@ -97,7 +97,7 @@ cells_more row items x cells next =
 pub stands : (row : List ℕ) (items others : List (ℕ × ℕ × Entry)) → AgreeOnCells items others → AreReceiptsNamed row items →
     map (λ y. y.1) others ≡ take (length others) row →
     ReceiptsAreBelow (length (map (λ y. y.2) others)) (entries_of_receipts items) →
-    StandIn (map (λ y. y.2) others) (entries_of_receipts items)
+    StandInLog (map (λ y. y.2) others) (entries_of_receipts items)
 stands row [] others agree named cells below = tt
 stands row (x ∷ items) others agree named cells below =
     let inside : x.0 < length others = omega (arith, below.0, length-map others (λ (y : ℕ × ℕ × Entry). y.2)) in
@@ -143,9 +143,9 @@ began_seen row items others {K} first second agree cells more few =
 
 pub stands_seen : (row : List ℕ) (items others : List (ℕ × ℕ × Entry)) {ps : List (ℕ × Entry)} {H : List Entry} →
     entries_of_receipts items ≡ ps → map (λ x. x.2) others ≡ H → AgreeOnCells items others → AreReceiptsNamed row items →
-    map (λ y. y.1) others ≡ take (length others) row → ReceiptsAreBelow (length H) ps → StandIn H ps
+    map (λ y. y.1) others ≡ take (length others) row → ReceiptsAreBelow (length H) ps → StandInLog H ps
 stands_seen row items others {ps} {H} first second agree named cells below =
-    subst (StandIn H) first (subst (λ L. StandIn L (entries_of_receipts items)) second
+    subst (StandInLog H) first (subst (λ L. StandInLog L (entries_of_receipts items)) second
     (stands row items others agree named cells
     (subst (λ L. ReceiptsAreBelow (length L) (entries_of_receipts items)) (sym second)
     (subst (ReceiptsAreBelow (length H)) (sym first) below))))
@@ -153,7 +153,7 @@ stands_seen row items others {ps} {H} first second agree named cells below =
 pub begins_itself : (H : List Entry) → IsPrefixOf H H
 begins_itself H = ([], sym (append-nil H))
 
-pub longer_second : (K H M : List Entry) → IsPrefixOf K H → M ≡ H → length K ≤ length H → IsLonger K H M
+pub longer_second : (K H M : List Entry) → IsPrefixOf K H → M ≡ H → length K ≤ length H → IsLongerPrefix K H M
 longer_second K H M begins is few = record {
   first = subst (IsPrefixOf K) (sym is) begins;
   second = subst (IsPrefixOf H) (sym is) (begins_itself H);
@@ -161,7 +161,7 @@ longer_second K H M begins is few = record {
   first_longer = λ more. absurd (omega (arith, few, more));
 }
 
-pub longer_first : (K H M : List Entry) → IsPrefixOf H K → M ≡ K → length H < length K → IsLonger K H M
+pub longer_first : (K H M : List Entry) → IsPrefixOf H K → M ≡ K → length H < length K → IsLongerPrefix K H M
 longer_first K H M begins is few = record {
   first = subst (IsPrefixOf K) (sym is) (begins_itself K);
   second = subst (IsPrefixOf H) (sym is) begins;

@@ -3,7 +3,7 @@ ghost use Rattle.std.specs.Prelude.{◌≡◌, ◌<◌, ◌≤◌, [], ◌∷◌
 ghost use Rattle.std.specs.List.{slice_get};
 ghost use Rattle.std.specs.declared.option.Option.TheVariants.{Some};
 ghost use Rattle.dg_rules.specs.declared.game.TheConstants.{MAX_ENTRIES};
-ghost use Rattle.dg_log.specs.Numbered.{ReceiptsAreBelow, StandIn, IsPrefixOf};
+ghost use Rattle.dg_log.specs.Numbered.{ReceiptsAreBelow, StandInLog, IsPrefixOf};
 ghost use Rattle.dg_log.specs.Written.{nothing_written, with_entry, written_after_refusal};
 
 use crate::log::Log;
@@ -107,7 +107,7 @@ impl<N: Name> Pen<N> {
     /// less than its length.
     pub fn holds(&self, receipt_set: &ReceiptSet<N>)
         requires { ReceiptsAreBelow (length self.now.entries) receipt_set.now }
-        ensures { StandIn self.now.entries receipt_set.now }
+        ensures { StandInLog self.now.entries receipt_set.now }
     {
         receipt_set.witnesses.agree(&self.witnesses);
     }

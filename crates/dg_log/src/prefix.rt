@@ -1,6 +1,6 @@
 //! How a history began.
 ghost use Rattle.std.specs.Prelude.{◌≡◌, ◌⊎◌, [], length, map, take};
-ghost use Rattle.dg_log.specs.Numbered.{ReceiptsAreBelow, StandIn, IsPrefixOf, IsLonger};
+ghost use Rattle.dg_log.specs.Numbered.{ReceiptsAreBelow, StandInLog, IsPrefixOf, IsLongerPrefix};
 
 use crate::name::Name;
 use crate::receipt_set::ReceiptSet;
@@ -74,7 +74,7 @@ impl<N: Name> Prefix<N> {
 
     /// The longer of two histories of one table, which begins with the other.
     pub fn longer(&self, other: &Prefix<N>) -> Prefix<N>
-        ensures { IsLonger self.now other.now result }
+        ensures { IsLongerPrefix self.now other.now result }
     {
         if self.len <= other.len {
             self.witnesses.agree(&other.witnesses);
@@ -88,7 +88,7 @@ impl<N: Name> Prefix<N> {
     /// What receipts say stands in the history. It does nothing. The condition is that their numbers are less than its length.
     pub fn holds(&self, receipt_set: &ReceiptSet<N>)
         requires { ReceiptsAreBelow (length self.now) receipt_set.now }
-        ensures { StandIn self.now receipt_set.now }
+        ensures { StandInLog self.now receipt_set.now }
     {
         receipt_set.witnesses.agree(&self.witnesses);
     }

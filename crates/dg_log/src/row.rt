@@ -2,7 +2,7 @@
 ghost use Rattle.std.specs.Prelude.{◌≡◌, ℕ, ◌≤◌, List, length, map, MatchResult, IfOk};
 ghost use Rattle.std.specs.Vec.{vec_len};
 ghost use Rattle.once_cell.specs.Once.{cell_name};
-ghost use Rattle.dg_log.specs.Rows.{IsCapacity, RefusesRowOfCells};
+ghost use Rattle.dg_log.specs.Rows.{IsLogCapacity, RefusesRowOfCells};
 ghost use Rattle.dg_rules.specs.declared.game.TheConstants.{MAX_ENTRIES};
 
 use dg_rules::{Entry, MAX_ENTRIES};
@@ -41,7 +41,7 @@ impl Row {
     ///
     /// Refused with `Capacity` if the number is another, and with `OutOfMemory`.
     pub fn new(alloc: Global, capacity: u32) -> Result<Row, LogFault>
-        ensures { MatchResult result (λ r. (length r ≡ capacity) × IsCapacity capacity)
+        ensures { MatchResult result (λ r. (length r ≡ capacity) × IsLogCapacity capacity)
             (RefusesRowOfCells capacity) }
     {
         let count = capacity as usize;

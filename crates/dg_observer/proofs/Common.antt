@@ -9,10 +9,10 @@ pub use Rattle.dg_rules.specs.History.{gifts_by_reply, gifts_in, is_change, posi
 pub use Rattle.dg_rules.specs.Legal.{IsLegal}
 pub use Rattle.dg_rules.specs.Position.{ShowsPosition}
 pub use Rattle.dg_rules.specs.Replies.{Replies}
-pub use Rattle.dg_rules.specs.State.{amounts_after}
+pub use Rattle.dg_rules.specs.State.{position_amounts_after}
 pub use Rattle.dg_rules.specs.declared.entry.Entry.{Entry}
-pub use Rattle.dg_observer.specs.Folds.{AreReadInOrder, Folds, Observed}
-pub use Rattle.dg_observer.specs.Watched.{WatchCountsGifts, WatchShowsPositions, counted, gifts_after_entry}
+pub use Rattle.dg_observer.specs.Folds.{AreObservedInOrder, Folds, Observed}
+pub use Rattle.dg_observer.specs.Watched.{WatchCountsGifts, WatchShowsPositions, counted, gifts_watched_after}
 pub use Rattle.std.proofs.Common.{Bool, List, [], ap, append-nil, append_assoc, arith, cond, false, inl, inr, length, length-append, map, refl, subst, sym, true, ℕ, ◌++◌, ◌+◌, ◌-◌, ◌<◌, ◌^◌, ◌∙◌, ◌∷◌, ◌≡◌, ◌≤◌}
 pub use Rattle.std.proofs.lemmas.List.{length-map, map-append}
 pub use Rattle.std.specs.List.{FoldsTo}

@@ -4,7 +4,7 @@
 --   GoesOn post goes_on               == what so returns, goes on as the relation says
 --   Folds begins goes_on entries last == from a first state one step for each of the entries, in order, leads
 --                                        to the last state
---   AreReadInOrder ps                 == the entries ps are numbered from 0 on
+--   AreObservedInOrder ps             == the entries ps are numbered from 0 on
 use Rattle.std.specs.Prelude.{◌≡◌, ℕ, List, slice_get, Some, Result, Ok}
 use Rattle.std.specs.Borrow.{Bor}
 use Rattle.std.specs.List.{FoldsTo}
@@ -27,5 +27,5 @@ IsAskedInEveryFold {S} pre = (p : Bor S) (q : Bor Entry) → pre p q
 abbrev pub GoesOn : {S E : Type 0} → (Bor S → Bor Entry → Result S E → Type 0) → (S → Entry → S → Type 0) → Type 0
 GoesOn {S} {E} post goes_on = (p : Bor S) (q : Bor Entry) (next : S) → post p q (Ok next) → goes_on p.now q.now next
 
-abbrev pub AreReadInOrder : List (ℕ × Entry) → Type 0
-AreReadInOrder ps = (i : ℕ) (p : ℕ × Entry) → slice_get ps i ≡ Some p → p.0 ≡ i
+abbrev pub AreObservedInOrder : List (ℕ × Entry) → Type 0
+AreObservedInOrder ps = (i : ℕ) (p : ℕ × Entry) → slice_get ps i ≡ Some p → p.0 ≡ i

@@ -1,9 +1,9 @@
 -- What three observers keep.
 --   counted n                     == one more than n, as far as 64 bits go
---   gifts_after_entry n e         == that if the reply of the entry e is a change, and n if it is none
+--   gifts_watched_after n e       == that if the reply of the entry e is a change, and n if it is none
 --   is_watched_move request       == whether the request is a move
 --   is_watched_refusal reply      == whether the reply is a refusal
---   is_refused_move e             == whether the entry is a move that was refused
+--   is_watched_refused_move e     == whether the entry is a move that was refused
 --   with_refused_move counts seat == the counts of the seats 1 to 64 with one more for the seat, as far as 32
 --                                    bits go
 --   refusal_counted counts e      == that for the entry's seat if the entry is a refused move, and the counts
@@ -19,7 +19,7 @@ use Rattle.dg_chips.specs.Vector.{Vector}
 use Rattle.dg_rules.specs.History.{is_change, gifts_in, position_after}
 use Rattle.dg_rules.specs.Legal.{IsLegal}
 use Rattle.dg_rules.specs.Position.{ShowsPosition}
-use Rattle.dg_rules.specs.State.{amounts_after}
+use Rattle.dg_rules.specs.State.{position_amounts_after}
 use Rattle.dg_rules.specs.declared.entry.Entry.{Entry}
 use Rattle.dg_rules.specs.declared.entry.Reply.{Reply}
 use Rattle.dg_rules.specs.declared.entry.Reply.TheVariants.{Refused}
@@ -30,8 +30,8 @@ use Rattle.dg_observer.specs.Folds.{Folds}
 abbrev pub counted : ℕ → ℕ
 counted n = min (n + 1) (2 ^ 64 - 1)
 
-abbrev pub gifts_after_entry : ℕ → Entry → ℕ
-gifts_after_entry n e = if is_change e.reply then counted n else n
+abbrev pub gifts_watched_after : ℕ → Entry → ℕ
+gifts_watched_after n e = if is_change e.reply then counted n else n
 
 abbrev pub is_watched_move : Request → Bool
 is_watched_move (Move m) = true
@@ -41,8 +41,8 @@ abbrev pub is_watched_refusal : Reply → Bool
 is_watched_refusal (Refused refusal) = true
 is_watched_refusal reply = false
 
-abbrev pub is_refused_move : Entry → Bool
-is_refused_move e = is_watched_move e.request && is_watched_refusal e.reply
+abbrev pub is_watched_refused_move : Entry → Bool
+is_watched_refused_move e = is_watched_move e.request && is_watched_refusal e.reply
 
 abbrev pub with_refused_move : List ℕ → ℕ → List ℕ
 with_refused_move counts seat =
@@ -50,14 +50,14 @@ with_refused_move counts seat =
 
 abbrev pub refusal_counted : List ℕ → Entry → List ℕ
 refusal_counted counts e =
-    cond (is_refused_move e && leb 1 e.seat && leb e.seat 64) (with_refused_move counts e.seat) counts
+    cond (is_watched_refused_move e && leb 1 e.seat && leb e.seat 64) (with_refused_move counts e.seat) counts
 
 abbrev pub WatchCountsGifts : Type 0
 WatchCountsGifts = (H : List Entry) (n : ℕ) → length H < 2 ^ 64
-    → Folds (λ first. first ≡ 0) (λ old e next. next ≡ gifts_after_entry old e) H n
+    → Folds (λ first. first ≡ 0) (λ old e next. next ≡ gifts_watched_after old e) H n
     → n ≡ gifts_in H
 
 abbrev pub WatchShowsPositions : Type 0
 WatchShowsPositions = (o : StartData) (H : List Entry) (d : Vector) → IsStart o → IsLegal o H
-    → Folds (λ first. first ≡ o.divisor) (λ old e next. next ≡ amounts_after old e.reply) H d
+    → Folds (λ first. first ≡ o.divisor) (λ old e next. next ≡ position_amounts_after old e.reply) H d
     → ShowsPosition (position_after o H) d

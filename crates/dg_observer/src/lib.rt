@@ -8,6 +8,6 @@ mod watches;
 pub use observer::{Observer, ObserverFault};
 pub use watch::Watch;
 pub use watches::{
-    Gifts, Positions, RefusedMoves, count_gift, count_refusal, keep_position, watch_counts_gifts,
-    watch_shows_positions,
+    Gifts, Positions, RefusedMoves, count_gift, count_watched_refusal, keep_position,
+    watch_counts_gifts, watch_shows_positions,
 };

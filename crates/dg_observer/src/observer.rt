@@ -31,14 +31,14 @@ pub struct Observer<N: Name, W: Watch, F> {
 impl<N: Name, W: Watch, F> Model for Observer<N, W, F> {
     ghost use Rattle.std.specs.Prelude.{◌≤◌, map, length};
     ghost use Rattle.dg_rules.specs.declared.game.TheConstants.{MAX_ENTRIES};
-    ghost use Rattle.dg_observer.specs.Folds.{Observed, Folds, AreReadInOrder};
+    ghost use Rattle.dg_observer.specs.Folds.{Observed, Folds, AreObservedInOrder};
 
     ghost Value = { Observed W.State F };
 
     ghost view = { λ o. record { state = o.state; entries = map (λ r. r.1) o.receipts.items; step = o.step } };
 
     ghost invariant = { λ o. Folds W.begins W.goes_on (map (λ r. r.1) o.receipts.items) o.state
-        × AreReadInOrder o.receipts.items
+        × AreObservedInOrder o.receipts.items
         × (length o.receipts.items ≤ length N.cells) × (length o.receipts.items ≤ MAX_ENTRIES) };
 }
 

@@ -1,7 +1,7 @@
 //! Three watches with their steps: the gift count, the position, and the refused moves of each seat.
 ghost use Rattle.std.specs.Prelude.{◌≡◌, IfOk};
-ghost use Rattle.dg_rules.specs.State.{amounts_after};
-ghost use Rattle.dg_observer.specs.Watched.{WatchCountsGifts, WatchShowsPositions, gifts_after_entry, is_watched_refusal, refusal_counted};
+ghost use Rattle.dg_rules.specs.State.{position_amounts_after};
+ghost use Rattle.dg_observer.specs.Watched.{WatchCountsGifts, WatchShowsPositions, gifts_watched_after, is_watched_refusal, refusal_counted};
 
 use crate::watch::Watch;
 use dg_chips::Divisor;
@@ -17,18 +17,18 @@ pub struct Gifts;
 
 impl Watch for Gifts {
     ghost use Rattle.std.specs.Prelude.{◌≡◌};
-    ghost use Rattle.dg_observer.specs.Watched.{gifts_after_entry};
+    ghost use Rattle.dg_observer.specs.Watched.{gifts_watched_after};
 
     type State = u64;
 
     ghost begins = { λ n. n ≡ 0 };
 
-    ghost goes_on = { λ n e m. m ≡ gifts_after_entry n e };
+    ghost goes_on = { λ n e m. m ≡ gifts_watched_after n e };
 }
 
 /// The step of `Gifts`.
 pub fn count_gift(count: &u64, entry: &Entry) -> Result<u64, AllocError>
-    ensures { IfOk result (λ next. next ≡ gifts_after_entry count.now entry.now) }
+    ensures { IfOk result (λ next. next ≡ gifts_watched_after count.now entry.now) }
 {
     match entry.reply {
         Reply::Given(..) | Reply::Joined(..) => Ok(count.saturating_add(1)),
@@ -52,18 +52,18 @@ pub struct Positions<N> {
 
 impl<N: Name> Watch for Positions<N> {
     ghost use Rattle.std.specs.Prelude.{◌≡◌};
-    ghost use Rattle.dg_rules.specs.State.{amounts_after};
+    ghost use Rattle.dg_rules.specs.State.{position_amounts_after};
 
     type State = Divisor;
 
     ghost begins = { λ d. d ≡ N.table.start.divisor };
 
-    ghost goes_on = { λ old e next. next ≡ amounts_after old e.reply };
+    ghost goes_on = { λ old e next. next ≡ position_amounts_after old e.reply };
 }
 
 /// The step of `Positions`. A move or a gift that was accepted shows the amounts after it. A join leaves them.
 pub fn keep_position(position: &Divisor, entry: &Entry) -> Result<Divisor, AllocError>
-    ensures { IfOk result (λ next. next ≡ amounts_after position.now entry.now.reply) }
+    ensures { IfOk result (λ next. next ≡ position_amounts_after position.now entry.now.reply) }
 {
     match entry.reply {
         Reply::Moved(divisor) | Reply::Given(_, divisor) => Ok(divisor),
@@ -94,19 +94,19 @@ impl Watch for RefusedMoves {
 }
 
 /// The step of `RefusedMoves`.
-pub fn count_refusal(counts: &[u32; 64], entry: &Entry) -> Result<[u32; 64], AllocError>
+pub fn count_watched_refusal(counts: &[u32; 64], entry: &Entry) -> Result<[u32; 64], AllocError>
     ensures { IfOk result (λ next. next ≡ refusal_counted counts.now entry.now) }
 {
     let mut next = *counts;
-    if is_refused_move(entry) && entry.seat >= 1 && entry.seat <= MAX_SEATS {
+    if is_watched_refused_move(entry) && entry.seat >= 1 && entry.seat <= MAX_SEATS {
         let place = usize::from(entry.seat) - 1;
         next[place] = next[place].saturating_add(1);
     }
     Ok(next)
 }
 
-fn is_refused_move(entry: &Entry) -> bool
-    ensures { result ≡ Rattle.dg_observer.specs.Watched.is_refused_move entry.now }
+fn is_watched_refused_move(entry: &Entry) -> bool
+    ensures { result ≡ Rattle.dg_observer.specs.Watched.is_watched_refused_move entry.now }
 {
     match entry.request {
         Request::Move(_) => watches_refusal(&entry.reply),

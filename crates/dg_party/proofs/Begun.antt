@@ -6,14 +6,14 @@
 --   alone_all      the one session of one seat is that of all
 --   alone_lacks    so is it where what it came to is not told
 --   party_lacks    a party whose sessions are not told is refused for what they lack
-use Rattle.dg_party.proofs.Common.{◌≡◌, ℕ, suc, ◌≤◌, List, [], ◌∷◌, length, arith, refl, sym, ap, subst, ◌∙◌, Result, Vec, AreFresh, SeatView, SessionEnd, IsPartySessionOver, RefusesSessions, contents, Shortage, OutOfMemory, Spawn, IsPartyRefused, TableData}
+use Rattle.dg_party.proofs.Common.{◌≡◌, ℕ, suc, ◌≤◌, List, [], ◌∷◌, length, arith, refl, sym, ap, subst, ◌∙◌, Result, Vec, AreFreshSeats, SeatView, SessionEnd, IsPartySessionOver, RefusesPartySessions, contents, Shortage, OutOfMemory, Spawn, IsPartyRefused, TableData}
 use Rattle.dg_party.specs.Sessions.{AreSessions, HaveBegun}
 use Rattle.dg_party.specs.declared.ending.PartyRefusal.TheVariants as party
 
 pub none_begun : (table : TableData) (names : List (List ℕ)) (scripts left : List (Vec ℕ)) (script : Vec ℕ)
     (xs rest ys : List SeatView) (x y : SeatView) (lack : Shortage)
     → scripts ≡ script ∷ left → xs ≡ x ∷ rest → y ≡ x → ys ≡ rest → lack ≡ Spawn
-    → RefusesSessions table names (contents scripts) xs (y ∷ ys) lack
+    → RefusesPartySessions table names (contents scripts) xs (y ∷ ys) lack
 unfolding HaveBegun
 none_begun table names scripts left script xs rest ys x y lack d e f h told =
     rw told (0, rw d (omega arith), ap (λ z. z ∷ ys) f ∙ ap (λ zs. x ∷ zs) h ∙ sym e)
@@ -29,8 +29,8 @@ one_more table names scripts left script xs rest ys x y end ends all e f told se
 pub more_begun : (table : TableData) (names : List (List ℕ)) (scripts left : List (Vec ℕ)) (script : Vec ℕ)
     (xs rest ys : List SeatView) (x y : SeatView) (end : Result ℕ SessionEnd) (lack : Shortage)
     → scripts ≡ script ∷ left → xs ≡ x ∷ rest → IsPartySessionOver table names script.items x y end
-    → RefusesSessions table names (contents left) rest ys lack
-    → RefusesSessions table names (contents scripts) xs (y ∷ ys) lack
+    → RefusesPartySessions table names (contents left) rest ys lack
+    → RefusesPartySessions table names (contents scripts) xs (y ∷ ys) lack
 unfolding HaveBegun
 more_begun table names scripts left script xs rest ys x y end OutOfMemory e f session (ends, are) =
     (end ∷ ends, one_more table names scripts left script xs rest ys x y end ends (end ∷ ends) e f refl session are)
@@ -42,7 +42,7 @@ pub all_begun : (table : TableData) (names : List (List ℕ)) (scripts left : Li
     (lack : Shortage)
     → scripts ≡ script ∷ left → xs ≡ x ∷ rest → IsPartySessionOver table names script.items x y end
     → AreSessions table names (contents left) rest ys ends → lack ≡ OutOfMemory
-    → RefusesSessions table names (contents scripts) xs (y ∷ ys) lack
+    → RefusesPartySessions table names (contents scripts) xs (y ∷ ys) lack
 all_begun table names scripts left script xs rest ys x y end ends lack e f session are told =
     rw told (more_begun table names scripts left script xs rest ys x y end OutOfMemory e f session (ends, are))
 
@@ -63,7 +63,7 @@ pub alone_lacks : (table : TableData) (names : List (List ℕ)) (scripts left : 
     (xs rest ys : List SeatView) (x y : SeatView) (end : Result ℕ SessionEnd) (lack : Shortage)
     → scripts ≡ script ∷ left → xs ≡ x ∷ rest → ys ≡ y ∷ rest → lack ≡ OutOfMemory → length scripts ≡ 1
     → length scripts ≡ length xs → IsPartySessionOver table names script.items x y end
-    → RefusesSessions table names (contents scripts) xs ys lack
+    → RefusesPartySessions table names (contents scripts) xs ys lack
 alone_lacks table names scripts left script xs rest ys x y end lack e f h told one count session =
     rw told (
       end ∷ [],
@@ -72,15 +72,15 @@ alone_lacks table names scripts left script xs rest ys x y end lack e f h told o
 
 pub party_lacks : (table : TableData) (n : ℕ) (names scripts : List (List ℕ)) (opened xs ys : List SeatView)
     (lack : Shortage)
-    → n ≡ table.seats → AreFresh n opened → xs ≡ opened → (lack ≡ Spawn → 2 ≤ length scripts)
-    → RefusesSessions table names scripts xs ys lack → IsPartyRefused table names scripts (party.Shortage lack)
+    → n ≡ table.seats → AreFreshSeats n opened → xs ≡ opened → (lack ≡ Spawn → 2 ≤ length scripts)
+    → RefusesPartySessions table names scripts xs ys lack → IsPartyRefused table names scripts (party.Shortage lack)
 party_lacks table n names scripts opened xs ys OutOfMemory same fresh lent two refused = tt
 party_lacks table n names scripts opened xs ys Spawn same fresh lent two refused = (
   two refl,
   record {
     before = xs;
     after = ys;
-    fresh = subst (λ k. AreFresh k xs) same (rw lent fresh);
+    fresh = subst (λ k. AreFreshSeats k xs) same (rw lent fresh);
     holds = refused;
   },
 )

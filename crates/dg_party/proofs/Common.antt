@@ -10,15 +10,15 @@ pub use Rattle.dg_lines.specs.Texts.{pairs}
 pub use Rattle.dg_log.specs.Tables.{TableData, table_data_of}
 pub use Rattle.dg_log.specs.declared.name.Name.{Ghosts}
 pub use Rattle.dg_party.specs.Parties.{IsParty, IsPartyRefused}
-pub use Rattle.dg_party.specs.Sessions.{IsPartySessionOver, RefusesSessions, contents}
+pub use Rattle.dg_party.specs.Sessions.{IsPartySessionOver, RefusesPartySessions, contents}
 pub use Rattle.dg_party.specs.declared.ending.PartyRefusal.TheVariants.{Log}
 pub use Rattle.dg_session.specs.declared.ends.SessionEnd.{SessionEnd}
 pub use Rattle.dg_system.specs.declared.shortage.Shortage.{Shortage}
 pub use Rattle.dg_system.specs.declared.shortage.Shortage.TheVariants.{OutOfMemory, Spawn}
 pub use Rattle.dg_table.proofs.Complete.{all_there, none_missing}
 pub use Rattle.dg_table.specs.Closing.{AreAuditTotals, IsCloseRefused, IsClosed}
-pub use Rattle.dg_table.specs.Opened.{AreFresh}
-pub use Rattle.dg_table.specs.Seats.{SeatView, entries_of}
+pub use Rattle.dg_table.specs.Opened.{AreFreshSeats}
+pub use Rattle.dg_table.specs.Seats.{SeatView, entries_of_seat}
 pub use Rattle.dg_table.specs.declared.audit.Audit.{Audit}
 pub use Rattle.dg_party.specs.Printed.{entries_text, party_seat_text, totals_text}
 pub use Rattle.std.proofs.Common.{List, Result, Some, [], ap, arith, codes, decimal, length, map, refl, rules, slice_get, subst, suc, sym, take, unwrap_or, zero, ℕ, ◌*◌, ◌++◌, ◌+◌, ◌<◌, ◌∙◌, ◌∷◌, ◌≡◌, ◌≤◌}

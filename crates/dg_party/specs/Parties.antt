@@ -1,19 +1,19 @@
 -- A party: one table, a seat and a thread for each script, and one history of all.
---   IsSessionIn table names H s script end     == the entries of the seat s in the history H are those that a
---                                                 session over the script made for it, which came to this
---                                                 end, and H begins with the history that it found, and with
---                                                 the one that it had met
---   IsParty table names scripts ends text      == there is one history of the table; for each script, in
---                                                 order, a session over it, which came to the end at its
---                                                 place, made just the entries of its seat in that history;
---                                                 and the text is the history's, with its totals
---   IsOfPartySeats n P                         == P holds of n seats as they were at first, and of what they
---                                                 were then
---   IsPartyRefused table names scripts refusal == the party is refused so: memory is wanting; or a thread was
---                                                 not started, of two scripts or more, and some first scripts
---                                                 had sessions, not all; or all had, and then the table was
---                                                 not closed with all its seats, of which no clause tells
---                                                 why: every party may end so
+--   IsSessionInParty table names H s script end == the entries of the seat s in the history H are those that
+--                                                  a session over the script made for it, which came to this
+--                                                  end, and H begins with the history that it found, and with
+--                                                  the one that it had met
+--   IsParty table names scripts ends text       == there is one history of the table; for each script, in
+--                                                  order, a session over it, which came to the end at its
+--                                                  place, made just the entries of its seat in that history;
+--                                                  and the text is the history's, with its totals
+--   IsOfPartySeats n P                          == P holds of n seats as they were at first, and of what they
+--                                                  were then
+--   IsPartyRefused table names scripts refusal  == the party is refused so: memory is wanting; or a thread
+--                                                  was not started, of two scripts or more, and some first
+--                                                  scripts had sessions, not all; or all had, and then the
+--                                                  table was not closed with all its seats, of which no
+--                                                  clause tells why: every party may end so
 use Rattle.std.specs.Prelude.{◌≡◌, ℕ, ◌+◌, ◌≤◌, List, [], ◌++◌, length, slice_get, Some, ⊤, Result}
 use Rattle.dg_chips.specs.Vector.{Vector}
 use Rattle.dg_rules.specs.History.{position_after}
@@ -25,21 +25,21 @@ use Rattle.dg_session.specs.declared.ends.SessionEnd.{SessionEnd}
 use Rattle.dg_system.specs.declared.shortage.Shortage.TheVariants.{OutOfMemory, Spawn}
 use Rattle.dg_table.specs.Closing.{IsCloseRefused}
 use Rattle.dg_table.specs.Histories.{IsHistoryOfTable}
-use Rattle.dg_table.specs.Opened.{AreFresh}
-use Rattle.dg_table.specs.Seats.{SeatView, entries_of}
-use Rattle.dg_party.specs.Printed.{entries_text, audit_text}
-use Rattle.dg_party.specs.Sessions.{IsPartySessionOver, AreSessions, RefusesSessions}
+use Rattle.dg_table.specs.Opened.{AreFreshSeats}
+use Rattle.dg_table.specs.Seats.{SeatView, entries_of_seat}
+use Rattle.dg_party.specs.Printed.{entries_text, party_audit_text}
+use Rattle.dg_party.specs.Sessions.{IsPartySessionOver, AreSessions, RefusesPartySessions}
 use Rattle.dg_party.specs.declared.ending.PartyRefusal.{PartyRefusal}
 use Rattle.dg_party.specs.declared.ending.PartyRefusal.TheVariants.{Shortage, Log}
 
-pub record IsSessionIn (table : TableData) (names : List (List ℕ)) (H : List Entry)
+pub record IsSessionInParty (table : TableData) (names : List (List ℕ)) (H : List Entry)
     (s : ℕ) (script : List ℕ)
     (end : Result ℕ SessionEnd) : Type 0 where
   pub before : SeatView
   pub after : SeatView
   pub seat : before.number ≡ s
   pub fresh : before.mine ≡ []
-  pub own : entries_of s H ≡ after.mine
+  pub own : entries_of_seat s H ≡ after.mine
   pub begins : IsPrefixOf after.prefix H
   pub met : IsPrefixOf after.met H
   pub session : IsPartySessionOver table names script before after end
@@ -53,22 +53,22 @@ pub record IsParty (table : TableData) (names : List (List ℕ)) (scripts : List
   pub sessions : (i : ℕ) (script : List ℕ) (end : Result ℕ SessionEnd)
       → slice_get scripts i ≡ Some script →
       slice_get ends i ≡ Some end
-      → IsSessionIn table names history (i + 1) script end
+      → IsSessionInParty table names history (i + 1) script end
   pub position : Vector
   pub shown : ShowsPosition (position_after table.start history) position
   pub printed : text ≡ entries_text names 0 history
-      ++ audit_text names (length scripts) history position
+      ++ party_audit_text names (length scripts) history position
 
 pub record IsOfPartySeats (n : ℕ) (P : List SeatView → List SeatView → Type 0) : Type 0 where
   pub before : List SeatView
   pub after : List SeatView
-  pub fresh : AreFresh n before
+  pub fresh : AreFreshSeats n before
   pub holds : P before after
 
 abbrev pub IsPartyRefused : TableData → List (List ℕ) → List (List ℕ) → PartyRefusal → Type 0
 IsPartyRefused table names scripts (Shortage OutOfMemory) = ⊤
 IsPartyRefused table names scripts (Shortage Spawn) = (2 ≤ length scripts)
-    × IsOfPartySeats table.seats (λ xs ys. RefusesSessions table names scripts xs ys Spawn)
+    × IsOfPartySeats table.seats (λ xs ys. RefusesPartySessions table names scripts xs ys Spawn)
 IsPartyRefused table names scripts Log = IsOfPartySeats table.seats (λ xs ys.
     ((ends : List (Result ℕ SessionEnd))
     × AreSessions table names scripts xs ys ends)

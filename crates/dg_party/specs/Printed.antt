@@ -1,5 +1,5 @@
 -- What is printed of a table that was closed.
---   seat_entry_text names number e       == the line of an entry: its number, its seat and the text of its
+--   party_entry_text names number e      == the line of an entry: its number, its seat and the text of its
 --                                           reply
 --   entries_text names n H               == such lines of the entries H, numbered from n on
 --   party_seat_text s count              == the line of a seat: its number and how many entries are its
@@ -8,30 +8,30 @@
 --                                           its line
 --   totals_text names e g position calls == such totals: e entries, g gifts, the amounts, and the calls of
 --                                           each seat
---   audit_text names n H position        == how many entries there are, how many gifts were accepted, the
+--   party_audit_text names n H position  == how many entries there are, how many gifts were accepted, the
 --                                           amounts, and the calls of each of n seats
 use Rattle.std.specs.Prelude.{ℕ, zero, suc, ◌+◌, List, [], ◌∷◌, ◌++◌, length, codes, decimal}
 use Rattle.dg_chips.specs.Vector.{Vector, at}
 use Rattle.dg_rules.specs.History.{gifts_in}
 use Rattle.dg_rules.specs.declared.entry.Entry.{Entry}
-use Rattle.dg_table.specs.Seats.{entries_of}
+use Rattle.dg_table.specs.Seats.{entries_of_seat}
 use Rattle.dg_lines.specs.Texts.{text_of, pairs}
 
-abbrev pub seat_entry_text : List (List ℕ) → ℕ → Entry → List ℕ
-seat_entry_text names number e =
+abbrev pub party_entry_text : List (List ℕ) → ℕ → Entry → List ℕ
+party_entry_text names number e =
     decimal number ++ codes " " ++ decimal e.seat ++ codes " " ++ text_of names e.reply
     ++ codes "\n"
 
 unfoldable pub entries_text : List (List ℕ) → ℕ → List Entry → List ℕ
 entries_text names n [] = []
-entries_text names n (e ∷ H) = seat_entry_text names n e ++ entries_text names (n + 1) H
+entries_text names n (e ∷ H) = party_entry_text names n e ++ entries_text names (n + 1) H
 
 abbrev pub party_seat_text : ℕ → ℕ → List ℕ
 party_seat_text s count = codes "seat " ++ decimal s ++ codes " calls " ++ decimal count ++ codes "\n"
 
 unfoldable pub seats_text : ℕ → ℕ → List Entry → List ℕ
 seats_text s zero H = []
-seats_text s (suc n) H = party_seat_text s (length (entries_of s H)) ++ seats_text (s + 1) n H
+seats_text s (suc n) H = party_seat_text s (length (entries_of_seat s H)) ++ seats_text (s + 1) n H
 
 unfoldable pub calls_text : ℕ → List ℕ → List ℕ
 calls_text s [] = []
@@ -42,8 +42,8 @@ totals_text names entries gifts position calls =
     codes "entries " ++ decimal entries ++ codes "\ngifts " ++ decimal gifts ++ codes "\nposition "
     ++ pairs names (at position) ++ codes "\n" ++ calls_text 1 calls
 
-abbrev pub audit_text : List (List ℕ) → ℕ → List Entry → Vector → List ℕ
-audit_text names n H position =
+abbrev pub party_audit_text : List (List ℕ) → ℕ → List Entry → Vector → List ℕ
+party_audit_text names n H position =
     codes "entries " ++ decimal (length H) ++ codes "\ngifts " ++ decimal (gifts_in H)
     ++ codes "\nposition "
     ++ pairs names (at position) ++ codes "\n" ++ seats_text 1 n H

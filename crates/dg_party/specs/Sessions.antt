@@ -3,23 +3,24 @@
 --   contents scripts                              == the bytes of each of the scripts
 --   IsPartySessionOver table names script x y end == a session of the seat over the bytes of the script came
 --                                                    to this end, on a table of so many seats and cap cells,
---                                                    of which it found one history, with one worker; nobody
---                                                    heard what it had to say, so that no writer failed
+--                                                    of which it found one history, with one worker; the script
+--                                                    was in memory and nobody heard what the session had to
+--                                                    say, so that no stream failed
 --   AreSessions .. scripts xs ys ends             == so did, one beside another, a session of each seat over
 --                                                    the script at its place
 --   HaveBegun .. k scripts xs ys                  == the first k seats had such sessions, and the others are
 --                                                    as they were
---   RefusesSessions .. scripts xs ys fault        == memory was refused after all seats had such sessions; or
+--   RefusesPartySessions .. scripts xs ys fault   == memory was refused after all seats had such sessions; or
 --                                                    a thread was not started, and some first seats had them,
 --                                                    not all, and the others are as they were
-use Rattle.std.specs.Prelude.{◌≡◌, ◌≢◌, ℕ, zero, suc, ◌<◌, List, [], ◌∷◌, length, Option, Some, ⊤, Result, Err, map}
+use Rattle.std.specs.Prelude.{◌≡◌, ◌≢◌, ℕ, zero, suc, ◌<◌, List, [], ◌∷◌, length, None, Some, ⊤, Result, Err, map}
 use Rattle.std.specs.Global.{Vec}
 use Rattle.dg_log.specs.Tables.{TableData}
 use Rattle.dg_session.specs.Ends.{IsSession}
-use Rattle.dg_session.specs.Setup.{setup}
-use Rattle.dg_session.specs.Streams.{Passage, passage}
+use Rattle.dg_session.specs.Setup.{session_setup}
+use Rattle.dg_session.specs.Streams.{passage}
 use Rattle.dg_session.specs.declared.ends.SessionEnd.{SessionEnd}
-use Rattle.dg_session.specs.declared.ends.SessionEnd.TheVariants.{Write}
+use Rattle.dg_session.specs.declared.ends.SessionEnd.TheVariants.{Read, Write}
 use Rattle.dg_session.specs.declared.line_format.LineFormat.TheVariants.{OneSeat}
 use Rattle.dg_system.specs.declared.shortage.Shortage.{Shortage}
 use Rattle.dg_system.specs.declared.shortage.Shortage.TheVariants.{OutOfMemory, Spawn}
@@ -31,10 +32,9 @@ contents scripts = map (λ (script : Vec ℕ). script.items) scripts
 pub record IsPartySessionOver (table : TableData) (names : List (List ℕ)) (script : List ℕ)
     (x y : SeatView)
     (end : Result ℕ SessionEnd) : Type 0 where
-  pub rest : Option (List ℕ)
-  pub output : Passage
-  pub session : IsSession (setup OneSeat table names 1) (passage (Some script) rest) output
-      (x ∷ []) (y ∷ []) end
+  pub session : IsSession (session_setup OneSeat table names 1) (passage (Some script) (Some []))
+      (passage None None) (x ∷ []) (y ∷ []) end
+  pub read : end ≢ Err Read
   pub heard : end ≢ Err Write
 
 unfoldable pub AreSessions : TableData → List (List ℕ) → List (List ℕ) → List SeatView
@@ -53,9 +53,9 @@ HaveBegun table names (suc k) (script ∷ scripts) (x ∷ xs) (y ∷ ys) =
     × HaveBegun table names k scripts xs ys
 HaveBegun table names k scripts xs ys = ⊥
 
-abbrev pub RefusesSessions : TableData → List (List ℕ) → List (List ℕ) → List SeatView
+abbrev pub RefusesPartySessions : TableData → List (List ℕ) → List (List ℕ) → List SeatView
     → List SeatView → Shortage → Type 0
-RefusesSessions table names scripts xs ys OutOfMemory =
+RefusesPartySessions table names scripts xs ys OutOfMemory =
     (ends : List (Result ℕ SessionEnd)) × AreSessions table names scripts xs ys ends
-RefusesSessions table names scripts xs ys Spawn =
+RefusesPartySessions table names scripts xs ys Spawn =
     (k : ℕ) × (k < length scripts) × HaveBegun table names k scripts xs ys

@@ -1,7 +1,7 @@
 //! What is printed of a table that was closed.
 ghost use Rattle.std.specs.Prelude.{◌≡◌, ◌≤◌, ◌++◌, length, take, decimal, IfOk, OnOk};
-ghost use Rattle.dg_lines.specs.Texts.{HasNames, RepliesHaveNames};
-ghost use Rattle.dg_party.specs.Printed.{seat_entry_text, entries_text, party_seat_text, calls_text, totals_text};
+ghost use Rattle.dg_lines.specs.Texts.{TextHasNames, RepliesHaveNames};
+ghost use Rattle.dg_party.specs.Printed.{party_entry_text, entries_text, party_seat_text, calls_text, totals_text};
 
 use dg_chips::Divisor;
 use dg_lines::{push_amounts, push_reply};
@@ -66,9 +66,9 @@ fn push_party_entry(
     number: u32,
     entry: &Entry,
 ) -> Result<(), AllocError>
-    requires { HasNames names.now entry.now.reply }
+    requires { TextHasNames names.now entry.now.reply }
     ensures { OnOk result
-        (text.new.items ≡ text.old.items ++ seat_entry_text names.now number entry.now) }
+        (text.new.items ≡ text.old.items ++ party_entry_text names.now number entry.now) }
 {
     text.extend_from_slice(Buffer::new().format(number).as_bytes())?;
     text.extend_from_slice(b" ")?;

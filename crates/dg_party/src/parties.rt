@@ -1,6 +1,6 @@
 //! Parties: a table is opened, played by many seats at once, and closed.
 ghost use Rattle.std.specs.Prelude.{◌≡◌, length, IfOk, IfErr};
-ghost use Rattle.dg_log.specs.Rows.{IsCapacity};
+ghost use Rattle.dg_log.specs.Rows.{IsLogCapacity};
 ghost use Rattle.dg_log.specs.Tables.{table_data_of};
 ghost use Rattle.dg_table.specs.Opened.{TableMayHaveSeats};
 ghost use Rattle.dg_party.specs.Sessions.{contents};
@@ -35,7 +35,7 @@ pub fn party<R: Threads + Wait + Sync, G: Gate>(
     scripts: &[Vec<u8>],
     gate: &G,
 ) -> Result<Played, PartyRefusal>
-    requires cap { IsCapacity cap }
+    requires cap { IsLogCapacity cap }
     requires scripts { TableMayHaveSeats (length scripts.now) }
     requires names { length names.now ≡ start.now.graph.size }
     ensures played { IfOk result

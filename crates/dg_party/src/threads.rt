@@ -1,11 +1,11 @@
 //! Sessions side by side, each with a seat and a thread of its own.
 ghost use Rattle.std.specs.Prelude.{◌≡◌, ℕ, ◌≤◌, ◌∷◌, length, IfOk, IfErr};
-ghost use Rattle.dg_party.specs.Sessions.{IsPartySessionOver, AreSessions, RefusesSessions, contents};
+ghost use Rattle.dg_party.specs.Sessions.{IsPartySessionOver, AreSessions, RefusesPartySessions, contents};
 
 use dg_log::Name;
 use dg_rank::Gate;
 use dg_session::{SessionEnd, serve_unheard};
-use dg_system::{Input, Shortage, in_parallel};
+use dg_system::{Shortage, in_parallel};
 use dg_table::{Seat, Table};
 use dg_tokens::Names;
 use std::alloc::Global;
@@ -44,7 +44,7 @@ pub fn sessions<N: Name + Send + Sync, R: Threads + Wait + Sync, G: Gate>(
         (λ v. AreSessions N.table names.now (contents scripts.now)
         seats.old seats.new v.items) }
     ensures fault { IfErr result
-        (RefusesSessions N.table names.now (contents scripts.now) seats.old
+        (RefusesPartySessions N.table names.now (contents scripts.now) seats.old
         seats.new) }
     ensures spawn { IfErr result (λ shortage. shortage ≡ Shortage.Spawn → 2 ≤ length scripts.now) }
 {
@@ -56,14 +56,14 @@ pub fn sessions<N: Name + Send + Sync, R: Threads + Wait + Sync, G: Gate>(
         gate,
     };
     if scripts.len() == 1 {
-        play_scripts_alone(&context, scripts, seats)
+        play_one_session(&context, scripts, seats)
     } else {
         play_in_parallel(&context, scripts, seats)
     }
 }
 
 // The one session of one script, in the thread that calls.
-fn play_scripts_alone<'a, N: Name, R: Threads + Wait, G: Gate>(
+fn play_one_session<'a, N: Name, R: Threads + Wait, G: Gate>(
     context: &PartyContext<'a, N, R, G>,
     scripts: &[Vec<u8>],
     seats: &mut [Seat<N>],
@@ -74,7 +74,7 @@ fn play_scripts_alone<'a, N: Name, R: Threads + Wait, G: Gate>(
         (λ v. AreSessions N.table context.now.names.now (contents scripts.now)
         seats.old seats.new v.items) }
     ensures fault { IfErr result
-        (RefusesSessions N.table context.now.names.now (contents scripts.now)
+        (RefusesPartySessions N.table context.now.names.now (contents scripts.now)
         seats.old seats.new) }
     ensures memory { IfErr result (λ shortage. shortage ≡ Shortage.OutOfMemory) }
 {
@@ -85,7 +85,7 @@ fn play_scripts_alone<'a, N: Name, R: Threads + Wait, G: Gate>(
         unreachable!()
     };
     let end = run_script(context, script.as_slice(), seat);
-    with_first_script(end, Vec::new(context.alloc))
+    with_first_session(end, Vec::new(context.alloc))
 }
 
 // A thread for the first seat, and beside it this call again for the others.
@@ -100,7 +100,7 @@ fn play_in_parallel<'a, N: Name + Send + Sync, R: Threads + Wait + Sync, G: Gate
         (λ v. AreSessions N.table context.now.names.now (contents scripts.now)
         seats.old seats.new v.items) }
     ensures fault { IfErr result
-        (RefusesSessions N.table context.now.names.now (contents scripts.now)
+        (RefusesPartySessions N.table context.now.names.now (contents scripts.now)
         seats.old seats.new) }
 {
     let Some((seat, rest)) = seats.split_first_mut() else {
@@ -120,11 +120,11 @@ fn play_in_parallel<'a, N: Name + Send + Sync, R: Threads + Wait + Sync, G: Gate
             (λ v. AreSessions N.table context.entry.now.names.now
             (contents left.entry.now) rest.entry.now rest.exit.now v.items)
             × IfErr result
-            (RefusesSessions N.table context.entry.now.names.now
+            (RefusesPartySessions N.table context.entry.now.names.now
             (contents left.entry.now) rest.entry.now rest.exit.now) }
     { play_in_parallel(context, left, rest) };
     match in_parallel(context.rt, &mut first, &mut others) {
-        Ok((end, Ok(ends))) => with_first_script(end, ends),
+        Ok((end, Ok(ends))) => with_first_session(end, ends),
         Ok((_, Err(shortage))) => Err(shortage),
         Err(shortage) => Err(shortage),
     }
@@ -140,15 +140,14 @@ fn run_script<'a, N: Name, R: Threads + Wait, G: Gate>(
         seat.new result }
 {
     context.gate.enter(u32::from(seat.number()));
-    ask_ahead_for_party(context.alloc, script.len());
-    let mut input = Input::new(script);
+    ask_ahead_for_sessions(context.alloc, script.len());
     serve_unheard(
         context.rt,
         context.alloc,
         context.table,
         seat,
         context.names,
-        &mut input,
+        script,
         1,
     )
 }
@@ -164,7 +163,7 @@ const MAX_PIECES: usize = 16;
 
 // Asks for the space of a script's entries at once, and gives it back, which leaves it to them. Otherwise the C library asks the
 // system for each page of it, and all other threads wait meanwhile. If it is refused, that is what happens.
-fn ask_ahead_for_party(alloc: Global, bytes: usize) {
+fn ask_ahead_for_sessions(alloc: Global, bytes: usize) {
     let mut pieces = Vec::new(alloc);
     for _ in 0..(bytes / (PIECE / SHARE) + 1).min(MAX_PIECES) {
         let Ok(piece) = Vec::<u8>::with_capacity(alloc, PIECE) else {
@@ -177,7 +176,7 @@ fn ask_ahead_for_party(alloc: Global, bytes: usize) {
 }
 
 // The ends, and one before them.
-fn with_first_script(
+fn with_first_session(
     first: Result<u32, SessionEnd>,
     mut ends: Vec<Result<u32, SessionEnd>>,
 ) -> Result<Vec<Result<u32, SessionEnd>>, Shortage>

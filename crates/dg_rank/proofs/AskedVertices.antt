@@ -14,7 +14,7 @@
 --   none_made, made_at   the sets that are made: none at first, then one more
 --   loss_from        a loss of the box holds nothing before the place
 --   told_from        so what is told of the box is told of these losses
-use Rattle.dg_rank.proofs.Common.{◌-◌, eq-eqb, eqb-true, ne_eqb, if◌then◌else◌, ◌≡◌, ℕ, ◌+◌, ◌<◌, ◌≤◌, inl, inr, ⊎_elim, Bool, true, false, nat_lt, List, arith, refl, sym, ap, subst, ◌∙◌, cases_eq, cases_lt, cases_Bool, both_ways, false_from_ne_true, lt-ltb, le-ltb, ltb-true, fun_ext, ints, ◌≤ℤ◌, slice_index, length, set, get_or-set_same, get_or-set_other, get_or-replicate, replicate, Option, Some, None, MatchOption, AreSetsForTrials, IsSetForTrials, IsBoxLoss, IsLossFrom, in_set, Multigraph, IsMultigraph, edges_between, JoinedIn, here, along, JoinedIn-end, IsConnectedSet, edges_within, Bears, Determines, Amounts, degree, less, HasRankAtLeast, sum_below-one, total_below-cong, count_of-some, member_or_none, IsGreedyDeterminingSet, IsPartOf, others, greedy-once, WinFrom, BoxWins, ArePastTrialLimits, IsRankTestWithinLimits, IsAskedSet, IsPastAsked, how_many_trial_places, DeterminesFrom}
+use Rattle.dg_rank.proofs.Common.{◌-◌, eq-eqb, eqb-true, ne_eqb, if◌then◌else◌, ◌≡◌, ℕ, ◌+◌, ◌<◌, ◌≤◌, inl, inr, ⊎_elim, Bool, true, false, nat_lt, List, arith, refl, sym, ap, subst, ◌∙◌, cases_eq, cases_lt, cases_Bool, both_ways, false_from_ne_true, lt-ltb, le-ltb, ltb-true, fun_ext, ints, ◌≤ℤ◌, slice_index, length, set, get_or-set_same, get_or-set_other, get_or-replicate, replicate, Option, Some, None, MatchOption, AreSetsForTrials, IsSetForTrials, IsBoxLoss, IsTrialLossFrom, in_set, Multigraph, IsMultigraph, edges_between, JoinedInMultigraph, here, along, JoinedInMultigraph-end, IsConnectedSet, edges_within, BearsLosses, Determines, Amounts, degree, less, HasRankAtLeast, sum_below-one, total_below-cong, count_of-some, member_or_none, IsGreedyDeterminingSet, IsPartOfSpecial, others, greedy-once, TrialsWinFrom, BoxWins, ArePastTrialLimits, IsRankTestWithinLimits, IsSetAskedByTrials, IsPastAskedTrials, how_many_trial_places, DeterminesTrialsFrom}
 use Rattle.dg_rank.specs.Numbering.{trial_count, nth_trial}
 use Rattle.dg_rank.proofs.CountedOnce.{counted_once}
 use Rattle.dg_rank.proofs.Pascal.{count_grows}
@@ -25,7 +25,7 @@ pub record IsAllFrom (n d : ℕ) (U : ℕ → Bool) : Type 0 where
   pub part : (v : ℕ) → U v ≡ true → (d ≤ v) × (v < n)
   pub all : (v : ℕ) → d ≤ v → v < n → U v ≡ true
 
-pub all_determine : (g : Multigraph) (d : ℕ) (U : ℕ → Bool) → IsAllFrom g.size d U → DeterminesFrom g d U
+pub all_determine : (g : Multigraph) (d : ℕ) (U : ℕ → Bool) → IsAllFrom g.size d U → DeterminesTrialsFrom g d U
 all_determine g d U whole = record {
   part = λ v low. false_from_ne_true (U v) (λ member. omega (arith, (whole.part v member).0));
   wins = λ A r bears F from.
@@ -35,14 +35,14 @@ all_determine g d U whole = record {
       (cases_lt v d));
 }
 
-pub set_determines : (g : Multigraph) (d : ℕ) (S U : ℕ → Bool) → IsAllFrom g.size d U → IsPartOf S U → Determines g S U →
-    DeterminesFrom g d S
+pub set_determines : (g : Multigraph) (d : ℕ) (S U : ℕ → Bool) → IsAllFrom g.size d U → IsPartOfSpecial S U → Determines g S U →
+    DeterminesTrialsFrom g d S
 set_determines g d S U whole part determines = record {
   part = λ v low. false_from_ne_true (S v) (λ member. omega (arith, (whole.part v (part v member)).0));
   wins = λ A r bears. (all_determine g d U whole).wins A r (determines A r bears);
 }
 
-pub asked_set : (g : Multigraph) (S U : ℕ → Bool) → IsAllFrom g.size 0 U → IsGreedyDeterminingSet g U S → IsAskedSet g S
+pub asked_set : (g : Multigraph) (S U : ℕ → Bool) → IsAllFrom g.size 0 U → IsGreedyDeterminingSet g U S → IsSetAskedByTrials g S
 asked_set g S U whole greedy =
     let same : U ≡ (λ v. nat_lt v g.size) = fun_ext (λ v. ⊎_elim
     (λ (member : U v ≡ true). member ∙ sym (lt-ltb v g.size (whole.part v member).1))
@@ -53,7 +53,7 @@ asked_set g S U whole greedy =
     (cases_Bool (U v))) in
     subst (λ (V : ℕ → Bool). IsGreedyDeterminingSet g V S) same greedy
 
-pub asked_once : (g : Multigraph) (A B : ℕ → Bool) → IsMultigraph g → IsAskedSet g A → IsAskedSet g B →
+pub asked_once : (g : Multigraph) (A B : ℕ → Bool) → IsMultigraph g → IsSetAskedByTrials g A → IsSetAskedByTrials g B →
     how_many_trial_places g.size A ≡ how_many_trial_places g.size B
 asked_once g A B graph first second =
     total_below-cong g.size (λ v. if A v then 1 else 0) (λ v. if B v then 1 else 0)
@@ -63,11 +63,11 @@ asked_once g A B graph first second =
 abbrev whole : Multigraph → ℕ → Bool
 whole g v = nat_lt v g.size
 
-whole_joined : (g : Multigraph) (u v : ℕ) → u < g.size → JoinedIn g.size (edges_between g) u v →
-    JoinedIn g.size (edges_within g (whole g)) u v
+whole_joined : (g : Multigraph) (u v : ℕ) → u < g.size → JoinedInMultigraph g.size (edges_between g) u v →
+    JoinedInMultigraph g.size (edges_within g (whole g)) u v
 whole_joined g u _ inside here = here
 whole_joined g u w inside (along v _ chain below edge) =
-    let from : whole g v ≡ true = lt-ltb v g.size (JoinedIn-end inside chain) in
+    let from : whole g v ≡ true = lt-ltb v g.size (JoinedInMultigraph-end inside chain) in
     let to : whole g w ≡ true = lt-ltb w g.size below in
     along v w (whole_joined g u v inside chain) below (rw (from, to) edge)
 
@@ -89,7 +89,8 @@ none_others g A v none last w = ⊎_elim
     (cases_eq w v))
     (cases_lt w v)
 
-pub asked_some : (g : Multigraph) (A : ℕ → Bool) → IsMultigraph g → 0 < g.size → IsAskedSet g A → 1 ≤ how_many_trial_places
+pub asked_some : (g : Multigraph) (A : ℕ → Bool) → IsMultigraph g → 0 < g.size → IsSetAskedByTrials g A
+    → 1 ≤ how_many_trial_places
     g.size A
 asked_some g A graph some asked = ⊎_elim
     (λ (found : (v : ℕ) × (v < g.size) × (A v ≡ true)).
@@ -119,21 +120,21 @@ past_more m n k some less (inr (inr (inr (c, many, counted)))) =
     let all : c ≡ trial_count m k = counted_once m k _ c (trial_count m k) counted (nth_trial m k, numbered m k) in
     inr (inr (inr (trial_count n k, omega (arith, count_grows m n k less), (nth_trial n k, numbered n k))))
 
-pub past_all : (g : Multigraph) (k : ℕ) → IsMultigraph g → 0 < g.size → IsPastAsked g k → ArePastTrialLimits g.size k
+pub past_all : (g : Multigraph) (k : ℕ) → IsMultigraph g → 0 < g.size → IsPastAskedTrials g k → ArePastTrialLimits g.size k
 past_all g k graph some past =
     past_more (how_many_trial_places g.size past.set) g.size k (omega (arith, asked_some g past.set graph some past.asked))
     (asked_few g.size past.set) past.past
 
-pub asked_within : (g : Multigraph) (k : ℕ) → IsMultigraph g → IsRankTestWithinLimits g.size k → ¬ IsPastAsked g k
+pub asked_within : (g : Multigraph) (k : ℕ) → IsMultigraph g → IsRankTestWithinLimits g.size k → ¬ IsPastAskedTrials g k
 asked_within g k graph within past = past_within g.size k (past_all g k graph within.1.some past) within
 
-pub asked_told : (g : Multigraph) (k : ℕ) (A : ℕ → Bool) → IsMultigraph g → IsAskedSet g A →
-    IsRankTestWithinLimits (how_many_trial_places g.size A) k → ¬ IsPastAsked g k
+pub asked_told : (g : Multigraph) (k : ℕ) (A : ℕ → Bool) → IsMultigraph g → IsSetAskedByTrials g A →
+    IsRankTestWithinLimits (how_many_trial_places g.size A) k → ¬ IsPastAskedTrials g k
 asked_told g k A graph asked within past =
     past_within (how_many_trial_places g.size A) k
     (subst (λ (m : ℕ). ArePastTrialLimits m k) (asked_once g past.set A graph past.asked asked) past.past) within
 
-pub asked_above : (g : Multigraph) (j k : ℕ) → IsMultigraph g → 0 < g.size → j ≤ k → IsPastAsked g j → IsPastAsked g k
+pub asked_above : (g : Multigraph) (j k : ℕ) → IsMultigraph g → 0 < g.size → j ≤ k → IsPastAskedTrials g j → IsPastAskedTrials g k
 asked_above g j k graph some less past = record {
   set = past.set;
   asked = past.asked;
@@ -145,7 +146,7 @@ abbrev pub IsRoomAt : List ℕ → (ℕ → Bool) → ℕ → Type 0
 IsRoomAt room S r = (v : ℕ) → v < 16 → slice_index room v ≡ (if S v then r else 0)
 
 pub bears_box : (g : Multigraph) (A : Amounts) (S : ℕ → Bool) (room : List ℕ) (r : ℕ) → g.size ≤ 16 → IsRoomAt room S r →
-    BoxWins g A room r → Bears g S A r
+    BoxWins g A room r → BearsLosses g S A r
 bears_box g A S room r few at wins E effective of_degree none =
     wins E (record {
       effective = effective;
@@ -160,10 +161,10 @@ bears_box g A S room r few at wins E effective of_degree none =
     })
 
 pub wins_from : (g : Multigraph) (A : Amounts) (d : ℕ) (S : ℕ → Bool) (room : List ℕ) (r : ℕ) → g.size ≤ 16 →
-    DeterminesFrom g d S → IsRoomAt room S r → BoxWins g A room r → WinFrom g A r d
+    DeterminesTrialsFrom g d S → IsRoomAt room S r → BoxWins g A room r → TrialsWinFrom g A r d
 wins_from g A d S room r few determines at wins = determines.wins A r (bears_box g A S room r few at wins)
 
-pub rank_from : (g : Multigraph) (A : Amounts) (k : ℕ) → WinFrom g A k 0 → HasRankAtLeast g A k
+pub rank_from : (g : Multigraph) (A : Amounts) (k : ℕ) → TrialsWinFrom g A k 0 → HasRankAtLeast g A k
 rank_from g A k wins E effective of_degree = wins E (record {
   effective = effective;
   of_degree = of_degree;
@@ -181,7 +182,7 @@ made_at g l d m inside made new p below = ⊎_elim
     (cases_eq p d)
 
 pub loss_from : (g : Multigraph) (A : Amounts) (d : ℕ) (S : ℕ → Bool) (room : List ℕ) (r : ℕ) (E : List ℕ) → g.size ≤ 16 →
-    d ≤ g.size → DeterminesFrom g d S → IsRoomAt room S r → IsBoxLoss g A room r E → IsLossFrom g A r d E
+    d ≤ g.size → DeterminesTrialsFrom g d S → IsRoomAt room S r → IsBoxLoss g A room r E → IsTrialLossFrom g A r d E
 loss_from g A d S room r E few below determines at loss = record {
   places = loss.places;
   few = loss.inside.few;
@@ -192,7 +193,8 @@ loss_from g A d S room r E few below determines at loss = record {
 }
 
 pub told_from : (g : Multigraph) (A : Amounts) (d : ℕ) (S : ℕ → Bool) (room : List ℕ) (r : ℕ) (found : Option (List ℕ)) →
-    g.size ≤ 16 → d ≤ g.size → DeterminesFrom g d S → IsRoomAt room S r →
-    MatchOption found (BoxWins g A room r) (IsBoxLoss g A room r) → MatchOption found (WinFrom g A r d) (IsLossFrom g A r d)
+    g.size ≤ 16 → d ≤ g.size → DeterminesTrialsFrom g d S → IsRoomAt room S r →
+    MatchOption found (BoxWins g A room r) (IsBoxLoss g A room r)
+    → MatchOption found (TrialsWinFrom g A r d) (IsTrialLossFrom g A r d)
 told_from g A d S room r None few below determines at wins = wins_from g A d S room r few determines at wins
 told_from g A d S room r (Some E) few below determines at loss = loss_from g A d S room r E few below determines at loss

@@ -4,7 +4,7 @@
 --   block_wins       if all of the box win, so do all trials of the block
 --   block_loses      the first loss of the box, after the base, is the first of the block
 --   block_begun      if the first trial of a block loses, it is the first loss
-use Rattle.dg_rank.proofs.Common.{◌≡◌, ◌≢◌, ℕ, ◌+◌, ◌-◌, ◌<◌, ◌≤◌, List, ◌++◌, length, take, drop, arith, refl, sym, ap, subst, ◌∙◌, ⊎_elim, slice_index, sum, cases_eq, cases_lt, ints, get_or_append_left, get_or-append_right, get_or-take, get_or-drop, get_or_past, length-take-le, length-drop, sum_by-take-drop, pos, ◌-ℤ◌, Multigraph, Amounts, degree, only_at, AreEquivalent, less, degree-less, degree-only_at, only_at-here, only_at-other, sum_below-zero, equivalent-winnable, win_more, Vector, at, amounts_of_trial, IsTrial, IsTrialBefore, IsWithinLimits, WinsWithoutTrial, AllWin, IsFirstLossIn, IsTrialFrom, WinFrom, IsFirstFrom, get_or-le-sum_by, length-append}
+use Rattle.dg_rank.proofs.Common.{◌≡◌, ◌≢◌, ℕ, ◌+◌, ◌-◌, ◌<◌, ◌≤◌, List, ◌++◌, length, take, drop, arith, refl, sym, ap, subst, ◌∙◌, ⊎_elim, slice_index, sum, cases_eq, cases_lt, ints, get_or_append_left, get_or-append_right, get_or-take, get_or-drop, get_or_past, length-take-le, length-drop, sum_by-take-drop, pos, ◌-ℤ◌, Multigraph, Amounts, degree, only_at, AreEquivalent, less, degree-less, degree-only_at, only_at-here, only_at-other, sum_below-zero, equivalent-winnable, win_more, Vector, at, amounts_of_trial, IsTrial, IsTrialBefore, AreTrialsWithinLimits, WinsWithoutTrial, AllTrialsWin, IsFirstLossOfTrials, IsTrialFrom, TrialsWinFrom, IsFirstTrialFrom, get_or-le-sum_by, length-append}
 use Rattle.std.proofs.Math.IntN.{◌+ℤ◌}
 use Rattle.dg_rank.specs.Numbering.{trial_count, nth_trial}
 use Rattle.dg_rank.proofs.Numbering.{numbered, some_trial, limits_trial, limits_count}
@@ -81,7 +81,7 @@ based g D k c i d r E x block G =
     (s, λ v below. omega (arith, ints, leads v below))
 
 pub block_wins : (g : Multigraph) (D : Amounts) (k c i d r : ℕ) (E : List ℕ) (x : Vector) →
-    IsBlockOf g D k c i d r E x → WinFrom g (at x) r d → AllWin g D k i (i + trial_count (g.size - d) r)
+    IsBlockOf g D k c i d r E x → TrialsWinFrom g (at x) r d → AllTrialsWin g D k i (i + trial_count (g.size - d) r)
 block_wins g D k c i d r E x block wins m from to =
     let number : i + (m - i) ≡ m = omega arith in
     let here : IsAmong g.size k c i d r (m - i) E = among g.size k c i d r E block.split (m - i) (omega arith) in
@@ -123,8 +123,8 @@ rest_trial n r d F places inside from =
     }
 
 pub block_loses : (g : Multigraph) (D : Amounts) (k c i d r : ℕ) (E F E' : List ℕ) (x : Vector) →
-    IsBlockOf g D k c i d r E x → IsFirstFrom g (at x) r d F → E' ≡ take d E ++ drop d F →
-    IsFirstLossIn g D k i (i + trial_count (g.size - d) r) E'
+    IsBlockOf g D k c i d r E x → IsFirstTrialFrom g (at x) r d F → E' ≡ take d E ++ drop d F →
+    IsFirstLossOfTrials g D k i (i + trial_count (g.size - d) r) E'
 block_loses g D k c i d r E F E' x block loss is =
     let n : ℕ = g.size in
     let rest : IsTrial (n - d) r (drop d F) = rest_trial n r d F loss.places block.split.inside loss.from in
@@ -175,7 +175,7 @@ block_loses g D k c i d r E F E' x block loss is =
     }
 
 pub block_begun : (g : Multigraph) (D : Amounts) (k c i d r : ℕ) (E : List ℕ) → IsSplit g.size k c i d r E →
-    (¬ WinsWithoutTrial g D E) → IsFirstLossIn g D k i (i + trial_count (g.size - d) r) E
+    (¬ WinsWithoutTrial g D E) → IsFirstLossOfTrials g D k i (i + trial_count (g.size - d) r) E
 block_begun g D k c i d r E split loses =
     let some : 0 < trial_count (g.size - d) r = some_trial (g.size - d) r (omega (arith, split.inside)) in
     record {
@@ -203,7 +203,7 @@ joined d E F E' inside sizes places before after =
     ∙ get_or-drop d F (v - d) 0 ∙ ap (slice_index F) there))
     (cases_lt v d))
 
-pub last_few : (n k c i : ℕ) (E : List ℕ) → IsWithinLimits n k c → i < c → E ≡ nth_trial n k i →
+pub last_few : (n k c i : ℕ) (E : List ℕ) → AreTrialsWithinLimits n k c → i < c → E ≡ nth_trial n k i →
     (length E ≡ n) × (slice_index E (n - 1) ≤ 1000)
 last_few n k c i E limits low is =
     let trial : IsTrial n k E = rw is (limits_trial n k c i limits low) in

@@ -5,16 +5,16 @@ pub use Rattle.dg_graph.proofs.SetLaws.{in_set-none}
 pub use Rattle.dg_graph.specs.Graph.{IsGraph}
 unfoldable pub use Rattle.dg_graph.specs.Sets.{in_set}
 pub use Rattle.dg_burn.proofs.Tried.{greedy-once}
-pub use Rattle.dg_burn.specs.Special.{IsGreedyDeterminingSet, IsPartOf, others}
-pub use Rattle.dg_rank.specs.Asked.{AreSetsForTrials, DeterminesFrom, IsSetForTrials}
-pub use Rattle.dg_rank.specs.Boxes.{BoxWins, IsBoxLoss, IsFirstFrom, IsTrialFrom, IsInBox, IsLossFrom, WinFrom}
+pub use Rattle.dg_burn.specs.Special.{IsGreedyDeterminingSet, IsPartOfSpecial, others}
+pub use Rattle.dg_rank.specs.Asked.{AreSetsForTrials, DeterminesTrialsFrom, IsSetForTrials}
+pub use Rattle.dg_rank.specs.Boxes.{BoxWins, IsBoxLoss, IsFirstTrialFrom, IsTrialFrom, IsInBox, IsTrialLossFrom, TrialsWinFrom}
 pub use Rattle.dg_rank.specs.Divisors.{HoldsTrial, amounts_of_trial}
-pub use Rattle.dg_rank.specs.Ladders.{AnswersRankTest, AreRankTestAnswers, FailsRankTestsAfter, MeetsTooMany, PassesBelow, RankByLadder, RanksByTrialLadders}
-pub use Rattle.dg_rank.specs.Limits.{ArePastTrialLimits, IsWithinLimits}
-pub use Rattle.dg_rank.specs.Losses.{AllWin, IsFirstLossIn, IsTrialLeftBeforeLast, WinsWithoutTrial}
-pub use Rattle.dg_rank.specs.Pieces.{piece_start}
-pub use Rattle.dg_rank.specs.Ranks.{BothArePast, FailsRankTestsFirstAt, IsAskedSet, IsPastAsked, how_many_trial_places, IsRankInLimits, IsRankUntold, IsRankTestWithinLimits, NeedsPastTests, NeedsTooMany}
-pub use Rattle.dg_rank.specs.Trials.{AnyTrial, AreCounted, IsTrialBefore, IsTrialNumbering, IsTrial}
+pub use Rattle.dg_rank.specs.Ladders.{AnswersRankTest, AreRankTestAnswers, FailsRankTestsAfter, MeetsTooManyTrials, PassesRankTestsBelow, RankByTrialLadder, RanksByTrialLadders}
+pub use Rattle.dg_rank.specs.Limits.{ArePastTrialLimits, AreTrialsWithinLimits}
+pub use Rattle.dg_rank.specs.Losses.{AllTrialsWin, IsFirstLossOfTrials, IsTrialLeftBeforeLast, WinsWithoutTrial}
+pub use Rattle.dg_rank.specs.Pieces.{start_of_trials}
+pub use Rattle.dg_rank.specs.Ranks.{BothArePast, FailsRankTestsFirstAt, IsSetAskedByTrials, IsPastAskedTrials, how_many_trial_places, IsRankInLimits, IsRankUntold, IsRankTestWithinLimits, NeedsPastTests, NeedsTooMany}
+pub use Rattle.dg_rank.specs.Trials.{AnyTrial, AreTrialsCounted, IsTrialBefore, IsTrialNumbering, IsTrial}
 pub use Rattle.dg_rank.specs.declared.counting.TheConstants.{MAX_TRIALS}
 pub use Rattle.dg_rank.specs.declared.pieces.Search.{Search}
 pub use Rattle.dg_rank.specs.declared.rank_fault.RankFault.{RankFault}
@@ -22,7 +22,7 @@ pub use Rattle.dg_rank.specs.declared.rank_fault.RankFault.TheVariants.{TooMany}
 pub use Rattle.dg_reduce.specs.Effective.{IsEffectiveDivisor}
 pub use Rattle.dg_theory.proofs.Absolute.{abs_within, within_abs}
 pub use Rattle.dg_theory.proofs.Agreement.{agree-sym}
-pub use Rattle.dg_theory.proofs.Chains.{JoinedIn-end}
+pub use Rattle.dg_theory.proofs.Chains.{JoinedInMultigraph-end}
 pub use Rattle.dg_theory.proofs.Counting.{count_of-some, member_or_none}
 pub use Rattle.dg_theory.proofs.DualityLaws.{IsDual, dual_tests, high_rank, natural}
 pub use Rattle.dg_theory.proofs.Equivalence.{equivalent-degree, equivalent-refl, equivalent-trans}
@@ -39,9 +39,9 @@ pub use Rattle.dg_theory.proofs.SumLaws.{sum_below-add, sum_below-cong, sum_belo
 pub use Rattle.dg_theory.proofs.SumSwap.{sum_below-sub}
 pub use Rattle.dg_theory.proofs.TotalLaws.{total_below-cong}
 pub use Rattle.dg_theory.proofs.Winning.{equivalent-winnable}
-pub use Rattle.dg_theory.specs.Determining.{Bears, Determines, IsConnectedSet, edges_within}
-pub use Rattle.dg_theory.specs.Firing.{AgreeOn, Amounts, AreEquivalent, HasNoDebtOff, IsEffective, degree, only_at}
-pub use Rattle.dg_theory.specs.Multigraph.{IsMultigraph, JoinedIn, along, here, Multigraph, edge_count, edges_between, genus, valence}
+pub use Rattle.dg_theory.specs.Determining.{BearsLosses, Determines, IsConnectedSet, edges_within}
+pub use Rattle.dg_theory.specs.Firing.{DivisorsAgreeOn, Amounts, AreEquivalent, HasNoDebtOff, IsEffective, degree, only_at}
+pub use Rattle.dg_theory.specs.Multigraph.{IsMultigraph, JoinedInMultigraph, along, here, Multigraph, edge_count, edges_between, genus, valence}
 pub use Rattle.dg_theory.specs.Play.{IsWinnable}
 pub use Rattle.dg_theory.specs.Rank.{HasRankAtLeast, IsDivisorBefore, IsFirstLoss, IsRank, canonical, less}
 pub use Rattle.dg_theory.specs.Sums.{sum_below, total_below}

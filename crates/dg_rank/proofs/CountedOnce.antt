@@ -2,7 +2,7 @@
 --   lower_number   of two numbered trials the one that comes before the other has the lower number
 --   no_lower       the trial of a number has no lower one in another numbering
 --   counted_once   two counts of the trials with one property are the same
-use Rattle.dg_rank.proofs.Common.{◌≡◌, ℕ, zero, suc, ◌<◌, ◌≤◌, List, arith, sym, subst, ⊎_elim, cases_lt, IsTrialNumbering, AreCounted, IsTrialBefore}
+use Rattle.dg_rank.proofs.Common.{◌≡◌, ℕ, zero, suc, ◌<◌, ◌≤◌, List, arith, sym, subst, ⊎_elim, cases_lt, IsTrialNumbering, AreTrialsCounted, IsTrialBefore}
 use Rattle.dg_rank.proofs.Lists.{before_both}
 
 pub lower_number : (n k : ℕ) (P : List ℕ → Type 0) (c : ℕ) (nth : ℕ → List ℕ) (i j : ℕ) → IsTrialNumbering n k P c nth →
@@ -41,7 +41,7 @@ as_many n k P (suc c) d f g first second =
     let least : c ≤ j = no_lower n k P (suc c) d f g first second c j last (sym found) in
     omega arith
 
-pub counted_once : (n k : ℕ) (P : List ℕ → Type 0) (c d : ℕ) → AreCounted n k P c → AreCounted n k P d → c ≡ d
+pub counted_once : (n k : ℕ) (P : List ℕ → Type 0) (c d : ℕ) → AreTrialsCounted n k P c → AreTrialsCounted n k P d → c ≡ d
 counted_once n k P c d (f, first) (g, second) =
     let most : c ≤ d = as_many n k P c d f g first second in
     let least : d ≤ c = as_many n k P d c g f second first in

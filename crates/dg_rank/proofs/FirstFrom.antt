@@ -5,7 +5,7 @@
 --   first_with       if those win that hold nothing up to p, the first loss with a dollar at p is the first of all
 --   first_at_last    the trial that holds all at the last place comes before all others
 --   held_few         no trial holds more than its degree
-use Rattle.dg_rank.proofs.Common.{◌≡◌, ◌≢◌, ℕ, ◌+◌, ◌-◌, ◌<◌, ◌≤◌, List, length, arith, sym, ap, ◌∙◌, ⊎_elim, ◌⊎◌, inl, inr, set, length-set, get_or-set_same, get_or-set_other, slice_index, ◌≤ℤ◌, cases_eq, cases_lt, ints, ℤ, pos, ◌-ℤ◌, natural, Multigraph, Amounts, degree, only_at, AreEquivalent, IsWinnable, less, degree-less, degree-only_at, only_at-here, only_at-other, sum_below-one, sum_below-cong, equivalent-winnable, amounts_of_trial, WinsWithoutTrial, IsTrialFrom, WinFrom, IsFirstFrom}
+use Rattle.dg_rank.proofs.Common.{◌≡◌, ◌≢◌, ℕ, ◌+◌, ◌-◌, ◌<◌, ◌≤◌, List, length, arith, sym, ap, ◌∙◌, ⊎_elim, ◌⊎◌, inl, inr, set, length-set, get_or-set_same, get_or-set_other, slice_index, ◌≤ℤ◌, cases_eq, cases_lt, ints, ℤ, pos, ◌-ℤ◌, natural, Multigraph, Amounts, degree, only_at, AreEquivalent, IsWinnable, less, degree-less, degree-only_at, only_at-here, only_at-other, sum_below-one, sum_below-cong, equivalent-winnable, amounts_of_trial, WinsWithoutTrial, IsTrialFrom, TrialsWinFrom, IsFirstTrialFrom}
 use Rattle.std.proofs.Math.IntN.{◌+ℤ◌}
 
 as_much_or_more : (a b : ℤ) → a ≤ℤ b → (b ≡ a) ⊎ ((a +ℤ pos 1) ≤ℤ b)
@@ -66,7 +66,7 @@ one_less n r p d F from inside empty some = record {
 
 -- what holds nothing before p holds nothing there, or a dollar at least
 none_or_some : (g : Multigraph) (A B : Amounts) (r d p : ℕ) (F : Amounts) → p < g.size → IsOther g A B p →
-    WinFrom g A r (p + 1) → IsTrialFrom g.size r d F → ((v : ℕ) → v < p → F v ≡ pos 0) →
+    TrialsWinFrom g A r (p + 1) → IsTrialFrom g.size r d F → ((v : ℕ) → v < p → F v ≡ pos 0) →
     (pos 1 ≤ℤ F p → IsWinnable g (less B (less F (only_at p (pos 1))))) → IsWinnable g (less A F)
 none_or_some g A B r d p F inside other first from empty later = ⊎_elim
     (λ (none : F p ≡ pos 0). first F (record {
@@ -96,8 +96,8 @@ one_more E p v inside = ⊎_elim
     (cases_eq v p)
 
 pub first_with : (g : Multigraph) (A B : Amounts) (r d p : ℕ) (E E' : List ℕ) → d ≤ p → p < g.size → 1 ≤ r →
-    IsOther g A B p → WinFrom g A r (p + 1) → IsFirstFrom g B (r - 1) p E' →
-    E ≡ set E' p (slice_index E' p + 1) → IsFirstFrom g A r d E
+    IsOther g A B p → TrialsWinFrom g A r (p + 1) → IsFirstTrialFrom g B (r - 1) p E' →
+    E ≡ set E' p (slice_index E' p + 1) → IsFirstTrialFrom g A r d E
 first_with g A B r d p E E' past inside some other wins loss is = record {
   places = ap length is ∙ length-set E' p (slice_index E' p + 1) ∙ loss.places;
   from = record {
@@ -152,7 +152,7 @@ held_at_last n r E held empty v below = ⊎_elim
 
 pub first_at_last : (g : Multigraph) (B : Amounts) (r p : ℕ) (E : List ℕ) → p < g.size → length E ≡ g.size →
     slice_index E (g.size - 1) ≡ r → ((u : ℕ) → u + 1 < g.size → slice_index E u ≡ 0) → ¬ WinsWithoutTrial g B E →
-    IsFirstFrom g B r p E
+    IsFirstTrialFrom g B r p E
 first_at_last g B r p E inside places held empty loses = record {
   places = places;
   from = record {
@@ -181,6 +181,6 @@ first_at_last g B r p E inside places held empty loses = record {
       (cases_lt (u + 1) g.size);
 }
 
-pub held_few : (g : Multigraph) (A : Amounts) (r d v : ℕ) (E : List ℕ) → IsFirstFrom g A r d E → v < g.size →
+pub held_few : (g : Multigraph) (A : Amounts) (r d v : ℕ) (E : List ℕ) → IsFirstTrialFrom g A r d E → v < g.size →
     slice_index E v ≤ r
 held_few g A r d v E loss inside = omega (arith, ints, from_few g.size r d v (amounts_of_trial E) loss.from inside)

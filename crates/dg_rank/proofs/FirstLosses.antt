@@ -12,7 +12,7 @@
 --   some_number       there is a trial with the number 0
 --   poor_loses        if the degree is too low, each trial loses
 --   poor_loss         so trial number 0 is the first loss
-use Rattle.dg_rank.proofs.Common.{◌≡◌, ℕ, ◌+◌, ◌-◌, ◌<◌, ◌≤◌, slice_index, sum, List, length, arith, refl, sym, subst, ◌∙◌, ◌≤ℤ◌, ◌<ℤ◌, Option, Some, None, MatchOption, ⊤, ints, pos, Multigraph, IsMultigraph, Amounts, degree, IsEffective, IsWinnable, less, HasRankAtLeast, IsDivisorBefore, IsFirstLoss, sum_below-cong, win_more, degree-less, degree-winnable, Vector, at, IsTrial, IsTrialBefore, IsTrialNumbering, AnyTrial, IsWithinLimits, amounts_of_trial, HoldsTrial, WinsWithoutTrial, AllWin, IsFirstLossIn}
+use Rattle.dg_rank.proofs.Common.{◌≡◌, ℕ, ◌+◌, ◌-◌, ◌<◌, ◌≤◌, slice_index, sum, List, length, arith, refl, sym, subst, ◌∙◌, ◌≤ℤ◌, ◌<ℤ◌, Option, Some, None, MatchOption, ⊤, ints, pos, Multigraph, IsMultigraph, Amounts, degree, IsEffective, IsWinnable, less, HasRankAtLeast, IsDivisorBefore, IsFirstLoss, sum_below-cong, win_more, degree-less, degree-winnable, Vector, at, IsTrial, IsTrialBefore, IsTrialNumbering, AnyTrial, AreTrialsWithinLimits, amounts_of_trial, HoldsTrial, WinsWithoutTrial, AllTrialsWin, IsFirstLossOfTrials}
 use Rattle.dg_rank.specs.Numbering.{trial_count, nth_trial}
 use Rattle.dg_rank.proofs.Numbering.{numbered, limits_count, limits_trial, some_trial}
 use Rattle.dg_rank.proofs.CountedOnce.{lower_number}
@@ -49,38 +49,39 @@ wins_listed g D k i E effective here win =
     win_more g (less D (amounts_of_trial (listed g.size E))) (less D E)
     (λ v inside. omega (arith, ints, listed-amounts g.size E v effective inside)) listed_wins
 
-pub found_rank : (g : Multigraph) (D : Amounts) (k c : ℕ) → IsWithinLimits g.size k c → AllWin g D k 0 c →
+pub found_rank : (g : Multigraph) (D : Amounts) (k c : ℕ) → AreTrialsWithinLimits g.size k c → AllTrialsWin g D k 0 c →
     HasRankAtLeast g D k
 found_rank g D k c within wins E effective of_degree =
     let (i, below, here) = (numbered g.size k).all (listed g.size E) (listed-trial g.size k E effective of_degree) tt in
     wins_listed g D k i E effective here (wins i (omega arith) (omega (arith, limits_count g.size k c within)))
 
-pub loss-trial : (g : Multigraph) (D : Amounts) (k c : ℕ) (E : List ℕ) → IsWithinLimits g.size k c →
-    IsFirstLossIn g D k 0 c E →
+pub loss-trial : (g : Multigraph) (D : Amounts) (k c : ℕ) (E : List ℕ) → AreTrialsWithinLimits g.size k c →
+    IsFirstLossOfTrials g D k 0 c E →
     IsTrial g.size k E
 loss-trial g D k c E within loss =
     subst (λ (L : List ℕ). IsTrial g.size k L) (sym loss.trial) (limits_trial g.size k c loss.number within loss.to)
 
-pub found_trial : (g : Multigraph) (D : Amounts) (k c : ℕ) (found : Option (List ℕ)) → IsWithinLimits g.size k c →
-    MatchOption found (AllWin g D k 0 c) (IsFirstLossIn g D k 0 c) →
+pub found_trial : (g : Multigraph) (D : Amounts) (k c : ℕ) (found : Option (List ℕ)) → AreTrialsWithinLimits g.size k c →
+    MatchOption found (AllTrialsWin g D k 0 c) (IsFirstLossOfTrials g D k 0 c) →
     MatchOption found ⊤ (λ (E : List ℕ). sum E ≤ 1000)
 found_trial g D k c (Some E) within loss = omega (arith, (loss-trial g D k c E within loss).amount, within.small)
 found_trial g D k c None within wins = tt
 
-pub found_all : (g : Multigraph) (D : Amounts) (k c : ℕ) (E : List ℕ) (found : Option (List ℕ)) → IsWithinLimits g.size k c →
+pub found_all : (g : Multigraph) (D : Amounts) (k c : ℕ) (E : List ℕ) (found : Option (List ℕ))
+    → AreTrialsWithinLimits g.size k c →
     slice_index E (g.size - 1) ≡ k →
-    MatchOption found (AllWin g D k 0 (0 + trial_count (g.size - 0) (slice_index E (g.size - 1))))
-    (IsFirstLossIn g D k 0 (0 + trial_count (g.size - 0) (slice_index E (g.size - 1)))) →
-    MatchOption found (AllWin g D k 0 c) (IsFirstLossIn g D k 0 c)
+    MatchOption found (AllTrialsWin g D k 0 (0 + trial_count (g.size - 0) (slice_index E (g.size - 1))))
+    (IsFirstLossOfTrials g D k 0 (0 + trial_count (g.size - 0) (slice_index E (g.size - 1)))) →
+    MatchOption found (AllTrialsWin g D k 0 c) (IsFirstLossOfTrials g D k 0 c)
 found_all g D k c E found within held told =
     let size : g.size - 0 ≡ g.size = omega arith in
     let all : 0 + trial_count (g.size - 0) (slice_index E (g.size - 1)) ≡ c =
     rw (held, size) (omega (arith, limits_count g.size k c within)) in
-    subst (λ (m : ℕ). MatchOption found (AllWin g D k 0 m) (IsFirstLossIn g D k 0 m)) all told
+    subst (λ (m : ℕ). MatchOption found (AllTrialsWin g D k 0 m) (IsFirstLossOfTrials g D k 0 m)) all told
 
 wins_before : (g : Multigraph) (D : Amounts) (k c : ℕ) (E : List ℕ) (d : Vector) (F : Amounts) →
-    IsWithinLimits g.size k c →
-    IsFirstLossIn g D k 0 c E → HoldsTrial g.size E d → IsEffective g.size F → degree g.size F ≡ pos k →
+    AreTrialsWithinLimits g.size k c →
+    IsFirstLossOfTrials g D k 0 c E → HoldsTrial g.size E d → IsEffective g.size F → degree g.size F ≡ pos k →
     IsDivisorBefore g.size F (at d) → IsWinnable g (less D F)
 wins_before g D k c E d F within loss held effective of_degree before =
     let numbering : IsTrialNumbering g.size k AnyTrial (trial_count g.size k) (nth_trial g.size k) = numbered g.size k in
@@ -93,8 +94,8 @@ wins_before g D k c E d F within loss held effective of_degree before =
     lower_number g.size k AnyTrial (trial_count g.size k) (nth_trial g.size k) i loss.number numbering below earlier' in
     wins_listed g D k i F effective here (loss.first i (omega arith) lower)
 
-pub found_loss : (g : Multigraph) (D : Amounts) (k c : ℕ) (E : List ℕ) (d : Vector) → IsWithinLimits g.size k c →
-    IsFirstLossIn g D k 0 c E → HoldsTrial (length E) E d → (d.size ≡ g.size) × IsFirstLoss g D k (at d)
+pub found_loss : (g : Multigraph) (D : Amounts) (k c : ℕ) (E : List ℕ) (d : Vector) → AreTrialsWithinLimits g.size k c →
+    IsFirstLossOfTrials g D k 0 c E → HoldsTrial (length E) E d → (d.size ≡ g.size) × IsFirstLoss g D k (at d)
 found_loss g D k c E d within loss holds =
     let trial : IsTrial g.size k E = loss-trial g D k c E within loss in
     let held : HoldsTrial g.size E d = subst (λ (n : ℕ). HoldsTrial n E d) trial.places holds in (
@@ -108,7 +109,7 @@ found_loss g D k c E d within loss holds =
       },
     )
 
-pub some_number : (n k c : ℕ) → IsWithinLimits n k c → 0 < c
+pub some_number : (n k c : ℕ) → AreTrialsWithinLimits n k c → 0 < c
 some_number n k c within = omega (arith, limits_count n k c within, some_trial n k within.some)
 
 pub poor_loses : (g : Multigraph) (D : Amounts) (k : ℕ) (E : List ℕ) → IsMultigraph g → degree g.size D <ℤ pos k →
@@ -119,7 +120,7 @@ poor_loses g D k E graph poor trial win =
     none
 
 pub poor_loss : (g : Multigraph) (D : Amounts) (k c : ℕ) → IsMultigraph g → degree g.size D <ℤ pos k →
-    IsWithinLimits g.size k c → IsFirstLossIn g D k 0 c (nth_trial g.size k 0)
+    AreTrialsWithinLimits g.size k c → IsFirstLossOfTrials g D k 0 c (nth_trial g.size k 0)
 poor_loss g D k c graph poor within =
     let some : 0 < c = some_number g.size k c within in
     record {

@@ -8,22 +8,22 @@
 --   all_told       what is told of all losses tells the test of equivalent amounts
 --   lost_at_last   where all can't be lost at the last vertex, a divisor fails its test
 --   left_at_last   where that can be, what is left with all of it given back is equivalent to the divisor
-use Rattle.dg_rank.proofs.Common.{◌≡◌, ◌≢◌, ℕ, ◌+◌, ◌-◌, ◌<◌, ◌≤◌, List, length, arith, refl, ap, ◌∙◌, ⊎_elim, set, length-set, get_or-set_same, get_or-set_other, slice_index, ◌≤ℤ◌, cases_eq, cases_lt, ints, pos, ◌-ℤ◌, Multigraph, Amounts, degree, only_at, AreEquivalent, IsWinnable, less, HasRankAtLeast, equivalent-refl, degree-less, degree-only_at, only_at-here, only_at-other, sum_below-one, sum_below-cong, equivalent-winnable, win_more, amounts_of_trial, WinFrom, IsFirstFrom, IsLossFrom, Vector, at, sum, natural, Bool, true, false, not, is_some, Option, Some, None, MatchOption, MatchBool, WinsWithoutTrial, IsTrialLeftBeforeLast, equivalent-rank, both_ways}
+use Rattle.dg_rank.proofs.Common.{◌≡◌, ◌≢◌, ℕ, ◌+◌, ◌-◌, ◌<◌, ◌≤◌, List, length, arith, refl, ap, ◌∙◌, ⊎_elim, set, length-set, get_or-set_same, get_or-set_other, slice_index, ◌≤ℤ◌, cases_eq, cases_lt, ints, pos, ◌-ℤ◌, Multigraph, Amounts, degree, only_at, AreEquivalent, IsWinnable, less, HasRankAtLeast, equivalent-refl, degree-less, degree-only_at, only_at-here, only_at-other, sum_below-one, sum_below-cong, equivalent-winnable, win_more, amounts_of_trial, TrialsWinFrom, IsFirstTrialFrom, IsTrialLossFrom, Vector, at, sum, natural, Bool, true, false, not, is_some, Option, Some, None, MatchOption, MatchBool, WinsWithoutTrial, IsTrialLeftBeforeLast, equivalent-rank, both_ways}
 use Rattle.std.proofs.Math.IntN.{◌+ℤ◌}
 use Rattle.dg_rank.proofs.Elsewhere.{only_at-more, degree-given}
 use Rattle.dg_rank.proofs.TrialLists.{degree-trial}
 use Rattle.dg_rank.proofs.AskedVertices.{rank_from}
 use Rattle.dg_rank.proofs.FirstFrom.{first_at_last, first_with, held_at_last}
 
-pub loss_few : (g : Multigraph) (A : Amounts) (r d v : ℕ) (E : List ℕ) → IsLossFrom g A r d E → v < g.size →
+pub loss_few : (g : Multigraph) (A : Amounts) (r d v : ℕ) (E : List ℕ) → IsTrialLossFrom g A r d E → v < g.size →
     slice_index E v ≤ r
 loss_few g A r d v E loss below =
     let most : amounts_of_trial E v ≤ℤ degree g.size (amounts_of_trial E) =
     sum_below-one g.size v (amounts_of_trial E) below (λ w low _. omega (arith, ints)) in
     omega (arith, ints, loss.few)
 
-pub first_skip : (g : Multigraph) (A : Amounts) (r p : ℕ) (E : List ℕ) → IsFirstFrom g A r (p + 1) E →
-    IsFirstFrom g A r p E
+pub first_skip : (g : Multigraph) (A : Amounts) (r p : ℕ) (E : List ℕ) → IsFirstTrialFrom g A r (p + 1) E →
+    IsFirstTrialFrom g A r p E
 first_skip g A r p E loss = record {
   places = loss.places;
   from = record {
@@ -46,8 +46,8 @@ first_skip g A r p E loss = record {
 }
 
 pub first_last : (g : Multigraph) (A : Amounts) (r p : ℕ) (E K : List ℕ) → p + 1 ≡ g.size → length E ≡ g.size →
-    slice_index E (g.size - 1) ≡ r → ((u : ℕ) → u + 1 < g.size → slice_index E u ≡ 0) → IsLossFrom g A r p K →
-    IsFirstFrom g A r p E
+    slice_index E (g.size - 1) ≡ r → ((u : ℕ) → u + 1 < g.size → slice_index E u ≡ 0) → IsTrialLossFrom g A r p K →
+    IsFirstTrialFrom g A r p E
 first_last g A r p E K end places held empty known =
     first_at_last g A r p E (omega arith) places held empty
     (λ win. known.loses (win_more g (less A (amounts_of_trial E)) (less A (amounts_of_trial K)) (λ v below. ⊎_elim
@@ -58,9 +58,9 @@ first_last g A r p E K end places held empty known =
     (cases_eq v (g.size - 1))) win))
 
 pub first_unpaid : (g : Multigraph) (A : Amounts) (r p : ℕ) (E E' : List ℕ) → p < g.size → 1 ≤ r →
-    WinFrom g A r (p + 1) → length E' ≡ g.size → slice_index E' (g.size - 1) ≡ r - 1 →
+    TrialsWinFrom g A r (p + 1) → length E' ≡ g.size → slice_index E' (g.size - 1) ≡ r - 1 →
     ((u : ℕ) → u + 1 < g.size → slice_index E' u ≡ 0) → E ≡ set E' p (slice_index E' p + 1) →
-    (¬ IsWinnable g (less A (only_at p (pos 1)))) → IsFirstFrom g A r p E
+    (¬ IsWinnable g (less A (only_at p (pos 1)))) → IsFirstTrialFrom g A r p E
 first_unpaid g A r p E E' inside some wins places held empty is lost =
     let B : Amounts = less A (only_at p (pos 1)) in
     first_with g A B r p p E E' (omega arith) inside some (equivalent-refl g B B (λ v below. refl)) wins
@@ -78,8 +78,8 @@ one_fewer K p v inside some = ⊎_elim
     (cases_eq v p)
 
 pub fewer_lost : (g : Multigraph) (A B : Amounts) (r p : ℕ) (K : List ℕ) → p < g.size → 1 ≤ slice_index K p →
-    AreEquivalent g (less A (only_at p (pos 1))) B → IsLossFrom g A r p K →
-    IsLossFrom g B (r - 1) p (set K p (slice_index K p - 1))
+    AreEquivalent g (less A (only_at p (pos 1))) B → IsTrialLossFrom g A r p K →
+    IsTrialLossFrom g B (r - 1) p (set K p (slice_index K p - 1))
 fewer_lost g A B r p K below some (s, leads) known = record {
   places = length-set K p (slice_index K p - 1) ∙ known.places;
   few = omega (
@@ -103,7 +103,7 @@ fewer_lost g A B r p K below some (s, leads) known = record {
   fewer v = one_fewer K p v (omega (arith, known.places)) some
 
 -- a loss of fewer dollars is one of more
-pub loss_fails : (g : Multigraph) (A : Amounts) (k : ℕ) (E : List ℕ) → 0 < g.size → IsLossFrom g A k 0 E →
+pub loss_fails : (g : Multigraph) (A : Amounts) (k : ℕ) (E : List ℕ) → 0 < g.size → IsTrialLossFrom g A k 0 E →
     ¬ HasRankAtLeast g A k
 loss_fails g A k E some loss rank =
     let (t, rest) = natural (pos k -ℤ degree g.size (amounts_of_trial E)) (omega (arith, ints, loss.few)) in
@@ -114,7 +114,7 @@ loss_fails g A k E some loss rank =
     (omega (arith, ints, rest, degree-given g.size (amounts_of_trial E) F 0 t some (λ w. refl)))))
 
 pub all_told : (b : Bool) (found : Option (List ℕ)) (g : Multigraph) (A B : Amounts) (k : ℕ) → 0 < g.size →
-    AreEquivalent g A B → is_some found ≡ not b → MatchOption found (WinFrom g B k 0) (IsLossFrom g B k 0) →
+    AreEquivalent g A B → is_some found ≡ not b → MatchOption found (TrialsWinFrom g B k 0) (IsTrialLossFrom g B k 0) →
     MatchBool b (HasRankAtLeast g A k) (¬ HasRankAtLeast g A k)
 all_told true None g A B k some same is wins = (equivalent-rank g A B k same).1 (rank_from g B k wins)
 all_told false (Some E) g A B k some same is loss =

@@ -10,7 +10,7 @@
 --   rank_by_ladder  the rank by its tests
 --   rank_agrees, in_limits_agrees, needs_agrees   it is the same of amounts that agree on the vertices
 --   ranks_by_ladders   both ranks by their tests
-use Rattle.dg_rank.proofs.Common.{◌≡◌, ℕ, zero, suc, ◌+◌, ◌<◌, ◌⊎◌, inl, inr, arith, refl, sym, ap, subst, ◌∙◌, ⊎_elim, Result, Ok, Err, cases_eq, ints, ℤ, pos, negsuc, ◌-ℤ◌, Multigraph, Amounts, AgreeOn, less, canonical, HasRankAtLeast, IsRank, agree-sym, equivalent-refl, loss_bounds_rank, equivalent-rank, rank_passes, Vector, at, RankVerdict, AtLeast, Below, AnswersRankTest, AreRankTestAnswers, PassesBelow, FailsRankTestsAfter, MeetsTooMany, RankByLadder, RanksByTrialLadders, ArePastTrialLimits, IsRankTestWithinLimits, IsRankInLimits, NeedsTooMany, RankFault, TooMany}
+use Rattle.dg_rank.proofs.Common.{◌≡◌, ℕ, zero, suc, ◌+◌, ◌<◌, ◌⊎◌, inl, inr, arith, refl, sym, ap, subst, ◌∙◌, ⊎_elim, Result, Ok, Err, cases_eq, ints, ℤ, pos, negsuc, ◌-ℤ◌, Multigraph, Amounts, DivisorsAgreeOn, less, canonical, HasRankAtLeast, IsRank, agree-sym, equivalent-refl, loss_bounds_rank, equivalent-rank, rank_passes, Vector, at, RankVerdict, AtLeast, Below, AnswersRankTest, AreRankTestAnswers, PassesRankTestsBelow, FailsRankTestsAfter, MeetsTooManyTrials, RankByTrialLadder, RanksByTrialLadders, ArePastTrialLimits, IsRankTestWithinLimits, IsRankInLimits, NeedsTooMany, RankFault, TooMany}
 use Rattle.std.proofs.Math.IntN.{◌+ℤ◌}
 use Rattle.dg_rank.proofs.Numbering.{past_above, past_within}
 use Rattle.dg_rank.proofs.RankByTests.{rank_before}
@@ -86,7 +86,7 @@ module _ (g : Multigraph) (D : Amounts) (f : ℕ → Result RankVerdict RankFaul
 
   -- one more answer
   one_more : (k : ℕ) (x : Result RankVerdict RankFault) → f k ≡ x → AnswersRankTest g D k x → HasRankAtLeast g D k →
-      PassesBelow f k → PassesBelow f (suc k) ⊎ MeetsTooMany f
+      PassesRankTestsBelow f k → PassesRankTestsBelow f (suc k) ⊎ MeetsTooManyTrials f
   one_more k (Ok (AtLeast j)) is answer rank passed = inl (λ i below. ⊎_elim
       (λ (same : i ≡ k). subst (λ (m : ℕ). f m ≡ Ok (AtLeast m)) (sym same)
       (is ∙ ap (λ (m : ℕ). Ok (AtLeast m)) answer.1.0))
@@ -99,39 +99,39 @@ module _ (g : Multigraph) (D : Amounts) (f : ℕ → Result RankVerdict RankFaul
     past = is ∙ ap (λ (e' : RankFault). Err e') answer.0;
   })
 
-  met_below : (k : ℕ) → ((j : ℕ) → j < k → HasRankAtLeast g D j) → PassesBelow f k ⊎ MeetsTooMany f
+  met_below : (k : ℕ) → ((j : ℕ) → j < k → HasRankAtLeast g D j) → PassesRankTestsBelow f k ⊎ MeetsTooManyTrials f
   met_below zero ranks = inl (λ j below. absurd (omega (arith, below)))
   met_below (suc k) ranks = ⊎_elim
-      (λ (passed : PassesBelow f k). one_more k (f k) refl (answers k) (ranks k (omega arith)) passed)
-      (λ (met : MeetsTooMany f). inr met)
+      (λ (passed : PassesRankTestsBelow f k). one_more k (f k) refl (answers k) (ranks k (omega arith)) passed)
+      (λ (met : MeetsTooManyTrials f). inr met)
       (met_below k (λ j below. ranks j (omega (arith, below))))
 
-  meets : NeedsTooMany g D → MeetsTooMany f
+  meets : NeedsTooMany g D → MeetsTooManyTrials f
   meets needs = ⊎_elim
-      (λ (passed : PassesBelow f needs.degree). record {
+      (λ (passed : PassesRankTestsBelow f needs.degree). record {
         degree = needs.degree;
         passed = passed;
         past = answer_past g D needs.degree (f needs.degree) (answers needs.degree) needs.past;
       })
-      (λ (met : MeetsTooMany f). met)
+      (λ (met : MeetsTooManyTrials f). met)
       (met_below needs.degree needs.passed)
 
-  needed : MeetsTooMany f → NeedsTooMany g D
+  needed : MeetsTooManyTrials f → NeedsTooMany g D
   needed met = record {
     degree = met.degree;
     past = past_told g D met.degree (f met.degree) (answers met.degree) met.past;
     passed = λ j below. passes_told g D j (f j) (answers j) (met.passed j below);
   }
 
-pub rank_by_ladder : RankByLadder
+pub rank_by_ladder : RankByTrialLadder
 rank_by_ladder g D f answers =
     (λ r. (fails_after g D f answers r, rank_told g D f answers r), (meets g D f answers, needed g D f answers))
 
-module _ (g : Multigraph) (D E : Amounts) (same : AgreeOn g.size D E) where
+module _ (g : Multigraph) (D E : Amounts) (same : DivisorsAgreeOn g.size D E) where
   rank_agrees : (k : ℕ) → HasRankAtLeast g D k → HasRankAtLeast g E k
   rank_agrees k = (equivalent-rank g D E k (equivalent-refl g D E same)).0
 
-module _ (g : Multigraph) (D E : Amounts) (same : AgreeOn g.size D E) where
+module _ (g : Multigraph) (D E : Amounts) (same : DivisorsAgreeOn g.size D E) where
   is_rank_agrees : (r : ℤ) → IsRank g D r → IsRank g E r
   is_rank_agrees (pos k) (passes, fails) = (
     rank_agrees g D E same k passes,
@@ -171,8 +171,8 @@ ranks_by_ladders g D E f h dual answers answers' =
             (λ (other : NeedsTooMany g K). inr (many'.0 (needs_agrees g K E back other)))
             needs,
         λ met. ⊎_elim
-            (λ (own : MeetsTooMany f). inl (many.1 own))
-            (λ (other : MeetsTooMany h). inr (needs_agrees g E K dual (many'.1 other)))
+            (λ (own : MeetsTooManyTrials f). inl (many.1 own))
+            (λ (other : MeetsTooManyTrials h). inr (needs_agrees g E K dual (many'.1 other)))
             met,
       ),
     )

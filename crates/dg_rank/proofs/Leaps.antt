@@ -9,7 +9,7 @@
 --   IsAmong n k c i d r j E == the trial number i + j of c holds before place d what E does, and from there
 --                              on what the trial number j of degree r does
 --   among                      the trials that differ from E from place d on alone come right after it
-use Rattle.dg_rank.proofs.Common.{◌≡◌, ℕ, zero, suc, ◌+◌, ◌-◌, ◌<◌, ◌≤◌, List, [], ◌∷◌, ◌++◌, length, take, drop, arith, refl, sym, ap, ◌∙◌, slice_index, sum, take-append-drop, length-take-le, length-drop, get_or-drop, sum_by-take-drop, IsTrial, IsTrialNumbering, AnyTrial, IsWithinLimits}
+use Rattle.dg_rank.proofs.Common.{◌≡◌, ℕ, zero, suc, ◌+◌, ◌-◌, ◌<◌, ◌≤◌, List, [], ◌∷◌, ◌++◌, length, take, drop, arith, refl, sym, ap, ◌∙◌, slice_index, sum, take-append-drop, length-take-le, length-drop, get_or-drop, sum_by-take-drop, IsTrial, IsTrialNumbering, AnyTrial, AreTrialsWithinLimits}
 use Rattle.dg_rank.specs.Numbering.{trial_count, raised, nth_trial}
 use Rattle.dg_rank.proofs.Lists.{sum_cons}
 use Rattle.dg_rank.proofs.Numbering.{numbered, some_trial, limits_count, limits_trial}
@@ -114,7 +114,7 @@ first_sum n k E some places held empty =
 
 -- the trial number i, which from place d on holds r at its last place alone
 pub record IsSplit (n k c i d r : ℕ) (E : List ℕ) : Type 0 where
-  pub limits : IsWithinLimits n k c
+  pub limits : AreTrialsWithinLimits n k c
   pub number : i < c
   pub trial : E ≡ nth_trial n k i
   pub inside : d < n

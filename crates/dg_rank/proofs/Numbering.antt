@@ -6,7 +6,7 @@
 --   past_above       past the limits of a degree are all above it
 --   past_within      no rank test is past the limits and within them
 --   some_trial       on one place or more there is some trial of each degree
-use Rattle.dg_rank.proofs.Common.{◌≡◌, ℕ, zero, suc, ◌+◌, ◌-◌, ◌<◌, ◌≤◌, List, [], ◌∷◌, length, arith, refl, sym, ap, subst, ◌∙◌, ⊎_elim, ◌⊎◌, inl, inr, slice_index, sum, cases_lt, cond_below, cond_above, IsTrial, IsTrialNumbering, AreCounted, AnyTrial, IsTrialBefore, MAX_TRIALS, IsWithinLimits, ArePastTrialLimits, IsRankTestWithinLimits}
+use Rattle.dg_rank.proofs.Common.{◌≡◌, ℕ, zero, suc, ◌+◌, ◌-◌, ◌<◌, ◌≤◌, List, [], ◌∷◌, length, arith, refl, sym, ap, subst, ◌∙◌, ⊎_elim, ◌⊎◌, inl, inr, slice_index, sum, cases_lt, cond_below, cond_above, IsTrial, IsTrialNumbering, AreTrialsCounted, AnyTrial, IsTrialBefore, MAX_TRIALS, AreTrialsWithinLimits, ArePastTrialLimits, IsRankTestWithinLimits}
 use Rattle.dg_rank.specs.Numbering.{one_place_more, trial_count, raised, with_trial_place, nth_trial}
 use Rattle.dg_rank.proofs.Lists.{sum_cons, no_places, trial_cons, trial_tail, before_cons}
 use Rattle.dg_rank.proofs.CountedOnce.{lower_number, counted_once}
@@ -154,7 +154,7 @@ unfolding trial_count nth_trial
 numbered zero k = nowhere_numbered k
 numbered (suc n) k = place_numbered n (trial_count n) (nth_trial n) (numbered n) k
 
-pub counted_before : (n k i : ℕ) → i < trial_count n k → AreCounted n k (λ E. IsTrialBefore E (nth_trial n k i)) i
+pub counted_before : (n k i : ℕ) → i < trial_count n k → AreTrialsCounted n k (λ E. IsTrialBefore E (nth_trial n k i)) i
 counted_before n k i small = (
   nth_trial n k,
   record {
@@ -172,10 +172,10 @@ counted_before n k i small = (
   all : IsTrialNumbering n k AnyTrial (trial_count n k) (nth_trial n k)
   all = numbered n k
 
-pub limits_count : (n k c : ℕ) → IsWithinLimits n k c → c ≡ trial_count n k
+pub limits_count : (n k c : ℕ) → AreTrialsWithinLimits n k c → c ≡ trial_count n k
 limits_count n k c limits = counted_once n k _ c (trial_count n k) limits.counted (nth_trial n k, numbered n k)
 
-pub limits_trial : (n k c i : ℕ) → IsWithinLimits n k c → i < c → IsTrial n k (nth_trial n k i)
+pub limits_trial : (n k c i : ℕ) → AreTrialsWithinLimits n k c → i < c → IsTrial n k (nth_trial n k i)
 limits_trial n k c i limits small =
     let all : c ≡ trial_count n k = limits_count n k c limits in
     ((numbered n k).each i (omega arith)).0
@@ -184,8 +184,8 @@ pub some_trial : (n k : ℕ) → 0 < n → 0 < trial_count n k
 some_trial n k some = let more : trial_count 1 k ≤ trial_count n k =
     count_grows 1 n k some in omega (arith, one_place k)
 
-more_trials : (n j k : ℕ) → 0 < n → j ≤ k → (c : ℕ) × (MAX_TRIALS < c) × AreCounted n j AnyTrial c →
-    (c : ℕ) × (MAX_TRIALS < c) × AreCounted n k AnyTrial c
+more_trials : (n j k : ℕ) → 0 < n → j ≤ k → (c : ℕ) × (MAX_TRIALS < c) × AreTrialsCounted n j AnyTrial c →
+    (c : ℕ) × (MAX_TRIALS < c) × AreTrialsCounted n k AnyTrial c
 more_trials n j k some less (c, many, counted) =
     let all : c ≡ trial_count n j = counted_once n j _ c (trial_count n j) counted (nth_trial n j, numbered n j) in
     (trial_count n k, omega (arith, count_grows_by_degree n j k some less), (nth_trial n k, numbered n k))

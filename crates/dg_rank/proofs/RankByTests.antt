@@ -7,7 +7,7 @@
 --   needs_too_many    where a test of the next degree after the rank is past the limits, too many tests are needed
 --   past_tests       where tests that nothing tells are needed, too many are
 --   tests_suffice     where all tests up to one that fails are told, none past the limits is needed
-use Rattle.dg_rank.proofs.Common.{◌≡◌, ℕ, zero, suc, ◌+◌, ◌<◌, ◌≤◌, inl, inr, arith, refl, sym, subst, unsigned_abs, ◌≤ℤ◌, ◌<ℤ◌, cases_eq, cases_lt, ints, by_lt_z, ℤ, pos, ◌-ℤ◌, Multigraph, IsMultigraph, genus, Amounts, degree, less, canonical, HasRankAtLeast, IsRank, poor_rank, rank_passes, rank_of_dual, IsDual, high_rank, IsWithinLimits, ArePastTrialLimits, IsRankInLimits, NeedsTooMany, IsRankUntold, NeedsPastTests, FailsRankTestsFirstAt}
+use Rattle.dg_rank.proofs.Common.{◌≡◌, ℕ, zero, suc, ◌+◌, ◌<◌, ◌≤◌, inl, inr, arith, refl, sym, subst, unsigned_abs, ◌≤ℤ◌, ◌<ℤ◌, cases_eq, cases_lt, ints, by_lt_z, ℤ, pos, ◌-ℤ◌, Multigraph, IsMultigraph, genus, Amounts, degree, less, canonical, HasRankAtLeast, IsRank, poor_rank, rank_passes, rank_of_dual, IsDual, high_rank, AreTrialsWithinLimits, ArePastTrialLimits, IsRankInLimits, NeedsTooMany, IsRankUntold, NeedsPastTests, FailsRankTestsFirstAt}
 use Rattle.std.proofs.Math.IntN.{◌+ℤ◌}
 use Rattle.dg_rank.proofs.AskedVertices.{past_all}
 
@@ -45,7 +45,7 @@ not_all_pass g D k graph some high poor rank =
     let none : ⊥ = omega (arith, ints, high_rank g D k graph some high rank) in none
 
 pub in_limits : (g : Multigraph) (D : Amounts) (k c : ℕ) (r : ℤ) → IsRank g D (pos k -ℤ pos 1) → r ≡ pos k -ℤ pos 1 →
-    IsWithinLimits g.size k c → IsRankInLimits g D r
+    AreTrialsWithinLimits g.size k c → IsRankInLimits g D r
 in_limits g D k c r rank same within = record {
   is_rank = subst (IsRank g D) (sym same) rank;
   next = k;

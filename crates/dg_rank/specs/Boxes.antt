@@ -1,15 +1,15 @@
 -- Boxes of losses: at each vertex at most so much is lost, and in all at most so many dollars. And
 -- the first loss of the trials that hold nothing before a place.
---   IsInBox n r j E       == E is effective, of degree at most j, and holds at each of n vertices at most
---                            what the list r has there
---   BoxWins g A r j       == A less each of these is winnable
---   IsBoxLoss g A r j E   == the trial E is one of these, and A less E is not winnable
---   IsLackInBox n A r j o == at o A holds less than may be lost there, or nowhere if there is no o
---   IsLossFrom g A r d E  == A less E is not winnable, where E is a trial of degree at most r that holds
---                            nothing before place d
---   IsTrialFrom n r d F   == F is effective, of degree r, and holds nothing before place d
---   WinFrom g A r d       == A less each of these is winnable
---   IsFirstFrom g A r d E == the trial E is the first of these without which A is not winnable
+--   IsInBox n r j E            == E is effective, of degree at most j, and holds at each of n vertices at
+--                                 most what the list r has there
+--   BoxWins g A r j            == A less each of these is winnable
+--   IsBoxLoss g A r j E        == the trial E is one of these, and A less E is not winnable
+--   IsLackInBox n A r j o      == at o A holds less than may be lost there, or nowhere if there is no o
+--   IsTrialLossFrom g A r d E  == A less E is not winnable, where E is a trial of degree at most r that holds
+--                                 nothing before place d
+--   IsTrialFrom n r d F        == F is effective, of degree r, and holds nothing before place d
+--   TrialsWinFrom g A r d      == A less each of these is winnable
+--   IsFirstTrialFrom g A r d E == the trial E is the first of these without which A is not winnable
 use Rattle.std.specs.Prelude.{◌≡◌, ℕ, ◌<◌, pos, ◌<ℤ◌, ◌≤ℤ◌, List, Option, MatchOption, length, min, slice_index}
 use Rattle.dg_theory.specs.Firing.{Amounts, degree, IsEffective}
 use Rattle.dg_theory.specs.Multigraph.{Multigraph}
@@ -36,7 +36,7 @@ IsLackInBox n A r j o = MatchOption o
     ((v : ℕ) → v < n → pos (min (slice_index r v) j) ≤ℤ A v)
     (λ v. (v < n) × (A v <ℤ pos (min (slice_index r v) j)))
 
-pub record IsLossFrom (g : Multigraph) (A : Amounts) (r d : ℕ) (E : List ℕ) : Type 0 where
+pub record IsTrialLossFrom (g : Multigraph) (A : Amounts) (r d : ℕ) (E : List ℕ) : Type 0 where
   pub places : length E ≡ g.size
   pub few : degree g.size (amounts_of_trial E) ≤ℤ pos r
   pub empty : (v : ℕ) → v < d → slice_index E v ≡ 0
@@ -47,10 +47,10 @@ pub record IsTrialFrom (n r d : ℕ) (F : Amounts) : Type 0 where
   pub of_degree : degree n F ≡ pos r
   pub empty : (v : ℕ) → v < d → F v ≡ pos 0
 
-abbrev pub WinFrom : Multigraph → Amounts → ℕ → ℕ → Type 0
-WinFrom g A r d = (F : Amounts) → IsTrialFrom g.size r d F → IsWinnable g (less A F)
+abbrev pub TrialsWinFrom : Multigraph → Amounts → ℕ → ℕ → Type 0
+TrialsWinFrom g A r d = (F : Amounts) → IsTrialFrom g.size r d F → IsWinnable g (less A F)
 
-pub record IsFirstFrom (g : Multigraph) (A : Amounts) (r d : ℕ) (E : List ℕ) : Type 0 where
+pub record IsFirstTrialFrom (g : Multigraph) (A : Amounts) (r d : ℕ) (E : List ℕ) : Type 0 where
   pub places : length E ≡ g.size
   pub from : IsTrialFrom g.size r d (amounts_of_trial E)
   pub loses : ¬ WinsWithoutTrial g A E

@@ -5,7 +5,7 @@
 use Rattle.std.specs.Prelude.{◌≡◌, ℕ, ◌<◌, pos, List, slice_index}
 use Rattle.dg_chips.specs.Vector.{Vector, at}
 use Rattle.dg_theory.specs.Firing.{Amounts}
-use Rattle.dg_rank.specs.Trials.{IsTrial, IsTrialBefore, AreCounted}
+use Rattle.dg_rank.specs.Trials.{IsTrial, IsTrialBefore, AreTrialsCounted}
 
 abbrev pub amounts_of_trial : List ℕ → Amounts
 amounts_of_trial E v = pos (slice_index E v)
@@ -18,4 +18,4 @@ pub record IsTrialNumber (n k i : ℕ) (d : Vector) : Type 0 where
   pub amounts : List ℕ
   pub trial : IsTrial n k amounts
   pub held : HoldsTrial n amounts d
-  pub before : AreCounted n k (λ E. IsTrialBefore E amounts) i
+  pub before : AreTrialsCounted n k (λ E. IsTrialBefore E amounts) i

@@ -1,13 +1,13 @@
 -- A piece of the trials, from one number up to another, for the divisor D.
---   AreSmallForTrials n D         == each of n amounts is within 1,999,000
---   AddUpToFewForTrials n D       == n amounts add up to at most 32,000,000
---   WinsWithoutTrial g D E        == D less the trial E is winnable
---   AllWin g D k i j              == D less each trial from number i up to, but not including, number j is
---                                    winnable
---   IsFirstLossIn g D k i j E     == E is the first trial of the piece from i up to j whose loss leaves D
---                                    unwinnable
---   IsTrialLeftBeforeLast g D E x == x is effective, adds up to few, and D can be fired to it once all of the
---                                    trial E is lost but its amount at the last place
+--   AreSmallForTrials n D           == each of n amounts is within 1,999,000
+--   AddUpToFewForTrials n D         == n amounts add up to at most 32,000,000
+--   WinsWithoutTrial g D E          == D less the trial E is winnable
+--   AllTrialsWin g D k i j          == D less each trial from number i up to, but not including, number j is
+--                                      winnable
+--   IsFirstLossOfTrials g D k i j E == E is the first trial of the piece from i up to j whose loss leaves D
+--                                      unwinnable
+--   IsTrialLeftBeforeLast g D E x   == x is effective, adds up to few, and D can be fired to it once all of
+--                                      the trial E is lost but its amount at the last place
 use Rattle.std.specs.Prelude.{◌≡◌, ℕ, ◌-◌, ◌<◌, ◌≤◌, pos, ◌+ℤ◌, ◌≤ℤ◌, List, slice_index}
 use Rattle.std.specs.Int.RustNames.{unsigned_abs}
 use Rattle.dg_chips.specs.Vector.{Vector, at}
@@ -28,16 +28,16 @@ AddUpToFewForTrials n D = degree n D ≤ℤ pos 32000000
 abbrev pub WinsWithoutTrial : Multigraph → Amounts → List ℕ → Type 0
 WinsWithoutTrial g D E = IsWinnable g (less D (amounts_of_trial E))
 
-abbrev pub AllWin : Multigraph → Amounts → ℕ → ℕ → ℕ → Type 0
-AllWin g D k i j = (m : ℕ) → i ≤ m → m < j → WinsWithoutTrial g D (nth_trial g.size k m)
+abbrev pub AllTrialsWin : Multigraph → Amounts → ℕ → ℕ → ℕ → Type 0
+AllTrialsWin g D k i j = (m : ℕ) → i ≤ m → m < j → WinsWithoutTrial g D (nth_trial g.size k m)
 
-pub record IsFirstLossIn (g : Multigraph) (D : Amounts) (k i j : ℕ) (E : List ℕ) : Type 0 where
+pub record IsFirstLossOfTrials (g : Multigraph) (D : Amounts) (k i j : ℕ) (E : List ℕ) : Type 0 where
   pub number : ℕ
   pub from : i ≤ number
   pub to : number < j
   pub trial : E ≡ nth_trial g.size k number
   pub loses : ¬ WinsWithoutTrial g D E
-  pub first : AllWin g D k i number
+  pub first : AllTrialsWin g D k i number
 
 pub record IsTrialLeftBeforeLast (g : Multigraph) (D : Amounts) (E : List ℕ) (x : Vector) : Type 0 where
   pub left : IsEffectiveDivisor g (λ v. less D (amounts_of_trial E) v +ℤ only_at (g.size - 1) (pos (slice_index E (g.size -

@@ -8,9 +8,9 @@
 --   RefusesBothRanks g D         == the residual of D is in range, and D or the residual needs too many rank
 --                                   tests
 --   how_many_trial_places n S    == how many of n vertices are in the set S
---   IsAskedSet g A               == A is the determining set of g: what is left of all vertices if each, from
+--   IsSetAskedByTrials g A       == A is the determining set of g: what is left of all vertices if each, from
 --                                   the first on, is left out where that can be
---   IsPastAsked g k              == the trials of degree k that hold nothing outside this set are past the
+--   IsPastAskedTrials g k        == the trials of degree k that hold nothing outside this set are past the
 --                                   limits
 --   IsRankTestOpen g D k         == no law of the degree tells whether the rank of D is at least k: k is at
 --                                   most half the degree, and D less k dollars holds less than the genus
@@ -25,7 +25,7 @@
 --                                   need
 --   FailsRankTestsFirstAt g D k  == k is the least degree of the rank tests that D fails
 --   MayHaveRankWorkers w         == a rank test may have w workers
---   IsRankFault n k w e          == a rank test with w workers is refused for this cause, and for no earlier
+--   IsRankTestFault n k w e      == a rank test with w workers is refused for this cause, and for no earlier
 --                                   one, and never for want of memory; whether a thread really did not start,
 --                                   no definition can say
 use Rattle.std.specs.Prelude.{if◌then◌else◌, nat_lt, ◌≡◌, ℕ, ◌<◌, ◌≤◌, ◌⊎◌, ℤ, pos, ◌+ℤ◌, ◌-ℤ◌, ◌≤ℤ◌, ◌<ℤ◌, Bool, MatchBool, Result, Ok, Err}
@@ -35,13 +35,13 @@ use Rattle.dg_theory.specs.Multigraph.{Multigraph, genus}
 use Rattle.dg_theory.specs.Sums.{total_below}
 use Rattle.dg_theory.specs.Rank.{less, canonical, HasRankAtLeast, IsRank}
 use Rattle.dg_burn.specs.Special.{IsGreedyDeterminingSet}
-use Rattle.dg_rank.specs.Limits.{IsWithinLimits, ArePastTrialLimits}
+use Rattle.dg_rank.specs.Limits.{AreTrialsWithinLimits, ArePastTrialLimits}
 use Rattle.dg_rank.specs.declared.rank_fault.RankFault.{RankFault}
 use Rattle.dg_rank.specs.declared.rank_fault.RankFault.TheVariants.{TooMany, Workers, OutOfMemory, Spawn}
 use Rattle.dg_rank.specs.declared.workers.TheConstants.{MAX_WORKERS}
 
 abbrev pub IsRankTestWithinLimits : ℕ → ℕ → Type 0
-IsRankTestWithinLimits n k = (c : ℕ) × IsWithinLimits n k c
+IsRankTestWithinLimits n k = (c : ℕ) × AreTrialsWithinLimits n k c
 
 pub record IsRankInLimits (g : Multigraph) (D : Amounts) (r : ℤ) : Type 0 where
   pub is_rank : IsRank g D r
@@ -68,12 +68,12 @@ pub record RefusesBothRanks (g : Multigraph) (D : Amounts) : Type 0 where
 abbrev pub how_many_trial_places : ℕ → (ℕ → Bool) → ℕ
 how_many_trial_places n S = total_below n (λ v. if S v then 1 else 0)
 
-abbrev pub IsAskedSet : Multigraph → (ℕ → Bool) → Type 0
-IsAskedSet g A = IsGreedyDeterminingSet g (λ v. nat_lt v g.size) A
+abbrev pub IsSetAskedByTrials : Multigraph → (ℕ → Bool) → Type 0
+IsSetAskedByTrials g A = IsGreedyDeterminingSet g (λ v. nat_lt v g.size) A
 
-pub record IsPastAsked (g : Multigraph) (k : ℕ) : Type 0 where
+pub record IsPastAskedTrials (g : Multigraph) (k : ℕ) : Type 0 where
   pub set : ℕ → Bool
-  pub asked : IsAskedSet g set
+  pub asked : IsSetAskedByTrials g set
   pub past : ArePastTrialLimits (how_many_trial_places g.size set) k
 
 pub record IsRankTestOpen (g : Multigraph) (D : Amounts) (k : ℕ) : Type 0 where
@@ -83,8 +83,8 @@ pub record IsRankTestOpen (g : Multigraph) (D : Amounts) (k : ℕ) : Type 0 wher
 pub record BothArePast (g : Multigraph) (D : Amounts) (k : ℕ) : Type 0 where
   pub other : ℕ
   pub dual : pos k -ℤ pos other ≡ (degree g.size D +ℤ pos 1) -ℤ genus g
-  pub past : IsPastAsked g k
-  pub dual_past : IsPastAsked g other
+  pub past : IsPastAskedTrials g k
+  pub dual_past : IsPastAskedTrials g other
 
 pub record IsRankUntold (g : Multigraph) (D : Amounts) (k : ℕ) : Type 0 where
   pub is_open : IsRankTestOpen g D k
@@ -110,8 +110,8 @@ pub record FailsRankTestsFirstAt (g : Multigraph) (D : Amounts) (k : ℕ) : Type
 abbrev pub MayHaveRankWorkers : ℕ → Type 0
 MayHaveRankWorkers w = (1 ≤ w) × (w ≤ MAX_WORKERS)
 
-abbrev pub IsRankFault : ℕ → ℕ → ℕ → RankFault → Type 0
-IsRankFault n k w TooMany = ArePastTrialLimits n k
-IsRankFault n k w Workers = IsRankTestWithinLimits n k × (¬ MayHaveRankWorkers w)
-IsRankFault n k w OutOfMemory = ⊥
-IsRankFault n k w Spawn = IsRankTestWithinLimits n k × MayHaveRankWorkers w
+abbrev pub IsRankTestFault : ℕ → ℕ → ℕ → RankFault → Type 0
+IsRankTestFault n k w TooMany = ArePastTrialLimits n k
+IsRankTestFault n k w Workers = IsRankTestWithinLimits n k × (¬ MayHaveRankWorkers w)
+IsRankTestFault n k w OutOfMemory = ⊥
+IsRankTestFault n k w Spawn = IsRankTestWithinLimits n k × MayHaveRankWorkers w

@@ -4,7 +4,7 @@
 --   IsTrialBefore E F            == E holds less than F at the first place at which they differ
 --   IsTrialNumbering n k P c nth == the trials with the property P are nth 0, nth 1, .. up to nth (c - 1), in
 --                                   their order, each once
---   AreCounted n k P c           == there are c trials with the property P
+--   AreTrialsCounted n k P c     == there are c trials with the property P
 --   AnyTrial E                   == the property that every trial has
 use Rattle.std.specs.Prelude.{◌≡◌, ℕ, ◌<◌, ⊤, List, length, slice_index}
 use Rattle.std.specs.List.{sum}
@@ -23,8 +23,8 @@ pub record IsTrialNumbering (n k : ℕ) (P : List ℕ → Type 0) (c : ℕ) (nth
   pub all : (E : List ℕ) → IsTrial n k E → P E → (i : ℕ) × (i < c) × (nth i ≡ E)
   pub ascending : (i j : ℕ) → i < j → j < c → IsTrialBefore (nth i) (nth j)
 
-abbrev pub AreCounted : ℕ → ℕ → (List ℕ → Type 0) → ℕ → Type 0
-AreCounted n k P c = (nth : ℕ → List ℕ) × IsTrialNumbering n k P c nth
+abbrev pub AreTrialsCounted : ℕ → ℕ → (List ℕ → Type 0) → ℕ → Type 0
+AreTrialsCounted n k P c = (nth : ℕ → List ℕ) × IsTrialNumbering n k P c nth
 
 abbrev pub AnyTrial : List ℕ → Type 0
 AnyTrial E = ⊤

@@ -5,9 +5,9 @@ ghost use Rattle.dg_theory.specs.Firing.{IsEffective};
 ghost use Rattle.dg_graph.specs.Sets.{in_set};
 ghost use Rattle.dg_chips.specs.Vector.{at};
 ghost use Rattle.dg_rank.specs.Asked.{AreSetsForTrials, IsSetForTrials};
-ghost use Rattle.dg_rank.specs.Boxes.{WinFrom, IsLossFrom};
+ghost use Rattle.dg_rank.specs.Boxes.{TrialsWinFrom, IsTrialLossFrom};
 ghost use Rattle.dg_rank.specs.Losses.{AddUpToFewForTrials};
-ghost use Rattle.dg_rank.specs.Ranks.{IsPastAsked, how_many_trial_places};
+ghost use Rattle.dg_rank.specs.Ranks.{IsPastAskedTrials, how_many_trial_places};
 
 use crate::boxes::{Stopped, find_in_box};
 use crate::counting::trials;
@@ -36,8 +36,8 @@ pub(crate) fn find_from(
     requires made { AreSetsForTrials graph.now made.old }
     ensures made { AreSetsForTrials graph.now made.new }
     ensures told { MatchOption result
-        (WinFrom graph.now (at left.now) dollars place)
-        (IsLossFrom graph.now (at left.now) dollars place) }
+        (TrialsWinFrom graph.now (at left.now) dollars place)
+        (IsTrialLossFrom graph.now (at left.now) dollars place) }
 {
     let size = graph.size();
     let mut boxes = FEW_BOXES;
@@ -60,7 +60,7 @@ pub(crate) fn may_make_trials(graph: &Graph, made: &mut [u16; 16], k: u32) -> bo
     requires made { AreSetsForTrials graph.now made.old }
     ensures made { AreSetsForTrials graph.now made.new }
     ensures few { MatchBool result (k ≤ 1000) ⊤ }
-    ensures asked { MatchBool result (¬ IsPastAsked graph.now k) (IsPastAsked graph.now k) }
+    ensures asked { MatchBool result (¬ IsPastAskedTrials graph.now k) (IsPastAskedTrials graph.now k) }
 {
     let size = graph.size();
     if let Some(_count) = trials(size, k) {

@@ -4,7 +4,7 @@ ghost use Rattle.dg_theory.specs.Firing.{IsEffective};
 ghost use Rattle.dg_chips.specs.Vector.{at};
 ghost use Rattle.dg_rank.specs.Losses.{AddUpToFewForTrials};
 ghost use Rattle.dg_rank.specs.Asked.{AreSetsForTrials};
-ghost use Rattle.dg_rank.specs.Boxes.{IsLossFrom, IsFirstFrom};
+ghost use Rattle.dg_rank.specs.Boxes.{IsTrialLossFrom, IsFirstTrialFrom};
 
 use crate::asked::find_from;
 use crate::boxes::left_in_box_after;
@@ -28,9 +28,9 @@ pub(crate) fn first_loss_from(
     requires few { dollars ≤ 1000 }
     requires place { place < graph.now.size }
     requires made { AreSetsForTrials graph.now made.old }
-    requires known { IsLossFrom graph.now (at left.now) dollars place known }
+    requires known { IsTrialLossFrom graph.now (at left.now) dollars place known }
     ensures made { AreSetsForTrials graph.now made.new }
-    ensures first { IsFirstFrom graph.now (at left.now) dollars place result }
+    ensures first { IsFirstTrialFrom graph.now (at left.now) dollars place result }
 {
     let size = graph.size();
     if place + 1 == size {

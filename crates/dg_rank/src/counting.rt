@@ -1,7 +1,7 @@
 //! How many trials of a degree there are, and which one has a number.
 ghost use Rattle.std.specs.Prelude.{◌≡◌, ℕ, ◌+◌, ◌<◌, ◌≤◌, MatchOption, min};
 ghost use Rattle.dg_rank.specs.Divisors.{IsTrialNumber};
-ghost use Rattle.dg_rank.specs.Limits.{IsWithinLimits, ArePastTrialLimits};
+ghost use Rattle.dg_rank.specs.Limits.{AreTrialsWithinLimits, ArePastTrialLimits};
 ghost use Rattle.dg_rank.specs.Numbering.{trial_count};
 
 use crate::enumeration::Trial;
@@ -17,7 +17,7 @@ pub const MAX_TRIALS: u32 = 200_000;
 /// How many trials of degree k there are on n vertices: effective divisors of that degree. `None` if n is not 1 to
 /// 16, if k is above 1,000, or if there are more than 200,000.
 pub fn trials(n: usize, k: u32) -> Option<u32>
-    ensures { MatchOption result (ArePastTrialLimits n k) (IsWithinLimits n k) }
+    ensures { MatchOption result (ArePastTrialLimits n k) (AreTrialsWithinLimits n k) }
 {
     if n < 1 || n > MAX_VERTICES || k > MAX_DEGREE {
         return None;
@@ -32,7 +32,7 @@ pub fn trials(n: usize, k: u32) -> Option<u32>
 /// The trial of degree k on n vertices that has exactly i trials before it; one is before another if it holds less
 /// at the first vertex at which they differ. The condition is that i is below the number of trials.
 pub fn trial(n: usize, k: u32, i: u32) -> Divisor
-    requires { (c : ℕ) × IsWithinLimits n k c × (i < c) }
+    requires { (c : ℕ) × AreTrialsWithinLimits n k c × (i < c) }
     ensures { IsTrialNumber n k i result }
 {
     Trial::trial_with_number(n, k, i).trial_as_divisor()

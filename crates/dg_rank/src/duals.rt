@@ -29,7 +29,7 @@ pub fn has_rank(graph: &Graph, q: usize, divisor: &Divisor, k: u32) -> Result<bo
     requires vertex { q < graph.now.size }
     ensures { DecidesRankTest graph.now (at divisor.now) k result }
 {
-    passes(
+    passes_rank_test(
         graph,
         &InverseLaplacian::new(graph, 0),
         &mut [0; 16],
@@ -39,7 +39,7 @@ pub fn has_rank(graph: &Graph, q: usize, divisor: &Divisor, k: u32) -> Result<bo
 }
 
 /// What `has_rank` answers, with any inverse. The determining sets that were made for the graph are kept.
-pub(crate) fn passes(
+pub(crate) fn passes_rank_test(
     graph: &Graph,
     inverse: &InverseLaplacian,
     made: &mut [u16; 16],
@@ -62,14 +62,14 @@ pub(crate) fn passes(
     if rest < i64::from(k) {
         return Ok(false);
     }
-    let other = degree_of_dual(graph, divisor, k);
+    let other = rank_degree_of_dual(graph, divisor, k);
     if !may_make_trials(graph, made, k.min(other)) {
         return Err(RankFault::TooMany);
     }
     if k <= other {
-        Ok(all_win(graph, inverse, made, &Wide::of(divisor), k))
+        Ok(all_trials_win(graph, inverse, made, &Wide::of(divisor), k))
     } else {
-        Ok(all_win(graph, inverse, made, &dual_of(graph, divisor), other))
+        Ok(all_trials_win(graph, inverse, made, &dual_for_rank(graph, divisor), other))
     }
 }
 
@@ -83,7 +83,7 @@ pub(crate) fn degree_left(divisor: &Divisor, k: u32) -> i64
 
 /// Whether the residual tells that a divisor passes a test: if no law of the degree tells it, and the residual's own test has
 /// fewer dollars to take, and passes.
-pub(crate) fn dual_wins(
+pub(crate) fn dual_passes_rank_test(
     graph: &Graph,
     inverse: &InverseLaplacian,
     made: &mut [u16; 16],
@@ -102,12 +102,12 @@ pub(crate) fn dual_wins(
     if rest < i64::from(k) || rest >= i64::from(graph.genus()) {
         return false;
     }
-    let other = degree_of_dual(graph, divisor, k);
-    other < k && all_win(graph, inverse, made, &dual_of(graph, divisor), other)
+    let other = rank_degree_of_dual(graph, divisor, k);
+    other < k && all_trials_win(graph, inverse, made, &dual_for_rank(graph, divisor), other)
 }
 
 /// The degree at which the residual passes its test exactly if the divisor passes the test of degree k.
-pub(crate) fn degree_of_dual(graph: &Graph, divisor: &Divisor, k: u32) -> u32
+pub(crate) fn rank_degree_of_dual(graph: &Graph, divisor: &Divisor, k: u32) -> u32
     requires size { divisor.now.size ≡ graph.now.size }
     requires low { k ≤ unsigned_abs (degree graph.now.size (at divisor.now)) + 1 }
     requires poor { degree graph.now.size (at divisor.now) <ℤ (genus graph.now +ℤ pos k) }
@@ -130,7 +130,7 @@ pub(crate) fn ranks_apart(graph: &Graph, divisor: &Divisor) -> i64
 }
 
 /// The residual of a divisor: the canonical divisor less it.
-fn dual_of(graph: &Graph, divisor: &Divisor) -> Wide
+fn dual_for_rank(graph: &Graph, divisor: &Divisor) -> Wide
     requires { divisor.now.size ≡ graph.now.size }
     ensures size { result.size ≡ graph.now.size }
     ensures amounts { (v : ℕ) → v < graph.now.size →
@@ -146,7 +146,7 @@ fn dual_of(graph: &Graph, divisor: &Divisor) -> Wide
 }
 
 /// Whether all trials of degree k win.
-fn all_win(
+fn all_trials_win(
     graph: &Graph,
     inverse: &InverseLaplacian,
     made: &mut [u16; 16],

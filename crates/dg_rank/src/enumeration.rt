@@ -1,7 +1,7 @@
 //! Trials in their order: the one with a number, the next one, and each as a divisor.
 ghost use Rattle.std.specs.Prelude.{◌≡◌, ℕ, suc, ◌<◌, ◌≤◌, ◌+◌, ◌-◌, ◌∷◌, length, slice_index, slice_set};
 ghost use Rattle.std.specs.List.{sum};
-ghost use Rattle.dg_rank.specs.Limits.{IsWithinLimits};
+ghost use Rattle.dg_rank.specs.Limits.{AreTrialsWithinLimits};
 ghost use Rattle.dg_rank.specs.Numbering.{trial_count, nth_trial};
 ghost use Rattle.dg_rank.specs.Divisors.{HoldsTrial};
 
@@ -70,7 +70,7 @@ impl Trial {
 
     /// The trial of degree k on n vertices with this number, counted from 0 in the order of trials.
     pub fn trial_with_number(n: usize, k: u32, i: u32) -> Trial
-        requires { (c : ℕ) × IsWithinLimits n k c × (i < c) }
+        requires { (c : ℕ) × AreTrialsWithinLimits n k c × (i < c) }
         ensures { result ≡ nth_trial n k i }
     {
         let mut trial = Trial {

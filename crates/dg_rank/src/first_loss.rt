@@ -4,9 +4,9 @@ ghost use Rattle.std.specs.List.{sum};
 ghost use Rattle.dg_graph.specs.Graph.{IsGraph};
 ghost use Rattle.dg_chips.specs.Vector.{at};
 ghost use Rattle.dg_rank.specs.Asked.{AreSetsForTrials};
-ghost use Rattle.dg_rank.specs.Limits.{IsWithinLimits};
+ghost use Rattle.dg_rank.specs.Limits.{AreTrialsWithinLimits};
 ghost use Rattle.dg_rank.specs.Numbering.{nth_trial, trial_count};
-ghost use Rattle.dg_rank.specs.Losses.{AreSmallForTrials, WinsWithoutTrial, AllWin, IsFirstLossIn, IsTrialLeftBeforeLast};
+ghost use Rattle.dg_rank.specs.Losses.{AreSmallForTrials, WinsWithoutTrial, AllTrialsWin, IsFirstLossOfTrials, IsTrialLeftBeforeLast};
 ghost use Rattle.dg_rank.specs.declared.counting.TheConstants.{MAX_TRIALS};
 
 use crate::asked::find_from;
@@ -30,12 +30,12 @@ pub fn first_loss(
 ) -> Option<Trial>
     requires size { chips.now.size ≡ graph.now.size }
     requires range { AreSmallForTrials graph.now.size (at chips.now) }
-    requires limits { (c : ℕ) × IsWithinLimits graph.now.size k c × (to ≤ c) }
+    requires limits { (c : ℕ) × AreTrialsWithinLimits graph.now.size k c × (to ≤ c) }
     requires made { AreSetsForTrials graph.now made.old }
     ensures made { AreSetsForTrials graph.now made.new }
     ensures first { MatchOption result
-        (AllWin graph.now (at chips.now) k from to)
-        (IsFirstLossIn graph.now (at chips.now) k from to) }
+        (AllTrialsWin graph.now (at chips.now) k from to)
+        (IsFirstLossOfTrials graph.now (at chips.now) k from to) }
 {
     let size = graph.size();
     let mut number = from;
@@ -87,15 +87,15 @@ pub(crate) fn first_trial_in_block(
     requires range { AreSmallForTrials graph.now.size (at chips.now) }
     requires place { place < graph.now.size }
     requires made { AreSetsForTrials graph.now made.old }
-    requires trial { (k : ℕ) × (c : ℕ) × (i : ℕ) × IsWithinLimits graph.now.size k c × (i < c) ×
+    requires trial { (k : ℕ) × (c : ℕ) × (i : ℕ) × AreTrialsWithinLimits graph.now.size k c × (i < c) ×
         (trial ≡ nth_trial graph.now.size k i) }
     requires empty { (u : ℕ) → place ≤ u → u + 1 < graph.now.size → slice_index trial u ≡ 0 }
     ensures made { AreSetsForTrials graph.now made.new }
-    ensures first { (k c i : ℕ) → IsWithinLimits graph.now.size k c → i < c →
+    ensures first { (k c i : ℕ) → AreTrialsWithinLimits graph.now.size k c → i < c →
         trial ≡ nth_trial graph.now.size k i → MatchOption result
-        (AllWin graph.now (at chips.now) k i (i + trial_count (graph.now.size - place)
+        (AllTrialsWin graph.now (at chips.now) k i (i + trial_count (graph.now.size - place)
         (slice_index trial (graph.now.size - 1))))
-        (IsFirstLossIn graph.now (at chips.now) k i (i + trial_count (graph.now.size - place)
+        (IsFirstLossOfTrials graph.now (at chips.now) k i (i + trial_count (graph.now.size - place)
         (slice_index trial (graph.now.size - 1)))) }
 {
     let dollars = trial.get(graph.size() - 1);

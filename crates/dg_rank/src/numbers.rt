@@ -7,7 +7,7 @@ ghost use Rattle.dg_chips.specs.Vector.{at};
 ghost use Rattle.dg_rank.specs.Ranks.{AreBothRanks, IsRankInLimits, AreRanksInLimits, NeedsTooMany, EitherNeedsTooMany, NeedsPastTests, FailsRankTestsFirstAt};
 
 use crate::counting::trials;
-use crate::duals::{degree_of_dual, passes, ranks_apart};
+use crate::duals::{passes_rank_test, rank_degree_of_dual, ranks_apart};
 use dg_chips::Divisor;
 use dg_graph::Graph;
 use dg_reduce::InverseLaplacian;
@@ -70,7 +70,7 @@ pub fn both_ranks_in_limits(graph: &Graph, q: usize, divisor: &Divisor) -> Optio
 {
     let size = graph.size();
     let fails = first_failing(graph, &InverseLaplacian::new(graph, 0), divisor)?;
-    let dual_fails = degree_of_dual(graph, divisor, fails);
+    let dual_fails = rank_degree_of_dual(graph, divisor, fails);
     trials(size, fails)?;
     trials(size, dual_fails)?;
     Some((i64::from(fails) - 1, i64::from(dual_fails) - 1))
@@ -91,7 +91,7 @@ fn first_failing(graph: &Graph, inverse: &InverseLaplacian, divisor: &Divisor) -
     let end = first.max(i64::from(graph.genus())) + 1;
     let mut made = [0; 16];
     for k in first as u32..end as u32 {
-        match passes(graph, inverse, &mut made, divisor, k) {
+        match passes_rank_test(graph, inverse, &mut made, divisor, k) {
             Ok(true) => {}
             Ok(false) => return Some(k),
             Err(_) => return None,

@@ -1,6 +1,6 @@
 //! Pieces of the trials of a rank test, each with a thread of its own.
 ghost use Rattle.std.specs.Prelude.{◌≡◌, ℕ, ◌+◌, ◌<◌, ◌≤◌, MatchResult};
-ghost use Rattle.dg_rank.specs.Pieces.{piece_start, CanSearch, TellsFirstLossOfTrials};
+ghost use Rattle.dg_rank.specs.Pieces.{start_of_trials, CanSearch, TellsFirstLossOfTrials};
 ghost use Rattle.dg_rank.specs.declared.pieces.Search.{Search};
 ghost use Rattle.dg_rank.specs.Ranks.{MayHaveRankWorkers};
 ghost use Rattle.dg_rank.specs.declared.rank_fault.RankFault.TheVariants.{Spawn};
@@ -42,7 +42,7 @@ pub(crate) fn first_loss_among<R: Threads + Wait, G: Gate>(
     requires workers { MayHaveRankWorkers search.now.workers }
     requires piece { piece ≤ search.now.workers }
     ensures { MatchResult result
-        (TellsFirstLossOfTrials search.now (piece_start search.now piece) search.now.count)
+        (TellsFirstLossOfTrials search.now (start_of_trials search.now piece) search.now.count)
         (λ e. e ≡ Spawn) }
 {
     if piece == search.workers {
@@ -52,14 +52,14 @@ pub(crate) fn first_loss_among<R: Threads + Wait, G: Gate>(
     let mut here = || -> Option<Trial>
         requires { CanSearch search.now × MayHaveRankWorkers search.now.workers ×
             (piece < search.now.workers) }
-        ensures { TellsFirstLossOfTrials search.entry.now (piece_start search.entry.now piece)
-            (piece_start search.entry.now (piece + 1)) result }
+        ensures { TellsFirstLossOfTrials search.entry.now (start_of_trials search.entry.now piece)
+            (start_of_trials search.entry.now (piece + 1)) result }
     { first_loss_of(search, gate, piece) };
     let mut later = || -> Result<Option<Trial>, RankFault>
         requires { CanSearch search.now × MayHaveRankWorkers search.now.workers ×
             (next ≤ search.now.workers) }
         ensures { MatchResult result
-            (TellsFirstLossOfTrials search.entry.now (piece_start search.entry.now next) search.entry.now.count)
+            (TellsFirstLossOfTrials search.entry.now (start_of_trials search.entry.now next) search.entry.now.count)
             (λ e. e ≡ Spawn) }
     { first_loss_among(rt, search, gate, next) };
     let (here, later) = match in_parallel(rt, &mut here, &mut later) {
@@ -88,7 +88,8 @@ fn first_loss_of<G: Gate>(search: &Search, gate: &G, piece: u32) -> Option<Trial
     requires search { CanSearch search.now }
     requires workers { MayHaveRankWorkers search.now.workers }
     requires piece { piece < search.now.workers }
-    ensures { TellsFirstLossOfTrials search.now (piece_start search.now piece) (piece_start search.now (piece + 1)) result }
+    ensures { TellsFirstLossOfTrials search.now (start_of_trials search.now piece)
+        (start_of_trials search.now (piece + 1)) result }
 {
     let piece = enter(gate, piece);
     first_loss(
@@ -115,7 +116,7 @@ fn start_of(search: &Search, piece: u32) -> u32
     requires search { CanSearch search.now }
     requires workers { MayHaveRankWorkers search.now.workers }
     requires piece { piece ≤ search.now.workers }
-    ensures { result ≡ piece_start search.now piece }
+    ensures { result ≡ start_of_trials search.now piece }
 {
     piece * search.count / search.workers
 }

@@ -4,14 +4,14 @@ ghost use Rattle.std.specs.List.{sum};
 ghost use Rattle.dg_theory.specs.Multigraph.{Multigraph};
 ghost use Rattle.dg_theory.specs.Firing.{Amounts, AreEquivalent};
 ghost use Rattle.dg_chips.specs.Vector.{at};
-ghost use Rattle.dg_rank.specs.Limits.{IsWithinLimits};
-ghost use Rattle.dg_rank.specs.Losses.{AllWin, IsFirstLossIn};
+ghost use Rattle.dg_rank.specs.Limits.{AreTrialsWithinLimits};
+ghost use Rattle.dg_rank.specs.Losses.{AllTrialsWin, IsFirstLossOfTrials};
 ghost use Rattle.dg_verdict.specs.RankTests.{IsRightRankVerdict};
 ghost use Rattle.dg_rank.specs.Ladders.{AnswersRankTest};
 ghost use Rattle.dg_rank.specs.Ranks.{IsRankTestWithinLimits};
 
 use crate::counting::trials;
-use crate::duals::{degree_left, dual_wins};
+use crate::duals::{degree_left, dual_passes_rank_test};
 use crate::enumeration::Trial;
 use crate::first_loss::first_trial_in_block;
 use crate::rank_fault::RankFault;
@@ -39,7 +39,7 @@ pub fn rank_at_least(
     let Some(_count) = trials(size, k) else {
         return Err(RankFault::TooMany);
     };
-    if let Some(verdict) = settled(graph, divisor, k) {
+    if let Some(verdict) = rank_by_degree(graph, divisor, k) {
         return Ok(verdict);
     }
     let inverse = InverseLaplacian::new(graph, 0);
@@ -64,7 +64,7 @@ pub fn rank_at_least_by(
     let Some(_count) = trials(size, k) else {
         return Err(RankFault::TooMany);
     };
-    if let Some(verdict) = settled(graph, divisor, k) {
+    if let Some(verdict) = rank_by_degree(graph, divisor, k) {
         return Ok(verdict);
     }
     Ok(tested(graph, inverse, divisor, k))
@@ -81,7 +81,7 @@ fn tested(graph: &Graph, inverse: &InverseLaplacian, divisor: &Divisor, k: u32) 
     // The clause of `size` says that the amounts are within their limit.
     let _amounts = divisor.size();
     let mut made = [0; 16];
-    if dual_wins(graph, inverse, &mut made, divisor, k) {
+    if dual_passes_rank_test(graph, inverse, &mut made, divisor, k) {
         return RankVerdict::AtLeast(k);
     }
     let first = Trial::trial_at_last(size, k);
@@ -90,7 +90,7 @@ fn tested(graph: &Graph, inverse: &InverseLaplacian, divisor: &Divisor, k: u32) 
 }
 
 /// The answer of a rank test that the degree alone settles. `None` if trials must be made.
-pub(crate) fn settled(graph: &Graph, divisor: &Divisor, k: u32) -> Option<RankVerdict>
+pub(crate) fn rank_by_degree(graph: &Graph, divisor: &Divisor, k: u32) -> Option<RankVerdict>
     requires size { divisor.now.size ≡ graph.now.size }
     requires limits { IsRankTestWithinLimits graph.now.size k }
     ensures { MatchOption result
@@ -112,9 +112,9 @@ pub(crate) fn settled(graph: &Graph, divisor: &Divisor, k: u32) -> Option<RankVe
 /// The answer if this is the first loss of all trials, or if none was found.
 pub(crate) fn rank_verdict_of(k: u32, loss: Option<Trial>) -> RankVerdict
     requires { MatchOption loss ⊤ (λ E. sum E ≤ 1000) }
-    ensures { (g : Multigraph) (D x : Amounts) (c : ℕ) → IsWithinLimits g.size k c →
+    ensures { (g : Multigraph) (D x : Amounts) (c : ℕ) → AreTrialsWithinLimits g.size k c →
         AreEquivalent g D x →
-        MatchOption loss (AllWin g x k 0 c) (IsFirstLossIn g x k 0 c) →
+        MatchOption loss (AllTrialsWin g x k 0 c) (IsFirstLossOfTrials g x k 0 c) →
         IsRightRankVerdict g D k result }
 {
     match loss {

@@ -2,12 +2,12 @@
 ghost use Rattle.std.specs.Prelude.{◌≡◌, ◌<◌, ◌≤◌, ⊤, MatchOption, MatchResult};
 ghost use Rattle.dg_chips.specs.Vector.{at};
 ghost use Rattle.dg_verdict.specs.RankTests.{IsRightRankVerdict};
-ghost use Rattle.dg_rank.specs.Ranks.{IsRankTestWithinLimits, IsRankFault, MayHaveRankWorkers};
+ghost use Rattle.dg_rank.specs.Ranks.{IsRankTestWithinLimits, IsRankTestFault, MayHaveRankWorkers};
 
 use crate::counting::trials;
 use crate::pieces::{Search, first_loss_among};
 use crate::rank_fault::RankFault;
-use crate::ranks::{rank_verdict_of, settled};
+use crate::ranks::{rank_by_degree, rank_verdict_of};
 use dg_chips::{Divisor, Wide};
 use dg_graph::Graph;
 use dg_verdict::RankVerdict;
@@ -55,7 +55,7 @@ pub fn rank_with<R: Threads + Wait, G: Gate>(
     ensures { MatchResult result
         (λ x. IsRankTestWithinLimits graph.now.size k × MayHaveRankWorkers workers ×
         IsRightRankVerdict graph.now (at divisor.now) k x)
-        (IsRankFault graph.now.size k workers) }
+        (IsRankTestFault graph.now.size k workers) }
 {
     let size = graph.size();
     let Some(count) = trials(size, k) else {
@@ -64,7 +64,7 @@ pub fn rank_with<R: Threads + Wait, G: Gate>(
     if workers < 1 || workers > MAX_WORKERS {
         return Err(RankFault::Workers);
     }
-    let known = settled(graph, divisor, k);
+    let known = rank_by_degree(graph, divisor, k);
     // The clause of `size` says that the amounts are within their limit.
     let _amounts = divisor.size();
     let search = Search {

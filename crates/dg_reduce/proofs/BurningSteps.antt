@@ -4,7 +4,7 @@
 --   burning_down-more         it holds after one more such set
 --   burning_down-falls        and the weight falls
 --   burning_down-chips, burning_down-script   amounts and script are within the limits of a firing
-use Rattle.dg_reduce.proofs.Common.{◌≡◌, ℕ, ◌+◌, ◌*◌, ◌^◌, ◌<◌, ◌≤◌, Bool, true, false, arith, sym, ◌∙◌, refl, ints, ℤ, pos, ◌+ℤ◌, ◌-ℤ◌, unsigned_abs, Multigraph, fired, indicator, multiple, IsDistance, within_abs, abs_within, multiple-off, weights, levels_are_potential, weight_of, weight_of-cong, weight_falls_by_firings, IsLed, clear_all, led_start, led_step, led-cong, led_limit, script_between, IsGraph, at, Walk, IsTiedInReduction, IsFiredInReduction, IsCleared, IsMostFirings}
+use Rattle.dg_reduce.proofs.Common.{◌≡◌, ℕ, ◌+◌, ◌*◌, ◌^◌, ◌<◌, ◌≤◌, Bool, true, false, arith, sym, ◌∙◌, refl, ints, ℤ, pos, ◌+ℤ◌, ◌-ℤ◌, unsigned_abs, Multigraph, fired, indicator, multiple, IsDistance, within_abs, abs_within, multiple-off, weights, levels_are_potential, weight_of, weight_of-cong, weight_falls_by_firings, IsLed, clear_all, led_start, led_step, led-cong, led_limit, script_between, IsGraph, at, Walk, IsTiedInReduction, IsFiredInReduction, IsCleared, IsMostReducingFirings}
 use Rattle.dg_reduce.specs.States.{level_limit_at}
 use Rattle.dg_reduce.proofs.LevelLimits.{level_limit_at-small}
 
@@ -25,7 +25,8 @@ burning_down-start g q level x distance cleared = record {
 }
 
 pub burning_down-more : (g : Multigraph) (q : ℕ) (S : ℕ → Bool) (m : ℤ) (x y z : Walk) → IsGraph g → q < g.size →
-    IsBurningDown g q x y → S q ≡ false → IsMostFirings g q (at y.chips) S m → IsFiredInReduction g S m y z → IsBurningDown g
+    IsBurningDown g q x y → S q ≡ false → IsMostReducingFirings g q (at y.chips) S m → IsFiredInReduction g S m y z
+    → IsBurningDown g
     q x z
 burning_down-more g q S m x y z graph vertex state without most fires = record {
   tied = fires.tied;
@@ -43,7 +44,8 @@ burning_down-more g q S m x y z graph vertex state without most fires = record {
 
 pub burning_down-falls : (g : Multigraph) (q : ℕ) (level : ℕ → ℕ) (S : ℕ → Bool) (m : ℤ) (x y z : Walk) (v : ℕ) →
     IsGraph g →
-    IsDistance g q level → IsBurningDown g q x y → S q ≡ false → IsMostFirings g q (at y.chips) S m → v < g.size → S v ≡ true →
+    IsDistance g q level → IsBurningDown g q x y → S q ≡ false → IsMostReducingFirings g q (at y.chips) S m → v < g.size → S v
+    ≡ true →
     IsFiredInReduction g S m y z → weight_of g (weights level) (at z.chips) < weight_of g (weights level) (at y.chips)
 burning_down-falls g q level S m x y z v graph distance state without most inside member fires =
     let less : weight_of g (weights level) (fired g (at y.chips) (multiple m (indicator S)))

@@ -1,18 +1,18 @@
 -- The names that the proofs of this crate cite, passed on from one place. Declares nothing.
 pub use Rattle.dg_burn.proofs.Capped.{among-first, same-order}
 pub use Rattle.dg_burn.proofs.Told.{none_reduced, reduced_none, rest_is_free, unburnt_member}
-pub use Rattle.dg_burn.specs.Fires.{IsHeldForBurning, dollars}
+pub use Rattle.dg_burn.specs.Fires.{IsHeldForFire, dollars}
 pub use Rattle.dg_chips.proofs.FlowLaws.{times_held}
 pub use Rattle.dg_chips.specs.Vector.{IsWide, Vector, at}
 pub use Rattle.dg_graph.proofs.SetLaws.{in_set-none}
 pub use Rattle.dg_graph.proofs.Valences.{valence-few, valence-outside}
 pub use Rattle.dg_graph.specs.Graph.{IsGraph}
 pub use Rattle.dg_graph.specs.Sets.{in_set}
-pub use Rattle.dg_reduce.specs.Burnings.{IsGuessedOff, IsWholeBurning}
-pub use Rattle.dg_reduce.specs.Certificates.{IsBurningOrder}
+pub use Rattle.dg_reduce.specs.Burnings.{IsGuessedOff, IsReducedBurning}
+pub use Rattle.dg_reduce.specs.Certificates.{IsReducedOrder}
 pub use Rattle.dg_reduce.specs.Effective.{IsEffectiveDivisor}
-pub use Rattle.dg_reduce.specs.Firings.{IsMostFirings, LacksForFirings, LastsInReduction, SetSendsNothing, largest}
-pub use Rattle.dg_reduce.specs.Reaching.{HasNearer, IsReached, spread_level}
+pub use Rattle.dg_reduce.specs.Firings.{IsMostReducingFirings, LacksForReducingFirings, LastsInReduction, ReducingSetSendsNothing, largest}
+pub use Rattle.dg_reduce.specs.Reaching.{HasNearer, IsLevelReached, spread_level}
 pub use Rattle.dg_reduce.specs.Reductions.{IsOnlyReduction, IsReduction}
 pub use Rattle.dg_reduce.specs.States.{IsCleared, IsClearedOff, IsFiredInReduction, IsLargestDebt, IsTiedInReduction}
 pub use Rattle.dg_reduce.specs.declared.certificate.Burning.{Burning}
@@ -22,7 +22,7 @@ pub use Rattle.dg_theory.proofs.Absolute.{abs-add, abs_within, within_abs}
 pub use Rattle.dg_theory.proofs.Agreement.{agree-trans, reduced-cong}
 pub use Rattle.dg_theory.proofs.Bounds.{script_bound}
 pub use Rattle.dg_theory.proofs.BurningOrder.{q_burns}
-pub use Rattle.dg_theory.proofs.Climbs.{JoinedIn-leaves, Leaves}
+pub use Rattle.dg_theory.proofs.Climbs.{JoinedInMultigraph-leaves, Leaves}
 pub use Rattle.dg_theory.proofs.ConstantLaws.{same_by_constant}
 pub use Rattle.dg_theory.proofs.Debts.{fired_nearer, into-le-valence, nearer, out-le-valence}
 pub use Rattle.dg_theory.proofs.Distances.{not_q}
@@ -42,7 +42,7 @@ pub use Rattle.dg_theory.proofs.TotalLaws.{total_below-term}
 pub use Rattle.dg_theory.proofs.Weights.{weight_falls_by_firings, weight_falls_by_set, weight_of, weight_of-cong}
 pub use Rattle.dg_theory.specs.Burning.{BurnsInOrder, BurnsNext, FiresFreely, IsGreatestFree, MayBurn, among, edges_into}
 pub use Rattle.dg_theory.specs.Distances.{IsDistance}
-pub use Rattle.dg_theory.specs.Firing.{AgreeOn, Amounts, AreEquivalent, FiresTo, HasNoDebtOff, fired, gain, indicator, multiple}
+pub use Rattle.dg_theory.specs.Firing.{DivisorsAgreeOn, Amounts, AreEquivalent, FiresTo, HasNoDebtOff, fired, gain, indicator, multiple}
 pub use Rattle.dg_theory.specs.Multigraph.{IsMultigraph, Multigraph, edges_between, valence}
 pub use Rattle.dg_theory.specs.Play.{IsWinnable}
 pub use Rattle.dg_theory.specs.Reduced.{IsReduced, edges_out}

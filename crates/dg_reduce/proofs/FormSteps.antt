@@ -11,7 +11,7 @@
 --   once_falls       the weight falls where one more set lends once
 --   once_limit       from amounts within 2^26 come amounts within 17 * 2^26
 use Rattle.dg_reduce.proofs.Common.{if◌then◌else◌, ◌≡◌, ℕ, zero, suc, ◌+◌, ◌*◌, ◌^◌, ◌<◌, ◌≤◌, Bool, true, false, List, arith, refl, sym, ap, ◌∙◌, ⊎_elim, unsigned_abs, cases_Bool, ints, pos, ℤ, ◌-ℤ◌, total_below, Multigraph, edges_between, valence, Amounts, fired, gain, indicator, multiple, FiresTo, edges_out, edges_into, FiresFreely, abs_within, into-le-valence, out-le-valence, equivalent-trans, fired-cong, multiple-once, weights, levels_are_potential, led_step, led-cong, led_limit, distance_from, distance_from-is, gain-inside, gain-outside, weight_of, weight_of-cong, weight_falls_by_set, IsGraph, valence-outside, Vector, at}
-use Rattle.dg_reduce.specs.Rests.{IsFloorOff, IsRestInReduction, StaysAbove}
+use Rattle.dg_reduce.specs.Rests.{IsFloorOff, IsRestInReduction, StaysAboveFloor}
 use Rattle.dg_reduce.specs.declared.effective_divisor.Rest.{Rest}
 use Rattle.dg_reduce.proofs.DebtSteps.{IsRepaying}
 
@@ -82,7 +82,7 @@ gain_past g S v graph past =
 
 pub rest_again : (g : Multigraph) (v : ℕ) (x y : Vector) (rest : Rest) (floor : List ℤ) → IsGraph g →
     IsRepaying g v x y → (D : Amounts) × IsRestInReduction g v D rest → IsFloorOff v floor →
-    StaysAbove 16 floor (at y) rest → IsRestInReduction g v (at y) rest
+    StaysAboveFloor 16 floor (at y) rest → IsRestInReduction g v (at y) rest
 rest_again g v x y rest floor graph state (D, before) off stays = record {
   free = record {
     vertices = before.free.vertices;

@@ -5,7 +5,7 @@
 --   reduced_only      the reduced divisor and its script that is 0 at q are the only ones
 --   reduction_within  a reduced divisor and a script that leads to it and is 0 at q are a reduction, within a bound
 --                     that the range of the amounts gives
-use Rattle.dg_reduce.proofs.Common.{◌≡◌, ◌≢◌, ℕ, ◌+◌, ◌*◌, ◌<◌, ◌≤◌, ◌==◌, Bool, arith, ap, sym, ◌∙◌, refl, ints, eq-eqb, eqb-true, ne_eqb, pos, ◌+ℤ◌, ◌-ℤ◌, ◌≤ℤ◌, unsigned_abs, Multigraph, valence, Amounts, AgreeOn, AreEquivalent, FiresTo, fired, edges_out, IsReduced, script_bound, same_by_constant, out-le-valence, agree-trans, equivalent-fired, equivalent-sym, equivalent-trans, reduced_once, fired-shifted, IsGraph, at, Reduced, IsOnlyReduction, IsReduction}
+use Rattle.dg_reduce.proofs.Common.{◌≡◌, ◌≢◌, ℕ, ◌+◌, ◌*◌, ◌<◌, ◌≤◌, ◌==◌, Bool, arith, ap, sym, ◌∙◌, refl, ints, eq-eqb, eqb-true, ne_eqb, pos, ◌+ℤ◌, ◌-ℤ◌, ◌≤ℤ◌, unsigned_abs, Multigraph, valence, Amounts, DivisorsAgreeOn, AreEquivalent, FiresTo, fired, edges_out, IsReduced, script_bound, same_by_constant, out-le-valence, agree-trans, equivalent-fired, equivalent-sym, equivalent-trans, reduced_once, fired-shifted, IsGraph, at, Reduced, IsOnlyReduction, IsReduction}
 
 pub reduced_few : (g : Multigraph) (q : ℕ) (D : Amounts) (v : ℕ) → IsGraph g → IsReduced g q D → v < g.size → v ≢ q →
     D v ≤ℤ pos 62
@@ -37,8 +37,8 @@ pub reduced_only : (g : Multigraph) (q : ℕ) (D R s : Amounts) → IsGraph g �
 reduced_only g q D R s graph vertex reduced leads at_q t also_q other v inside =
     let class : AreEquivalent g (fired g D t) R =
     equivalent-trans g (fired g D t) D R (equivalent-sym g D (fired g D t) (equivalent-fired g D t)) (s, leads) in
-    let once : AgreeOn g.size (fired g D t) R = reduced_once g q (fired g D t) R vertex class other reduced in
-    let same : AgreeOn g.size (fired g D t) (fired g D s) =
+    let once : DivisorsAgreeOn g.size (fired g D t) R = reduced_once g q (fired g D t) R vertex class other reduced in
+    let same : DivisorsAgreeOn g.size (fired g D t) (fired g D s) =
     agree-trans g.size (fired g D t) R (fired g D s) once leads in
     let (x, shift) = (same_by_constant g D t s graph.multigraph).0 same in
     let at_v : t v ≡ s v +ℤ x = shift v inside in

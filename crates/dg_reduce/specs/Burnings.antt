@@ -1,17 +1,17 @@
 -- A burning that is kept for amounts which may be those that burnt.
---   IsWholeBurning g q x == all vertices burn from q, in the order of x, if they hold what x tells
---   IsGuessedOff n q D l == each of n vertices but q has as many dollars in D as l tells
+--   IsReducedBurning g q x == all vertices burn from q, in the order of x, if they hold what x tells
+--   IsGuessedOff n q D l   == each of n vertices but q has as many dollars in D as l tells
 use Rattle.std.specs.Prelude.{◌≡◌, ◌≢◌, ℕ, ◌<◌, List}
 use Rattle.dg_burn.specs.Fires.{dollars}
 use Rattle.dg_theory.specs.Firing.{Amounts}
 use Rattle.dg_theory.specs.Multigraph.{Multigraph}
 use Rattle.dg_theory.specs.Reduced.{IsReduced}
 use Rattle.dg_reduce.specs.declared.certificate.Burning.{Burning}
-use Rattle.dg_reduce.specs.Certificates.{IsBurningOrder}
+use Rattle.dg_reduce.specs.Certificates.{IsReducedOrder}
 
-pub record IsWholeBurning (g : Multigraph) (q : ℕ) (x : Burning) : Type 0 where
+pub record IsReducedBurning (g : Multigraph) (q : ℕ) (x : Burning) : Type 0 where
   pub reduced : IsReduced g q (dollars x.held)
-  pub order : IsBurningOrder g q (dollars x.held) x.order
+  pub order : IsReducedOrder g q (dollars x.held) x.order
 
 abbrev pub IsGuessedOff : ℕ → ℕ → Amounts → List ℕ → Type 0
 IsGuessedOff n q D l = (v : ℕ) → v < n → v ≢ q → D v ≡ dollars l v

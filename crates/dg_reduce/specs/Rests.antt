@@ -2,7 +2,7 @@
 --   IsRestInReduction g q D x == the set of the rest x has a member and fires freely, and x has what each
 --                                vertex gains as it fires once
 --   IsFloorOff q f            == f is 0 at each vertex but q
---   StaysAbove n f D x        == each of n vertices has at least its number in f after such a fire
+--   StaysAboveFloor n f D x   == each of n vertices has at least its number in f after such a fire
 use Rattle.std.specs.Prelude.{◌≡◌, ◌≢◌, ℕ, ◌<◌, ◌≤◌, true, List, ℤ, pos, ◌+ℤ◌, ◌≤ℤ◌}
 use Rattle.std.specs.Int.RustNames.{unsigned_abs}
 use Rattle.std.specs.List.{slice_index_or}
@@ -22,5 +22,5 @@ pub record IsRestInReduction (g : Multigraph) (q : ℕ) (D : Amounts) (x : Rest)
 abbrev pub IsFloorOff : ℕ → List ℤ → Type 0
 IsFloorOff q f = (v : ℕ) → v ≢ q → slice_index_or f v (pos 0) ≡ pos 0
 
-abbrev pub StaysAbove : ℕ → List ℤ → Amounts → Rest → Type 0
-StaysAbove n f D x = (v : ℕ) → v < n → slice_index_or f v (pos 0) ≤ℤ (D v +ℤ slice_index_or x.gains v (pos 0))
+abbrev pub StaysAboveFloor : ℕ → List ℤ → Amounts → Rest → Type 0
+StaysAboveFloor n f D x = (v : ℕ) → v < n → slice_index_or f v (pos 0) ≤ℤ (D v +ℤ slice_index_or x.gains v (pos 0))

@@ -13,7 +13,7 @@ use crate::walk::Walk;
 use dg_graph::Graph;
 
 /// Lets the vertices that burning leaves lend, as often at once as they can, until all burn.
-pub fn burn_down(graph: &Graph, q: usize, walk: &Walk) -> Walk
+pub fn reduce_by_burning(graph: &Graph, q: usize, walk: &Walk) -> Walk
     requires graph { IsGraph graph.now }
     requires vertex { q < graph.now.size }
     requires range { (v : ℕ) → v < graph.now.size → unsigned_abs (at walk.now.start v) ≤ MAX_START }

@@ -6,7 +6,7 @@ ghost use Rattle.std.specs.Int.RustNames.{unsigned_abs};
 ghost use Rattle.dg_chips.specs.Vector.{at};
 ghost use Rattle.dg_reduce.specs.Reductions.{IsReduction};
 
-use crate::burning_down::burn_down;
+use crate::burning_down::reduce_by_burning;
 use crate::clearing::clear_levels;
 use crate::levels::levels_from;
 use crate::limits::MAX_START;
@@ -67,7 +67,7 @@ pub fn reduce_by_levels(graph: &Graph, q: usize, chips: &Wide) -> Reduced
     let _size = graph.size();
     let levels = levels_from(graph, q);
     let cleared = clear_levels(graph, &levels, chips);
-    let walk = burn_down(graph, q, &cleared);
+    let walk = reduce_by_burning(graph, q, &cleared);
     Reduced {
         divisor: walk.chips,
         script: Script::script_relative_to(&walk.script, q),

@@ -5,8 +5,8 @@ ghost use Rattle.std.specs.Bool.{OnTrue};
 ghost use Rattle.dg_theory.specs.Firing.{HasNoDebtOff};
 ghost use Rattle.dg_theory.specs.Reduced.{IsReduced};
 ghost use Rattle.dg_chips.specs.Vector.{at};
-ghost use Rattle.dg_reduce.specs.Certificates.{IsBurningOrder};
-ghost use Rattle.dg_reduce.specs.Burnings.{IsWholeBurning, IsGuessedOff};
+ghost use Rattle.dg_reduce.specs.Certificates.{IsReducedOrder};
+ghost use Rattle.dg_reduce.specs.Burnings.{IsReducedBurning, IsGuessedOff};
 
 use dg_burn::burn;
 use dg_chips::Wide;
@@ -21,15 +21,20 @@ pub struct Burning {
     pub order: [u8; 16],
 }
 
-/// What `order_if_reduced` answers, if a burning is at hand: one of the same amounts serves for another.
-pub fn order_by(graph: &Graph, q: usize, chips: &Wide, known: &Option<Burning>) -> Option<[u8; 16]>
+/// What `reduced_order` answers, if a burning is at hand: one of the same amounts serves for another.
+pub fn reduced_order_by(
+    graph: &Graph,
+    q: usize,
+    chips: &Wide,
+    known: &Option<Burning>,
+) -> Option<[u8; 16]>
     requires size { chips.now.size ≡ graph.now.size }
     requires vertex { q < graph.now.size }
-    requires known { IfSome known.now (λ x. IsWholeBurning graph.now q x) }
+    requires known { IfSome known.now (λ x. IsReducedBurning graph.now q x) }
     ensures { MatchOption result
         (¬ IsReduced graph.now q (at chips.now))
         (λ order. IsReduced graph.now q (at chips.now) ×
-        IsBurningOrder graph.now q (at chips.now) order) }
+        IsReducedOrder graph.now q (at chips.now) order) }
 {
     let _size = graph.size();
     if let Some(burning) = known {
@@ -37,7 +42,7 @@ pub fn order_by(graph: &Graph, q: usize, chips: &Wide, known: &Option<Burning>) 
             return Some(burning.order);
         }
     }
-    order_if_reduced(graph, q, chips)
+    reduced_order(graph, q, chips)
 }
 
 /// Whether each vertex but q has as many dollars as it is held to have.
@@ -54,13 +59,13 @@ fn certifies_amounts(q: usize, chips: &Wide, held: &[u8; 16]) -> bool
 
 /// The order in which all vertices burn from q, the least first, which shows that the amounts are reduced; `None` if
 /// they are not.
-pub fn order_if_reduced(graph: &Graph, q: usize, chips: &Wide) -> Option<[u8; 16]>
+pub fn reduced_order(graph: &Graph, q: usize, chips: &Wide) -> Option<[u8; 16]>
     requires size { chips.now.size ≡ graph.now.size }
     requires vertex { q < graph.now.size }
     ensures { MatchOption result
         (¬ IsReduced graph.now q (at chips.now))
         (λ order. IsReduced graph.now q (at chips.now) ×
-        IsBurningOrder graph.now q (at chips.now) order) }
+        IsReducedOrder graph.now q (at chips.now) order) }
 {
     if !is_solvent_off(graph, q, chips) {
         return None;

@@ -8,7 +8,7 @@ ghost use Rattle.dg_chips.specs.Vector.{at};
 ghost use Rattle.dg_reduce.specs.declared.limits.TheConstants.{MAX_START};
 ghost use Rattle.dg_reduce.specs.States.{IsCleared};
 
-use crate::levels::{largest_debt, nearer_set};
+use crate::levels::{largest_debt_at_level, nearer_set};
 use crate::walk::Walk;
 use dg_chips::Wide;
 use dg_graph::Graph;
@@ -40,7 +40,7 @@ fn clear_level(graph: &Graph, levels: &[usize; 16], level: usize, walk: &Walk) -
     ensures cleared { IsCleared graph.now (slice_index levels.now) level result }
     ensures start { result.start ≡ walk.now.start }
 {
-    let debt = largest_debt(levels, level, &walk.chips);
+    let debt = largest_debt_at_level(levels, level, &walk.chips);
     if debt == 0 {
         return *walk;
     }

@@ -10,9 +10,9 @@ ghost use Rattle.dg_theory.specs.Reduced.{edges_out, IsReduced};
 ghost use Rattle.dg_graph.specs.declared.limits.TheConstants.{MAX_VERTICES};
 ghost use Rattle.dg_graph.specs.Sets.{in_set};
 ghost use Rattle.dg_chips.specs.Vector.{at};
-ghost use Rattle.dg_burn.specs.Fires.{IsHeldForBurning};
+ghost use Rattle.dg_burn.specs.Fires.{IsHeldForFire};
 ghost use Rattle.dg_reduce.specs.Effective.{IsEffectiveDivisor};
-ghost use Rattle.dg_reduce.specs.Rests.{IsRestInReduction, IsFloorOff, StaysAbove};
+ghost use Rattle.dg_reduce.specs.Rests.{IsRestInReduction, IsFloorOff, StaysAboveFloor};
 
 use dg_burn::{BurnCounts, burn_counted};
 use dg_chips::Wide;
@@ -152,7 +152,7 @@ impl EffectiveDivisor {
         };
         'paying: while self.get(v) < 0 {
             // Burning takes longer than this test, and the same set often lends many times.
-            if !self.can_lend(&rest, &floor) {
+            if !self.can_reduce_rest(&rest, &floor) {
                 let Some(next) = self.rest(graph, v) else {
                     return false;
                 };
@@ -165,17 +165,17 @@ impl EffectiveDivisor {
 
     /// Whether each amount stays at its floor or above when a set that burning left lends once.
     #[inline(always)]
-    fn can_lend(&self, rest: &Rest, floor: &[i32; 16]) -> bool
+    fn can_reduce_rest(&self, rest: &Rest, floor: &[i32; 16]) -> bool
         requires small { (v : ℕ) → unsigned_abs (slice_index_or rest.now.gains v (pos 0)) ≤ 63 }
         requires range { (v : ℕ) → v < self.now.size → unsigned_abs (at self.now v) ≤ 2 ^ 31 - 64 }
         ensures { MatchBool result
-            (StaysAbove MAX_VERTICES floor.now (at self.now) rest.now)
-            (¬ StaysAbove MAX_VERTICES floor.now (at self.now) rest.now) }
+            (StaysAboveFloor MAX_VERTICES floor.now (at self.now) rest.now)
+            (¬ StaysAboveFloor MAX_VERTICES floor.now (at self.now) rest.now) }
     {
         let amounts = &self.amounts;
         let mut stays = true;
         for v in 0..16 {
-            if with_gain(amounts[v], rest.gains[v]) < floor[v] {
+            if reduced_with_gain(amounts[v], rest.gains[v]) < floor[v] {
                 stays = false;
             }
         }
@@ -199,17 +199,17 @@ impl EffectiveDivisor {
         }
         Some(Rest {
             set: counted.burnt.unburnt,
-            gains: gains_of(graph, &counted),
+            gains: gains_in_reduction(graph, &counted),
         })
     }
 
     /// The amounts as far as burning looks at them.
     #[inline(always)]
     fn held(&self) -> [u8; 16]
-        ensures { IsHeldForBurning self.now.size (at self.now) result }
+        ensures { IsHeldForFire self.now.size (at self.now) result }
     {
         let _size = self.size;
-        seen_by_burning(&self.amounts)
+        seen_by_reduction(&self.amounts)
     }
 
     /// Lets each vertex that burning left lend once.
@@ -227,15 +227,15 @@ impl EffectiveDivisor {
         let size = graph.size();
         let mut amounts = self.amounts;
         for v in 0..16 {
-            amounts[v] = with_gain(amounts[v], rest.gains[v]);
+            amounts[v] = reduced_with_gain(amounts[v], rest.gains[v]);
         }
         *self = EffectiveDivisor { size, amounts };
     }
 }
 
 /// The amounts as far as burning looks at them: 0 for a debt, and 64 for more than 64.
-pub(crate) fn seen_by_burning(amounts: &[i32; 16]) -> [u8; 16]
-    ensures { IsHeldForBurning MAX_VERTICES (λ v. slice_index_or amounts.now v (pos 0)) result }
+pub(crate) fn seen_by_reduction(amounts: &[i32; 16]) -> [u8; 16]
+    ensures { IsHeldForFire MAX_VERTICES (λ v. slice_index_or amounts.now v (pos 0)) result }
 {
     let mut held = [0; 16];
     for v in 0..16 {
@@ -262,7 +262,7 @@ fn floor_off(v: usize) -> [i32; 16]
 }
 
 /// What each vertex gains if each vertex that burning left lends once.
-fn gains_of(graph: &Graph, rest: &BurnCounts) -> [i32; 16]
+fn gains_in_reduction(graph: &Graph, rest: &BurnCounts) -> [i32; 16]
     requires { (v : ℕ) →
         slice_index rest.now.joined v ≡ edges_out graph.now (in_set rest.now.burnt.unburnt) v }
     ensures gains { (v : ℕ) → v < MAX_VERTICES →
@@ -302,7 +302,7 @@ fn difference(more: u8, less: u8) -> i8
 }
 
 /// An amount with what is gained.
-fn with_gain(amount: i32, gain: i32) -> i32
+fn reduced_with_gain(amount: i32, gain: i32) -> i32
     requires amount { unsigned_abs amount ≤ 2 ^ 31 - 64 }
     requires gain { unsigned_abs gain ≤ 63 }
     ensures { result ≡ amount +ℤ gain }

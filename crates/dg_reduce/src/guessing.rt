@@ -9,11 +9,11 @@ ghost use Rattle.std.specs.Int.RustNames.{unsigned_abs};
 ghost use Rattle.dg_chips.specs.Vector.{at};
 ghost use Rattle.dg_chips.specs.declared.limits.TheConstants.{MAX_ENTRY};
 ghost use Rattle.dg_reduce.specs.declared.limits.TheConstants.{MAX_START};
-ghost use Rattle.dg_reduce.specs.Burnings.{IsWholeBurning};
+ghost use Rattle.dg_reduce.specs.Burnings.{IsReducedBurning};
 
 use crate::certificate::Burning;
-use crate::effective_divisor::seen_by_burning;
-use crate::inverse_laplacian::{InverseLaplacian, Lending, lendings_once};
+use crate::effective_divisor::seen_by_reduction;
+use crate::inverse_laplacian::{InverseLaplacian, Lending, guessed_lendings_once};
 use dg_burn::burn_counted;
 use dg_chips::{Script, Wide};
 use dg_graph::{Graph, MAX_VERTICES, contains};
@@ -61,7 +61,7 @@ pub fn guess(graph: &Graph, inverse: &InverseLaplacian, q: usize, chips: &Wide) 
     requires range { (v : ℕ) → v < graph.now.size → unsigned_abs (at chips.now v) ≤ MAX_START }
     ensures size { result.script.size ≡ graph.now.size }
     ensures at_q { at result.script q ≡ pos 0 }
-    ensures burning { IfSome result.burning (λ x. IsWholeBurning graph.now q x) }
+    ensures burning { IfSome result.burning (λ x. IsReducedBurning graph.now q x) }
 {
     let _size = graph.size();
     let amounts = guess_amounts_off(q, chips);
@@ -81,12 +81,12 @@ pub fn guess_once(graph: &Graph, q: usize, chips: &Wide) -> Guessed
     requires range { (v : ℕ) → v < graph.now.size → unsigned_abs (at chips.now v) ≤ MAX_START }
     ensures size { result.script.size ≡ graph.now.size }
     ensures at_q { at result.script q ≡ pos 0 }
-    ensures burning { IfSome result.burning (λ x. IsWholeBurning graph.now q x) }
+    ensures burning { IfSome result.burning (λ x. IsReducedBurning graph.now q x) }
 {
     let _size = graph.size();
     let amounts = guess_amounts_off(q, chips);
     let lending = Lending::new(graph, q);
-    let lendings = lendings_once(graph, q, &amounts);
+    let lendings = guessed_lendings_once(graph, q, &amounts);
     guess_near(graph, &lending, q, &amounts, &lendings)
 }
 
@@ -101,16 +101,16 @@ fn guess_near(
     requires { q < graph.now.size }
     ensures size { result.script.size ≡ graph.now.size }
     ensures at_q { at result.script q ≡ pos 0 }
-    ensures burning { IfSome result.burning (λ x. IsWholeBurning graph.now q x) }
+    ensures burning { IfSome result.burning (λ x. IsReducedBurning graph.now q x) }
 {
     let _size = graph.size();
     let script = rounded(lendings);
     let chips = guess_after_lendings(graph.size(), lending, amounts, &script);
     let mut near = GuessState { chips, script };
     pay(lending, &mut near);
-    let burning = burn_down(graph, lending, q, &mut near);
+    let burning = reduce_by_burning(graph, lending, q, &mut near);
     Guessed {
-        script: script_of(graph, q, &near.script),
+        script: guessed_script_of(graph, q, &near.script),
         burning,
     }
 }
@@ -189,13 +189,18 @@ fn times_to_pay(chips: i32, valence: i32) -> i32 {
 }
 
 /// Lets those who do not burn lend together, again and again, until all burn: that burning is the result.
-fn burn_down(graph: &Graph, lending: &Lending, q: usize, near: &mut GuessState) -> Option<Burning>
+fn reduce_by_burning(
+    graph: &Graph,
+    lending: &Lending,
+    q: usize,
+    near: &mut GuessState,
+) -> Option<Burning>
     requires { q < graph.now.size }
-    ensures { IfSome result (λ x. IsWholeBurning graph.now q x) }
+    ensures { IfSome result (λ x. IsReducedBurning graph.now q x) }
 {
     for round in 0..BURNING_ROUNDS {
         let chips = near.chips.to_array();
-        let held = seen_by_burning(&chips);
+        let held = seen_by_reduction(&chips);
         let counted = burn_counted(graph, q, &held);
         if counted.burnt.unburnt == 0 {
             let order = counted.burnt.order;
@@ -205,7 +210,7 @@ fn burn_down(graph: &Graph, lending: &Lending, q: usize, near: &mut GuessState) 
         let times = if round < SINGLE_ROUNDS {
             1
         } else {
-            most_times(set, &counted.joined, &chips)
+            most_guessed_firings(set, &counted.joined, &chips)
         };
         fire(lending, set, &counted.joined, times, near);
     }
@@ -214,7 +219,7 @@ fn burn_down(graph: &Graph, lending: &Lending, q: usize, near: &mut GuessState) 
 
 /// How often a set can lend together until one of it would owe, but at least once; `joined` are the edges of each vertex to
 /// those that are not in the set.
-fn most_times(set: u16, joined: &[u8; 16], chips: &[i32; 16]) -> i32 {
+fn most_guessed_firings(set: u16, joined: &[u8; 16], chips: &[i32; 16]) -> i32 {
     let mut most = MOST_TIMES;
     for v in 0..16 {
         let out = i32::from(joined[v]);
@@ -240,7 +245,7 @@ fn fire(lending: &Lending, set: u16, joined: &[u8; 16], times: i32, near: &mut G
 }
 
 /// The lendings as a script, 0 at q and cut off at the most that are guessed.
-fn script_of(graph: &Graph, q: usize, lendings: &[i32; 16]) -> Script
+fn guessed_script_of(graph: &Graph, q: usize, lendings: &[i32; 16]) -> Script
     requires { q < graph.now.size }
     ensures size { result.size ≡ graph.now.size }
     ensures at_q { at result q ≡ pos 0 }
@@ -248,7 +253,7 @@ fn script_of(graph: &Graph, q: usize, lendings: &[i32; 16]) -> Script
     let size = graph.size();
     let mut entries = guess_cut_off(lendings);
     entries[q] = 0;
-    Script::script_of_first(size, &entries)
+    Script::script_of_first_vertices(size, &entries)
 }
 
 /// The lendings, cut off at the most that are guessed.

@@ -74,7 +74,7 @@ impl InverseLaplacian {
     pub(crate) fn lendings(&self, chips: &[i32; 16]) -> [f64; 16] {
         let mut sum = self.shift;
         for v in 0..self.size.min(MAX_VERTICES) {
-            sum = plus_times(&sum, &self.inverse[v], f64::from(chips[v]));
+            sum = plus_times_row(&sum, &self.inverse[v], f64::from(chips[v]));
         }
         sum
     }
@@ -173,7 +173,7 @@ fn take_pivot(size: usize, rows: &mut [[f64; 16]; 16], pivot: usize)
     for v in 0..size {
         let factor = -rows[v][pivot];
         if v != pivot && factor != 0.0 {
-            rows[v] = plus_times(&rows[v], &whole_row, factor);
+            rows[v] = plus_times_row(&rows[v], &whole_row, factor);
         }
     }
     rows[pivot] = row;
@@ -181,7 +181,7 @@ fn take_pivot(size: usize, rows: &mut [[f64; 16]; 16], pivot: usize)
 
 /// How often each vertex lends, fractions too, as an inverse has it, if there is none: one solution of the equations in place
 /// of the inverse.
-pub(crate) fn lendings_once(graph: &Graph, q: usize, chips: &[i32; 16]) -> [f64; 16] {
+pub(crate) fn guessed_lendings_once(graph: &Graph, q: usize, chips: &[i32; 16]) -> [f64; 16] {
     let mut rows = equations(graph, q);
     let mut wanted = wanted_by_guess(graph, q, chips);
     let size = graph.size();
@@ -212,7 +212,7 @@ fn clear_below(size: usize, rows: &mut [[f64; 16]; 16], wanted: &mut [f64; 16], 
     for v in pivot + 1..size {
         let factor = rows[v][pivot] * whole;
         if factor != 0.0 {
-            rows[v] = plus_times(&rows[v], &row, factor);
+            rows[v] = plus_times_row(&rows[v], &row, factor);
             wanted[v] += wanted[pivot] * factor;
         }
     }
@@ -248,7 +248,7 @@ fn shift_of(graph: &Graph, q: usize, inverse: &[[f64; 16]; 16]) -> [f64; 16] {
     for v in 0..graph.size() {
         let kept = kept_by_guess(graph, v);
         if v != q && kept != 0.0 {
-            shift = plus_times(&shift, &inverse[v], -kept);
+            shift = plus_times_row(&shift, &inverse[v], -kept);
         }
     }
     shift
@@ -268,11 +268,11 @@ fn kept_by_guess(graph: &Graph, v: usize) -> f64
 
 /// A row, so many times.
 fn times(row: &[f64; 16], times: f64) -> [f64; 16] {
-    plus_times(&[0.0; 16], row, times)
+    plus_times_row(&[0.0; 16], row, times)
 }
 
 /// A sum and so many times a row.
-fn plus_times(sum: &[f64; 16], row: &[f64; 16], times: f64) -> [f64; 16] {
+fn plus_times_row(sum: &[f64; 16], row: &[f64; 16], times: f64) -> [f64; 16] {
     let mut sum = *sum;
     for w in 0..16 {
         sum[w] += row[w] * times;

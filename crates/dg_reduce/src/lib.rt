@@ -12,14 +12,14 @@ mod guessing;
 mod inverse_laplacian;
 mod levels;
 mod limits;
-mod most_firings;
+mod most_reducing_firings;
 mod next_firing;
 mod reduced;
 mod reducing;
 mod walk;
 
 pub use by_levels::{is_within_reduction_limit, reduce_after, reduce_by_levels};
-pub use certificate::{Burning, is_solvent_off, order_by, order_if_reduced};
+pub use certificate::{Burning, is_solvent_off, reduced_order, reduced_order_by};
 pub use effective_divisor::EffectiveDivisor;
 pub use guessing::{Guessed, guess, guess_once};
 pub use inverse_laplacian::InverseLaplacian;

@@ -7,9 +7,9 @@ ghost use Rattle.dg_theory.specs.Reduced.{IsReduced};
 ghost use Rattle.dg_theory.specs.Burning.{FiresFreely};
 ghost use Rattle.dg_graph.specs.Sets.{in_set};
 ghost use Rattle.dg_chips.specs.Vector.{at};
-ghost use Rattle.dg_reduce.specs.Firings.{IsNextFiring};
+ghost use Rattle.dg_reduce.specs.Firings.{IsNextReducingFiring};
 
-use crate::most_firings::most_firings;
+use crate::most_reducing_firings::most_reducing_firings;
 use dg_burn::burn;
 use dg_chips::Wide;
 use dg_graph::Graph;
@@ -23,10 +23,10 @@ pub fn next_firing(graph: &Graph, q: usize, chips: &Wide) -> Option<(u16, i128)>
     requires range { (v : ℕ) → v < graph.now.size → unsigned_abs (at chips.now v) ≤ 2 ^ 120 }
     ensures { MatchOption result
         (IsReduced graph.now q (at chips.now))
-        (λ next. IsNextFiring graph.now q (at chips.now) (in_set next.0) next.1) }
+        (λ next. IsNextReducingFiring graph.now q (at chips.now) (in_set next.0) next.1) }
 {
     let set = unburnt(graph, q, chips)?;
-    Some((set, most_firings(graph, chips, set)))
+    Some((set, most_reducing_firings(graph, chips, set)))
 }
 
 /// The set of the vertices that do not burn, if there are any.

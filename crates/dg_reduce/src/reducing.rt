@@ -5,10 +5,10 @@ ghost use Rattle.std.specs.Int.RustNames.{unsigned_abs};
 ghost use Rattle.dg_chips.specs.Vector.{at};
 ghost use Rattle.dg_reduce.specs.Reductions.{IsReduction};
 ghost use Rattle.dg_reduce.specs.Certificates.{IsCertified};
-ghost use Rattle.dg_reduce.specs.Burnings.{IsWholeBurning};
+ghost use Rattle.dg_reduce.specs.Burnings.{IsReducedBurning};
 
 use crate::by_levels::reduce_after;
-use crate::certificate::{Burning, order_by};
+use crate::certificate::{Burning, reduced_order_by};
 use crate::guessing::guess;
 use crate::inverse_laplacian::InverseLaplacian;
 use crate::limits::MAX_START;
@@ -81,12 +81,12 @@ pub fn certified_by(
     requires script { script.now.size ≡ graph.now.size }
     requires range { (v : ℕ) → v < graph.now.size → unsigned_abs (at chips.now v) ≤ MAX_START }
     requires start { at script.now q ≡ pos 0 }
-    requires known { IfSome known.now (λ x. IsWholeBurning graph.now q x) }
+    requires known { IfSome known.now (λ x. IsReducedBurning graph.now q x) }
     ensures { IsCertified graph.now q (at chips.now) 451000000 result }
 {
     let _size = graph.size();
     let divisor = chips.fired_by(graph, script);
-    let Some(order) = order_by(graph, q, &divisor, known) else {
+    let Some(order) = reduced_order_by(graph, q, &divisor, known) else {
         return certified_after(graph, q, chips, script);
     };
     Certified {

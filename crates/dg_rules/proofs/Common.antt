@@ -1,21 +1,21 @@
 -- The names that the proofs of this crate cite, passed on from one place. Declares nothing.
 pub use Rattle.dg_chips.proofs.Applying.{moved_once}
 pub use Rattle.dg_chips.specs.Applied.{IsAfterMove}
-pub use Rattle.dg_chips.specs.Moves.{HasOtherSize, IsMoveOfEmptySet, IsApplicableMove, IsMoveOfNoVertex, script_of}
+pub use Rattle.dg_chips.specs.Moves.{HasOtherSize, IsMoveOfEmptySet, IsMoveOnDivisor, IsMoveOfNoVertex, script_of_move}
 pub use Rattle.dg_chips.specs.Starts.{StartData}
 pub use Rattle.dg_chips.proofs.VectorLaws.{not_past, one_vector}
-pub use Rattle.dg_chips.specs.Vector.{IsDivisor, IsOutOfRange, Vector, at}
+pub use Rattle.dg_chips.specs.Vector.{IsDivisorVector, IsOutOfRange, Vector, at}
 pub use Rattle.dg_rules.specs.GiftReplies.{IsAcceptedGiftReply, RefusesGift, RepliesToGift}
-pub use Rattle.dg_rules.specs.History.{after_change, changed, gifts_by_reply, gifts_in, is_change, no_lendings, script_by_reply, scripts_played, scripts_since}
-pub use Rattle.dg_rules.specs.JoinReplies.{IsAcceptedJoinReply, RefusesToJoin, RepliesToJoin}
-pub use Rattle.dg_rules.specs.Legal.{IsLegal, IsSeat, LooksBack}
+pub use Rattle.dg_rules.specs.History.{position_after_change, changed, gifts_by_reply, gifts_in, is_change, nothing_played, script_by_reply, scripts_played, scripts_since}
+pub use Rattle.dg_rules.specs.JoinReplies.{IsAcceptedJoinReply, RefusesJoinRequest, RepliesToJoin}
+pub use Rattle.dg_rules.specs.Legal.{IsLegal, IsSeatInGame, LooksBack}
 pub use Rattle.dg_rules.specs.LegalLaws.{LegalGraphsHold, IsReplyOfSize, LegalIsSized, LegalLooksAreShown}
 pub use Rattle.dg_rules.specs.Look.{IsLookAt, request_for_finding, request_for_question}
 pub use Rattle.dg_rules.specs.MoveReplies.{RefusesMove, RepliesToMove}
-pub use Rattle.dg_rules.specs.Position.{Position, ShowsPosition, position_fired_by, joined_at, position_at_start, with_gift}
+pub use Rattle.dg_rules.specs.Position.{Position, ShowsPosition, position_fired_by, position_joined_at, position_at_start, with_gift}
 pub use Rattle.dg_rules.specs.Replies.{Replies, RepliesAt, RepliesToClaim, RepliesToJudge, RepliesToLook, RepliesToRank}
 pub use Rattle.dg_rules.specs.Requests.{asked}
-pub use Rattle.dg_rules.specs.State.{IsNextGameState, IsRightReplyInState, IsState, LeadsTo, GameState, amounts_after, gifts_after, graph_after, position_of}
+pub use Rattle.dg_rules.specs.State.{IsNextGameState, IsRightReplyInState, IsGameState, HistoryLeadsTo, GameState, position_amounts_after, gifts_after, graph_after, position_of}
 pub use Rattle.dg_rules.specs.Step.{GameHasNoEntry, OneMoreEntry, PositionSinceChange, PositionSinceLastChange, PlayedSinceStart, VerticesStay, after_reply}
 pub use Rattle.dg_rules.specs.declared.entry.Entry.{Entry}
 pub use Rattle.dg_rules.specs.declared.entry.Plain.{Plain}
@@ -38,7 +38,7 @@ pub use Rattle.dg_theory.proofs.FiringLaws.{fired-constant, fired-fired}
 pub use Rattle.dg_theory.proofs.JoinLaws.{size_stays}
 pub use Rattle.dg_theory.proofs.LossLaws.{equivalent-loss}
 pub use Rattle.dg_theory.proofs.RankLaws.{equivalent-rank}
-pub use Rattle.dg_theory.specs.Firing.{AgreeOn, Amounts, AreEquivalent, FiresTo, fired}
+pub use Rattle.dg_theory.specs.Firing.{DivisorsAgreeOn, Amounts, AreEquivalent, FiresTo, fired}
 pub use Rattle.dg_theory.specs.Multigraph.{Multigraph}
 pub use Rattle.dg_verdict.proofs.Agreement.{right-cong}
 pub use Rattle.dg_verdict.proofs.Between.{between_leads}

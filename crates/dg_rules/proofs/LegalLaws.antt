@@ -11,7 +11,7 @@
 --   sized_reply        a right reply has the size of the graph
 --   legal_sized        each reply of a legal history has the size of the start
 --   legal_looks        each look of a legal history is what is kept of it
-use Rattle.dg_rules.proofs.Common.{◌≡◌, ℕ, ◌<◌, ◌≤◌, List, [], ◌∷◌, ◌++◌, length, take, slice_get, Some, arith, ap, subst, ◌∙◌, inl, inr, take-append_seam, take-append-le, take-take, length-take, slice_get_within, Multigraph, StartData, AtLeast, Below, Replies, IsSeat, LooksBack, IsLegal, IsReplyOfSize, LegalIsSized, LegalLooksAreShown, IsLookAt, request_for_finding, request_for_question, asked, Entry, Plain, Request, Move, Gift, Join, Look, Claim, Judge, Reply, Moved, Given, Joined, Looked, Verdict, Stale, Won, NotWon, Refused, Finding, Judged, Ranked, Question, LookData}
+use Rattle.dg_rules.proofs.Common.{◌≡◌, ℕ, ◌<◌, ◌≤◌, List, [], ◌∷◌, ◌++◌, length, take, slice_get, Some, arith, ap, subst, ◌∙◌, inl, inr, take-append_seam, take-append-le, take-take, length-take, slice_get_within, Multigraph, StartData, AtLeast, Below, Replies, IsSeatInGame, LooksBack, IsLegal, IsReplyOfSize, LegalIsSized, LegalLooksAreShown, IsLookAt, request_for_finding, request_for_question, asked, Entry, Plain, Request, Move, Gift, Join, Look, Claim, Judge, Reply, Moved, Given, Joined, Looked, Verdict, Stale, Won, NotWon, Refused, Finding, Judged, Ranked, Question, LookData}
 use Rattle.dg_rules.specs.History.{position_after}
 use Rattle.dg_rules.specs.declared.entry.Plain.TheVariants as plain
 use Rattle.dg_rules.specs.declared.entry.Request.TheVariants.{Rank as RankRequest}
@@ -23,7 +23,7 @@ use Rattle.dg_rules.proofs.StepLaw.{vertices_stay}
 pub legal_none : (o : StartData) → IsLegal o []
 legal_none o k e at = absurd (cc)
 
-pub legal_more : (o : StartData) (H : List Entry) (e : Entry) → IsLegal o H → IsSeat e.seat → LooksBack H e.request →
+pub legal_more : (o : StartData) (H : List Entry) (e : Entry) → IsLegal o H → IsSeatInGame e.seat → LooksBack H e.request →
     Replies o H e.request e.reply → IsLegal o (H ++ e ∷ [])
 legal_more o H e legal seat back right k x at = elim (more_holds H e k x at) [
   | inl old ↦

@@ -7,7 +7,7 @@
 --   RefusesGift p v x refusal           == the gift is refused for this cause, and for no earlier one
 --   RepliesToGift p g v x reply         == the reply is the right one
 use Rattle.std.specs.Prelude.{◌≡◌, ◌≢◌, ℕ, ◌+◌, ◌<◌, ◌≤◌, ℤ, pos, neg_ℤ, ◌≤ℤ◌}
-use Rattle.dg_rules.specs.Common.{Vector, at, IsDivisor, IsOutOfRange}
+use Rattle.dg_rules.specs.Common.{Vector, at, IsDivisorVector, IsOutOfRange}
 use Rattle.dg_rules.specs.Position.{Position, with_gift}
 use Rattle.dg_rules.specs.declared.entry.Refusal.{Refusal}
 use Rattle.dg_rules.specs.declared.entry.Refusal.TheVariants.{NoVertex, Gift, Range}
@@ -23,7 +23,7 @@ pub record IsAcceptedGiftReply (p : Position) (g v : ℕ) (x : ℤ) (count : ℕ
   pub gift : IsGift x
   pub count' : count ≡ g + 1
   pub size : d.size ≡ p.graph.size
-  pub divisor : IsDivisor d
+  pub divisor : IsDivisorVector d
   pub amounts : (w : ℕ) → w < p.graph.size → at d w ≡ with_gift p v x w
 
 abbrev pub RefusesGift : Position → ℕ → ℤ → Refusal → Type 0

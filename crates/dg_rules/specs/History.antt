@@ -1,7 +1,7 @@
 -- Histories. An entry is a seat, a request and a reply; a history is a list of entries, and an
 -- entry's number is its place in it, from 0. What changes a position, but for moves, is a change:
 -- an accepted gift, levy or join.
---   no_lendings                   == 0 at each vertex
+--   nothing_played                == 0 at each vertex
 --   script_by_reply request reply == the script of an accepted move, and 0 for everything else
 --   scripts_played H              == the sum of the scripts of all accepted moves
 --   is_change reply               == the reply accepts a gift, a levy or a join
@@ -12,29 +12,28 @@
 --   with_entry H s q r            == the history H and one more entry, of the seat s with the request q and
 --                                    the reply r
 -- Of entries that stand the latest first:
---   scripts_since R            == the sum of the scripts of all moves accepted since the last
---                                 change
---   after_change o R           == the position right after the last change, and that of the start
---                                 o if there is none
+--   scripts_since R               == the sum of the scripts of all moves accepted since the last change
+--   position_after_change o R     == the position right after the last change, and that of the start o if
+--                                    there is none
 -- So:
---   position_after o H         == the position after the history H from the start o: that after
---                                 the last change, fired on the graph there by the sum of the
---                                 scripts of all moves accepted since
+--   position_after o H            == the position after the history H from the start o: that after the last
+--                                    change, fired on the graph there by the sum of the scripts of all moves
+--                                    accepted since
 use Rattle.std.specs.Prelude.{if◌then◌else◌, ℕ, ◌+◌, Bool, true, false, pos, ◌+ℤ◌, List, [], ◌∷◌, ◌++◌, reverse}
-use Rattle.dg_rules.specs.Common.{Amounts, script_of, StartData}
-use Rattle.dg_rules.specs.Position.{Position, position_at_start, with_gift, joined_at, position_fired_by}
+use Rattle.dg_rules.specs.Common.{Amounts, script_of_move, StartData}
+use Rattle.dg_rules.specs.Position.{Position, position_at_start, with_gift, position_joined_at, position_fired_by}
 use Rattle.dg_rules.specs.declared.entry.Entry.{Entry}
 use Rattle.dg_rules.specs.declared.entry.Request.{Request}
 use Rattle.dg_rules.specs.declared.entry.Request.TheVariants.{Move, Gift, Join}
 use Rattle.dg_rules.specs.declared.entry.Reply.{Reply}
 use Rattle.dg_rules.specs.declared.entry.Reply.TheVariants.{Moved, Given, Joined, Looked, Verdict, Rank, Stale, Won, NotWon, Refused}
 
-abbrev pub no_lendings : Amounts
-no_lendings v = pos 0
+abbrev pub nothing_played : Amounts
+nothing_played v = pos 0
 
 abbrev pub script_by_reply : Request → Reply → Amounts
-script_by_reply (Move m) (Moved d) = script_of m
-script_by_reply request reply = no_lendings
+script_by_reply (Move m) (Moved d) = script_of_move m
+script_by_reply request reply = nothing_played
 
 abbrev pub scripts_played : List Entry → Amounts
 scripts_played [] v = pos 0
@@ -54,7 +53,7 @@ is_change (Refused refusal) = false
 
 abbrev pub changed : Position → Request → Reply → Position
 changed p (Gift v x) (Given g d) = record { graph = p.graph; amounts = with_gift p v x }
-changed p (Join u v) (Joined g d) = joined_at p u v
+changed p (Join u v) (Joined g d) = position_joined_at p u v
 changed p request reply = p
 
 abbrev pub gifts_by_reply : Reply → ℕ
@@ -73,11 +72,11 @@ scripts_since [] v = pos 0
 scripts_since (e ∷ R) v =
     if is_change e.reply then pos 0 else (scripts_since R v +ℤ script_by_reply e.request e.reply v)
 
-abbrev pub after_change : StartData → List Entry → Position
-after_change o [] = position_at_start o
-after_change o (e ∷ R) =
+abbrev pub position_after_change : StartData → List Entry → Position
+position_after_change o [] = position_at_start o
+position_after_change o (e ∷ R) =
     if is_change e.reply then changed
-    (position_fired_by (after_change o R) (scripts_since R)) e.request e.reply else after_change o R
+    (position_fired_by (position_after_change o R) (scripts_since R)) e.request e.reply else position_after_change o R
 
 unfoldable pub position_after : StartData → List Entry → Position
-position_after o H = position_fired_by (after_change o (reverse H)) (scripts_since (reverse H))
+position_after o H = position_fired_by (position_after_change o (reverse H)) (scripts_since (reverse H))

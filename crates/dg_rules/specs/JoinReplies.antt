@@ -1,10 +1,10 @@
 -- What may be replied to a join, which asks for one more edge between u and v, at the position p,
 -- if the gift count is g. A join is counted as a gift is.
 --   IsAcceptedJoinReply p g u v count d == the count after the join, and the amounts, which are as before
---   RefusesToJoin p u v refusal         == the join is refused for this cause, and for no earlier one
+--   RefusesJoinRequest p u v refusal    == the join is refused for this cause, and for no earlier one
 --   RepliesToJoin p g u v reply         == the reply is the right one
 use Rattle.std.specs.Prelude.{◌≡◌, ℕ, ◌+◌}
-use Rattle.dg_rules.specs.Common.{IsJoinable, RefusesJoin, Vector}
+use Rattle.dg_rules.specs.Common.{IsJoinable, RefusesGraphJoin, Vector}
 use Rattle.dg_graph.specs.declared.fault.JoinFault.TheVariants as fault
 use Rattle.dg_rules.specs.Position.{Position, ShowsPosition}
 use Rattle.dg_rules.specs.declared.entry.Refusal.{Refusal}
@@ -17,13 +17,13 @@ pub record IsAcceptedJoinReply (p : Position) (g u v count : ℕ) (d : Vector) :
   pub count' : count ≡ g + 1
   pub amounts : ShowsPosition p d
 
-abbrev pub RefusesToJoin : Position → ℕ → ℕ → Refusal → Type 0
-RefusesToJoin p u v NoVertex = RefusesJoin p.graph u v fault.NoVertex
-RefusesToJoin p u v Loop = RefusesJoin p.graph u v fault.Loop
-RefusesToJoin p u v Valence = RefusesJoin p.graph u v fault.Valence
-RefusesToJoin p u v refusal = ⊥
+abbrev pub RefusesJoinRequest : Position → ℕ → ℕ → Refusal → Type 0
+RefusesJoinRequest p u v NoVertex = RefusesGraphJoin p.graph u v fault.NoVertex
+RefusesJoinRequest p u v Loop = RefusesGraphJoin p.graph u v fault.Loop
+RefusesJoinRequest p u v Valence = RefusesGraphJoin p.graph u v fault.Valence
+RefusesJoinRequest p u v refusal = ⊥
 
 abbrev pub RepliesToJoin : Position → ℕ → ℕ → ℕ → Reply → Type 0
 RepliesToJoin p g u v (Joined count d) = IsAcceptedJoinReply p g u v count d
-RepliesToJoin p g u v (Refused refusal) = RefusesToJoin p u v refusal
+RepliesToJoin p g u v (Refused refusal) = RefusesJoinRequest p u v refusal
 RepliesToJoin p g u v reply = ⊥

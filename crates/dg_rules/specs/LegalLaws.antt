@@ -14,7 +14,7 @@ use Rattle.std.specs.Prelude.{◌≡◌, ℕ, List, [], ◌∷◌, ◌++◌, tak
 use Rattle.dg_rules.specs.Common.{IsGraph, StartData, AtLeast, Below}
 use Rattle.dg_rules.specs.History.{position_after}
 use Rattle.dg_rules.specs.Replies.{Replies}
-use Rattle.dg_rules.specs.Legal.{IsSeat, LooksBack, IsLegal}
+use Rattle.dg_rules.specs.Legal.{IsSeatInGame, LooksBack, IsLegal}
 use Rattle.dg_rules.specs.Look.{IsLookAt}
 use Rattle.dg_rules.specs.declared.entry.Entry.{Entry}
 use Rattle.dg_rules.specs.declared.entry.Request.TheVariants.{Look}
@@ -26,7 +26,7 @@ abbrev pub EmptyIsLegal : Type 0
 EmptyIsLegal = (o : StartData) → IsLegal o []
 
 abbrev pub OneMoreIsLegal : Type 0
-OneMoreIsLegal = (o : StartData) (H : List Entry) (e : Entry) → IsLegal o H → IsSeat e.seat →
+OneMoreIsLegal = (o : StartData) (H : List Entry) (e : Entry) → IsLegal o H → IsSeatInGame e.seat →
     LooksBack H e.request →
     Replies o H e.request e.reply → IsLegal o (H ++ e ∷ [])
 

@@ -6,13 +6,13 @@
 --                                      for its amounts
 --   request_for_finding i f         == the request by which the finding f on the look of number i is entered
 --   request_for_question i question == the request by which the question is asked on the look of number i
---   KeepsFinding f reply            == a verdict entered keeps the reduced divisor and the burning order that
+--   ReplyKeepsFinding f reply       == a verdict entered keeps the reduced divisor and the burning order that
 --                                      were found, and that of a rank test is entered as it was found
 use Rattle.std.specs.Prelude.{◌≡◌, ℕ, List, take, ⊤}
 use Rattle.dg_rules.specs.Common.{at, StartData, IsRight, IsRightRankVerdict, RankVerdict, AtLeast, Below}
 use Rattle.dg_rules.specs.Position.{ShowsPosition}
 use Rattle.dg_rules.specs.History.{position_after, gifts_in}
-use Rattle.dg_rules.specs.Legal.{IsLookIn}
+use Rattle.dg_rules.specs.Legal.{HistoryHasLook}
 use Rattle.dg_rules.specs.declared.entry.Entry.{Entry}
 use Rattle.dg_rules.specs.declared.entry.Request.{Request}
 use Rattle.dg_rules.specs.declared.entry.Request.TheVariants.{Judge, Rank as RankRequest}
@@ -25,7 +25,7 @@ use Rattle.dg_rules.specs.declared.finding.Question.{Question}
 use Rattle.dg_rules.specs.declared.finding.Question.TheVariants as question
 
 pub record IsLookAt (o : StartData) (H : List Entry) (x : LookData) : Type 0 where
-  pub look : IsLookIn H x.number
+  pub look : HistoryHasLook H x.number
   pub gifts : x.gifts ≡ gifts_in (take x.number H)
   pub graph : x.graph ≡ (position_after o (take x.number H)).graph
   pub amounts : ShowsPosition (position_after o (take x.number H)) x.position
@@ -46,7 +46,7 @@ abbrev pub request_for_question : ℕ → Question → Request
 request_for_question i question.Judge = Judge i
 request_for_question i (question.Rank k) = RankRequest i k
 
-abbrev pub KeepsFinding : Finding → Reply → Type 0
-KeepsFinding (Judged v) (Verdict w) = (w.reduced ≡ v.reduced) × (w.order ≡ v.order)
-KeepsFinding (Ranked v) (RankReply w) = w ≡ v
-KeepsFinding finding reply = ⊤
+abbrev pub ReplyKeepsFinding : Finding → Reply → Type 0
+ReplyKeepsFinding (Judged v) (Verdict w) = (w.reduced ≡ v.reduced) × (w.order ≡ v.order)
+ReplyKeepsFinding (Ranked v) (RankReply w) = w ≡ v
+ReplyKeepsFinding finding reply = ⊤

@@ -10,7 +10,7 @@
 --   PositionSinceLastChange     == and those after the last change fire the position right after it
 --   VerticesStay                == a history leads to a position with as many vertices as the start
 use Rattle.std.specs.Prelude.{◌≡◌, true, List, [], ◌∷◌, ◌++◌}
-use Rattle.dg_rules.specs.Common.{script_of, StartData}
+use Rattle.dg_rules.specs.Common.{script_of_move, StartData}
 use Rattle.dg_rules.specs.Position.{Position, position_at_start, position_fired_by}
 use Rattle.dg_rules.specs.History.{position_after, scripts_played, is_change, changed, gifts_in}
 use Rattle.dg_rules.specs.declared.entry.Entry.{Entry}
@@ -20,7 +20,7 @@ use Rattle.dg_rules.specs.declared.entry.Reply.{Reply}
 use Rattle.dg_rules.specs.declared.entry.Reply.TheVariants.{Moved}
 
 abbrev pub after_reply : Position → Request → Reply → Position
-after_reply p (Move m) (Moved d) = position_fired_by p (script_of m)
+after_reply p (Move m) (Moved d) = position_fired_by p (script_of_move m)
 after_reply p request reply = changed p request reply
 
 abbrev pub GameHasNoEntry : Type 0

@@ -65,15 +65,15 @@ pub fn finding_of_verdict(inverse: &InverseLaplacian, q: usize, look: &LookData)
 }
 
 /// Makes an inverse anew, unless it may serve the verdict on a look, computed from the vertex q. Nothing is promised of it.
-pub fn renew_inverse_for_finding(inverse: &mut InverseLaplacian, q: usize, look: &LookData) {
+pub fn renew_game_inverse(inverse: &mut InverseLaplacian, q: usize, look: &LookData) {
     if !inverse.may_invert(&look.graph, q) {
-        make_inverse_for_finding(inverse, q, &look.graph);
+        make_game_inverse(inverse, q, &look.graph);
     }
 }
 
 /// Makes an inverse anew. It stands apart, so that no room for an inverse is cleared if the one that is kept serves.
 #[cold]
 #[inline(never)]
-fn make_inverse_for_finding(inverse: &mut InverseLaplacian, q: usize, graph: &Graph) {
+fn make_game_inverse(inverse: &mut InverseLaplacian, q: usize, graph: &Graph) {
     *inverse = InverseLaplacian::new(graph, q);
 }

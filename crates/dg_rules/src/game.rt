@@ -4,7 +4,7 @@ ghost use Rattle.std.specs.Bool.{OnTrue};
 ghost use Rattle.std.specs.Int.RustNames.{unsigned_abs};
 ghost use Rattle.dg_chips.specs.Starts.{StartData};
 ghost use Rattle.dg_chips.specs.Vector.{at};
-ghost use Rattle.dg_chips.specs.Moves.{script_of};
+ghost use Rattle.dg_chips.specs.Moves.{script_of_move};
 ghost use Rattle.dg_theory.specs.Firing.{FiresTo, AreEquivalent};
 ghost use Rattle.dg_verdict.specs.Right.{IsRight};
 ghost use Rattle.dg_rules.specs.MoveReplies.{RepliesToMove};
@@ -12,9 +12,9 @@ ghost use Rattle.dg_rules.specs.GiftReplies.{RepliesToGift};
 ghost use Rattle.dg_rules.specs.JoinReplies.{RepliesToJoin};
 ghost use Rattle.dg_rules.specs.Replies.{Replies, RepliesAt, RepliesToClaim};
 ghost use Rattle.dg_rules.specs.History.{with_entry};
-ghost use Rattle.dg_rules.specs.Legal.{IsSeat, IsLegal};
-ghost use Rattle.dg_rules.specs.Look.{IsLookAt, IsRightFinding, request_for_finding, request_for_question, KeepsFinding};
-ghost use Rattle.dg_rules.specs.State.{IsState, LeadsTo, IsRightReplyInState, IsNextGameState, position_of};
+ghost use Rattle.dg_rules.specs.Legal.{IsSeatInGame, IsLegal};
+ghost use Rattle.dg_rules.specs.Look.{IsLookAt, IsRightFinding, request_for_finding, request_for_question, ReplyKeepsFinding};
+ghost use Rattle.dg_rules.specs.State.{IsGameState, HistoryLeadsTo, IsRightReplyInState, IsNextGameState, position_of};
 ghost use Rattle.dg_rules.specs.Requests.{asked};
 ghost use Rattle.dg_rules.specs.declared.entry.Entry.{Entry as EntryData};
 ghost use Rattle.dg_rules.specs.declared.entry.Reply.TheVariants.{Given, Refused, Stale};
@@ -43,7 +43,7 @@ pub struct Game {
 }
 
 impl Model for Game {
-    ghost use Rattle.dg_rules.specs.State.{GameState, IsState};
+    ghost use Rattle.dg_rules.specs.State.{GameState, IsGameState};
 
     ghost Value = { GameState };
 
@@ -56,7 +56,7 @@ impl Model for Game {
       entries = a.entries;
     } };
 
-    ghost invariant = { λ a. IsState (record {
+    ghost invariant = { λ a. IsGameState (record {
       graph = a.graph;
       q = a.q;
       amounts = a.amounts;
@@ -78,7 +78,7 @@ impl Model for Game {
 impl Game {
     /// The game at its start.
     pub fn new(start: &Start) -> Game
-        ensures { LeadsTo start.now [] result }
+        ensures { HistoryLeadsTo start.now [] result }
     {
         Game {
             graph: *start.graph(),
@@ -108,7 +108,7 @@ impl Game {
     /// The amounts now.
     pub fn position(&self) -> &Divisor
         ensures amounts { result.now ≡ self.now.amounts }
-        ensures state { IsState self.now }
+        ensures state { IsGameState self.now }
     {
         &self.amounts
     }
@@ -149,12 +149,12 @@ impl Game {
     /// a seat of 1 to 64 calls. It takes no memory. The condition is that there are fewer than 65,536 entries.
     pub fn act(&mut self, plain: Plain) -> Reply
         requires { self.old.entries < MAX_ENTRIES }
-        ensures replies { (o : StartData) (H : List EntryData) → LeadsTo o H self.old →
+        ensures replies { (o : StartData) (H : List EntryData) → HistoryLeadsTo o H self.old →
             Replies o H (asked plain) result }
-        ensures leads { (o : StartData) (H : List EntryData) (seat : ℕ) → LeadsTo o H self.old →
-            LeadsTo o (with_entry H seat (asked plain) result) self.new }
-        ensures legal { (o : StartData) (H : List EntryData) (seat : ℕ) → LeadsTo o H self.old →
-            IsLegal o H → IsSeat seat → IsLegal o (with_entry H seat (asked plain) result) }
+        ensures leads { (o : StartData) (H : List EntryData) (seat : ℕ) → HistoryLeadsTo o H self.old →
+            HistoryLeadsTo o (with_entry H seat (asked plain) result) self.new }
+        ensures legal { (o : StartData) (H : List EntryData) (seat : ℕ) → HistoryLeadsTo o H self.old →
+            IsLegal o H → IsSeatInGame seat → IsLegal o (with_entry H seat (asked plain) result) }
     {
         let mut entry = BLANK;
         self.reply_to_call(0, &plain, &mut entry);
@@ -171,10 +171,10 @@ impl Game {
         ensures here { (before : ℕ → ℕ) →
             RepliesAt (position_of self.now) self.now.q before self.now.gifts entry.new.request
             entry.new.reply }
-        ensures replies { (o : StartData) (H : List EntryData) → LeadsTo o H self.now →
+        ensures replies { (o : StartData) (H : List EntryData) → HistoryLeadsTo o H self.now →
             Replies o H entry.new.request entry.new.reply }
-        ensures legal { (o : StartData) (H : List EntryData) → LeadsTo o H self.now →
-            IsLegal o H → IsSeat seat → IsLegal o (H ++ entry.new ∷ []) }
+        ensures legal { (o : StartData) (H : List EntryData) → HistoryLeadsTo o H self.now →
+            IsLegal o H → IsSeatInGame seat → IsLegal o (H ++ entry.new ∷ []) }
     {
         entry.seat = seat;
         plain.ask(&mut entry.request);
@@ -247,9 +247,9 @@ impl Game {
         requires room { self.old.entries < MAX_ENTRIES }
         requires right { IsRightReplyInState self.old entry.now.request entry.now.reply }
         ensures next { IsNextGameState self.old entry.now.request entry.now.reply self.new }
-        ensures leads { (o : StartData) (H : List EntryData) → LeadsTo o H self.old →
+        ensures leads { (o : StartData) (H : List EntryData) → HistoryLeadsTo o H self.old →
             Replies o H entry.now.request entry.now.reply →
-            LeadsTo o (H ++ entry.now ∷ []) self.new }
+            HistoryLeadsTo o (H ++ entry.now ∷ []) self.new }
     {
         self.follow_in_game(entry);
     }
@@ -264,7 +264,7 @@ impl Game {
         match &entry.reply {
             Reply::Moved(amounts) => {
                 if let Request::Move(made) = &entry.request {
-                    lends_few(made);
+                    move_lends_few(made);
                     self.drift = self.drift.plus(&self.graph, made);
                     self.amounts = *amounts;
                 }
@@ -298,18 +298,18 @@ impl Game {
     /// and that the finding is right for the amounts of the look, on its graph.
     pub fn settle(&mut self, look: &LookData, finding: &Finding) -> Reply
         requires room { self.old.entries < MAX_ENTRIES }
-        requires look { (o : StartData) × (H : List EntryData) × LeadsTo o H self.old ×
+        requires look { (o : StartData) × (H : List EntryData) × HistoryLeadsTo o H self.old ×
             IsLookAt o H look.now }
         requires found { IsRightFinding self.old.q look.now finding.now }
-        ensures replies { (o : StartData) (H : List EntryData) → LeadsTo o H self.old →
+        ensures replies { (o : StartData) (H : List EntryData) → HistoryLeadsTo o H self.old →
             IsLookAt o H look.now → Replies o H (request_for_finding look.now.number finding.now) result }
-        ensures leads { (o : StartData) (H : List EntryData) (seat : ℕ) → LeadsTo o H self.old →
+        ensures leads { (o : StartData) (H : List EntryData) (seat : ℕ) → HistoryLeadsTo o H self.old →
             IsLookAt o H look.now →
-            LeadsTo o (with_entry H seat (request_for_finding look.now.number finding.now) result) self.new }
-        ensures legal { (o : StartData) (H : List EntryData) (seat : ℕ) → LeadsTo o H self.old →
-            IsLookAt o H look.now → IsLegal o H → IsSeat seat →
+            HistoryLeadsTo o (with_entry H seat (request_for_finding look.now.number finding.now) result) self.new }
+        ensures legal { (o : StartData) (H : List EntryData) (seat : ℕ) → HistoryLeadsTo o H self.old →
+            IsLookAt o H look.now → IsLegal o H → IsSeatInGame seat →
             IsLegal o (with_entry H seat (request_for_finding look.now.number finding.now) result) }
-        ensures kept { KeepsFinding finding.now result }
+        ensures kept { ReplyKeepsFinding finding.now result }
     {
         let mut entry = BLANK;
         self.reply_to_finding(0, look, finding, &mut entry);
@@ -321,16 +321,16 @@ impl Game {
     /// `follow_entry` takes the entry into the history. The conditions are those of `settle` but for the number of entries.
     #[inline(always)]
     pub fn reply_to_finding(&self, seat: u8, look: &LookData, finding: &Finding, entry: &mut Entry)
-        requires look { (o : StartData) × (H : List EntryData) × LeadsTo o H self.now ×
+        requires look { (o : StartData) × (H : List EntryData) × HistoryLeadsTo o H self.now ×
             IsLookAt o H look.now }
         requires found { IsRightFinding self.now.q look.now finding.now }
         ensures seat { entry.new.seat ≡ seat }
         ensures request { entry.new.request ≡ request_for_finding look.now.number finding.now }
-        ensures replies { (o : StartData) (H : List EntryData) → LeadsTo o H self.now →
+        ensures replies { (o : StartData) (H : List EntryData) → HistoryLeadsTo o H self.now →
             IsLookAt o H look.now → Replies o H entry.new.request entry.new.reply }
-        ensures legal { (o : StartData) (H : List EntryData) → LeadsTo o H self.now →
-            IsLookAt o H look.now → IsLegal o H → IsSeat seat → IsLegal o (H ++ entry.new ∷ []) }
-        ensures kept { KeepsFinding finding.now entry.new.reply }
+        ensures legal { (o : StartData) (H : List EntryData) → HistoryLeadsTo o H self.now →
+            IsLookAt o H look.now → IsLegal o H → IsSeatInGame seat → IsLegal o (H ++ entry.new ∷ []) }
+        ensures kept { ReplyKeepsFinding finding.now entry.new.reply }
     {
         entry.seat = seat;
         entry.request = finding.request(look.number);
@@ -340,12 +340,12 @@ impl Game {
     /// Writes the reply to a finding that is right as the game stands.
     #[inline(always)]
     fn reply_to_right_finding(&self, look: &LookData, finding: &Finding, reply: &mut Reply)
-        requires look { (o : StartData) × (H : List EntryData) × LeadsTo o H self.now ×
+        requires look { (o : StartData) × (H : List EntryData) × HistoryLeadsTo o H self.now ×
             IsLookAt o H look.now }
         requires found { IsRightFinding self.now.q look.now finding.now }
-        ensures replies { (o : StartData) (H : List EntryData) → LeadsTo o H self.now →
+        ensures replies { (o : StartData) (H : List EntryData) → HistoryLeadsTo o H self.now →
             IsLookAt o H look.now → Replies o H (request_for_finding look.now.number finding.now) reply.new }
-        ensures kept { KeepsFinding finding.now reply.new }
+        ensures kept { ReplyKeepsFinding finding.now reply.new }
     {
         if self.gifts != look.gifts {
             *reply = Reply::Stale(self.gifts);
@@ -373,10 +373,10 @@ impl Game {
         ensures request { entry.new.request ≡ request_for_question look.now.number asks.now }
         ensures stale { entry.new.reply ≡ Stale self.now.gifts }
         ensures replies { (o : StartData) (H : List EntryData) →
-            LeadsTo o H self.now → IsLookAt o H look.now →
+            HistoryLeadsTo o H self.now → IsLookAt o H look.now →
             Replies o H entry.new.request entry.new.reply }
-        ensures legal { (o : StartData) (H : List EntryData) → LeadsTo o H self.now →
-            IsLookAt o H look.now → IsLegal o H → IsSeat seat → IsLegal o (H ++ entry.new ∷ []) }
+        ensures legal { (o : StartData) (H : List EntryData) → HistoryLeadsTo o H self.now →
+            IsLookAt o H look.now → IsLegal o H → IsSeatInGame seat → IsLegal o (H ++ entry.new ∷ []) }
     {
         entry.seat = seat;
         entry.request = asks.request(look.number);
@@ -464,8 +464,8 @@ fn refuse(reply: &mut Reply, refusal: Refusal)
 }
 
 /// A move lends, and borrows, at most 1,000,000,000 times at each vertex.
-fn lends_few(play: &Move)
-    ensures { (v : ℕ) → unsigned_abs (script_of play.now v) ≤ MAX_ENTRY }
+fn move_lends_few(play: &Move)
+    ensures { (v : ℕ) → unsigned_abs (script_of_move play.now v) ≤ MAX_ENTRY }
 {
     if let Move::Script(script) = play {
         let _size = script.size();

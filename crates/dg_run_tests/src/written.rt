@@ -1,5 +1,5 @@
 //! Replies that no line of a run comes to, and how they are written.
-ghost use Rattle.dg_lines.specs.Texts.{HasNames};
+ghost use Rattle.dg_lines.specs.Texts.{TextHasNames};
 
 use dg_chips::{Divisor, Script, Wide};
 use dg_file::Names;
@@ -68,7 +68,7 @@ fn is_written(
     reply: &Reply,
     want: &str,
 ) -> Result<(), Fail>
-    requires { HasNames names.now reply.now }
+    requires { TextHasNames names.now reply.now }
 {
     let text = reply_text(alloc, reply, names)?;
     assert!(rt; text.as_slice() == want.as_bytes(), "at {want}");

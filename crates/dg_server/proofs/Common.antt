@@ -9,18 +9,18 @@ pub use Rattle.dg_party.specs.Parties.{IsParty, IsPartyRefused}
 pub use Rattle.dg_party.specs.Sessions.{contents}
 pub use Rattle.dg_party.specs.declared.ending.PartyRefusal.{PartyRefusal}
 pub use Rattle.dg_party.specs.declared.ending.PartyRefusal.TheVariants.{Log, Shortage}
-pub use Rattle.dg_server.specs.Parties.{IsPartyOn, IsRefusedOn, early, names_in}
-pub use Rattle.dg_server.specs.Sessions.{IsHeardInRun, IsServed, IsUnclosedInRun}
+pub use Rattle.dg_server.specs.Parties.{IsPartyInRun, IsRunRefusedOn, early, script_names_of_run}
+pub use Rattle.dg_server.specs.Sessions.{IsHeardInRun, IsServedInRun, IsUnclosedInRun}
 pub use Rattle.dg_server.specs.declared.fault.Fault.TheVariants.{Words}
 pub use Rattle.dg_session.proofs.Entered.{entered_all, full_at_close}
-pub use Rattle.dg_session.specs.Setup.{Setup}
+pub use Rattle.dg_session.specs.Setup.{SessionSetup}
 pub use Rattle.dg_session.specs.Streams.{Passage}
 pub use Rattle.dg_session.specs.declared.ends.SessionEnd.{SessionEnd}
 pub use Rattle.dg_system.specs.AllHeld.{MayHoldAllSourceBytes}
 pub use Rattle.dg_system.specs.Held.{Held}
 pub use Rattle.dg_table.proofs.Complete.{all_there, none_missing}
 pub use Rattle.dg_table.specs.Closing.{IsCloseRefused, IsClosed}
-pub use Rattle.dg_table.specs.Opened.{AreFresh, TableMayHaveSeats}
+pub use Rattle.dg_table.specs.Opened.{AreFreshSeats, TableMayHaveSeats}
 pub use Rattle.dg_table.specs.Seats.{SeatView}
 pub use Rattle.dg_tasks.specs.Tasks.{DescribesTaskTable}
 pub use Rattle.std.proofs.Common.{Bor, Err, Global, List, None, Ok, Option, Result, Some, Vec, [], ap, arith, inl, inr, length, map, refl, rules, subst, suc, sym, take, ℕ, ◌++◌, ◌+◌, ◌<◌, ◌∙◌, ◌∷◌, ◌≡◌, ◌≤◌}

@@ -9,7 +9,7 @@
 --   reader_anew, writer_anew   a reader, and a writer, to which nothing has happened
 use Rattle.dg_system.specs.Growth.{StreamReading, StreamWriting, reading_anew, writing_anew}
 use Rattle.std.specs.Prelude.{false}
-use Rattle.dg_server.proofs.Common.{◌≡◌, ℕ, suc, ◌≤◌, List, [], ◌∷◌, ◌++◌, length, take, map, Option, None, Some, refl, sym, ap, subst, ◌∙◌, Bor, Vec, Global, length-map, take-append_seam, MAX_SEATS, TableMayHaveSeats, SeatView, Held, StartData, Entry, IsClosed, IsCloseRefused, all_there, none_missing, entered_all, full_at_close, Setup, Passage, IsHeardInRun, IsServed, IsUnclosedInRun, SessionEnd, contents, IsParty, IsPartyRefused, contents_count, PartyRefusal, PartyTask, DescribesTaskTable, MayHoldAllSourceBytes, Keeps, names_in, IsPartyOn, IsRefusedOn, table_data_of, Result}
+use Rattle.dg_server.proofs.Common.{◌≡◌, ℕ, suc, ◌≤◌, List, [], ◌∷◌, ◌++◌, length, take, map, Option, None, Some, refl, sym, ap, subst, ◌∙◌, Bor, Vec, Global, length-map, take-append_seam, MAX_SEATS, TableMayHaveSeats, SeatView, Held, StartData, Entry, IsClosed, IsCloseRefused, all_there, none_missing, entered_all, full_at_close, SessionSetup, Passage, IsHeardInRun, IsServedInRun, IsUnclosedInRun, SessionEnd, contents, IsParty, IsPartyRefused, contents_count, PartyRefusal, PartyTask, DescribesTaskTable, MayHoldAllSourceBytes, Keeps, script_names_of_run, IsPartyInRun, IsRunRefusedOn, table_data_of, Result}
 
 pub held_count : (held : List ℕ → Held) (names all : List (List ℕ)) → MayHoldAllSourceBytes held names all
     → length all ≡ length names
@@ -33,10 +33,10 @@ may_play held n names all known count least most =
     let total : length all ≡ n = sym scripts ∙ same ∙ given ∙ sym count in
     rw total (least, most)
 
-pub served : {t : Setup} {input output : Passage} {end : Result ℕ SessionEnd}
+pub served : {t : SessionSetup} {input output : Passage} {end : Result ℕ SessionEnd}
     (heard : IsHeardInRun t input output end) (H : List Entry)
     → map (λ (x : SeatView). x.number) heard.after ≡ map (λ (x : SeatView). x.number) heard.seats
-    → IsClosed t.table heard.after H → IsServed t input output end
+    → IsClosed t.table heard.after H → IsServedInRun t input output end
 served heard H same closed = record {
   heard = heard;
   history = H;
@@ -45,7 +45,7 @@ served heard H same closed = record {
   whole = entered_all heard.session.over heard.fresh same closed;
 }
 
-pub unclosed : {t : Setup} {input output : Passage} {end : Result ℕ SessionEnd}
+pub unclosed : {t : SessionSetup} {input output : Passage} {end : Result ℕ SessionEnd}
     (heard : IsHeardInRun t input output end) (zs : List SeatView) (s : ℕ)
     → map (λ (x : SeatView). x.number) heard.after ≡ map (λ (x : SeatView). x.number) heard.seats
     → IsCloseRefused t.table heard.after zs s → IsUnclosedInRun t input output
@@ -62,9 +62,9 @@ unclosed {t} {end = end} heard zs s same refused =
 pub party_on : (held : List ℕ → Held) (task : PartyTask) (o : StartData) (names : List (List ℕ))
     (all : List (Vec ℕ Global))
     (ends : List (Result ℕ SessionEnd)) (text : List ℕ) → DescribesTaskTable (held task.file.now) o names →
-    MayHoldAllSourceBytes held (names_in task) (map (λ script. script.items) all)
+    MayHoldAllSourceBytes held (script_names_of_run task) (map (λ script. script.items) all)
     → IsParty (table_data_of o (length all) task.capacity) names (contents all) ends text →
-    IsPartyOn held task ends text
+    IsPartyInRun held task ends text
 party_on held task o names all ends text table known party =
     record {
       start = o;
@@ -80,8 +80,9 @@ party_on held task o names all ends text table known party =
 pub refused_lent : (held : List ℕ → Held) (task : PartyTask) {o o' : StartData} {names names' : List (List ℕ)}
     (all : List (Vec ℕ Global)) (refusal : PartyRefusal) → o' ≡ o → names' ≡ names → DescribesTaskTable (held task.file.now)
     o names
-    → MayHoldAllSourceBytes held (names_in task) (map (λ script. script.items) all)
-    → IsPartyRefused (table_data_of o' (length all) task.capacity) names' (contents all) refusal → IsRefusedOn held task refusal
+    → MayHoldAllSourceBytes held (script_names_of_run task) (map (λ script. script.items) all)
+    → IsPartyRefused (table_data_of o' (length all) task.capacity) names' (contents all) refusal
+    → IsRunRefusedOn held task refusal
 refused_lent held task {o} {o'} {names} {names'} all refusal opened named table known refused =
     let at : ℕ → StartData → List (List ℕ) → Type 0 =
     λ n x ns. IsPartyRefused (table_data_of x n task.capacity) ns (contents all) refusal in

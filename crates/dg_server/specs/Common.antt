@@ -15,7 +15,7 @@ pub use Rattle.dg_log.specs.Tables.{table_data_of}
 pub use Rattle.dg_party.specs.Parties.{IsParty, IsPartyRefused}
 pub use Rattle.dg_party.specs.declared.ending.PartyRefusal.{PartyRefusal}
 pub use Rattle.dg_session.specs.Ends.{IsSession}
-pub use Rattle.dg_session.specs.Setup.{Setup, setup}
+pub use Rattle.dg_session.specs.Setup.{SessionSetup, session_setup}
 pub use Rattle.dg_session.specs.Streams.{Passage, passage}
 pub use Rattle.dg_session.specs.declared.ends.SessionEnd.{SessionEnd}
 pub use Rattle.dg_session.specs.declared.ends.SessionEnd.TheVariants.{Table}
@@ -26,14 +26,14 @@ pub use Rattle.dg_sweep.specs.Divisors.{AnswersAmounts}
 pub use Rattle.dg_sweep.specs.Sweeps.{IsSweep}
 pub use Rattle.dg_sweep.specs.declared.ends.SweepEnd.{SweepEnd}
 pub use Rattle.dg_system.specs.AllHeld.{IsFirstUnreadSource, MayHoldAllSourceBytes}
-pub use Rattle.dg_system.specs.Growth.{AppendsFrontToOutput, StreamReading, StreamWriting}
+pub use Rattle.dg_system.specs.Growth.{AppendsFrontToStream, StreamReading, StreamWriting}
 pub use Rattle.dg_system.specs.Held.{Held, MayHoldSourceBytes, RefusesSource}
 pub use Rattle.dg_system.specs.Streams.{MayGiveAsStream, RefusesSourceStream}
 pub use Rattle.dg_system.specs.declared.shortage.Shortage.TheVariants.{OutOfMemory}
 pub use Rattle.dg_system.specs.declared.sources.SourceFault.{SourceFault}
 pub use Rattle.dg_system.specs.declared.sources.SourceFault.TheVariants.{TooLong, Unreadable}
 pub use Rattle.dg_table.specs.Closing.{IsCloseRefused, IsClosed}
-pub use Rattle.dg_table.specs.Opened.{AreFresh}
+pub use Rattle.dg_table.specs.Opened.{AreFreshSeats}
 pub use Rattle.dg_table.specs.Seats.{SeatView}
 pub use Rattle.dg_table.specs.declared.fault.Fault.TheVariants.{Full, Log}
 pub use Rattle.dg_tasks.specs.Tasks.{DescribesTaskTable, IsAnswer, IsOnTaskTable, RefusesTaskContents, RefusesTaskTable, RefusesTask}

@@ -12,20 +12,20 @@
 use Rattle.std.specs.Prelude.{◌≡◌, ◌⊎◌, ℕ, List, Option, string_bytes, ⊤}
 use Rattle.std.specs.Io.KnownBytes.{Appends, Keeps}
 use Rattle.dg_server.specs.Common.{Passage, StreamReading, Held, IsAnswer, RefusesTask, Invocation, Task, Serve, Party, Sweep, Text}
-use Rattle.dg_server.specs.OfTasks.{IsOfTask}
+use Rattle.dg_server.specs.OfTasks.{IsRunOfTask}
 use Rattle.dg_server.specs.Streams.{BreaksOffRun}
-use Rattle.dg_server.specs.Sessions.{Serves, RefusesServing}
-use Rattle.dg_server.specs.Parties.{PlaysParty, RefusesParty}
-use Rattle.dg_server.specs.Sweeping.{Sweeps, RefusesSweeping}
+use Rattle.dg_server.specs.Sessions.{RunServes, RunRefusesServing}
+use Rattle.dg_server.specs.Parties.{RunPlaysParty, RunRefusesParty}
+use Rattle.dg_server.specs.Sweeping.{RunSweeps, RunRefusesSweeping}
 use Rattle.dg_server.specs.declared.fault.Fault.{Fault}
 
 abbrev pub Performs : (List ℕ → Held) → Passage → Invocation → Option (List ℕ) → Option (List ℕ)
     → Type 0
 Performs held input (Task task) old new = (text : List ℕ) × IsAnswer held task text
     × Appends old new text
-Performs held input (Serve task) old new = Serves held input task old new
-Performs held input (Party task) old new = PlaysParty held task old new
-Performs held input (Sweep task) old new = Sweeps held task old new
+Performs held input (Serve task) old new = RunServes held input task old new
+Performs held input (Party task) old new = RunPlaysParty held task old new
+Performs held input (Sweep task) old new = RunSweeps held task old new
 Performs held input (Text help) old new = Appends old new (string_bytes help)
 
 abbrev pub LeavesInputOfRun : Invocation → StreamReading → StreamReading → Type 0
@@ -35,9 +35,9 @@ LeavesInputOfRun asked input rest = rest ≡ input
 abbrev pub RefusesToPerform : (List ℕ → Held) → Passage → Invocation → Fault → Option (List ℕ)
     → Option (List ℕ) → Type 0
 RefusesToPerform held input (Task task) fault old new =
-    (IsOfTask (RefusesTask held task) fault × Keeps old new)
+    (IsRunOfTask (RefusesTask held task) fault × Keeps old new)
     ⊎ ((text : List ℕ) × IsAnswer held task text × BreaksOffRun fault old new text)
-RefusesToPerform held input (Serve task) fault old new = RefusesServing held input task fault old new
-RefusesToPerform held input (Party task) fault old new = RefusesParty held task fault old new
-RefusesToPerform held input (Sweep task) fault old new = RefusesSweeping held task fault old new
+RefusesToPerform held input (Serve task) fault old new = RunRefusesServing held input task fault old new
+RefusesToPerform held input (Party task) fault old new = RunRefusesParty held task fault old new
+RefusesToPerform held input (Sweep task) fault old new = RunRefusesSweeping held task fault old new
 RefusesToPerform held input (Text help) fault old new = BreaksOffRun fault old new (string_bytes help)

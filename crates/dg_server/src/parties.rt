@@ -3,9 +3,9 @@ ghost use Rattle.std.specs.Prelude.{◌≡◌, ◌⊎◌, ℕ, List, [], length,
 ghost use Rattle.std.specs.Io.KnownBytes.{Appends, Keeps};
 ghost use Rattle.dg_system.specs.Held.{Held};
 ghost use Rattle.dg_table.specs.Opened.{TableMayHaveSeats};
-ghost use Rattle.dg_server.specs.OfTasks.{IsOfTask};
-ghost use Rattle.dg_server.specs.Parties.{early, PartyFilesAreHeld, PlaysParty, names_in, RefusesFilesAsked, IsRunPrintedWith, EndsSomeOfParty, IsWantingInRun, RefusesParty};
-ghost use Rattle.dg_server.specs.Streams.{IsOfInput, IsOfOutput};
+ghost use Rattle.dg_server.specs.OfTasks.{IsRunOfTask};
+ghost use Rattle.dg_server.specs.Parties.{early, PartyFilesAreHeld, RunPlaysParty, script_names_of_run, RefusesFilesAsked, IsRunPrintedWith, RunEndsSomeOfParty, IsWantingInRun, RunRefusesParty};
+ghost use Rattle.dg_server.specs.Streams.{IsRunInput, IsRunOutput};
 
 use crate::fault::Fault;
 use dg_file::{TableFile, read_table};
@@ -23,7 +23,7 @@ use std::sync::Wait;
 use std::thread::Threads;
 
 /// Plays the scripts that are named on the table of the file that is named, and prints the history and the totals.
-pub(crate) fn play_party<R, S, O>(
+pub(crate) fn run_party<R, S, O>(
     rt: &R,
     task: &PartyTask<'_>,
     sources: &S,
@@ -34,25 +34,25 @@ where
     S: Sources,
     O: Write,
     ensures done { OnOk result
-        (PlaysParty (S.held sources.now) task.now output.old.contents output.new.contents) }
+        (RunPlaysParty (S.held sources.now) task.now output.old.contents output.new.contents) }
     ensures refused { IfErr result
-        (λ fault. RefusesParty (S.held sources.now) task.now fault output.old.contents
+        (λ fault. RunRefusesParty (S.held sources.now) task.now fault output.old.contents
         output.new.contents) }
-    ensures read { IfErr result (λ fault. ¬ IsOfInput fault) }
-    ensures write { IfErr result (λ fault. IsOfOutput fault → output.new.has_failed ≡ true) }
+    ensures read { IfErr result (λ fault. ¬ IsRunInput fault) }
+    ensures write { IfErr result (λ fault. IsRunOutput fault → output.new.has_failed ≡ true) }
 {
     if task.scripts.len() > usize::from(MAX_SEATS) {
         return Err(Fault::Seats);
     }
-    let (table, scripts) = match read_files(rt, task, sources) {
+    let (table, scripts) = match read_files_of_run(rt, task, sources) {
         Ok(read) => read,
         Err(fault) => return Err(fault),
     };
-    play_scripts(rt, task, &table, scripts.as_slice(), output)
+    perform_scripts(rt, task, &table, scripts.as_slice(), output)
 }
 
 /// Plays the scripts that were read for the task on its table, and prints the history and the totals.
-fn play_scripts<R, O>(
+fn perform_scripts<R, O>(
     rt: &R,
     task: &PartyTask<'_>,
     table: &TableFile,
@@ -65,13 +65,13 @@ where
     requires { TableMayHaveSeats (length scripts.now) }
     ensures done { OnOk result ((held : List ℕ → Held)
         → PartyFilesAreHeld held task.now table.now.start table.now.names (map (λ script. script.items) scripts.now)
-        → PlaysParty held task.now output.old.contents output.new.contents) }
+        → RunPlaysParty held task.now output.old.contents output.new.contents) }
     ensures refused { IfErr result (λ fault. (held : List ℕ → Held)
         → PartyFilesAreHeld held task.now table.now.start table.now.names (map (λ script. script.items) scripts.now)
         → (IsWantingInRun held task.now fault × Keeps output.old.contents output.new.contents)
-        ⊎ EndsSomeOfParty held task.now fault output.old.contents output.new.contents) }
-    ensures read { IfErr result (λ fault. ¬ IsOfInput fault) }
-    ensures write { IfErr result (λ fault. IsOfOutput fault → output.new.has_failed ≡ true) }
+        ⊎ RunEndsSomeOfParty held task.now fault output.old.contents output.new.contents) }
+    ensures read { IfErr result (λ fault. ¬ IsRunInput fault) }
+    ensures write { IfErr result (λ fault. IsRunOutput fault → output.new.has_failed ≡ true) }
 {
     let played = match party(
         rt,
@@ -90,7 +90,7 @@ where
 }
 
 /// The table of the file that is named, and the bytes of the scripts. All files are read before the table's is judged.
-fn read_files<R, S>(
+fn read_files_of_run<R, S>(
     rt: &R,
     task: &PartyTask<'_>,
     sources: &S,
@@ -102,7 +102,7 @@ where
         (λ r. PartyFilesAreHeld (S.held sources.now) task.now r.0.start r.0.names
         (map (λ script. script.items) r.1.items)) }
     ensures refused { IfErr result
-        (IsOfTask (RefusesFilesAsked (S.held sources.now) task.now.file.now (names_in task.now))) }
+        (IsRunOfTask (RefusesFilesAsked (S.held sources.now) task.now.file.now (script_names_of_run task.now))) }
 {
     let file = match sources.bytes(rt, task.file) {
         Ok(file) => file,
@@ -129,8 +129,8 @@ fn print_played<O: Write>(
     ensures refused { IfErr result
         (λ fault. IsRunPrintedWith played.now.ends.items played.now.text.items fault
         output.old.contents output.new.contents) }
-    ensures read { IfErr result (λ fault. ¬ IsOfInput fault) }
-    ensures write { IfErr result (λ fault. IsOfOutput fault → output.new.has_failed ≡ true) }
+    ensures read { IfErr result (λ fault. ¬ IsRunInput fault) }
+    ensures write { IfErr result (λ fault. IsRunOutput fault → output.new.has_failed ≡ true) }
 {
     let all = match early_ends_of_run(alloc, played.ends.as_slice()) {
         Ok(all) => all,

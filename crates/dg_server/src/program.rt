@@ -2,11 +2,11 @@
 ghost use Rattle.std.specs.Prelude.{◌≡◌, true, IfErr, OnOk};
 ghost use Rattle.dg_session.specs.Streams.{passage};
 ghost use Rattle.dg_server.specs.Performed.{Performs, LeavesInputOfRun, RefusesToPerform};
-ghost use Rattle.dg_server.specs.Streams.{IsOfInput, IsOfOutput};
+ghost use Rattle.dg_server.specs.Streams.{IsRunInput, IsRunOutput};
 
 use crate::fault::Fault;
-use crate::parties::play_party;
-use crate::serve::serve_input;
+use crate::parties::run_party;
+use crate::serve::serve_run_input;
 use crate::sweeps::sweep_file;
 use dg_invocation::Invocation;
 use dg_system::{Input, Output, Sources};
@@ -38,8 +38,8 @@ where
         (λ fault. RefusesToPerform (S.held sources.now) (passage input.old.remaining input.new.remaining)
         asked.entry fault output.old.contents output.new.contents) }
     ensures left { LeavesInputOfRun asked.entry input.old input.new }
-    ensures read { IfErr result (λ fault. IsOfInput fault → input.new.has_failed ≡ true) }
-    ensures write { IfErr result (λ fault. IsOfOutput fault → output.new.has_failed ≡ true) }
+    ensures read { IfErr result (λ fault. IsRunInput fault → input.new.has_failed ≡ true) }
+    ensures write { IfErr result (λ fault. IsRunOutput fault → output.new.has_failed ≡ true) }
 {
     match asked {
         Invocation::Text(text) => Ok(output.write_whole(text.as_bytes())?),
@@ -47,8 +47,8 @@ where
             Ok(text) => Ok(output.write_whole(text.as_slice())?),
             Err(fault) => Err(Fault::Task(fault)),
         },
-        Invocation::Serve(task) => serve_input(rt, &task, sources, input, output),
+        Invocation::Serve(task) => serve_run_input(rt, &task, sources, input, output),
         Invocation::Sweep(task) => sweep_file(rt, &task, sources, output),
-        Invocation::Party(task) => play_party(rt, &task, sources, output),
+        Invocation::Party(task) => run_party(rt, &task, sources, output),
     }
 }

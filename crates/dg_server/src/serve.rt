@@ -2,12 +2,12 @@
 ghost use Rattle.std.specs.Prelude.{◌≡◌, ℕ, length, Ok, true, IfErr, OnOk};
 ghost use Rattle.dg_invocation.specs.Seats.{seats_asked_for};
 ghost use Rattle.dg_log.specs.Tables.{table_data_of};
-ghost use Rattle.dg_session.specs.Setup.{setup};
+ghost use Rattle.dg_session.specs.Setup.{session_setup};
 ghost use Rattle.dg_session.specs.Streams.{passage};
 ghost use Rattle.dg_rank.specs.Ranks.{MayHaveRankWorkers};
 ghost use Rattle.dg_table.specs.Opened.{TableMayHaveSeats};
-ghost use Rattle.dg_server.specs.Sessions.{line_format, session_of_run, Serves, RunEndsEarly, IsServed, RefusesServing};
-ghost use Rattle.dg_server.specs.Streams.{IsOfInput, IsOfOutput};
+ghost use Rattle.dg_server.specs.Sessions.{line_format, session_of_run, RunServes, RunEndsEarly, IsServedInRun, RunRefusesServing};
+ghost use Rattle.dg_server.specs.Streams.{IsRunInput, IsRunOutput};
 
 use crate::fault::Fault;
 use dg_file::TableFile;
@@ -25,7 +25,7 @@ use std::sync::Wait;
 use std::thread::Threads;
 
 /// Answers the lines of the input, on the table of the file that is named.
-pub(crate) fn serve_input<R, S, I, O>(
+pub(crate) fn serve_run_input<R, S, I, O>(
     rt: &R,
     task: &ServeTask<'_>,
     sources: &S,
@@ -38,12 +38,12 @@ where
     I: Read,
     O: Write,
     ensures done { OnOk result
-        (Serves (S.held sources.now) (passage input.old.remaining input.new.remaining) task.now
+        (RunServes (S.held sources.now) (passage input.old.remaining input.new.remaining) task.now
         output.old.contents output.new.contents) }
-    ensures read { IfErr result (λ fault. IsOfInput fault → input.new.has_failed ≡ true) }
-    ensures write { IfErr result (λ fault. IsOfOutput fault → output.new.has_failed ≡ true) }
+    ensures read { IfErr result (λ fault. IsRunInput fault → input.new.has_failed ≡ true) }
+    ensures write { IfErr result (λ fault. IsRunOutput fault → output.new.has_failed ≡ true) }
     ensures refused { IfErr result
-        (λ fault. RefusesServing (S.held sources.now)
+        (λ fault. RunRefusesServing (S.held sources.now)
         (passage input.old.remaining input.new.remaining) task.now fault output.old.contents
         output.new.contents) }
 {
@@ -67,10 +67,10 @@ where
     I: Read,
     O: Write,
     ensures done { OnOk result ((count : ℕ)
-        × IsServed (session_of_run task.now table.now.start table.now.names)
+        × IsServedInRun (session_of_run task.now table.now.start table.now.names)
         (passage input.old.remaining input.new.remaining) (passage output.old.contents output.new.contents) (Ok count)) }
-    ensures read { IfErr result (λ fault. IsOfInput fault → input.new.has_failed ≡ true) }
-    ensures write { IfErr result (λ fault. IsOfOutput fault → output.new.has_failed ≡ true) }
+    ensures read { IfErr result (λ fault. IsRunInput fault → input.new.has_failed ≡ true) }
+    ensures write { IfErr result (λ fault. IsRunOutput fault → output.new.has_failed ≡ true) }
     ensures early { IfErr result (λ fault. RunEndsEarly (session_of_run task.now table.now.start table.now.names)
         (passage input.old.remaining input.new.remaining) fault (passage output.old.contents output.new.contents)) }
 {
@@ -115,12 +115,12 @@ where
     requires some { TableMayHaveSeats seats }
     requires workers { MayHaveRankWorkers workers }
     ensures done { OnOk result ((count : ℕ)
-        × IsServed (setup how (table_data_of table.now.start seats (length row)) table.now.names workers)
+        × IsServedInRun (session_setup how (table_data_of table.now.start seats (length row)) table.now.names workers)
         (passage input.old.remaining input.new.remaining) (passage output.old.contents output.new.contents) (Ok count)) }
-    ensures read { IfErr result (λ fault. IsOfInput fault → input.new.has_failed ≡ true) }
-    ensures write { IfErr result (λ fault. IsOfOutput fault → output.new.has_failed ≡ true) }
+    ensures read { IfErr result (λ fault. IsRunInput fault → input.new.has_failed ≡ true) }
+    ensures write { IfErr result (λ fault. IsRunOutput fault → output.new.has_failed ≡ true) }
     ensures early { IfErr result (λ fault.
-        RunEndsEarly (setup how (table_data_of table.now.start seats (length row)) table.now.names workers)
+        RunEndsEarly (session_setup how (table_data_of table.now.start seats (length row)) table.now.names workers)
         (passage input.old.remaining input.new.remaining) fault (passage output.old.contents output.new.contents)) }
 {
     let alloc = rt.alloc();

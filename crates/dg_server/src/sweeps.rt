@@ -1,8 +1,8 @@
 //! Sweeps over the lines of a file.
 ghost use Rattle.std.specs.Prelude.{◌≡◌, true, IfErr, OnOk, Some, None};
 ghost use Rattle.dg_tasks.specs.Tasks.{DescribesTaskTable};
-ghost use Rattle.dg_server.specs.Sweeping.{Sweeps, RefusesSweeping};
-ghost use Rattle.dg_server.specs.Streams.{IsOfInput, IsOfOutput};
+ghost use Rattle.dg_server.specs.Sweeping.{RunSweeps, RunRefusesSweeping};
+ghost use Rattle.dg_server.specs.Streams.{IsRunInput, IsRunOutput};
 
 use crate::fault::Fault;
 use dg_file::TableFile;
@@ -27,10 +27,10 @@ where
     S: Sources,
     O: Write,
     ensures done { OnOk result
-        (Sweeps (S.held sources.now) task.now output.old.contents output.new.contents) }
-    ensures read { IfErr result (λ fault. ¬ IsOfInput fault) }
-    ensures write { IfErr result (λ fault. IsOfOutput fault → output.new.has_failed ≡ true) }
-    ensures refused { IfErr result (λ fault. RefusesSweeping (S.held sources.now) task.now fault
+        (RunSweeps (S.held sources.now) task.now output.old.contents output.new.contents) }
+    ensures read { IfErr result (λ fault. ¬ IsRunInput fault) }
+    ensures write { IfErr result (λ fault. IsRunOutput fault → output.new.has_failed ≡ true) }
+    ensures refused { IfErr result (λ fault. RunRefusesSweeping (S.held sources.now) task.now fault
         output.old.contents output.new.contents) }
 {
     match task.divisors {
@@ -39,14 +39,14 @@ where
                 Ok(table) => table,
                 Err(fault) => return Err(Fault::Task(fault)),
             };
-            sweep_amounts(rt, task, lines, &table, sources, output)
+            run_sweep_of_amounts(rt, task, lines, &table, sources, output)
         }
-        None => sweep_tables(rt, task, sources, output),
+        None => run_sweep_of_tables(rt, task, sources, output),
     }
 }
 
 /// Answers the lines of a file of tables.
-fn sweep_tables<R, S, O>(
+fn run_sweep_of_tables<R, S, O>(
     rt: &R,
     task: &SweepTask<'_>,
     sources: &S,
@@ -58,10 +58,10 @@ where
     O: Write,
     requires { task.now.divisors ≡ None }
     ensures done { OnOk result
-        (Sweeps (S.held sources.now) task.now output.old.contents output.new.contents) }
-    ensures read { IfErr result (λ fault. ¬ IsOfInput fault) }
-    ensures write { IfErr result (λ fault. IsOfOutput fault → output.new.has_failed ≡ true) }
-    ensures refused { IfErr result (λ fault. RefusesSweeping (S.held sources.now) task.now fault
+        (RunSweeps (S.held sources.now) task.now output.old.contents output.new.contents) }
+    ensures read { IfErr result (λ fault. ¬ IsRunInput fault) }
+    ensures write { IfErr result (λ fault. IsRunOutput fault → output.new.has_failed ≡ true) }
+    ensures refused { IfErr result (λ fault. RunRefusesSweeping (S.held sources.now) task.now fault
         output.old.contents output.new.contents) }
 {
     let stream = match sources.open(rt, task.file) {
@@ -83,7 +83,7 @@ where
 }
 
 /// Answers the lines of a file of amounts for the table that was read.
-fn sweep_amounts<R, S, O>(
+fn run_sweep_of_amounts<R, S, O>(
     rt: &R,
     task: &SweepTask<'_>,
     lines: &str,
@@ -98,10 +98,10 @@ where
     requires divisors { task.now.divisors ≡ Some lines }
     requires table { DescribesTaskTable (S.held sources.now task.now.file.now) table.now.start table.now.names }
     ensures done { OnOk result
-        (Sweeps (S.held sources.now) task.now output.old.contents output.new.contents) }
-    ensures read { IfErr result (λ fault. ¬ IsOfInput fault) }
-    ensures write { IfErr result (λ fault. IsOfOutput fault → output.new.has_failed ≡ true) }
-    ensures refused { IfErr result (λ fault. RefusesSweeping (S.held sources.now) task.now fault
+        (RunSweeps (S.held sources.now) task.now output.old.contents output.new.contents) }
+    ensures read { IfErr result (λ fault. ¬ IsRunInput fault) }
+    ensures write { IfErr result (λ fault. IsRunOutput fault → output.new.has_failed ≡ true) }
+    ensures refused { IfErr result (λ fault. RunRefusesSweeping (S.held sources.now) task.now fault
         output.old.contents output.new.contents) }
 {
     let stream = match sources.open(rt, lines) {

@@ -12,7 +12,7 @@
 --   line_one       a line makes at most one entry
 --   refused_made   so does one that is refused
 --   last_made      what was made is the last entry, where there is one more
-use Rattle.dg_session.proofs.Common.{◌≡◌, ℕ, ◌+◌, ◌-◌, ◌<◌, ◌≤◌, inl, inr, List, [], ◌∷◌, ◌++◌, length, length-append, Option, Some, None, slice_get, refl, sym, ap, subst, ◌∙◌, arith, slice_get_within, same_Some, legal_none, Entry, IsHistoryOfTable, Command, Call, Commit, Rank, ReceiptsAreBelow, StandIn, IsPrefixOf, SeatView, Keeps, SeatMeetsHistory, begins_on, begins_length, stand_longer, AnswersAscendFrom, ComeAfter, Setup, SessionGains, AnswersCommand, AnswersLine, RefusesCommand, RefusesLine, SessionEnd, Table, Memory, Spawn, TableData}
+use Rattle.dg_session.proofs.Common.{◌≡◌, ℕ, ◌+◌, ◌-◌, ◌<◌, ◌≤◌, inl, inr, List, [], ◌∷◌, ◌++◌, length, length-append, Option, Some, None, slice_get, refl, sym, ap, subst, ◌∙◌, arith, slice_get_within, same_Some, legal_none, Entry, IsHistoryOfTable, Command, Call, Commit, Rank, ReceiptsAreBelow, StandInLog, IsPrefixOf, SeatView, Keeps, SeatMeetsHistory, begins_on, begins_length, stand_longer, AnswersAscendFrom, SessionComesAfter, SessionSetup, SessionGains, AnswersCommand, AnswersLine, RefusesSpeakerCommand, RefusesSessionLine, SessionEnd, Table, Memory, Spawn, TableData}
 
 pub history_none : (table : TableData) → IsHistoryOfTable table []
 history_none table = record { legal = legal_none table.start; few = omega arith; seated = λ k e at. absurd (cc) }
@@ -28,19 +28,19 @@ ascend_more a n [] qs few up below more = ascend_from a n qs few more
 ascend_more a n (p ∷ ps) qs few up below more =
     (up.0, ascend_more (p.0 + 1) n ps qs (omega (arith, below.0)) up.1 below.1 more)
 
-pub below_stand : (H : List Entry) (ps : List (ℕ × Entry)) → StandIn H ps → ReceiptsAreBelow (length H) ps
+pub below_stand : (H : List Entry) (ps : List (ℕ × Entry)) → StandInLog H ps → ReceiptsAreBelow (length H) ps
 below_stand H [] stand = tt
 below_stand H (p ∷ ps) stand = (slice_get_within H p.0 p.1 stand.0, below_stand H ps stand.1)
 
-pub stand_on : (K H : List Entry) (ps : List (ℕ × Entry)) → IsPrefixOf K H → StandIn K ps → StandIn H ps
-stand_on K H ps (rest, is) stand = subst (λ L. StandIn L ps) (sym is) (stand_longer K rest ps stand)
+pub stand_on : (K H : List Entry) (ps : List (ℕ × Entry)) → IsPrefixOf K H → StandInLog K ps → StandInLog H ps
+stand_on K H ps (rest, is) stand = subst (λ L. StandInLog L ps) (sym is) (stand_longer K rest ps stand)
 
-pub stand_both : (H : List Entry) (ps qs : List (ℕ × Entry)) → StandIn H ps → StandIn H qs → StandIn H (ps ++ qs)
+pub stand_both : (H : List Entry) (ps qs : List (ℕ × Entry)) → StandInLog H ps → StandInLog H qs → StandInLog H (ps ++ qs)
 stand_both H [] qs first second = second
 stand_both H (p ∷ ps) qs first second = (first.0, stand_both H ps qs first.1 second)
 
-pub comes_from : (K M H : List Entry) (made : List (ℕ × Entry)) → IsPrefixOf K M → ComeAfter M made H
-    → ComeAfter K made H
+pub comes_from : (K M H : List Entry) (made : List (ℕ × Entry)) → IsPrefixOf K M → SessionComesAfter M made H
+    → SessionComesAfter K made H
 comes_from K M H made begins comes = record {
   begins = begins_on K M H begins comes.begins;
   stand = comes.stand;
@@ -68,23 +68,23 @@ module _ {x m : SeatView} (meets : Keeps x m) where
     still = λ none. let kept = g.still none in (kept.0 ∙ meets.told, kept.1 ∙ meets.prefix);
   }
 
-  pub command_met : (t : Setup) (k : Option ℕ) (command : Command) (y : SeatView) (end : SessionEnd)
-      → RefusesCommand t k command m y end → RefusesCommand t k command x y end
+  pub command_met : (t : SessionSetup) (k : Option ℕ) (command : Command) (y : SeatView) (end : SessionEnd)
+      → RefusesSpeakerCommand t k command m y end → RefusesSpeakerCommand t k command x y end
   command_met t k command y (Table fault) h = (h.0, h.1, gained_met y [] h.2)
   command_met t k command y Spawn h = (h.0, h.1, gained_met y [] h.2)
   command_met t k command y Memory h =
       record { more = h.more; next = h.next; gained = gained_met y h.more h.gained }
   command_met t k command y end h = absurd h
 
-  pub line_met : (t : Setup) (k : Option ℕ) (line : List ℕ) (y : SeatView) (end : SessionEnd)
-      → RefusesLine t k line m y end → RefusesLine t k line x y end
+  pub line_met : (t : SessionSetup) (k : Option ℕ) (line : List ℕ) (y : SeatView) (end : SessionEnd)
+      → RefusesSessionLine t k line m y end → RefusesSessionLine t k line x y end
   line_met t k line y (Table fault) h = (h.0, h.1, command_met t k h.0 y (Table fault) h.2)
   line_met t k line y Spawn h = (h.0, h.1, command_met t k h.0 y Spawn h.2)
   line_met t k line y Memory h =
       record { more = h.more; next = h.next; gained = gained_met y h.more h.gained }
   line_met t k line y end h = absurd h.2
 
-command_one : (t : Setup) (k : Option ℕ) (command : Command) (made : List (ℕ × Entry)) (after : Option ℕ)
+command_one : (t : SessionSetup) (k : Option ℕ) (command : Command) (made : List (ℕ × Entry)) (after : Option ℕ)
     (said : List ℕ) → AnswersCommand t k command made after said → length made ≤ 1
 command_one t k (Call plain) made after said a = omega (arith, ap length a.2)
 command_one t None Commit made after said a = omega (arith, ap length a.0)
@@ -95,15 +95,15 @@ command_one t (Some i) (Rank n) made after said a = elim a [
   | inr within ↦ omega (arith, ap length within.1.2)
 ]
 
-pub line_one : (t : Setup) (k : Option ℕ) (line : List ℕ) (made : List (ℕ × Entry)) (after : Option ℕ) (said : List ℕ)
+pub line_one : (t : SessionSetup) (k : Option ℕ) (line : List ℕ) (made : List (ℕ × Entry)) (after : Option ℕ) (said : List ℕ)
     → AnswersLine t k line made after said → length made ≤ 1
 line_one t k line made after said a = elim a [
   | inl bad ↦ omega (arith, ap length bad.2.0)
   | inr good ↦ command_one t k good.0 made after said good.2
 ]
 
-pub refused_made : (t : Setup) (k : Option ℕ) (line : List ℕ) (x y : SeatView) (end : SessionEnd)
-    → RefusesLine t k line x y end → (made : List (ℕ × Entry)) × SessionGains x y made × (length made ≤ 1)
+pub refused_made : (t : SessionSetup) (k : Option ℕ) (line : List ℕ) (x y : SeatView) (end : SessionEnd)
+    → RefusesSessionLine t k line x y end → (made : List (ℕ × Entry)) × SessionGains x y made × (length made ≤ 1)
 refused_made t k line x y (Table fault) h = ([], h.2.2, omega arith)
 refused_made t k line x y Spawn h = ([], h.2.2, omega arith)
 refused_made t k line x y Memory h = (

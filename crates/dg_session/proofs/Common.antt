@@ -1,5 +1,5 @@
 -- The names that the proofs of this crate cite, passed on from one place. Declares nothing.
-pub use Rattle.dg_analyst.specs.Views.{IsTakenLook, IsTried, LookView}
+pub use Rattle.dg_analyst.specs.Views.{IsTakenLook, IsTried, TakenLookView}
 pub use Rattle.dg_chips.specs.Starts.{StartData}
 pub use Rattle.dg_rules.proofs.LegalLaws.{legal_none, legal_sized}
 pub use Rattle.dg_rules.proofs.ListLaws.{slice_get-seam}
@@ -20,24 +20,24 @@ pub use Rattle.dg_lines.proofs.Streams.{begins_more, begins_none, begins_one, be
 pub use Rattle.dg_lines.specs.Commands.{IsCommandLine}
 pub use Rattle.dg_lines.specs.LineFaults.{IsLineFault, fault_text}
 pub use Rattle.dg_lines.specs.Steps.{IsSeatedLine}
-pub use Rattle.dg_lines.specs.Streams.{Begins, HasNoNewline, LinesHaveCome, last_line, with_newline}
-pub use Rattle.dg_lines.specs.Texts.{HasNames, entry_text}
+pub use Rattle.dg_lines.specs.Streams.{BeginsWithLines, HasNoNewline, LinesOfTextHaveCome, last_line, with_newline}
+pub use Rattle.dg_lines.specs.Texts.{TextHasNames, entry_text}
 pub use Rattle.dg_lines.specs.declared.line.LineFault.{LineFault}
-pub use Rattle.dg_log.specs.Numbered.{ReceiptsAreBelow, IsPrefixOf, StandIn}
+pub use Rattle.dg_log.specs.Numbered.{ReceiptsAreBelow, IsPrefixOf, StandInLog}
 pub use Rattle.dg_log.specs.Tables.{TableData}
 pub use Rattle.dg_rank.proofs.Numbering.{past_within}
 pub use Rattle.dg_rank.specs.Limits.{ArePastTrialLimits}
-pub use Rattle.dg_rank.specs.Ranks.{IsRankFault, IsRankTestWithinLimits}
+pub use Rattle.dg_rank.specs.Ranks.{IsRankTestFault, IsRankTestWithinLimits}
 unfoldable pub use Rattle.dg_session.specs.Ends.{Answers}
 pub use Rattle.dg_session.specs.EntriesSoFar.{EntriesSoFarView}
-pub use Rattle.dg_session.specs.Ends.{AreSessionEntriesInOrder, EndsBy, IsOver, IsSession, SessionReading, StopsAt, Writes, reading}
-pub use Rattle.dg_session.specs.Order.{AnswersAscendFrom, ComeAfter}
-pub use Rattle.dg_session.specs.Refusing.{CallsTable, RefusesCommand, RefusesLine}
+pub use Rattle.dg_session.specs.Ends.{AreSessionEntriesInOrder, EndsBy, IsOver, IsSession, SessionReading, SessionStopsAt, WritesInSession, reading}
+pub use Rattle.dg_session.specs.Order.{AnswersAscendFrom, SessionComesAfter}
+pub use Rattle.dg_session.specs.Refusing.{SpeakerCallsTable, RefusesSpeakerCommand, RefusesSessionLine}
 pub use Rattle.dg_session.specs.Saying.{AnswersCommand, AnswersLine, SpeakerEnters, SessionGains, speakers_kept_after, speakers_look_after}
-pub use Rattle.dg_session.specs.Setup.{Setup, setup}
-pub use Rattle.dg_session.specs.SoFar.{Goes, HaltsSession, Handles, Hears, AnswersAreCleared, IsReady, IsSaid, IsWrittenInSession, Obeys, SessionRefusesPart, SoFar, Speaker, StaysAt, StopsIn, Takes, TakesEnd, TellsSpeaker, answer_entries, speaker_answer_text, beginning_of_session, heard, keeping, round, so_far, speaker}
-pub use Rattle.dg_session.specs.Speakers.{AnswersLineOf, GoesOn, IsFor, IsForNoSpeaker, RefusesLineOf, Replaces, Speakers, kept_number, new_speakers, speakers}
-pub use Rattle.dg_session.specs.Streams.{AreSessionLines, IsLine, Passage, passage}
+pub use Rattle.dg_session.specs.Setup.{SessionSetup, session_setup}
+pub use Rattle.dg_session.specs.SoFar.{Goes, HaltsSession, HandlesSessionLine, HearsSpeaker, IsReady, IsWrittenInSession, ObeysSpeaker, SessionRefusesPart, SoFar, Speaker, SessionStaysAt, SessionStopsIn, TakesInSession, TakesSessionEnd, TellsSpeaker, answer_entries, speaker_answer_text, beginning_of_session, heard, keeping_speaker, round, so_far, speaker}
+pub use Rattle.dg_session.specs.Speakers.{AnswersLineOfSpeaker, GoesOn, IsFor, IsForNoSpeaker, RefusesLineOfSpeaker, ReplacesSpeaker, Speakers, kept_by_speaker, new_speakers, speakers}
+pub use Rattle.dg_session.specs.Streams.{AreSessionLines, IsSessionLine, Passage, passage}
 pub use Rattle.dg_session.specs.declared.answering.Answer.{Answer}
 pub use Rattle.dg_session.specs.declared.answering.Answer.TheVariants.{BadLine, Made, NoLook}
 pub use Rattle.dg_session.specs.declared.ends.SessionEnd.{SessionEnd}
@@ -46,17 +46,17 @@ pub use Rattle.dg_session.specs.declared.ends.TheConstants.{MAX_LINE, MAX_LINES,
 pub use Rattle.dg_session.specs.declared.line_format.LineFormat.TheVariants.{BySeat}
 pub use Rattle.dg_system.proofs.Growing.{appends_more, appends_none}
 pub use Rattle.dg_system.proofs.InputReads.{chunk_size, consumes_kept, consumes_more, consumes_none, read_chunk, read_nothing}
-pub use Rattle.dg_system.specs.Growth.{AppendsFrontToOutput, StreamWriting}
+pub use Rattle.dg_system.specs.Growth.{AppendsFrontToStream, StreamWriting}
 pub use Rattle.dg_table.proofs.Counts.{seats_counted}
 pub use Rattle.dg_table.proofs.Numbered.{begins_length, begins_on, stand_longer}
 pub use Rattle.dg_table.proofs.Placed.{get_set}
-pub use Rattle.dg_table.specs.Answered.{IsAnswered, IsEnteredAfter, entering}
+pub use Rattle.dg_table.specs.Answered.{IsAnswered, IsEnteredAfter, entering_at_table}
 pub use Rattle.dg_table.specs.Closing.{IsClosed}
-pub use Rattle.dg_table.specs.Faults.{RefusesCall}
+pub use Rattle.dg_table.specs.Faults.{RefusesCallAtTable}
 pub use Rattle.dg_table.specs.Histories.{SeatHasPrefix, IsHistoryOfTable}
-pub use Rattle.dg_table.specs.Opened.{AreFresh}
-pub use Rattle.dg_table.specs.Seats.{Keeps, SeatMeetsHistory, SeatView, entries_of}
-pub use Rattle.dg_table.specs.Settled.{IsSettled, IsStale}
+pub use Rattle.dg_table.specs.Opened.{AreFreshSeats}
+pub use Rattle.dg_table.specs.Seats.{Keeps, SeatMeetsHistory, SeatView, entries_of_seat}
+pub use Rattle.dg_table.specs.Settled.{IsSettledAtTable, IsStaleAtTable}
 pub use Rattle.dg_table.specs.declared.fault.Fault.{Fault}
 pub use Rattle.dg_table.specs.declared.fault.Fault.TheVariants.{Full}
 pub use Rattle.dg_verdict.specs.declared.rank_verdict.RankVerdict.{RankVerdict}

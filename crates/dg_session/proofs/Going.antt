@@ -7,20 +7,20 @@
 --   halts_part, halts_line       the session ends at a part that is not taken, and at a line that is refused
 --   last_none, last_one, last_halts   what is pending as the last line: none, one that is answered, and one that is
 --       refused
-use Rattle.dg_session.proofs.Common.{◌≡◌, ◌≢◌, ℕ, ◌+◌, ◌<◌, ◌≤◌, inl, inr, List, [], ◌∷◌, ◌++◌, length, take, drop, refl, sym, ap, subst, ◌∙◌, arith, append_assoc, append-nil, length-append, take-append-drop, All-append, All-nil, All-take, length-take-le, HasNoNewline, Begins, last_line, begins_none, begins_one, begins_then, begins_more, one_line, Setup, IsLine, AreSessionLines, Speakers, AnswersLineOf, RefusesLineOf, SoFar, IsReady, Goes, round, HaltsSession, SessionRefusesPart, StaysAt, MAX_LINE, MAX_LINES, SessionEnd, LongLine, Turns, Answers}
+use Rattle.dg_session.proofs.Common.{◌≡◌, ◌≢◌, ℕ, ◌+◌, ◌<◌, ◌≤◌, inl, inr, List, [], ◌∷◌, ◌++◌, length, take, drop, refl, sym, ap, subst, ◌∙◌, arith, append_assoc, append-nil, length-append, take-append-drop, All-append, All-nil, All-take, length-take-le, HasNoNewline, BeginsWithLines, last_line, begins_none, begins_one, begins_then, begins_more, one_line, SessionSetup, IsSessionLine, AreSessionLines, Speakers, AnswersLineOfSpeaker, RefusesLineOfSpeaker, SoFar, IsReady, Goes, round, HaltsSession, SessionRefusesPart, SessionStaysAt, MAX_LINE, MAX_LINES, SessionEnd, LongLine, Turns, Answers}
 use Rattle.dg_session.proofs.Cutting.{lines_end}
 use Rattle.dg_session.proofs.Seated.{sizes_kept}
 
-pub answers_none : (t : Setup) (s : Speakers) → Answers t s [] s []
+pub answers_none : (t : SessionSetup) (s : Speakers) → Answers t s [] s []
 unfolding Answers
 answers_none t s = (refl, refl)
 
-pub answers_one : (t : Setup) (s z : Speakers) (line text : List ℕ) → AnswersLineOf t s line z text
+pub answers_one : (t : SessionSetup) (s z : Speakers) (line text : List ℕ) → AnswersLineOfSpeaker t s line z text
     → Answers t s (line ∷ []) z text
 unfolding Answers
 answers_one t s z line text p = (z, text, [], p, (refl, refl), sym (append-nil text))
 
-pub answers_more : (t : Setup) (s m z : Speakers) (ls ls' : List (List ℕ)) (text text' : List ℕ)
+pub answers_more : (t : SessionSetup) (s m z : Speakers) (ls ls' : List (List ℕ)) (text text' : List ℕ)
     → Answers t s ls m text → Answers t m ls' z text' → Answers t s (ls ++ ls') z (text ++ text')
 unfolding Answers
 answers_more t s m z [] ls' text text' p q =
@@ -37,16 +37,16 @@ answers_more t s m z (line ∷ ls) ls' text text' p q =
 
 pub line_with : {at : SoFar} (part : List ℕ) → IsReady at → HasNoNewline part
     → length at.pending + length part ≤ MAX_LINE
-    → IsLine (at.pending ++ part)
+    → IsSessionLine (at.pending ++ part)
 line_with {at} part ready plain short = record {
   no_newline = All-append (λ byte. byte ≢ 10) at.pending part ready.line.no_newline plain;
   short = let size = length-append at.pending part in omega (arith, size, short);
 }
 
-pub empty_line : (p : List ℕ) → p ≡ [] → IsLine p
-empty_line p none = subst IsLine (sym none) (record { no_newline = All-nil (λ byte. byte ≢ 10); short = omega arith })
+pub empty_line : (p : List ℕ) → p ≡ [] → IsSessionLine p
+empty_line p none = subst IsSessionLine (sym none) (record { no_newline = All-nil (λ byte. byte ≢ 10); short = omega arith })
 
-pub goes_none : {t : Setup} {at : SoFar} {bytes text : List ℕ} → text ≡ [] → IsReady at → Goes t at bytes bytes at text
+pub goes_none : {t : SessionSetup} {at : SoFar} {bytes text : List ℕ} → text ≡ [] → IsReady at → Goes t at bytes bytes at text
 goes_none {t} {at} {bytes} {text} none ready = record {
   ls = [];
   came = begins_none (at.pending ++ bytes);
@@ -55,32 +55,32 @@ goes_none {t} {at} {bytes} {text} none ready = record {
   ready = ready;
 }
 
-pub goes_more : {t : Setup} {old mid new : SoFar} {b c rest text more : List ℕ} → Goes t old b [] mid text
+pub goes_more : {t : SessionSetup} {old mid new : SoFar} {b c rest text more : List ℕ} → Goes t old b [] mid text
     → Goes t mid c rest new more
     → Goes t old (b ++ c) rest new (text ++ more)
 goes_more {t} {old} {mid} {new} {b} {c} {rest} {text} {more} g h = record {
   ls = g.ls ++ h.ls;
-  came = subst (λ l. Begins IsLine l (g.ls ++ h.ls) (new.pending ++ rest)) (append_assoc old.pending b c)
-      (begins_then (begins_more c (subst (Begins IsLine (old.pending ++ b) g.ls) (append-nil mid.pending) g.came))
+  came = subst (λ l. BeginsWithLines IsSessionLine l (g.ls ++ h.ls) (new.pending ++ rest)) (append_assoc old.pending b c)
+      (begins_then (begins_more c (subst (BeginsWithLines IsSessionLine (old.pending ++ b) g.ls) (append-nil mid.pending) g.came))
       h.came);
   counted = let size = length-append g.ls h.ls in omega (arith, size, g.counted, h.counted);
   answered = answers_more t old.who mid.who new.who g.ls h.ls text more g.answered h.answered;
   ready = h.ready;
 }
 
-module _ {t : Setup} {old at : SoFar} {bytes rest text : List ℕ} (g : Goes t old bytes rest at text) where
+module _ {t : SessionSetup} {old at : SoFar} {bytes rest text : List ℕ} (g : Goes t old bytes rest at text) where
   pub goes_part : (part p : List ℕ) → rest ≡ part → p ≡ at.pending ++ part → HasNoNewline part
       → length at.pending + length part ≤ MAX_LINE → at.count ≢ MAX_LINES
       → Goes t old bytes [] (record at { pending = p }) text
   goes_part part p cut grown plain short other = record {
     ls = g.ls;
-    came = subst (Begins IsLine (old.pending ++ bytes) g.ls)
+    came = subst (BeginsWithLines IsSessionLine (old.pending ++ bytes) g.ls)
         (ap (λ l. at.pending ++ l) cut ∙ sym (append-nil p ∙ grown))
         g.came;
     counted = g.counted;
     answered = g.answered;
     ready = record {
-      line = subst IsLine (sym grown) (line_with part g.ready plain short);
+      line = subst IsSessionLine (sym grown) (line_with part g.ready plain short);
       few = g.ready.few;
       full = λ full. absurd (other full);
       some = g.ready.some;
@@ -89,15 +89,15 @@ module _ {t : Setup} {old at : SoFar} {bytes rest text : List ℕ} (g : Goes t o
   }
 
   pub goes_line : {new : SoFar} {more told : List ℕ} (part : List ℕ) → rest ≡ part ++ 10 ∷ more
-      → IsLine (at.pending ++ part)
-      → at.count < MAX_LINES → AnswersLineOf t at.who (at.pending ++ part) new.who told
+      → IsSessionLine (at.pending ++ part)
+      → at.count < MAX_LINES → AnswersLineOfSpeaker t at.who (at.pending ++ part) new.who told
       → new.pending ≡ [] → new.count ≡ at.count + 1 → Goes t old bytes more new (text ++ told)
   goes_line {new} {more} {told} part cut is few holds none next =
       let line = at.pending ++ part in
       let sizes = sizes_kept t at.who new.who line told holds in record {
         ls = g.ls ++ line ∷ [];
-        came = subst (λ p. Begins IsLine (old.pending ++ bytes) (g.ls ++ line ∷ []) (p ++ more)) (sym none)
-            (begins_then g.came (subst (λ l. Begins IsLine l (line ∷ []) more)
+        came = subst (λ p. BeginsWithLines IsSessionLine (old.pending ++ bytes) (g.ls ++ line ∷ []) (p ++ more)) (sym none)
+            (begins_then g.came (subst (λ l. BeginsWithLines IsSessionLine l (line ∷ []) more)
             (append_assoc at.pending part (10 ∷ more) ∙ ap (λ l. at.pending ++ l) (sym cut)) (begins_one more is)));
         counted = let size = length-append g.ls (line ∷ []) in omega (arith, size, g.counted, next);
         answered = answers_more t old.who at.who new.who g.ls (line ∷ []) text told g.answered
@@ -112,7 +112,7 @@ module _ {t : Setup} {old at : SoFar} {bytes rest text : List ℕ} (g : Goes t o
       }
 
   stays : (part more : List ℕ) (end : SessionEnd) → rest ≡ part ++ more → HasNoNewline part → 1 ≤ length rest
-      → SessionRefusesPart at.pending at.count part end → StaysAt at rest end
+      → SessionRefusesPart at.pending at.count part end → SessionStaysAt at rest end
   stays part more Turns cut plain some h = (h, some)
   stays part more LongLine cut plain some h = (
     omega (arith, g.ready.few, h.0),
@@ -136,7 +136,7 @@ module _ {t : Setup} {old at : SoFar} {bytes rest text : List ℕ} (g : Goes t o
 
   pub halts_line : {E : Type 0} {z : Speakers} {end : SessionEnd} (part more : List ℕ)
       → rest ≡ part ++ 10 ∷ more
-      → IsLine (at.pending ++ part) → at.count < MAX_LINES → RefusesLineOf t at.who (at.pending ++ part) z end
+      → IsSessionLine (at.pending ++ part) → at.count < MAX_LINES → RefusesLineOfSpeaker t at.who (at.pending ++ part) z end
       → HaltsSession t E old bytes (round z text) end
   halts_line {E} {z} {end} part more cut is few refused = record {
     rest = rest;
@@ -148,7 +148,7 @@ module _ {t : Setup} {old at : SoFar} {bytes rest text : List ℕ} (g : Goes t o
         omega arith,
         inl (
           more,
-          subst (λ l. Begins IsLine l ((at.pending ++ part) ∷ []) more)
+          subst (λ l. BeginsWithLines IsSessionLine l ((at.pending ++ part) ∷ []) more)
               (append_assoc at.pending part (10 ∷ more) ∙ ap (λ l. at.pending ++ l) (sym cut)) (begins_one more is),
         ),
       );
@@ -158,7 +158,7 @@ module _ {t : Setup} {old at : SoFar} {bytes rest text : List ℕ} (g : Goes t o
   }
 
 -- what is pending is the last line
-pub last_none : (t : Setup) (s : Speakers) (p : List ℕ) → length p ≡ 0 → Answers t s (last_line p) s []
+pub last_none : (t : SessionSetup) (s : Speakers) (p : List ℕ) → length p ≡ 0 → Answers t s (last_line p) s []
 last_none t s [] none = answers_none t s
 last_none t s (b ∷ bs) none = absurd (omega (arith, none))
 
@@ -166,14 +166,14 @@ pub last_counted : (p : List ℕ) (c : ℕ) → length p ≡ 0 → c ≡ c + len
 last_counted [] c none = omega arith
 last_counted (b ∷ bs) c none = absurd (omega (arith, none))
 
-pub last_one : {t : Setup} {s z : Speakers} {text : List ℕ} (p : List ℕ) → 1 ≤ length p
-    → AnswersLineOf t s (p ++ []) z text → Answers t s (last_line p) z text
+pub last_one : {t : SessionSetup} {s z : Speakers} {text : List ℕ} (p : List ℕ) → 1 ≤ length p
+    → AnswersLineOfSpeaker t s (p ++ []) z text → Answers t s (last_line p) z text
 last_one [] some holds = absurd (omega (arith, some))
 last_one {t} {s} {z} {text} (b ∷ bs) some holds =
-    answers_one t s z (b ∷ bs) text (subst (λ l. AnswersLineOf t s l z text) (append-nil (b ∷ bs)) holds)
+    answers_one t s z (b ∷ bs) text (subst (λ l. AnswersLineOfSpeaker t s l z text) (append-nil (b ∷ bs)) holds)
 
-pub last_halts : {t : Setup} {E : Type 0} {at : SoFar} {z : Speakers} {end : SessionEnd} → E → IsReady at
-    → 1 ≤ length at.pending → RefusesLineOf t at.who (at.pending ++ []) z end → HaltsSession t E at [] (round z []) end
+pub last_halts : {t : SessionSetup} {E : Type 0} {at : SoFar} {z : Speakers} {end : SessionEnd} → E → IsReady at
+    → 1 ≤ length at.pending → RefusesLineOfSpeaker t at.who (at.pending ++ []) z end → HaltsSession t E at [] (round z []) end
 last_halts {t} {E} {at} {z} {end} over ready some refused = record {
   rest = [];
   at = at;
@@ -183,6 +183,6 @@ last_halts {t} {E} {at} {z} {end} over ready some refused = record {
     came = subst (AreSessionLines E (at.pending ++ [])) (one_line at.pending some) (lines_end at.pending over ready.line);
     few = let other : at.count ≢ MAX_LINES = λ all. omega (arith, some, ap length (ready.full all)) in
         omega (arith, other, ready.few);
-    stops = subst (λ l. RefusesLineOf t at.who l z end) (append-nil at.pending) refused;
+    stops = subst (λ l. RefusesLineOfSpeaker t at.who l z end) (append-nil at.pending) refused;
   });
 }

@@ -1,13 +1,13 @@
 -- Lines that a seat hears.
 --   heard       a line is answered or refused as its command
 --   bad_heard   a line with a fault is answered by it
-use Rattle.dg_session.proofs.Common.{inl, inr, ℕ, List, Result, Ok, Err, refl, Command, IsCommandLine, IsLineFault, LineFault, RefusesCommand, RefusesLine, Setup, Speaker, Answer, BadLine, Hears, Obeys, SessionEnd, Memory}
+use Rattle.dg_session.proofs.Common.{inl, inr, ℕ, List, Result, Ok, Err, refl, Command, IsCommandLine, IsLineFault, LineFault, RefusesSpeakerCommand, RefusesSessionLine, SessionSetup, Speaker, Answer, BadLine, HearsSpeaker, ObeysSpeaker, SessionEnd, Memory}
 use Rattle.dg_session.proofs.Made.{gains_same}
 
-line_refused : (t : Setup) (line : List ℕ) (command : Command) (old new : Speaker) (end : SessionEnd)
+line_refused : (t : SessionSetup) (line : List ℕ) (command : Command) (old new : Speaker) (end : SessionEnd)
     → IsCommandLine t.names command line
-    → RefusesCommand t old.kept command old.seat new.seat end
-    → RefusesLine t old.kept line old.seat new.seat end
+    → RefusesSpeakerCommand t old.kept command old.seat new.seat end
+    → RefusesSessionLine t old.kept line old.seat new.seat end
 line_refused t line command old new Memory spelled h = record {
   more = h.more;
   next = elim h.next [
@@ -18,9 +18,9 @@ line_refused t line command old new Memory spelled h = record {
 }
 line_refused t line command old new end spelled h = (command, spelled, h)
 
-pub heard : {N : Type 0} {t : Setup} {line : List ℕ} {command : Command} {old new : Speaker}
+pub heard : {N : Type 0} {t : SessionSetup} {line : List ℕ} {command : Command} {old new : Speaker}
     {result : Result (Answer N) SessionEnd}
-    → IsCommandLine t.names command line → Obeys t command old new result → Hears t line old new result
+    → IsCommandLine t.names command line → ObeysSpeaker t command old new result → HearsSpeaker t line old new result
 heard {command = command} {result = Ok answer} spelled h = record {
   done = record {
     answers = inr (command, spelled, h.done.answers);
@@ -32,8 +32,8 @@ heard {command = command} {result = Ok answer} spelled h = record {
 heard {t = t} {line} {command} {old} {new} {result = Err end} spelled h =
     record { done = tt; refused = line_refused t line command old new end spelled h.refused }
 
-pub bad_heard : {N : Type 0} {t : Setup} {line : List ℕ} {old : Speaker} (fault : LineFault)
-    → IsLineFault t.names fault line → Hears {N = N} t line old old (Ok (BadLine fault))
+pub bad_heard : {N : Type 0} {t : SessionSetup} {line : List ℕ} {old : Speaker} (fault : LineFault)
+    → IsLineFault t.names fault line → HearsSpeaker {N = N} t line old old (Ok (BadLine fault))
 bad_heard {old = old} fault bad = record {
   done = record { answers = inl (fault, bad, (refl, refl, refl)); gained = gains_same old.seat; named = tt };
   refused = tt;

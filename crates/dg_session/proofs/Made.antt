@@ -12,7 +12,7 @@
 --   obeys_after     a command that is obeyed to a seat after it met a longer history is obeyed to it
 --   unlooked, at_look   so it is with none, and with the look that is kept
 --   call_keeps      a call that is no look keeps the look
-use Rattle.dg_session.proofs.Common.{◌≡◌, ◌≢◌, ℕ, inl, inr, List, [], ◌∷◌, ◌++◌, length, Option, Some, None, slice_get, Result, Ok, Err, OnOk, refl, sym, ap, subst, ◌∙◌, append-nil, codes, arith, StartData, IsRankTestWithinLimits, ArePastTrialLimits, past_within, RankVerdict, AtLeast, Below, degree_of_finding, request_for_finding, request_for_question, asked, Entry, Plain, Request, Ranked, Finding, Question, Command, LookView, IsTakenLook, IsTried, entry_text, IsReplyOfSize, legal_sized, slice_get-seam, begins_on, begins_length, SeatView, Keeps, RefusesCall, Fault, entering, IsEnteredAfter, IsAnswered, IsSettled, IsStale, SessionGains, SpeakerEnters, speakers_kept_after, speakers_look_after, AnswersCommand, SessionEnd, Table, kept_number, CallsTable, RefusesCommand, Setup, Speaker, speaker, keeping, answer_entries, speaker_answer_text, Answer, Made, NoLook, Obeys, TableData}
+use Rattle.dg_session.proofs.Common.{◌≡◌, ◌≢◌, ℕ, inl, inr, List, [], ◌∷◌, ◌++◌, length, Option, Some, None, slice_get, Result, Ok, Err, OnOk, refl, sym, ap, subst, ◌∙◌, append-nil, codes, arith, StartData, IsRankTestWithinLimits, ArePastTrialLimits, past_within, RankVerdict, AtLeast, Below, degree_of_finding, request_for_finding, request_for_question, asked, Entry, Plain, Request, Ranked, Finding, Question, Command, TakenLookView, IsTakenLook, IsTried, entry_text, IsReplyOfSize, legal_sized, slice_get-seam, begins_on, begins_length, SeatView, Keeps, RefusesCallAtTable, Fault, entering_at_table, IsEnteredAfter, IsAnswered, IsSettledAtTable, IsStaleAtTable, SessionGains, SpeakerEnters, speakers_kept_after, speakers_look_after, AnswersCommand, SessionEnd, Table, kept_by_speaker, SpeakerCallsTable, RefusesSpeakerCommand, SessionSetup, Speaker, speaker, keeping_speaker, answer_entries, speaker_answer_text, Answer, Made, NoLook, ObeysSpeaker, TableData}
 use Rattle.dg_rules.specs.declared.entry.Plain.TheVariants as plain
 use Rattle.dg_rules.specs.declared.entry.Request.TheVariants.{Rank as RankRequest}
 use Rattle.dg_session.proofs.Coming.{gained_met, command_met}
@@ -37,9 +37,9 @@ gains_same x = gains_none x x (record {
   met = ([], sym (append-nil x.met));
 })
 
-pub obeys_after : {N : Type 0} {t : Setup} {command : Command} {x y : SeatView} {kept : Option ℕ} {new : Speaker}
-    {result : Result (Answer N) SessionEnd} → Keeps x y → Obeys t command (keeping kept y) new result
-    → Obeys t command (keeping kept x) new result
+pub obeys_after : {N : Type 0} {t : SessionSetup} {command : Command} {x y : SeatView} {kept : Option ℕ} {new : Speaker}
+    {result : Result (Answer N) SessionEnd} → Keeps x y → ObeysSpeaker t command (keeping_speaker kept y) new result
+    → ObeysSpeaker t command (keeping_speaker kept x) new result
 obeys_after {new = new} {result = Ok answer} keeps obeys = record {
   done = record {
     answers = obeys.done.answers;
@@ -58,7 +58,7 @@ pub record Stands (o : StartData) (request : Request) (r : ℕ × Entry) (x y : 
 
 pub entry_made : (table : TableData) (H : List Entry) (request : Request) (known heard : List (ℕ × Entry))
     (r : ℕ × Entry) (x y : SeatView)
-    → known ≡ x.told ++ heard → IsEnteredAfter table request known (entering H r x y) → Stands table.start request r x y
+    → known ≡ x.told ++ heard → IsEnteredAfter table request known (entering_at_table H r x y) → Stands table.start request r x y
 entry_made table H request known heard r x y told e = record {
   asked' = e.request';
   sized = legal_sized table.start (H ++ r.1 ∷ []) (length H) r.1 e.history.legal (slice_get-seam H r.1 []);
@@ -86,41 +86,42 @@ call_made {table} {request} {r} {x} {y} answered = entry_made table answered.0 r
     (sym (append-nil x.told)) answered.1
 
 pub settled_made : {table : TableData} {look : ℕ × Entry} {f : Finding} {r : ℕ × Entry} {x y : SeatView}
-    → IsSettled table look f r x y → Stands table.start (request_for_finding look.0 f) r x y
+    → IsSettledAtTable table look f r x y → Stands table.start (request_for_finding look.0 f) r x y
 settled_made {table} {look} {f} {r} {x} {y} settled =
     entry_made table settled.0 (request_for_finding look.0 f) _ (look ∷ []) r x y refl settled.1.entered
 
 pub stale_made : {table : TableData} {look r : ℕ × Entry} {x y : SeatView} (asks : Question)
-    → IsStale table look asks r x y → Stands table.start (request_for_question look.0 asks) r x y
+    → IsStaleAtTable table look asks r x y → Stands table.start (request_for_question look.0 asks) r x y
 stale_made {table} {look} {r} {x} {y} asks stale =
     entry_made table stale.0 (request_for_question look.0 asks) _ (look ∷ []) r x y refl stale.1.entered
 
-degree_kept : (look : LookView) (k w : ℕ) (v : RankVerdict) → IsTried look k w v → degree_of_finding v ≡ k
+degree_kept : (look : TakenLookView) (k w : ℕ) (v : RankVerdict) → IsTried look k w v → degree_of_finding v ≡ k
 degree_kept look k w (AtLeast j) tried = tried.right.0
 degree_kept look k w (Below j d) tried = tried.right.0
 
-pub rank_made : {table : TableData} {look found : LookView} {k w : ℕ} {v : RankVerdict} {r : ℕ × Entry}
-    {x y : SeatView} → found ≡ look → IsTried look k w v → IsSettled table found.receipt (Ranked v) r x y
+pub rank_made : {table : TableData} {look found : TakenLookView} {k w : ℕ} {v : RankVerdict} {r : ℕ × Entry}
+    {x y : SeatView} → found ≡ look → IsTried look k w v → IsSettledAtTable table found.receipt (Ranked v) r x y
     → Stands table.start (RankRequest look.receipt.0 k) r x y
 rank_made {table} {look} {found} {k} {w} {v} {r} {x} {y} same tried settled =
     subst (λ d. Stands table.start (RankRequest look.receipt.0 d) r x y) (degree_kept look k w v tried)
     (settled_made {f = Ranked v} (rw same at settled))
 
-pub rank_within : {o : StartData} {look : LookView} {k : ℕ} → IsTakenLook o look → IsRankTestWithinLimits look.shown.graph.size k
+pub rank_within : {o : StartData} {look : TakenLookView} {k : ℕ} → IsTakenLook o look
+    → IsRankTestWithinLimits look.shown.graph.size k
     → IsRankTestWithinLimits o.graph.size k
 rank_within {k = k} taken within = subst (λ n. IsRankTestWithinLimits n k) taken.vertices.0 within
 
-pub rank_past : {o : StartData} {look : LookView} {k : ℕ} → IsTakenLook o look → ArePastTrialLimits look.shown.graph.size k
+pub rank_past : {o : StartData} {look : TakenLookView} {k : ℕ} → IsTakenLook o look → ArePastTrialLimits look.shown.graph.size k
     → IsRankTestWithinLimits o.graph.size k → ⊥
 rank_past {o} {k = k} taken prefix = past_within o.graph.size k (subst (λ n. ArePastTrialLimits n k) taken.vertices.0 prefix)
 
 -- the entry stands, and its line is to be said
-pub entered : {N : Type 0} {t : Setup} {command : Command} {request : Request} {r : ℕ × Entry} {old new : Speaker}
+pub entered : {N : Type 0} {t : SessionSetup} {command : Command} {request : Request} {r : ℕ × Entry} {old new : Speaker}
     → length t.names ≡ t.table.start.graph.size → Stands t.table.start request r old.seat new.seat
     → ((text : List ℕ) → SpeakerEnters t.names old.kept request (r ∷ []) new.kept text
     → AnswersCommand t old.kept command (r ∷ []) new.kept text)
     → new.kept ≡ speakers_look_after old.kept r.0 request
-    → Obeys {N = N} t command old new (Ok (Made r))
+    → ObeysSpeaker {N = N} t command old new (Ok (Made r))
 entered {t = t} {r = r} {old} size stands opens keeps = record {
   done = record {
     answers = opens (entry_text t.names r.0 r.1.reply)
@@ -132,27 +133,30 @@ entered {t = t} {r = r} {old} size stands opens keeps = record {
 }
 
 -- nothing is made, since the table refuses the call
-pub call_refused : {N : Type 0} {t : Setup} {command : Command} {old new : Speaker} {fault : Fault}
-    → CallsTable t.table.start.graph.size old.kept command → Keeps old.seat new.seat → RefusesCall t.table new.seat fault
-    → Obeys {N = N} t command old new (Err (Table fault))
+pub call_refused : {N : Type 0} {t : SessionSetup} {command : Command} {old new : Speaker} {fault : Fault}
+    → SpeakerCallsTable t.table.start.graph.size old.kept command → Keeps old.seat new.seat
+    → RefusesCallAtTable t.table new.seat fault
+    → ObeysSpeaker {N = N} t command old new (Err (Table fault))
 call_refused {old = old} {new} calls keeps refused =
     record { done = tt; refused = (calls, refused, gains_none old.seat new.seat keeps) }
 
 -- a command that needs a look finds none
-pub unlooked : {N : Type 0} {t : Setup} {command : Command} {x : SeatView} {kept after : Option LookView} → kept ≡ None
+pub unlooked : {N : Type 0} {t : SessionSetup} {command : Command} {x : SeatView} {kept after : Option TakenLookView} → kept
+    ≡ None
     → after ≡ None → AnswersCommand t None command [] None (speaker_answer_text {N = N} t.names NoLook)
-    → Obeys {N = N} t command (speaker x kept) (speaker x after) (Ok NoLook)
+    → ObeysSpeaker {N = N} t command (speaker x kept) (speaker x after) (Ok NoLook)
 unlooked {N} {t} {command} {x} p q answers = rw (p, q) (record {
   done = record { answers = answers; gained = gains_same x; named = tt };
   refused = tt;
 })
 
 -- the look that is kept, if one is
-pub at_look : {N : Type 0} {t : Setup} {command : Command} {x : SeatView} {kept look : Option LookView} {new : Speaker}
-    {result : Result (Answer N) SessionEnd} → kept ≡ look → Obeys t command (speaker x look) new result
-    → Obeys t command (speaker x kept) new result
+pub at_look : {N : Type 0} {t : SessionSetup} {command : Command} {x : SeatView} {kept look : Option TakenLookView}
+    {new : Speaker}
+    {result : Result (Answer N) SessionEnd} → kept ≡ look → ObeysSpeaker t command (speaker x look) new result
+    → ObeysSpeaker t command (speaker x kept) new result
 at_look {t = t} {command} {x} {new = new} {result} is obeys =
-    subst (λ (k : Option LookView). Obeys t command (speaker x k) new result) (sym is) obeys
+    subst (λ (k : Option TakenLookView). ObeysSpeaker t command (speaker x k) new result) (sym is) obeys
 
 pub call_keeps : (kept : Option ℕ) (n : ℕ) (call : Plain) → call ≢ plain.Look → speakers_look_after kept n (asked call) ≡ kept
 call_keeps kept n plain.Look other = absurd (other refl)
@@ -161,7 +165,7 @@ call_keeps kept n (plain.Gift v x) other = refl
 call_keeps kept n (plain.Join u v) other = refl
 call_keeps kept n plain.Claim other = refl
 
-pub at_command : {N : Type 0} {t : Setup} {command other : Command} {old new : Speaker}
+pub at_command : {N : Type 0} {t : SessionSetup} {command other : Command} {old new : Speaker}
     {result : Result (Answer N) SessionEnd}
-    → command ≡ other → Obeys t other old new result → Obeys t command old new result
-at_command {t = t} {old = old} {new} {result} is obeys = subst (λ c. Obeys t c old new result) (sym is) obeys
+    → command ≡ other → ObeysSpeaker t other old new result → ObeysSpeaker t command old new result
+at_command {t = t} {old = old} {new} {result} is obeys = subst (λ c. ObeysSpeaker t c old new result) (sym is) obeys

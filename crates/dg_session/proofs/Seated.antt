@@ -5,7 +5,7 @@
 --   sizes_kept    a line leaves as many seats, and as many looks
 --   numbers       the numbers of the seats
 --   numbers_said, numbers_left   a line leaves each seat its number
-use Rattle.dg_session.proofs.Common.{◌≡◌, ℕ, zero, suc, ◌+◌, ◌<◌, ◌≤◌, inl, inr, List, [], ◌∷◌, ◌++◌, length, length-set, map, Option, Some, Result, Ok, Err, refl, sym, ap, subst, ◌∙◌, arith, slice_get, ⊤, slice_set, slice_index_or, map-set, Entry, SeatView, SeatMeetsHistory, LookView, IsSeatedLine, seated_parts, RefusesLine, SessionGains, Setup, Speakers, speakers, kept_number, IsFor, IsForNoSpeaker, Replaces, GoesOn, AnswersLineOf, RefusesLineOf, Hears, Handles, Answer, TellsSpeaker, answer_entries, speaker_answer_text, speaker, BySeat, SessionEnd, Table, Memory, Spawn}
+use Rattle.dg_session.proofs.Common.{◌≡◌, ℕ, zero, suc, ◌+◌, ◌<◌, ◌≤◌, inl, inr, List, [], ◌∷◌, ◌++◌, length, length-set, map, Option, Some, Result, Ok, Err, refl, sym, ap, subst, ◌∙◌, arith, slice_get, ⊤, slice_set, slice_index_or, map-set, Entry, SeatView, SeatMeetsHistory, TakenLookView, IsSeatedLine, seated_parts, RefusesSessionLine, SessionGains, SessionSetup, Speakers, speakers, kept_by_speaker, IsFor, IsForNoSpeaker, ReplacesSpeaker, GoesOn, AnswersLineOfSpeaker, RefusesLineOfSpeaker, HearsSpeaker, HandlesSessionLine, Answer, TellsSpeaker, answer_entries, speaker_answer_text, speaker, BySeat, SessionEnd, Table, Memory, Spawn}
 use Rattle.dg_session.proofs.Coming.{comes_from, met_keeps, gained_met, line_met, line_one, refused_made}
 
 pub seat_past : (n seat : ℕ) (text line : List ℕ) → IsSeatedLine seat text line → (seat ≤ n → ⊥) → IsForNoSpeaker BySeat n line
@@ -28,15 +28,16 @@ get_at (y ∷ xs) zero d low = refl
 get_at (y ∷ xs) (suc i) d low = get_at xs i d (omega (arith, low))
 
 seat_turned : (xs : List SeatView) (i : ℕ) (d y : SeatView) → i < length xs
-    → Replaces i xs (slice_set xs i y) (slice_index_or xs i d) y
+    → ReplacesSpeaker i xs (slice_set xs i y) (slice_index_or xs i d) y
 seat_turned xs i d y low = record { old = get_at xs i d low; new = refl }
 
-look_turned : (ks : List (Option LookView)) (i : ℕ) (e l : Option LookView) → i < length ks
-    → Replaces i (map kept_number ks) (map kept_number (slice_set ks i l)) (kept_number (slice_index_or ks i e))
-    (kept_number l)
+look_turned : (ks : List (Option TakenLookView)) (i : ℕ) (e l : Option TakenLookView) → i < length ks
+    → ReplacesSpeaker i (map kept_by_speaker ks) (map kept_by_speaker (slice_set ks i l))
+    (kept_by_speaker (slice_index_or ks i e))
+    (kept_by_speaker l)
 look_turned ks i e l low = record {
-  old = get_map kept_number ks i (slice_index_or ks i e) (get_at ks i e low);
-  new = map-set kept_number ks i l;
+  old = get_map kept_by_speaker ks i (slice_index_or ks i e) (get_at ks i e low);
+  new = map-set kept_by_speaker ks i l;
 }
 
 -- the ends that a line gives a session
@@ -62,7 +63,7 @@ Follows x y ps qs = (before made : List (ℕ × Entry)) → length before ≡ le
     → length made ≤ 1 → qs ≡ ps ++ made
 
 went_on : {H L : List Entry} {ps qs : List (ℕ × Entry)} {x m y : SeatView} (xs ys : List SeatView)
-    (ks ls : List (Option LookView)) (made : List (ℕ × Entry)) → SeatMeetsHistory H x m → L ≡ y.met → Follows x y ps qs
+    (ks ls : List (Option TakenLookView)) (made : List (ℕ × Entry)) → SeatMeetsHistory H x m → L ≡ y.met → Follows x y ps qs
     → SessionGains m y made → length made ≤ 1 → GoesOn (speakers xs ks H ps) (speakers ys ls L qs) y made
 went_on {H} {x = x} {m} {y} xs ys ks ls made meets latest follows gained one = record {
   order = comes_from H m.met y.met made meets.met.second gained.order;
@@ -70,15 +71,16 @@ went_on {H} {x = x} {m} {y} xs ys ks ls made meets latest follows gained one = r
   entered = follows m.mine made (ap length meets.mine) gained.mine one;
 }
 
-module _ {t : Setup} (line text : List ℕ) (xs : List SeatView) (ks : List (Option LookView)) (i : ℕ) (d m y : SeatView)
-    (e l : Option LookView) (H L : List Entry) (ps qs : List (ℕ × Entry)) (for : IsFor t.how (length xs) line i text)
+module _ {t : SessionSetup} (line text : List ℕ) (xs : List SeatView) (ks : List (Option TakenLookView)) (i : ℕ)
+    (d m y : SeatView)
+    (e l : Option TakenLookView) (H L : List Entry) (ps qs : List (ℕ × Entry)) (for : IsFor t.how (length xs) line i text)
     (low : i < length xs) (size : length ks ≡ length xs) (meets : SeatMeetsHistory H (slice_index_or xs i d) m) (latest : L ≡
     y.met)
     (follows : Follows (slice_index_or xs i d) y ps qs) where
-  line_refused_to : (end : SessionEnd) → RefusesLine t (kept_number (slice_index_or ks i e)) text m y end
-      → RefusesLineOf t (speakers xs ks H ps) line (speakers (slice_set xs i y) (slice_set ks i l) L qs) end
+  line_refused_to : (end : SessionEnd) → RefusesSessionLine t (kept_by_speaker (slice_index_or ks i e)) text m y end
+      → RefusesLineOfSpeaker t (speakers xs ks H ps) line (speakers (slice_set xs i y) (slice_set ks i l) L qs) end
   line_refused_to end refused =
-      let (made, gained, one) = refused_made t (kept_number (slice_index_or ks i e)) text m y end refused in
+      let (made, gained, one) = refused_made t (kept_by_speaker (slice_index_or ks i e)) text m y end refused in
       inr (
         i,
         _,
@@ -86,11 +88,11 @@ module _ {t : Setup} (line text : List ℕ) (xs : List SeatView) (ks : List (Opt
         record {
           x = slice_index_or xs i d;
           y = y;
-          kept = kept_number (slice_index_or ks i e);
-          after = kept_number l;
+          kept = kept_by_speaker (slice_index_or ks i e);
+          after = kept_by_speaker l;
           seat = seat_turned xs i d y low;
           look = look_turned ks i e l (omega (arith, low, size));
-          refused = line_met (met_keeps meets) t (kept_number (slice_index_or ks i e)) text y end refused;
+          refused = line_met (met_keeps meets) t (kept_by_speaker (slice_index_or ks i e)) text y end refused;
           made = made;
           gained = gained_met (met_keeps meets) y made gained;
           goes_on = went_on xs (slice_set xs i y) ks (slice_set ks i l) made meets latest follows gained one;
@@ -98,15 +100,15 @@ module _ {t : Setup} (line text : List ℕ) (xs : List SeatView) (ks : List (Opt
       )
 
   pub unspoken : {N B : Type 0} {said : Option (List ℕ)} {end : SessionEnd}
-      → Hears {N = N} t text (speaker m (slice_index_or ks i e)) (speaker y l) (Err end)
-      → Handles {B = B} t line (record { who = speakers xs ks H ps; said = said })
+      → HearsSpeaker {N = N} t text (speaker m (slice_index_or ks i e)) (speaker y l) (Err end)
+      → HandlesSessionLine {B = B} t line (record { who = speakers xs ks H ps; said = said })
       (record { who = speakers (slice_set xs i y) (slice_set ks i l) L qs; said = said }) (Err end)
   unspoken {end = end} h = record { done = tt; refused = line_refused_to end h.refused; unsaid = refl }
 
   pub spoken : {N B : Type 0} {old new : Option (List ℕ)} {answer : Answer N} {result : Result B SessionEnd}
-      → Hears t text (speaker m (slice_index_or ks i e)) (speaker y l) (Ok answer)
+      → HearsSpeaker t text (speaker m (slice_index_or ks i e)) (speaker y l) (Ok answer)
       → TellsSpeaker (speaker_answer_text t.names answer) old new result
-      → Handles t line (record { who = speakers xs ks H ps; said = old })
+      → HandlesSessionLine t line (record { who = speakers xs ks H ps; said = old })
       (record { who = speakers (slice_set xs i y) (slice_set ks i l) L qs; said = new }) result
   spoken {answer = answer} {result = Ok b} h told = record {
     done = record {
@@ -118,8 +120,8 @@ module _ {t : Setup} (line text : List ℕ) (xs : List SeatView) (ks : List (Opt
         record {
           x = slice_index_or xs i d;
           y = y;
-          kept = kept_number (slice_index_or ks i e);
-          after = kept_number l;
+          kept = kept_by_speaker (slice_index_or ks i e);
+          after = kept_by_speaker l;
           seat = seat_turned xs i d y low;
           look = look_turned ks i e l (omega (arith, low, size));
           made = answer_entries answer;
@@ -137,18 +139,18 @@ module _ {t : Setup} (line text : List ℕ) (xs : List SeatView) (ks : List (Opt
   }
   spoken {answer = answer} {result = Err end} h told = record {
     done = tt;
-    refused = subst (RefusesLineOf t (speakers xs ks H ps) line (speakers (slice_set xs i y) (slice_set ks i l) L qs))
+    refused = subst (RefusesLineOfSpeaker t (speakers xs ks H ps) line (speakers (slice_set xs i y) (slice_set ks i l) L qs))
         (sym told.0)
         (line_refused_to Memory (record {
           more = answer_entries answer;
-          next = inr (kept_number l, speaker_answer_text t.names answer, h.done.answers);
+          next = inr (kept_by_speaker l, speaker_answer_text t.names answer, h.done.answers);
           gained = h.done.gained;
         }));
     unsaid = told.1;
   }
 
 -- a line that is refused ends a session for what the table, the memory or a thread refused
-pub ends_by : (t : Setup) (s z : Speakers) (line : List ℕ) (end : SessionEnd) → RefusesLineOf t s line z end
+pub ends_by : (t : SessionSetup) (s z : Speakers) (line : List ℕ) (end : SessionEnd) → RefusesLineOfSpeaker t s line z end
     → IsLineEnd end
 ends_by t s z line (Table fault) r = tt
 ends_by t s z line Spawn r = tt
@@ -158,7 +160,7 @@ ends_by t s z line end r = elim r [
   | inr q ↦ q.3.refused.2
 ]
 
-pub sizes_kept : (t : Setup) (s z : Speakers) (line text : List ℕ) → AnswersLineOf t s line z text
+pub sizes_kept : (t : SessionSetup) (s z : Speakers) (line text : List ℕ) → AnswersLineOfSpeaker t s line z text
     → (length z.seats ≡ length s.seats) × (length z.kept ≡ length s.kept)
 sizes_kept t s z line text a = elim a [
   | inl p ↦ (ap (λ (w : Speakers). length w.seats) p.1, ap (λ (w : Speakers). length w.kept) p.1)
@@ -168,14 +170,14 @@ sizes_kept t s z line text a = elim a [
   )
 ]
 
-number_left : (t : Setup) (k : Option ℕ) (text : List ℕ) (x y : SeatView) (end : SessionEnd)
-    → RefusesLine t k text x y end → y.number ≡ x.number
+number_left : (t : SessionSetup) (k : Option ℕ) (text : List ℕ) (x y : SeatView) (end : SessionEnd)
+    → RefusesSessionLine t k text x y end → y.number ≡ x.number
 number_left t k text x y (Table fault) h = h.2.2.number
 number_left t k text x y Spawn h = h.2.2.number
 number_left t k text x y Memory h = h.gained.number
 number_left t k text x y end h = absurd h.2
 
-pub numbers_said : (t : Setup) (s z : Speakers) (line text : List ℕ) → AnswersLineOf t s line z text
+pub numbers_said : (t : SessionSetup) (s z : Speakers) (line text : List ℕ) → AnswersLineOfSpeaker t s line z text
     → numbers z ≡ numbers s
 numbers_said t s z line text a = elim a [
   | inl p ↦ ap numbers p.1
@@ -183,7 +185,7 @@ numbers_said t s z line text a = elim a [
       ∙ numbers_set s.seats q.0 q.3.x q.3.y q.3.seat.old q.3.gained.number
 ]
 
-pub numbers_left : (t : Setup) (s z : Speakers) (line : List ℕ) (end : SessionEnd) → RefusesLineOf t s line z end
+pub numbers_left : (t : SessionSetup) (s z : Speakers) (line : List ℕ) (end : SessionEnd) → RefusesLineOfSpeaker t s line z end
     → numbers z ≡ numbers s
 numbers_left t s z line end r = elim r [
   | inl p ↦ ap numbers p.1

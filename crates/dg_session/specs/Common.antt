@@ -1,5 +1,5 @@
 -- The names that the specs of this crate cite, passed on from one place. Declares nothing.
-pub use Rattle.dg_analyst.specs.Views.{LookView}
+pub use Rattle.dg_analyst.specs.Views.{TakenLookView}
 pub use Rattle.dg_rules.specs.Requests.{asked}
 pub use Rattle.dg_rules.specs.declared.entry.Entry.{Entry}
 pub use Rattle.dg_rules.specs.declared.entry.Request.{Request}
@@ -10,14 +10,14 @@ pub use Rattle.dg_lines.specs.Commands.{IsCommandLine}
 pub use Rattle.dg_lines.specs.Cuts.{lines}
 pub use Rattle.dg_lines.specs.LineFaults.{IsLineFault, fault_text}
 pub use Rattle.dg_lines.specs.Steps.{IsSeatedLine}
-pub use Rattle.dg_lines.specs.Streams.{Begins, HasNoNewline, LinesHaveCome, last_line, with_newline}
-pub use Rattle.dg_lines.specs.Texts.{HasNames, entry_text}
+pub use Rattle.dg_lines.specs.Streams.{BeginsWithLines, HasNoNewline, LinesOfTextHaveCome, last_line, with_newline}
+pub use Rattle.dg_lines.specs.Texts.{TextHasNames, entry_text}
 pub use Rattle.dg_lines.specs.declared.line.LineFault.{LineFault}
 pub use Rattle.dg_lines.specs.declared.line.LineFault.TheVariants.{Seat}
-pub use Rattle.dg_log.specs.Numbered.{IsPrefixOf, StandIn}
+pub use Rattle.dg_log.specs.Numbered.{IsPrefixOf, StandInLog}
 pub use Rattle.dg_log.specs.Tables.{TableData}
 pub use Rattle.dg_rank.specs.Ranks.{IsRankTestWithinLimits}
-pub use Rattle.dg_system.specs.Growth.{AppendsFrontToOutput, StreamWriting}
-pub use Rattle.dg_table.specs.Faults.{RefusesCall}
+pub use Rattle.dg_system.specs.Growth.{AppendsFrontToStream, StreamWriting}
+pub use Rattle.dg_table.specs.Faults.{RefusesCallAtTable}
 pub use Rattle.dg_table.specs.Histories.{SeatHasPrefix}
 pub use Rattle.dg_table.specs.Seats.{SeatView}

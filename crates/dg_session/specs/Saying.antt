@@ -2,28 +2,27 @@
 -- the one history that the seat has found (`SeatHasPrefix`), and is answered there as the game answers
 -- it. `names` are the names of the vertices, and `kept` is the number of the look that the session
 -- keeps, if it keeps one.
---   speakers_kept_after kept p                       == the look that is kept after the entry p: it, if it is
---                                                       a look; none, if it enters what was computed on the
---                                                       look; otherwise the one that was kept
---   Says kept words made after text                  == no entry is made, and these words are said
+--   speakers_kept_after kept p                    == the look that is kept after the entry p: it, if it is a
+--                                                    look; none, if it enters what was computed on the look;
+--                                                    otherwise the one that was kept
+--   SaysToSpeaker kept words made after text      == no entry is made, and these words are said
 --   SpeakerEnters names kept request made after text == one entry is made, that of the request, and its line
---                                                       is said
---   AnswersCommand t kept command made after text    == the command, with that look kept, makes these
---                                                       entries, leaves that look kept, and is answered with
---                                                       the text
---   AnswersLine t kept line made after text          == so is the line: by what is wrong with it, or as its
---                                                       command
---   SessionGains x y made                            == the seat is the same, has made these entries, and was
---                                                       told of what it was told, and perhaps more; the
---                                                       history that it has found begins with the one that it
---                                                       had; the one that it has met has these entries after
---                                                       the one that it had met; and where it made none, it
---                                                       was told of no entry, and found no history
+--                                                    is said
+--   AnswersCommand t kept command made after text == the command, with that look kept, makes these entries,
+--                                                    leaves that look kept, and is answered with the text
+--   AnswersLine t kept line made after text       == so is the line: by what is wrong with it, or as its
+--                                                    command
+--   SessionGains x y made                         == the seat is the same, has made these entries, and was
+--                                                    told of what it was told, and perhaps more; the history
+--                                                    that it has found begins with the one that it had; the
+--                                                    one that it has met has these entries after the one that
+--                                                    it had met; and where it made none, it was told of no
+--                                                    entry, and found no history
 use Rattle.std.specs.Prelude.{◌≡◌, ℕ, ◌⊎◌, List, [], ◌∷◌, ◌++◌, Option, Some, None, codes}
 use Rattle.dg_session.specs.Common.{IsRankTestWithinLimits, asked, Entry, Request, Look, Judge, Command, Call, Commit, Rank, IsPrefixOf, SeatView, IsCommandLine, IsLineFault, fault_text, entry_text, LineFault}
 use Rattle.dg_rules.specs.declared.entry.Request.TheVariants.{Rank as RankRequest}
-use Rattle.dg_session.specs.Setup.{Setup}
-use Rattle.dg_session.specs.Order.{ComeAfter}
+use Rattle.dg_session.specs.Setup.{SessionSetup}
+use Rattle.dg_session.specs.Order.{SessionComesAfter}
 
 abbrev pub speakers_look_after : Option ℕ → ℕ → Request → Option ℕ
 speakers_look_after kept number Look = Some number
@@ -34,8 +33,8 @@ speakers_look_after kept number request = kept
 abbrev pub speakers_kept_after : Option ℕ → ℕ × Entry → Option ℕ
 speakers_kept_after kept p = speakers_look_after kept p.0 p.1.request
 
-abbrev pub Says : Option ℕ → List ℕ → List (ℕ × Entry) → Option ℕ → List ℕ → Type 0
-Says kept words made after text = (made ≡ []) × (after ≡ kept) × (text ≡ words)
+abbrev pub SaysToSpeaker : Option ℕ → List ℕ → List (ℕ × Entry) → Option ℕ → List ℕ → Type 0
+SaysToSpeaker kept words made after text = (made ≡ []) × (after ≡ kept) × (text ≡ words)
 
 abbrev pub SpeakerEnters : List (List ℕ) → Option ℕ → Request → List (ℕ × Entry) → Option ℕ → List ℕ
     → Type 0
@@ -43,22 +42,22 @@ SpeakerEnters names kept request made after text =
     (p : ℕ × Entry) × (p.1.request ≡ request) × (made ≡ p ∷ []) × (after ≡ speakers_kept_after kept p)
     × (text ≡ entry_text names p.0 p.1.reply)
 
-abbrev pub AnswersCommand : Setup → Option ℕ → Command → List (ℕ × Entry) → Option ℕ → List ℕ
+abbrev pub AnswersCommand : SessionSetup → Option ℕ → Command → List (ℕ × Entry) → Option ℕ → List ℕ
     → Type 0
 AnswersCommand t kept (Call plain) made after text =
     SpeakerEnters t.names kept (asked plain) made after text
-AnswersCommand t None Commit made after text = Says None (codes "bad look\n") made after text
+AnswersCommand t None Commit made after text = SaysToSpeaker None (codes "bad look\n") made after text
 AnswersCommand t (Some i) Commit made after text = SpeakerEnters t.names (Some i) (Judge i) made after text
-AnswersCommand t None (Rank k) made after text = Says None (codes "bad look\n") made after text
+AnswersCommand t None (Rank k) made after text = SaysToSpeaker None (codes "bad look\n") made after text
 AnswersCommand t (Some i) (Rank k) made after text =
-    ((¬ IsRankTestWithinLimits t.table.start.graph.size k) × Says (Some i) (codes "bad trials\n") made after text)
+    ((¬ IsRankTestWithinLimits t.table.start.graph.size k) × SaysToSpeaker (Some i) (codes "bad trials\n") made after text)
     ⊎ (IsRankTestWithinLimits t.table.start.graph.size k
     × SpeakerEnters t.names (Some i) (RankRequest i k) made after text)
 
-abbrev pub AnswersLine : Setup → Option ℕ → List ℕ → List (ℕ × Entry) → Option ℕ → List ℕ → Type 0
+abbrev pub AnswersLine : SessionSetup → Option ℕ → List ℕ → List (ℕ × Entry) → Option ℕ → List ℕ → Type 0
 AnswersLine t kept line made after text =
     ((fault : LineFault) × IsLineFault t.names fault line
-    × Says kept (fault_text fault) made after text)
+    × SaysToSpeaker kept (fault_text fault) made after text)
     ⊎ ((command : Command) × IsCommandLine t.names command line
     × AnswersCommand t kept command made after text)
 
@@ -68,5 +67,5 @@ pub record SessionGains (x y : SeatView) (made : List (ℕ × Entry)) : Type 0 w
   pub heard : List (ℕ × Entry)
   pub told : y.told ≡ x.told ++ heard
   pub prefix : IsPrefixOf x.prefix y.prefix
-  pub order : ComeAfter x.met made y.met
+  pub order : SessionComesAfter x.met made y.met
   pub still : made ≡ [] → (y.told ≡ x.told) × (y.prefix ≡ x.prefix)

@@ -5,49 +5,47 @@
 --                                                    that it keeps, if it keeps one
 --   answer_entries a, speaker_answer_text names a == the entries that the answer says were made, at most one,
 --                                                    and its line
---   AnswerHasNames names a                        == there are names for what it says
+--   SpeakerAnswerHasNames names a                 == there are names for what it says
 --   Talk                                          == how far all seats are: who speaks, and what was said
 --   SoFar                                         == how far the session is: what came after the last
 --                                                    newline, how many lines are answered, and who speaks
 --   TellsSpeaker words old new result             == the words are said; or memory is refused, and nothing is
 --   GivesSpeakerAnswer t A old new a              == the answer is one that A admits, and the speaker has
 --                                                    gained its entries
---   Obeys t command old new result                == the speaker's command is done, and is to be answered so;
+--   ObeysSpeaker t command old new result         == the speaker's command is done, and is to be answered so;
 --                                                    or the session ends so at it
---   Hears t line old new result                   == so is the speaker's line
---   Handles t line old new result                 == so is a line, of the seat that it is for
+--   HearsSpeaker t line old new result            == so is the speaker's line
+--   HandlesSessionLine t line old new result      == so is a line, of the seat that it is for
 --   IsReady at                                    == the session can go on: what is pending may be of a line,
 --                                                    and a look may be kept for each seat
 --   Goes t old bytes rest new text                == of the bytes all but the rest are taken: the lines that
 --                                                    end in them are answered with the text
 --   SessionRefusesPart pending count part end     == the part of a line is not taken, for its length or as
 --                                                    one of a line too many
---   StaysAt at rest end                           == the session ends so before the rest: a line there is too
+--   SessionStaysAt at rest end                    == the session ends so before the rest: a line there is too
 --                                                    long or one too many, or memory is refused
---   StopsIn t ended at rest z end                 == or at the line that comes next, as it is refused
+--   SessionStopsIn t ended at rest z end          == or at the line that comes next, as it is refused
 --   SessionRound                                  == who speaks after some lines, and the text that answers
 --                                                    them
 --   round z text                                  == that of these
 --   HaltsSession t ended old bytes after end      == the bytes are taken but for a rest, and there the
 --                                                    session ends so; `ended` says that no more is to come
---   Takes t old bytes new said result             == the bytes are taken, or the session halts in them; what
+--   TakesInSession t old bytes new said result    == the bytes are taken, or the session halts in them; what
 --                                                    is said of it comes after what was said before
---   TakesEnd t old new said result                == so is the end: what is pending is the last line, if it
+--   TakesSessionEnd t old new said result         == so is the end: what is pending is the last line, if it
 --                                                    has a byte
---   IsSaid said text                              == what was said, if it is kept, is the text
---   AnswersAreCleared old new                     == it is kept as before, and is nothing now
 --   IsWrittenInSession taken text old new result  == all that was said is written, and it ends as the taking
 --                                                    did; or a front of it is, and the writer took no more
 use Rattle.std.specs.Prelude.{◌≡◌, ◌≢◌, ℕ, ◌+◌, ◌<◌, ◌≤◌, ◌⊎◌, List, [], ◌∷◌, ◌++◌, length, true, codes, Option, None, Some, Result, Ok, Err, OnOk, OnErr, IfOk, IfErr, ⊤}
 use Rattle.std.specs.Global.{Vec}
 use Rattle.std.specs.Io.KnownBytes.{Appends, append_known}
-use Rattle.dg_session.specs.Common.{Entry, Command, SeatView, LookView, StreamWriting, AppendsFrontToOutput, Begins, last_line, entry_text, fault_text, HasNames}
-use Rattle.dg_session.specs.Setup.{Setup}
+use Rattle.dg_session.specs.Common.{Entry, Command, SeatView, TakenLookView, StreamWriting, AppendsFrontToStream, BeginsWithLines, last_line, entry_text, fault_text, TextHasNames}
+use Rattle.dg_session.specs.Setup.{SessionSetup}
 use Rattle.dg_session.specs.EntriesSoFar.{EntriesSoFarView}
-use Rattle.dg_session.specs.Streams.{IsLine, AreSessionLines, Passage}
+use Rattle.dg_session.specs.Streams.{IsSessionLine, AreSessionLines, Passage}
 use Rattle.dg_session.specs.Saying.{SessionGains, AnswersCommand, AnswersLine}
-use Rattle.dg_session.specs.Refusing.{RefusesCommand, RefusesLine}
-use Rattle.dg_session.specs.Speakers.{Speakers, speakers, new_speakers, kept_number, AnswersLineOf, RefusesLineOf}
+use Rattle.dg_session.specs.Refusing.{RefusesSpeakerCommand, RefusesSessionLine}
+use Rattle.dg_session.specs.Speakers.{Speakers, speakers, new_speakers, kept_by_speaker, AnswersLineOfSpeaker, RefusesLineOfSpeaker}
 use Rattle.dg_session.specs.Ends.{Answers, IsTooLongForSession}
 use Rattle.dg_session.specs.declared.answering.Answer.{Answer}
 use Rattle.dg_session.specs.declared.answering.Answer.TheVariants.{Made, NoLook, TooMany, BadLine}
@@ -65,11 +63,11 @@ pub record Speaker : Type 0 where
   pub seat : SeatView
   pub kept : Option ℕ
 
-abbrev pub keeping : Option ℕ → SeatView → Speaker
-keeping kept x = record { seat = x; kept = kept }
+abbrev pub keeping_speaker : Option ℕ → SeatView → Speaker
+keeping_speaker kept x = record { seat = x; kept = kept }
 
-abbrev pub speaker : SeatView → Option LookView → Speaker
-speaker x look = keeping (kept_number look) x
+abbrev pub speaker : SeatView → Option TakenLookView → Speaker
+speaker x look = keeping_speaker (kept_by_speaker look) x
 
 abbrev pub answer_entries : {N : Type 0} → Answer N → List (ℕ × Entry)
 answer_entries (Made r) = r ∷ []
@@ -81,15 +79,15 @@ speaker_answer_text names NoLook = codes "bad look\n"
 speaker_answer_text names TooMany = codes "bad trials\n"
 speaker_answer_text names (BadLine fault) = fault_text fault
 
-abbrev pub AnswerHasNames : {N : Type 0} → List (List ℕ) → Answer N → Type 0
-AnswerHasNames names (Made r) = HasNames names r.1.reply
-AnswerHasNames names answer = ⊤
+abbrev pub SpeakerAnswerHasNames : {N : Type 0} → List (List ℕ) → Answer N → Type 0
+SpeakerAnswerHasNames names (Made r) = TextHasNames names r.1.reply
+SpeakerAnswerHasNames names answer = ⊤
 
 pub record Talk : Type 0 where
   pub who : Speakers
   pub said : Option (List ℕ)
 
-abbrev pub talk : List SeatView → List (Option LookView) → EntriesSoFarView → AnswerBuffer → Talk
+abbrev pub talk : List SeatView → List (Option TakenLookView) → EntriesSoFarView → AnswerBuffer → Talk
 talk xs looks entries_so_far said =
     record { who = speakers xs looks entries_so_far.latest entries_so_far.entered; said = heard said.text }
 
@@ -113,46 +111,46 @@ abbrev pub TellsSpeaker : {B : Type 0} → List ℕ → Option (List ℕ) → Op
 TellsSpeaker words old new (Ok b) = new ≡ append_known old words
 TellsSpeaker words old new (Err end) = (end ≡ Memory) × (new ≡ old)
 
-pub record GivesSpeakerAnswer {N : Type 0} (t : Setup) (A : List (ℕ × Entry) → Option ℕ → List ℕ → Type 0)
+pub record GivesSpeakerAnswer {N : Type 0} (t : SessionSetup) (A : List (ℕ × Entry) → Option ℕ → List ℕ → Type 0)
     (old new : Speaker) (answer : Answer N) : Type 0 where
   pub answers : A (answer_entries answer) new.kept (speaker_answer_text t.names answer)
   pub gained : SessionGains old.seat new.seat (answer_entries answer)
-  pub named : AnswerHasNames t.names answer
+  pub named : SpeakerAnswerHasNames t.names answer
 
-pub record Obeys {N : Type 0} (t : Setup) (command : Command) (old new : Speaker)
+pub record ObeysSpeaker {N : Type 0} (t : SessionSetup) (command : Command) (old new : Speaker)
     (result : Result (Answer N) SessionEnd) : Type 0 where
   pub done : IfOk result (GivesSpeakerAnswer t (AnswersCommand t old.kept command) old new)
   pub refused : IfErr result
-      (RefusesCommand t old.kept command old.seat new.seat)
+      (RefusesSpeakerCommand t old.kept command old.seat new.seat)
 
-pub record Hears {N : Type 0} (t : Setup) (line : List ℕ) (old new : Speaker)
+pub record HearsSpeaker {N : Type 0} (t : SessionSetup) (line : List ℕ) (old new : Speaker)
     (result : Result (Answer N) SessionEnd) : Type 0 where
   pub done : IfOk result (GivesSpeakerAnswer t (AnswersLine t old.kept line) old new)
   pub refused : IfErr result
-      (RefusesLine t old.kept line old.seat new.seat)
+      (RefusesSessionLine t old.kept line old.seat new.seat)
 
-pub record IsAnswered (t : Setup) (line : List ℕ) (old new : Talk) : Type 0 where
+pub record IsAnswered (t : SessionSetup) (line : List ℕ) (old new : Talk) : Type 0 where
   pub text : List ℕ
-  pub holds : AnswersLineOf t old.who line new.who text
+  pub holds : AnswersLineOfSpeaker t old.who line new.who text
   pub said : new.said ≡ append_known old.said text
 
-pub record Handles {B : Type 0} (t : Setup) (line : List ℕ) (old new : Talk)
+pub record HandlesSessionLine {B : Type 0} (t : SessionSetup) (line : List ℕ) (old new : Talk)
     (result : Result B SessionEnd) : Type 0 where
   pub done : OnOk result (IsAnswered t line old new)
-  pub refused : IfErr result (RefusesLineOf t old.who line new.who)
+  pub refused : IfErr result (RefusesLineOfSpeaker t old.who line new.who)
   pub unsaid : OnErr result (new.said ≡ old.said)
 
 pub record IsReady (at : SoFar) : Type 0 where
-  pub line : IsLine at.pending
+  pub line : IsSessionLine at.pending
   pub few : at.count ≤ MAX_LINES
   pub full : at.count ≡ MAX_LINES → at.pending ≡ []
   pub some : 1 ≤ length at.who.seats
   pub each : length at.who.kept ≡ length at.who.seats
 
-pub record Goes (t : Setup) (old : SoFar) (bytes rest : List ℕ) (new : SoFar)
+pub record Goes (t : SessionSetup) (old : SoFar) (bytes rest : List ℕ) (new : SoFar)
     (text : List ℕ) : Type 0 where
   pub ls : List (List ℕ)
-  pub came : Begins IsLine (old.pending ++ bytes) ls (new.pending ++ rest)
+  pub came : BeginsWithLines IsSessionLine (old.pending ++ bytes) ls (new.pending ++ rest)
   pub counted : new.count ≡ old.count + length ls
   pub answered : Answers t old.who ls new.who text
   pub ready : IsReady new
@@ -163,18 +161,18 @@ SessionRefusesPart pending count part LongLine =
     (count ≢ MAX_LINES) × (MAX_LINE < length pending + length part)
 SessionRefusesPart pending count part end = ⊥
 
-abbrev pub StaysAt : SoFar → List ℕ → SessionEnd → Type 0
-StaysAt at rest Turns = (at.count ≡ MAX_LINES) × (1 ≤ length rest)
-StaysAt at rest LongLine = (at.count < MAX_LINES) × IsTooLongForSession (at.pending ++ rest)
-StaysAt at rest Memory = ⊤
-StaysAt at rest end = ⊥
+abbrev pub SessionStaysAt : SoFar → List ℕ → SessionEnd → Type 0
+SessionStaysAt at rest Turns = (at.count ≡ MAX_LINES) × (1 ≤ length rest)
+SessionStaysAt at rest LongLine = (at.count < MAX_LINES) × IsTooLongForSession (at.pending ++ rest)
+SessionStaysAt at rest Memory = ⊤
+SessionStaysAt at rest end = ⊥
 
-pub record StopsIn (t : Setup) (ended : Type 0) (at : SoFar) (rest : List ℕ) (z : Speakers)
+pub record SessionStopsIn (t : SessionSetup) (ended : Type 0) (at : SoFar) (rest : List ℕ) (z : Speakers)
     (end : SessionEnd) : Type 0 where
   pub line : List ℕ
   pub came : AreSessionLines ended (at.pending ++ rest) (line ∷ [])
   pub few : at.count < MAX_LINES
-  pub stops : RefusesLineOf t at.who line z end
+  pub stops : RefusesLineOfSpeaker t at.who line z end
 
 pub record SessionRound : Type 0 where
   pub who : Speakers
@@ -183,21 +181,21 @@ pub record SessionRound : Type 0 where
 abbrev pub round : Speakers → List ℕ → SessionRound
 round z text = record { who = z; text = text }
 
-pub record HaltsSession (t : Setup) (ended : Type 0) (old : SoFar) (bytes : List ℕ) (after : SessionRound)
+pub record HaltsSession (t : SessionSetup) (ended : Type 0) (old : SoFar) (bytes : List ℕ) (after : SessionRound)
     (end : SessionEnd) : Type 0 where
   pub rest : List ℕ
   pub at : SoFar
   pub goes : Goes t old bytes rest at after.text
-  pub fails : (StaysAt at rest end × (after.who ≡ at.who)) ⊎ StopsIn t ended at rest after.who end
+  pub fails : (SessionStaysAt at rest end × (after.who ≡ at.who)) ⊎ SessionStopsIn t ended at rest after.who end
 
-pub record Takes {B : Type 0} (t : Setup) (old : SoFar) (bytes : List ℕ) (new : SoFar)
+pub record TakesInSession {B : Type 0} (t : SessionSetup) (old : SoFar) (bytes : List ℕ) (new : SoFar)
     (said : Passage) (result : Result B SessionEnd) : Type 0 where
   pub text : List ℕ
   pub grown : said.after ≡ append_known said.before text
   pub taken : OnOk result (Goes t old bytes [] new text)
   pub halted : IfErr result (HaltsSession t ⊥ old bytes (round new.who text))
 
-pub record TakesEnd {B : Type 0} (t : Setup) (old new : SoFar) (said : Passage)
+pub record TakesSessionEnd {B : Type 0} (t : SessionSetup) (old new : SoFar) (said : Passage)
     (result : Result B SessionEnd) : Type 0 where
   pub text : List ℕ
   pub grown : said.after ≡ append_known said.before text
@@ -205,17 +203,9 @@ pub record TakesEnd {B : Type 0} (t : Setup) (old new : SoFar) (said : Passage)
   pub counted : OnOk result (new.count ≡ old.count + length (last_line old.pending))
   pub halted : IfErr result (HaltsSession t ⊤ old [] (round new.who text))
 
-abbrev pub IsSaid : Option (List ℕ) → List ℕ → Type 0
-IsSaid None text = ⊤
-IsSaid (Some said) text = said ≡ text
-
-abbrev pub AnswersAreCleared : Option (List ℕ) → Option (List ℕ) → Type 0
-AnswersAreCleared None new = new ≡ None
-AnswersAreCleared (Some text) new = new ≡ Some []
-
 abbrev pub IsWrittenInSession : {B : Type 0} → Result B SessionEnd → List ℕ → StreamWriting → StreamWriting
     → Result B SessionEnd → Type 0
 IsWrittenInSession taken text old new result =
     ((taken ≡ result) × Appends old.contents new.contents text)
-    ⊎ ((result ≡ Err Write) × AppendsFrontToOutput old.contents new.contents [] text
+    ⊎ ((result ≡ Err Write) × AppendsFrontToStream old.contents new.contents [] text
     × (new.has_failed ≡ true))

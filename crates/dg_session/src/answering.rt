@@ -2,9 +2,9 @@
 ghost use Rattle.std.specs.Prelude.{◌≡◌, ◌≢◌, ℕ, List, length, Option};
 ghost use Rattle.dg_rank.specs.Ranks.{MayHaveRankWorkers};
 ghost use Rattle.dg_rules.specs.declared.step.Command.TheVariants.{Call, Commit, Rank};
-ghost use Rattle.dg_lines.specs.Texts.{HasNames, entry_text};
-ghost use Rattle.dg_session.specs.Setup.{setup};
-ghost use Rattle.dg_session.specs.SoFar.{speaker_answer_text, heard, keeping, speaker, AnswerHasNames, TellsSpeaker, Hears, Obeys};
+ghost use Rattle.dg_lines.specs.Texts.{TextHasNames, entry_text};
+ghost use Rattle.dg_session.specs.Setup.{session_setup};
+ghost use Rattle.dg_session.specs.SoFar.{speaker_answer_text, heard, keeping_speaker, speaker, SpeakerAnswerHasNames, TellsSpeaker, HearsSpeaker, ObeysSpeaker};
 
 use crate::ends::SessionEnd;
 use crate::line_format::LineFormat;
@@ -65,7 +65,7 @@ impl AnswerBuffer {
         names: &Names,
         answer: &Answer<N>,
     ) -> Result<(), SessionEnd>
-        requires { AnswerHasNames names.now answer.now }
+        requires { SpeakerAnswerHasNames names.now answer.now }
         ensures { TellsSpeaker (speaker_answer_text names.now answer.now)
             (heard self.old.text) (heard self.new.text) result }
     {
@@ -97,7 +97,7 @@ impl AnswerBuffer {
         names: &Names,
         receipt: &Receipt<N>,
     ) -> Result<(), SessionEnd>
-        requires { HasNames names.now receipt.now.1.reply }
+        requires { TextHasNames names.now receipt.now.1.reply }
         ensures { TellsSpeaker (entry_text names.now receipt.now.0 receipt.now.1.reply)
             (heard self.old.text) (heard self.new.text) result }
     {
@@ -130,25 +130,25 @@ pub(crate) fn answer_seat<N: Name, R: Threads + Wait>(
     seat: &mut Seat<N>,
     line: &[u8],
 ) -> Result<Answer<N>, SessionEnd>
-    ensures { Hears (setup shared.now.how N.table shared.now.names.now shared.now.workers)
+    ensures { HearsSpeaker (session_setup shared.now.how N.table shared.now.names.now shared.now.workers)
         line.now (speaker seat.old kept.old) (speaker seat.new kept.new) result }
 {
     match parse_line(line, shared.names) {
-        Ok(command) => obey(shared, kept, inverse, seat, &command),
+        Ok(command) => obey_in_session(shared, kept, inverse, seat, &command),
         Err(fault) => Ok(Answer::BadLine(fault)),
     }
 }
 
 /// Carries out a command.
 #[inline(never)]
-fn obey<N: Name, R: Threads + Wait>(
+fn obey_in_session<N: Name, R: Threads + Wait>(
     shared: &Shared<N, R>,
     kept: &mut Option<Look<N>>,
     inverse: &mut InverseLaplacian,
     seat: &mut Seat<N>,
     command: &Command,
 ) -> Result<Answer<N>, SessionEnd>
-    ensures { Obeys (setup shared.now.how N.table shared.now.names.now shared.now.workers)
+    ensures { ObeysSpeaker (session_setup shared.now.how N.table shared.now.names.now shared.now.workers)
         command.now (speaker seat.old kept.old) (speaker seat.new kept.new) result }
 {
     match command {
@@ -169,7 +169,7 @@ fn take_look_of_speaker<N: Name, R: Threads + Wait>(
     kept: &mut Option<Look<N>>,
     seat: &mut Seat<N>,
 ) -> Result<Answer<N>, SessionEnd>
-    ensures { Obeys (setup shared.now.how N.table shared.now.names.now shared.now.workers)
+    ensures { ObeysSpeaker (session_setup shared.now.how N.table shared.now.names.now shared.now.workers)
         (Call Plain.Look) (speaker seat.old kept.old) (speaker seat.new kept.new) result }
 {
     match look(shared.table, shared.rt, shared.alloc, seat) {
@@ -190,8 +190,8 @@ fn call<N: Name, R: Threads + Wait>(
 ) -> Result<Answer<N>, SessionEnd>
     requires { plain.now ≢ Plain.Look }
     ensures { (kept : Option ℕ) →
-        Obeys (setup shared.now.how N.table shared.now.names.now shared.now.workers)
-        (Call plain.now) (keeping kept seat.old) (keeping kept seat.new) result }
+        ObeysSpeaker (session_setup shared.now.how N.table shared.now.names.now shared.now.workers)
+        (Call plain.now) (keeping_speaker kept seat.old) (keeping_speaker kept seat.new) result }
 {
     match shared.table.call(shared.rt, shared.alloc, seat, *plain) {
         Ok(receipt) => Ok(Answer::Made(receipt)),
@@ -206,7 +206,7 @@ fn enter_verdict_of_speaker<N: Name, R: Threads + Wait>(
     inverse: &mut InverseLaplacian,
     seat: &mut Seat<N>,
 ) -> Result<Answer<N>, SessionEnd>
-    ensures { Obeys (setup shared.now.how N.table shared.now.names.now shared.now.workers)
+    ensures { ObeysSpeaker (session_setup shared.now.how N.table shared.now.names.now shared.now.workers)
         Commit (speaker seat.old kept.old) (speaker seat.new kept.new) result }
 {
     let Some(look) = kept else {
@@ -237,7 +237,7 @@ fn enter_rank_of_speaker<N: Name, R: Threads + Wait>(
     seat: &mut Seat<N>,
     k: u32,
 ) -> Result<Answer<N>, SessionEnd>
-    ensures { Obeys (setup shared.now.how N.table shared.now.names.now shared.now.workers)
+    ensures { ObeysSpeaker (session_setup shared.now.how N.table shared.now.names.now shared.now.workers)
         (Rank k) (speaker seat.old kept.old) (speaker seat.new kept.new) result }
 {
     if let Some(look) = kept
@@ -264,7 +264,7 @@ fn try_rank_of_speaker<N: Name, R: Threads + Wait>(
     seat: &mut Seat<N>,
     k: u32,
 ) -> Result<Answer<N>, SessionEnd>
-    ensures { Obeys (setup shared.now.how N.table shared.now.names.now shared.now.workers)
+    ensures { ObeysSpeaker (session_setup shared.now.how N.table shared.now.names.now shared.now.workers)
         (Rank k) (speaker seat.old kept.old) (speaker seat.new kept.new) result }
 {
     let Some(look) = kept.take() else {

@@ -1,23 +1,23 @@
 //! Serving a stream of lines.
-ghost use Rattle.std.specs.Prelude.{◌≡◌, ◌≢◌, ◌≤◌, List, ℕ, [], ◌∷◌, length, Option, None, Err, OnOk, All, true};
+ghost use Rattle.std.specs.Prelude.{◌≡◌, ◌≢◌, ◌≤◌, List, ℕ, [], ◌∷◌, length, Option, None, Some, Err, OnOk, All, true};
 ghost use Rattle.dg_rank.specs.Ranks.{MayHaveRankWorkers};
 ghost use Rattle.dg_table.specs.Histories.{SeatHasPrefix};
 ghost use Rattle.dg_session.specs.Ends.{IsOver, IsSession};
-ghost use Rattle.dg_session.specs.Setup.{setup};
+ghost use Rattle.dg_session.specs.Setup.{session_setup};
 ghost use Rattle.dg_session.specs.Streams.{passage};
 ghost use Rattle.dg_session.specs.declared.line_format.LineFormat.TheVariants.{OneSeat};
-ghost use Rattle.dg_session.specs.SoFar.{heard, IsSaid, AnswersAreCleared, IsWrittenInSession};
+ghost use Rattle.dg_session.specs.SoFar.{heard, IsWrittenInSession};
 
 use crate::answering::{AnswerBuffer, Shared};
 use crate::ends::{READ_SIZE, SessionEnd};
 use crate::line_format::LineFormat;
-use crate::taking::{SessionProgress, take_bytes, take_end};
+use crate::taking::{SessionProgress, take_session_bytes, take_session_end};
 use dg_log::Name;
 use dg_system::{Input, Output};
 use dg_table::{Seat, Table};
 use dg_tokens::Names;
 use std::alloc::Global;
-use std::io::{self, Read, Write};
+use std::io::{Read, Write};
 use std::slice;
 use std::sync::Wait;
 use std::thread::Threads;
@@ -42,7 +42,7 @@ pub fn serve<N: Name, R: Threads + Wait, I: Read + Drop, O: Write + Drop>(
 ) -> Result<u32, SessionEnd>
     requires names { length names.now ≡ N.table.start.graph.size }
     requires workers { MayHaveRankWorkers workers }
-    ensures session { (left said : Option (List ℕ)) × IsSession (setup OneSeat N.table names.now workers)
+    ensures session { (left said : Option (List ℕ)) × IsSession (session_setup OneSeat N.table names.now workers)
         (passage (I.remaining reader) left) (passage (O.contents writer) said)
         (seat.old ∷ []) (seat.new ∷ []) result }
 {
@@ -78,7 +78,7 @@ pub fn serve_seats<N: Name, R: Threads + Wait, I: Read, O: Write>(
     requires names { length names.now ≡ N.table.start.graph.size }
     requires workers { MayHaveRankWorkers workers }
     requires some { 1 ≤ length seats.old }
-    ensures session { IsSession (setup how N.table names.now workers)
+    ensures session { IsSession (session_setup how N.table names.now workers)
         (passage reader.old.remaining reader.new.remaining)
         (passage writer.old.contents writer.new.contents) seats.old seats.new result }
     ensures read { result ≡ Err SessionEnd.Read → reader.new.has_failed ≡ true }
@@ -92,27 +92,28 @@ pub fn serve_seats<N: Name, R: Threads + Wait, I: Read, O: Write>(
         workers,
         how,
     };
-    let ended = serve_lines(&shared, seats, reader, writer, Some(Vec::new(alloc)));
+    let ended = serve_lines(&shared, seats, reader, writer);
     speakers_have_prefixes(seats);
     ended
 }
 
-/// The same for one seat if nobody hears the answers: no text is made of them. So it does not end with `Write`.
-pub fn serve_unheard<N: Name, R: Threads + Wait, I: Read>(
+/// Answers the lines of a script for one seat, in the same way, if nobody hears the answers: no text is made of them. It ends
+/// neither with `Read` nor with `Write`. The conditions are the same.
+pub fn serve_unheard<N: Name, R: Threads + Wait>(
     rt: &R,
     alloc: Global,
     table: &Table<N>,
     seat: &mut Seat<N>,
     names: &Names,
-    reader: &mut Input<I>,
+    script: &[u8],
     workers: u32,
 ) -> Result<u32, SessionEnd>
     requires names { length names.now ≡ N.table.start.graph.size }
     requires workers { MayHaveRankWorkers workers }
-    ensures session { IsSession (setup OneSeat N.table names.now workers)
-        (passage reader.old.remaining reader.new.remaining) (passage None None)
+    ensures session { IsSession (session_setup OneSeat N.table names.now workers)
+        (passage (Some script.now) (Some [])) (passage None None)
         (seat.old ∷ []) (seat.new ∷ []) result }
-    ensures read { result ≡ Err SessionEnd.Read → reader.new.has_failed ≡ true }
+    ensures read { result ≢ Err SessionEnd.Read }
     ensures write { result ≢ Err SessionEnd.Write }
 {
     let shared = Shared {
@@ -123,9 +124,8 @@ pub fn serve_unheard<N: Name, R: Threads + Wait, I: Read>(
         workers,
         how: LineFormat::OneSeat,
     };
-    let mut writer = Output::new(io::sink());
     let seats = slice::from_mut(seat);
-    let ended = serve_lines(&shared, seats, reader, &mut writer, None);
+    let ended = serve_unheard_lines(&shared, seats, script);
     speakers_have_prefixes(seats);
     ended
 }
@@ -139,27 +139,50 @@ fn speakers_have_prefixes<N: Name>(seats: &[Seat<N>])
     }
 }
 
+/// Answers the lines of a script, and makes no text. The clauses do not say what those of `serve_lines` do not.
+fn serve_unheard_lines<N: Name, R: Threads + Wait>(
+    shared: &Shared<N, R>,
+    seats: &mut [Seat<N>],
+    script: &[u8],
+) -> Result<u32, SessionEnd>
+    requires some { 1 ≤ length seats.old }
+    ensures session { IsOver (session_setup shared.now.how N.table shared.now.names.now shared.now.workers)
+        (passage (Some script.now) (Some [])) (passage None None) seats.old seats.new result }
+    ensures read { result ≢ Err SessionEnd.Read }
+    ensures write { result ≢ Err SessionEnd.Write }
+{
+    let Some(mut progress) = SessionProgress::new(shared.alloc, seats, None, shared.table.inverse())
+    else {
+        return Err(SessionEnd::Memory);
+    };
+    match take_session_bytes(shared, &mut progress, seats, script) {
+        Ok(()) => {}
+        Err(end) => return Err(end),
+    }
+    match take_session_end(shared, &mut progress, seats) {
+        Ok(()) => Ok(progress.count),
+        Err(end) => Err(end),
+    }
+}
+
 /// Answers the lines. Its clauses do not say that the histories which the seats find are those of the table.
 fn serve_lines<N: Name, R: Threads + Wait, I: Read, O: Write>(
     shared: &Shared<N, R>,
     seats: &mut [Seat<N>],
     reader: &mut Input<I>,
     writer: &mut Output<O>,
-    text: Option<Vec<u8>>,
 ) -> Result<u32, SessionEnd>
     requires some { 1 ≤ length seats.old }
-    requires said { IsSaid (heard text) [] }
-    requires unknown { heard text ≡ None → writer.old.contents ≡ None }
-    ensures session { IsOver (setup shared.now.how N.table shared.now.names.now shared.now.workers)
+    ensures session { IsOver (session_setup shared.now.how N.table shared.now.names.now shared.now.workers)
         (passage reader.old.remaining reader.new.remaining)
         (passage writer.old.contents writer.new.contents) seats.old seats.new result }
     ensures read { result ≡ Err SessionEnd.Read → reader.new.has_failed ≡ true }
     ensures write { result ≡ Err SessionEnd.Write → writer.new.has_failed ≡ true }
-    ensures still { heard text ≡ None → writer.new ≡ writer.old }
 {
     let Ok(mut buffer) = vec![in shared.alloc; 0u8; READ_SIZE] else {
         return Err(SessionEnd::Memory);
     };
+    let text = Some(Vec::new(shared.alloc));
     let Some(mut progress) = SessionProgress::new(shared.alloc, seats, text, shared.table.inverse())
     else {
         return Err(SessionEnd::Memory);
@@ -169,13 +192,13 @@ fn serve_lines<N: Name, R: Threads + Wait, I: Read, O: Write>(
             return Err(SessionEnd::Read);
         };
         if size == 0 {
-            let taken = take_end(shared, &mut progress, seats);
+            let taken = take_session_end(shared, &mut progress, seats);
             match write_said(writer, &mut progress.said, taken) {
                 Ok(()) => return Ok(progress.count),
                 Err(end) => return Err(end),
             }
         }
-        let taken = take_bytes(shared, &mut progress, seats, &buffer[..size]);
+        let taken = take_session_bytes(shared, &mut progress, seats, &buffer[..size]);
         match write_said(writer, &mut progress.said, taken) {
             Ok(()) => {}
             Err(end) => return Err(end),
@@ -183,25 +206,23 @@ fn serve_lines<N: Name, R: Threads + Wait, I: Read, O: Write>(
     }
 }
 
-/// Writes the answers and clears them, if anybody hears them. Then it returns `taken`, which ended by no read and no write, or
-/// `Write`.
+/// Writes the answers and clears them. Then it returns `taken`, which ended by no read and no write, or `Write`.
 fn write_said<O: Write>(
     writer: &mut Output<O>,
     said: &mut AnswerBuffer,
     taken: Result<(), SessionEnd>,
 ) -> Result<(), SessionEnd>
-    requires unknown { heard said.old.text ≡ None → writer.old.contents ≡ None }
+    requires heard { heard said.old.text ≢ None }
     requires not_read { taken ≢ Err SessionEnd.Read }
     requires not_written { taken ≢ Err SessionEnd.Write }
-    ensures written { (text : List ℕ) → IsSaid (heard said.old.text) text →
+    ensures written { (text : List ℕ) → heard said.old.text ≡ Some text →
         IsWrittenInSession taken text writer.old writer.new result }
-    ensures cleared { OnOk result (AnswersAreCleared (heard said.old.text) (heard said.new.text)) }
-    ensures still { heard said.old.text ≡ None → writer.new ≡ writer.old }
+    ensures cleared { OnOk result (heard said.new.text ≡ Some []) }
     ensures read { result ≢ Err SessionEnd.Read }
     ensures write { result ≡ Err SessionEnd.Write → writer.new.has_failed ≡ true }
 {
     let Some(text) = &mut said.text else {
-        return taken;
+        unreachable!()
     };
     match writer.write_whole(text) {
         Ok(()) => {

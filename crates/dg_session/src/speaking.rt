@@ -1,7 +1,7 @@
 //! Answering one line of any seat.
 ghost use Rattle.std.specs.Prelude.{◌≡◌, ◌≤◌, length};
-ghost use Rattle.dg_session.specs.Setup.{setup};
-ghost use Rattle.dg_session.specs.SoFar.{talk, Handles};
+ghost use Rattle.dg_session.specs.Setup.{session_setup};
+ghost use Rattle.dg_session.specs.SoFar.{talk, HandlesSessionLine};
 
 use crate::answering::{Answer, AnswerBuffer, Shared, answer_seat};
 use crate::ends::SessionEnd;
@@ -27,7 +27,7 @@ pub(crate) fn answer_line<N: Name, R: Threads + Wait>(
 ) -> Result<(), SessionEnd>
     requires some { 1 ≤ length seats.old }
     requires each { length kept.old ≡ length seats.old }
-    ensures { Handles (setup shared.now.how N.table shared.now.names.now shared.now.workers)
+    ensures { HandlesSessionLine (session_setup shared.now.how N.table shared.now.names.now shared.now.workers)
         line.now (talk seats.old kept.old entries_so_far.old said.old)
         (talk seats.new kept.new entries_so_far.new said.new) result }
 {

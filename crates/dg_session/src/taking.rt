@@ -1,10 +1,10 @@
 //! Taking what was read: bytes that are cut into lines, and the end.
 ghost use Rattle.std.specs.Prelude.{◌≡◌, ◌≢◌, ◌+◌, ◌++◌, ◌<◌, ◌≤◌, [], length, map, None, OnOk, IfErr, IfSome, MatchResult};
-ghost use Rattle.dg_session.specs.Speakers.{kept_number};
-ghost use Rattle.dg_session.specs.Setup.{setup};
+ghost use Rattle.dg_session.specs.Speakers.{kept_by_speaker};
+ghost use Rattle.dg_session.specs.Setup.{session_setup};
 ghost use Rattle.dg_session.specs.Streams.{passage};
 ghost use Rattle.dg_session.specs.declared.ends.SessionEnd.TheVariants.{Memory};
-ghost use Rattle.dg_session.specs.SoFar.{beginning_of_session, heard, talk, so_far, Handles, IsReady, SessionRefusesPart, Takes, TakesEnd};
+ghost use Rattle.dg_session.specs.SoFar.{beginning_of_session, heard, talk, so_far, HandlesSessionLine, IsReady, SessionRefusesPart, TakesInSession, TakesSessionEnd};
 
 use crate::answering::{AnswerBuffer, Shared};
 use crate::ends::{MAX_LINE, MAX_LINES, SessionEnd};
@@ -65,7 +65,7 @@ impl<N: Name> SessionProgress<N> {
 
 /// A place for the look of each seat, all empty. `None` if memory is refused.
 fn no_looks_of_speakers<N: Name>(alloc: Global, seats: &[Seat<N>]) -> Option<Vec<Option<Look<N>>>>
-    ensures { IfSome result (λ looks. map kept_number looks.items ≡ map (λ x. None) seats.now) }
+    ensures { IfSome result (λ looks. map kept_by_speaker looks.items ≡ map (λ x. None) seats.now) }
 {
     let mut looks = Vec::new(alloc);
     for _ in seats {
@@ -117,8 +117,8 @@ fn end_session_line<N: Name, R: Threads + Wait>(
 ) -> Result<(), SessionEnd>
     requires ready { IsReady (so_far progress.old seats.old) }
     requires more { progress.old.count < MAX_LINES }
-    ensures handled { Handles
-        (setup shared.now.how N.table shared.now.names.now shared.now.workers)
+    ensures handled { HandlesSessionLine
+        (session_setup shared.now.how N.table shared.now.names.now shared.now.workers)
         (progress.old.pending.items ++ part.now)
         (talk seats.old progress.old.kept.items progress.old.entries_so_far progress.old.said)
         (talk seats.new progress.new.kept.items progress.new.entries_so_far progress.new.said) result }
@@ -147,14 +147,14 @@ fn end_session_line<N: Name, R: Threads + Wait>(
 }
 
 /// Takes bytes that were read, and answers the lines that end in them.
-pub(crate) fn take_bytes<N: Name, R: Threads + Wait>(
+pub(crate) fn take_session_bytes<N: Name, R: Threads + Wait>(
     shared: &Shared<N, R>,
     progress: &mut SessionProgress<N>,
     seats: &mut [Seat<N>],
     bytes: &[u8],
 ) -> Result<(), SessionEnd>
     requires { IsReady (so_far progress.old seats.old) }
-    ensures { Takes (setup shared.now.how N.table shared.now.names.now shared.now.workers)
+    ensures { TakesInSession (session_setup shared.now.how N.table shared.now.names.now shared.now.workers)
         (so_far progress.old seats.old) bytes.now (so_far progress.new seats.new)
         (passage (heard progress.old.said.text) (heard progress.new.said.text)) result }
 {
@@ -181,13 +181,13 @@ pub(crate) fn take_bytes<N: Name, R: Threads + Wait>(
 }
 
 /// Takes the end: answers what is pending as the last line, if it has a byte.
-pub(crate) fn take_end<N: Name, R: Threads + Wait>(
+pub(crate) fn take_session_end<N: Name, R: Threads + Wait>(
     shared: &Shared<N, R>,
     progress: &mut SessionProgress<N>,
     seats: &mut [Seat<N>],
 ) -> Result<(), SessionEnd>
     requires { IsReady (so_far progress.old seats.old) }
-    ensures { TakesEnd (setup shared.now.how N.table shared.now.names.now shared.now.workers)
+    ensures { TakesSessionEnd (session_setup shared.now.how N.table shared.now.names.now shared.now.workers)
         (so_far progress.old seats.old) (so_far progress.new seats.new)
         (passage (heard progress.old.said.text) (heard progress.new.said.text)) result }
 {

@@ -1,5 +1,5 @@
 -- The names that the proofs of this crate cite, passed on from one place. Declares nothing.
-pub use Rattle.dg_chips.specs.Moves.{IsApplicableMove}
+pub use Rattle.dg_chips.specs.Moves.{IsMoveOnDivisor}
 pub use Rattle.dg_chips.specs.Starts.{IsStart, StartData}
 pub use Rattle.dg_chips.specs.Vector.{Vector, at}
 pub use Rattle.dg_chips.specs.declared.moves.Move.{Move}
@@ -15,7 +15,7 @@ pub use Rattle.dg_rules.specs.Legal.{IsLegal, LooksBack}
 pub use Rattle.dg_rules.specs.MoveReplies.{RepliesToMove}
 pub use Rattle.dg_rules.specs.Position.{Position}
 pub use Rattle.dg_rules.specs.Replies.{Replies, RepliesAt, RepliesToClaim}
-pub use Rattle.dg_rules.specs.State.{LeadsTo, GameState}
+pub use Rattle.dg_rules.specs.State.{HistoryLeadsTo, GameState}
 pub use Rattle.dg_rules.specs.declared.entry.Entry.{Entry}
 pub use Rattle.dg_rules.specs.declared.entry.Refusal.TheVariants.{Empty, NoVertex, Range}
 pub use Rattle.dg_rules.specs.declared.entry.Reply.{Reply}
@@ -24,15 +24,15 @@ pub use Rattle.dg_rules.specs.declared.entry.Request.{Request}
 pub use Rattle.dg_rules.specs.declared.entry.Request.TheVariants.{Claim}
 pub use Rattle.dg_graph.specs.Graph.{IsGraph}
 pub use Rattle.dg_log.specs.Tables.{TableData}
-pub use Rattle.dg_strategy.specs.Choices.{BorrowsAtLeast, BorrowsInDebt, Choosing, IsLeastInDebt}
-pub use Rattle.dg_strategy.specs.Greedy.{AllChosenMoves, AreGreedy, EndsGreedyGame, EndsTurn, IsGreedyCall, IsGreedyGame, IsGreedyTurn}
+pub use Rattle.dg_strategy.specs.Choices.{GreedyBorrowsAtLeast, BorrowsInDebt, Choosing, IsLeastInDebt}
+pub use Rattle.dg_strategy.specs.Greedy.{AllChosenMoves, AreGreedy, EndsGreedyGame, EndsStrategyTurn, IsGreedyCall, IsGreedyGame, IsGreedyTurn}
 pub use Rattle.dg_strategy.specs.GreedyLaws.{GreedyGameIsOne, IsGreedyChoice, StrategyIsAloneAt, SettlingOutIsGreedy}
-pub use Rattle.dg_strategy.specs.Plays.{AreMoves, Gains, IsClaimed, ChoiceIsMadeOrPastRange, IsChosenMove, IsPlayed, IsPlayedOut, IsSettlerTurn, IsStopped, IsStrategyTurn, IsTurnBy, Plays}
+pub use Rattle.dg_strategy.specs.Plays.{AreStrategyMoves, Gains, IsClaimed, ChoiceIsMadeOrPastRange, IsChosenMove, IsPlayed, IsPlayedOut, IsSettlerTurn, IsStopped, IsStrategyTurn, IsTurnByStrategy, Plays}
 pub use Rattle.dg_strategy.specs.declared.playing.Ended.{Ended}
 pub use Rattle.dg_strategy.specs.declared.playing.Ended.TheVariants.{Settled, Turns}
 pub use Rattle.dg_table.proofs.Entries.{entries_enumerated, enumerate_from-more, own_alone}
-pub use Rattle.dg_table.specs.Faults.{RefusesCall}
-pub use Rattle.dg_table.specs.Seats.{AreOfTableSeats, Keeps, SeatView, entries_of}
+pub use Rattle.dg_table.specs.Faults.{RefusesCallAtTable}
+pub use Rattle.dg_table.specs.Seats.{AreOfTableSeats, Keeps, SeatView, entries_of_seat}
 pub use Rattle.dg_rules.specs.Requests.{request_for}
 pub use Rattle.dg_table.specs.declared.fault.Fault.{Fault}
 pub use Rattle.dg_theory.specs.Firing.{IsEffective}

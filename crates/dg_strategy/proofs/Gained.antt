@@ -7,7 +7,7 @@
 --   stopped_by       a turn that is refused
 --   played_out       turns that were all moves
 --   gained_as, plays_as   turns that are each of another kind too
-use Rattle.dg_strategy.proofs.Common.{◌≡◌, ℕ, ◌+◌, ◌<◌, List, [], ◌∷◌, ◌++◌, length, length-append, Option, Some, None, append_assoc, append-nil, arith, refl, sym, ap, subst, ◌∙◌, FoldsTo-push, FoldsTo, Move, Entry, Claim, RefusesCall, request_for, SeatView, Keeps, Fault, Choosing, IsTurnBy, IsChosenMove, AreMoves, Gains, IsPlayedOut, IsClaimed, IsStopped, Plays, Result, Ok, Err, Ended, Settled, Turns, TableData}
+use Rattle.dg_strategy.proofs.Common.{◌≡◌, ℕ, ◌+◌, ◌<◌, List, [], ◌∷◌, ◌++◌, length, length-append, Option, Some, None, append_assoc, append-nil, arith, refl, sym, ap, subst, ◌∙◌, FoldsTo-push, FoldsTo, Move, Entry, Claim, RefusesCallAtTable, request_for, SeatView, Keeps, Fault, Choosing, IsTurnByStrategy, IsChosenMove, AreStrategyMoves, Gains, IsPlayedOut, IsClaimed, IsStopped, Plays, Result, Ok, Err, Ended, Settled, Turns, TableData}
 
 -- the seat y is the seat x with the entries es
 pub record Left (x : SeatView) (es : List (ℕ × Entry)) (y : SeatView) : Type 0 where
@@ -16,7 +16,7 @@ pub record Left (x : SeatView) (es : List (ℕ × Entry)) (y : SeatView) : Type 
   pub told : y.told ≡ x.told
 
 pub left_by : (A : Choosing) (table : TableData) (x : SeatView) (es : List (ℕ × Entry)) (y : SeatView) →
-    FoldsTo (IsTurnBy A table) x es y → Left x es y
+    FoldsTo (IsTurnByStrategy A table) x es y → Left x es y
 left_by A table x [] y same =
     subst (Left x []) same (record { number = refl; mine = sym (append-nil x.mine); told = refl })
 left_by A table x (r ∷ es) y (z, turn, rest) =
@@ -28,7 +28,7 @@ left_by A table x (r ∷ es) y (z, turn, rest) =
     }
 
 pub gained_by : (A : Choosing) (table : TableData) (x : SeatView) (es : List (ℕ × Entry)) (y z : SeatView) →
-    FoldsTo (IsTurnBy A table) x es y → Keeps y z → Gains (IsTurnBy A table) x es z
+    FoldsTo (IsTurnByStrategy A table) x es y → Keeps y z → Gains (IsTurnByStrategy A table) x es z
 gained_by A table x es y z steps kept =
     let left = left_by A table x es y steps in
     record {
@@ -40,7 +40,8 @@ gained_by A table x es y z steps kept =
       told = kept.told ∙ left.told;
     }
 
-moves_more : (es : List (ℕ × Entry)) (r : ℕ × Entry) → AreMoves es → IsChosenMove r.1.request → AreMoves (es ++ r ∷ [])
+moves_more : (es : List (ℕ × Entry)) (r : ℕ × Entry) → AreStrategyMoves es → IsChosenMove r.1.request
+    → AreStrategyMoves (es ++ r ∷ [])
 moves_more [] r moves move = (move, tt)
 moves_more (p ∷ es) r moves move = (moves.0, moves_more es r moves.1 move)
 
@@ -48,7 +49,7 @@ keeps_itself : (x : SeatView) → Keeps x x
 keeps_itself x = record { number = refl; mine = refl; told = refl; prefix = refl; met = ([], sym (append-nil x.met)) }
 
 module _ (A : Choosing) (table : TableData) where
-  pub a_move : (x : SeatView) (r : ℕ × Entry) (y : SeatView) → IsTurnBy A table x r y → ¬ (r.1.request ≡ Claim) →
+  pub a_move : (x : SeatView) (r : ℕ × Entry) (y : SeatView) → IsTurnByStrategy A table x r y → ¬ (r.1.request ≡ Claim) →
       IsChosenMove r.1.request
   a_move x r y turn other = asks turn.answer turn.answered.request'
     where
@@ -58,22 +59,22 @@ module _ (A : Choosing) (table : TableData) where
 
   -- what turns that are moves leave of a seat, and how many they are
   abbrev pub Moved : SeatView → SeatView → ℕ → Type 0
-  Moved x y n = (es : List (ℕ × Entry)) × FoldsTo (IsTurnBy A table) x es y × AreMoves es × (length es ≡ n)
+  Moved x y n = (es : List (ℕ × Entry)) × FoldsTo (IsTurnByStrategy A table) x es y × AreStrategyMoves es × (length es ≡ n)
 
-  pub one_more : (x y z : SeatView) (r : ℕ × Entry) (n : ℕ) → Moved x y n → IsTurnBy A table y r z →
+  pub one_more : (x y z : SeatView) (r : ℕ × Entry) (n : ℕ) → Moved x y n → IsTurnByStrategy A table y r z →
       ¬ (r.1.request ≡ Claim) → Moved x z (n + 1)
   one_more x y z r n (es, steps, moves, count) turn other = (
     es ++ r ∷ [],
-    FoldsTo-push (IsTurnBy A table) x es y r z steps turn,
+    FoldsTo-push (IsTurnByStrategy A table) x es y r z steps turn,
     moves_more es r moves (a_move y r z turn other),
     omega (arith, count, length-append es (r ∷ [])),
   )
 
-  pub claimed_by : (x y z : SeatView) (r : ℕ × Entry) (i n : ℕ) → Moved x y i → i < n → IsTurnBy A table y r z →
-      r.1.request ≡ Claim → IsClaimed (IsTurnBy A table) n x z r
+  pub claimed_by : (x y z : SeatView) (r : ℕ × Entry) (i n : ℕ) → Moved x y i → i < n → IsTurnByStrategy A table y r z →
+      r.1.request ≡ Claim → IsClaimed (IsTurnByStrategy A table) n x z r
   claimed_by x y z r i n (es, steps, moves, count) few turn claim = record {
     entries = es;
-    gained = gained_by A table x (es ++ r ∷ []) z z (FoldsTo-push (IsTurnBy A table) x es y r z steps turn)
+    gained = gained_by A table x (es ++ r ∷ []) z z (FoldsTo-push (IsTurnByStrategy A table) x es y r z steps turn)
         (keeps_itself z);
     moves = moves;
     few = omega (arith, count, few);
@@ -81,7 +82,7 @@ module _ (A : Choosing) (table : TableData) where
   }
 
   pub stopped_by : (i n : ℕ) (x y z : SeatView) (fault : Fault) → Moved x y i → i < n → Keeps y z →
-      RefusesCall table z fault → IsStopped (IsTurnBy A table) table n x z fault
+      RefusesCallAtTable table z fault → IsStopped (IsTurnByStrategy A table) table n x z fault
   stopped_by i n x y z fault (es, steps, moves, count) few kept refused = record {
     entries = es;
     gained = gained_by A table x es y z steps kept;
@@ -90,7 +91,7 @@ module _ (A : Choosing) (table : TableData) where
     refused = refused;
   }
 
-  pub played_out : (n : ℕ) (x y : SeatView) → Moved x y n → IsPlayedOut (IsTurnBy A table) n x y
+  pub played_out : (n : ℕ) (x y : SeatView) → Moved x y n → IsPlayedOut (IsTurnByStrategy A table) n x y
   played_out n x y (es, steps, moves, count) = record {
     entries = es;
     gained = gained_by A table x es y y steps (keeps_itself y);

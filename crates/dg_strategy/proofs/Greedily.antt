@@ -6,17 +6,17 @@
 --   went_on        with one more turn that is a move
 --   settled_game   with one more turn that is the claim the game is settled
 --   used_up        or its turns are used up
-use Rattle.dg_strategy.proofs.Common.{◌≡◌, ℕ, ◌<◌, Bool, true, false, not, is_some, List, [], ◌∷◌, ◌++◌, length, Option, Some, None, arith, refl, sym, subst, append_assoc, append-nil, IsEffective, StartData, Move, position_after, IsLegal, LooksBack, Position, Replies, GameState, LeadsTo, Entry, Request, legal_none, legal_more, request_for, BorrowsAtLeast, IsGreedyCall, AreGreedy, AllChosenMoves, EndsTurn, IsGreedyGame, IsGreedyTurn, IsChosenMove}
+use Rattle.dg_strategy.proofs.Common.{◌≡◌, ℕ, ◌<◌, Bool, true, false, not, is_some, List, [], ◌∷◌, ◌++◌, length, Option, Some, None, arith, refl, sym, subst, append_assoc, append-nil, IsEffective, StartData, Move, position_after, IsLegal, LooksBack, Position, Replies, GameState, HistoryLeadsTo, Entry, Request, legal_none, legal_more, request_for, GreedyBorrowsAtLeast, IsGreedyCall, AreGreedy, AllChosenMoves, EndsStrategyTurn, IsGreedyGame, IsGreedyTurn, IsChosenMove}
 use Rattle.dg_strategy.proofs.Turned.{claim_won}
 
 pub record IsUnderWay (o : StartData) (H : List Entry) (s : GameState) : Type 0 where
-  pub leads : LeadsTo o H s
+  pub leads : HistoryLeadsTo o H s
   pub legal : IsLegal o H
   pub greedy : AreGreedy o [] H
   pub moves : AllChosenMoves H
 
 pub turn_made : (o : StartData) (H : List Entry) (s : GameState) (answer : Option Move) (e : Entry) (settled : Bool) →
-    LeadsTo o H s → BorrowsAtLeast s.amounts answer → e.seat ≡ 1 → e.request ≡ request_for answer →
+    HistoryLeadsTo o H s → GreedyBorrowsAtLeast s.amounts answer → e.seat ≡ 1 → e.request ≡ request_for answer →
     Replies o H e.request e.reply → is_some answer ≡ not settled → IsGreedyTurn o H e settled
 turn_made o H s answer e settled leads least seat asked right there = record {
   seat = seat;
@@ -28,8 +28,8 @@ turn_made o H s answer e settled leads least seat asked right there = record {
     p : Position
     p = position_after o H
 
-    ends : (b : Bool) (m : Option Move) → is_some m ≡ not b → e.request ≡ request_for m → BorrowsAtLeast s.amounts m →
-        EndsTurn b e
+    ends : (b : Bool) (m : Option Move) → is_some m ≡ not b → e.request ≡ request_for m → GreedyBorrowsAtLeast s.amounts m →
+        EndsStrategyTurn b e
     ends false (Some m) there is at_least = subst IsChosenMove (sym is) tt
     ends false None there is effective = absurd (cc)
     ends true (Some m) there is at_least = absurd (cc)
@@ -41,7 +41,7 @@ turn_made o H s answer e settled leads least seat asked right there = record {
           claim_won p e.reply everywhere (subst (λ (q : Request). Replies o H q e.reply) is right),
         )
 
-pub begun : (o : StartData) (s : GameState) → LeadsTo o [] s → IsUnderWay o [] s
+pub begun : (o : StartData) (s : GameState) → HistoryLeadsTo o [] s → IsUnderWay o [] s
 begun o s leads = record { leads = leads; legal = legal_none o; greedy = tt; moves = tt }
 
 -- a move and a claim look back to nothing
@@ -80,7 +80,7 @@ moves_more [] e moves move = (move, tt)
 moves_more (x ∷ H) e moves move = (moves.0, moves_more H e moves.1 move)
 
 pub went_on : (o : StartData) (H : List Entry) (e : Entry) (s t : GameState) (settled : Bool) → settled ≡ false →
-    IsGreedyTurn o H e settled → LeadsTo o (H ++ e ∷ []) t → IsUnderWay o H s → IsUnderWay o (H ++ e ∷ []) t
+    IsGreedyTurn o H e settled → HistoryLeadsTo o (H ++ e ∷ []) t → IsUnderWay o H s → IsUnderWay o (H ++ e ∷ []) t
 went_on o H e s t false is turn leads known = record {
   leads = leads;
   legal = legal_turn o H e false known.legal turn;

@@ -8,10 +8,10 @@
 --   ends_on         so does a greedy game
 --   one_game_on     greedy games that go on from one history are the same
 --   greedy_game_is_one   so are those from one start
-use Rattle.dg_strategy.proofs.Common.{◌≡◌, ℕ, ◌-◌, ◌<◌, ◌≤◌, Bool, true, false, List, [], ◌∷◌, ◌++◌, length, take, Option, Some, None, ◌⊎◌, inl, inr, arith, refl, sym, ap, subst, ◌∙◌, append_assoc, ⊎_elim, cases_lt, ints, StartData, Vector, shown_once, move_once, Move, Borrow, position_after, gifts_in, IsLegal, Position, Replies, RepliesAt, Entry, Request, Reply, Won, right_here, request_for, IsLeastInDebt, BorrowsAtLeast, IsGreedyCall, AreGreedy, AllChosenMoves, EndsGreedyGame, GreedyGameIsOne, IsChosenMove}
+use Rattle.dg_strategy.proofs.Common.{◌≡◌, ℕ, ◌-◌, ◌<◌, ◌≤◌, Bool, true, false, List, [], ◌∷◌, ◌++◌, length, take, Option, Some, None, ◌⊎◌, inl, inr, arith, refl, sym, ap, subst, ◌∙◌, append_assoc, ⊎_elim, cases_lt, ints, StartData, Vector, shown_once, move_once, Move, Borrow, position_after, gifts_in, IsLegal, Position, Replies, RepliesAt, Entry, Request, Reply, Won, right_here, request_for, IsLeastInDebt, GreedyBorrowsAtLeast, IsGreedyCall, AreGreedy, AllChosenMoves, EndsGreedyGame, GreedyGameIsOne, IsChosenMove}
 use Rattle.dg_rules.specs.declared.entry.Request.TheVariants as request
 
-least_of : (d : Vector) (m : Move) → BorrowsAtLeast d (Some m) → (v : ℕ) × (m ≡ Borrow v) × IsLeastInDebt d v
+least_of : (d : Vector) (m : Move) → GreedyBorrowsAtLeast d (Some m) → (v : ℕ) × (m ≡ Borrow v) × IsLeastInDebt d v
 least_of d (Borrow v) least = (v, refl, least)
 least_of d m least = absurd least
 
@@ -21,7 +21,7 @@ least_below d v w first second = ⊎_elim
     (λ (above : w ≤ v). above)
     (cases_lt v w)
 
-chosen_once : (d : Vector) (m l : Option Move) → BorrowsAtLeast d m → BorrowsAtLeast d l → m ≡ l
+chosen_once : (d : Vector) (m l : Option Move) → GreedyBorrowsAtLeast d m → GreedyBorrowsAtLeast d l → m ≡ l
 chosen_once d (Some m) (Some l) least least' =
     let (v, is, first) = least_of d m least in
     let (w, is', second) = least_of d l least' in
@@ -41,7 +41,7 @@ asked_once p q r call other =
     call.asked
     ∙ ap request_for
     (chosen_once call.amounts call.answer other.answer call.least
-    (subst (λ (d : Vector). BorrowsAtLeast d other.answer) same other.least))
+    (subst (λ (d : Vector). GreedyBorrowsAtLeast d other.answer) same other.least))
     ∙ sym other.asked
 
 same_reply : (p : Position) (q : ℕ) (f : ℕ → ℕ) (i : ℕ) (r : Request) (a b : Reply) → IsChosenMove r →

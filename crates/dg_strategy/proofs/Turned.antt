@@ -4,12 +4,12 @@
 --   settler_moves    a settler's moves can be made
 --   strategy_turn    a turn by a choice whose moves can be made
 --   settler_turn     a turn by a choice that settles debts
-use Rattle.dg_strategy.proofs.Common.{◌≡◌, ℕ, ◌<◌, [], ◌∷◌, Option, Some, None, arith, refl, ap, subst, ◌∙◌, IsEffective, IsGraph, at, IsApplicableMove, Move, Borrow, no_vertex_playable, empty_playable, script_playable, position_after, gifts_by_reply, Position, RepliesToMove, Replies, RepliesToClaim, Entry, NoVertex, Empty, Range, Reply, Moved, Refused, Won, NotWon, gifts_in-more, legal_part, graphs_hold, SeatView, request_for, Choosing, BorrowsInDebt, IsTurnBy, IsChosenMove, ChoiceIsMadeOrPastRange, IsStrategyTurn, IsSettlerTurn, TableData}
+use Rattle.dg_strategy.proofs.Common.{◌≡◌, ℕ, ◌<◌, [], ◌∷◌, Option, Some, None, arith, refl, ap, subst, ◌∙◌, IsEffective, IsGraph, at, IsMoveOnDivisor, Move, Borrow, no_vertex_playable, empty_playable, script_playable, position_after, gifts_by_reply, Position, RepliesToMove, Replies, RepliesToClaim, Entry, NoVertex, Empty, Range, Reply, Moved, Refused, Won, NotWon, gifts_in-more, legal_part, graphs_hold, SeatView, request_for, Choosing, BorrowsInDebt, IsTurnByStrategy, IsChosenMove, ChoiceIsMadeOrPastRange, IsStrategyTurn, IsSettlerTurn, TableData}
 use Rattle.dg_strategy.proofs.Kept.{GivesMoves, SettlesDebts}
 use Rattle.dg_rules.specs.declared.entry.Refusal.TheVariants.{Script}
 use Rattle.dg_rules.specs.declared.entry.Request.TheVariants as request
 
-pub move_answered : (p : Position) (m : Move) (reply : Reply) → IsApplicableMove p.graph.size m → RepliesToMove p m reply →
+pub move_answered : (p : Position) (m : Move) (reply : Reply) → IsMoveOnDivisor p.graph.size m → RepliesToMove p m reply →
     ChoiceIsMadeOrPastRange reply × (gifts_by_reply reply ≡ 0)
 move_answered p m (Moved d) playable replies = (tt, refl)
 move_answered p m (Refused NoVertex) playable replies = absurd (no_vertex_playable p m replies playable)
@@ -34,20 +34,20 @@ claim_won p reply effective replies = absurd replies
 pub settler_moves : (A : Choosing) → SettlesDebts A → GivesMoves A
 settler_moves A settles g d m graph size may = borrows m (settles.moves g d m graph size may)
   where
-    borrows : (m : Move) → BorrowsInDebt d m → IsApplicableMove g.size m
+    borrows : (m : Move) → BorrowsInDebt d m → IsMoveOnDivisor g.size m
     borrows (Borrow v) debt = subst (λ n. v < n) size debt.0
     borrows m debt = absurd debt
 
 -- the graph that a turn finds is within the limits
 graph_found : (A : Choosing) (table : TableData) (x : SeatView) (r : ℕ × Entry) (y : SeatView) →
-    IsGraph table.start.graph → (turn : IsTurnBy A table x r y) → IsGraph (position_after table.start turn.history).graph
+    IsGraph table.start.graph → (turn : IsTurnByStrategy A table x r y) → IsGraph (position_after table.start turn.history).graph
 graph_found A table x r y graph turn =
     graphs_hold table.start turn.history graph (legal_part table.start turn.history (r.1 ∷ []) turn.answered.history.legal)
 
 module _ (A : Choosing) (table : TableData) (start : IsGraph table.start.graph) (x : SeatView) (r : ℕ × Entry)
     (y : SeatView) where
   -- the reply to what was answered, and what is known of it where the answer is a move that can be made
-  answered : (gives : GivesMoves A) (turn : IsTurnBy A table x r y) (m : Option Move) → turn.answer ≡ m →
+  answered : (gives : GivesMoves A) (turn : IsTurnByStrategy A table x r y) (m : Option Move) → turn.answer ≡ m →
       (IsChosenMove r.1.request → ChoiceIsMadeOrPastRange r.1.reply) × (gifts_by_reply r.1.reply ≡ 0)
   answered gives turn (Some m) is =
       let graph = graph_found A table x r y start turn in
@@ -67,7 +67,7 @@ module _ (A : Choosing) (table : TableData) (start : IsGraph table.start.graph) 
             r.1.reply replies,
       )
 
-  pub strategy_turn : GivesMoves A → IsTurnBy A table x r y → IsStrategyTurn A table x r y
+  pub strategy_turn : GivesMoves A → IsTurnByStrategy A table x r y → IsStrategyTurn A table x r y
   strategy_turn gives turn =
       let found = answered gives turn turn.answer refl in
       record {
@@ -76,7 +76,7 @@ module _ (A : Choosing) (table : TableData) (start : IsGraph table.start.graph) 
         moved = found.0;
       }
 
-  pub settler_turn : SettlesDebts A → IsTurnBy A table x r y → IsSettlerTurn A table x r y
+  pub settler_turn : SettlesDebts A → IsTurnByStrategy A table x r y → IsSettlerTurn A table x r y
   unfolding strategy_turn
   settler_turn settles turn =
       let graph = graph_found A table x r y start turn in

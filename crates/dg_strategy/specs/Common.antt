@@ -1,5 +1,5 @@
 -- The names that the specs of this crate cite, passed on from one place. Declares nothing.
-pub use Rattle.dg_chips.specs.Moves.{IsApplicableMove}
+pub use Rattle.dg_chips.specs.Moves.{IsMoveOnDivisor}
 pub use Rattle.dg_chips.specs.Starts.{StartData}
 pub use Rattle.dg_chips.specs.Vector.{Vector, at}
 pub use Rattle.dg_chips.specs.declared.moves.Move.{Move}
@@ -16,8 +16,8 @@ pub use Rattle.dg_rules.specs.declared.entry.Request.{Request}
 pub use Rattle.dg_rules.specs.declared.entry.Request.TheVariants.{Claim}
 pub use Rattle.dg_graph.specs.Graph.{IsGraph}
 pub use Rattle.dg_log.specs.Tables.{TableData}
-pub use Rattle.dg_table.specs.Answered.{IsAnsweredAfter, entering}
-pub use Rattle.dg_table.specs.Faults.{RefusesCall}
+pub use Rattle.dg_table.specs.Answered.{IsAnsweredAtTableAfter, entering_at_table}
+pub use Rattle.dg_table.specs.Faults.{RefusesCallAtTable}
 pub use Rattle.dg_table.specs.Seats.{Keeps, SeatView}
 pub use Rattle.dg_rules.specs.Requests.{request_for}
 pub use Rattle.dg_table.specs.declared.fault.Fault.{Fault}

@@ -8,19 +8,19 @@
 --   EndsGreedyGame n H settled == there are n entries, all moves; or, if it is settled, fewer moves than n,
 --                                 and then a claim that is won
 --   IsGreedyGame o n H settled == the history H from the start o is legal and greedy, and ends so
---   EndsTurn settled e         == the entry is a move; or, if it is settled, a claim that is won
+--   EndsStrategyTurn settled e == the entry is a move; or, if it is settled, a claim that is won
 --   IsGreedyTurn o H e settled == after the history H the entry e of seat 1 is so asked for and answered
 --                                 rightly, and ends so
 use Rattle.std.specs.Prelude.{◌≡◌, ℕ, ◌<◌, Bool, true, false, List, [], ◌∷◌, ◌++◌, length, Option, ⊤}
 use Rattle.dg_strategy.specs.Common.{StartData, Vector, Move, Position, ShowsPosition, position_after, IsLegal, Replies, Entry, Request, Claim, Won, request_for}
-use Rattle.dg_strategy.specs.Choices.{BorrowsAtLeast}
+use Rattle.dg_strategy.specs.Choices.{GreedyBorrowsAtLeast}
 use Rattle.dg_strategy.specs.Plays.{IsChosenMove}
 
 pub record IsGreedyCall (p : Position) (request : Request) : Type 0 where
   pub amounts : Vector
   pub shown : ShowsPosition p amounts
   pub answer : Option Move
-  pub least : BorrowsAtLeast amounts answer
+  pub least : GreedyBorrowsAtLeast amounts answer
   pub asked : request ≡ request_for answer
 
 abbrev pub AreGreedy : StartData → List Entry → List Entry → Type 0
@@ -43,12 +43,12 @@ pub record IsGreedyGame (o : StartData) (n : ℕ) (H : List Entry) (settled : Bo
   pub greedy : AreGreedy o [] H
   pub ends : EndsGreedyGame n H settled
 
-abbrev pub EndsTurn : Bool → Entry → Type 0
-EndsTurn false e = IsChosenMove e.request
-EndsTurn true e = (e.request ≡ Claim) × (e.reply ≡ Won)
+abbrev pub EndsStrategyTurn : Bool → Entry → Type 0
+EndsStrategyTurn false e = IsChosenMove e.request
+EndsStrategyTurn true e = (e.request ≡ Claim) × (e.reply ≡ Won)
 
 pub record IsGreedyTurn (o : StartData) (H : List Entry) (e : Entry) (settled : Bool) : Type 0 where
   pub seat : e.seat ≡ 1
   pub call : IsGreedyCall (position_after o H) e.request
   pub right : Replies o H e.request e.reply
-  pub ends : EndsTurn settled e
+  pub ends : EndsStrategyTurn settled e

@@ -12,13 +12,13 @@
 use Rattle.std.specs.Prelude.{◌≡◌, ℕ, Bool, List, [], Option, Ok}
 use Rattle.std.specs.List.{enumerate_from}
 use Rattle.dg_strategy.specs.Common.{Multigraph, StartData, Vector, Move, Entry, TableData, SeatView}
-use Rattle.dg_strategy.specs.Choices.{Choosing, BorrowsAtLeast}
+use Rattle.dg_strategy.specs.Choices.{Choosing, GreedyBorrowsAtLeast}
 use Rattle.dg_strategy.specs.Greedy.{IsGreedyGame}
 use Rattle.dg_strategy.specs.Plays.{IsSettlerTurn, Plays, is_settled}
 use Rattle.dg_strategy.specs.declared.playing.Ended.{Ended}
 
 abbrev pub IsGreedyChoice : Choosing → Type 0
-IsGreedyChoice A = (g : Multigraph) (d : Vector) (m : Option Move) → d.size ≡ g.size → A g d m → BorrowsAtLeast d m
+IsGreedyChoice A = (g : Multigraph) (d : Vector) (m : Option Move) → d.size ≡ g.size → A g d m → GreedyBorrowsAtLeast d m
 
 abbrev pub StrategyIsAloneAt : TableData → SeatView → Type 0
 StrategyIsAloneAt table x = (table.seats ≡ 1) × (x.mine ≡ [])

@@ -1,26 +1,26 @@
 -- Playing as a choice says. A has what the choice may answer; x and y are a seat before and after.
 -- Each history of a turn begins with the one that the seat found at the turn before, and that
 -- turn's entry: so all turns are in one.
---   IsChosenMove request          == the request is a move
---   AreMoves es                   == each of the entries es is a move
---   IsTurnBy A table x r y        == after some history the seat x is answered with the receipt r, and is
---                                    then y; it asked for what A has there
---   ChoiceIsMadeOrPastRange reply == the move was made, or refused only because an amount would have left the
---                                    range
---   IsStrategyTurn A table x r y  == it is such a turn; the gift count stays, and a move is answered so
---   IsSettlerTurn A table x r y   == it is such a turn too; a move is a borrowing by a vertex in debt, and a
---                                    claim is won
---   is_settled ended              == whether it ended with a claim
---   Gains T x es y                == the seat gained the entries es, in order, each by a step of T, and was
---                                    told of nothing
---   IsPlayed T n x y ended        == in n turns, all moves, the seat gained n entries; or in fewer, by moves
---                                    and then by the claim of the receipt, those entries
---   IsStopped T table n x y fault == after fewer than n turns, all moves, the next one was refused with the
---                                    fault
---   Plays T table n x y result    == the seat has so played, or was so stopped
+--   IsChosenMove request           == the request is a move
+--   AreStrategyMoves es            == each of the entries es is a move
+--   IsTurnByStrategy A table x r y == after some history the seat x is answered with the receipt r, and is
+--                                     then y; it asked for what A has there
+--   ChoiceIsMadeOrPastRange reply  == the move was made, or refused only because an amount would have left
+--                                     the range
+--   IsStrategyTurn A table x r y   == it is such a turn; the gift count stays, and a move is answered so
+--   IsSettlerTurn A table x r y    == it is such a turn too; a move is a borrowing by a vertex in debt, and a
+--                                     claim is won
+--   is_settled ended               == whether it ended with a claim
+--   Gains T x es y                 == the seat gained the entries es, in order, each by a step of T, and was
+--                                     told of nothing
+--   IsPlayed T n x y ended         == in n turns, all moves, the seat gained n entries; or in fewer, by moves
+--                                     and then by the claim of the receipt, those entries
+--   IsStopped T table n x y fault  == after fewer than n turns, all moves, the next one was refused with the
+--                                     fault
+--   Plays T table n x y result     == the seat has so played, or was so stopped
 use Rattle.std.specs.Prelude.{◌≡◌, ℕ, ◌<◌, Bool, true, false, List, [], ◌∷◌, ◌++◌, length, Option, Some, None, ⊤, Result, Ok, Err}
 use Rattle.std.specs.List.{FoldsTo}
-use Rattle.dg_strategy.specs.Common.{Vector, Move, ShowsPosition, position_after, gifts_in, Entry, Range, Request, Reply, Moved, Refused, Won, entering, IsAnsweredAfter, RefusesCall, SeatView, Keeps, request_for, Fault, TableData}
+use Rattle.dg_strategy.specs.Common.{Vector, Move, ShowsPosition, position_after, gifts_in, Entry, Range, Request, Reply, Moved, Refused, Won, entering_at_table, IsAnsweredAtTableAfter, RefusesCallAtTable, SeatView, Keeps, request_for, Fault, TableData}
 use Rattle.dg_rules.specs.declared.entry.Request.TheVariants as request
 use Rattle.dg_strategy.specs.Choices.{Choosing, BorrowsInDebt}
 use Rattle.dg_strategy.specs.declared.playing.Ended.{Ended}
@@ -30,18 +30,18 @@ abbrev pub IsChosenMove : Request → Type 0
 IsChosenMove (request.Move m) = ⊤
 IsChosenMove request = ⊥
 
-abbrev pub AreMoves : List (ℕ × Entry) → Type 0
-AreMoves [] = ⊤
-AreMoves (p ∷ es) = IsChosenMove p.1.request × AreMoves es
+abbrev pub AreStrategyMoves : List (ℕ × Entry) → Type 0
+AreStrategyMoves [] = ⊤
+AreStrategyMoves (p ∷ es) = IsChosenMove p.1.request × AreStrategyMoves es
 
-pub record IsTurnBy (A : Choosing) (table : TableData) (x : SeatView) (r : ℕ × Entry)
+pub record IsTurnByStrategy (A : Choosing) (table : TableData) (x : SeatView) (r : ℕ × Entry)
     (y : SeatView) : Type 0 where
   pub history : List Entry
   pub amounts : Vector
   pub answer : Option Move
   pub shown : ShowsPosition (position_after table.start history) amounts
   pub chosen : A (position_after table.start history).graph amounts answer
-  pub answered : IsAnsweredAfter table (request_for answer) (entering history r x y)
+  pub answered : IsAnsweredAtTableAfter table (request_for answer) (entering_at_table history r x y)
 
 abbrev pub ChoiceIsMadeOrPastRange : Reply → Type 0
 ChoiceIsMadeOrPastRange (Moved d) = ⊤
@@ -50,7 +50,7 @@ ChoiceIsMadeOrPastRange reply = ⊥
 
 pub record IsStrategyTurn (A : Choosing) (table : TableData) (x : SeatView)
     (r : ℕ × Entry) (y : SeatView) : Type 0 where
-  pub turn : IsTurnBy A table x r y
+  pub turn : IsTurnByStrategy A table x r y
   pub gifts : gifts_in (turn.history ++ r.1 ∷ []) ≡ gifts_in turn.history
   pub moved : IsChosenMove r.1.request → ChoiceIsMadeOrPastRange r.1.reply
 
@@ -76,13 +76,13 @@ module _ (T : SeatView → ℕ × Entry → SeatView → Type 0) where
   pub record IsPlayedOut (n : ℕ) (x y : SeatView) : Type 0 where
     pub entries : List (ℕ × Entry)
     pub gained : Gains x entries y
-    pub moves : AreMoves entries
+    pub moves : AreStrategyMoves entries
     pub count : length entries ≡ n
 
   pub record IsClaimed (n : ℕ) (x y : SeatView) (r : ℕ × Entry) : Type 0 where
     pub entries : List (ℕ × Entry)
     pub gained : Gains x (entries ++ r ∷ []) y
-    pub moves : AreMoves entries
+    pub moves : AreStrategyMoves entries
     pub few : length entries < n
     pub claim : r.1.request ≡ request.Claim
 
@@ -94,9 +94,9 @@ module _ (T : SeatView → ℕ × Entry → SeatView → Type 0) where
       (fault : Fault) : Type 0 where
     pub entries : List (ℕ × Entry)
     pub gained : Gains x entries y
-    pub moves : AreMoves entries
+    pub moves : AreStrategyMoves entries
     pub few : length entries < n
-    pub refused : RefusesCall table y fault
+    pub refused : RefusesCallAtTable table y fault
 
   abbrev pub Plays : {N : Type 0} → TableData → ℕ → SeatView → SeatView → Result (Ended N) Fault
       → Type 0

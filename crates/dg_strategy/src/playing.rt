@@ -1,10 +1,10 @@
 //! Turns in a row.
 ghost use Rattle.std.specs.Prelude.{◌≡◌, length, IfOk, IfErr, true, IsTrue, ◌↔◌};
-ghost use Rattle.dg_table.specs.Faults.{RefusesCall};
+ghost use Rattle.dg_table.specs.Faults.{RefusesCallAtTable};
 ghost use Rattle.dg_table.specs.Seats.{Keeps};
 ghost use Rattle.dg_rules.specs.declared.entry.Request.TheVariants.{Claim as ClaimRequest};
-ghost use Rattle.dg_strategy.specs.Choices.{Chooses, MayChooseAnywhere, GivesPlayable, ChoosesBorrowings, GivesClaims};
-ghost use Rattle.dg_strategy.specs.Plays.{IsTurnBy, IsStrategyTurn, IsSettlerTurn, Plays};
+ghost use Rattle.dg_strategy.specs.Choices.{Chooses, MayChooseAnywhere, StrategyGivesPlayable, ChoosesBorrowings, StrategyGivesClaims};
+ghost use Rattle.dg_strategy.specs.Plays.{IsTurnByStrategy, IsStrategyTurn, IsSettlerTurn, Plays};
 
 use crate::settler::Settler;
 use crate::strategy::Strategy;
@@ -51,12 +51,12 @@ pub fn play<N: Name, F: Fn(&Graph, &Divisor) -> Option<Move>>(
     turns: u32,
 ) -> Result<Ended<N>, Fault>
     requires asked { MayChooseAnywhere (F.pre strategy.now.choice) }
-    requires moves { GivesPlayable (F.post strategy.now.choice) }
+    requires moves { StrategyGivesPlayable (F.post strategy.now.choice) }
     ensures { Plays (IsStrategyTurn (Chooses (F.post strategy.now.choice)) N.table)
         N.table turns seat.old seat.new result }
 {
     let _graph = table.start().graph();
-    turns_by(rt, alloc, table, seat, &strategy.choice, turns)
+    strategy_turns_by(rt, alloc, table, seat, &strategy.choice, turns)
 }
 
 /// Plays so many turns as the settler says, or until it claims: each move is a borrowing by a vertex in debt, and the claim is
@@ -73,16 +73,16 @@ pub fn settle_out<N: Name, F: Fn(&Graph, &Divisor) -> Option<Move>>(
 ) -> Result<Ended<N>, Fault>
     requires asked { MayChooseAnywhere (F.pre settler.now.choice) }
     requires moves { ChoosesBorrowings (F.post settler.now.choice) }
-    requires claims { GivesClaims (F.post settler.now.choice) }
+    requires claims { StrategyGivesClaims (F.post settler.now.choice) }
     ensures { Plays (IsSettlerTurn (Chooses (F.post settler.now.choice)) N.table)
         N.table turns seat.old seat.new result }
 {
     let _graph = table.start().graph();
-    turns_by(rt, alloc, table, seat, &settler.choice, turns)
+    strategy_turns_by(rt, alloc, table, seat, &settler.choice, turns)
 }
 
 /// So many turns as the choice says, or until it claims.
-fn turns_by<N: Name, F: Fn(&Graph, &Divisor) -> Option<Move>>(
+fn strategy_turns_by<N: Name, F: Fn(&Graph, &Divisor) -> Option<Move>>(
     rt: &impl Wait,
     alloc: Global,
     table: &Table<N>,
@@ -91,10 +91,10 @@ fn turns_by<N: Name, F: Fn(&Graph, &Divisor) -> Option<Move>>(
     turns: u32,
 ) -> Result<Ended<N>, Fault>
     requires { MayChooseAnywhere (F.pre choice.now) }
-    ensures { Plays (IsTurnBy (Chooses (F.post choice.now)) N.table) N.table turns seat.old seat.new result }
+    ensures { Plays (IsTurnByStrategy (Chooses (F.post choice.now)) N.table) N.table turns seat.old seat.new result }
 {
     for _ in 0..turns {
-        let receipt = turn_by(rt, alloc, table, seat, choice)?;
+        let receipt = strategy_turn_by(rt, alloc, table, seat, choice)?;
         if is_claim_of_strategy(table.log().entry(&receipt)) {
             return Ok(Ended::Settled(receipt));
         }
@@ -103,7 +103,7 @@ fn turns_by<N: Name, F: Fn(&Graph, &Divisor) -> Option<Move>>(
 }
 
 /// One turn, as the choice says.
-fn turn_by<N: Name, F: Fn(&Graph, &Divisor) -> Option<Move>>(
+fn strategy_turn_by<N: Name, F: Fn(&Graph, &Divisor) -> Option<Move>>(
     rt: &impl Wait,
     alloc: Global,
     table: &Table<N>,
@@ -112,9 +112,9 @@ fn turn_by<N: Name, F: Fn(&Graph, &Divisor) -> Option<Move>>(
 ) -> Result<Receipt<N>, Fault>
     requires { MayChooseAnywhere (F.pre choice.now) }
     ensures turn { IfOk result
-        (λ r. IsTurnBy (Chooses (F.post choice.now)) N.table seat.old r seat.new) }
+        (λ r. IsTurnByStrategy (Chooses (F.post choice.now)) N.table seat.old r seat.new) }
     ensures fault { IfErr result
-        (λ f. Keeps seat.old seat.new × RefusesCall N.table seat.new f) }
+        (λ f. Keeps seat.old seat.new × RefusesCallAtTable N.table seat.new f) }
 {
     let mut choose = |graph: &Graph, position: &Divisor| -> Option<Move>
         requires { F.pre choice.now graph position }

@@ -1,6 +1,6 @@
 //! Settlers, which borrow until nobody is in debt.
 ghost use Rattle.std.specs.Prelude.{◌≡◌};
-ghost use Rattle.dg_strategy.specs.Choices.{MayChooseAnywhere, ChoosesBorrowings, GivesClaims};
+ghost use Rattle.dg_strategy.specs.Choices.{MayChooseAnywhere, ChoosesBorrowings, StrategyGivesClaims};
 
 use dg_chips::{Divisor, Move};
 use dg_graph::Graph;
@@ -23,7 +23,7 @@ where
     pub fn new(choice: F) -> Settler<F>
         requires asked { MayChooseAnywhere (F.pre choice) }
         requires moves { ChoosesBorrowings (F.post choice) }
-        requires claims { GivesClaims (F.post choice) }
+        requires claims { StrategyGivesClaims (F.post choice) }
         ensures { result.choice ≡ choice }
     {
         Settler { choice }

@@ -1,6 +1,6 @@
 //! Strategies, each move of which can be made.
 ghost use Rattle.std.specs.Prelude.{◌≡◌};
-ghost use Rattle.dg_strategy.specs.Choices.{MayChooseAnywhere, GivesPlayable};
+ghost use Rattle.dg_strategy.specs.Choices.{MayChooseAnywhere, StrategyGivesPlayable};
 
 use dg_chips::{Divisor, Move};
 use dg_graph::Graph;
@@ -21,7 +21,7 @@ where
     /// many vertices, and that each move that it gives names vertices that exist, is no empty set and has the right size.
     pub fn new(choice: F) -> Strategy<F>
         requires asked { MayChooseAnywhere (F.pre choice) }
-        requires moves { GivesPlayable (F.post choice) }
+        requires moves { StrategyGivesPlayable (F.post choice) }
         ensures { result.choice ≡ choice }
     {
         Strategy { choice }

@@ -2,7 +2,7 @@
 --   word_alone, word_before   the word of a number that nothing follows, or a space
 --   word_none                 where the text begins with no number, the word is none
 --   word_other                where another byte follows the number, the word is none
-use Rattle.dg_sweep.proofs.Common.{◌≡◌, ◌≢◌, ℕ, suc, ℤ, pos, negsuc, true, false, List, [], ◌∷◌, ◌++◌, length, Option, Some, None, get_or, FitsSigned, w64, refl, sym, ap, ◌∙◌, inl, inr, arith, append-nil, decimal, signed_decimal, ◌==◌, ◌≤◌, ◌⊎◌, ◌-◌, take, drop, decimal_is_IsNumeral, digit_from_value, ne_eqb, eqb-true, AllDigits, BeginsWith, HasDigitFirst, one_rest, before, after, false≢true, take_rest}
+use Rattle.dg_sweep.proofs.Common.{◌≡◌, ◌≢◌, ℕ, suc, ℤ, pos, negsuc, true, false, List, [], ◌∷◌, ◌++◌, length, Option, Some, None, get_or, FitsSigned, w64, refl, sym, ap, ◌∙◌, inl, inr, arith, append-nil, decimal, signed_decimal, ◌==◌, ◌≤◌, ◌⊎◌, ◌-◌, take, drop, decimal_is_IsNumeral, digit_from_value, ne_eqb, eqb-true, AllDigits, BeginsWithDecimal, HasDigitFirst, one_rest, before, after, false≢true, take_rest}
 
 -- bytes that are no space
 abbrev HasNoSpace : List ℕ → Type 0
@@ -29,7 +29,7 @@ pub record IsFirst (text : List ℕ) (z : ℤ) (next : Option (List ℕ)) : Type
   pub word : before 32 text ≡ signed_decimal z
   pub follows : next ≡ after 32 text
 
-pub word_alone : (text rest : List ℕ) (z : ℤ) → FitsSigned w64 z → BeginsWith text (signed_decimal z) rest → rest ≡ []
+pub word_alone : (text rest : List ℕ) (z : ℤ) → FitsSigned w64 z → BeginsWithDecimal text (signed_decimal z) rest → rest ≡ []
     → IsFirst text z None
 unfolding before after
 word_alone text rest z fits begins none =
@@ -37,7 +37,7 @@ word_alone text rest z fits begins none =
     let cut = no_space z fits [] in
     record { word = ap (before 32) e ∙ cut.0 ∙ append-nil (signed_decimal z); follows = sym (ap (after 32) e ∙ cut.1) }
 
-pub word_before : (text rest more : List ℕ) (z : ℤ) → FitsSigned w64 z → BeginsWith text (signed_decimal z) rest
+pub word_before : (text rest more : List ℕ) (z : ℤ) → FitsSigned w64 z → BeginsWithDecimal text (signed_decimal z) rest
     → rest ≡ 32 ∷ more → IsFirst text z (Some more)
 unfolding before after
 word_before text rest more z fits begins space =
@@ -73,17 +73,18 @@ no_digit [] ends digit = digit
 no_digit (x ∷ xs) (inl none) digit = absurd (omega (arith, ap length none))
 no_digit (x ∷ xs) (inr space) digit = omega (arith, space.1)
 
-word_begins : (text : List ℕ) (z : ℤ) → before 32 text ≡ signed_decimal z → BeginsWith text (signed_decimal z) (tail text).rest
+word_begins : (text : List ℕ) (z : ℤ) → before 32 text ≡ signed_decimal z
+    → BeginsWithDecimal text (signed_decimal z) (tail text).rest
 word_begins text z is =
     let next = tail text in
     record { whole = next.whole ∙ ap (λ front. front ++ next.rest) is; ends = no_digit next.rest next.ends }
 
 pub word_none : (text : List ℕ)
-    → ((z : ℤ) (rest : List ℕ) → FitsSigned w64 z → ¬ BeginsWith text (signed_decimal z) rest)
+    → ((z : ℤ) (rest : List ℕ) → FitsSigned w64 z → ¬ BeginsWithDecimal text (signed_decimal z) rest)
     → (z : ℤ) → FitsSigned w64 z → before 32 text ≢ signed_decimal z
 word_none text never z fits is = never z (tail text).rest fits (word_begins text z is)
 
-pub word_other : (text rest : List ℕ) (y : ℤ) → FitsSigned w64 y → BeginsWith text (signed_decimal y) rest
+pub word_other : (text rest : List ℕ) (y : ℤ) → FitsSigned w64 y → BeginsWithDecimal text (signed_decimal y) rest
     → ¬ (rest ≡ []) → get_or rest 0 0 ≢ 32 → (z : ℤ) → FitsSigned w64 z → before 32 text ≢ signed_decimal z
 word_other text rest y fits begins some other z fits' is =
     let next = tail text in

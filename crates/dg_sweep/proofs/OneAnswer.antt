@@ -2,10 +2,10 @@
 --   answer_once    a table has one answer
 --   table_once, amounts_once   so has a line of a table, and one of amounts
 --   tables_have_one_answer, amounts_have_one_answer   the laws of dg_sweep
-use Rattle.dg_sweep.proofs.Common.{◌≡◌, ℕ, ◌<◌, ◌⊎◌, inl, inr, List, ◌++◌, length, codes, sym, ap, ◌∙◌, arith, subst, Multigraph, IsMultigraph, less, canonical, rank_once, StartData, IsStart, at, IsRightRankVerdict, RankVerdict, AtLeast, Below, false, refl, signed_decimal, loss_bounds_rank, past_within, FilesHaveOneMeaning, RefusesFile, FileFault, Form, Words, Numbers, Question, Judge, Rank, RiemannRoch, TablesHaveOneAnswer, AmountsHaveOneAnswer, IsSweptRankTested, IsSweptRankBelow, AnswersRankLine, sweep_rank_line, sweep_ranks_line, AreSweptRanks, AreSweptRanksUntested, AnswersTable, sweep_refusal_line, IsSweptLineRefused, AnswersTableWithin, AnswersLine, RefusesSweptAmounts, AnswersAmounts, sweep_file_fault_words}
+use Rattle.dg_sweep.proofs.Common.{◌≡◌, ℕ, ◌<◌, ◌⊎◌, inl, inr, List, ◌++◌, length, codes, sym, ap, ◌∙◌, arith, subst, Multigraph, IsMultigraph, less, canonical, rank_once, StartData, IsStart, at, IsRightRankVerdict, RankVerdict, AtLeast, Below, false, refl, signed_decimal, loss_bounds_rank, past_within, FilesHaveOneMeaning, RefusesTableFile, FileFault, Form, Words, Numbers, Question, Judge, Rank, RiemannRoch, TablesHaveOneAnswer, AmountsHaveOneAnswer, IsSweptRankTested, IsSweptRankBelow, AnswersRankLine, sweep_rank_line, sweep_ranks_line, AreSweptRanks, AreSweptRanksUntested, AnswersTable, sweep_refusal_line, IsSweptLineRefused, AnswersTableWithin, AnswersLine, RefusesSweptAmounts, AnswersAmounts, sweep_file_fault_words}
 use Rattle.std.proofs.Math.IntN.{ℤ}
 use Rattle.dg_lines.proofs.Given.{vertex_named}
-use Rattle.dg_sweep.proofs.OneMeaning.{amount_lines_have_one_meaning}
+use Rattle.dg_sweep.proofs.OneMeaning.{swept_amounts_have_one_meaning}
 use Rattle.dg_lines.proofs.OneText.{loss_row_same, test_same, verdict_row_same}
 use Rattle.dg_invocation.specs.declared.question.VerdictForm.TheVariants as verdict
 use Rattle.dg_sweep.proofs.OneText.{judgement_same}
@@ -89,7 +89,7 @@ module _ (question : Question) where
   table_once : FilesHaveOneMeaning → (line text other : List ℕ) → AnswersTableWithin question line text
       → AnswersTableWithin question line other → text ≡ other
   table_once files line text other (inl a) (inl b) =
-      refused_once (RefusesFile line) text other a b
+      refused_once (RefusesTableFile line) text other a b
       (files.fault line a.fault b.fault a.found b.found a.refused b.refused)
   table_once files line text other (inl a) (inr b) =
       absurd (files.refused line a.fault b.start b.names a.found a.refused b.table)
@@ -109,13 +109,13 @@ module _ (question : Question) where
       → AnswersAmounts question o names line text → AnswersAmounts question o names line other → text ≡ other
   amounts_once o names line text other start fit (inl a) (inl b) =
       refused_once (RefusesSweptAmounts o.graph.size line) text other a b
-      (amount_lines_have_one_meaning.fault o.graph.size line a.fault b.fault a.found b.found a.refused b.refused)
+      (swept_amounts_have_one_meaning.fault o.graph.size line a.fault b.fault a.found b.found a.refused b.refused)
   amounts_once o names line text other start fit (inl a) (inr b) =
-      absurd (amount_lines_have_one_meaning.refused o b.start line a.fault a.found a.refused b.stands)
+      absurd (swept_amounts_have_one_meaning.refused o b.start line a.fault a.found a.refused b.stands)
   amounts_once o names line text other start fit (inr a) (inl b) =
-      absurd (amount_lines_have_one_meaning.refused o a.start line b.fault b.found b.refused a.stands)
+      absurd (swept_amounts_have_one_meaning.refused o a.start line b.fault b.found b.refused a.stands)
   amounts_once o names line text other start fit (inr a) (inr b) =
-      let same = amount_lines_have_one_meaning.start o b.start a.start line b.stands a.stands in
+      let same = swept_amounts_have_one_meaning.start o b.start a.start line b.stands a.stands in
       let graph : a.start.graph ≡ o.graph = ap (λ (s : StartData). s.graph) a.stands.rest in
       let q : a.start.q ≡ o.q = ap (λ (s : StartData). s.q) a.stands.rest in
       let size : a.start.graph.size ≡ o.graph.size = ap (λ (g : Multigraph). g.size) graph in

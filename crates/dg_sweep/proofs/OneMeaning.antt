@@ -1,7 +1,7 @@
 -- A line of amounts has one meaning.
 --   spelled_once      numbers are spelled in one way
---   amount_lines_have_one_meaning
-use Rattle.dg_sweep.proofs.Common.{◌≡◌, ◌≢◌, ℕ, ℤ, pos, List, [], ◌∷◌, length, map, All, FitsSigned, w64, refl, sym, ap, ◌∙◌, arith, subst, ◌^◌, ◌-◌, neg_ℤ, signed_decimal, signed_decimal_injective, All-head, All-tail, StartData, Vector, HoldsNumbers, IsFirstChipFault, IsSpelledNumberWithin, held_once, fits_within, FileFault, AmountLinesHaveOneMeaning, SpellsAmounts, HasAmountsOf, RefusesSweptAmounts}
+--   swept_amounts_have_one_meaning
+use Rattle.dg_sweep.proofs.Common.{◌≡◌, ◌≢◌, ℕ, ℤ, pos, List, [], ◌∷◌, length, map, All, FitsSigned, w64, refl, sym, ap, ◌∙◌, arith, subst, ◌^◌, ◌-◌, neg_ℤ, signed_decimal, signed_decimal_injective, All-head, All-tail, StartData, Vector, HoldsNumbers, IsFirstChipFault, IsSpelledNumberWithin, held_once, fits_within, FileFault, SweptAmountsHaveOneMeaning, SpellsSweptAmounts, HasSweptAmounts, RefusesSweptAmounts}
 use Rattle.dg_lines.proofs.Meaning.{same_words}
 use Rattle.dg_file.proofs.OneTable.{chip-one, chip-none}
 use Rattle.dg_file.specs.declared.fault.FileFault.TheVariants as fault
@@ -25,20 +25,20 @@ spelled_once (x ∷ xs) (y ∷ ys) e first second =
     let rest : xs ≡ ys = spelled_once xs ys tail (All-tail Fits x xs first) (All-tail Fits y ys second) in
     ap (λ (z : ℤ). z ∷ xs) same ∙ ap (λ (zs : List ℤ). y ∷ zs) rest
 
-abbrev AreNumbers : List (List ℕ) → Type 0
-AreNumbers ws = (xs : List ℤ) × (ws ≡ map signed_decimal xs) × All Fits xs
+abbrev AreNumbersOnLine : List (List ℕ) → Type 0
+AreNumbersOnLine ws = (xs : List ℤ) × (ws ≡ map signed_decimal xs) × All Fits xs
 
 fits : (word : List ℕ) → (known : IsWord word) → Fits known.number
 fits word known = fits_within known.number known.not_less known.not_more
 
-no_others : (w : List ℕ) (ws : List (List ℕ)) → ((z : ℤ) → Fits z → w ≡ signed_decimal z → AreNumbers ws → ⊥)
-    → AreNumbers (w ∷ ws) → ⊥
+no_others : (w : List ℕ) (ws : List (List ℕ)) → ((z : ℤ) → Fits z → w ≡ signed_decimal z → AreNumbersOnLine ws → ⊥)
+    → AreNumbersOnLine (w ∷ ws) → ⊥
 no_others w ws never ([], e, held) = absurd (omega (arith, ap length e))
 no_others w ws never (y ∷ ys, e, held) =
     let (head, tail) = same_words w (signed_decimal y) ws (map signed_decimal ys) e in
     never y (All-head Fits y ys held) head (ys, tail, All-tail Fits y ys held)
 
-line_once : (line : List ℕ) (xs ys : List ℤ) → SpellsAmounts line xs → SpellsAmounts line ys → xs ≡ ys
+line_once : (line : List ℕ) (xs ys : List ℤ) → SpellsSweptAmounts line xs → SpellsSweptAmounts line ys → xs ≡ ys
 line_once line xs ys first second =
     spelled_once xs ys (sym first.spelled ∙ second.spelled) first.held second.held
 
@@ -57,7 +57,7 @@ fault_once n line (fault.Chip c) h known known' a b = absurd b
 fault_once n line f h known known' a b = absurd a
 
 no_start : (o p : StartData) (line : List ℕ) (f : FileFault) → f ≢ fault.OutOfMemory
-    → RefusesSweptAmounts o.graph.size line f → HasAmountsOf o line p → ⊥
+    → RefusesSweptAmounts o.graph.size line f → HasSweptAmounts o line p → ⊥
 no_start o p line fault.OutOfMemory known a has = known refl
 no_start o p line (fault.Shape shape.Amounts) known a has = a has.xs has.spelled
 no_start o p line (fault.Chip c) known (xs, spells, a) has =
@@ -66,7 +66,7 @@ no_start o p line (fault.Chip c) known (xs, spells, a) has =
     (subst (λ (zs : List ℤ). IsFirstChipFault o.graph.size zs c) same a)
 no_start o p line f known a has = absurd a
 
-start_once : (o p r : StartData) (line : List ℕ) → HasAmountsOf o line p → HasAmountsOf o line r → p ≡ r
+start_once : (o p r : StartData) (line : List ℕ) → HasSweptAmounts o line p → HasSweptAmounts o line r → p ≡ r
 start_once o p r line a b =
     let same : a.xs ≡ b.xs = line_once line a.xs b.xs a.spelled b.spelled in
     let amounts : HoldsNumbers b.xs a.divisor = subst (λ (zs : List ℤ). HoldsNumbers zs a.divisor) same a.amounts in
@@ -74,8 +74,8 @@ start_once o p r line a b =
     held_once 1_000_000 b.xs a.divisor b.divisor amounts b.amounts a.within b.within in
     a.rest ∙ ap {B = StartData} (λ (d : Vector). record o { divisor = d }) divisor ∙ sym b.rest
 
-pub amount_lines_have_one_meaning : AmountLinesHaveOneMeaning
-amount_lines_have_one_meaning = record {
+pub swept_amounts_have_one_meaning : SweptAmountsHaveOneMeaning
+swept_amounts_have_one_meaning = record {
   start = start_once;
   refused = no_start;
   fault = fault_once;

@@ -1,11 +1,12 @@
 -- Verdicts with the order in which the vertices burn have one text.
 --   order_same     vertices burn in one order, the least first
 --   judgement_same verdicts on one divisor are printed alike, with the order of burning or without
-use Rattle.dg_sweep.proofs.Common.{◌≡◌, ℕ, zero, suc, ◌+◌, ◌<◌, Bool, true, false, List, [], ◌∷◌, ◌++◌, length, take, get_or, inl, inr, arith, sym, ap, ◌∙◌, subst, ◌<ℤ◌, slice_get, Some, cases_eq, cases_lt, take_all, take_more, slice_get-get_or, slice_get_within, get_or_from_slice_get, Multigraph, IsMultigraph, Amounts, AgreeOn, among, edges_into, MayBurn, BurnsNext, BurnsInOrder, at, IsVerdictOn, Verdict, verdict_text, burning_text, judgement_text}
+use Rattle.dg_sweep.proofs.Common.{◌≡◌, ℕ, zero, suc, ◌+◌, ◌<◌, Bool, true, false, List, [], ◌∷◌, ◌++◌, length, take, get_or, inl, inr, arith, sym, ap, ◌∙◌, subst, ◌<ℤ◌, slice_get, Some, cases_eq, cases_lt, take_all, take_more, slice_get-get_or, slice_get_within, get_or_from_slice_get, Multigraph, IsMultigraph, Amounts, DivisorsAgreeOn, among, edges_into, MayBurn, BurnsNext, BurnsInOrder, at, IsVerdictOn, Verdict, verdict_text, burning_text, judgement_text}
 use Rattle.std.proofs.Math.IntN.{ℤ, pos}
 use Rattle.dg_lines.proofs.OneText.{verdict_same, reduced_same}
 
-may_cong : (g : Multigraph) (D E : Amounts) (B : ℕ → Bool) (v : ℕ) → AgreeOn g.size D E → MayBurn g D B v → MayBurn g E B v
+may_cong : (g : Multigraph) (D E : Amounts) (B : ℕ → Bool) (v : ℕ) → DivisorsAgreeOn g.size D E → MayBurn g D B v
+    → MayBurn g E B v
 may_cong g D E B v same may = record {
   vertex = may.vertex;
   unburnt = may.unburnt;
@@ -13,8 +14,8 @@ may_cong g D E B v same may = record {
 }
 
 -- two orders of burning agree up to each place
-module _ (g : Multigraph) (q : ℕ) (D E : Amounts) (same : AgreeOn g.size D E) where
-  back : AgreeOn g.size E D
+module _ (g : Multigraph) (q : ℕ) (D E : Amounts) (same : DivisorsAgreeOn g.size D E) where
+  back : DivisorsAgreeOn g.size E D
   back v below = sym (same v below)
 
   next_same : (B : ℕ → Bool) (v w : ℕ) → BurnsNext g D B v → BurnsNext g E B w → v ≡ w

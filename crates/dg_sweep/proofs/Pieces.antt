@@ -6,7 +6,7 @@
 --   puts_piece                 the text has the answers to one piece more
 --   puts_all                   it has those to all
 --   leads_rest                 pieces, and then what follows them
-use Rattle.dg_sweep.proofs.Common.{◌≡◌, ℕ, ◌+◌, ◌<◌, ◌≤◌, List, [], ◌∷◌, ◌++◌, length, map, get_or, All, Bor, refl, sym, ap, subst, ◌∙◌, arith, append_assoc, append-nil, flat_map, take, get_or-map, take_more, take_all, All-append, All-cons, All-nil, All-get_or, flat_map-append, AnswersFront, EndsPiece, AnswersPiece, LeadsSweptPiece}
+use Rattle.dg_sweep.proofs.Common.{◌≡◌, ℕ, ◌+◌, ◌<◌, ◌≤◌, List, [], ◌∷◌, ◌++◌, length, map, get_or, All, Bor, refl, sym, ap, subst, ◌∙◌, arith, append_assoc, append-nil, flat_map, take, get_or-map, take_more, take_all, All-append, All-cons, All-nil, All-get_or, flat_map-append, AnswersSweptFront, EndsPiece, AnswersPiece, LeadsSweptPiece}
 use Rattle.dg_sweep.proofs.Taken.{pieces_both}
 
 pub all_both : {X : Type 0} (P : X → Type 0) (xs ys zs : List X) → All P xs → All P ys → zs ≡ xs ++ ys → All P zs
@@ -45,8 +45,8 @@ pub leads_piece : (right : List ℕ → List ℕ → Type 0) (front piece said t
     → AnswersPiece right piece text
     → LeadsSweptPiece right (front ++ piece) (said ++ text)
 leads_piece right front piece said text leads ends answered back rest more answers =
-    subst (λ l. AnswersFront right l rest ((said ++ text) ++ more)) (sym (append_assoc front piece back))
-    (subst (λ l. AnswersFront right (front ++ (piece ++ back)) rest l) (sym (append_assoc said text more))
+    subst (λ l. AnswersSweptFront right l rest ((said ++ text) ++ more)) (sym (append_assoc front piece back))
+    (subst (λ l. AnswersSweptFront right (front ++ (piece ++ back)) rest l) (sym (append_assoc said text more))
     (leads (piece ++ back) rest (text ++ more)
     (pieces_both right (piece ++ back) piece back answered.0 rest rest text more (text ++ more) ends refl answered.1 answers
     refl refl)))
@@ -54,13 +54,13 @@ leads_piece right front piece said text leads ends answered back rest more answe
 pub leads_rest : (right : List ℕ → List ℕ → Type 0) (bytes front back rest old mid new : List ℕ)
     → (said : List ℕ) × LeadsSweptPiece right front said × (mid ≡ old ++ said)
     → bytes ≡ front ++ back
-    → (more : List ℕ) × AnswersFront right back rest more × (new ≡ mid ++ more)
-    → (said : List ℕ) × AnswersFront right bytes rest said × (new ≡ old ++ said)
+    → (more : List ℕ) × AnswersSweptFront right back rest more × (new ≡ mid ++ more)
+    → (said : List ℕ) × AnswersSweptFront right bytes rest said × (new ≡ old ++ said)
 leads_rest right bytes front back rest old mid new first whole second =
     let (said, leads, grown) = first in
     let (more, answers, grown') = second in (
       said ++ more,
-      subst (λ l. AnswersFront right l rest (said ++ more)) (sym whole) (leads back rest more answers),
+      subst (λ l. AnswersSweptFront right l rest (said ++ more)) (sym whole) (leads back rest more answers),
       grown' ∙ ap (λ l. l ++ more) grown ∙ append_assoc old said more,
     )
 

@@ -9,7 +9,7 @@
 --   sweep_unsaid     it ends before it reads, for want of memory
 --   sweep_halts      it ends early in what was read
 --   sweep_over       it ends where its input does, or early at the last line
-use Rattle.dg_sweep.proofs.Common.{◌≡◌, ◌≢◌, ℕ, ◌≤◌, inl, List, [], ◌∷◌, ◌++◌, length, take, Option, Result, Ok, Err, sym, subst, arith, append-nil, All-nil, Appends, Consumes, Keeps, IsAtEnd, lines, HasNoNewline, Begins, LinesHaveCome, last_line, begins_none, begins_more, begins_then, one_cutting, come_then, come_last, AppendsFrontToOutput, appends_none, appends_more, consumes_none, consumes_more, consumes_kept, IsSweep, EndsSweepAfter, WritesAnswers, StandsForSweptPart, TakesSweptBytes, AnswersLastSweptLine, PassesAnswers, READ_SIZE, SweepEnd, Read, Write, Shortage, OutOfMemory}
+use Rattle.dg_sweep.proofs.Common.{◌≡◌, ◌≢◌, ℕ, ◌≤◌, inl, List, [], ◌∷◌, ◌++◌, length, take, Option, Result, Ok, Err, sym, subst, arith, append-nil, All-nil, Appends, Consumes, Keeps, IsAtEnd, lines, HasNoNewline, BeginsWithLines, LinesOfTextHaveCome, last_line, begins_none, begins_more, begins_then, one_cutting, come_then, come_last, AppendsFrontToStream, appends_none, appends_more, consumes_none, consumes_more, consumes_kept, IsSweep, EndsSweepAfter, WritesSweptAnswers, StandsForSweptPart, TakesSweptBytes, AnswersLastSweptLine, PassesSweptAnswers, READ_SIZE, SweepEnd, Read, Write, Shortage, OutOfMemory}
 use Rattle.dg_sweep.specs.Answers.{AnswersLines}
 use Rattle.dg_sweep.proofs.Taken.{answers_none, answers_more}
 
@@ -18,7 +18,7 @@ pub record HasSwept (right : List ℕ → List ℕ → Type 0) (input rest old n
   pub read : Consumes input rest stream
   pub ls : List (List ℕ)
   pub part : List ℕ
-  pub cut : Begins HasNoNewline stream ls part
+  pub cut : BeginsWithLines HasNoNewline stream ls part
   pub stands : StandsForSweptPart pending part
   pub text : List ℕ
   pub answers : AnswersLines right ls text
@@ -65,8 +65,8 @@ module _ {right : List ℕ → List ℕ → Type 0} {input rest old mid : Option
 
   is_sweep : {rest' new : Option (List ℕ)} (result : Result (Unit {0}) SweepEnd) (bytes text : List ℕ)
       (last : List (List ℕ)) → Consumes rest rest' bytes
-      → LinesHaveCome HasNoNewline (IsAtEnd rest') (far.part ++ bytes) last → length last ≤ READ_SIZE
-      → AnswersLines right last text → WritesAnswers result old new far.text text
+      → LinesOfTextHaveCome HasNoNewline (IsAtEnd rest') (far.part ++ bytes) last → length last ≤ READ_SIZE
+      → AnswersLines right last text → WritesSweptAnswers result old new far.text text
       → EndsSweepAfter (IsAtEnd rest') (far.stream ++ bytes) (far.ls ++ last) result
       → IsSweep right input rest' old new result
   is_sweep {rest'} result bytes text last read came few answered written ends = record {
@@ -85,7 +85,7 @@ module _ {right : List ℕ → List ℕ → Type 0} {input rest old mid : Option
   }
 
   unwritten : {rest' new : Option (List ℕ)} (end : SweepEnd) (bytes : List ℕ) → Consumes rest rest' bytes
-      → WritesAnswers (Err end) old new far.text []
+      → WritesSweptAnswers (Err end) old new far.text []
       → EndsSweepAfter (IsAtEnd rest') (far.stream ++ bytes) (far.ls ++ []) (Err end)
       → IsSweep right input rest' old new (Err end)
   unwritten end bytes read written ends =
@@ -105,12 +105,12 @@ module _ {right : List ℕ → List ℕ → Type 0} {input rest old mid : Option
 
   over_last : {rest' new : Option (List ℕ)} (result : Result (Unit {0}) SweepEnd) (text : List ℕ)
       → Consumes rest rest' [] → IsAtEnd rest' → AnswersLastSweptLine right pending text
-      → WritesAnswers result old new far.text text
+      → WritesSweptAnswers result old new far.text text
       → EndsSweepAfter (IsAtEnd rest') (far.stream ++ []) (far.ls ++ last_line far.part) result
       → IsSweep right input rest' old new result
   over_last {rest'} result text read over answered written ends =
       is_sweep result [] text (last_line far.part) read
-      (subst (λ l. LinesHaveCome HasNoNewline (IsAtEnd rest') l (last_line far.part)) (sym (append-nil far.part))
+      (subst (λ l. LinesOfTextHaveCome HasNoNewline (IsAtEnd rest') l (last_line far.part)) (sym (append-nil far.part))
       (come_last plain far.part over far.stands.no_newline)) (few_last far.part) (answered far.part far.stands) written
       ends
     where
@@ -121,16 +121,16 @@ module _ {right : List ℕ → List ℕ → Type 0} {input rest old mid : Option
   all_lines : lines (far.stream ++ []) ≡ far.ls ++ last_line far.part
   all_lines =
       one_cutting plain (far.stream ++ []) far.part far.ls
-      (subst (Begins HasNoNewline (far.stream ++ []) far.ls) (append-nil far.part) (begins_more [] far.cut))
+      (subst (BeginsWithLines HasNoNewline (far.stream ++ []) far.ls) (append-nil far.part) (begins_more [] far.cut))
       far.stands.no_newline
 
   -- what was written, where a front is written of what came last
-  front : (new : Option (List ℕ)) (text : List ℕ) → AppendsFrontToOutput mid new [] text → AppendsFrontToOutput old new
+  front : (new : Option (List ℕ)) (text : List ℕ) → AppendsFrontToStream mid new [] text → AppendsFrontToStream old new
       far.text text
   front new text passed = (passed.0, passed.1, grown new (take passed.0 text) passed.2)
 
   pub sweep_halts : {rest' new : Option (List ℕ)} (bytes pending' : List ℕ) (end : SweepEnd) → Consumes rest rest' bytes
-      → length bytes ≤ READ_SIZE → PassesAnswers (TakesSweptBytes right pending bytes pending') mid new (Err end)
+      → length bytes ≤ READ_SIZE → PassesSweptAnswers (TakesSweptBytes right pending bytes pending') mid new (Err end)
       → IsSweep right input rest' old new (Err end)
   sweep_halts bytes pending' Read read small passed = absurd passed
   sweep_halts {new = new} bytes pending' Write read small passed =
@@ -141,7 +141,7 @@ module _ {right : List ℕ → List ℕ → Type 0} {input rest old mid : Option
       unwritten (Shortage lack) bytes read (grown new [] passed) tt
 
   pub sweep_over : {rest' new : Option (List ℕ)} (result : Result (Unit {0}) SweepEnd) → Consumes rest rest' []
-      → IsAtEnd rest' → PassesAnswers (AnswersLastSweptLine right pending) mid new result → IsSweep right input rest' old new
+      → IsAtEnd rest' → PassesSweptAnswers (AnswersLastSweptLine right pending) mid new result → IsSweep right input rest' old new
       result
   sweep_over {new = new} (Ok done) read over passed =
       over_last (Ok tt) passed.0 read over passed.1 (grown new passed.0 passed.2) (over, sym all_lines)

@@ -7,7 +7,7 @@
 --   takes_part, takes_lines    bytes without a newline, and with one
 --   nothing                    a list of length 0
 --   takes_no_end, takes_end    the end
-use Rattle.dg_sweep.proofs.Common.{◌≡◌, ◌≢◌, ℕ, ◌+◌, ◌-◌, ◌≤◌, take, drop, inl, inr, List, [], ◌∷◌, ◌++◌, length, refl, sym, ap, subst, ◌∙◌, arith, append_assoc, append-nil, flat_map, All-append, All-head, All-tail, take-append_seam, take-append-drop, AnswersLine, HasNoNewline, Begins, with_newline, last_line, begins_none, begins_one, begins_more, begins_then, StandsForSweptPart, KeepsPartOfPiece, AnswersFront, EndsPiece, TakesSweptBytes, AnswersLastSweptLine}
+use Rattle.dg_sweep.proofs.Common.{◌≡◌, ◌≢◌, ℕ, ◌+◌, ◌-◌, ◌≤◌, take, drop, inl, inr, List, [], ◌∷◌, ◌++◌, length, refl, sym, ap, subst, ◌∙◌, arith, append_assoc, append-nil, flat_map, All-append, All-head, All-tail, take-append_seam, take-append-drop, AnswersLine, HasNoNewline, BeginsWithLines, with_newline, last_line, begins_none, begins_one, begins_more, begins_then, StandsForSweptPart, KeepsPartOfPiece, AnswersSweptFront, EndsPiece, TakesSweptBytes, AnswersLastSweptLine}
 use Rattle.std.proofs.Common.{length-append}
 use Rattle.dg_sweep.specs.Answers.{AnswersLines}
 
@@ -36,13 +36,13 @@ unfolding AnswersLines
 answers_one right line t p = (t, [], p, refl, sym (append-nil t))
 
 begins_line : (bytes line rest : List ℕ) → HasNoNewline line → bytes ≡ line ++ 10 ∷ rest
-    → Begins HasNoNewline bytes (line ∷ []) rest
-begins_line bytes line rest none e = subst (λ l. Begins HasNoNewline l (line ∷ []) rest) (sym e) (begins_one rest none)
+    → BeginsWithLines HasNoNewline bytes (line ∷ []) rest
+begins_line bytes line rest none e = subst (λ l. BeginsWithLines HasNoNewline l (line ∷ []) rest) (sym e) (begins_one rest none)
 
 -- the lines of bytes, up to what is left of them
 pub record IsSoFar (right : List ℕ → List ℕ → Type 0) (bytes rest old new : List ℕ) : Type 0 where
   pub ls : List (List ℕ)
-  pub cut : Begins HasNoNewline bytes ls rest
+  pub cut : BeginsWithLines HasNoNewline bytes ls rest
   pub few : length ls + length rest ≤ length bytes
   pub said : List ℕ
   pub answers : AnswersLines right ls said
@@ -74,13 +74,13 @@ so_far_line right bytes rest old new line rest' answer new' far none e answered 
 }
 
 pub so_far_rest : (right : List ℕ → List ℕ → Type 0) (bytes rest old new line : List ℕ) → IsSoFar right bytes rest old new
-    → HasNoNewline line → rest ≡ line ++ [] → (said : List ℕ) × AnswersFront right bytes line said
+    → HasNoNewline line → rest ≡ line ++ [] → (said : List ℕ) × AnswersSweptFront right bytes line said
     × (new ≡ old ++ said)
 so_far_rest right bytes rest old new line far none e = (
   far.said,
   record {
     ls = far.ls;
-    cut = subst (λ l. Begins HasNoNewline bytes far.ls l) (e ∙ append-nil line) far.cut;
+    cut = subst (λ l. BeginsWithLines HasNoNewline bytes far.ls l) (e ∙ append-nil line) far.cut;
     no_newline = none;
     few = omega (arith, far.few);
     answers = far.answers;
@@ -99,7 +99,7 @@ ends_with (x ∷ xs) ys (z ∷ front) y byte e = ends_with xs ys front y byte (a
     tail [] = []
     tail (h ∷ t) = t
 
-pub nothing_left : (bytes rest : List ℕ) (ls : List (List ℕ)) → Begins HasNoNewline bytes ls rest → HasNoNewline rest
+pub nothing_left : (bytes rest : List ℕ) (ls : List (List ℕ)) → BeginsWithLines HasNoNewline bytes ls rest → HasNoNewline rest
     → EndsPiece bytes → rest ≡ []
 nothing_left bytes [] ls cut none ends = refl
 nothing_left bytes (y ∷ ys) ls cut none ends =
@@ -129,18 +129,19 @@ front_ends bytes early later part after n e1 e2 e =
 
 pub pieces_both : (right : List ℕ → List ℕ → Type 0) (bytes front back rest rest' last said said' text : List ℕ) → EndsPiece front
     → bytes ≡ front ++ back
-    → AnswersFront right front rest said → AnswersFront right back rest' said' → last ≡ rest'
+    → AnswersSweptFront right front rest said → AnswersSweptFront right back rest' said' → last ≡ rest'
     → text ≡ said ++ said'
-    → AnswersFront right bytes last text
+    → AnswersSweptFront right bytes last text
 pieces_both right bytes front back rest rest' last said said' text ends e here there left both =
     let none : rest ≡ [] = nothing_left front rest here.ls here.cut here.no_newline ends in
-    let cut : Begins HasNoNewline front here.ls [] = subst (λ l. Begins HasNoNewline front here.ls l) none here.cut in
-    let cut' : Begins HasNoNewline (front ++ back) (here.ls ++ there.ls) rest' =
+    let cut : BeginsWithLines HasNoNewline front here.ls [] = subst
+    (λ l. BeginsWithLines HasNoNewline front here.ls l) none here.cut in
+    let cut' : BeginsWithLines HasNoNewline (front ++ back) (here.ls ++ there.ls) rest' =
     begins_then (begins_more back cut) there.cut in
     record {
       ls = here.ls ++ there.ls;
-      cut = subst (λ l. Begins HasNoNewline l (here.ls ++ there.ls) last) (sym e)
-          (subst (λ l. Begins HasNoNewline (front ++ back) (here.ls ++ there.ls) l) (sym left) cut');
+      cut = subst (λ l. BeginsWithLines HasNoNewline l (here.ls ++ there.ls) last) (sym e)
+          (subst (λ l. BeginsWithLines HasNoNewline (front ++ back) (here.ls ++ there.ls) l) (sym left) cut');
       no_newline = subst HasNoNewline (sym left) there.no_newline;
       few = let size = length-append front back in let lines = length-append here.ls there.ls in
           omega (arith, ap length e, size, lines, here.few, there.few);
@@ -197,7 +198,7 @@ takes_part right old bytes part new text unsaid none e kept p stands =
 pub takes_lines : (right : List ℕ → List ℕ → Type 0) (old bytes part after mid first text rest new : List ℕ) → HasNoNewline part
     → bytes ≡ part ++ 10 ∷ after
     → KeepsPartOfPiece old part mid → (line : List ℕ) → line ≡ mid → AnswersLine right line first
-    → (said : List ℕ) × AnswersFront right after rest said × (text ≡ first ++ said) → (empty : List ℕ) → empty ≡ []
+    → (said : List ℕ) × AnswersSweptFront right after rest said × (text ≡ first ++ said) → (empty : List ℕ) → empty ≡ []
     → KeepsPartOfPiece empty rest new
     → TakesSweptBytes right old bytes new text
 takes_lines right old bytes part after mid first text rest new none e kept shown is_mid answered lines empty is_empty

@@ -1,9 +1,9 @@
 -- What the line of a table is answered.
 -- In words it is as for one table; in numbers it has one column for each number.
---   IsVerdictRow o text                   == the text is the row of the verdict on the amounts of o, computed
+--   IsSweptVerdictRow o text              == the text is the row of the verdict on the amounts of o, computed
 --                                            from its vertex q
 --   sweep_rank_line form names x          == the answer that is a rank verdict, and a newline
---   unnamed_line form n k                 == the answer that the rank is below k, without the first loss
+--   swept_unnamed_line form n k           == the answer that the rank is below k, without the first loss
 --   IsSweptRankTested o k form names text == the text is that of a rank verdict of degree k which is right
 --                                            for the amounts of o, and a newline; something tells it, and if
 --                                            it names a loss, the test is within the limits
@@ -35,13 +35,13 @@
 --   AnswersLines right ls text            == the text is the answers to the lines ls, one after another
 use Rattle.std.specs.Prelude.{◌≡◌, ◌≢◌, ℕ, ◌<◌, ◌≤◌, ◌⊎◌, ℤ, true, false, List, [], ◌∷◌, ◌++◌, None, Some, length, codes, decimal}
 use Rattle.std.specs.Fmt.{signed_decimal}
-use Rattle.dg_sweep.specs.Common.{genus, degree, less, canonical, HasRankAtLeast, IsRank, StartData, at, ArePastTrialLimits, IsRightRankVerdict, IsRankTestWithinLimits, IsRankUntold, NeedsPastTests, RankVerdict, AtLeast, Below, IsJudgementText, IsVerdictOn, Verdict, rank_row, verdict_row, text_of, IsTableFile, RefusesFile, FileFault, OutOfMemory, Form, Words, Numbers, Question, Judge, Rank, RiemannRoch}
+use Rattle.dg_sweep.specs.Common.{genus, degree, less, canonical, HasRankAtLeast, IsRank, StartData, at, ArePastTrialLimits, IsRightRankVerdict, IsRankTestWithinLimits, IsRankUntold, NeedsPastTests, RankVerdict, AtLeast, Below, IsJudgementText, IsVerdictOn, Verdict, rank_row, verdict_row, text_of, IsTableFile, RefusesTableFile, FileFault, OutOfMemory, Form, Words, Numbers, Question, Judge, Rank, RiemannRoch}
 use Rattle.dg_invocation.specs.declared.question.VerdictForm.TheVariants as verdict
 use Rattle.dg_rules.specs.declared.entry.Reply.TheVariants.{Rank as Tested}
 use Rattle.dg_sweep.specs.FaultTexts.{sweep_file_fault_words}
 use Rattle.dg_sweep.specs.declared.ends.TheConstants.{MAX_LINE}
 
-pub record IsVerdictRow (o : StartData) (text : List ℕ) : Type 0 where
+pub record IsSweptVerdictRow (o : StartData) (text : List ℕ) : Type 0 where
   pub verdict : Verdict
   pub found : IsVerdictOn o.graph o.q (at o.divisor) verdict
   pub printed : text ≡ verdict_row verdict
@@ -51,9 +51,9 @@ sweep_rank_line Words names x = text_of names (Tested x) ++ codes "\n"
 sweep_rank_line Numbers names (AtLeast k) = rank_row (length names) true None
 sweep_rank_line Numbers names (Below k loss) = rank_row (length names) false (Some loss)
 
-abbrev pub unnamed_line : Form → ℕ → ℕ → List ℕ
-unnamed_line Words n k = codes "rank below " ++ decimal k ++ codes " at ?\n"
-unnamed_line Numbers n k = rank_row n false None
+abbrev pub swept_unnamed_line : Form → ℕ → ℕ → List ℕ
+swept_unnamed_line Words n k = codes "rank below " ++ decimal k ++ codes " at ?\n"
+swept_unnamed_line Numbers n k = rank_row n false None
 
 pub record IsSweptRankTested (o : StartData) (k : ℕ) (form : Form) (names : List (List ℕ)) (text : List ℕ)
     : Type 0 where
@@ -67,7 +67,7 @@ pub record IsSweptRankBelow (o : StartData) (k : ℕ) (form : Form) (text : List
   pub past : ArePastTrialLimits o.graph.size k
   pub told : ¬ IsRankUntold o.graph (at o.divisor) k
   pub below : ¬ HasRankAtLeast o.graph (at o.divisor) k
-  pub printed : text ≡ unnamed_line form o.graph.size k
+  pub printed : text ≡ swept_unnamed_line form o.graph.size k
 
 pub record IsSweptRankUntested (o : StartData) (k : ℕ) (text : List ℕ) : Type 0 where
   pub untold : IsRankUntold o.graph (at o.divisor) k
@@ -112,7 +112,7 @@ pub record AreSweptRanksUntested (o : StartData) (form : Form) (text : List ℕ)
 
 abbrev pub AnswersTable : Question → StartData → List (List ℕ) → List ℕ → Type 0
 AnswersTable (Judge (verdict.Words ordered)) o names text = IsJudgementText o names ordered text
-AnswersTable (Judge verdict.Numbers) o names text = IsVerdictRow o text
+AnswersTable (Judge verdict.Numbers) o names text = IsSweptVerdictRow o text
 AnswersTable (Rank k form) o names text = AnswersRankLine o k form names text
 AnswersTable (RiemannRoch form) o names text = AreSweptRanks o form text ⊎ AreSweptRanksUntested o form text
 
@@ -133,7 +133,7 @@ pub record IsOfSweptTable (question : Question) (line text : List ℕ) : Type 0 
 
 abbrev pub AnswersTableWithin : Question → List ℕ → List ℕ → Type 0
 AnswersTableWithin question line text =
-    IsSweptLineRefused (RefusesFile line) text ⊎ IsOfSweptTable question line text
+    IsSweptLineRefused (RefusesTableFile line) text ⊎ IsOfSweptTable question line text
 
 abbrev pub AnswersLine : (List ℕ → List ℕ → Type 0) → List ℕ → List ℕ → Type 0
 AnswersLine right line text =

@@ -3,7 +3,7 @@
 --                                               are longer than a line may be
 --   KeepsPartOfPiece old part new            == the part is put after what is pending, if that is no longer
 --                                               than a line may be; else nothing is
---   AnswersFront right bytes rest text       == the bytes are lines, each with its newline, and then the
+--   AnswersSweptFront right bytes rest text  == the bytes are lines, each with its newline, and then the
 --                                               rest, which has none; and the text is the answers to the
 --                                               lines
 --   EndsPiece bytes                          == the last of the bytes is a newline
@@ -12,12 +12,12 @@
 --                                               are no more lines than bytes; and the text is their answers
 --   AnswersLastSweptLine right pending text  == whatever part of a line was pending, it is the last line, if
 --                                               it has a byte, and the text its answer
---   PassesAnswers T old new result           == such a text, of which T holds, was written; or memory or a
+--   PassesSweptAnswers T old new result      == such a text, of which T holds, was written; or memory or a
 --                                               thread was refused, and nothing was written; or a front of it
 --                                               was written, and the writer took no more
 use Rattle.std.specs.Prelude.{◌≡◌, ℕ, ◌<◌, ◌≤◌, ◌⊎◌, List, [], ◌∷◌, ◌++◌, length, Option, Result, Ok, Err}
 use Rattle.std.specs.Io.KnownBytes.{Appends}
-use Rattle.dg_sweep.specs.Common.{HasNoNewline, Begins, last_line, AppendsFrontToOutput}
+use Rattle.dg_sweep.specs.Common.{HasNoNewline, BeginsWithLines, last_line, AppendsFrontToStream}
 use Rattle.dg_sweep.specs.Answers.{AnswersLines}
 use Rattle.dg_sweep.specs.declared.ends.TheConstants.{MAX_LINE}
 use Rattle.dg_sweep.specs.declared.ends.SweepEnd.{SweepEnd}
@@ -31,9 +31,9 @@ abbrev pub KeepsPartOfPiece : List ℕ → List ℕ → List ℕ → Type 0
 KeepsPartOfPiece old part new =
     ((length old ≤ MAX_LINE) × (new ≡ old ++ part)) ⊎ ((MAX_LINE < length old) × (new ≡ old))
 
-pub record AnswersFront (right : List ℕ → List ℕ → Type 0) (bytes rest text : List ℕ) : Type 0 where
+pub record AnswersSweptFront (right : List ℕ → List ℕ → Type 0) (bytes rest text : List ℕ) : Type 0 where
   pub ls : List (List ℕ)
-  pub cut : Begins HasNoNewline bytes ls rest
+  pub cut : BeginsWithLines HasNoNewline bytes ls rest
   pub no_newline : HasNoNewline rest
   pub few : length ls ≤ length bytes
   pub answers : AnswersLines right ls text
@@ -41,25 +41,25 @@ pub record AnswersFront (right : List ℕ → List ℕ → Type 0) (bytes rest t
 abbrev pub EndsPiece : List ℕ → Type 0
 EndsPiece bytes = (front : List ℕ) × (bytes ≡ front ++ 10 ∷ [])
 
-pub record Taken (right : List ℕ → List ℕ → Type 0) (bytes new text : List ℕ) (n : ℕ) : Type 0 where
+pub record TakenBySweep (right : List ℕ → List ℕ → Type 0) (bytes new text : List ℕ) (n : ℕ) : Type 0 where
   pub ls : List (List ℕ)
   pub part : List ℕ
-  pub cut : Begins HasNoNewline bytes ls part
+  pub cut : BeginsWithLines HasNoNewline bytes ls part
   pub stands : StandsForSweptPart new part
   pub few : length ls ≤ n
   pub answers : AnswersLines right ls text
 
 abbrev pub TakesSweptBytes : (List ℕ → List ℕ → Type 0) → List ℕ → List ℕ → List ℕ → List ℕ → Type 0
 TakesSweptBytes right old bytes new text =
-    (part : List ℕ) → StandsForSweptPart old part → Taken right (part ++ bytes) new text (length bytes)
+    (part : List ℕ) → StandsForSweptPart old part → TakenBySweep right (part ++ bytes) new text (length bytes)
 
 abbrev pub AnswersLastSweptLine : (List ℕ → List ℕ → Type 0) → List ℕ → List ℕ → Type 0
 AnswersLastSweptLine right pending text = (part : List ℕ) → StandsForSweptPart pending part
     → AnswersLines right (last_line part) text
 
-abbrev pub PassesAnswers : (List ℕ → Type 0) → Option (List ℕ) → Option (List ℕ)
+abbrev pub PassesSweptAnswers : (List ℕ → Type 0) → Option (List ℕ) → Option (List ℕ)
     → Result (Unit {0}) SweepEnd → Type 0
-PassesAnswers T old new (Ok done) = (text : List ℕ) × T text × Appends old new text
-PassesAnswers T old new (Err Write) = (text : List ℕ) × T text × AppendsFrontToOutput old new [] text
-PassesAnswers T old new (Err (Shortage lack)) = Appends old new []
-PassesAnswers T old new (Err Read) = ⊥
+PassesSweptAnswers T old new (Ok done) = (text : List ℕ) × T text × Appends old new text
+PassesSweptAnswers T old new (Err Write) = (text : List ℕ) × T text × AppendsFrontToStream old new [] text
+PassesSweptAnswers T old new (Err (Shortage lack)) = Appends old new []
+PassesSweptAnswers T old new (Err Read) = ⊥

@@ -4,10 +4,10 @@ ghost use Rattle.dg_chips.specs.Starts.{IsStart};
 ghost use Rattle.dg_chips.specs.Vector.{at};
 ghost use Rattle.dg_verdict.specs.Right.{IsVerdictOn};
 ghost use Rattle.dg_lines.specs.Judgements.{IsJudgementText};
-ghost use Rattle.dg_lines.specs.Texts.{HasNames, text_of};
+ghost use Rattle.dg_lines.specs.Texts.{TextHasNames, text_of};
 ghost use Rattle.dg_sweep.specs.FaultTexts.{sweep_file_fault_words};
 ghost use Rattle.dg_sweep.specs.Subjects.{swept_start};
-ghost use Rattle.dg_sweep.specs.Answers.{AnswersLine, AnswersTableLine, AnswersTable, IsVerdictRow, sweep_refusal_line};
+ghost use Rattle.dg_sweep.specs.Answers.{AnswersLine, AnswersTableLine, AnswersTable, IsSweptVerdictRow, sweep_refusal_line};
 
 use crate::ends::MAX_LINE;
 use crate::fault_words::push_swept_fault;
@@ -91,7 +91,7 @@ pub(crate) struct Subject<'a> {
 }
 
 /// The answer for a subject whose vertices have these names, into an empty buffer.
-pub(crate) fn push_answer(
+pub(crate) fn push_swept_answer(
     question: Question,
     subject: &Subject<'_>,
     names: &Names,
@@ -124,7 +124,7 @@ fn push_verdict(
     requires empty { answer.old.items ≡ [] }
     ensures { OnOk result (IsJudgementText (swept_start subject.now) names.now ordered answer.new.items) }
 {
-    let verdict = verdict_on_subject(subject);
+    let verdict = swept_verdict(subject);
     push_judgement(answer, names, &verdict, ordered)
 }
 
@@ -132,14 +132,14 @@ fn push_verdict(
 fn push_columns(subject: &Subject<'_>, answer: &mut Vec<u8>) -> Result<(), AllocError>
     requires start { IsStart (swept_start subject.now) }
     requires empty { answer.old.items ≡ [] }
-    ensures { OnOk result (IsVerdictRow (swept_start subject.now) answer.new.items) }
+    ensures { OnOk result (IsSweptVerdictRow (swept_start subject.now) answer.new.items) }
 {
-    let verdict = verdict_on_subject(subject);
+    let verdict = swept_verdict(subject);
     push_verdict_row(answer, &verdict)
 }
 
 /// The verdict on a subject.
-fn verdict_on_subject(subject: &Subject<'_>) -> Verdict
+fn swept_verdict(subject: &Subject<'_>) -> Verdict
     requires { IsStart (swept_start subject.now) }
     ensures { IsVerdictOn subject.now.graph.now subject.now.q (at subject.now.divisor.now) result }
 {
@@ -151,12 +151,12 @@ fn verdict_on_subject(subject: &Subject<'_>) -> Verdict
 }
 
 /// The text of a reply and a newline, into an empty buffer.
-pub(crate) fn push_verdict_line(
+pub(crate) fn push_swept_verdict_line(
     answer: &mut Vec<u8>,
     reply: &Reply,
     names: &Names,
 ) -> Result<(), AllocError>
-    requires names { HasNames names.now reply.now }
+    requires names { TextHasNames names.now reply.now }
     requires empty { answer.old.items ≡ [] }
     ensures { OnOk result (answer.new.items ≡ text_of names.now reply.now ++ codes "\n") }
 {

@@ -4,9 +4,9 @@ ghost use Rattle.std.specs.Option.{option_copied};
 ghost use Rattle.std.specs.Fmt.{signed_decimal};
 ghost use Rattle.std.specs.Int.{w64};
 ghost use Rattle.dg_lines.specs.Cuts.{before, after};
-ghost use Rattle.dg_sweep.specs.Divisors.{IsSweptDivisor, RefusesSweptAmounts, SpellsAmounts, SpellsNoAmounts};
+ghost use Rattle.dg_sweep.specs.Divisors.{IsSweptDivisor, RefusesSweptAmounts, SpellsSweptAmounts, SpellsNoSweptAmounts};
 
-use crate::answering::{LineKind, Subject, push_answer, push_refusal};
+use crate::answering::{LineKind, Subject, push_refusal, push_swept_answer};
 use dg_chips::{Divisor, Start};
 use dg_file::{FileFault, Shape, TableFile};
 use dg_graph::{Graph, MAX_VERTICES};
@@ -62,7 +62,7 @@ impl LineKind for Divisors<'_> {
                     q: start.q(),
                     inverse: Some(&self.inverse),
                 };
-                push_answer(self.question, &subject, self.table.names(), answer)
+                push_swept_answer(self.question, &subject, self.table.names(), answer)
             }
             Err(FileFault::OutOfMemory) => Err(AllocError),
             Err(fault) => push_refusal(&fault, answer),
@@ -78,21 +78,21 @@ fn divisor_of_swept_line(alloc: Global, graph: &Graph, line: &[u8]) -> Result<Di
     ensures divisor { IfOk result (IsSweptDivisor graph.now.size line.now) }
     ensures refused { IfErr result (RefusesSweptAmounts graph.now.size line.now) }
 {
-    let Some(amounts) = amounts_of(alloc, line)? else {
+    let Some(amounts) = amounts_of_swept_line(alloc, line)? else {
         return Err(FileFault::Shape(Shape::Amounts));
     };
     Ok(Divisor::new(graph, amounts.as_slice())?)
 }
 
 /// The whole numbers that the words of a line are, with one space between two; `None` if a word is none within 64 bits.
-fn amounts_of(alloc: Global, line: &[u8]) -> Result<Option<Vec<i64>>, AllocError>
-    ensures { IfOk result (λ amounts. MatchOption amounts (SpellsNoAmounts line.now)
-        (λ amounts. SpellsAmounts line.now amounts.items)) }
+fn amounts_of_swept_line(alloc: Global, line: &[u8]) -> Result<Option<Vec<i64>>, AllocError>
+    ensures { IfOk result (λ amounts. MatchOption amounts (SpellsNoSweptAmounts line.now)
+        (λ amounts. SpellsSweptAmounts line.now amounts.items)) }
 {
     let mut amounts = Vec::with_capacity(alloc, MAX_VERTICES)?;
     let mut rest = Some(line);
     'words: while let Some(text) = rest {
-        let Some((amount, after)) = first_amount_of_line(text) else {
+        let Some((amount, after)) = first_amount_of_swept_line(text) else {
             return Ok(None);
         };
         amounts.push(amount)?;
@@ -103,7 +103,7 @@ fn amounts_of(alloc: Global, line: &[u8]) -> Result<Option<Vec<i64>>, AllocError
 
 /// The whole number that the first word is, if 64 bits hold it, and what stands after the space that ends the word, if one does.
 #[inline(always)]
-fn first_amount_of_line(text: &[u8]) -> Option<(i64, Option<&[u8]>)>
+fn first_amount_of_swept_line(text: &[u8]) -> Option<(i64, Option<&[u8]>)>
     ensures { MatchOption result
         ((z : ℤ) → FitsSigned w64 z → before 32 text.now ≢ signed_decimal z)
         (λ r. (before 32 text.now ≡ signed_decimal r.0)

@@ -16,8 +16,8 @@ pub(crate) fn push_swept_fault(text: &mut Vec<u8>, fault: &FileFault) -> Result<
         FileFault::Json => text.extend_from_slice(b"not JSON"),
         FileFault::Shape(shape) => push_swept_shape_fault(text, *shape),
         FileFault::Graph(fault) => push_swept_graph_fault(text, *fault),
-        FileFault::Name(v) => push_labelled(text, b"name of vertex ", *v),
-        FileFault::Twice(v) => push_numbered_fault(text, b"vertex ", *v, b" named twice"),
+        FileFault::Name(v) => push_swept_labelled(text, b"name of vertex ", *v),
+        FileFault::Twice(v) => push_swept_numbered_fault(text, b"vertex ", *v, b" named twice"),
         FileFault::Chip(fault) => push_swept_chip_fault(text, *fault),
         FileFault::NoQ => text.extend_from_slice(b"no vertex q"),
         FileFault::OutOfMemory => text.extend_from_slice(b"out of memory"),
@@ -31,7 +31,7 @@ fn push_swept_shape_fault(text: &mut Vec<u8>, shape: Shape) -> Result<(), AllocE
         Shape::Top => text.extend_from_slice(b"shape of top"),
         Shape::Vertices => text.extend_from_slice(b"shape of vertices"),
         Shape::Edges => text.extend_from_slice(b"shape of edges"),
-        Shape::Edge(i) => push_labelled(text, b"shape of edge ", i),
+        Shape::FileEdge(i) => push_swept_labelled(text, b"shape of edge ", i),
         Shape::Amounts => text.extend_from_slice(b"shape of amounts"),
         Shape::Q => text.extend_from_slice(b"shape of q"),
     }
@@ -42,10 +42,10 @@ fn push_swept_graph_fault(text: &mut Vec<u8>, fault: GraphFault) -> Result<(), A
 {
     match fault {
         GraphFault::Size => text.extend_from_slice(b"number of vertices"),
-        GraphFault::NoVertex(i) => push_numbered_fault(text, b"edge ", i, b" has no vertex"),
-        GraphFault::Loop(i) => push_numbered_fault(text, b"edge ", i, b" is a loop"),
-        GraphFault::Multiplicity(i) => push_numbered_fault(text, b"edge ", i, b" is empty"),
-        GraphFault::Valence(v) => push_labelled(text, b"valence of vertex ", v),
+        GraphFault::NoVertex(i) => push_swept_numbered_fault(text, b"edge ", i, b" has no vertex"),
+        GraphFault::Loop(i) => push_swept_numbered_fault(text, b"edge ", i, b" is a loop"),
+        GraphFault::Multiplicity(i) => push_swept_numbered_fault(text, b"edge ", i, b" is empty"),
+        GraphFault::Valence(v) => push_swept_labelled(text, b"valence of vertex ", v),
         GraphFault::NotConnected => text.extend_from_slice(b"not connected"),
     }
 }
@@ -55,12 +55,12 @@ fn push_swept_chip_fault(text: &mut Vec<u8>, fault: ChipFault) -> Result<(), All
 {
     match fault {
         ChipFault::Length => text.extend_from_slice(b"number of amounts"),
-        ChipFault::Range(v) => push_labelled(text, b"amount of vertex ", v),
+        ChipFault::Range(v) => push_swept_labelled(text, b"amount of vertex ", v),
     }
 }
 
 /// A label and a number, after the text.
-fn push_labelled(text: &mut Vec<u8>, label: &[u8], number: usize) -> Result<(), AllocError>
+fn push_swept_labelled(text: &mut Vec<u8>, label: &[u8], number: usize) -> Result<(), AllocError>
     ensures { OnOk result (text.new.items ≡ text.old.items ++ (label.now ++ decimal number)) }
 {
     text.extend_from_slice(label)?;
@@ -68,7 +68,7 @@ fn push_labelled(text: &mut Vec<u8>, label: &[u8], number: usize) -> Result<(), 
 }
 
 /// A label, a number and words, after the text.
-fn push_numbered_fault(
+fn push_swept_numbered_fault(
     text: &mut Vec<u8>,
     label: &[u8],
     number: usize,
@@ -76,6 +76,6 @@ fn push_numbered_fault(
 ) -> Result<(), AllocError>
     ensures { OnOk result (text.new.items ≡ text.old.items ++ (label.now ++ decimal number ++ words.now)) }
 {
-    push_labelled(text, label, number)?;
+    push_swept_labelled(text, label, number)?;
     text.extend_from_slice(words)
 }

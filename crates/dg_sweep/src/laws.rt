@@ -1,6 +1,6 @@
 //! Laws of the lines of a sweep, each the contract of a function that no other needs.
 ghost use Rattle.std.specs.Prelude.{ℕ, List, OnOk};
-ghost use Rattle.dg_sweep.specs.AnswerLaws.{AmountsHaveOneAnswer, AmountLinesHaveOneMeaning, TablesHaveOneAnswer};
+ghost use Rattle.dg_sweep.specs.AnswerLaws.{AmountsHaveOneAnswer, SweptAmountsHaveOneMeaning, TablesHaveOneAnswer};
 ghost use Rattle.dg_sweep.specs.Answers.{AnswersTableLine};
 ghost use Rattle.dg_sweep.specs.DivisorLaws.{LinesStandForTables};
 
@@ -13,7 +13,7 @@ use std::alloc::{AllocError, Global};
 /// That the line has an answer is shown by `answer_line`, which gives it.
 ///
 /// Refused if there is not enough memory to answer it; no two texts answer it all the same.
-pub fn lines_have_one_answer(
+pub fn swept_lines_have_one_answer(
     alloc: Global,
     question: Question,
     line: &[u8],
@@ -33,8 +33,8 @@ pub fn amounts_have_one_answer()
 {}
 
 /// A line of amounts stands for no two starts, has no two faults for which it is refused, and never both; want of memory aside.
-pub fn amount_lines_have_one_meaning()
-    ensures { AmountLinesHaveOneMeaning }
+pub fn swept_amounts_have_one_meaning()
+    ensures { SweptAmountsHaveOneMeaning }
 {}
 
 /// A line of amounts for the table of a file stands for the table that the file would describe with these amounts, and is

@@ -15,7 +15,7 @@ mod workers;
 pub use answering::answer_line;
 pub use ends::{MAX_LINE, READ_SIZE, SweepEnd};
 pub use laws::{
-    amount_lines_have_one_meaning, amounts_have_one_answer, lines_have_one_answer,
-    lines_stand_for_tables,
+    amounts_have_one_answer, lines_stand_for_tables, swept_amounts_have_one_meaning,
+    swept_lines_have_one_answer,
 };
 pub use sweeping::{sweep, sweep_divisors};

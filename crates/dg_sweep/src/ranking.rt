@@ -3,14 +3,14 @@ ghost use Rattle.std.specs.Prelude.{◌≡◌, ◌<◌, ◌++◌, ◌⊎◌, [],
 ghost use Rattle.std.specs.Fmt.{signed_decimal};
 ghost use Rattle.dg_chips.specs.Starts.{IsStart};
 ghost use Rattle.dg_chips.specs.Vector.{at};
-ghost use Rattle.dg_lines.specs.Texts.{HasNames};
+ghost use Rattle.dg_lines.specs.Texts.{TextHasNames};
 ghost use Rattle.dg_rank.specs.Ladders.{AnswersRankTest};
 ghost use Rattle.dg_rank.specs.Ranks.{AreBothRanks, NeedsPastTests};
-ghost use Rattle.dg_sweep.specs.Answers.{AnswersRankLine, AreSweptRanks, AreSweptRanksUntested, sweep_field, front, label, sweep_mark, sweep_rank_line, sweep_ranks_line, unnamed_line};
+ghost use Rattle.dg_sweep.specs.Answers.{AnswersRankLine, AreSweptRanks, AreSweptRanksUntested, sweep_field, front, label, sweep_mark, sweep_rank_line, sweep_ranks_line, swept_unnamed_line};
 ghost use Rattle.dg_sweep.specs.Subjects.{swept_start};
 ghost use Rattle.dg_rules.specs.declared.entry.Reply.TheVariants.{Rank};
 
-use crate::answering::{Subject, push_verdict_line};
+use crate::answering::{Subject, push_swept_verdict_line};
 use dg_invocation::Form;
 use dg_lines::push_rank_row;
 use dg_rank::{RankFault, both_ranks, both_ranks_by, has_rank, rank_at_least, rank_at_least_by};
@@ -35,7 +35,7 @@ pub(crate) fn push_rank(
     ensures { OnOk result
         (AnswersRankLine (swept_start subject.now) k form names.now answer.new.items) }
 {
-    if let Ok(verdict) = rank_of_subject(subject, k) {
+    if let Ok(verdict) = swept_rank(subject, k) {
         push_swept_test(answer, form, &verdict, names)?;
         return Ok(());
     }
@@ -59,12 +59,12 @@ fn push_swept_test(
     verdict: &RankVerdict,
     names: &Names,
 ) -> Result<(), AllocError>
-    requires names { HasNames names.now (Rank verdict.now) }
+    requires names { TextHasNames names.now (Rank verdict.now) }
     requires empty { answer.old.items ≡ [] }
     ensures { OnOk result (answer.new.items ≡ sweep_rank_line form names.now verdict.now) }
 {
     match form {
-        Form::Words => push_verdict_line(answer, &Reply::Rank(*verdict), names),
+        Form::Words => push_swept_verdict_line(answer, &Reply::Rank(*verdict), names),
         Form::Numbers => push_swept_test_row(answer, verdict, names),
     }
 }
@@ -85,7 +85,7 @@ fn push_swept_test_row(
 }
 
 /// The rank test of a subject.
-fn rank_of_subject(subject: &Subject<'_>, k: u32) -> Result<RankVerdict, RankFault>
+fn swept_rank(subject: &Subject<'_>, k: u32) -> Result<RankVerdict, RankFault>
     requires { IsStart (swept_start subject.now) }
     ensures { AnswersRankTest subject.now.graph.now (at subject.now.divisor.now) k result }
 {
@@ -96,7 +96,7 @@ fn rank_of_subject(subject: &Subject<'_>, k: u32) -> Result<RankVerdict, RankFau
 }
 
 /// Both ranks of a subject.
-fn ranks_of_subject(subject: &Subject<'_>) -> Option<(i64, i64)>
+fn swept_ranks(subject: &Subject<'_>) -> Option<(i64, i64)>
     requires { IsStart (swept_start subject.now) }
     ensures { MatchOption result
         (NeedsPastTests subject.now.graph.now (at subject.now.divisor.now))
@@ -111,7 +111,7 @@ fn ranks_of_subject(subject: &Subject<'_>) -> Option<(i64, i64)>
 /// That the rank is below k, with marks in place of the first loss, into an empty buffer.
 fn push_swept_below(k: u32, form: Form, size: usize, answer: &mut Vec<u8>) -> Result<(), AllocError>
     requires { answer.old.items ≡ [] }
-    ensures { OnOk result (answer.new.items ≡ unnamed_line form size k) }
+    ensures { OnOk result (answer.new.items ≡ swept_unnamed_line form size k) }
 {
     match form {
         Form::Words => push_swept_below_words(k, answer),
@@ -141,14 +141,8 @@ pub(crate) fn push_swept_ranks(
     ensures { OnOk result (AreSweptRanks (swept_start subject.now) form answer.new.items
         ⊎ AreSweptRanksUntested (swept_start subject.now) form answer.new.items) }
 {
-    let Some((rank, dual_rank)) = ranks_of_subject(subject) else {
-        push_swept_line(
-            subject,
-            form,
-            mark_in_sweep(form),
-            mark_in_sweep(form),
-            answer,
-        )?;
+    let Some((rank, dual_rank)) = swept_ranks(subject) else {
+        push_swept_line(subject, form, swept_mark(form), swept_mark(form), answer)?;
         return Ok(());
     };
     push_swept_told(subject, form, rank, dual_rank, answer)?;
@@ -156,7 +150,7 @@ pub(crate) fn push_swept_ranks(
 }
 
 /// What stands in the place of a rank that is not told.
-fn mark_in_sweep(form: Form) -> &'static str
+fn swept_mark(form: Form) -> &'static str
     ensures { result.now ≡ sweep_mark form }
 {
     match form {
@@ -202,9 +196,9 @@ fn push_swept_line(
         (answer.new.items ≡ sweep_ranks_line form (swept_start subject.now) rank.now dual_rank.now) }
 {
     push_swept_front(subject, form, answer)?;
-    push_labelled(answer, form, "rank ", rank)?;
+    push_swept_labelled(answer, form, "rank ", rank)?;
     answer.push(b' ')?;
-    push_labelled(answer, form, "dual ", dual_rank)?;
+    push_swept_labelled(answer, form, "dual ", dual_rank)?;
     answer.push(b'\n')?;
     Ok(())
 }
@@ -227,13 +221,13 @@ fn push_swept_front(
 fn push_number(answer: &mut Vec<u8>, form: Form, words: &str, number: i64) -> Result<(), AllocError>
     ensures { OnOk result (answer.new.items ≡ answer.old.items ++ sweep_field form words.now number) }
 {
-    push_labelled(answer, form, words, Buffer::new().format(number))?;
+    push_swept_labelled(answer, form, words, Buffer::new().format(number))?;
     answer.push(b' ')?;
     Ok(())
 }
 
 /// A text after its label, which stands in words alone.
-fn push_labelled(
+fn push_swept_labelled(
     answer: &mut Vec<u8>,
     form: Form,
     words: &str,

@@ -1,7 +1,7 @@
 //! Lines that are tables.
 ghost use Rattle.std.specs.Prelude.{◌≡◌, OnOk};
 
-use crate::answering::{LineKind, Subject, push_answer, push_refusal};
+use crate::answering::{LineKind, Subject, push_refusal, push_swept_answer};
 use dg_file::{FileFault, read_table};
 use dg_invocation::Question;
 use std::alloc::{AllocError, Global};
@@ -27,7 +27,7 @@ impl LineKind for Tables {
                     q: start.q(),
                     inverse: None,
                 };
-                push_answer(self.question, &subject, table.names(), answer)
+                push_swept_answer(self.question, &subject, table.names(), answer)
             }
             Err(FileFault::OutOfMemory) => Err(AllocError),
             Err(fault) => push_refusal(&fault, answer),

@@ -1,12 +1,12 @@
 //! Taking what was read: bytes that are cut into lines, and the end.
 ghost use Rattle.std.specs.Prelude.{◌≡◌, ◌≢◌, ◌≤◌, ◌++◌, ℕ, List, [], true, IfOk, OnOk, Err};
-ghost use Rattle.dg_sweep.specs.Steps.{AnswersFront, KeepsPartOfPiece, PassesAnswers, TakesSweptBytes, AnswersLastSweptLine};
+ghost use Rattle.dg_sweep.specs.Steps.{AnswersSweptFront, KeepsPartOfPiece, PassesSweptAnswers, TakesSweptBytes, AnswersLastSweptLine};
 ghost use Rattle.dg_sweep.specs.declared.ends.SweepEnd.TheVariants.{Write as WriteEnd, Shortage as ShortageEnd};
 ghost use Rattle.dg_system.specs.declared.shortage.Shortage.TheVariants.{Spawn};
 
 use crate::answering::{LineKind, answer_of_kind};
 use crate::ends::{MAX_LINE, SweepEnd};
-use crate::workers::{SweepContext, answer_batch};
+use crate::workers::{SweepContext, answer_swept_batch};
 use dg_lines::cut;
 use dg_system::{Output, Shortage};
 use std::alloc::{AllocError, Global};
@@ -44,13 +44,13 @@ impl SweepProgress {
         writer: &mut Output<O>,
         bytes: &[u8],
     ) -> Result<(), SweepEnd>
-        ensures passed { PassesAnswers
+        ensures passed { PassesSweptAnswers
             (TakesSweptBytes (K.answers context.now.kind.now) self.old.pending.items bytes.now self.new.pending.items)
             writer.old.contents writer.new.contents result }
         ensures write { result ≡ Err WriteEnd → writer.new.has_failed ≡ true }
         ensures spawn { result ≡ Err (ShortageEnd Spawn) → 2 ≤ context.now.workers }
     {
-        match self.take_bytes(context, bytes) {
+        match self.take_swept_bytes(context, bytes) {
             Ok(()) => match writer.write_whole(&self.text) {
                 Ok(()) => Ok(()),
                 Err(_) => Err(SweepEnd::Write),
@@ -66,12 +66,12 @@ impl SweepProgress {
         kind: &K,
         writer: &mut Output<O>,
     ) -> Result<(), SweepEnd>
-        ensures passed { PassesAnswers (AnswersLastSweptLine (K.answers kind.now) self.old.pending.items)
+        ensures passed { PassesSweptAnswers (AnswersLastSweptLine (K.answers kind.now) self.old.pending.items)
             writer.old.contents writer.new.contents result }
         ensures write { result ≡ Err WriteEnd → writer.new.has_failed ≡ true }
         ensures spawn { result ≢ Err (ShortageEnd Spawn) }
     {
-        match self.take_end(alloc, kind) {
+        match self.take_swept_end(alloc, kind) {
             Ok(()) => match writer.write_whole(&self.text) {
                 Ok(()) => Ok(()),
                 Err(_) => Err(SweepEnd::Write),
@@ -81,7 +81,7 @@ impl SweepProgress {
     }
 
     /// Takes bytes that were read: answers the lines that end in them, and keeps the part of a line that follows.
-    fn take_bytes<R: Threads + Wait + Sync, K: LineKind + Sync>(
+    fn take_swept_bytes<R: Threads + Wait + Sync, K: LineKind + Sync>(
         &mut self,
         context: &SweepContext<'_, R, K>,
         bytes: &[u8],
@@ -98,13 +98,13 @@ impl SweepProgress {
         };
         answer_of_kind(context.alloc, context.kind, &self.pending, &mut self.text)?;
         self.pending.clear();
-        let part = answer_batch(context, after, &mut self.text, &mut self.answer)?;
+        let part = answer_swept_batch(context, after, &mut self.text, &mut self.answer)?;
         keep_part_of_piece(&mut self.pending, part)?;
         Ok(())
     }
 
     /// Takes the end: answers what is pending as the last line, if it has a byte.
-    fn take_end<K: LineKind>(&mut self, alloc: Global, kind: &K) -> Result<(), AllocError>
+    fn take_swept_end<K: LineKind>(&mut self, alloc: Global, kind: &K) -> Result<(), AllocError>
         ensures { OnOk result (AnswersLastSweptLine (K.answers kind.now) self.old.pending.items self.new.text.items) }
     {
         self.text.clear();
@@ -127,14 +127,14 @@ fn keep_part_of_piece(pending: &mut Vec<u8>, part: &[u8]) -> Result<(), AllocErr
 }
 
 /// Puts the answers to the lines of the bytes after the text, and gives what follows the last newline.
-pub(crate) fn answer_lines<'a, K: LineKind>(
+pub(crate) fn answer_swept_lines<'a, K: LineKind>(
     alloc: Global,
     kind: &K,
     bytes: &'a [u8],
     text: &mut Vec<u8>,
     answer: &mut Vec<u8>,
 ) -> Result<&'a [u8], AllocError>
-    ensures { IfOk result (λ rest. (said : List ℕ) × AnswersFront (K.answers kind.now) bytes.now rest.now said
+    ensures { IfOk result (λ rest. (said : List ℕ) × AnswersSweptFront (K.answers kind.now) bytes.now rest.now said
         × (text.new.items ≡ text.old.items ++ said)) }
 {
     let mut rest = bytes;

@@ -1,11 +1,11 @@
 //! Lines answered among workers, each with a thread of its own.
 ghost use Rattle.std.specs.Prelude.{◌≡◌, ◌<◌, ◌≤◌, ◌++◌, ℕ, List, [], length, get_or, map, flat_map, All, Contains, IfOk, IfSome, OnOk, Err};
-ghost use Rattle.dg_sweep.specs.Steps.{AnswersFront, EndsPiece};
+ghost use Rattle.dg_sweep.specs.Steps.{AnswersSweptFront, EndsPiece};
 ghost use Rattle.dg_sweep.specs.Pieces.{AnswersPiece, IsAnswered, LeadsSweptPiece};
 ghost use Rattle.dg_system.specs.declared.shortage.Shortage.TheVariants.{Spawn};
 
 use crate::answering::LineKind;
-use crate::taking::answer_lines;
+use crate::taking::answer_swept_lines;
 use dg_lines::cut;
 use dg_system::{Shortage, in_parallel};
 use std::alloc::{AllocError, Global};
@@ -49,31 +49,31 @@ struct Answered {
 
 /// Puts the answers to the lines of the bytes after the text, and gives what follows the last newline. The lines are shared
 /// among the workers, if there are enough lines.
-pub(crate) fn answer_batch<'a, R: Threads + Wait + Sync, K: LineKind + Sync>(
+pub(crate) fn answer_swept_batch<'a, R: Threads + Wait + Sync, K: LineKind + Sync>(
     context: &SweepContext<'_, R, K>,
     bytes: &'a [u8],
     text: &mut Vec<u8>,
     answer: &mut Vec<u8>,
 ) -> Result<&'a [u8], Shortage>
     ensures answered { IfOk result (λ rest. (said : List ℕ)
-        × AnswersFront (K.answers context.now.kind.now) bytes.now rest.now said
+        × AnswersSweptFront (K.answers context.now.kind.now) bytes.now rest.now said
         × (text.new.items ≡ text.old.items ++ said)) }
     ensures spawn { result ≡ Err Spawn → 2 ≤ context.now.workers }
 {
     let workers = context.workers.min(bytes.len() / SHARE_SIZE);
     if workers < 2 {
-        return Ok(answer_lines(context.alloc, context.kind, bytes, text, answer)?);
+        return Ok(answer_swept_lines(context.alloc, context.kind, bytes, text, answer)?);
     }
     let (pieces, rest) = cut_pieces(context.alloc, bytes)?;
     let next = AtomicUsize::new(0);
-    let done = answer_among(context, workers.min(pieces.len()), &pieces, &next)?;
+    let done = sweep_among_workers(context, workers.min(pieces.len()), &pieces, &next)?;
     put_answers(context, &pieces, &done, text)?;
-    Ok(answer_lines(context.alloc, context.kind, rest, text, answer)?)
+    Ok(answer_swept_lines(context.alloc, context.kind, rest, text, answer)?)
 }
 
 /// The answers to pieces that so many workers take, each the next that none has taken. The first has a thread of its own, and
 /// the others work beside it.
-fn answer_among<R: Threads + Wait + Sync, K: LineKind + Sync>(
+fn sweep_among_workers<R: Threads + Wait + Sync, K: LineKind + Sync>(
     context: &SweepContext<'_, R, K>,
     workers: usize,
     pieces: &[&[u8]],
@@ -93,7 +93,7 @@ fn answer_among<R: Threads + Wait + Sync, K: LineKind + Sync>(
         requires { 2 ≤ workers }
         ensures { IfOk result (λ done. All (IsAnswered (K.answers context.entry.now.kind.now)
             (map (λ piece. piece.now) pieces.entry.now)) done.items) }
-    { answer_among(context, workers - 1, pieces, next) };
+    { sweep_among_workers(context, workers - 1, pieces, next) };
     let (here, there) = match in_parallel(context.rt, &mut first, &mut others) {
         Ok(both) => both,
         Err(shortage) => return Err(shortage),
@@ -145,7 +145,7 @@ fn answer_piece<R, K: LineKind>(
 {
     let mut text = Vec::new(context.alloc);
     let mut answer = Vec::new(context.alloc);
-    match answer_lines(context.alloc, context.kind, piece, &mut text, &mut answer) {
+    match answer_swept_lines(context.alloc, context.kind, piece, &mut text, &mut answer) {
         Ok(_) => Ok(Answered { place, text }),
         Err(error) => Err(error),
     }
@@ -164,15 +164,15 @@ fn put_answers<R, K: LineKind>(
         LeadsSweptPiece (K.answers context.now.kind.now) (flat_map (λ piece. piece.now) pieces.now) said
         × (text.new.items ≡ text.old.items ++ said)) }
 {
-    let found = indices_of_pieces(context.alloc, done, pieces.len())?;
+    let found = indices_of_swept_pieces(context.alloc, done, pieces.len())?;
     for place in 0..pieces.len() {
-        put_answer(context, pieces, place, done, &found, text)?;
+        put_swept_answer(context, pieces, place, done, &found, text)?;
     }
     Ok(())
 }
 
 /// For each of `count` pieces, the index of its answers in `done`, or the length of `done` if they are not there.
-fn indices_of_pieces(
+fn indices_of_swept_pieces(
     alloc: Global,
     done: &[Answered],
     count: usize,
@@ -187,7 +187,7 @@ fn indices_of_pieces(
 }
 
 /// Puts the answers to the piece at the place after the text. A piece that is not found among those done is answered here.
-fn put_answer<R, K: LineKind>(
+fn put_swept_answer<R, K: LineKind>(
     context: &SweepContext<'_, R, K>,
     pieces: &[&[u8]],
     place: usize,
@@ -206,7 +206,7 @@ fn put_answer<R, K: LineKind>(
         return Ok(());
     }
     let mut answer = Vec::new(context.alloc);
-    answer_lines(
+    answer_swept_lines(
         context.alloc,
         context.kind,
         pieces[place],

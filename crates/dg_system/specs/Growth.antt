@@ -6,7 +6,7 @@
 --   reading_anew left                      == a reader that has this left to give, and no read of which has
 --                                             failed
 --   writing_anew held                      == a writer that holds this, and no write to which has failed
---   AppendsFrontToOutput old new told text == known bytes have grown by what was told, and by a front of the
+--   AppendsFrontToStream old new told text == known bytes have grown by what was told, and by a front of the
 --                                             text
 use Rattle.std.specs.Prelude.{ℕ, Bool, false, ◌≤◌, List, ◌++◌, length, take, Option}
 use Rattle.std.specs.Io.KnownBytes.{Appends}
@@ -25,5 +25,5 @@ reading_anew left = record { remaining = left; has_failed = false }
 abbrev pub writing_anew : Option (List ℕ) → StreamWriting
 writing_anew held = record { contents = held; has_failed = false }
 
-abbrev pub AppendsFrontToOutput : Option (List ℕ) → Option (List ℕ) → List ℕ → List ℕ → Type 0
-AppendsFrontToOutput old new told text = (k : ℕ) × (k ≤ length text) × Appends old new (told ++ take k text)
+abbrev pub AppendsFrontToStream : Option (List ℕ) → Option (List ℕ) → List ℕ → List ℕ → Type 0
+AppendsFrontToStream old new told text = (k : ℕ) × (k ≤ length text) × Appends old new (told ++ take k text)

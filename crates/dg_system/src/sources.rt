@@ -100,8 +100,8 @@ impl Sources for MemoryFiles<'_> {
     ghost held = { λ shelf. held_among (map (λ file. (file.0.now, file.1.now)) shelf.files.now) };
 
     fn bytes<R: Files + AllocGlobal>(&self, rt: &R, name: &str) -> Result<Vec<u8>, SourceFault> {
-        match file_found(self.files, name) {
-            Some(bytes) => copied_file(rt.alloc(), bytes),
+        match source_found(self.files, name) {
+            Some(bytes) => copied_source(rt.alloc(), bytes),
             None => Err(SourceFault::Unreadable),
         }
     }
@@ -111,7 +111,7 @@ impl Sources for MemoryFiles<'_> {
         _rt: &R,
         name: &str,
     ) -> Result<Stream<'s, R::File>, SourceFault> {
-        match file_found(self.files, name) {
+        match source_found(self.files, name) {
             Some(bytes) => Ok(Stream::Kept(bytes)),
             None => Err(SourceFault::Unreadable),
         }
@@ -120,7 +120,7 @@ impl Sources for MemoryFiles<'_> {
 
 /// The bytes of the first of the files with that name.
 #[tactic(auto, unfolding(crate::specs::Held::held_among))]
-fn file_found<'a>(files: &[(&'a str, &'a [u8])], name: &str) -> Option<&'a [u8]>
+fn source_found<'a>(files: &[(&'a str, &'a [u8])], name: &str) -> Option<&'a [u8]>
     ensures { held_among (map (λ file. (file.0.now, file.1.now)) files.now) name.now
         ≡ held_by_source (option_copied result) }
 {
@@ -128,12 +128,12 @@ fn file_found<'a>(files: &[(&'a str, &'a [u8])], name: &str) -> Option<&'a [u8]>
     if file.0 == name {
         Some(file.1)
     } else {
-        file_found(after, name)
+        source_found(after, name)
     }
 }
 
 /// A copy of the bytes, if they are at most 1,048,576.
-fn copied_file(alloc: Global, bytes: &[u8]) -> Result<Vec<u8>, SourceFault>
+fn copied_source(alloc: Global, bytes: &[u8]) -> Result<Vec<u8>, SourceFault>
     ensures read { IfOk result (λ copy. (copy.items ≡ bytes.now) × (length bytes.now ≤ MAX_FILE)) }
     ensures refused { IfErr result (λ fault. fault ≢ SourceFault.Unreadable) }
     ensures long { result ≡ Err SourceFault.TooLong → MAX_FILE < length bytes.now }

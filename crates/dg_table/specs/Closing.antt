@@ -1,7 +1,7 @@
 -- Closing a table.
 --   TableHasSeat xs s            == the seat s is among the seats xs
---   IsComplete n xs              == each of the seats 1 to n is among the seats xs
---   AllHeld H xs                 == the history H holds what each of the seats xs knows
+--   IsTableComplete n xs         == each of the seats 1 to n is among the seats xs
+--   AllSeatsHeld H xs            == the history H holds what each of the seats xs knows
 --   IsClosed table xs H          == H is a history of the table, and holds what each of the seats xs knows,
 --                                   among which are all of the table's
 --   AreAuditTotals table xs a    == what the audit a says of its history is so: the number of entries, the
@@ -19,22 +19,22 @@ use Rattle.std.specs.Prelude.{◌≡◌, ℕ, ◌+◌, ◌<◌, ◌≤◌, List,
 use Rattle.std.specs.List.{slice_index}
 use Rattle.dg_table.specs.Common.{ShowsPosition, position_after, gifts_in, Entry, MAX_SEATS, Ghosts, TableData}
 use Rattle.dg_table.specs.Histories.{IsHistoryOfTable}
-use Rattle.dg_table.specs.Seats.{SeatView, Holds, IsAdmissibleSeat, SeatMeetsHistory}
+use Rattle.dg_table.specs.Seats.{SeatView, HoldsSeat, IsAdmissibleSeat, SeatMeetsHistory}
 use Rattle.dg_table.specs.declared.audit.Audit.{Audit}
 
 abbrev pub TableHasSeat : List SeatView → ℕ → Type 0
 TableHasSeat xs s = (i : ℕ) × (x : SeatView) × (slice_get xs i ≡ Some x) × (x.number ≡ s)
 
-abbrev pub IsComplete : ℕ → List SeatView → Type 0
-IsComplete n xs = (s : ℕ) → 1 ≤ s → s ≤ n → TableHasSeat xs s
+abbrev pub IsTableComplete : ℕ → List SeatView → Type 0
+IsTableComplete n xs = (s : ℕ) → 1 ≤ s → s ≤ n → TableHasSeat xs s
 
-abbrev pub AllHeld : List Entry → List SeatView → Type 0
-AllHeld H xs = (i : ℕ) (x : SeatView) → slice_get xs i ≡ Some x → Holds H x
+abbrev pub AllSeatsHeld : List Entry → List SeatView → Type 0
+AllSeatsHeld H xs = (i : ℕ) (x : SeatView) → slice_get xs i ≡ Some x → HoldsSeat H x
 
 pub record IsClosed (table : TableData) (xs : List SeatView) (H : List Entry) : Type 0 where
   pub history : IsHistoryOfTable table H
-  pub complete : IsComplete table.seats xs
-  pub held : AllHeld H xs
+  pub complete : IsTableComplete table.seats xs
+  pub held : AllSeatsHeld H xs
 
 pub record AreAuditTotals {N : Type 0} {named : Ghosts N} (table : TableData) (xs : List SeatView)
     (a : Audit N named) : Type 0 where
@@ -56,7 +56,7 @@ abbrev pub HasInadmissibleSeat : List Entry → List SeatView → Type 0
 HasInadmissibleSeat H xs = (i : ℕ) × (x : SeatView) × (slice_get xs i ≡ Some x) × (¬ IsAdmissibleSeat H x)
 
 abbrev pub RefusesClose : List Entry → ℕ → List SeatView → ℕ → Type 0
-RefusesClose H n xs s = IsMissing n xs s ⊎ ((s ≡ 0) × IsComplete n xs × HasInadmissibleSeat H xs)
+RefusesClose H n xs s = IsMissing n xs s ⊎ ((s ≡ 0) × IsTableComplete n xs × HasInadmissibleSeat H xs)
 
 pub record SeatsHaveMetHistory (H : List Entry) (xs ys : List SeatView) : Type 0 where
   pub count : length ys ≡ length xs

@@ -7,7 +7,7 @@
 --                               begins with it, and is such a history too
 use Rattle.std.specs.Prelude.{◌≡◌, ◌≤◌, List, length}
 use Rattle.dg_table.specs.Common.{IsPrefixOf, IsLegal, Entry, TableData}
-use Rattle.dg_table.specs.Seats.{SeatView, AreOfTableSeats, entries_of}
+use Rattle.dg_table.specs.Seats.{SeatView, AreOfTableSeats, entries_of_seat}
 
 pub record IsHistoryOfTable (table : TableData) (H : List Entry) : Type 0 where
   pub legal : IsLegal table.start H
@@ -16,6 +16,6 @@ pub record IsHistoryOfTable (table : TableData) (H : List Entry) : Type 0 where
 
 pub record SeatHasPrefix (table : TableData) (x : SeatView) : Type 0 where
   pub history : IsHistoryOfTable table x.prefix
-  pub own : entries_of x.number x.prefix ≡ x.mine
+  pub own : entries_of_seat x.number x.prefix ≡ x.mine
   pub met : IsHistoryOfTable table x.met
   pub since : IsPrefixOf x.prefix x.met

@@ -4,7 +4,7 @@
 --                                    are of the seats 1 to n
 --   IsReady cap H x               == the history H has room for an entry of the seat x, which is admissible,
 --                                    and holds what it knows
---   IsKeptLook o ps look          == the look that is kept is the last of the entries ps, and has the
+--   IsLookKeptBySeat o ps look    == the look that is kept is the last of the entries ps, and has the
 --                                    vertices of the start o
 --   seat_view x                   == what a contract sees of a seat, by its fields x
 --   IsSeatState table x d look    == what the seat x keeps fits together: the history that it found is one of
@@ -14,20 +14,20 @@
 use Rattle.std.specs.Prelude.{◌≡◌, ℕ, ◌+◌, ◌<◌, ◌≤◌, ◌&&◌, nat_lt, List, length, Option, IfSome}
 use Rattle.std.specs.List.{slice_index}
 use Rattle.std.specs.Vec.{vec_len, vec_capacity}
-use Rattle.dg_table.specs.Common.{StartData, IsSeat, IsLegal, GameState, LeadsTo, Entry, MAX_SEATS, MAX_ENTRIES, LookData, IsPrefixOf, TableData}
+use Rattle.dg_table.specs.Common.{StartData, IsSeatInGame, IsLegal, GameState, HistoryLeadsTo, Entry, MAX_SEATS, MAX_ENTRIES, LookData, IsPrefixOf, TableData}
 use Rattle.dg_table.specs.Histories.{IsHistoryOfTable}
-use Rattle.dg_table.specs.Looks.{KeptLookHasVertices, IsLastLook}
-use Rattle.dg_table.specs.Seats.{SeatView, Holds, IsAdmissibleSeat, AreOfTableSeats, entries_of}
+use Rattle.dg_table.specs.Looks.{KeptLookHasVertices, IsLastLookOfSeat}
+use Rattle.dg_table.specs.Seats.{SeatView, HoldsSeat, IsAdmissibleSeat, AreOfTableSeats, entries_of_seat}
 use Rattle.dg_table.specs.declared.seat.Seat.TheInside.{Inside}
 
 abbrev pub AreSeatCounts : List ℕ → List Entry → Type 0
 AreSeatCounts counts H =
-    (s : ℕ) → s < MAX_SEATS → slice_index counts s ≡ length (entries_of (s + 1) H)
+    (s : ℕ) → s < MAX_SEATS → slice_index counts s ≡ length (entries_of_seat (s + 1) H)
 
 pub record IsUnderLock (o : StartData) (n : ℕ) (H : List Entry) (game : GameState)
     (counts : List ℕ) : Type 0 where
   pub legal : IsLegal o H
-  pub game' : LeadsTo o H game
+  pub game' : HistoryLeadsTo o H game
   pub seated : AreOfTableSeats n H
   pub counted : AreSeatCounts counts H
   pub places : length counts ≡ MAX_SEATS
@@ -36,12 +36,12 @@ pub record IsUnderLock (o : StartData) (n : ℕ) (H : List Entry) (game : GameSt
 pub record IsReady (cap : ℕ) (H : List Entry) (x : SeatView) : Type 0 where
   pub room : length H < cap
   pub limit : cap ≤ MAX_ENTRIES
-  pub seat : IsSeat x.number
+  pub seat : IsSeatInGame x.number
   pub admissible : IsAdmissibleSeat H x
-  pub holds : Holds H x
+  pub holds : HoldsSeat H x
 
-pub record IsKeptLook (o : StartData) (ps : List (ℕ × Entry)) (look : Option LookData) : Type 0 where
-  pub last : IsLastLook ps look
+pub record IsLookKeptBySeat (o : StartData) (ps : List (ℕ × Entry)) (look : Option LookData) : Type 0 where
+  pub last : IsLastLookOfSeat ps look
   pub vertices : IfSome look (KeptLookHasVertices o.graph.size)
 
 abbrev pub seat_view : {N : Type 0} → Inside N → SeatView
@@ -60,8 +60,8 @@ pub record IsSeatState (table : TableData) (x : SeatView) (d : List (ℕ × Entr
   pub least : 1 ≤ x.number
   pub most : x.number ≤ table.seats
   pub found : IsHistoryOfTable table x.prefix
-  pub own : entries_of x.number x.prefix ≡ x.mine
+  pub own : entries_of_seat x.number x.prefix ≡ x.mine
   pub met : IsHistoryOfTable table x.met
   pub since : IsPrefixOf x.prefix x.met
   pub told_said : d ≡ x.told
-  pub look_kept : IsKeptLook table.start x.mine look
+  pub look_kept : IsLookKeptBySeat table.start x.mine look

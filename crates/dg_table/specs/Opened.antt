@@ -1,6 +1,6 @@
 -- Opening a table.
 --   TableMayHaveSeats n    == a table may have n seats
---   AreFresh n xs          == xs are the seats 1 to n, in order, which know of no entry
+--   AreFreshSeats n xs     == xs are the seats 1 to n, in order, which know of no entry
 --   RefusesOpening n fault == a table with n seats is refused with the fault
 use Rattle.std.specs.Prelude.{◌≡◌, ℕ, ◌+◌, ◌≤◌, List, [], length, slice_get, Some}
 use Rattle.dg_table.specs.Common.{MAX_SEATS}
@@ -11,7 +11,7 @@ use Rattle.dg_table.specs.declared.fault.TableFault.TheVariants.{Seats, OutOfMem
 abbrev pub TableMayHaveSeats : ℕ → Type 0
 TableMayHaveSeats n = (1 ≤ n) × (n ≤ MAX_SEATS)
 
-pub record AreFresh (n : ℕ) (xs : List SeatView) : Type 0 where
+pub record AreFreshSeats (n : ℕ) (xs : List SeatView) : Type 0 where
   pub seats : TableMayHaveSeats n
   pub count : length xs ≡ n
   pub number : (i : ℕ) (x : SeatView) → slice_get xs i ≡ Some x → x.number ≡ i + 1

@@ -7,22 +7,22 @@
 --   OneSeatHasAll  == in a history of the seat 1 alone its entries are all, numbered from 0 on
 use Rattle.std.specs.Prelude.{◌≡◌, ◌≢◌, ℕ, List, [], ◌∷◌, ◌++◌, length}
 use Rattle.std.specs.List.{enumerate_from}
-use Rattle.dg_table.specs.Common.{Entry, StandIn}
-use Rattle.dg_table.specs.Seats.{AreOfTableSeats, entries_of}
+use Rattle.dg_table.specs.Common.{Entry, StandInLog}
+use Rattle.dg_table.specs.Seats.{AreOfTableSeats, entries_of_seat}
 
 abbrev pub SeatHasNoEntries : Type 0
-SeatHasNoEntries = (s : ℕ) → entries_of s [] ≡ []
+SeatHasNoEntries = (s : ℕ) → entries_of_seat s [] ≡ []
 
 abbrev pub OwnSeatsEntry : Type 0
 OwnSeatsEntry = (s : ℕ) (H : List Entry) (e : Entry) → e.seat ≡ s →
-    entries_of s (H ++ e ∷ []) ≡ entries_of s H ++ (length H, e) ∷ []
+    entries_of_seat s (H ++ e ∷ []) ≡ entries_of_seat s H ++ (length H, e) ∷ []
 
 abbrev pub OtherSeatsEntry : Type 0
 OtherSeatsEntry = (s : ℕ) (H : List Entry) (e : Entry) → e.seat ≢ s →
-    entries_of s (H ++ e ∷ []) ≡ entries_of s H
+    entries_of_seat s (H ++ e ∷ []) ≡ entries_of_seat s H
 
 abbrev pub SeatEntriesStand : Type 0
-SeatEntriesStand = (s : ℕ) (H : List Entry) → StandIn H (entries_of s H)
+SeatEntriesStand = (s : ℕ) (H : List Entry) → StandInLog H (entries_of_seat s H)
 
 abbrev pub OneSeatHasAll : Type 0
-OneSeatHasAll = (H : List Entry) → AreOfTableSeats 1 H → entries_of 1 H ≡ enumerate_from 0 H
+OneSeatHasAll = (H : List Entry) → AreOfTableSeats 1 H → entries_of_seat 1 H ≡ enumerate_from 0 H

@@ -1,11 +1,11 @@
 -- What a seat knows of the history.
---   entries_of s H         == the entries of the seat s in the history H, each with its number, in order
+--   entries_of_seat s H    == the entries of the seat s in the history H, each with its number, in order
 --   AreOfTableSeats n H    == each entry of the history H is one of the seats 1 to n
 --   SeatView               == a seat's number, the entries of its own calls, the entries that it was told of,
 --                             the history as it found it at its last call, the longest history that it has
 --                             met, whether it has space for one more call, and whether it has space to be
 --                             told of one more entry
---   Holds H x              == the history H holds what the seat x knows: H begins with the histories that it
+--   HoldsSeat H x          == the history H holds what the seat x knows: H begins with the histories that it
 --                             found and has met; its entries in H are just those of its own calls, each once
 --                             and in order; and every entry that it was told of stands in H at its number
 --   IsAdmissibleSeat H x   == H has as many entries as the history that the seat x has met, or more, an entry
@@ -17,10 +17,10 @@
 --                             what it had met it keeps the longer
 use Rattle.std.specs.Prelude.{◌≡◌, ℕ, ◌==◌, ◌≤◌, List, Bool, Some, length, slice_get}
 use Rattle.std.specs.List.{filter, enumerate_from}
-use Rattle.dg_table.specs.Common.{Entry, ReceiptsAreBelow, StandIn, IsPrefixOf, IsLonger}
+use Rattle.dg_table.specs.Common.{Entry, ReceiptsAreBelow, StandInLog, IsPrefixOf, IsLongerPrefix}
 
-abbrev pub entries_of : ℕ → List Entry → List (ℕ × Entry)
-entries_of s H = filter (λ p. p.1.seat == s) (enumerate_from 0 H)
+abbrev pub entries_of_seat : ℕ → List Entry → List (ℕ × Entry)
+entries_of_seat s H = filter (λ p. p.1.seat == s) (enumerate_from 0 H)
 
 abbrev pub AreOfTableSeats : ℕ → List Entry → Type 0
 AreOfTableSeats n H = (k : ℕ) (e : Entry) → slice_get H k ≡ Some e → (1 ≤ e.seat) × (e.seat ≤ n)
@@ -34,16 +34,16 @@ pub record SeatView : Type 0 where
   pub space : Bool
   pub hears : Bool
 
-pub record Holds (H : List Entry) (x : SeatView) : Type 0 where
+pub record HoldsSeat (H : List Entry) (x : SeatView) : Type 0 where
   pub prefix : IsPrefixOf x.prefix H
   pub met : IsPrefixOf x.met H
-  pub mine : entries_of x.number H ≡ x.mine
-  pub told : StandIn H x.told
+  pub mine : entries_of_seat x.number H ≡ x.mine
+  pub told : StandInLog H x.told
 
 pub record IsAdmissibleSeat (H : List Entry) (x : SeatView) : Type 0 where
   pub met : length x.met ≤ length H
   pub told : ReceiptsAreBelow (length H) x.told
-  pub count : length x.mine ≡ length (entries_of x.number H)
+  pub count : length x.mine ≡ length (entries_of_seat x.number H)
 
 pub record Keeps (x y : SeatView) : Type 0 where
   pub number : y.number ≡ x.number
@@ -57,6 +57,6 @@ pub record SeatMeetsHistory (H : List Entry) (x y : SeatView) : Type 0 where
   pub mine : y.mine ≡ x.mine
   pub told : y.told ≡ x.told
   pub prefix : y.prefix ≡ x.prefix
-  pub met : IsLonger x.met H y.met
+  pub met : IsLongerPrefix x.met H y.met
   pub space : y.space ≡ x.space
   pub hears : y.hears ≡ x.hears

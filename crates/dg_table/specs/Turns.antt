@@ -17,8 +17,8 @@ use Rattle.std.specs.Prelude.{◌≡◌, ℕ, ◌<◌, List, length, Option, ◌
 use Rattle.std.specs.Borrow.{Bor}
 use Rattle.std.specs.Fn.{Mut, Called, Takes}
 use Rattle.dg_table.specs.Common.{Multigraph, TableData, Vector, Move, ShowsPosition, position_after, Entry, request_for}
-use Rattle.dg_table.specs.Answered.{Entering, entering, IsAnsweredAfter}
-use Rattle.dg_table.specs.Faults.{StandsFull, MayEnter}
+use Rattle.dg_table.specs.Answered.{EnteringAtTable, entering_at_table, IsAnsweredAtTableAfter}
+use Rattle.dg_table.specs.Faults.{TableStandsFull, TableMayEnter}
 use Rattle.dg_table.specs.Seats.{SeatView}
 use Rattle.dg_table.specs.declared.fault.Fault.{Fault}
 use Rattle.dg_table.specs.declared.fault.Fault.TheVariants.{OutOfMemory, Full, Log}
@@ -48,21 +48,21 @@ module _ {F : Type 0} (c : Mut F (Bor Multigraph × (Bor Vector × Unit {0})) (O
     pub shown : ShowsPosition (position_after table.start H) amounts
     pub answers : IsAskedInSchedule c a (position_after table.start H).graph amounts m
 
-  pub record IsTurnAfter (a : AskingAtTable F) (e : Entering) : Type 0 where
+  pub record IsTurnAfter (a : AskingAtTable F) (e : EnteringAtTable) : Type 0 where
     pub answer : Option Move
     pub asked : IsAskedAfter e.history a answer
-    pub answered : IsAnsweredAfter table (request_for answer) e
+    pub answered : IsAnsweredAtTableAfter table (request_for answer) e
 
   abbrev pub IsTurn : AskingAtTable F → ℕ × Entry → SeatView → SeatView → Type 0
-  IsTurn a r x y = (H : List Entry) × IsTurnAfter a (entering H r x y)
+  IsTurn a r x y = (H : List Entry) × IsTurnAfter a (entering_at_table H r x y)
 
   abbrev pub IsAskedToEnter : List Entry → SeatView → AskingAtTable F → Type 0
   IsAskedToEnter H x a =
-      (MayEnter table H x × ((m : Option Move) × IsAskedAfter H a m))
-      ⊎ ((¬ MayEnter table H x) × (a.after ≡ a.before))
+      (TableMayEnter table H x × ((m : Option Move) × IsAskedAfter H a m))
+      ⊎ ((¬ TableMayEnter table H x) × (a.after ≡ a.before))
 
   abbrev pub RefusesTurn : SeatView → AskingAtTable F → Fault → Type 0
   RefusesTurn x a OutOfMemory = a.after ≡ a.before
-  RefusesTurn x a Full = (a.after ≡ a.before) × StandsFull table x.met x
+  RefusesTurn x a Full = (a.after ≡ a.before) × TableStandsFull table x.met x
   RefusesTurn x a Log = (length x.met < table.capacity)
       × ((a.after ≡ a.before) ⊎ ((m : Option Move) × IsAskedAfter x.met a m))

@@ -1,23 +1,23 @@
 //! What the lock of a table holds.
 ghost use Rattle.std.specs.Prelude.{ℕ, List, Some, slice_get, ◌≡◌, ◌<◌, ◌≤◌, ◌↔◌, [], ◌∷◌, ◌++◌, true, false, length, IsTrue, IfOk, IfSome, IfErr, MatchOption, MatchResult, MatchBool, OnErr};
 ghost use Rattle.dg_chips.specs.Starts.{StartData};
-ghost use Rattle.dg_rules.specs.Legal.{IsSeat, IsLegal};
+ghost use Rattle.dg_rules.specs.Legal.{IsSeatInGame, IsLegal};
 ghost use Rattle.dg_rules.specs.Look.{IsRightFinding};
 ghost use Rattle.dg_rules.specs.Replies.{Replies};
 ghost use Rattle.dg_rules.specs.Requests.{asked};
-ghost use Rattle.dg_rules.specs.State.{LeadsTo};
+ghost use Rattle.dg_rules.specs.State.{HistoryLeadsTo};
 ghost use Rattle.dg_log.specs.Written.{nothing_written, with_entry, written_after_refusal};
-ghost use Rattle.dg_table.specs.Answered.{entering, IsAnsweredAfter};
-ghost use Rattle.dg_table.specs.Closing.{TableHasSeat, IsComplete, AllHeld, AreAuditTotals, IsMissing, HasInadmissibleSeat, RefusesClose, SeatsHaveMetHistory};
-ghost use Rattle.dg_table.specs.Faults.{RefusesStepAtTable, RefusesSettling};
+ghost use Rattle.dg_table.specs.Answered.{entering_at_table, IsAnsweredAtTableAfter};
+ghost use Rattle.dg_table.specs.Closing.{TableHasSeat, IsTableComplete, AllSeatsHeld, AreAuditTotals, IsMissing, HasInadmissibleSeat, RefusesClose, SeatsHaveMetHistory};
+ghost use Rattle.dg_table.specs.Faults.{RefusesSeatAtTable, RefusesSettlingAtTable};
 ghost use Rattle.dg_table.specs.declared.fault.Fault.TheVariants.{Log as LogFault};
 ghost use Rattle.dg_rules.specs.declared.entry.Entry.{Entry as EntryData};
 ghost use Rattle.dg_table.specs.Histories.{IsHistoryOfTable};
 ghost use Rattle.dg_table.specs.Lock.{IsReady};
-ghost use Rattle.dg_table.specs.Looks.{IsLookOf};
+ghost use Rattle.dg_table.specs.Looks.{IsLookOfSeat};
 ghost use Rattle.dg_table.specs.Opened.{TableMayHaveSeats};
-ghost use Rattle.dg_table.specs.Seats.{SeatView, Holds, IsAdmissibleSeat, SeatMeetsHistory};
-ghost use Rattle.dg_table.specs.Settled.{IsSettledAfter, IsStaleAfter, IsNotStaleAfter};
+ghost use Rattle.dg_table.specs.Seats.{SeatView, HoldsSeat, IsAdmissibleSeat, SeatMeetsHistory};
+ghost use Rattle.dg_table.specs.Settled.{IsSettledAtTableAfter, IsStaleAtTableAfter, IsNotStaleAtTableAfter};
 ghost use Rattle.dg_table.specs.Turns.{MayBeAsked, asking_at_table, IsTurnAfter, IsAskedToEnter};
 
 use crate::audit::Audit;
@@ -73,16 +73,16 @@ impl<N: Name> Held<N> {
     /// was told of, and as many entries of the seat as it keeps. Then the history holds what the seat knows.
     pub fn admits(&self, seat: &Seat<N>) -> bool
         ensures admits { IsTrue result ↔ IsAdmissibleSeat self.now.entries seat.now }
-        ensures holds { IsTrue result → Holds self.now.entries seat.now }
-        ensures number { IsSeat seat.now.number }
+        ensures holds { IsTrue result → HoldsSeat self.now.entries seat.now }
+        ensures number { IsSeatInGame seat.now.number }
     {
         let count = self.counts[usize::from(seat.place())];
         let len = self.pen.len();
-        if seat.calls() != count || seat.met().len() > len || !seat.told_receipt_set().below(len) {
+        if seat.calls() != count || seat.met().len() > len || !seat.told_to_seat().below(len) {
             return false;
         }
         self.pen.began(seat.met());
-        self.pen.holds(seat.told_receipt_set());
+        self.pen.holds(seat.told_to_seat());
         true
     }
 
@@ -107,15 +107,15 @@ impl<N: Name> Held<N> {
     fn ready(&self, log: &Log<N>, seat: &Seat<N>) -> Result<(), Fault>
         ensures stands { MatchResult result
             (λ _. IsReady N.table.capacity self.now.entries seat.now)
-            (RefusesStepAtTable N.table self.now self.now seat.now) }
+            (RefusesSeatAtTable N.table self.now self.now seat.now) }
         ensures barred { IfErr result
             (λ f. f ≡ LogFault → ¬ IsAdmissibleSeat self.now.entries seat.now) }
     {
         let len = self.pen.len();
         if len == log.len() {
             self.pen.began(seat.met());
-            if seat.told_receipt_set().below(len) {
-                self.pen.holds(seat.told_receipt_set());
+            if seat.told_to_seat().below(len) {
+                self.pen.holds(seat.told_to_seat());
             }
             return Err(Fault::Full);
         }
@@ -140,14 +140,14 @@ impl<N: Name> Held<N> {
     ) -> Result<Receipt<N>, Fault>
         requires { seat.old.space ≡ true }
         ensures entered { IfOk result
-            (λ r. IsAnsweredAfter N.table (asked plain) (entering self.old.entries r seat.old seat.new) ×
+            (λ r. IsAnsweredAtTableAfter N.table (asked plain) (entering_at_table self.old.entries r seat.old seat.new) ×
             (self.new ≡ with_entry self.old r.1)) }
         ensures refused { IfErr result
             (λ f. (self.new.entries ≡ self.old.entries) × SeatMeetsHistory self.old.entries seat.old seat.new ×
-            RefusesStepAtTable N.table self.old self.new seat.old f) }
+            RefusesSeatAtTable N.table self.old self.new seat.old f) }
     {
         match self.ready(log, seat) {
-            Ok(()) => self.answer_ready_seat(log, slot, seat, &plain),
+            Ok(()) => self.answer_under_lock(log, slot, seat, &plain),
             Err(fault) => {
                 self.meet(seat);
                 Err(fault)
@@ -171,18 +171,18 @@ impl<N: Name> Held<N> {
         requires asked { MayBeAsked F.FnMut choose.old }
         ensures entered { IfOk result (λ r.
             IsTurnAfter F.FnMut N.table (asking_at_table choose.old choose.new)
-            (entering self.old.entries r seat.old seat.new) ×
+            (entering_at_table self.old.entries r seat.old seat.new) ×
             (self.new ≡ with_entry self.old r.1)) }
         ensures refused { IfErr result
             (λ f. (self.new.entries ≡ self.old.entries) × SeatMeetsHistory self.old.entries seat.old seat.new ×
-            RefusesStepAtTable N.table self.old self.new seat.old f) }
+            RefusesSeatAtTable N.table self.old self.new seat.old f) }
         ensures asked { OnErr result
             (IsAskedToEnter F.FnMut N.table self.old.entries seat.old (asking_at_table choose.old choose.new)) }
     {
         match self.ready(log, seat) {
             Ok(()) => {
                 let chosen = Plain::of(choose(self.game.graph(), self.game.position()));
-                self.answer_ready_seat(log, slot, seat, &chosen)
+                self.answer_under_lock(log, slot, seat, &chosen)
             }
             Err(fault) => {
                 self.meet(seat);
@@ -192,7 +192,7 @@ impl<N: Name> Held<N> {
     }
 
     /// Answers a call of a seat that is ready, and enters it as the last of the history.
-    fn answer_ready_seat(
+    fn answer_under_lock(
         &mut self,
         log: &Log<N>,
         slot: Box<Entry>,
@@ -202,11 +202,11 @@ impl<N: Name> Held<N> {
         requires space { seat.old.space ≡ true }
         requires ready { IsReady N.table.capacity self.old.entries seat.old }
         ensures entered { IfOk result
-            (λ r. IsAnsweredAfter N.table (asked plain.now) (entering self.old.entries r seat.old seat.new) ×
+            (λ r. IsAnsweredAtTableAfter N.table (asked plain.now) (entering_at_table self.old.entries r seat.old seat.new) ×
             (self.new ≡ with_entry self.old r.1)) }
         ensures refused { IfErr result
             (λ f. (self.new.entries ≡ self.old.entries) × SeatMeetsHistory self.old.entries seat.old seat.new ×
-            RefusesStepAtTable N.table self.old self.new seat.old f) }
+            RefusesSeatAtTable N.table self.old self.new seat.old f) }
     {
         let mut slot = slot;
         self.game.reply_to_call(seat.number(), plain, &mut *slot);
@@ -228,14 +228,14 @@ impl<N: Name> Held<N> {
         finding: &Finding,
     ) -> Result<Receipt<N>, Fault>
         requires space { seat.old.space ≡ true }
-        requires look { IsLookOf look.now shown.now }
+        requires look { IsLookOfSeat look.now shown.now }
         requires found { IsRightFinding N.table.start.q shown.now finding.now }
         ensures settled { IfOk result (λ r.
-            IsSettledAfter N.table look.now finding.now (entering self.old.entries r seat.old seat.new) ×
+            IsSettledAtTableAfter N.table look.now finding.now (entering_at_table self.old.entries r seat.old seat.new) ×
             (self.new ≡ with_entry self.old r.1)) }
         ensures refused { IfErr result
             (λ f. (self.new.entries ≡ self.old.entries) × SeatMeetsHistory self.old.entries seat.old seat.new ×
-            RefusesSettling N.table self.old self.new look.now.0 seat.old f) }
+            RefusesSettlingAtTable N.table self.old self.new look.now.0 seat.old f) }
     {
         match self.seat_is_ready_on(log, seat, look) {
             Ok(()) => {}
@@ -248,7 +248,7 @@ impl<N: Name> Held<N> {
         self.game
             .reply_to_finding(seat.number(), shown, finding, &mut *slot);
         let receipt = self.enter(log, slot, seat)?;
-        seat.hear(look);
+        seat.hear_at_table(look);
         Ok(receipt)
     }
 
@@ -267,14 +267,14 @@ impl<N: Name> Held<N> {
         asks: &Question,
     ) -> Result<Option<Receipt<N>>, Fault>
         requires space { seat.old.space ≡ true }
-        requires look { IsLookOf taken.now shown.now }
+        requires look { IsLookOfSeat taken.now shown.now }
         ensures settled { IfOk result (λ found. MatchOption found
-            ((self.new ≡ self.old) × IsNotStaleAfter N.table taken.now self.old.entries seat.old seat.new)
-            (λ r. IsStaleAfter N.table taken.now asks.now (entering self.old.entries r seat.old seat.new) ×
+            ((self.new ≡ self.old) × IsNotStaleAtTableAfter N.table taken.now self.old.entries seat.old seat.new)
+            (λ r. IsStaleAtTableAfter N.table taken.now asks.now (entering_at_table self.old.entries r seat.old seat.new) ×
             (self.new ≡ with_entry self.old r.1))) }
         ensures refused { IfErr result
             (λ f. (self.new.entries ≡ self.old.entries) × SeatMeetsHistory self.old.entries seat.old seat.new ×
-            RefusesSettling N.table self.old self.new taken.now.0 seat.old f) }
+            RefusesSettlingAtTable N.table self.old self.new taken.now.0 seat.old f) }
     {
         match self.seat_is_ready_on(log, seat, taken) {
             Ok(()) => {}
@@ -291,7 +291,7 @@ impl<N: Name> Held<N> {
         self.game
             .reply_as_stale(seat.number(), shown, asks, &mut *slot);
         let receipt = self.enter(log, slot, seat)?;
-        seat.hear(taken);
+        seat.hear_at_table(taken);
         Ok(Some(receipt))
     }
 
@@ -301,7 +301,7 @@ impl<N: Name> Held<N> {
         ensures { MatchResult result
             (λ _. IsReady N.table.capacity self.now.entries seat.now ×
             (slice_get self.now.entries look.now.0 ≡ Some look.now.1))
-            (RefusesSettling N.table self.now self.now look.now.0 seat.now) }
+            (RefusesSettlingAtTable N.table self.now self.now look.now.0 seat.now) }
     {
         self.ready(log, seat)?;
         let number = look.number();
@@ -326,14 +326,14 @@ impl<N: Name> Held<N> {
         requires replies { Replies N.table.start self.old.entries slot.value.request slot.value.reply }
         requires legal { IsLegal N.table.start (self.old.entries ++ slot.value ∷ []) }
         ensures entered { IfOk result (λ r.
-            IsAnsweredAfter N.table slot.value.request (entering self.old.entries r seat.old seat.new) ×
+            IsAnsweredAtTableAfter N.table slot.value.request (entering_at_table self.old.entries r seat.old seat.new) ×
             (self.new ≡ with_entry self.old r.1)) }
         ensures reply { IfOk result (λ r. r.1.reply ≡ slot.value.reply) }
         ensures hears { IfOk result (λ _. seat.new.hears ≡ true) }
         ensures refused { IfErr result
             (λ f. (self.new ≡ written_after_refusal self.old) ×
             SeatMeetsHistory self.old.entries seat.old seat.new ×
-            RefusesStepAtTable N.table self.old self.new seat.old f) }
+            RefusesSeatAtTable N.table self.old self.new seat.old f) }
     {
         let Ok(receipt) = self.pen.put(log, slot) else {
             self.meet(seat);
@@ -341,7 +341,7 @@ impl<N: Name> Held<N> {
         };
         let place = usize::from(seat.place());
         let entry = log.entry(&receipt);
-        seat.take_receipt(&self.game, &self.pen.prefix(), entry, &receipt);
+        seat.take_receipt_at_table(&self.game, &self.pen.prefix(), entry, &receipt);
         self.game.follow_entry(entry);
         self.counts[place] += 1;
         Ok(receipt)
@@ -351,15 +351,15 @@ impl<N: Name> Held<N> {
     /// 0 if none is missing.
     pub fn missing(&self, seats: &[Seat<N>]) -> Option<u8>
         ensures missing { MatchOption result
-            (IsComplete N.table.seats seats.now × AllHeld self.now.entries seats.now)
+            (IsTableComplete N.table.seats seats.now × AllSeatsHeld self.now.entries seats.now)
             (RefusesClose self.now.entries N.table.seats seats.now) }
         ensures history { IsHistoryOfTable N.table self.now.entries }
     {
         let _entries = self.pen.len();
-        if let Some(number) = first_missing(seats, self.seats) {
+        if let Some(number) = first_missing_seat(seats, self.seats) {
             return Some(number);
         }
-        if self.admits_all_seats(seats) {
+        if self.held_admits_all_seats(seats) {
             None
         } else {
             Some(0)
@@ -367,9 +367,9 @@ impl<N: Name> Held<N> {
     }
 
     /// Whether each of these seats is admitted.
-    fn admits_all_seats(&self, seats: &[Seat<N>]) -> bool
+    fn held_admits_all_seats(&self, seats: &[Seat<N>]) -> bool
         ensures { MatchBool result
-            (AllHeld self.now.entries seats.now)
+            (AllSeatsHeld self.now.entries seats.now)
             (HasInadmissibleSeat self.now.entries seats.now) }
     {
         for seat in seats {
@@ -383,7 +383,7 @@ impl<N: Name> Held<N> {
     /// What was counted, with the log and the pen of the history.
     pub(crate) fn audit(self, log: Log<N>) -> Audit<N>
         ensures history { result.pen.entries ≡ self.entries }
-        ensures totals { (xs : List SeatView) → AllHeld self.entries xs →
+        ensures totals { (xs : List SeatView) → AllSeatsHeld self.entries xs →
             AreAuditTotals N.table xs result }
     {
         let Held {
@@ -405,11 +405,11 @@ impl<N: Name> Held<N> {
 }
 
 /// The least of the seats 1 to `count` that is not among these.
-fn first_missing<N: Name>(seats: &[Seat<N>], count: u8) -> Option<u8>
-    ensures { MatchOption result (IsComplete count seats.now) (IsMissing count seats.now) }
+fn first_missing_seat<N: Name>(seats: &[Seat<N>], count: u8) -> Option<u8>
+    ensures { MatchOption result (IsTableComplete count seats.now) (IsMissing count seats.now) }
 {
     for i in 0..count {
-        if !has_seat(seats, i + 1) {
+        if !table_has_seat(seats, i + 1) {
             return Some(i + 1);
         }
     }
@@ -417,7 +417,7 @@ fn first_missing<N: Name>(seats: &[Seat<N>], count: u8) -> Option<u8>
 }
 
 /// Whether the seat with this number is among these.
-fn has_seat<N: Name>(seats: &[Seat<N>], number: u8) -> bool
+fn table_has_seat<N: Name>(seats: &[Seat<N>], number: u8) -> bool
     ensures { IsTrue result ↔ TableHasSeat seats.now number }
 {
     for seat in seats {

@@ -2,15 +2,15 @@
 ghost use Rattle.std.specs.Prelude.{ℕ, List, ◌≡◌, ◌+◌, ◌-◌, ◌<◌, ◌≤◌, [], ◌∷◌, ◌++◌, length, slice_get, true, None, Some, IfOk, IfSome, MatchBool, MatchOption, MatchResult};
 ghost use Rattle.dg_chips.specs.Starts.{StartData};
 ghost use Rattle.dg_rules.specs.Replies.{Replies};
-ghost use Rattle.dg_rules.specs.State.{LeadsTo};
+ghost use Rattle.dg_rules.specs.State.{HistoryLeadsTo};
 ghost use Rattle.dg_rules.specs.declared.entry.Entry.{Entry as EntryData};
 ghost use Rattle.std.specs.Vec.{vec_capacity, vec_len};
-ghost use Rattle.dg_table.specs.Faults.{StandsFull};
+ghost use Rattle.dg_table.specs.Faults.{TableStandsFull};
 ghost use Rattle.dg_table.specs.Histories.{SeatHasPrefix, IsHistoryOfTable};
-ghost use Rattle.dg_table.specs.Lock.{IsKeptLook};
-ghost use Rattle.dg_table.specs.Looks.{KeptLookHasVertices, IsLastLook};
-ghost use Rattle.dg_table.specs.Opened.{TableMayHaveSeats, AreFresh};
-ghost use Rattle.dg_table.specs.Seats.{Holds, Keeps, SeatMeetsHistory};
+ghost use Rattle.dg_table.specs.Lock.{IsLookKeptBySeat};
+ghost use Rattle.dg_table.specs.Looks.{KeptLookHasVertices, IsLastLookOfSeat};
+ghost use Rattle.dg_table.specs.Opened.{TableMayHaveSeats, AreFreshSeats};
+ghost use Rattle.dg_table.specs.Seats.{HoldsSeat, Keeps, SeatMeetsHistory};
 
 use dg_log::{Log, Name, Prefix, Receipt, ReceiptSet, Seating};
 use dg_rules::{BLANK, Entry, Game, LookData, Reply};
@@ -28,7 +28,7 @@ pub struct Seat<N: Name> {
     told: Vec<Receipt<N>>,
     prefix: Prefix<N>,
     met: Prefix<N>,
-    told_receipt_set: ReceiptSet<N>,
+    told_to_seat: ReceiptSet<N>,
     look: Option<LookData>,
     of: PhantomData<N>,
 }
@@ -42,7 +42,7 @@ impl<N: Name> Model for Seat<N> {
 
     ghost view = { seat_view };
 
-    ghost invariant = { λ x. IsSeatState N.table (seat_view x) x.told_receipt_set x.look };
+    ghost invariant = { λ x. IsSeatState N.table (seat_view x) x.told_to_seat x.look };
 }
 
 impl<N: Name> Seat<N> {
@@ -58,7 +58,7 @@ impl<N: Name> Seat<N> {
         requires seats { TableMayHaveSeats count }
         requires empty { space.items ≡ [] }
         requires room { count ≤ vec_capacity space }
-        ensures { AreFresh count result.items }
+        ensures { AreFreshSeats count result.items }
     {
         let mut seats = space;
         for i in 0..count {
@@ -82,7 +82,7 @@ impl<N: Name> Seat<N> {
             told: Vec::new(alloc),
             prefix: Prefix::new(),
             met: Prefix::new(),
-            told_receipt_set: ReceiptSet::new(),
+            told_to_seat: ReceiptSet::new(),
             look: None,
             of: PhantomData,
         }
@@ -140,15 +140,15 @@ impl<N: Name> Seat<N> {
     /// Whether the history that the seat has met has as many entries as there may be.
     pub(crate) fn seat_has_met_full(&self, log: &Log<N>) -> bool
         ensures { MatchBool result
-            (StandsFull N.table self.now.met self.now)
+            (TableStandsFull N.table self.now.met self.now)
             (length self.now.met < N.table.capacity) }
     {
         let len = self.met.len();
         if len < log.len() {
             return false;
         }
-        if self.told_receipt_set.below(len) {
-            self.met.holds(&self.told_receipt_set);
+        if self.told_to_seat.below(len) {
+            self.met.holds(&self.told_to_seat);
         }
         true
     }
@@ -165,16 +165,16 @@ impl<N: Name> Seat<N> {
     /// What the seat keeps of the last look that it took; `None` if it took none. Its graph has the
     /// vertices of the start, and there is an amount for each.
     pub fn look_data(&self) -> Option<LookData>
-        ensures look { IsLastLook self.now.mine result }
+        ensures look { IsLastLookOfSeat self.now.mine result }
         ensures vertices { IfSome result (KeptLookHasVertices N.table.start.graph.size) }
     {
         self.look
     }
 
     /// The same where it lies.
-    pub fn last_look(&self) -> Option<&LookData>
-        ensures { MatchOption result (IsLastLook self.now.mine None)
-            (λ x. IsLastLook self.now.mine (Some x.now) × KeptLookHasVertices N.table.start.graph.size x.now) }
+    pub fn last_look_of_seat(&self) -> Option<&LookData>
+        ensures { MatchOption result (IsLastLookOfSeat self.now.mine None)
+            (λ x. IsLastLookOfSeat self.now.mine (Some x.now) × KeptLookHasVertices N.table.start.graph.size x.now) }
     {
         self.look.as_ref()
     }
@@ -192,12 +192,12 @@ impl<N: Name> Seat<N> {
         ensures met { self.new.met ≡ self.old.met }
     {
         self.told.reserve(1)?;
-        self.hear(receipt);
+        self.hear_at_table(receipt);
         Ok(())
     }
 
     /// Tells the seat of an entry. The condition is that it has space to be told.
-    pub(crate) fn hear(&mut self, receipt: &Receipt<N>)
+    pub(crate) fn hear_at_table(&mut self, receipt: &Receipt<N>)
         requires { self.old.hears ≡ true }
         ensures number { self.new.number ≡ self.old.number }
         ensures mine { self.new.mine ≡ self.old.mine }
@@ -205,21 +205,21 @@ impl<N: Name> Seat<N> {
         ensures prefix { self.new.prefix ≡ self.old.prefix }
         ensures met { self.new.met ≡ self.old.met }
     {
-        self.told_receipt_set = self.told_receipt_set.and(receipt);
+        self.told_to_seat = self.told_to_seat.and(receipt);
         self.told.push(receipt.again()).unwrap();
     }
 
     /// The receipts of the entries that the seat was told of, as a set.
-    pub(crate) fn told_receipt_set(&self) -> &ReceiptSet<N>
+    pub(crate) fn told_to_seat(&self) -> &ReceiptSet<N>
         ensures { result.now ≡ self.now.told }
     {
-        &self.told_receipt_set
+        &self.told_to_seat
     }
 
     /// Gives the seat the receipt of its next call, whose entry is the last of a history, and keeps the look that it takes. The
     /// conditions are that the seat has the space, that the history is one of the table, which before the entry holds what
     /// the seat knows, and that the game stands there.
-    pub(crate) fn take_receipt(
+    pub(crate) fn take_receipt_at_table(
         &mut self,
         game: &Game,
         history: &Prefix<N>,
@@ -229,8 +229,8 @@ impl<N: Name> Seat<N> {
         requires space { self.old.space ≡ true }
         requires found { IsHistoryOfTable N.table history.now }
         requires next { (H : List EntryData) × (history.now ≡ H ++ entry.now ∷ []) ×
-            (receipt.now ≡ (length H, entry.now)) × (entry.now.seat ≡ self.old.number) × Holds H self.old ×
-            LeadsTo N.table.start H game.now × Replies N.table.start H entry.now.request entry.now.reply }
+            (receipt.now ≡ (length H, entry.now)) × (entry.now.seat ≡ self.old.number) × HoldsSeat H self.old ×
+            HistoryLeadsTo N.table.start H game.now × Replies N.table.start H entry.now.request entry.now.reply }
         ensures number { self.new.number ≡ self.old.number }
         ensures mine { self.new.mine ≡ self.old.mine ++ receipt.now ∷ [] }
         ensures told { self.new.told ≡ self.old.told }
@@ -238,7 +238,7 @@ impl<N: Name> Seat<N> {
         ensures met { self.new.met ≡ history.now }
         ensures hears { self.new.hears ≡ true }
     {
-        keep_seats_look(&mut self.look, game, entry);
+        keep_look_at_table(&mut self.look, game, entry);
         self.prefix = history.copy();
         self.met = history.copy();
         self.mine.push(receipt.again()).unwrap();
@@ -253,15 +253,15 @@ impl<N: Name> Seat<N> {
         ensures space { IfOk result (λ _. self.new.space ≡ true) }
     {
         reserve_for_seat(&mut self.mine, &mut self.told)?;
-        blank_entry(alloc)
+        blank_entry_at_table(alloc)
     }
 }
 
 /// Keeps the look that an entry after the game's history takes, if it takes one, in place of an older look.
-fn keep_seats_look(look: &mut Option<LookData>, game: &Game, entry: &Entry)
+fn keep_look_at_table(look: &mut Option<LookData>, game: &Game, entry: &Entry)
     ensures { (o : StartData) (H : List EntryData) (ps : List (ℕ × EntryData)) →
-        LeadsTo o H game.now → Replies o H entry.now.request entry.now.reply →
-        IsKeptLook o ps look.old → IsKeptLook o (ps ++ (length H, entry.now) ∷ []) look.new }
+        HistoryLeadsTo o H game.now → Replies o H entry.now.request entry.now.reply →
+        IsLookKeptBySeat o ps look.old → IsLookKeptBySeat o (ps ++ (length H, entry.now) ∷ []) look.new }
 {
     match &entry.reply {
         Reply::Looked(gifts, position, graph) => {
@@ -299,6 +299,6 @@ fn reserve_for_seat<N: Name>(
 }
 
 /// A box for an entry; what is in it means nothing.
-fn blank_entry(alloc: Global) -> Result<Box<Entry>, AllocError> {
+fn blank_entry_at_table(alloc: Global) -> Result<Box<Entry>, AllocError> {
     Ok(Box::new(alloc, BLANK)?)
 }

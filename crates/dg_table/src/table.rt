@@ -5,11 +5,11 @@ ghost use Rattle.dg_rules.specs.Requests.{asked};
 ghost use Rattle.dg_log.specs.Tables.{table_data_of};
 ghost use Rattle.dg_table.specs.Answered.{IsAnswered};
 ghost use Rattle.dg_table.specs.Closing.{IsClosed, AreAuditTotals, IsCloseRefused};
-ghost use Rattle.dg_table.specs.Faults.{RefusesCall};
-ghost use Rattle.dg_table.specs.Looks.{IsLookOf};
-ghost use Rattle.dg_table.specs.Opened.{AreFresh, RefusesOpening};
+ghost use Rattle.dg_table.specs.Faults.{RefusesCallAtTable};
+ghost use Rattle.dg_table.specs.Looks.{IsLookOfSeat};
+ghost use Rattle.dg_table.specs.Opened.{AreFreshSeats, RefusesOpening};
 ghost use Rattle.dg_table.specs.Seats.{Keeps};
-ghost use Rattle.dg_table.specs.Settled.{IsSettled, IsStale, IsNotStale};
+ghost use Rattle.dg_table.specs.Settled.{IsSettledAtTable, IsStaleAtTable, IsNotStaleAtTable};
 ghost use Rattle.dg_table.specs.Turns.{MayBeAsked, asking_at_table, IsTurn, RefusesTurn};
 ghost use Rattle.dg_table.specs.declared.fault.Fault.TheVariants.{Log as LogFault};
 
@@ -70,7 +70,7 @@ impl<N: Name> Table<N> {
         requires row { row ≡ N.cells }
         requires table { N.table ≡ table_data_of start.now seats (length row) }
         ensures { MatchResult result
-            (λ r. AreFresh seats r.1.items)
+            (λ r. AreFreshSeats seats r.1.items)
             (λ e. (e.0 ≡ row) × RefusesOpening seats e.1) }
     {
         if seats < 1 || seats > MAX_SEATS {
@@ -99,7 +99,7 @@ impl<N: Name> Table<N> {
         ensures space { IfOk result (λ _. seat.new.space ≡ true) }
         ensures room { IfOk result (λ _. length seat.new.met < N.table.capacity) }
         ensures refused { IfErr result (λ f. (f ≢ LogFault) ×
-            RefusesCall N.table seat.new f) }
+            RefusesCallAtTable N.table seat.new f) }
     {
         let Ok(slot) = seat.room(alloc) else {
             return Err(Fault::OutOfMemory);
@@ -127,7 +127,7 @@ impl<N: Name> Table<N> {
         ensures answered { IfOk result
             (λ r. IsAnswered N.table (asked plain) r seat.old seat.new) }
         ensures fault { IfErr result (λ f. Keeps seat.old seat.new ×
-            RefusesCall N.table seat.new f) }
+            RefusesCallAtTable N.table seat.new f) }
     {
         let slot = self.room(alloc, seat)?;
         self.held.lock(rt).call(&self.log, slot, seat, plain)
@@ -171,12 +171,12 @@ impl<N: Name> Table<N> {
         shown: &LookData,
         finding: &Finding,
     ) -> Result<Receipt<N>, Fault>
-        requires look { IsLookOf look.now shown.now }
+        requires look { IsLookOfSeat look.now shown.now }
         requires found { IsRightFinding N.table.start.q shown.now finding.now }
         ensures settled { IfOk result
-            (λ r. IsSettled N.table look.now finding.now r seat.old seat.new) }
+            (λ r. IsSettledAtTable N.table look.now finding.now r seat.old seat.new) }
         ensures fault { IfErr result (λ f. Keeps seat.old seat.new ×
-            RefusesCall N.table seat.new f) }
+            RefusesCallAtTable N.table seat.new f) }
     {
         let slot = self.room(alloc, seat)?;
         self.held
@@ -199,12 +199,12 @@ impl<N: Name> Table<N> {
         shown: &LookData,
         asks: &Question,
     ) -> Result<Option<Receipt<N>>, Fault>
-        requires { IsLookOf look.now shown.now }
+        requires { IsLookOfSeat look.now shown.now }
         ensures settled { IfOk result (λ found. MatchOption found
-            (IsNotStale N.table look.now seat.old seat.new)
-            (λ r. IsStale N.table look.now asks.now r seat.old seat.new)) }
+            (IsNotStaleAtTable N.table look.now seat.old seat.new)
+            (λ r. IsStaleAtTable N.table look.now asks.now r seat.old seat.new)) }
         ensures fault { IfErr result (λ f. Keeps seat.old seat.new ×
-            RefusesCall N.table seat.new f) }
+            RefusesCallAtTable N.table seat.new f) }
     {
         let slot = self.room(alloc, seat)?;
         self.held

@@ -15,13 +15,13 @@ struct Gifts;
 
 impl Watch for Gifts {
     ghost use Rattle.std.specs.Prelude.{◌≡◌};
-    ghost use Rattle.dg_observer.specs.Watched.{gifts_after_entry};
+    ghost use Rattle.dg_observer.specs.Watched.{gifts_watched_after};
 
     type State = u64;
 
     ghost begins = { λ n. n ≡ 0 };
 
-    ghost goes_on = { λ n e m. m ≡ gifts_after_entry n e };
+    ghost goes_on = { λ n e m. m ≡ gifts_watched_after n e };
 }
 
 // The first seat lends at a, and tells the second, which gives b a dollar. An observer reads both entries.

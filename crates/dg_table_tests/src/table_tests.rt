@@ -49,7 +49,7 @@ pub(crate) enum TableTest {
     SettlesNothing,
     SettlesDebts,
     // A session, and two at once.
-    Serves,
+    RunServes,
     Meet,
 }
 
@@ -70,7 +70,7 @@ static TESTS: [([i64; 3], u32, u8, TableTest); 17] = [
     ([2, -1, -1], 3, 1, TableTest::Plays),
     ([0, 0, 0], 5, 1, TableTest::SettlesNothing),
     ([-1, 1, 0], 5, 1, TableTest::SettlesDebts),
-    ([2, -1, -1], 5, 1, TableTest::Serves),
+    ([2, -1, -1], 5, 1, TableTest::RunServes),
     ([2, -1, -1], 2, 2, TableTest::Meet),
 ];
 
@@ -154,7 +154,7 @@ fn shown_to_one<N: Name, R: Threads + Wait + Abort>(
         TableTest::Plays => plays(rt, alloc, table, seat),
         TableTest::SettlesNothing => settles_nothing(rt, alloc, table, seat),
         TableTest::SettlesDebts => settles_debts(rt, alloc, table, seat),
-        TableTest::Serves => serves(rt, alloc, table, seat),
+        TableTest::RunServes => serves(rt, alloc, table, seat),
         TableTest::AsksTooMuch => asks_too_much(rt, alloc, table, seat),
         _ => Err(Fail::from("a test for more seats")),
     }

@@ -8,9 +8,9 @@
 --   asked_alike       histories whose requests are the same at each place ask for the same
 --   kept_once         a seat keeps one look
 --   asked_once        so a step makes one request
---   rehearsals_have_one_text   histories of the same steps have one text
+--   rehearsal_tasks_have_one_text   histories of the same steps have one text
 --   greedy_has_one_text   what is printed of a greedy game
-use Rattle.dg_tasks.proofs.Common.{◌≡◌, ℕ, zero, suc, ◌+◌, ◌<◌, ◌≤◌, Bool, List, [], ◌∷◌, ◌++◌, length, take, slice_get, Some, arith, refl, sym, ap, subst, ◌∙◌, append_assoc, ⊎_elim, codes, decimal, slice_get_within, cases_lt, StartData, IsStart, position_after, gifts_in, gifts_by_reply, IsLegal, Position, Replies, RepliesAt, after_reply, Entry, Request, Reply, Command, Call, Commit, Step, graphs_hold, legal_part, right_here, one_more_entry, vertices_stay, IsKept, IsAskedInSchedule, IsEntryOfSchedule, greedy_game_is_one, entry_text, turns_text, requests_in_task, LegalAnswersAreOneText, RehearsalsHaveOneText, GreedyHasOneText}
+use Rattle.dg_tasks.proofs.Common.{◌≡◌, ℕ, zero, suc, ◌+◌, ◌<◌, ◌≤◌, Bool, List, [], ◌∷◌, ◌++◌, length, take, slice_get, Some, arith, refl, sym, ap, subst, ◌∙◌, append_assoc, ⊎_elim, codes, decimal, slice_get_within, cases_lt, StartData, IsStart, position_after, gifts_in, gifts_by_reply, IsLegal, Position, Replies, RepliesAt, after_reply, Entry, Request, Reply, Command, Call, Commit, Step, graphs_hold, legal_part, right_here, one_more_entry, vertices_stay, IsKeptInSchedule, IsAskedInSchedule, IsEntryOfSchedule, greedy_game_is_one, entry_text, greedy_turns_text, requests_in_task, TaskAnswersAreOneText, RehearsalsHaveOneText, GreedyHasOneText}
 use Rattle.dg_rules.specs.declared.entry.Request.TheVariants as request
 use Rattle.dg_rules.specs.declared.step.Command.TheVariants.{Rank}
 use Rattle.dg_lines.specs.Texts.{history_text}
@@ -98,7 +98,7 @@ module _ (o : StartData) (start : IsStart o) (names : List (List ℕ)) (fit : le
           counts_more K d ∙ ap (λ (ns : List ℕ). ns ++ gifts_by_reply d.reply ∷ []) counted
           ∙ ap (λ (i : ℕ). counts L ++ i ∷ []) alike.counted ∙ sym (counts_more L e)
 
-pub legal_have_one_text : LegalAnswersAreOneText
+pub legal_have_one_text : TaskAnswersAreOneText
 legal_have_one_text o names H K start fit legal legal' asks =
     seen_on o start names fit [] [] H K 0 refl refl legal legal' asks
 
@@ -114,10 +114,10 @@ asked_alike (d ∷ H) (e ∷ K) count same =
     (asked_alike H K (omega (arith, count)) (λ i x y here there. same (suc i) x y here there))
 
 -- of two looks that a seat would keep, none is the earlier
-not_earlier : (steps : List Step) (seat j i k : ℕ) → IsKept steps seat j i → IsKept steps seat j k → i < k → ⊥
+not_earlier : (steps : List Step) (seat j i k : ℕ) → IsKeptInSchedule steps seat j i → IsKeptInSchedule steps seat j k → i < k → ⊥
 not_earlier steps seat j i k first second earlier = first.last k _ earlier second.before second.look refl tt
 
-kept_once : (steps : List Step) (seat j i k : ℕ) → IsKept steps seat j i → IsKept steps seat j k → i ≡ k
+kept_once : (steps : List Step) (seat j i k : ℕ) → IsKeptInSchedule steps seat j i → IsKeptInSchedule steps seat j k → i ≡ k
 kept_once steps seat j i k first second = ⊎_elim
     (λ (earlier : i < k). absurd (not_earlier steps seat j i k first second earlier))
     (λ (least : k ≤ i). ⊎_elim
@@ -139,8 +139,8 @@ step_at [] i inside = absurd (omega (arith, inside))
 step_at (step ∷ steps) zero inside = (step, refl)
 step_at (step ∷ steps) (suc i) inside = step_at steps i (omega (arith, inside))
 
-pub rehearsals_have_one_text : RehearsalsHaveOneText
-rehearsals_have_one_text o names steps H K start fit first second =
+pub rehearsal_tasks_have_one_text : RehearsalsHaveOneText
+rehearsal_tasks_have_one_text o names steps H K start fit first second =
     legal_have_one_text o names H K start fit first.legal second.legal
     (asked_alike H K (first.length' ∙ sym second.length') (λ i d e here there.
     let inside : i < length steps = omega (arith, slice_get_within H i d here, first.length') in
@@ -153,5 +153,5 @@ pub greedy_has_one_text : GreedyHasOneText
 greedy_has_one_text o names n text other start fit first second =
     let (same, ended) = greedy_game_is_one o n first.history second.history first.settled second.settled first.game
     second.game in
-    first.printed ∙ ap (λ (H : List Entry). history_text names 0 H ++ turns_text first.settled) same
-    ∙ ap (λ (b : Bool). history_text names 0 second.history ++ turns_text b) ended ∙ sym second.printed
+    first.printed ∙ ap (λ (H : List Entry). history_text names 0 H ++ greedy_turns_text first.settled) same
+    ∙ ap (λ (b : Bool). history_text names 0 second.history ++ greedy_turns_text b) ended ∙ sym second.printed

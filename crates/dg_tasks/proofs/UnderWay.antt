@@ -15,7 +15,7 @@
 --   all_played       after the last line the text is that of the history
 --   first_fault      after the last line the fault is the first one of the steps
 --   never_unseated   a step that a line spells has a seat
-use Rattle.dg_tasks.proofs.Common.{◌≡◌, ℕ, ◌+◌, ◌<◌, ◌≤◌, ◌==◌, cond, true, false, List, [], ◌∷◌, ◌++◌, length, slice_get, Option, Some, None, arith, refl, sym, ap, subst, ◌∙◌, append_assoc, append-nil, length-append, is_none, StartData, IsPlayingSchedule, PlaysOn, StopsPlay, IsFirstRehearsalFault, Entry, MAX_ENTRIES, Rehearsal, RehearseFault, Seat, Step, slice_get-seam, onto_first, IsStepLine, entry_text, history_more, AreRead, none_read, one_more, all_read, steps_seated, IsPrintedInTask, IsPlayedInTask, StopsRehearsalTask, IsTaskFaultOfSteps}
+use Rattle.dg_tasks.proofs.Common.{◌≡◌, ℕ, ◌+◌, ◌<◌, ◌≤◌, ◌==◌, cond, true, false, List, [], ◌∷◌, ◌++◌, length, slice_get, Option, Some, None, arith, refl, sym, ap, subst, ◌∙◌, append_assoc, append-nil, length-append, is_none, StartData, IsPlayingSchedule, PlaysScheduleOn, StopsSchedule, IsFirstRehearsalFault, Entry, MAX_ENTRIES, Rehearsal, RehearseFault, Seat, Step, slice_get-seam, onto_first_piece, IsStepLine, entry_text, history_more, AreRead, none_read, one_more, all_read, steps_seated, IsPrintedInTask, IsPlayedInTask, StopsRehearsalTask, IsTaskFaultOfSteps}
 use Rattle.dg_lines.specs.Cuts.{lines}
 use Rattle.dg_lines.specs.Texts.{history_text}
 
@@ -51,7 +51,7 @@ played_none o names r text playing empty = record {
 
 pub played_more : (o : StartData) (names : List (List ℕ)) (steps : List Step) (step : Step) (e : Entry) (r t : Rehearsal)
     (text longer : List ℕ) (number : ℕ)
-    → PlaysOn r step e t → r.game.entries < MAX_ENTRIES → number ≡ r.game.entries
+    → PlaysScheduleOn r step e t → r.game.entries < MAX_ENTRIES → number ≡ r.game.entries
     → longer ≡ text ++ entry_text names number e.reply
     → IsPlayedInTask o names steps r text → IsPlayedInTask o names (steps ++ step ∷ []) t longer
 played_more o names steps step e r t text longer number plays room counted written known =
@@ -76,7 +76,7 @@ played_more o names steps step e r t text longer number plays room counted writt
 
 pub stopped_at : (o : StartData) (names : List (List ℕ)) (steps : List Step) (step : Step) (r : Rehearsal) (text : List ℕ)
     (fault : RehearseFault)
-    → StopsPlay r step fault → IsPlayedInTask o names steps r text → StopsRehearsalTask o (steps ++ step ∷ []) fault
+    → StopsSchedule r step fault → IsPlayedInTask o names steps r text → StopsRehearsalTask o (steps ++ step ∷ []) fault
 stopped_at o names steps step r text fault stops known more =
     subst (λ (all : List Step). IsFirstRehearsalFault o.graph.size all fault) (sym (together steps more step))
     (stops.1 o known.history (steps ++ step ∷ more) (known.playing (step ∷ more))
@@ -89,7 +89,7 @@ stays_stopped o steps step fault stopped more =
     subst (λ (all : List Step). IsFirstRehearsalFault o.graph.size all fault) (sym (together steps more step))
     (stopped (step ∷ more))
 
-onto_first_few : (x n : ℕ) (rest : List (List ℕ)) → length rest ≤ n → length (onto_first x rest) ≤ n + 1
+onto_first_few : (x n : ℕ) (rest : List (List ℕ)) → length rest ≤ n → length (onto_first_piece x rest) ≤ n + 1
 onto_first_few x n [] few = omega arith
 onto_first_few x n (first ∷ rest) few = omega arith
 
@@ -98,7 +98,7 @@ unfolding lines
 lines_few [] = omega arith
 lines_few (x ∷ xs) =
     let few : length (lines xs) ≤ length xs = lines_few xs in
-    elim (x == 10) as (λ t. length (cond t ([] ∷ lines xs) (onto_first x (lines xs))) ≤ length (x ∷ xs))
+    elim (x == 10) as (λ t. length (cond t ([] ∷ lines xs) (onto_first_piece x (lines xs))) ≤ length (x ∷ xs))
     [ true ↦ omega arith | false ↦ omega (arith, onto_first_few x (length xs) (lines xs) few) ]
 
 pub under_way_none : (o : StartData) (names : List (List ℕ)) (bytes left : List ℕ) (r : Rehearsal) (text : List ℕ)

@@ -2,7 +2,7 @@
 pub use Rattle.dg_chips.specs.Dual.{IsDualFault}
 pub use Rattle.dg_chips.specs.Starts.{IsStart, StartData}
 pub use Rattle.dg_chips.specs.Vector.{IsInRange, at}
-pub use Rattle.dg_file.specs.FileFaults.{RefusesFile}
+pub use Rattle.dg_file.specs.FileFaults.{RefusesTableFile}
 pub use Rattle.dg_file.specs.TableFiles.{IsTableFile}
 pub use Rattle.dg_file.specs.declared.fault.FileFault.{FileFault}
 pub use Rattle.dg_rules.specs.Legal.{IsLegal}
@@ -16,7 +16,7 @@ pub use Rattle.dg_invocation.specs.declared.invocation.Task.{Task}
 pub use Rattle.dg_invocation.specs.declared.invocation.Task.TheVariants.{Greedy, Judge, Rehearse, RiemannRoch}
 pub use Rattle.dg_lines.specs.Cuts.{lines}
 pub use Rattle.dg_lines.specs.Judgements.{IsJudgementText}
-pub use Rattle.dg_lines.specs.Schedules.{AreStepsOf, IsFirstRefusedLine}
+pub use Rattle.dg_lines.specs.Schedules.{AreStepsOf, IsFirstRefusedStepLine}
 pub use Rattle.dg_lines.specs.Texts.{history_text, text_of}
 pub use Rattle.dg_rank.specs.Limits.{ArePastTrialLimits}
 pub use Rattle.dg_rank.specs.Ranks.{RefusesBothRanks, IsRankInLimits, IsRankTestWithinLimits}

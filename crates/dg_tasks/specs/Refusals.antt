@@ -7,7 +7,7 @@
 --                                             the limits; of want of memory nothing is said, and no other
 --                                             fault comes
 use Rattle.std.specs.Prelude.{ℕ, List, ⊤}
-use Rattle.dg_tasks.specs.Common.{IsFirstRehearsalFault, RehearseFault, Step, AreStepsOf, IsFirstRefusedLine, OutOfMemory}
+use Rattle.dg_tasks.specs.Common.{IsFirstRehearsalFault, RehearseFault, Step, AreStepsOf, IsFirstRefusedStepLine, OutOfMemory}
 use Rattle.dg_game.specs.declared.schedule.RehearseFault.TheVariants as schedule
 use Rattle.dg_tasks.specs.declared.fault.TaskFault.{TaskFault}
 use Rattle.dg_tasks.specs.declared.fault.TaskFault.TheVariants.{Line, Full, NoLook, StepTrials, Shortage}
@@ -17,7 +17,7 @@ IsTaskFaultOfSteps n names lines fault =
     (steps : List Step) × AreStepsOf names steps lines × IsFirstRehearsalFault n steps fault
 
 abbrev pub RefusesSchedule : ℕ → List (List ℕ) → List (List ℕ) → TaskFault → Type 0
-RefusesSchedule n names lines (Line line fault) = IsFirstRefusedLine names lines line fault
+RefusesSchedule n names lines (Line line fault) = IsFirstRefusedStepLine names lines line fault
 RefusesSchedule n names lines (Full i) = IsTaskFaultOfSteps n names lines (schedule.Full i)
 RefusesSchedule n names lines (NoLook i) = IsTaskFaultOfSteps n names lines (schedule.NoLook i)
 RefusesSchedule n names lines (StepTrials i) = IsTaskFaultOfSteps n names lines (schedule.TooMany i)

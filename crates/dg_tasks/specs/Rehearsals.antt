@@ -6,7 +6,7 @@
 --                                          them
 --   StopsRehearsalTask o steps fault    == the fault is the first of these steps, whatever steps follow
 --   TaskMayGoOn names r text            == so some steps from some start have come to this
---   Played                              == what steps have come to, and the text of their history
+--   PlayedInTask                        == what steps have come to, and the text of their history
 --   played r text                       == that of these
 --   GoesOn names step old new result    == of all such steps, with this one they come to the new; or the
 --                                          fault is the first of them with this one
@@ -36,14 +36,14 @@ abbrev pub TaskMayGoOn : List (List ℕ) → Rehearsal → List ℕ → Type 0
 TaskMayGoOn names r text =
     (o : StartData) × (steps : List Step) × (length names ≡ o.graph.size) × IsPlayedInTask o names steps r text
 
-pub record Played : Type 0 where
+pub record PlayedInTask : Type 0 where
   pub rehearsal : Rehearsal
   pub text : List ℕ
 
-abbrev pub played : Rehearsal → List ℕ → Played
+abbrev pub played : Rehearsal → List ℕ → PlayedInTask
 played r text = record { rehearsal = r; text = text }
 
-abbrev pub GoesOn : {B : Type 0} → List (List ℕ) → Step → Played → Played
+abbrev pub GoesOn : {B : Type 0} → List (List ℕ) → Step → PlayedInTask → PlayedInTask
     → Result B RehearseFault → Type 0
 GoesOn names step old new result = MatchResult result
     (λ _. (o : StartData) (steps : List Step) → IsPlayedInTask o names steps old.rehearsal old.text →

@@ -1,7 +1,7 @@
 //! Greedy games that are played and printed turn by turn: the history is not kept.
 ghost use Rattle.std.specs.Prelude.{◌≤◌, IfOk, IfErr};
 ghost use Rattle.dg_rules.specs.declared.game.TheConstants.{MAX_ENTRIES};
-ghost use Rattle.dg_tasks.specs.Games.{IsGreedyAnswer, RefusesTurns};
+ghost use Rattle.dg_tasks.specs.Games.{IsGreedyAnswer, RefusesGreedyTask};
 
 use crate::fault::TaskFault;
 use dg_file::TableFile;
@@ -22,7 +22,7 @@ pub fn greedy_history(alloc: Global, table: &TableFile, turns: u32) -> Result<Ve
     requires { turns ≤ MAX_ENTRIES }
     ensures printed { IfOk result
         (λ text. IsGreedyAnswer table.now.start turns table.now.names text.items) }
-    ensures refused { IfErr result RefusesTurns }
+    ensures refused { IfErr result RefusesGreedyTask }
 {
     match greedy_lines(alloc, table, turns) {
         Ok(text) => Ok(text),

@@ -11,9 +11,9 @@ mod table_source;
 mod tasks;
 
 pub use fault::TaskFault;
-pub use laws::rehearsals_have_one_text;
+pub use laws::rehearsal_tasks_have_one_text;
 pub use printed::judgement;
-pub use ranks::{rank_alone, rank_answer, riemann_roch};
+pub use ranks::{rank_answer, rank_task_alone, riemann_roch};
 pub use rehearsing::rehearsal;
 pub use table_source::table_of_task;
 pub use tasks::{answer, answer_task_alone};

@@ -1,7 +1,7 @@
 //! Tables that are judged, and replies that are printed.
 ghost use Rattle.std.specs.Prelude.{IfOk, IfErr, ◌≡◌, ◌++◌, codes};
 ghost use Rattle.dg_lines.specs.Judgements.{IsJudgementText, judgement_text};
-ghost use Rattle.dg_lines.specs.Texts.{HasNames, text_of};
+ghost use Rattle.dg_lines.specs.Texts.{TextHasNames, text_of};
 
 use crate::fault::TaskFault;
 use dg_file::TableFile;
@@ -31,12 +31,12 @@ pub fn judgement(alloc: Global, table: &TableFile, ordered: bool) -> Result<Vec<
 }
 
 /// The text of a reply, and a newline.
-pub(crate) fn reply_of_task(
+pub(crate) fn reply_line_of_task(
     alloc: Global,
     reply: &Reply,
     names: &Names,
 ) -> Result<Vec<u8>, AllocError>
-    requires { HasNames names.now reply.now }
+    requires { TextHasNames names.now reply.now }
     ensures { IfOk result (λ line. line.items ≡ text_of names.now reply.now ++ codes "\n") }
 {
     let mut line = reply_text(alloc, reply, names)?;

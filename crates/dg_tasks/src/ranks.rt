@@ -1,12 +1,12 @@
 //! Rank tests that are printed, and both sides of Riemann-Roch.
 ghost use Rattle.std.specs.Prelude.{◌≡◌, ℤ, ◌++◌, codes, IfOk, IfErr, OnOk};
 ghost use Rattle.dg_rank.specs.Ranks.{MayHaveRankWorkers};
-ghost use Rattle.dg_lines.specs.Texts.{HasNames, text_of};
+ghost use Rattle.dg_lines.specs.Texts.{TextHasNames, text_of};
 ghost use Rattle.dg_rules.specs.declared.entry.Reply.TheVariants.{Rank};
-ghost use Rattle.dg_tasks.specs.RankTests.{IsRankAnswer, RefusesRank, task_answer_line, riemann_roch_text, IsRiemannRoch, RefusesRiemannRoch};
+ghost use Rattle.dg_tasks.specs.RankTests.{IsRankTaskAnswer, RefusesRankTask, task_answer_line, riemann_roch_text, IsRiemannRochTask, RefusesRiemannRoch};
 
 use crate::fault::TaskFault;
-use crate::printed::reply_of_task;
+use crate::printed::reply_line_of_task;
 use dg_chips::{Start, dual};
 use dg_file::TableFile;
 use dg_rank::{OpenGate, RankFault, RankVerdict, both_ranks_in_limits, rank_at_least, rank_with};
@@ -32,11 +32,11 @@ pub fn rank_answer<R: Threads + Wait>(
 ) -> Result<Vec<u8>, TaskFault>
     requires { MayHaveRankWorkers workers }
     ensures ranked { IfOk result
-        (λ text. IsRankAnswer table.now.start k table.now.names text.items) }
-    ensures refused { IfErr result (RefusesRank table.now.start.graph.size k workers) }
+        (λ text. IsRankTaskAnswer table.now.start k table.now.names text.items) }
+    ensures refused { IfErr result (RefusesRankTask table.now.start.graph.size k workers) }
 {
     if workers == 1 {
-        return rank_alone(alloc, table, k);
+        return rank_task_alone(alloc, table, k);
     }
     let start = table.start();
     let (graph, q, divisor) = (start.graph(), start.q(), start.divisor());
@@ -50,10 +50,10 @@ pub fn rank_answer<R: Threads + Wait>(
 }
 
 /// The same by the thread that calls alone: it is refused with `TooMany`, and with `Shortage` at the growth that was refused.
-pub fn rank_alone(alloc: Global, table: &TableFile, k: u32) -> Result<Vec<u8>, TaskFault>
+pub fn rank_task_alone(alloc: Global, table: &TableFile, k: u32) -> Result<Vec<u8>, TaskFault>
     ensures ranked { IfOk result
-        (λ text. IsRankAnswer table.now.start k table.now.names text.items) }
-    ensures refused { IfErr result (RefusesRank table.now.start.graph.size k 1) }
+        (λ text. IsRankTaskAnswer table.now.start k table.now.names text.items) }
+    ensures refused { IfErr result (RefusesRankTask table.now.start.graph.size k 1) }
 {
     let start = table.start();
     let (graph, q, divisor) = (start.graph(), start.q(), start.divisor());
@@ -65,12 +65,12 @@ pub fn rank_alone(alloc: Global, table: &TableFile, k: u32) -> Result<Vec<u8>, T
 
 /// The line of a rank verdict.
 fn rank_task_line(alloc: Global, verdict: RankVerdict, names: &Names) -> Result<Vec<u8>, TaskFault>
-    requires { HasNames names.now (Rank verdict) }
+    requires { TextHasNames names.now (Rank verdict) }
     ensures printed { IfOk result
         (λ text. text.items ≡ text_of names.now (Rank verdict) ++ codes "\n") }
     ensures refused { IfErr result (λ fault. fault ≡ TaskFault.Shortage Shortage.OutOfMemory) }
 {
-    match reply_of_task(alloc, &Reply::Rank(verdict), names) {
+    match reply_line_of_task(alloc, &Reply::Rank(verdict), names) {
         Ok(text) => Ok(text),
         Err(_) => Err(TaskFault::Shortage(Shortage::OutOfMemory)),
     }
@@ -82,7 +82,7 @@ fn rank_task_line(alloc: Global, verdict: RankVerdict, names: &Names) -> Result<
 /// Refused with `Chip` if the canonical divisor less these amounts is out of range, then with `TooMany` if one of
 /// the two ranks needs a test past the limits. `Shortage` comes at the growth that was refused.
 pub fn riemann_roch(alloc: Global, table: &TableFile) -> Result<Vec<u8>, TaskFault>
-    ensures told { IfOk result (λ text. IsRiemannRoch table.now.start text.items) }
+    ensures told { IfOk result (λ text. IsRiemannRochTask table.now.start text.items) }
     ensures refused { IfErr result (RefusesRiemannRoch table.now.start) }
 {
     let start = table.start();

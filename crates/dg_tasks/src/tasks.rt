@@ -1,11 +1,11 @@
 //! Tasks, done on the tables that they name.
 ghost use Rattle.std.specs.Prelude.{IfOk, IfErr, ◌≢◌};
-ghost use Rattle.dg_tasks.specs.Tasks.{IsAnswer, AnswersTask, RefusesOn, RefusesTask};
+ghost use Rattle.dg_tasks.specs.Tasks.{IsAnswer, AnswersTask, RefusesTaskOn, RefusesTask};
 
 use crate::fault::TaskFault;
 use crate::games::greedy_history;
 use crate::printed::judgement;
-use crate::ranks::{rank_alone, rank_answer, riemann_roch};
+use crate::ranks::{rank_answer, rank_task_alone, riemann_roch};
 use crate::rehearsing::rehearsal;
 use crate::table_source::table_of_task;
 use dg_file::TableFile;
@@ -54,11 +54,11 @@ where
         Ok(table) => table,
         Err(fault) => return Err(fault),
     };
-    answer_on(rt, &table, task, sources)
+    answer_task_on(rt, &table, task, sources)
 }
 
 /// The answer to a task on its table.
-fn answer_on<R, S>(
+fn answer_task_on<R, S>(
     rt: &R,
     table: &TableFile,
     task: &Task<'_>,
@@ -70,7 +70,7 @@ where
     ensures done { IfOk result (λ text.
         AnswersTask (S.held sources.now) table.now.start table.now.names task.now text.items) }
     ensures refused { IfErr result
-        (RefusesOn (S.held sources.now) table.now.start table.now.names task.now) }
+        (RefusesTaskOn (S.held sources.now) table.now.start table.now.names task.now) }
     ensures alone { IfErr result (λ fault. fault ≢ TaskFault.Shortage Shortage.Spawn) }
 {
     match task {
@@ -82,7 +82,7 @@ where
             rehearsal(rt.alloc(), table, steps.as_slice())
         }
         Task::Judge { file: _, ordered } => judgement(rt.alloc(), table, *ordered),
-        Task::Rank(test) => rank_alone(rt.alloc(), table, test.degree),
+        Task::Rank(test) => rank_task_alone(rt.alloc(), table, test.degree),
         Task::RiemannRoch { file: _ } => riemann_roch(rt.alloc(), table),
         Task::Greedy(play) => greedy_history(rt.alloc(), table, play.turns),
     }

@@ -6,32 +6,33 @@
 --   played-cong     divisors that agree do so after a list of plays
 --   winnable-cong   divisors that agree are winnable together
 --   reduced-cong    divisors that agree are reduced together
-use Rattle.dg_theory.proofs.Common.{ℕ, List, [], ◌∷◌, arith, sym, ◌∙◌, ints, Multigraph, Amounts, IsEffective, AgreeOn, fired, Play, script_of_play, played, IsWinnable, IsReduced, less}
+use Rattle.dg_theory.proofs.Common.{ℕ, List, [], ◌∷◌, arith, sym, ◌∙◌, ints, Multigraph, Amounts, IsEffective, DivisorsAgreeOn, fired, Play, script_of_play, played, IsWinnable, IsReduced, less}
 
-pub agree-sym : (n : ℕ) (D E : Amounts) → AgreeOn n D E → AgreeOn n E D
+pub agree-sym : (n : ℕ) (D E : Amounts) → DivisorsAgreeOn n D E → DivisorsAgreeOn n E D
 agree-sym n D E same v below = sym (same v below)
 
-pub agree-trans : (n : ℕ) (D E F : Amounts) → AgreeOn n D E → AgreeOn n E F → AgreeOn n D F
+pub agree-trans : (n : ℕ) (D E F : Amounts) → DivisorsAgreeOn n D E → DivisorsAgreeOn n E F → DivisorsAgreeOn n D F
 agree-trans n D E F same next v below = same v below ∙ next v below
 
-pub effective-cong : (n : ℕ) (D E : Amounts) → AgreeOn n D E → IsEffective n D → IsEffective n E
+pub effective-cong : (n : ℕ) (D E : Amounts) → DivisorsAgreeOn n D E → IsEffective n D → IsEffective n E
 effective-cong n D E same effective v below = omega (arith, ints, same v below, effective v below)
 
-pub fired-here : (g : Multigraph) (D E s : Amounts) → AgreeOn g.size D E → AgreeOn g.size (fired g D s) (fired g E s)
+pub fired-here : (g : Multigraph) (D E s : Amounts) → DivisorsAgreeOn g.size D E
+    → DivisorsAgreeOn g.size (fired g D s) (fired g E s)
 fired-here g D E s same v below = omega (arith, ints, same v below)
 
-pub played-cong : (g : Multigraph) (D E : Amounts) (l : List Play) → AgreeOn g.size D E →
-    AgreeOn g.size (played g D l) (played g E l)
+pub played-cong : (g : Multigraph) (D E : Amounts) (l : List Play) → DivisorsAgreeOn g.size D E →
+    DivisorsAgreeOn g.size (played g D l) (played g E l)
 played-cong g D E [] same = same
 played-cong g D E (p ∷ l) same =
     played-cong g (fired g D (script_of_play p)) (fired g E (script_of_play p)) l
     (fired-here g D E (script_of_play p) same)
 
-pub winnable-cong : (g : Multigraph) (D E : Amounts) → AgreeOn g.size D E → IsWinnable g D → IsWinnable g E
+pub winnable-cong : (g : Multigraph) (D E : Amounts) → DivisorsAgreeOn g.size D E → IsWinnable g D → IsWinnable g E
 winnable-cong g D E same (l, effective) =
     (l, effective-cong g.size (played g D l) (played g E l) (played-cong g D E l same) effective)
 
-pub reduced-cong : (g : Multigraph) (q : ℕ) (D E : Amounts) → AgreeOn g.size D E → IsReduced g q D → IsReduced g q E
+pub reduced-cong : (g : Multigraph) (q : ℕ) (D E : Amounts) → DivisorsAgreeOn g.size D E → IsReduced g q D → IsReduced g q E
 reduced-cong g q D E same reduced = record {
   no_debt = λ v below other. omega (arith, ints, same v below, reduced.no_debt v below other);
   none_fires = λ S without u below member.

@@ -1,17 +1,17 @@
 -- The names that the proofs of this crate cite, passed on from one place. Declares nothing.
 pub use Rattle.dg_theory.specs.Burning.{BurnsInOrder, FiresFreely, MayBurn, among, edges_into}
 pub use Rattle.dg_theory.specs.BurningLaws.{BurnsToReduced, BurntIsReduced, GreatestIsOne, UnburntFires, unburnt_by}
-pub use Rattle.dg_theory.specs.Determining.{Bears, HangsLoosely, IsConnectedSet, IsNoneOff, MeetsSpecialSets, beside, edges_within}
+pub use Rattle.dg_theory.specs.Determining.{BearsLosses, HangsLoosely, IsConnectedSet, IsNothingLostOff, MeetsSpecialSets, beside, edges_within}
 pub use Rattle.dg_theory.specs.DeterminingLaws.{ConnectedGrows, DeterminesLosses, DeterminesRank, SpecialIsReduced}
 pub use Rattle.dg_theory.specs.Distances.{IsDistance}
 pub use Rattle.dg_theory.specs.DualityLaws.{Clifford, DualTests, HalfOfDegree, HighRank, LossOfDual, RankExists, RankOfDual, RankOfSum, RankOnce, RiemannRoch}
 pub use Rattle.dg_theory.specs.EquivalenceLaws.{EquivalenceIsReflexive, EquivalenceIsSymmetric, EquivalenceIsTransitive, EquivalentByPlays, EquivalentDegrees}
 pub use Rattle.dg_theory.specs.ExistenceLaws.{ReducedExists, RichIsWinnable}
-pub use Rattle.dg_theory.specs.Firing.{AgreeOn, Amounts, AreEquivalent, FiresTo, HasNoDebtOff, IsEffective, degree, fired, gain, indicator, multiple, only_at}
+pub use Rattle.dg_theory.specs.Firing.{DivisorsAgreeOn, Amounts, AreEquivalent, FiresTo, HasNoDebtOff, IsEffective, degree, fired, gain, indicator, multiple, only_at}
 pub use Rattle.dg_theory.specs.FiringLaws.{ConstantScriptsDoNothing, FiringAddsUp, FiringKeepsDegree, SameByConstant}
-pub use Rattle.dg_theory.specs.JoinLaws.{EdgeIsAdded, JoinedIsMultigraph, EdgeKeepsSize, ValenceGrows}
+pub use Rattle.dg_theory.specs.JoinLaws.{JoinAddsEdge, JoinedIsMultigraph, EdgeKeepsSize, ValenceGrows}
 pub use Rattle.dg_theory.specs.Joins.{at_either, edge_entry_more, on_pair, one_edge_more}
-pub use Rattle.dg_theory.specs.Multigraph.{IsMultigraph, JoinedIn, Multigraph, along, edge_count, edges_between, genus, here, valence}
+pub use Rattle.dg_theory.specs.Multigraph.{IsMultigraph, JoinedInMultigraph, Multigraph, along, edge_count, edges_between, genus, here, valence}
 pub use Rattle.dg_theory.specs.Play.{IsWinnable, Play, lend, played, script_of_play}
 pub use Rattle.dg_theory.specs.Rank.{HasRankAtLeast, IsDivisorBefore, IsFirstLoss, IsRank, canonical, less}
 pub use Rattle.dg_theory.specs.RankLaws.{EquivalentLoss, EquivalentRank, LossBoundsRank, LossOnce, PoorRank, RankBelow, RankZero, RichRank}

@@ -4,7 +4,7 @@
 --   same_by_constant two scripts give the same amounts exactly where they differ by a constant
 use Rattle.dg_theory.proofs.Common.{◌≡◌, ℕ, zero, suc, ◌<◌, arith, refl, ◌∙◌, ints, ℤ, pos, ◌+ℤ◌, ◌-ℤ◌, ◌*ℤ◌, ◌≤ℤ◌, Multigraph, IsMultigraph, edges_between, Amounts, gain, fired, SameByConstant}
 use Rattle.dg_theory.proofs.SumBounds.{mul-nonpos, mul-cancel, sum_below-le_term}
-use Rattle.dg_theory.proofs.Chains.{JoinedIn-stays}
+use Rattle.dg_theory.proofs.Chains.{JoinedInMultigraph-stays}
 use Rattle.dg_theory.proofs.Largest.{largest, IsLargest}
 use Rattle.dg_theory.proofs.Scripts.{difference, fired-difference, fired-shifted}
 
@@ -30,7 +30,7 @@ changes_nothing g k graph some nothing =
     let next : k b ≡ k a = level_next g k a b
     (λ w inside. let at : k w ≤ℤ k u = top w inside in omega (arith, ints)) (nothing a level.1) below edge in
     (next ∙ same, below) in
-    (k u, λ v inside. (JoinedIn-stays Level closed (refl, vertex) (graph.connected u v vertex inside)).0)
+    (k u, λ v inside. (JoinedInMultigraph-stays Level closed (refl, vertex) (graph.connected u v vertex inside)).0)
 
 difference_nothing : (g : Multigraph) (D s t : Amounts) → ((v : ℕ) → v < g.size → fired g D s v ≡ fired g D t v) →
     (v : ℕ) → v < g.size → gain g (difference s t) v ≡ pos 0

@@ -2,7 +2,7 @@
 --   bears_each         if a dollar can be lost at each vertex of A, it can be lost at each vertex of U
 --   determines_losses  if k dollars can be lost within A, they can be lost within U
 --   determines_rank    and with all vertices for U the rank is at least k
-use Rattle.dg_theory.proofs.Common.{◌≡◌, ◌≢◌, ℕ, zero, suc, ◌+◌, ◌<◌, ◌⊎◌, inl, inr, ⊎_elim, Bool, true, false, arith, refl, ap, ◌∙◌, cases_eq, both_ways, false_from_ne_true, true_from_ne_false, ints, pos, ◌+ℤ◌, Multigraph, IsMultigraph, Amounts, degree, fired, only_at, IsEffective, IsWinnable, less, Bears, MeetsSpecialSets, IsNoneOff, DeterminesLosses, DeterminesRank}
+use Rattle.dg_theory.proofs.Common.{◌≡◌, ◌≢◌, ℕ, zero, suc, ◌+◌, ◌<◌, ◌⊎◌, inl, inr, ⊎_elim, Bool, true, false, arith, refl, ap, ◌∙◌, cases_eq, both_ways, false_from_ne_true, true_from_ne_false, ints, pos, ◌+ℤ◌, Multigraph, IsMultigraph, Amounts, degree, fired, only_at, IsEffective, IsWinnable, less, BearsLosses, MeetsSpecialSets, IsNothingLostOff, DeterminesLosses, DeterminesRank}
 use Rattle.dg_theory.proofs.SumLaws.{sum_below-add}
 use Rattle.dg_theory.proofs.Agreement.{winnable-cong}
 use Rattle.dg_theory.proofs.Equivalence.{equivalent-fired}
@@ -71,7 +71,7 @@ bears_each g A U D graph meets bears s vertex in_U =
 
 -- D after a dollar was lost at a vertex of A
 bears_less : (g : Multigraph) (A : ℕ → Bool) (D : Amounts) (k a : ℕ) → a < g.size → A a ≡ true →
-    Bears g A D (k + 1) → Bears g A (lost a D) k
+    BearsLosses g A D (k + 1) → BearsLosses g A (lost a D) k
 bears_less g A D k a inside member bears E effective of_degree off =
     let dollar : Amounts = only_at a (pos 1) in
     let more : Amounts = λ w. E w +ℤ dollar w in
@@ -97,7 +97,7 @@ determines_losses g A U graph meets D (suc k) bears E effective of_degree off =
     (cases_eq w v) in
     let rest_degree : degree g.size rest ≡ pos k =
     omega (arith, ints, degree-less g.size E (only_at v (pos 1)), degree-only_at g.size v (pos 1) inside) in
-    let rest_off : IsNoneOff g.size U rest = λ w below outside.
+    let rest_off : IsNothingLostOff g.size U rest = λ w below outside.
     let other : w ≢ v = λ here. both_ways _ outside (ap U here ∙ in_U) in
     omega (arith, ints, off w below outside, only_at-other v (pos 1) w other) in
     winnable-cong g (lost v (less D rest)) (less D E) (λ w below. omega (arith, ints))

@@ -9,10 +9,10 @@
 --   size_stays           the law of the size
 --   joined_is_multigraph the law of multigraphs
 --   valence_grows        the law of valences
-use Rattle.dg_theory.proofs.Common.{◌≡◌, ◌≢◌, ℕ, zero, suc, ◌+◌, ◌<◌, ◌≤◌, List, [], ◌∷◌, arith, refl, ap, ◌∙◌, inl, inr, slice_index, slice_index_or, cases_eq, nat_tests, total_below, JoinedIn, edges_between, one_edge_more, edge_entry_more, on_pair, at_either, EdgeIsAdded, JoinedIsMultigraph, ValenceGrows, EdgeKeepsSize}
+use Rattle.dg_theory.proofs.Common.{◌≡◌, ◌≢◌, ℕ, zero, suc, ◌+◌, ◌<◌, ◌≤◌, List, [], ◌∷◌, arith, refl, ap, ◌∙◌, inl, inr, slice_index, slice_index_or, cases_eq, nat_tests, total_below, JoinedInMultigraph, edges_between, one_edge_more, edge_entry_more, on_pair, at_either, JoinAddsEdge, JoinedIsMultigraph, ValenceGrows, EdgeKeepsSize}
 use Rattle.dg_theory.specs.Multigraph.{entry}
 use Rattle.dg_theory.specs.Joins.{with_edge}
-use Rattle.dg_theory.proofs.Chains.{JoinedIn-more}
+use Rattle.dg_theory.proofs.Chains.{JoinedInMultigraph-more}
 use Rattle.dg_theory.proofs.TotalLaws.{total_below-cong, total_below-differ_at}
 
 pub one_edge_more-same : (row : List ℕ) (v : ℕ) → slice_index (one_edge_more row v) v ≡ slice_index row v + 1
@@ -71,7 +71,7 @@ both_more : (before middle after : ℕ → ℕ → ℕ) (u v : ℕ) → u ≢ v 
     ((a b : ℕ) → a ≢ v → after a b ≡ middle a b) → (a b : ℕ) → after a b ≡ before a b + on_pair u v a b
 both_more before middle after u v different at row others back column rest a b = grind (arith, nat_tests)
 
-pub edge_is_added : EdgeIsAdded
+pub edge_is_added : JoinAddsEdge
 unfolding with_edge
 edge_is_added g u v different =
     let once : List (List ℕ) = edge_entry_more g.table u v in
@@ -104,9 +104,9 @@ joined_is_multigraph g u v graph first second different =
           let outside : g.size ≤ b = omega (arith, past, size_stays g u v) in
           omega (arith, added a b, graph.inside a b outside, none_past g.size u v a b first second outside);
       connected = λ a b a_below b_below.
-          let chain : JoinedIn g.size edges a b =
+          let chain : JoinedInMultigraph g.size edges a b =
           graph.connected a b (omega (arith, a_below, size_stays g u v)) (omega (arith, b_below, size_stays g u v)) in
-          rw (size_stays g u v) (JoinedIn-more (λ c d. omega (arith, added c d)) chain);
+          rw (size_stays g u v) (JoinedInMultigraph-more (λ c d. omega (arith, added c d)) chain);
     }
 
 total_more : (n : ℕ) (f h : ℕ → ℕ) (u v w : ℕ) → u < n → v < n → u ≢ v → ((b : ℕ) → f b ≡ h b + on_pair u v w b) →

@@ -10,7 +10,7 @@
 --   same_or_before  any two divisors are the same at n vertices, or one is before the other
 --   loss_once       there is at most one first loss
 --   loss_bounds_rank    where there is a first loss of degree k, the rank is not at least k
-use Rattle.dg_theory.proofs.Common.{◌≡◌, ℕ, zero, suc, ◌⊎◌, arith, sym, ap, inl, inr, ⊎_elim, cases_eq, ints, by_lt_z, ◌≤ℤ◌, ◌<ℤ◌, Multigraph, Amounts, AgreeOn, AreEquivalent, IsDivisorBefore, IsFirstLoss, EquivalentLoss, LossOnce, LossBoundsRank}
+use Rattle.dg_theory.proofs.Common.{◌≡◌, ℕ, zero, suc, ◌⊎◌, arith, sym, ap, inl, inr, ⊎_elim, cases_eq, ints, by_lt_z, ◌≤ℤ◌, ◌<ℤ◌, Multigraph, Amounts, DivisorsAgreeOn, AreEquivalent, IsDivisorBefore, IsFirstLoss, EquivalentLoss, LossOnce, LossBoundsRank}
 use Rattle.dg_theory.proofs.RankLaws.{less_winnable}
 use Rattle.dg_theory.proofs.Equivalence.{equivalent-sym}
 
@@ -37,7 +37,7 @@ before_in_more n E F before = record {
 abbrev OneIsBefore : ℕ → Amounts → Amounts → Type 0
 OneIsBefore n E F = IsDivisorBefore n E F ⊎ IsDivisorBefore n F E
 
-differ_last : (n : ℕ) (E F : Amounts) → AgreeOn n E F → E n <ℤ F n → IsDivisorBefore (suc n) E F
+differ_last : (n : ℕ) (E F : Amounts) → DivisorsAgreeOn n E F → E n <ℤ F n → IsDivisorBefore (suc n) E F
 differ_last n E F same smaller = record {
   place = n;
   inside = omega arith;
@@ -45,7 +45,7 @@ differ_last n E F same smaller = record {
   smaller = smaller;
 }
 
-same_last : (n : ℕ) (E F : Amounts) → AgreeOn n E F → E n ≡ F n → AgreeOn (suc n) E F
+same_last : (n : ℕ) (E F : Amounts) → DivisorsAgreeOn n E F → E n ≡ F n → DivisorsAgreeOn (suc n) E F
 same_last n E F same last v below =
     ⊎_elim
     (λ (at : v ≡ n). let E_at : E v ≡ E n = ap E at in let F_at : F v ≡ F n = ap F at in omega (arith, ints))
@@ -53,9 +53,9 @@ same_last n E F same last v below =
     (cases_eq v n)
 
 abbrev SameOrBefore : ℕ → Amounts → Amounts → Type 0
-SameOrBefore n E F = AgreeOn n E F ⊎ OneIsBefore n E F
+SameOrBefore n E F = DivisorsAgreeOn n E F ⊎ OneIsBefore n E F
 
-compare_last : (n : ℕ) (E F : Amounts) → AgreeOn n E F → SameOrBefore (suc n) E F
+compare_last : (n : ℕ) (E F : Amounts) → DivisorsAgreeOn n E F → SameOrBefore (suc n) E F
 compare_last n E F same =
     by_lt_z (E n) (F n)
     (λ (smaller : E n <ℤ F n). inr (inl (differ_last n E F same smaller)))
@@ -68,7 +68,7 @@ same_or_before : (n : ℕ) (E F : Amounts) → SameOrBefore n E F
 same_or_before zero E F = inl (λ v below. absurd (omega arith))
 same_or_before (suc n) E F =
     ⊎_elim
-    (λ (same : AgreeOn n E F). compare_last n E F same)
+    (λ (same : DivisorsAgreeOn n E F). compare_last n E F same)
     (λ (one : OneIsBefore n E F).
     ⊎_elim
     (λ (before : IsDivisorBefore n E F). inr (inl (before_in_more n E F before)))
@@ -79,7 +79,7 @@ same_or_before (suc n) E F =
 pub loss_once : LossOnce
 loss_once g D k E F one other v inside =
     ⊎_elim
-    (λ (same : AgreeOn g.size E F). same v inside)
+    (λ (same : DivisorsAgreeOn g.size E F). same v inside)
     (λ (either : OneIsBefore g.size E F). absurd (⊎_elim
     (λ (before : IsDivisorBefore g.size E F). one.loses (other.first E one.effective one.of_degree before))
     (λ (after : IsDivisorBefore g.size F E). other.loses (one.first F other.effective other.of_degree after))

@@ -7,7 +7,7 @@
 --   earlier_total          in any order, each edge leads to an earlier vertex from one of its ends
 --   order_divisor-degree   so the divisor of an order has the degree g - 1
 --   canonical-degree       and the canonical divisor has the degree 2g - 2
-use Rattle.dg_theory.proofs.Common.{if◌then◌else◌, ◌≡◌, ℕ, zero, suc, ◌+◌, ◌<◌, Bool, true, false, arith, refl, ap, sym, ◌∙◌, ◌≤ℤ◌, ints, pos, ◌+ℤ◌, ◌-ℤ◌, sum_below, total_below, Multigraph, IsMultigraph, edges_between, valence, edge_count, genus, Amounts, degree, AgreeOn, canonical}
+use Rattle.dg_theory.proofs.Common.{if◌then◌else◌, ◌≡◌, ℕ, zero, suc, ◌+◌, ◌<◌, Bool, true, false, arith, refl, ap, sym, ◌∙◌, ◌≤ℤ◌, ints, pos, ◌+ℤ◌, ◌-ℤ◌, sum_below, total_below, Multigraph, IsMultigraph, edges_between, valence, edge_count, genus, Amounts, degree, DivisorsAgreeOn, canonical}
 use Rattle.dg_theory.proofs.SumLaws.{sum_below-cong, sum_below-add}
 use Rattle.dg_theory.proofs.SumTotals.{sum_below-total}
 use Rattle.dg_theory.proofs.TotalLaws.{total_below-cong, total_below-add}
@@ -49,7 +49,7 @@ earlier-reversed g place v graph apart inside =
     )))
 
 pub order_divisor-reversed : (g : Multigraph) (place : Amounts) → IsMultigraph g → AreApart g.size place →
-    AgreeOn g.size (canonical g) (λ v. order_divisor g place v +ℤ order_divisor g (opposite place) v)
+    DivisorsAgreeOn g.size (canonical g) (λ v. order_divisor g place v +ℤ order_divisor g (opposite place) v)
 order_divisor-reversed g place graph apart v inside = omega (arith, ints, earlier-reversed g place v graph apart inside)
 
 pub paired_total : (n : ℕ) (h e : ℕ → ℕ → ℕ) → ((v w : ℕ) → v < n → w < n → h v w + h w v ≡ e v w) →

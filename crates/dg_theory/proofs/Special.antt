@@ -12,7 +12,7 @@ use Rattle.std.specs.Prelude.{min}
 use Rattle.dg_theory.proofs.Common.{FiresFreely, if◌then◌else◌, ◌≡◌, ◌≢◌, ℕ, zero, suc, ◌<◌, ◌≤◌, ⊎_elim, Bool, true, false, arith, refl, sym, ap, ◌∙◌, cases_Bool, cases_lt, both_ways, false_from_ne_true, ints, pos, ◌≤ℤ◌, total_below, Multigraph, IsMultigraph, edges_between, IsReduced, edges_out, edges_into, HangsLoosely, IsConnectedSet, beside, edges_within, SpecialIsReduced}
 use Rattle.dg_theory.proofs.TotalLaws.{total_below-le, total_below-term}
 use Rattle.dg_theory.proofs.Counting.{total_below-less}
-use Rattle.dg_theory.proofs.Climbs.{Leaves, JoinedIn-leaves}
+use Rattle.dg_theory.proofs.Climbs.{Leaves, JoinedInMultigraph-leaves}
 use Rattle.dg_theory.proofs.SetFiring.{fired-inside}
 use Rattle.dg_theory.proofs.BurningOrder.{into-le-out, into-le-out-once}
 use Rattle.dg_theory.proofs.Unburnt.{reduced_or_fires, FiresSome}
@@ -89,7 +89,7 @@ fires_apart : (g : Multigraph) (S T : ℕ → Bool) (s v : ℕ) → IsConnectedS
 fires_apart g S T s v connected start fires member =
     false_from_ne_true (S v) (λ inside.
     let out : Leaves g.size (edges_within g S) T =
-    JoinedIn-leaves T (fires.vertices v member) member (connected.joined v s inside start) fires.without in
+    JoinedInMultigraph-leaves T (fires.vertices v member) member (connected.joined v s inside start) fires.without in
     let (in_a, in_b, edge) = within-parts g S out.a out.b out.edge in
     let term : (if T out.b then 0 else edges_between g out.a out.b) ≤ edges_out g T out.a =
     total_below-term g.size (λ w. if T w then 0 else edges_between g out.a w) out.b out.to in

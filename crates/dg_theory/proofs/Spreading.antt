@@ -5,7 +5,7 @@
 --   beside_reduced    so where all next to the set can, a dollar at each of them is reduced for s
 use Rattle.dg_theory.proofs.Common.{◌≡◌, ◌≢◌, ℕ, ◌<◌, ◌≤◌, [], arith, ap, sym, ◌∙◌, ⊎_elim, cases_eq, cases_lt, cases_Bool, both_ways, Bool, true, false, ints, by_lt_z, pos, ◌-ℤ◌, ◌*ℤ◌, ◌≤ℤ◌, ◌<ℤ◌, Multigraph, IsMultigraph, edges_between, Amounts, gain, fired, IsEffective, IsReduced, IsWinnable, IsConnectedSet, edges_into, beside}
 use Rattle.dg_theory.proofs.SumBounds.{mul-nonpos, mul-cancel, sum_below-le_term}
-use Rattle.dg_theory.proofs.Chains.{JoinedIn-stays}
+use Rattle.dg_theory.proofs.Chains.{JoinedInMultigraph-stays}
 use Rattle.dg_theory.proofs.Plays.{only_at-here, only_at-other}
 use Rattle.dg_theory.proofs.Winning.{script_of_win}
 use Rattle.dg_theory.proofs.Largest.{IsLargest}
@@ -56,7 +56,7 @@ spreads_over g s S R t on effective w member =
     let empty : (u : ℕ) → S u ≡ true → R u ≤ℤ pos 0 = λ u in_u. none_at g R u solvent (on.loses u in_u) in (
       on.connected.vertices w member,
       empty w member,
-      JoinedIn-stays (λ u. IsLargest g.size t u)
+      JoinedInMultigraph-stays (λ u. IsLargest g.size t u)
           (λ a b top below some.
           let (in_a, in_b, edge) = within-parts g S a b some in
           spreads g t a b top

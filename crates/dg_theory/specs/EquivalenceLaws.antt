@@ -8,11 +8,11 @@
 --   EquivalentDegrees       == equivalent divisors have the same degree
 use Rattle.std.specs.Prelude.{◌≡◌, ◌↔◌, List}
 use Rattle.dg_theory.specs.Multigraph.{Multigraph, IsMultigraph}
-use Rattle.dg_theory.specs.Firing.{Amounts, degree, AgreeOn, AreEquivalent}
+use Rattle.dg_theory.specs.Firing.{Amounts, degree, DivisorsAgreeOn, AreEquivalent}
 use Rattle.dg_theory.specs.Play.{Play, played}
 
 abbrev pub EquivalenceIsReflexive : Type 0
-EquivalenceIsReflexive = (g : Multigraph) (D E : Amounts) → AgreeOn g.size D E → AreEquivalent g D E
+EquivalenceIsReflexive = (g : Multigraph) (D E : Amounts) → DivisorsAgreeOn g.size D E → AreEquivalent g D E
 
 abbrev pub EquivalenceIsSymmetric : Type 0
 EquivalenceIsSymmetric =
@@ -25,7 +25,7 @@ EquivalenceIsTransitive =
 
 abbrev pub EquivalentByPlays : Type 0
 EquivalentByPlays = (g : Multigraph) (D E : Amounts) →
-    AreEquivalent g D E ↔ ((l : List Play) × AgreeOn g.size E (played g D l))
+    AreEquivalent g D E ↔ ((l : List Play) × DivisorsAgreeOn g.size E (played g D l))
 
 abbrev pub EquivalentDegrees : Type 0
 EquivalentDegrees = (g : Multigraph) (D E : Amounts) → IsMultigraph g → AreEquivalent g D E →

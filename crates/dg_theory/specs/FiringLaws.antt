@@ -7,7 +7,7 @@
 --   FiringKeepsDegree        == firing keeps the degree
 use Rattle.std.specs.Prelude.{◌≡◌, ℕ, ◌↔◌, ℤ, ◌+ℤ◌}
 use Rattle.dg_theory.specs.Multigraph.{Multigraph, IsMultigraph}
-use Rattle.dg_theory.specs.Firing.{Amounts, degree, AgreeOn, fired}
+use Rattle.dg_theory.specs.Firing.{Amounts, degree, DivisorsAgreeOn, fired}
 
 abbrev pub FiringAddsUp : Type 0
 FiringAddsUp = (g : Multigraph) (D s t : Amounts) (v : ℕ) →
@@ -15,12 +15,12 @@ FiringAddsUp = (g : Multigraph) (D s t : Amounts) (v : ℕ) →
 
 abbrev pub ConstantScriptsDoNothing : Type 0
 ConstantScriptsDoNothing =
-    (g : Multigraph) (D s : Amounts) (x : ℤ) → AgreeOn g.size s (λ _. x) →
-    AgreeOn g.size (fired g D s) D
+    (g : Multigraph) (D s : Amounts) (x : ℤ) → DivisorsAgreeOn g.size s (λ _. x) →
+    DivisorsAgreeOn g.size (fired g D s) D
 
 abbrev pub SameByConstant : Type 0
 SameByConstant = (g : Multigraph) (D s t : Amounts) → IsMultigraph g →
-    (AgreeOn g.size (fired g D s) (fired g D t) ↔ ((x : ℤ) × AgreeOn g.size s (λ v. t v +ℤ x)))
+    (DivisorsAgreeOn g.size (fired g D s) (fired g D t) ↔ ((x : ℤ) × DivisorsAgreeOn g.size s (λ v. t v +ℤ x)))
 
 abbrev pub FiringKeepsDegree : Type 0
 FiringKeepsDegree = (g : Multigraph) (D s : Amounts) → IsMultigraph g →

@@ -1,6 +1,6 @@
 -- The laws of one edge more, for every multigraph. A function of src/laws.rt promises them.
---   EdgeIsAdded        == between u and v there is one edge more, and between all others there are
---                         as many as before
+--   JoinAddsEdge       == between u and v there is one edge more, and between all others there are as many as
+--                         before
 --   JoinedIsMultigraph == with an edge between two different vertices a multigraph is one
 --   ValenceGrows       == that edge meets its two vertices, and no other
 --   EdgeKeepsSize      == an edge more leaves the number of vertices
@@ -8,8 +8,8 @@ use Rattle.std.specs.Prelude.{◌≡◌, ◌≢◌, ℕ, ◌+◌, ◌<◌}
 use Rattle.dg_theory.specs.Multigraph.{Multigraph, IsMultigraph, edges_between, valence}
 use Rattle.dg_theory.specs.Joins.{with_edge, on_pair, at_either}
 
-abbrev pub EdgeIsAdded : Type 0
-EdgeIsAdded = (g : Multigraph) (u v : ℕ) → u ≢ v → (a b : ℕ) →
+abbrev pub JoinAddsEdge : Type 0
+JoinAddsEdge = (g : Multigraph) (u v : ℕ) → u ≢ v → (a b : ℕ) →
     edges_between (with_edge g u v) a b ≡ edges_between g a b + on_pair u v a b
 
 abbrev pub JoinedIsMultigraph : Type 0

@@ -12,7 +12,7 @@
 --   LossBoundsRank  == if there is a first loss of degree k, the rank is not at least k
 use Rattle.std.specs.Prelude.{ℕ, ◌+◌, ◌<◌, ◌↔◌, pos, ◌+ℤ◌, ◌≤ℤ◌, ◌<ℤ◌}
 use Rattle.dg_theory.specs.Multigraph.{Multigraph, IsMultigraph, genus}
-use Rattle.dg_theory.specs.Firing.{Amounts, degree, AgreeOn, AreEquivalent}
+use Rattle.dg_theory.specs.Firing.{Amounts, degree, DivisorsAgreeOn, AreEquivalent}
 use Rattle.dg_theory.specs.Play.{IsWinnable}
 use Rattle.dg_theory.specs.Rank.{HasRankAtLeast, IsFirstLoss}
 
@@ -41,7 +41,7 @@ PoorRank = (g : Multigraph) (D : Amounts) (k : ℕ) → IsMultigraph g → 0 < g
 
 abbrev pub LossOnce : Type 0
 LossOnce = (g : Multigraph) (D : Amounts) (k : ℕ) (E F : Amounts) → IsFirstLoss g D k E →
-    IsFirstLoss g D k F → AgreeOn g.size E F
+    IsFirstLoss g D k F → DivisorsAgreeOn g.size E F
 
 abbrev pub LossBoundsRank : Type 0
 LossBoundsRank = (g : Multigraph) (D : Amounts) (k : ℕ) (E : Amounts) → IsFirstLoss g D k E →

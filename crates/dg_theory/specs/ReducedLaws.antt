@@ -7,13 +7,13 @@
 --                        genus (section 3; chapter 5)
 use Rattle.std.specs.Prelude.{ℕ, ◌<◌, ◌↔◌, pos, ◌≤ℤ◌, ◌<ℤ◌}
 use Rattle.dg_theory.specs.Multigraph.{Multigraph, IsMultigraph, genus}
-use Rattle.dg_theory.specs.Firing.{Amounts, degree, AgreeOn, AreEquivalent}
+use Rattle.dg_theory.specs.Firing.{Amounts, degree, DivisorsAgreeOn, AreEquivalent}
 use Rattle.dg_theory.specs.Play.{IsWinnable}
 use Rattle.dg_theory.specs.Reduced.{IsReduced}
 
 abbrev pub ReducedOnce : Type 0
 ReducedOnce = (g : Multigraph) (q : ℕ) (D E : Amounts) → q < g.size → AreEquivalent g D E →
-    IsReduced g q D → IsReduced g q E → AgreeOn g.size D E
+    IsReduced g q D → IsReduced g q E → DivisorsAgreeOn g.size D E
 
 abbrev pub ReducedDecides : Type 0
 ReducedDecides = (g : Multigraph) (q : ℕ) (D R : Amounts) → q < g.size → AreEquivalent g D R →

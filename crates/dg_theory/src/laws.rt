@@ -6,7 +6,7 @@ ghost use Rattle.dg_theory.specs.WinningLaws.{WinnableByScript, WinnableByClass,
 ghost use Rattle.dg_theory.specs.ReducedLaws.{ReducedDecides, ReducedOnce, ReducedBelowGenus};
 ghost use Rattle.dg_theory.specs.BurningLaws.{UnburntFires, GreatestIsOne, BurntIsReduced, BurnsToReduced};
 ghost use Rattle.dg_theory.specs.ExistenceLaws.{ReducedExists, RichIsWinnable};
-ghost use Rattle.dg_theory.specs.JoinLaws.{EdgeIsAdded, JoinedIsMultigraph, ValenceGrows, EdgeKeepsSize};
+ghost use Rattle.dg_theory.specs.JoinLaws.{JoinAddsEdge, JoinedIsMultigraph, ValenceGrows, EdgeKeepsSize};
 ghost use Rattle.dg_theory.specs.RankLaws.{EquivalentRank, EquivalentLoss, RankBelow, RankZero, RichRank, PoorRank, LossOnce, LossBoundsRank};
 ghost use Rattle.dg_theory.specs.DualityLaws.{RiemannRoch, RankOfDual, DualTests, LossOfDual, HighRank, RankExists, RankOnce, RankOfSum, Clifford, HalfOfDegree};
 ghost use Rattle.dg_theory.specs.DeterminingLaws.{DeterminesLosses, DeterminesRank, SpecialIsReduced, ConnectedGrows};
@@ -85,7 +85,7 @@ pub fn laws_of_rank()
 /// What an edge more between two different vertices does: it is the one edge that is added, it makes a multigraph of a
 /// multigraph, it meets its two vertices alone, and no vertex is added.
 pub fn laws_of_joining()
-    ensures edges { EdgeIsAdded }
+    ensures edges { JoinAddsEdge }
     ensures multigraph { JoinedIsMultigraph }
     ensures valence { ValenceGrows }
     ensures size { EdgeKeepsSize }

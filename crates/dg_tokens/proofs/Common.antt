@@ -1,5 +1,5 @@
 -- The names that the proofs of this crate cite, passed on from one place. Declares nothing.
-pub use Rattle.dg_tokens.specs.Decimals.{BeginsWith, HasDigitFirst}
+pub use Rattle.dg_tokens.specs.Decimals.{BeginsWithDecimal, HasDigitFirst}
 pub use Rattle.dg_tokens.specs.Digits.{AreLeadingDigits}
 pub use Rattle.dg_tokens.specs.Labels.{AreLabels, IsLabel}
 pub use Rattle.dg_tokens.specs.Names.{AreNames, IsName, added, has, is_byte_between, is_name_byte, name_at}

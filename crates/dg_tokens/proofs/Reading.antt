@@ -5,7 +5,7 @@
 --   leading_found                these are a decimal, if there is one and no zero before others
 --   leading_lost                 where a text begins with a decimal, they are so
 --   one_natural                  a text begins with one decimal
-use Rattle.dg_tokens.proofs.Common.{◌≡◌, ℕ, zero, suc, ◌+◌, ◌-◌, ◌*◌, ◌<◌, ◌≤◌, ◌^◌, List, [], ◌∷◌, ◌++◌, length, take, drop, get_or, refl, sym, ap, ◌∙◌, subst, inl, inr, arith, decimal, below_more, cases_lt, cases_order, take_more, length-take, length-take-le, get_or-take, get_or_append_left, take-append-drop, drop_at, take_at, length-append, decimal-digits_value, decimal_is_IsNumeral, decimal_digit, decimal_injective, decimal_nonempty, first_decimal, length-decimal-le, IsNumeralModel, numerals_by_value, tells_by_index, digits_value_short, digit_at, digit_value_digit, digits_value, digits_value_after, digit_value, BeginsWith, HasDigitFirst, AreLeadingDigits}
+use Rattle.dg_tokens.proofs.Common.{◌≡◌, ℕ, zero, suc, ◌+◌, ◌-◌, ◌*◌, ◌<◌, ◌≤◌, ◌^◌, List, [], ◌∷◌, ◌++◌, length, take, drop, get_or, refl, sym, ap, ◌∙◌, subst, inl, inr, arith, decimal, below_more, cases_lt, cases_order, take_more, length-take, length-take-le, get_or-take, get_or_append_left, take-append-drop, drop_at, take_at, length-append, decimal-digits_value, decimal_is_IsNumeral, decimal_digit, decimal_injective, decimal_nonempty, first_decimal, length-decimal-le, IsNumeralModel, numerals_by_value, tells_by_index, digits_value_short, digit_at, digit_value_digit, digits_value, digits_value_after, digit_value, BeginsWithDecimal, HasDigitFirst, AreLeadingDigits}
 
 abbrev pub IsDigit : ℕ → Type 0
 IsDigit c = (48 ≤ c) × (c ≤ 57)
@@ -49,7 +49,7 @@ digits_small front n count far few =
 
 pub leading_found : (text : List ℕ) (n count : ℕ) → AreLeadingDigits text n count → 1 ≤ count
     → (get_or text 0 0 ≡ 48 → count ≡ 1) → ¬ HasDigitFirst (drop count text)
-    → (n < 10 ^ 19) × BeginsWith text (decimal n) (drop count text)
+    → (n < 10 ^ 19) × BeginsWithDecimal text (decimal n) (drop count text)
 leading_found text n count are some lead ends =
     let ds : List ℕ = take count text in
     let size : length ds ≡ count = length-take-le count text are.within in
@@ -86,7 +86,8 @@ not_shorter text a b r s e f some each none =
       | inr more ↦ more
     ]
 
-pub one_beginning : (text a b r s : List ℕ) → BeginsWith text a r → BeginsWith text b s → 1 ≤ length a → 1 ≤ length b
+pub one_beginning : (text a b r s : List ℕ) → BeginsWithDecimal text a r → BeginsWithDecimal text b s → 1 ≤ length a
+    → 1 ≤ length b
     → AreDigitsAfterFirst a → AreDigitsAfterFirst b → (a ≡ b) × (r ≡ s)
 one_beginning text a b r s x y some other each all =
     let long : length b ≤ length a = not_shorter text a b r s x.whole y.whole some all x.ends in
@@ -103,7 +104,8 @@ decimal_digits n small i less = digit_at (decimal n) i (decimal_is_IsNumeral n (
 pub some_digit : (n : ℕ) → n < 10 ^ 19 → 1 ≤ length (decimal n)
 some_digit n small = decimal_nonempty n (omega arith)
 
-pub one_natural : (text : List ℕ) (n m : ℕ) (r s : List ℕ) → BeginsWith text (decimal n) r → BeginsWith text (decimal m) s
+pub one_natural : (text : List ℕ) (n m : ℕ) (r s : List ℕ) → BeginsWithDecimal text (decimal n) r
+    → BeginsWithDecimal text (decimal m) s
     → n < 10 ^ 19 → m < 10 ^ 19 → n ≡ m
 one_natural text n m r s x y small few =
     decimal_injective n m (omega arith) (omega arith)
@@ -111,7 +113,7 @@ one_natural text n m r s x y small few =
     (λ i some. decimal_digits n small i) (λ i some. decimal_digits m few i)).0
 
 leading_count : (text : List ℕ) (n count m : ℕ) (rest : List ℕ) → AreLeadingDigits text n count → m < 10 ^ 19
-    → BeginsWith text (decimal m) rest → count ≡ length (decimal m)
+    → BeginsWithDecimal text (decimal m) rest → count ≡ length (decimal m)
 leading_count text n count m rest are small begins =
     let ds : List ℕ = decimal m in
     let few : length ds ≤ 19 = length-decimal-le 19 m (omega arith) small (omega arith) in
@@ -141,7 +143,7 @@ pub record IsDecimalAt (text : List ℕ) (count : ℕ) : Type 0 where
   pub ends : ¬ HasDigitFirst (drop count text)
 
 pub leading_lost : (text : List ℕ) (n count m : ℕ) (rest : List ℕ) → AreLeadingDigits text n count → m < 10 ^ 19
-    → BeginsWith text (decimal m) rest → IsDecimalAt text count
+    → BeginsWithDecimal text (decimal m) rest → IsDecimalAt text count
 leading_lost text n count m rest are small begins =
     let ds : List ℕ = decimal m in
     let same : count ≡ length ds = leading_count text n count m rest are small begins in

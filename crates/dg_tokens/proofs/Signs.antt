@@ -4,7 +4,7 @@
 --   whole_again      a text that begins with a minus is that and what stands after it
 --   integer_found, integer_lost   the text has no rest; or it has one, and is the decimal of no number
 --   none_left, some_left          whether there is a rest, as a test says
-use Rattle.dg_tokens.proofs.Common.{◌≡◌, ◌≢◌, ℕ, ℤ, zero, suc, pos, negsuc, ◌-◌, ◌<◌, ◌≤◌, ◌^◌, List, [], ◌∷◌, ◌++◌, length, take, drop, get_or, refl, sym, ap, ◌∙◌, subst, arith, append-nil, decimal, signed_decimal, FitsSigned, w64, get_or_append_left, take_rest, true, false, ◌==◌, eqb-true, false≢true, BeginsWith}
+use Rattle.dg_tokens.proofs.Common.{◌≡◌, ◌≢◌, ℕ, ℤ, zero, suc, pos, negsuc, ◌-◌, ◌<◌, ◌≤◌, ◌^◌, List, [], ◌∷◌, ◌++◌, length, take, drop, get_or, refl, sym, ap, ◌∙◌, subst, arith, append-nil, decimal, signed_decimal, FitsSigned, w64, get_or_append_left, take_rest, true, false, ◌==◌, eqb-true, false≢true, BeginsWithDecimal}
 use Rattle.dg_tokens.proofs.Reading.{IsDigit, AreDigitsAfterFirst, decimal_digits, some_digit, one_beginning}
 
 -- the bytes after a minus
@@ -12,20 +12,20 @@ pub record IsMinus (digits rest : List ℕ) (z : ℤ) : Type 0 where
   pub below : ℕ
   pub is : z ≡ negsuc below
   pub few : suc below ≤ 2 ^ 63
-  pub begins : BeginsWith digits (decimal (suc below)) rest
+  pub begins : BeginsWithDecimal digits (decimal (suc below)) rest
 
 pub record IsPlain (text rest : List ℕ) (z : ℤ) : Type 0 where
   pub number : ℕ
   pub is : z ≡ pos number
   pub few : number < 2 ^ 63
-  pub begins : BeginsWith text (decimal number) rest
+  pub begins : BeginsWithDecimal text (decimal number) rest
 
 first_of : (n : ℕ) (rest : List ℕ) → n < 10 ^ 19 → IsDigit (get_or (decimal n ++ rest) 0 0)
 first_of n rest small =
     subst IsDigit (sym (get_or_append_left (decimal n) rest 0 0 (some_digit n small)))
     (decimal_digits n small 0 (some_digit n small))
 
-pub minus_lost : (digits rest : List ℕ) (z : ℤ) → FitsSigned w64 z → BeginsWith (45 ∷ digits) (signed_decimal z) rest
+pub minus_lost : (digits rest : List ℕ) (z : ℤ) → FitsSigned w64 z → BeginsWithDecimal (45 ∷ digits) (signed_decimal z) rest
     → IsMinus digits rest z
 minus_lost digits rest (pos n) fits begins =
     let digit = first_of n rest (omega (arith, fits.sfits)) in
@@ -38,7 +38,8 @@ minus_lost digits rest (negsuc n) fits begins = record {
   begins = record { whole = ap (drop 1) begins.whole; ends = begins.ends };
 }
 
-pub plain_lost : (text rest : List ℕ) (z : ℤ) → FitsSigned w64 z → get_or text 0 0 ≢ 45 → BeginsWith text (signed_decimal z) rest
+pub plain_lost : (text rest : List ℕ) (z : ℤ) → FitsSigned w64 z → get_or text 0 0 ≢ 45
+    → BeginsWithDecimal text (signed_decimal z) rest
     → IsPlain text rest z
 plain_lost text rest (pos n) fits none begins = record { number = n; is = refl; few = omega (arith, fits.sfits); begins = begins }
 plain_lost text rest (negsuc n) fits none begins = absurd (none (ap (λ xs. get_or xs 0 0) begins.whole))
@@ -58,24 +59,25 @@ some_byte (pos n) fits = some_digit n (omega (arith, fits.sfits))
 some_byte (negsuc n) fits = omega arith
 
 pub one_rest : (text : List ℕ) (y z : ℤ) (r s : List ℕ) → FitsSigned w64 y → FitsSigned w64 z
-    → BeginsWith text (signed_decimal y) r → BeginsWith text (signed_decimal z) s → r ≡ s
+    → BeginsWithDecimal text (signed_decimal y) r → BeginsWithDecimal text (signed_decimal z) s → r ≡ s
 one_rest text y z r s fits fits' x x' =
     (one_beginning text (signed_decimal y) (signed_decimal z) r s x x' (some_byte y fits) (some_byte z fits') (later y fits)
     (later z fits')).1
 
-whole : (text : List ℕ) (z : ℤ) → text ≡ signed_decimal z → BeginsWith text (signed_decimal z) []
+whole : (text : List ℕ) (z : ℤ) → text ≡ signed_decimal z → BeginsWithDecimal text (signed_decimal z) []
 whole text z is = record { whole = is ∙ sym (append-nil (signed_decimal z)); ends = λ digit. digit }
 
-pub integer_found : (text : List ℕ) (z : ℤ) (rest : List ℕ) → BeginsWith text (signed_decimal z) rest → rest ≡ []
+pub integer_found : (text : List ℕ) (z : ℤ) (rest : List ℕ) → BeginsWithDecimal text (signed_decimal z) rest → rest ≡ []
     → text ≡ signed_decimal z
 integer_found text z rest begins none =
     begins.whole ∙ ap (λ r. signed_decimal z ++ r) none ∙ append-nil (signed_decimal z)
 
-pub integer_none : (text : List ℕ) → ((z : ℤ) (rest : List ℕ) → FitsSigned w64 z → ¬ BeginsWith text (signed_decimal z) rest)
+pub integer_none : (text : List ℕ)
+    → ((z : ℤ) (rest : List ℕ) → FitsSigned w64 z → ¬ BeginsWithDecimal text (signed_decimal z) rest)
     → (z : ℤ) → FitsSigned w64 z → text ≢ signed_decimal z
 integer_none text never z fits is = never z [] fits (whole text z is)
 
-pub integer_lost : (text : List ℕ) (y : ℤ) (rest : List ℕ) → FitsSigned w64 y → BeginsWith text (signed_decimal y) rest
+pub integer_lost : (text : List ℕ) (y : ℤ) (rest : List ℕ) → FitsSigned w64 y → BeginsWithDecimal text (signed_decimal y) rest
     → ¬ (rest ≡ []) → (z : ℤ) → FitsSigned w64 z → text ≢ signed_decimal z
 integer_lost text y rest fits begins some z fits' is =
     some (one_rest text y z rest [] fits fits' begins (whole text z is))

@@ -2,7 +2,7 @@
 ghost use Rattle.std.specs.Prelude.{◌≡◌, ◌≢◌, ◌↔◌, ℕ, ℤ, ◌<◌, ◌≤◌, ◌^◌, List, ◌∷◌, length, slice_index, FitsSigned, IsTrue, MatchBool, MatchOption, decimal};
 ghost use Rattle.std.specs.Fmt.{signed_decimal};
 ghost use Rattle.std.specs.Int.{w64};
-ghost use Rattle.dg_tokens.specs.Decimals.{BeginsWith, HasDigitFirst};
+ghost use Rattle.dg_tokens.specs.Decimals.{BeginsWithDecimal, HasDigitFirst};
 ghost use Rattle.dg_tokens.specs.Digits.{AreLeadingDigits};
 
 use itoa::Buffer;
@@ -45,8 +45,8 @@ pub fn integer(text: &[u8]) -> Option<i64>
 #[inline(always)]
 pub fn leading_integer(text: &[u8]) -> Option<(i64, &[u8])>
     ensures { MatchOption result
-        ((z : ℤ) (rest : List ℕ) → FitsSigned w64 z → ¬ BeginsWith text.now (signed_decimal z) rest)
-        (λ r. BeginsWith text.now (signed_decimal r.0) r.1.now) }
+        ((z : ℤ) (rest : List ℕ) → FitsSigned w64 z → ¬ BeginsWithDecimal text.now (signed_decimal z) rest)
+        (λ r. BeginsWithDecimal text.now (signed_decimal r.0) r.1.now) }
 {
     if has_minus_first(text) {
         return after_minus(&text[1..]);
@@ -59,8 +59,8 @@ pub fn leading_integer(text: &[u8]) -> Option<(i64, &[u8])>
 fn after_minus(digits: &[u8]) -> Option<(i64, &[u8])>
     ensures { MatchOption result
         ((z : ℤ) (rest : List ℕ) → FitsSigned w64 z
-        → ¬ BeginsWith (45 ∷ digits.now) (signed_decimal z) rest)
-        (λ r. BeginsWith (45 ∷ digits.now) (signed_decimal r.0) r.1.now) }
+        → ¬ BeginsWithDecimal (45 ∷ digits.now) (signed_decimal z) rest)
+        (λ r. BeginsWithDecimal (45 ∷ digits.now) (signed_decimal r.0) r.1.now) }
 {
     let Some((number, rest)) = leading_natural(digits) else {
         return None;
@@ -79,8 +79,8 @@ fn after_minus(digits: &[u8]) -> Option<(i64, &[u8])>
 fn without_minus(text: &[u8]) -> Option<(i64, &[u8])>
     requires { slice_index text.now 0 ≢ 45 }
     ensures { MatchOption result
-        ((z : ℤ) (rest : List ℕ) → FitsSigned w64 z → ¬ BeginsWith text.now (signed_decimal z) rest)
-        (λ r. BeginsWith text.now (signed_decimal r.0) r.1.now) }
+        ((z : ℤ) (rest : List ℕ) → FitsSigned w64 z → ¬ BeginsWithDecimal text.now (signed_decimal z) rest)
+        (λ r. BeginsWithDecimal text.now (signed_decimal r.0) r.1.now) }
 {
     let Some((number, rest)) = leading_natural(text) else {
         return None;
@@ -107,8 +107,8 @@ fn has_minus_first(text: &[u8]) -> bool
 #[inline(always)]
 fn leading_natural(text: &[u8]) -> Option<(u64, &[u8])>
     ensures { MatchOption result
-        ((n : ℕ) (rest : List ℕ) → n < 10 ^ 19 → ¬ BeginsWith text.now (decimal n) rest)
-        (λ r. (r.0 < 10 ^ 19) × BeginsWith text.now (decimal r.0) r.1.now) }
+        ((n : ℕ) (rest : List ℕ) → n < 10 ^ 19 → ¬ BeginsWithDecimal text.now (decimal n) rest)
+        (λ r. (r.0 < 10 ^ 19) × BeginsWithDecimal text.now (decimal r.0) r.1.now) }
 {
     let (number, count) = leading_digits(text);
     let rest = &text[count..];

@@ -1,8 +1,8 @@
 -- A verdict is right for each of two divisors that agree on the vertices, or for neither.
 --   right-cong  what is right for one is right for the other
-use Rattle.dg_verdict.proofs.Common.{ℕ, ◌∙◌, Multigraph, Amounts, AgreeOn, agree-sym, fired-here, winnable-cong, at, IsRight, Verdict}
+use Rattle.dg_verdict.proofs.Common.{ℕ, ◌∙◌, Multigraph, Amounts, DivisorsAgreeOn, agree-sym, fired-here, winnable-cong, at, IsRight, Verdict}
 
-pub right-cong : (g : Multigraph) (q : ℕ) (D E : Amounts) (x : Verdict) → AgreeOn g.size D E → IsRight g q D x →
+pub right-cong : (g : Multigraph) (q : ℕ) (D E : Amounts) (x : Verdict) → DivisorsAgreeOn g.size D E → IsRight g q D x →
     IsRight g q E x
 right-cong g q D E x same right = record {
   script_size = right.script_size;

@@ -2,11 +2,11 @@
 pub use Rattle.dg_burn.proofs.Orders.{get-first, next-more}
 pub use Rattle.dg_burn.proofs.Steps.{burning-lit, same-more, count_unburnt-fewer}
 pub use Rattle.dg_burn.proofs.Told.{none_unreached}
-pub use Rattle.dg_burn.specs.SoFar.{IsBurning, count_unburnt}
+pub use Rattle.dg_burn.specs.SoFar.{IsFireBurning, count_unburnt}
 pub use Rattle.dg_chips.specs.Vector.{Vector, at}
 pub use Rattle.dg_reduce.proofs.Outcome.{script_near}
 pub use Rattle.dg_graph.proofs.SetLaws.{in_set-none}
-pub use Rattle.dg_graph.specs.Sets.{IsWith, in_set}
+pub use Rattle.dg_graph.specs.Sets.{IsSetWith, in_set}
 pub use Rattle.dg_theory.proofs.Agreement.{agree-sym, fired-here, winnable-cong}
 pub use Rattle.dg_theory.proofs.BurningLaws.{reduced_burnt}
 pub use Rattle.dg_theory.proofs.BurningOrder.{may_burn}
@@ -17,7 +17,7 @@ pub use Rattle.dg_theory.proofs.ReducedLaws.{reduced_decides, reduced_once}
 pub use Rattle.dg_theory.proofs.Scripts.{fired-shifted}
 pub use Rattle.dg_theory.proofs.Winning.{equivalent-winnable}
 pub use Rattle.dg_theory.specs.Burning.{BurnsAll, BurnsInOrder, MayBurn, among}
-pub use Rattle.dg_theory.specs.Firing.{AgreeOn, Amounts, AreEquivalent, FiresTo, HasNoDebtOff, fired, gain}
+pub use Rattle.dg_theory.specs.Firing.{DivisorsAgreeOn, Amounts, AreEquivalent, FiresTo, HasNoDebtOff, fired, gain}
 pub use Rattle.dg_theory.specs.Multigraph.{Multigraph}
 pub use Rattle.dg_theory.specs.Reduced.{IsReduced}
 pub use Rattle.dg_verdict.specs.Rebasing.{IsRebasable}

@@ -5,7 +5,7 @@
 --   order-more    an order so far with one more vertex that may burn is one
 --   order-done    an order so far of as many vertices as there are burns them all
 --   order-fails   where a vertex stands that may not burn after those before it, not all burn
-use Rattle.dg_verdict.proofs.Common.{◌≡◌, ℕ, zero, suc, ◌+◌, ◌<◌, ◌≤◌, Bool, false, List, [], ◌∷◌, length, take, arith, sym, ap, subst, ◌∙◌, slice_get, Some, slice_index_or, take_more, take-take, get_or-take, length-take, slice_get-get_or, Multigraph, Amounts, among, MayBurn, BurnsAll, IsWith, count_unburnt, IsBurning, get-first, next-more, count_unburnt-fewer, same-more, burning-lit, none_unreached}
+use Rattle.dg_verdict.proofs.Common.{◌≡◌, ℕ, zero, suc, ◌+◌, ◌<◌, ◌≤◌, Bool, false, List, [], ◌∷◌, length, take, arith, sym, ap, subst, ◌∙◌, slice_get, Some, slice_index_or, take_more, take-take, get_or-take, length-take, slice_get-get_or, Multigraph, Amounts, among, MayBurn, BurnsAll, IsSetWith, count_unburnt, IsFireBurning, get-first, next-more, count_unburnt-fewer, same-more, burning-lit, none_unreached}
 
 pub record IsOrderSoFar (g : Multigraph) (q : ℕ) (D : Amounts) (l : List ℕ) (n : ℕ) (S : ℕ → Bool) : Type 0 where
   pub first : slice_get l 0 ≡ Some q
@@ -13,10 +13,10 @@ pub record IsOrderSoFar (g : Multigraph) (q : ℕ) (D : Amounts) (l : List ℕ) 
   pub same : (v : ℕ) → S v ≡ among l v
   pub left : n + count_unburnt g.size S ≡ g.size
 
-only_q : (g : Multigraph) (q : ℕ) (D : Amounts) (S T : ℕ → Bool) → q < g.size → ((v : ℕ) → S v ≡ false) → IsWith S q T →
+only_q : (g : Multigraph) (q : ℕ) (D : Amounts) (S T : ℕ → Bool) → q < g.size → ((v : ℕ) → S v ≡ false) → IsSetWith S q T →
     IsOrderSoFar g q D (q ∷ []) 1 T
 only_q g q D S T vertex none lit =
-    let begun : IsBurning g q D (q ∷ []) 1 T = burning-lit g q D S T vertex none lit in
+    let begun : IsFireBurning g q D (q ∷ []) 1 T = burning-lit g q D S T vertex none lit in
     record {
       first = begun.so_far.first;
       next = λ i v place. (begun.so_far.next i v place).may;
@@ -26,14 +26,14 @@ only_q g q D S T vertex none lit =
 
 pub order-first : (g : Multigraph) (q : ℕ) (D : Amounts) (order : List ℕ) (S T : ℕ → Bool) → q < g.size →
     0 < length order →
-    slice_index_or order 0 0 ≡ q → ((v : ℕ) → S v ≡ false) → IsWith S q T → IsOrderSoFar g q D (take 1 order) 1 T
+    slice_index_or order 0 0 ≡ q → ((v : ℕ) → S v ≡ false) → IsSetWith S q T → IsOrderSoFar g q D (take 1 order) 1 T
 order-first g q D order S T vertex some first none lit =
     let one : take 1 order ≡ q ∷ [] = take_more order 0 0 some ∙ ap (λ (v : ℕ). v ∷ []) first in
     rw one (only_q g q D S T vertex none lit)
 
 pub order-more : (g : Multigraph) (q : ℕ) (D : Amounts) (order : List ℕ) (i : ℕ) (S T : ℕ → Bool) (v : ℕ) →
     IsOrderSoFar g q D (take i order) i S → i < length order → v ≡ slice_index_or order i 0 → MayBurn g D S v →
-    IsWith S v T → IsOrderSoFar g q D (take (i + 1) order) (i + 1) T
+    IsSetWith S v T → IsOrderSoFar g q D (take (i + 1) order) (i + 1) T
 order-more g q D order i S T v state within named burns more =
     rw (take_more order i 0 within, ← named) (record {
       first = get-first (take i order) v q state.first;

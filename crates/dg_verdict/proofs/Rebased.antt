@@ -2,10 +2,10 @@
 --   rebased_leads   the new script leads from the divisor after the drift to the same reduced divisor
 --   rebased_small   if that divisor is in range, the new script fits
 --   rebased_right   the verdict with the new script is right for it
-use Rattle.dg_verdict.proofs.Common.{◌≡◌, ℕ, ◌+◌, ◌*◌, ◌<◌, ◌≤◌, arith, sym, ◌∙◌, unsigned_abs, ints, pos, ◌+ℤ◌, ◌-ℤ◌, Multigraph, Amounts, AgreeOn, fired, FiresTo, fired-fired, fired-shifted, equivalent-fired, equivalent-winnable, Vector, at, script_near, Verdict, IsRight, IsRebasable}
+use Rattle.dg_verdict.proofs.Common.{◌≡◌, ℕ, ◌+◌, ◌*◌, ◌<◌, ◌≤◌, arith, sym, ◌∙◌, unsigned_abs, ints, pos, ◌+ℤ◌, ◌-ℤ◌, Multigraph, Amounts, DivisorsAgreeOn, fired, FiresTo, fired-fired, fired-shifted, equivalent-fired, equivalent-winnable, Vector, at, script_near, Verdict, IsRight, IsRebasable}
 
 pub rebased_leads : (g : Multigraph) (q : ℕ) (D R s m t : Amounts) → FiresTo g s D R →
-    AgreeOn g.size t (λ v. s v -ℤ m v +ℤ m q) → FiresTo g t (fired g D m) R
+    DivisorsAgreeOn g.size t (λ v. s v -ℤ m v +ℤ m q) → FiresTo g t (fired g D m) R
 rebased_leads g q D R s m t leads less_drift v inside =
     leads v inside
     ∙ sym (fired-fired g D m t v

@@ -30,7 +30,7 @@ pub fn check(graph: &Graph, q: usize, divisor: &Divisor, verdict: &Verdict) -> b
     if !is_solvent_off(graph, q, &verdict.reduced) {
         return false;
     }
-    if !check_all_burn(graph, q, &verdict.reduced, &verdict.order) {
+    if !verdict_order_burns(graph, q, &verdict.reduced, &verdict.order) {
         return false;
     }
     verdict.winnable == (verdict.reduced.get(q) >= 0)
@@ -38,7 +38,7 @@ pub fn check(graph: &Graph, q: usize, divisor: &Divisor, verdict: &Verdict) -> b
 
 /// Whether the first places of the order, as many as there are vertices, name each of them once, q first, and each
 /// later one may burn when those before it have.
-fn check_all_burn(graph: &Graph, q: usize, chips: &Wide, order: &[u8; 16]) -> bool
+fn verdict_order_burns(graph: &Graph, q: usize, chips: &Wide, order: &[u8; 16]) -> bool
     requires size { chips.now.size ≡ graph.now.size }
     requires vertex { q < graph.now.size }
     ensures { MatchBool result

@@ -2,12 +2,12 @@
 
 ghost use Rattle.std.specs.Prelude.{◌≡◌, ℕ, ◌<◌, pos, IfSome};
 ghost use Rattle.dg_chips.specs.Vector.{at};
-ghost use Rattle.dg_reduce.specs.Burnings.{IsWholeBurning};
+ghost use Rattle.dg_reduce.specs.Burnings.{IsReducedBurning};
 ghost use Rattle.dg_verdict.specs.Right.{IsVerdictOn};
 
 use dg_chips::{Divisor, Script, Wide};
 use dg_graph::Graph;
-use dg_reduce::{Guessed, InverseLaplacian, certified_by, guess, guess_once, order_by};
+use dg_reduce::{Guessed, InverseLaplacian, certified_by, guess, guess_once, reduced_order_by};
 
 /// Whether a divisor is winnable, with what shows it.
 #[derive(Clone, Copy, PartialEq, Eq)]
@@ -67,13 +67,13 @@ fn judge_by(graph: &Graph, q: usize, divisor: &Divisor, chips: &Wide, guess: &Gu
     requires chips { (chips.now.size ≡ graph.now.size) ×
         ((v : ℕ) → v < graph.now.size → at chips.now v ≡ at divisor.now v) }
     requires script { (guess.now.script.size ≡ graph.now.size) × (at guess.now.script q ≡ pos 0) }
-    requires burning { IfSome guess.now.burning (λ x. IsWholeBurning graph.now q x) }
+    requires burning { IfSome guess.now.burning (λ x. IsReducedBurning graph.now q x) }
     ensures { IsVerdictOn graph.now q (at divisor.now) result }
 {
     let _size = graph.size();
     let _amounts = divisor.size();
     let reduced = chips.fired_by(graph, &guess.script);
-    let Some(order) = order_by(graph, q, &reduced, &guess.burning) else {
+    let Some(order) = reduced_order_by(graph, q, &reduced, &guess.burning) else {
         return judge_after(graph, q, divisor, &guess.script);
     };
     Verdict {

@@ -6,7 +6,7 @@ use crate::tables::{amounts, triangle};
 use dg_chips::{Divisor, Move};
 use dg_log::{Log, Name};
 use dg_observer::{
-    Observer, ObserverFault, Positions, RefusedMoves, Watch, count_refusal, keep_position,
+    Observer, ObserverFault, Positions, RefusedMoves, Watch, count_watched_refusal, keep_position,
 };
 use dg_rules::{Entry, Plain};
 use dg_table::{Seat, Table};
@@ -128,7 +128,7 @@ fn counts_refused_moves<N: Name>(rt: &impl Abort, alloc: Global, log: &Log<N>) -
     let mut refused = Observer::<N, RefusedMoves, _>::new(
         alloc,
         [0; 64],
-        |counts: &[u32; 64], entry: &Entry| count_refusal(counts, entry),
+        |counts: &[u32; 64], entry: &Entry| count_watched_refusal(counts, entry),
     );
     let read = refused.catch_up(log)?;
     assert!(rt; read == 3);

@@ -7,7 +7,7 @@ use dg_chips::{Script, Wide};
 use dg_graph::{Graph, GraphFault};
 use dg_reduce::{
     Certified, InverseLaplacian, Reduced, certified_by, guess, is_solvent_off,
-    is_within_reduction_limit, order_if_reduced, reduce_certified, reduce_wide,
+    is_within_reduction_limit, reduce_certified, reduce_wide, reduced_order,
 };
 use std::process::Abort;
 use std::test::Fail;
@@ -191,7 +191,7 @@ pub(super) fn is_wanted(graph: &Graph, q: usize, found: &Certified, wanted: &Red
     found.reduced == *wanted
         && wanted.divisor.size() == graph.size()
         && q < graph.size()
-        && order_if_reduced(graph, q, &wanted.divisor) == Some(found.order)
+        && reduced_order(graph, q, &wanted.divisor) == Some(found.order)
 }
 
 #[test]
@@ -293,7 +293,7 @@ fn is_guessed(rt: &impl Abort, path: &Graph, q: usize, chips: &Wide) {
     assert!(rt; is_within_reduction_limit(chips));
     let script = guess(path, &InverseLaplacian::new(path, q), q, chips).script;
     let left = chips.fired_by(path, &script);
-    assert!(rt; order_if_reduced(path, q, &left).is_some(), "for {q}");
+    assert!(rt; reduced_order(path, q, &left).is_some(), "for {q}");
     is_alone(rt, path, q, &left);
 }
 
@@ -302,7 +302,7 @@ fn is_alone(rt: &impl Abort, path: &Graph, q: usize, left: &Wide) {
     assert!(rt; path.size() == 16 && left.size() == 16 && q < 16);
     assert!(rt; left.get(3) < 1 || q == 3);
     let other = left.with_amount(if q == 3 { 5 } else { 3 }, 2);
-    assert!(rt; order_if_reduced(path, q, &other).is_none(), "for {q}");
+    assert!(rt; reduced_order(path, q, &other).is_none(), "for {q}");
     assert!(rt; is_solvent_off(path, q, &other));
 }
 

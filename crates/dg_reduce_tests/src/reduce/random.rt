@@ -9,8 +9,8 @@ use dg_burn::amounts_to_burn;
 use dg_chips::{Script, Wide};
 use dg_graph::Graph;
 use dg_reduce::{
-    Burning, InverseLaplacian, Reduced, guess, is_within_reduction_limit, order_if_reduced,
-    reduce_after, reduce_by_levels, reduce_certified,
+    Burning, InverseLaplacian, Reduced, guess, is_within_reduction_limit, reduce_after,
+    reduce_by_levels, reduce_certified, reduced_order,
 };
 use std::process::Abort;
 use std::test::Fail;
@@ -213,7 +213,7 @@ fn is_right(graph: &Graph, q: usize, left: &Wide, burning: &Option<Burning>) -> 
         Some(burning) => is_same_off(q, &burning.held, &amounts_to_burn(left)),
         None => false,
     };
-    known && order_if_reduced(graph, q, left).is_some()
+    known && reduced_order(graph, q, left).is_some()
 }
 
 /// Whether a random reduction is the same with a guess and by levels, which are left out if they take too long; and

@@ -1,4 +1,4 @@
-use Rattle.dg_cli.proofs.Common.{◌<◌, ◌^◌, ◌∙◌, inl, inr, sym, arith, least, most}
+use Rattle.dg_cli.proofs.Common.{◌<◌, ◌^◌, ◌∙◌, inl, inr, sym, arith, least_of_argument, most_of_argument}
 use Rattle.dg_cli.proofs.Telling.{no_decimal, out_of_range}
 use Rattle.dg_cli.proofs.reading.number_of_argument.Goals.{in_default-via-in-Some+then-least-number+else-number-most, in_default-via-in-Some+else-least-number, in_default-via-in_default}
 use Rattle.dg_cli.proofs.reading.number_of_argument.Goals as goal
@@ -10,12 +10,13 @@ returns-in_default c =
       | in_default-via-in-Some+then-least-number+else-number-most w ↦
           let fits = rw w.in-Some.is at c.natural.type_inv in
           let small : w.in-Some.number < 2 ^ 64 = omega (arith, fits) in
-          let above : most c.args.argument < w.in-Some.number = omega (arith, w.if-number-most.false, c.range-least.ensures.1) in
+          let above : most_of_argument c.args.argument < w.in-Some.number = omega
+          (arith, w.if-number-most.false, c.range-least.ensures.1) in
           out_of_range c.args.argument _ w.in-Some.number small (sym same ∙ w.in-Some.ensures) (inr above)
       | in_default-via-in-Some+else-least-number w ↦
           let fits = rw w.in-Some.is at c.natural.type_inv in
           let small : w.in-Some.number < 2 ^ 64 = omega (arith, fits) in
-          let below : w.in-Some.number < least c.args.argument = omega (
+          let below : w.in-Some.number < least_of_argument c.args.argument = omega (
             arith,
             w.if-least-number.false,
             c.range-least.ensures.0,

@@ -1,11 +1,11 @@
 -- One value, one content, one table or one fault.
-use Rattle.dg_file.proofs.Common.{◌≡◌, ℕ, List, length, sym, ap, ◌∙◌, StartData, Content, place_of, IsTable, IsTableFile, held_once, one_graph, FilesHaveOneMeaning}
+use Rattle.dg_file.proofs.Common.{◌≡◌, ℕ, List, length, sym, ap, ◌∙◌, StartData, Content, place_of, IsTableInFile, IsTableFile, held_once, one_graph, FilesHaveOneMeaning}
 use Rattle.dg_file.proofs.OneContent.{found-once, same-value, same-content}
 use Rattle.dg_file.proofs.OneFile.{file-none, file-one}
 use Rattle.dg_file.proofs.laws.files_have_one_meaning.Goals as goal
 
-one-described : (content : Content) (o p : StartData) (names others : List (List ℕ)) → IsTable content o names
-    → IsTable content p others → (o ≡ p) × (names ≡ others)
+one-described : (content : Content) (o p : StartData) (names others : List (List ℕ)) → IsTableInFile content o names
+    → IsTableInFile content p others → (o ≡ p) × (names ≡ others)
 one-described content o p names others a b =
     let same : names ≡ others = a.given ∙ sym b.given in
     let graph : o.graph ≡ p.graph = one_graph o.graph p.graph a.graph.graph b.graph.graph

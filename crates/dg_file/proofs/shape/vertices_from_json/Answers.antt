@@ -1,5 +1,5 @@
 -- The texts read so far, and the values that are left.
-use Rattle.dg_file.proofs.Common.{◌≡◌, option_map, sym, ap, ◌∙◌, map_push, as_str, view, items_view, texts_in}
+use Rattle.dg_file.proofs.Common.{◌≡◌, option_map, sym, ap, ◌∙◌, map_push, as_str, view, items_view, texts_in_json}
 use Rattle.dg_file.specs.Content.{each}
 use Rattle.dg_file.proofs.Listing.{each-more, each-failed, each-all, listed-each}
 use Rattle.dg_file.proofs.NamesRead.{the_text, texts}
@@ -7,7 +7,7 @@ use Rattle.dg_file.proofs.shape.vertices_from_json.Goals as goal
 use Rattle.dg_file.proofs.shape.vertices_from_json.Goals.{After-deref-vertex-items}
 
 read : (c : After-deref-vertex-items)
-    → texts_in (view c.args.value.now) ≡ each as_str (items_view c.deref-vertex-items.result.now)
+    → texts_in_json (view c.args.value.now) ≡ each as_str (items_view c.deref-vertex-items.result.now)
 read c =
     listed-each as_str _ c.as_array.result c.in-Some.items c.deref-vertex-items.result.now c.as_array.ensures
     c.in-Some.is c.deref-vertex-items.ensures.value

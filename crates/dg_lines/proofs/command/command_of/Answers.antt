@@ -1,21 +1,21 @@
 -- A word that is not as its kind wants it refuses the line, and what stands before it is good.
-use Rattle.dg_lines.proofs.Common.{[], All-head, degree, dollars, IsNumberFor}
+use Rattle.dg_lines.proofs.Common.{[], All-head, degree, dollars, IsNumberForWord}
 use Rattle.dg_lines.specs.declared.command.Keyword.TheVariants as of
 use Rattle.dg_lines.proofs.Given.{named_alone, none_given}
 use Rattle.dg_lines.proofs.Refusing.{unnamed, misnumbered, no_script}
 use Rattle.dg_lines.proofs.command.command_of.Goals as goal
 
-pub returns-in_err-vertex_of-in-Lend : goal.returns-in_err-vertex_of-in-Lend
-returns-in_err-vertex_of-in-Lend c =
-    let (same, bad) = c.in_err-vertex_of-in-Lend.ensures in
+pub returns-in_err-vertex_in_word-in-Lend : goal.returns-in_err-vertex_in_word-in-Lend
+returns-in_err-vertex_in_word-in-Lend c =
+    let (same, bad) = c.in_err-vertex_in_word-in-Lend.ensures in
     rw c.in-Lend.is (unnamed c.args.names.now of.Lend _ (rw c.in-Lend.is at c.requires) _ _
     c.from_residual.ensures.1 same (λ named. bad named.0))
 
-pub returns-in_err-vertex_of-in-Borrow : goal.returns-in_err-vertex_of-in-Borrow
-returns-in_err-vertex_of-in-Borrow c =
-    let (same, bad) = c.in_err-vertex_of-in-Borrow.ensures in
+pub returns-in_err-vertex_in_word-in-Borrow : goal.returns-in_err-vertex_in_word-in-Borrow
+returns-in_err-vertex_in_word-in-Borrow c =
+    let (same, bad) = c.in_err-vertex_in_word-in-Borrow.ensures in
     rw c.in-Borrow.is (unnamed c.args.names.now of.Borrow _ (rw c.in-Borrow.is at c.requires) _ _
-    c.from_residual-in_err-vertex_of-in-Borrow.ensures.1 same (λ named. bad named.0))
+    c.from_residual-in_err-vertex_in_word-in-Borrow.ensures.1 same (λ named. bad named.0))
 
 pub returns-in_err-set_in_word-in-Fire : goal.returns-in_err-set_in_word-in-Fire
 returns-in_err-set_in_word-in-Fire c =
@@ -23,11 +23,11 @@ returns-in_err-set_in_word-in-Fire c =
     rw c.in-Fire.is (unnamed c.args.names.now of.Fire _ (rw c.in-Fire.is at c.requires) _ _
     c.from_residual-in_err-set_in_word-in-Fire.ensures.1 same (λ named. bad named.0))
 
-pub returns-in_err-script_of-in-Script : goal.returns-in_err-script_of-in-Script
-returns-in_err-script_of-in-Script c =
+pub returns-in_err-script_in_word-in-Script : goal.returns-in_err-script_in_word-in-Script
+returns-in_err-script_in_word-in-Script c =
     rw c.in-Script.is (no_script c.args.names.now c.args.first.now (rw c.in-Script.is at c.requires) _ _
-    c.from_residual-in_err-script_of-in-Script.ensures.1
-    c.in_err-script_of-in-Script.ensures)
+    c.from_residual-in_err-script_in_word-in-Script.ensures.1
+    c.in_err-script_in_word-in-Script.ensures)
 
 pub returns-in_err-v-in-Gift : goal.returns-in_err-v-in-Gift
 returns-in_err-v-in-Gift c =
@@ -42,7 +42,7 @@ returns-in_err-dollars_in_word-in-Gift c =
     rw c.in-Gift.is (misnumbered c.args.names.now of.Gift _ (rw c.in-Gift.is at c.requires) _ _
     c.from_residual-in_err-dollars_in_word-in-Gift.ensures.1 same
     (named_alone names c.args.first.now _ c.in_ok-v-in-Gift.ensures, (none_given names, tt))
-    (λ all. bad (All-head (IsNumberFor dollars) c.args.second.now [] all.1.0)))
+    (λ all. bad (All-head (IsNumberForWord dollars) c.args.second.now [] all.1.0)))
 
 pub returns-in_err-u-in-Join : goal.returns-in_err-u-in-Join
 returns-in_err-u-in-Join c =
@@ -50,15 +50,15 @@ returns-in_err-u-in-Join c =
     rw c.in-Join.is (unnamed c.args.names.now of.Join _ (rw c.in-Join.is at c.requires) _ _
     c.from_residual-in_err-u-in-Join.ensures.1 same (λ named. bad named.0))
 
-pub returns-in_err-vertex_of-in-Join : goal.returns-in_err-vertex_of-in-Join
-returns-in_err-vertex_of-in-Join c =
-    let (same, bad) = c.in_err-vertex_of-in-Join.ensures in
+pub returns-in_err-vertex_in_word-in-Join : goal.returns-in_err-vertex_in_word-in-Join
+returns-in_err-vertex_in_word-in-Join c =
+    let (same, bad) = c.in_err-vertex_in_word-in-Join.ensures in
     rw c.in-Join.is (unnamed c.args.names.now of.Join _ (rw c.in-Join.is at c.requires) _ _
-    c.from_residual-in_err-vertex_of-in-Join.ensures.1 same (λ named. bad named.1.0))
+    c.from_residual-in_err-vertex_in_word-in-Join.ensures.1 same (λ named. bad named.1.0))
 
 pub returns-in_err-degree_in_word-in-Rank : goal.returns-in_err-degree_in_word-in-Rank
 returns-in_err-degree_in_word-in-Rank c =
     let (same, bad) = c.in_err-degree_in_word-in-Rank.ensures in
     rw c.in-Rank.is (misnumbered c.args.names.now of.Rank _ (rw c.in-Rank.is at c.requires) _ _
     c.from_residual-in_err-degree_in_word-in-Rank.ensures.1 same
-    (none_given c.args.names.now, tt) (λ all. bad (All-head (IsNumberFor degree) c.args.first.now [] all.0)))
+    (none_given c.args.names.now, tt) (λ all. bad (All-head (IsNumberForWord degree) c.args.first.now [] all.0)))

@@ -10,14 +10,14 @@ returns-then-text-eq48 c n first last e =
 
 pub returns-in-1 : goal.returns-in-1
 returns-in-1 c =
-    told_weaker c.seat_in_digits.result _ _ _ _ c.seat_in_digits.ensures
+    told_weaker c.seat_number_in_word.result _ _ _ _ c.seat_number_in_word.ensures
     (λ none n first last e.
     let (tens, ones) = seat_one c.args.text.now n last e c.in-1.is in none n first last tens ones)
     (λ n known. (known.0, known.1, one_digit c.args.text.now n c.in-1.is known.2 known.3))
 
 pub returns-else-text-eq48 : goal.returns-else-text-eq48
 returns-else-text-eq48 c =
-    told_weaker c.seat_in_digits-in-2.result _ _ _ _ c.seat_in_digits-in-2.ensures
+    told_weaker c.seat_number_in_word-in-2.result _ _ _ _ c.seat_number_in_word-in-2.ensures
     (λ none n first last e.
     let (many, tens, ones) = seat_two c.args.text.now n last e c.in-2.is in none n first last tens ones)
     (λ n known. (

@@ -4,17 +4,17 @@ use Rattle.dg_party.proofs.threads.+fn-play_in_parallel-others+play_in_parallel.
 
 pub returns-in-Ok-default-Ok-clause-ok : goal.returns-in-Ok-default-Ok-clause-ok
 returns-in-Ok-default-Ok-clause-ok g n c =
-    IfOk-weaker c.with_first_script.result _ _ (λ all is.
+    IfOk-weaker c.with_first_session.result _ _ (λ all is.
     one_more _ _ _ _ _ _ _ _ _ _ c.in-Ok-default-Ok.end c.in-Ok-default-Ok.ends.items _
     c.in-Some-split_first.ensures.cases.0 c.in-Some.ensures.cases.0 is (search rules) (search rules))
-    c.with_first_script.ensures.all
+    c.with_first_session.ensures.all
 
 pub returns-in-Ok-default-Ok-clause-fault : goal.returns-in-Ok-default-Ok-clause-fault
 returns-in-Ok-default-Ok-clause-fault g n c =
-    IfErr-weaker c.with_first_script.result _ _ (λ lack is.
+    IfErr-weaker c.with_first_session.result _ _ (λ lack is.
     all_begun _ _ _ _ _ _ _ _ _ _ c.in-Ok-default-Ok.end c.in-Ok-default-Ok.ends.items _
     c.in-Some-split_first.ensures.cases.0 c.in-Some.ensures.cases.0 (search rules) (search rules) is)
-    c.with_first_script.ensures.memory
+    c.with_first_session.ensures.memory
 
 pub returns-in-Ok-default-Err-clause-fault : goal.returns-in-Ok-default-Err-clause-fault
 returns-in-Ok-default-Err-clause-fault g n c =

@@ -1,4 +1,4 @@
-use Rattle.dg_rank.proofs.Common.{ℕ, ◌+◌, ◌-◌, ◌≤◌, arith, ◌∙◌, WinFrom, slice_index, at}
+use Rattle.dg_rank.proofs.Common.{ℕ, ◌+◌, ◌-◌, ◌≤◌, arith, ◌∙◌, TrialsWinFrom, slice_index, at}
 use Rattle.dg_rank.proofs.FixedBeginnings.{loss_few, first_skip, first_last, first_unpaid, fewer_lost}
 use Rattle.dg_rank.proofs.FirstFrom.{held_few, first_with}
 use Rattle.dg_rank.proofs.LossBoxes.{taken_small}
@@ -37,7 +37,7 @@ some t c =
           c.requires.known c.requires.place,
     )
 
-won : (t : ℕ) (c : In_default t) → WinFrom c.args.graph.now (at c.args.left.now) c.args.dollars (c.args.place + 1)
+won : (t : ℕ) (c : In_default t) → TrialsWinFrom c.args.graph.now (at c.args.left.now) c.args.dollars (c.args.place + 1)
 won t c = c.in_default.ensures.told
 
 pub overflow_sub-dollars : goal.overflow_sub-dollars

@@ -1,4 +1,4 @@
-use Rattle.dg_rank.proofs.Common.{◌≡◌, ℕ, arith, inr, subst, AreCounted, AnyTrial}
+use Rattle.dg_rank.proofs.Common.{◌≡◌, ℕ, arith, inr, subst, AreTrialsCounted, AnyTrial}
 use Rattle.dg_rank.specs.Numbering.{trial_count, nth_trial}
 use Rattle.dg_rank.proofs.Numbering.{numbered}
 use Rattle.dg_rank.proofs.counting.trials.Goals as goal
@@ -18,7 +18,7 @@ returns c =
       some = omega arith;
       few = omega arith;
       small = omega arith;
-      counted = subst (λ (m : ℕ). AreCounted c.args.n c.args.k AnyTrial m) same
+      counted = subst (λ (m : ℕ). AreTrialsCounted c.args.n c.args.k AnyTrial m) same
           (nth_trial c.args.n c.args.k, numbered c.args.n c.args.k);
       limit = omega arith;
     }

@@ -1,4 +1,4 @@
-use Rattle.dg_rank.proofs.Common.{◌≡◌, ℕ, ◌-◌, ◌<◌, ◌≤◌, length, arith, refl, sym, ◌∙◌, slice_index, at, IsTrial, IsWithinLimits}
+use Rattle.dg_rank.proofs.Common.{◌≡◌, ℕ, ◌-◌, ◌<◌, ◌≤◌, length, arith, refl, sym, ◌∙◌, slice_index, at, IsTrial, AreTrialsWithinLimits}
 use Rattle.dg_rank.specs.Numbering.{nth_trial}
 use Rattle.dg_rank.proofs.Numbering.{limits_trial}
 use Rattle.dg_rank.proofs.Leaps.{IsSplit}
@@ -41,7 +41,7 @@ first_loss_from-later-requires-clause-few c = few (goal.at.first_loss_from-later
 pub then-requires : goal.then-requires
 then-requires c = record { sizes = c.first_loss_from-later.ensures.first.places ∙ sym (shape (goal.at.then-requires c).Start).0 }
 
-split : (c : Start) (k count i : ℕ) → IsWithinLimits c.args.graph.now.size k count → i < count →
+split : (c : Start) (k count i : ℕ) → AreTrialsWithinLimits c.args.graph.now.size k count → i < count →
     c.args.trial ≡ nth_trial c.args.graph.now.size k i → IsSplit c.args.graph.now.size k count i c.args.place
     (slice_index c.args.trial (c.args.graph.now.size - 1)) c.args.trial
 split c k count i limits low is = record {
@@ -53,7 +53,7 @@ split c k count i limits low is = record {
   last = refl;
 }
 
-block : (c : In-Some) (k count i : ℕ) → IsWithinLimits c.args.graph.now.size k count → i < count →
+block : (c : In-Some) (k count i : ℕ) → AreTrialsWithinLimits c.args.graph.now.size k count → i < count →
     c.args.trial ≡ nth_trial c.args.graph.now.size k i → IsBlockOf c.args.graph.now (at c.args.chips.now) k count i
     c.args.place (slice_index c.args.trial (c.args.graph.now.size - 1)) c.args.trial c.in-Some.left
 block c k count i limits low is = record {

@@ -1,11 +1,11 @@
-use Rattle.dg_rank.proofs.Common.{◌≡◌, ◌-◌, slice_index, ◌≤◌, arith, refl, ◌∙◌, ◌≤ℤ◌, unsigned_abs, pos, ints, AgreeOn, AreEquivalent, less, equivalent-refl, equivalent-trans, effective_from, reduced_decides, at, IsEffectiveDivisor, amounts_of_trial}
+use Rattle.dg_rank.proofs.Common.{◌≡◌, ◌-◌, slice_index, ◌≤◌, arith, refl, ◌∙◌, ◌≤ℤ◌, unsigned_abs, pos, ints, DivisorsAgreeOn, AreEquivalent, less, equivalent-refl, equivalent-trans, effective_from, reduced_decides, at, IsEffectiveDivisor, amounts_of_trial}
 use Rattle.dg_rank.proofs.Elsewhere.{degree-given, given_back, left_degree, left_small, form_kept, rich_small, trial_small}
 use Rattle.dg_rank.proofs.first_loss.left_before_last.Goals as goal
 use Rattle.dg_rank.proofs.first_loss.left_before_last.Goals.{After-size-last, After-less, After-reduce_certified-reduced, After-of-left}
 
 -- the amounts without the trial's
 left : (c : After-less) →
-    AgreeOn c.args.graph.now.size (less (at c.args.chips.now) (amounts_of_trial c.args.trial.now)) (at c.less.result)
+    DivisorsAgreeOn c.args.graph.now.size (less (at c.args.chips.now) (amounts_of_trial c.args.trial.now)) (at c.less.result)
 left c v inside =
     omega (
       arith,
@@ -16,7 +16,7 @@ left c v inside =
 
 -- they are fired to the reduced ones
 led : (c : After-reduce_certified-reduced) →
-    AgreeOn c.args.graph.now.size (less (at c.args.chips.now) (amounts_of_trial c.args.trial.now)) (at c.less.result) →
+    DivisorsAgreeOn c.args.graph.now.size (less (at c.args.chips.now) (amounts_of_trial c.args.trial.now)) (at c.less.result) →
     AreEquivalent c.args.graph.now (less (at c.args.chips.now) (amounts_of_trial c.args.trial.now))
     (at c.reduce_certified-reduced.result.reduced.divisor)
 led c same = equivalent-trans c.args.graph.now _ (at c.less.result) _
@@ -25,7 +25,7 @@ led c same = equivalent-trans c.args.graph.now _ (at c.less.result) _
 
 -- so the reduced ones, where q owes nothing, are a form of them
 form : (c : After-reduce_certified-reduced) →
-    AgreeOn c.args.graph.now.size (less (at c.args.chips.now) (amounts_of_trial c.args.trial.now)) (at c.less.result) →
+    DivisorsAgreeOn c.args.graph.now.size (less (at c.args.chips.now) (amounts_of_trial c.args.trial.now)) (at c.less.result) →
     pos 0 ≤ℤ at c.reduce_certified-reduced.result.reduced.divisor 0 →
     IsEffectiveDivisor c.args.graph.now
     (less (at c.args.chips.now) (amounts_of_trial c.args.trial.now)) c.reduce_certified-reduced.result.reduced.divisor

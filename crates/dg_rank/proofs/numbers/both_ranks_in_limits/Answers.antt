@@ -2,13 +2,13 @@ use Rattle.dg_rank.proofs.Common.{arith, inl, inr, ints, less, canonical, not_ri
 use Rattle.dg_rank.proofs.RankByTests.{fails_low, rank_before, rank_of_dual_before, in_limits, needs_too_many, past_tests}
 use Rattle.dg_rank.proofs.numbers.both_ranks_in_limits.Goals as goal
 
-pub degree_of_dual-dual_fails-requires-clause-low : goal.degree_of_dual-dual_fails-requires-clause-low
-degree_of_dual-dual_fails-requires-clause-low c =
+pub rank_degree_of_dual-dual_fails-requires-clause-low : goal.rank_degree_of_dual-dual_fails-requires-clause-low
+rank_degree_of_dual-dual_fails-requires-clause-low c =
     fails_low c.args.graph.now (at c.args.divisor.now) c.in_ok-fails.fails c.size-size.ensures.graph.multigraph
     (omega arith) c.in_ok-fails.ensures.0
 
-pub degree_of_dual-dual_fails-requires-clause-poor : goal.degree_of_dual-dual_fails-requires-clause-poor
-degree_of_dual-dual_fails-requires-clause-poor c =
+pub rank_degree_of_dual-dual_fails-requires-clause-poor : goal.rank_degree_of_dual-dual_fails-requires-clause-poor
+rank_degree_of_dual-dual_fails-requires-clause-poor c =
     not_rich c.args.graph.now (at c.args.divisor.now) c.in_ok-fails.fails c.size-size.ensures.graph.multigraph
     (omega arith) c.in_ok-fails.ensures.0.fails
 
@@ -25,10 +25,10 @@ returns-in_err-trials-2 c =
     let g = c.args.graph.now in
     let D = at c.args.divisor.now in
     rw c.from_residual-in_err-trials-2.ensures
-    (inr (needs_too_many g (less (canonical g) D) c.degree_of_dual-dual_fails.result
-    (rank_of_dual_before g D c.in_ok-fails.fails c.degree_of_dual-dual_fails.result
+    (inr (needs_too_many g (less (canonical g) D) c.rank_degree_of_dual-dual_fails.result
+    (rank_of_dual_before g D c.in_ok-fails.fails c.rank_degree_of_dual-dual_fails.result
     c.size-size.ensures.graph.multigraph
-    (omega arith) c.in_ok-fails.ensures.0 c.degree_of_dual-dual_fails.ensures)
+    (omega arith) c.in_ok-fails.ensures.0 c.rank_degree_of_dual-dual_fails.ensures)
     (rw c.size-size.ensures.size at c.in_err-trials-2.ensures)))
 
 pub returns : goal.returns
@@ -38,10 +38,10 @@ returns c =
       in_limits g D c.in_ok-fails.fails c.in_ok-trials.field-0 _
           (rank_before g D c.in_ok-fails.fails c.in_ok-fails.ensures.0)
           (omega (arith, ints, c.from.ensures)) (rw c.size-size.ensures.size at c.in_ok-trials.ensures),
-      in_limits g (less (canonical g) D) c.degree_of_dual-dual_fails.result c.in_ok-trials-2.field-0 _
-          (rank_of_dual_before g D c.in_ok-fails.fails c.degree_of_dual-dual_fails.result
+      in_limits g (less (canonical g) D) c.rank_degree_of_dual-dual_fails.result c.in_ok-trials-2.field-0 _
+          (rank_of_dual_before g D c.in_ok-fails.fails c.rank_degree_of_dual-dual_fails.result
           c.size-size.ensures.graph.multigraph
-          (omega arith) c.in_ok-fails.ensures.0 c.degree_of_dual-dual_fails.ensures)
+          (omega arith) c.in_ok-fails.ensures.0 c.rank_degree_of_dual-dual_fails.ensures)
           (omega (arith, ints, c.from-2.ensures)) (rw c.size-size.ensures.size at c.in_ok-trials-2.ensures),
     )
 

@@ -1,4 +1,4 @@
-use Rattle.dg_rank.proofs.Common.{◌≡◌, ℕ, ◌-◌, ◌<◌, slice_index, MatchOption, arith, ints, refl, ◌∙◌, equivalent-refl, at, IsWithinLimits, AllWin, IsFirstLossIn}
+use Rattle.dg_rank.proofs.Common.{◌≡◌, ℕ, ◌-◌, ◌<◌, slice_index, MatchOption, arith, ints, refl, ◌∙◌, equivalent-refl, at, AreTrialsWithinLimits, AllTrialsWin, IsFirstLossOfTrials}
 use Rattle.dg_rank.specs.Numbering.{nth_trial}
 use Rattle.dg_rank.proofs.AskedVertices.{none_made}
 use Rattle.dg_rank.proofs.FirstLosses.{some_number, found_all, found_trial}
@@ -6,8 +6,8 @@ use Rattle.dg_rank.proofs.Leaps.{first_at}
 use Rattle.dg_rank.proofs.ranks.tested.Goals as goal
 use Rattle.dg_rank.proofs.ranks.tested.Goals.{After-trial_at_last-first, After-first_trial_in_block-loss}
 
-pub dual_wins-requires : goal.dual_wins-requires
-dual_wins-requires c =
+pub dual_passes_rank_test-requires : goal.dual_passes_rank_test-requires
+dual_passes_rank_test-requires c =
     let (count, within) = c.requires.limits in
     record {
       size = c.requires.size;
@@ -24,7 +24,7 @@ first_trial_in_block-loss-requires-clause-range c v inside =
 held : (c : After-trial_at_last-first) → slice_index c.trial_at_last-first.result (c.args.graph.now.size - 1) ≡ c.args.k
 held c = rw c.size-size.ensures.size at c.trial_at_last-first.ensures.held
 
-first : (c : After-trial_at_last-first) → (count : ℕ) → IsWithinLimits c.args.graph.now.size c.args.k count →
+first : (c : After-trial_at_last-first) → (count : ℕ) → AreTrialsWithinLimits c.args.graph.now.size c.args.k count →
     c.trial_at_last-first.result ≡ nth_trial c.args.graph.now.size c.args.k 0
 first c count within =
     first_at c.args.graph.now.size c.args.k c.trial_at_last-first.result within.some
@@ -42,9 +42,9 @@ first_trial_in_block-loss-requires-clause-trial c =
       first (goal.at.first_trial_in_block-loss-requires-clause-trial c).After-trial_at_last-first count within,
     )
 
-found : (c : After-first_trial_in_block-loss) → (count : ℕ) → IsWithinLimits c.args.graph.now.size c.args.k count →
-    MatchOption c.first_trial_in_block-loss.result (AllWin c.args.graph.now (at c.of.result) c.args.k 0 count)
-    (IsFirstLossIn c.args.graph.now (at c.of.result) c.args.k 0 count)
+found : (c : After-first_trial_in_block-loss) → (count : ℕ) → AreTrialsWithinLimits c.args.graph.now.size c.args.k count →
+    MatchOption c.first_trial_in_block-loss.result (AllTrialsWin c.args.graph.now (at c.of.result) c.args.k 0 count)
+    (IsFirstLossOfTrials c.args.graph.now (at c.of.result) c.args.k 0 count)
 found c count within =
     let d = (goal.at.After-first_trial_in_block-loss c).After-trial_at_last-first in
     found_all c.args.graph.now (at c.of.result) c.args.k count c.trial_at_last-first.result
@@ -66,5 +66,5 @@ returns c =
     (λ v inside. omega (arith, ints, c.of.ensures.amounts v (omega (arith, c.requires.size)))))
     (found (goal.at.returns c).After-first_trial_in_block-loss count within)
 
-pub returns-then-dual_wins : goal.returns-then-dual_wins
-returns-then-dual_wins c = (refl, c.if-dual_wins.ensures.told)
+pub returns-then-dual_passes_rank_test : goal.returns-then-dual_passes_rank_test
+returns-then-dual_passes_rank_test c = (refl, c.if-dual_passes_rank_test.ensures.told)

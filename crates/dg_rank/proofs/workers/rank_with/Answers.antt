@@ -1,5 +1,5 @@
-use Rattle.dg_rank.proofs.Common.{◌≡◌, ℕ, ◌<◌, List, Option, MatchOption, subst, ◌∙◌, arith, ints, equivalent-refl, Vector, at, Multigraph, IsWithinLimits, AllWin, IsFirstLossIn, Search}
-use Rattle.dg_rank.specs.Pieces.{piece_start, TellsFirstLossOfTrials}
+use Rattle.dg_rank.proofs.Common.{◌≡◌, ℕ, ◌<◌, List, Option, MatchOption, subst, ◌∙◌, arith, ints, equivalent-refl, Vector, at, Multigraph, AreTrialsWithinLimits, AllTrialsWin, IsFirstLossOfTrials, Search}
+use Rattle.dg_rank.specs.Pieces.{start_of_trials, TellsFirstLossOfTrials}
 use Rattle.dg_rank.proofs.FirstLosses.{found_trial}
 use Rattle.dg_rank.proofs.PieceLosses.{piece_first}
 use Rattle.dg_rank.proofs.workers.rank_with.Given.{Over}
@@ -20,12 +20,12 @@ search g x k count w = record { graph = g; chips = x; k = k; count = count; work
 
 -- the first piece starts with the first trial
 found : (g : Multigraph) (x : Vector) (k count w : ℕ) (loss : Option (List ℕ)) →
-    TellsFirstLossOfTrials (search g x k count w) (piece_start (search g x k count w) 0) count loss →
-    MatchOption loss (AllWin g (at x) k 0 count) (IsFirstLossIn g (at x) k 0 count)
+    TellsFirstLossOfTrials (search g x k count w) (start_of_trials (search g x k count w) 0) count loss →
+    MatchOption loss (AllTrialsWin g (at x) k 0 count) (IsFirstLossOfTrials g (at x) k 0 count)
 found g x k count w loss told =
     subst (λ (m : ℕ). TellsFirstLossOfTrials (search g x k count w) m count loss) (piece_first (search g x k count w)) told
 
-limits : (g : Over) (c : In-None g) → IsWithinLimits c.args.graph.now.size c.args.k c.trials_to_make.result
+limits : (g : Over) (c : In-None g) → AreTrialsWithinLimits c.args.graph.now.size c.args.k c.trials_to_make.result
 limits g c =
     let all : c.trials_to_make.result ≡ c.in-Some.count = rw c.in-None.is at c.trials_to_make.ensures.all in
     rw all (rw c.size-size.ensures.size at c.in-Some.ensures)

@@ -1,4 +1,4 @@
-use Rattle.dg_server.proofs.Common.{rules, sym, subst, AreFresh, IsClosed, IsCloseRefused, seats_back}
+use Rattle.dg_server.proofs.Common.{rules, sym, subst, AreFreshSeats, IsClosed, IsCloseRefused, seats_back}
 use Rattle.dg_server.proofs.Serving.{served, unclosed}
 use Rattle.dg_server.proofs.serve.serve_stream_on.Goals as goal
 
@@ -7,7 +7,7 @@ returns-in-Ok-ended-clause-done g c = (
   c.in-Ok-ended.field-0,
   served (record {
     seats = c.deref_mut.result.now;
-    fresh = subst (AreFresh c.args.seats) (sym c.deref_mut.ensures.value) c.in-Ok.ensures;
+    fresh = subst (AreFreshSeats c.args.seats) (sym c.deref_mut.ensures.value) c.in-Ok.ensures;
     after = c.serve_seats-ended.new.seats;
     session = rw (← c.requires.table, ← c.names-names.ensures.value) c.in-Ok-ended.ensures.session;
   }) c.in-Ok-close.history.pen.entries c.serve_seats-ended.ensures.session.numbers
@@ -22,7 +22,7 @@ pub returns-in-Ok-close-clause-early : goal.returns-in-Ok-close-clause-early
 returns-in-Ok-close-clause-early g c =
     served (record {
       seats = c.deref_mut.result.now;
-      fresh = subst (AreFresh c.args.seats) (sym c.deref_mut.ensures.value) c.in-Ok.ensures;
+      fresh = subst (AreFreshSeats c.args.seats) (sym c.deref_mut.ensures.value) c.in-Ok.ensures;
       after = c.serve_seats-ended.new.seats;
       session = rw (← c.requires.table, ← c.names-names.ensures.value) c.in-Err-ended.ensures.session;
     }) c.in-Ok-close.history.pen.entries c.serve_seats-ended.ensures.session.numbers
@@ -36,7 +36,7 @@ pub returns-clause-early : goal.returns-clause-early
 returns-clause-early g c =
     unclosed {end = c.serve_seats-ended.result} (record {
       seats = c.deref_mut.result.now;
-      fresh = subst (AreFresh c.args.seats) (sym c.deref_mut.ensures.value) c.in-Ok.ensures;
+      fresh = subst (AreFreshSeats c.args.seats) (sym c.deref_mut.ensures.value) c.in-Ok.ensures;
       after = c.serve_seats-ended.new.seats;
       session = rw (← c.requires.table, ← c.names-names.ensures.value) c.serve_seats-ended.ensures.session;
     }) c.in-Err-close.field-0.seats.items c.in-Err-close.field-0.missing c.serve_seats-ended.ensures.session.numbers

@@ -1,6 +1,6 @@
-use Rattle.dg_session.proofs.Common.{◌<◌, ◌∙◌, length, refl, ap, arith, chunk_size, read_chunk, read_nothing, heard, Read, Write}
+use Rattle.dg_session.proofs.Common.{◌<◌, ◌∙◌, length, Some, refl, ap, arith, chunk_size, read_chunk, read_nothing, heard, Read, Write}
 use Rattle.dg_session.proofs.Sessions.{so_far_new, so_far_more, session_unsaid, session_reads, session_ends, session_closes, session_halts, written_ok, not_by, halts_by, fewer_left}
-use Rattle.dg_session.proofs.Spoken.{said_whole, cleared_whole, unheard, silent}
+use Rattle.dg_session.proofs.Spoken.{said_whole, is_heard}
 use Rattle.dg_session.proofs.serving.serve_lines.Goals as goal
 
 pub returns-in_default-clause-session : goal.returns-in_default-clause-session
@@ -12,8 +12,7 @@ returns-in_default-new-clause-session g c = session_unsaid (so_far_new c.require
 pub reads-init : goal.reads-init
 reads-init g c = (
   rw c.in-Some.ensures.begins (so_far_new c.requires.some),
-  ap heard c.in-Some.ensures.said,
-  λ none. refl,
+  ap heard c.in-Some.ensures.said ∙ ap (λ l. Some l) c.new.ensures.items,
   omega (arith, c.in-Ok.ensures.len, c.in-Ok.buffer.ok.0),
 )
 
@@ -30,48 +29,41 @@ returns-in_default-read_some-clause-write g c e = absurd cc
 pub returns-in-Ok-write_said-clause-session : goal.returns-in-Ok-write_said-clause-session
 returns-in-Ok-write_said-clause-session g c =
     let zero = c.if-size-eq0.true in
-    let room : 0 < length c.reads.buffer.items = omega (arith, c.reads.invariant.3) in
+    let room : 0 < length c.reads.buffer.items = omega (arith, c.reads.invariant.2) in
     session_ends c.reads.writer c.write_said.new.writer c.reads.invariant.0
     (read_nothing _ _ _ _ zero c.in-Some-read_some.ensures.bytes) (c.in-Some-read_some.ensures.end zero room)
-    c.take_end-taken.ensures (c.in-Ok-write_said.ensures.written c.take_end-taken.ensures.text
-    (said_whole (heard c.args.text) _ c.requires.said c.reads.invariant.1
-    c.take_end-taken.ensures.grown))
+    c.take_session_end-taken.ensures (c.in-Ok-write_said.ensures.written c.take_session_end-taken.ensures.text
+    (said_whole _ c.reads.invariant.1 c.take_session_end-taken.ensures.grown))
 
 pub returns-in-Err-clause-session : goal.returns-in-Err-clause-session
 returns-in-Err-clause-session g c =
     let zero = c.if-size-eq0.true in
-    let room : 0 < length c.reads.buffer.items = omega (arith, c.reads.invariant.3) in
+    let room : 0 < length c.reads.buffer.items = omega (arith, c.reads.invariant.2) in
     session_closes c.reads.writer c.write_said.new.writer c.reads.invariant.0
     (read_nothing _ _ _ _ zero c.in-Some-read_some.ensures.bytes) (c.in-Some-read_some.ensures.end zero room)
-    c.take_end-taken.ensures (c.in-Err.ensures.written c.take_end-taken.ensures.text
-    (said_whole (heard c.args.text) _ c.requires.said c.reads.invariant.1
-    c.take_end-taken.ensures.grown))
+    c.take_session_end-taken.ensures (c.in-Err.ensures.written c.take_session_end-taken.ensures.text
+    (said_whole _ c.reads.invariant.1 c.take_session_end-taken.ensures.grown))
 
 pub reads-preserved : goal.reads-preserved
 reads-preserved g c =
-    let (goes, written) = written_ok c.take_bytes-taken.result _ c.reads.writer c.write_said-in-reads.new.writer
-    (c.in-Ok-write_said-2.ensures.written c.take_bytes-taken.ensures.text
-    (said_whole (heard c.args.text) _ c.requires.said c.reads.invariant.1
-    c.take_bytes-taken.ensures.grown))
-    c.take_bytes-taken.ensures.taken in (
+    let (goes, written) = written_ok c.take_session_bytes-taken.result _ c.reads.writer c.write_said-in-reads.new.writer
+    (c.in-Ok-write_said-2.ensures.written c.take_session_bytes-taken.ensures.text
+    (said_whole _ c.reads.invariant.1 c.take_session_bytes-taken.ensures.grown))
+    c.take_session_bytes-taken.ensures.taken in (
       so_far_more c.reads.invariant.0 (read_chunk _ _ _ _ _ c.deref.ensures.value c.in-Some-read_some.ensures.bytes)
           goes written,
-      cleared_whole (heard c.args.text) _ c.requires.said c.reads.invariant.1 c.take_bytes-taken.ensures.grown
-          c.in-Ok-write_said-2.ensures.cleared,
-      λ none. c.write_said-in-reads.ensures.still (silent _ c.reads.invariant.1 c.take_bytes-taken.ensures.grown none)
-          ∙ c.reads.invariant.2 none,
-      c.read_some.ensures.size ∙ c.reads.invariant.3,
+      c.in-Ok-write_said-2.ensures.cleared,
+      c.read_some.ensures.size ∙ c.reads.invariant.2,
     )
 
 pub reads-smaller : goal.reads-smaller
 reads-smaller g c =
     let size = chunk_size c.in-Some-read_some.size c.deref.result.now c.read_some.new.buffer.items c.deref.ensures.value
     c.in-Some-read_some.ensures.bound in
-    let (goes, written) = written_ok c.take_bytes-taken.result _ c.reads.writer c.write_said-in-reads.new.writer
-    (c.in-Ok-write_said-2.ensures.written c.take_bytes-taken.ensures.text
-    (said_whole (heard c.args.text) _ c.requires.said c.reads.invariant.1
-    c.take_bytes-taken.ensures.grown))
-    c.take_bytes-taken.ensures.taken in
+    let (goes, written) = written_ok c.take_session_bytes-taken.result _ c.reads.writer c.write_said-in-reads.new.writer
+    (c.in-Ok-write_said-2.ensures.written c.take_session_bytes-taken.ensures.text
+    (said_whole _ c.reads.invariant.1 c.take_session_bytes-taken.ensures.grown))
+    c.take_session_bytes-taken.ensures.taken in
     let zero = c.if-size-eq0.false in
     fewer_left c.reads.invariant.0.goes.ready goes (omega (arith, size, zero))
 
@@ -79,49 +71,28 @@ pub returns-in-Err-write_said-clause-session : goal.returns-in-Err-write_said-cl
 returns-in-Err-write_said-clause-session g c =
     let size = chunk_size c.in-Some-read_some.size c.deref.result.now c.read_some.new.buffer.items c.deref.ensures.value
     c.in-Some-read_some.ensures.bound in
-    let room = c.read_some.ensures.size ∙ c.reads.invariant.3 in
+    let room = c.read_some.ensures.size ∙ c.reads.invariant.2 in
     session_halts c.reads.writer c.write_said-in-reads.new.writer c.reads.invariant.0
     (read_chunk _ _ _ _ _ c.deref.ensures.value c.in-Some-read_some.ensures.bytes)
     (omega (arith, size, c.in-Some-read_some.ensures.bound, room))
-    c.take_bytes-taken.ensures (c.in-Err-write_said.ensures.written c.take_bytes-taken.ensures.text
-    (said_whole (heard c.args.text) _ c.requires.said c.reads.invariant.1
-    c.take_bytes-taken.ensures.grown))
+    c.take_session_bytes-taken.ensures (c.in-Err-write_said.ensures.written c.take_session_bytes-taken.ensures.text
+    (said_whole _ c.reads.invariant.1 c.take_session_bytes-taken.ensures.grown))
 
--- a session that nobody hears leaves the writer as it was
-pub write_said-requires-clause-unknown : goal.write_said-requires-clause-unknown
-write_said-requires-clause-unknown g c none =
-    let silent = unheard (heard c.args.text) _ c.reads.invariant.1 c.take_end-taken.ensures.grown none in
-    ap (λ w. w.contents) (c.reads.invariant.2 silent) ∙ c.requires.unknown silent
+pub write_said-requires-clause-heard : goal.write_said-requires-clause-heard
+write_said-requires-clause-heard g c = is_heard _ c.reads.invariant.1 c.take_session_end-taken.ensures.grown
 
-pub write_said-requires-in-reads-clause-unknown : goal.write_said-requires-in-reads-clause-unknown
-write_said-requires-in-reads-clause-unknown g c none =
-    let silent = unheard (heard c.args.text) _ c.reads.invariant.1 c.take_bytes-taken.ensures.grown none in
-    ap (λ w. w.contents) (c.reads.invariant.2 silent) ∙ c.requires.unknown silent
+pub write_said-requires-in-reads-clause-heard : goal.write_said-requires-in-reads-clause-heard
+write_said-requires-in-reads-clause-heard g c = is_heard _ c.reads.invariant.1 c.take_session_bytes-taken.ensures.grown
 
 pub write_said-requires-clause-not_read : goal.write_said-requires-clause-not_read
-write_said-requires-clause-not_read g c = not_by Read c.take_end-taken.ensures.halted (λ end. halts_by end)
+write_said-requires-clause-not_read g c = not_by Read c.take_session_end-taken.ensures.halted (λ end. halts_by end)
 
 pub write_said-requires-clause-not_written : goal.write_said-requires-clause-not_written
-write_said-requires-clause-not_written g c = not_by Write c.take_end-taken.ensures.halted (λ end. halts_by end)
+write_said-requires-clause-not_written g c = not_by Write c.take_session_end-taken.ensures.halted (λ end. halts_by end)
 
 pub write_said-requires-in-reads-clause-not_read : goal.write_said-requires-in-reads-clause-not_read
-write_said-requires-in-reads-clause-not_read g c = not_by Read c.take_bytes-taken.ensures.halted (λ end. halts_by end)
+write_said-requires-in-reads-clause-not_read g c = not_by Read c.take_session_bytes-taken.ensures.halted (λ end. halts_by end)
 
 pub write_said-requires-in-reads-clause-not_written : goal.write_said-requires-in-reads-clause-not_written
 write_said-requires-in-reads-clause-not_written g c =
-    not_by Write c.take_bytes-taken.ensures.halted (λ end. halts_by end)
-
-pub returns-in-Ok-write_said-clause-still : goal.returns-in-Ok-write_said-clause-still
-returns-in-Ok-write_said-clause-still g c none =
-    c.write_said.ensures.still (silent _ c.reads.invariant.1 c.take_end-taken.ensures.grown none)
-    ∙ c.reads.invariant.2 none
-
-pub returns-in-Err-clause-still : goal.returns-in-Err-clause-still
-returns-in-Err-clause-still g c none =
-    c.write_said.ensures.still (silent _ c.reads.invariant.1 c.take_end-taken.ensures.grown none)
-    ∙ c.reads.invariant.2 none
-
-pub returns-in-Err-write_said-clause-still : goal.returns-in-Err-write_said-clause-still
-returns-in-Err-write_said-clause-still g c none =
-    c.write_said-in-reads.ensures.still (silent _ c.reads.invariant.1 c.take_bytes-taken.ensures.grown none)
-    ∙ c.reads.invariant.2 none
+    not_by Write c.take_session_bytes-taken.ensures.halted (λ end. halts_by end)

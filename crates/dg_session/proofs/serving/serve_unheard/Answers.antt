@@ -4,7 +4,7 @@ use Rattle.dg_session.proofs.serving.serve_unheard.Goals as goal
 pub returns-clause-session : goal.returns-clause-session
 returns-clause-session g c =
     session_alone _ c.from_mut-seats.ensures.value (record {
-      over = rw (c.serve_lines-ended.ensures.still cc, c.new-writer.ensures.contents) at c.serve_lines-ended.ensures.session;
+      over = c.serve_unheard_lines-ended.ensures.session;
       found = c.speakers_have_prefixes.ensures;
-      numbers = numbers_of c.serve_lines-ended.ensures.session;
+      numbers = numbers_of c.serve_unheard_lines-ended.ensures.session;
     })

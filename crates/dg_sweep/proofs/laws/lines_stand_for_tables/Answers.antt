@@ -1,13 +1,14 @@
 -- The table with other amounts has the same names, graph and q.
-use Rattle.dg_sweep.proofs.Common.{◌≡◌, ℕ, ℤ, List, length, sym, ap, ◌∙◌, subst, StartData, IsFirstChipFault, ChipFault, Content, IsTable, RefusesTable, Chip, SpellsAmounts, HasAmountsOf, RefusesSweptAmounts, with_amounts_of_line}
+use Rattle.dg_sweep.proofs.Common.{◌≡◌, ℕ, ℤ, List, length, sym, ap, ◌∙◌, subst, StartData, IsFirstChipFault, ChipFault, Content, IsTableInFile, RefusesTable, Chip, SpellsSweptAmounts, HasSweptAmounts, RefusesSweptAmounts, with_swept_amounts}
 use Rattle.dg_sweep.proofs.laws.lines_stand_for_tables.Goals as goal
 
-stands : (content : Content) (o p : StartData) (names : List (List ℕ)) (line : List ℕ) → IsTable content o names
-    → HasAmountsOf o line p → (xs : List ℤ) × SpellsAmounts line xs × IsTable (with_amounts_of_line content xs) p names
+stands : (content : Content) (o p : StartData) (names : List (List ℕ)) (line : List ℕ) → IsTableInFile content o names
+    → HasSweptAmounts o line p → (xs : List ℤ) × SpellsSweptAmounts line xs
+    × IsTableInFile (with_swept_amounts content xs) p names
 stands content o p names line table has = (
   has.xs,
   has.spelled,
-  subst (λ x. IsTable (with_amounts_of_line content has.xs) x names) (sym has.rest) (record {
+  subst (λ x. IsTableInFile (with_swept_amounts content has.xs) x names) (sym has.rest) (record {
     given = table.given;
     are_names = table.are_names;
     graph = table.graph;
@@ -19,8 +20,8 @@ stands content o p names line table has = (
 )
 
 refused : (content : Content) (o : StartData) (names : List (List ℕ)) (line : List ℕ) (fault : ChipFault)
-    → IsTable content o names → RefusesSweptAmounts o.graph.size line (Chip fault)
-    → (xs : List ℤ) × SpellsAmounts line xs × RefusesTable (with_amounts_of_line content xs) (Chip fault)
+    → IsTableInFile content o names → RefusesSweptAmounts o.graph.size line (Chip fault)
+    → (xs : List ℤ) × SpellsSweptAmounts line xs × RefusesTable (with_swept_amounts content xs) (Chip fault)
 refused content o names line fault table (xs, spelled, first) =
     let size : o.graph.size ≡ length content.vertices = table.graph.size ∙ ap length table.given in (
       xs,

@@ -5,8 +5,8 @@ pub returns : goal.returns
 returns c =
     rw (
       c.in_ok-push-2.ensures.items,
-      c.in_ok-push_labelled-2.ensures,
+      c.in_ok-push_swept_labelled-2.ensures,
       c.in_ok-push.ensures.items,
-      c.in_ok-push_labelled.ensures,
+      c.in_ok-push_swept_labelled.ensures,
       c.in_ok-push_swept_front.ensures,
     ) (simp append_assoc)

@@ -8,7 +8,7 @@ loop-place-init g c = ([], leads_none _, sym (append-nil c.args.text.now.items))
 pub loop-place-preserved : goal.loop-place-preserved
 loop-place-preserved g c =
     puts_piece _ c.args.pieces.now c.loop-place.place c.args.text.now.items c.loop-place.text.items
-    c.put_answer.new.text.items (search rules) c.requires.lines c.loop-place.invariant c.in_ok-put_answer.ensures
+    c.put_swept_answer.new.text.items (search rules) c.requires.lines c.loop-place.invariant c.in_ok-put_swept_answer.ensures
 
 pub returns : goal.returns
 returns g c =

@@ -1,4 +1,4 @@
-use Rattle.dg_tasks.proofs.Common.{◌≡◌, arith, rules, w64, to_z, of_z, FitsSigned, ints, to_z-of_z, less, canonical, riemann_roch, at, IsInRange, IsRankInLimits, RefusesBothRanks, riemann_roch_text, IsRiemannRoch}
+use Rattle.dg_tasks.proofs.Common.{◌≡◌, arith, rules, w64, to_z, of_z, FitsSigned, ints, to_z-of_z, less, canonical, riemann_roch, at, IsInRange, IsRankInLimits, RefusesBothRanks, riemann_roch_text, IsRiemannRochTask}
 use Rattle.dg_tasks.proofs.ranks.riemann_roch.Goals as goal
 
 pub returns-in_default-both_ranks_in_limits-clause-refused : goal.returns-in_default-both_ranks_in_limits-clause-refused
@@ -28,7 +28,7 @@ returns-in-Ok-clause-told c =
     let inside : IsInRange c.graph-graph.result.now.size
     (less (canonical c.graph-graph.result.now) (at c.divisor-divisor.result.now)) =
     λ v below. omega (arith, ints, is_dual v below, in_range v below) in
-    let told : IsRiemannRoch o c.in-Ok.text.items = record {
+    let told : IsRiemannRochTask o c.in-Ok.text.items = record {
       in_range = rw (← c.graph-graph.ensures.graph, ← c.divisor-divisor.ensures) inside;
       rank = c.in-Some.rank;
       of_divisor = of_divisor;

@@ -1,4 +1,4 @@
-use Rattle.dg_game.proofs.Common.{◌≡◌, ℕ, length, length-set, ap, sym, subst, ◌∙◌, GameState, LeadsTo, Rehearsal}
+use Rattle.dg_game.proofs.Common.{◌≡◌, ℕ, length, length-set, ap, sym, subst, ◌∙◌, GameState, HistoryLeadsTo, Rehearsal}
 use Rattle.dg_game.proofs.RehearsalLaws.{called, looks_looked, looks_left}
 use Rattle.dg_game.proofs.schedule.Rehearsal.call.Goals as goal
 use Rattle.dg_game.proofs.schedule.Rehearsal.call.Goals.{in-Look, in_default}
@@ -13,7 +13,8 @@ returns c = λ o H steps playing there. elim c.match-plain.branch [
   | in-Look w ↦
       let game : c.args.self.now.game ≡ c.match-plain.self.game = ap (λ (r : Rehearsal). r.game) (sym w.self-is) in
       let looks = ap (λ (r : Rehearsal). r.looks) w.self-is in
-      let leads : LeadsTo o H c.match-plain.self.game = subst (λ (s : GameState). LeadsTo o H s) game playing.leads in
+      let leads : HistoryLeadsTo o H c.match-plain.self.game = subst
+      (λ (s : GameState). HistoryLeadsTo o H s) game playing.leads in
       called o H _ steps c.args.self.now _ c.args.seat c.args.plain.now playing there c.requires.seat
       c.reply_to_call.ensures.seat c.reply_to_call.ensures.request
       (c.reply_to_call.ensures.legal o H leads playing.legal c.requires.seat)
@@ -27,7 +28,8 @@ returns c = λ o H steps playing there. elim c.match-plain.branch [
   | in_default w ↦
       let game : c.args.self.now.game ≡ c.match-plain.self.game = ap (λ (r : Rehearsal). r.game) (sym w.self-is) in
       let looks = ap (λ (r : Rehearsal). r.looks) w.self-is in
-      let leads : LeadsTo o H c.match-plain.self.game = subst (λ (s : GameState). LeadsTo o H s) game playing.leads in
+      let leads : HistoryLeadsTo o H c.match-plain.self.game = subst
+      (λ (s : GameState). HistoryLeadsTo o H s) game playing.leads in
       called o H _ steps c.args.self.now _ c.args.seat c.args.plain.now playing there c.requires.seat
       c.reply_to_call.ensures.seat c.reply_to_call.ensures.request
       (c.reply_to_call.ensures.legal o H leads playing.legal c.requires.seat)

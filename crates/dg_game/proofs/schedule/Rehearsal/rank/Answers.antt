@@ -16,14 +16,14 @@ returns-clause-plays c = λ o H steps playing there.
     c.enter_stale_as_step.ensures o H steps (Rank c.args.k) playing keeps there tt (_, rw size at c.in-Some-trials.ensures)
     (c.in-Some.look.number, keeps.0, refl)
 
-pub rank_kept_look-requires-clause-size : goal.rank_kept_look-requires-clause-size
-rank_kept_look-requires-clause-size c =
+pub rank_look_of_schedule-requires-clause-size : goal.rank_look_of_schedule-requires-clause-size
+rank_look_of_schedule-requires-clause-size c =
     let (o, H, steps, playing) = c.requires.playing in
     let (kept, look) = c.in-Some.ensures o H steps playing in
     look_fits o H c.in-Some.look look
 
-pub rank_kept_look-requires-clause-vertex : goal.rank_kept_look-requires-clause-vertex
-rank_kept_look-requires-clause-vertex c =
+pub rank_look_of_schedule-requires-clause-vertex : goal.rank_look_of_schedule-requires-clause-vertex
+rank_look_of_schedule-requires-clause-vertex c =
     let (o, H, steps, playing) = c.requires.playing in
     let (kept, look) = c.in-Some.ensures o H steps playing in
     rw (look_vertices o H _ _ playing.leads look) c.q.ensures.vertex
@@ -36,12 +36,12 @@ enter_finding_as_step-requires-clause-playing c =
 pub enter_finding_as_step-requires-clause-found : goal.enter_finding_as_step-requires-clause-found
 enter_finding_as_step-requires-clause-found c = let (within, found, asks) = c.in-Ok.ensures in rw c.q.ensures.q at found
 
-pub returns-in_default-rank_kept_look-clause-plays : goal.returns-in_default-rank_kept_look-clause-plays
-returns-in_default-rank_kept_look-clause-plays c = (
+pub returns-in_default-rank_look_of_schedule-clause-plays : goal.returns-in_default-rank_look_of_schedule-clause-plays
+returns-in_default-rank_look_of_schedule-clause-plays c = (
   search rules,
   λ o H steps playing there.
       let (kept, look) = c.in-Some.ensures o H steps playing in
-      let (fault, past) = c.in_default-rank_kept_look.ensures in
+      let (fault, past) = c.in_default-rank_look_of_schedule.ensures in
       let size : c.in-Some.look.graph.size ≡ o.graph.size =
       look_vertices o H _ _ playing.leads look ∙ ap (λ (g : Multigraph). g.size) playing.leads.graph
       ∙ vertices_stay o H in

@@ -4,16 +4,16 @@ use Rattle.dg_reduce.specs.Rests.{IsRestInReduction}
 use Rattle.dg_reduce.proofs.DebtSteps.{repaying-start, repaying-done, repaying-lost}
 use Rattle.dg_reduce.proofs.FormSteps.{rest_again, once_more, once_falls, once_limit}
 use Rattle.dg_reduce.proofs.effective_divisor.EffectiveDivisor.pay.Goals as goal
-use Rattle.dg_reduce.proofs.effective_divisor.EffectiveDivisor.pay.Goals.{After-fire, then-not-can_lend+in-Some-rest, else-not-can_lend}
+use Rattle.dg_reduce.proofs.effective_divisor.EffectiveDivisor.pay.Goals.{After-fire, then-not-can_reduce_rest+in-Some-rest, else-not-can_reduce_rest}
 
-lends : (c : After-fire) → IsRestInReduction c.args.graph.now c.args.v (at c.paying.self) c.if-not-can_lend.rest
+lends : (c : After-fire) → IsRestInReduction c.args.graph.now c.args.v (at c.paying.self) c.if-not-can_reduce_rest.rest
 lends c =
-    elim c.if-not-can_lend.branch [
-      | then-not-can_lend+in-Some-rest w ↦ rw w.rest-is w.in-Some-rest.ensures
-      | else-not-can_lend w ↦ rw w.rest-is
+    elim c.if-not-can_reduce_rest.branch [
+      | then-not-can_reduce_rest+in-Some-rest w ↦ rw w.rest-is w.in-Some-rest.ensures
+      | else-not-can_reduce_rest w ↦ rw w.rest-is
           (rest_again c.args.graph.now c.args.v c.args.self.now c.paying.self c.paying.rest c.floor_off-floor.result
           c.size-size.ensures.graph c.paying.invariant.repaying c.paying.invariant.left c.floor_off-floor.ensures
-          w.if-not-can_lend.ensures)
+          w.if-not-can_reduce_rest.ensures)
     ]
 
 pub returns-in_default : goal.returns-in_default
@@ -40,8 +40,8 @@ fire-requires-clause-range c w inside =
     c.paying.invariant.repaying c.requires.range w inside in
     omega arith
 
-pub can_lend-requires-clause-range : goal.can_lend-requires-clause-range
-can_lend-requires-clause-range c w inside =
+pub can_reduce_rest-requires-clause-range : goal.can_reduce_rest-requires-clause-range
+can_reduce_rest-requires-clause-range c w inside =
     let small : unsigned_abs (at c.paying.self w) ≤ 17 * 2 ^ 26 =
     once_limit c.args.graph.now c.args.v c.args.self.now c.paying.self c.size-size.ensures.graph c.requires.vertex
     c.paying.invariant.repaying c.requires.range w (rw c.paying.invariant.repaying.size at inside) in
@@ -52,7 +52,7 @@ paying-smaller c =
     let rest = lends c in
     let (u, member) = rest.member in
     once_falls c.args.graph.now c.args.v
-    (in_set c.if-not-can_lend.rest.set) c.args.self.now c.paying.self c.fire.new.self u
+    (in_set c.if-not-can_reduce_rest.rest.set) c.args.self.now c.paying.self c.fire.new.self u
     c.size-size.ensures.graph c.requires.vertex c.paying.invariant.repaying rest.free member c.fire.ensures.fires
 
 pub paying-preserved : goal.paying-preserved
@@ -60,7 +60,7 @@ paying-preserved c =
     let rest = lends c in
     record {
       repaying = once_more c.args.graph.now c.args.v
-          (in_set c.if-not-can_lend.rest.set) c.args.self.now c.paying.self c.fire.new.self
+          (in_set c.if-not-can_reduce_rest.rest.set) c.args.self.now c.paying.self c.fire.new.self
           c.size-size.ensures.graph c.requires.vertex c.paying.invariant.repaying rest.free c.fire.ensures.size
           c.fire.ensures.fires;
       left = (at c.paying.self, rest);

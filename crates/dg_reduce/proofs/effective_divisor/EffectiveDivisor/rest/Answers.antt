@@ -1,4 +1,4 @@
-use Rattle.dg_reduce.proofs.Common.{take, arith, BurnsInOrder, IsGreatestFree, at, IsHeldForBurning, same-order, rest_is_free, none_reduced, reduced_none, unburnt_member}
+use Rattle.dg_reduce.proofs.Common.{take, arith, BurnsInOrder, IsGreatestFree, at, IsHeldForFire, same-order, rest_is_free, none_reduced, reduced_none, unburnt_member}
 use Rattle.dg_graph.specs.Sets.{in_set}
 use Rattle.dg_reduce.proofs.effective_divisor.EffectiveDivisor.rest.Goals as goal
 use Rattle.dg_reduce.proofs.effective_divisor.EffectiveDivisor.rest.Goals.{After-burn_counted-counted}
@@ -6,7 +6,7 @@ use Rattle.dg_reduce.proofs.effective_divisor.EffectiveDivisor.rest.Goals.{After
 in_order : (c : After-burn_counted-counted) → BurnsInOrder c.args.graph.now c.args.v (at c.args.self.now)
     (take c.burn_counted-counted.result.burnt.burnt c.burn_counted-counted.result.burnt.order)
 in_order c =
-    let held : IsHeldForBurning c.args.graph.now.size (at c.args.self.now) c.held.result = rw c.requires.size at c.held.ensures in
+    let held : IsHeldForFire c.args.graph.now.size (at c.args.self.now) c.held.result = rw c.requires.size at c.held.ensures in
     same-order c.args.graph.now c.args.v
     (at c.args.self.now) c.held.result _ c.size-size.ensures.graph c.requires.no_debt
     held c.burn_counted-counted.ensures.order
@@ -36,6 +36,6 @@ returns c =
             reduced_none _ _ _ _ _ order c.burn_counted-counted.ensures.left,
           )
           (omega arith);
-      gains = c.gains_of.ensures.gains;
-      small = c.gains_of.ensures.few;
+      gains = c.gains_in_reduction.ensures.gains;
+      small = c.gains_in_reduction.ensures.few;
     }

@@ -1,17 +1,17 @@
-use Rattle.dg_rules.proofs.Common.{sym, subst, fired, at, IsRight, right-cong, GameState, IsState}
+use Rattle.dg_rules.proofs.Common.{sym, subst, fired, at, IsRight, right-cong, GameState, IsGameState}
 use Rattle.dg_rules.proofs.LookLaws.{carried}
 use Rattle.dg_rules.proofs.game.Game.verdict_at_position.Goals as goal
 
 pub rebase-requires : goal.rebase-requires
 rebase-requires c =
-    let state : IsState c.args.self.now = subst (λ (s : GameState). IsState s) c.self.view_is c.self.invariant in
+    let state : IsGameState c.args.self.now = subst (λ (s : GameState). IsGameState s) c.self.view_is c.self.invariant in
     rw c.q.ensures.q (carried c.args.self.now
     (at c.args.then.now) c.args.verdict.now c.drift_to_position-since.result state c.requires.right
     c.drift_to_position-since.ensures.size c.drift_to_position-since.ensures.led)
 
 pub returns-clause-right : goal.returns-clause-right
 returns-clause-right c =
-    let state : IsState c.args.self.now = subst (λ (s : GameState). IsState s) c.self.view_is c.self.invariant in
+    let state : IsGameState c.args.self.now = subst (λ (s : GameState). IsGameState s) c.self.view_is c.self.invariant in
     let g = c.args.self.now.graph in
     let moved : IsRight g c.q.result (fired g (at c.args.then.now) (at c.drift_to_position-since.result)) c.rebase.result =
     c.rebase.ensures.right g (at c.args.then.now) state.graph.multigraph c.q.ensures.vertex

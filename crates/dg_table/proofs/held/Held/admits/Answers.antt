@@ -14,5 +14,5 @@ returns-clause-holds g c = λ is.
       met = begins;
       mine = all_own c.args.seat.now.number c.args.seat.now.prefix c.self.inside.pen.entries c.args.seat.now.mine
           (begins_on _ _ _ known.since begins) known.own count;
-      told = rw c.told_receipt_set-2.ensures at c.holds.ensures;
+      told = rw c.told_to_seat-2.ensures at c.holds.ensures;
     })

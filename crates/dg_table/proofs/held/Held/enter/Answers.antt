@@ -1,4 +1,4 @@
-use Rattle.dg_table.proofs.Common.{◌≡◌, ℕ, ◌+◌, ◌==◌, Bool, [], ◌∷◌, ◌++◌, length, enumerate_from, arith, refl, sym, ap, subst, ◌∙◌, Replies, LeadsTo, Entry, right_in, Written}
+use Rattle.dg_table.proofs.Common.{◌≡◌, ℕ, ◌+◌, ◌==◌, Bool, [], ◌∷◌, ◌++◌, length, enumerate_from, arith, refl, sym, ap, subst, ◌∙◌, Replies, HistoryLeadsTo, Entry, right_in, Written}
 use Rattle.std.proofs.Common.{not}
 use Rattle.std.proofs.lemmas.List.Filters.{length-filter_both}
 use Rattle.std.proofs.lemmas.List.FromFn.{length-enumerate_from}
@@ -12,8 +12,8 @@ follow_entry-requires-clause-right g c =
     let entry : c.entry-entry.result.now ≡ e = c.entry-entry.ensures ∙ ap (λ (r : ℕ × Entry). r.1) c.in-Ok.ensures.0 in
     right_in g.N.Name.table.start c.self.inside.pen.entries c.self.inside.game _ _ c.self.invariant.0.game' (rw entry replies)
 
-pub take_receipt-requires-clause-next : goal.take_receipt-requires-clause-next
-take_receipt-requires-clause-next g c =
+pub take_receipt_at_table-requires-clause-next : goal.take_receipt_at_table-requires-clause-next
+take_receipt_at_table-requires-clause-next g c =
     let e : Entry = c.args.slot.value in
     let H = c.self.inside.pen.entries in
     let receipt : c.in-Ok.receipt ≡ (length H, e) = c.in-Ok.ensures.0 in
@@ -29,8 +29,8 @@ take_receipt-requires-clause-next g c =
       rw (← c.self.view_is) at c.requires.replies,
     )
 
-pub take_receipt-requires-clause-found : goal.take_receipt-requires-clause-found
-take_receipt-requires-clause-found g c =
+pub take_receipt_at_table-requires-clause-found : goal.take_receipt_at_table-requires-clause-found
+take_receipt_at_table-requires-clause-found g c =
     let e : Entry = c.args.slot.value in
     let H = c.self.inside.pen.entries in
     let history : c.put.new.self.entries ≡ H ++ e ∷ [] = ap (λ (w : Written). w.entries) c.in-Ok.ensures.1 in
@@ -67,7 +67,7 @@ invariant_of-self-2 g c =
     let entry : c.entry-entry.result.now ≡ e = c.entry-entry.ensures ∙ ap (λ (r : ℕ × Entry). r.1) c.in-Ok.ensures.0 in
     let H = c.self.inside.pen.entries in
     let shown = subst (λ (x : Entry). Replies g.N.Name.table.start H x.request x.reply) (sym entry) replies in
-    let leads = subst (λ (x : Entry). LeadsTo g.N.Name.table.start (H ++ x ∷ []) c.follow_entry.new.self) entry
+    let leads = subst (λ (x : Entry). HistoryLeadsTo g.N.Name.table.start (H ++ x ∷ []) c.follow_entry.new.self) entry
     (c.follow_entry.ensures.leads g.N.Name.table.start H c.self.invariant.0.game' shown) in (
       rw history (held_more e c.from-place.result _ c.self.invariant.0 legal leads
           (omega (arith, c.from-place.ensures, c.place.ensures.place, c.requires.seat))
@@ -84,7 +84,7 @@ returns-clause-entered g c =
     let found = history_more g.N.Name.table H e c.self.invariant.0.seated
     (omega (arith, c.place.ensures.place, c.requires.seat)) (omega (arith, c.place.ensures.most, c.requires.seat))
     (rw (← c.self.view_is) at c.requires.ready.room) (rw (← c.self.view_is) at c.requires.legal) in
-    let given = c.take_receipt.ensures in
+    let given = c.take_receipt_at_table.ensures in
     rw (← c.self.view_is, receipt) (
       answered e _ (rw (← c.self.view_is) at c.requires.replies) found (rw (← c.self.view_is) at c.requires.ready.holds)
           c.requires.seat given.number (rw receipt at given.mine) given.told (given.prefix ∙ c.prefix.ensures ∙ history)

@@ -21,7 +21,7 @@ returns-then-below-clause-stands g c =
         prefix = begins_on _ _ _ known.since begins;
         mine = own_stand c.args.seat.now.number c.args.seat.now.prefix c.self.inside.pen.entries c.args.seat.now.mine
             (begins_on _ _ _ known.since begins) known.own;
-        told = rw c.told_receipt_set-then-below.ensures at c.holds.ensures;
+        told = rw c.told_to_seat-then-below.ensures at c.holds.ensures;
       },
       refl,
     )

@@ -40,8 +40,9 @@ returns-clause-settled g c =
     let entered = c.in_ok-receipt.ensures.entered in (
       staled g.N.Name.table c.args.self.now.entries c.args.taken.now c.args.shown.now c.args.asks.now c.self.inside.game
           c.in_ok-receipt.receipt c.args.seat.now c.enter.new.seat
-          c.hear.new.self (rw c.reply_as_stale.ensures.request at entered.0) c.requires.look c.in-Ok.ensures.1
+          c.hear_at_table.new.self (rw c.reply_as_stale.ensures.request at entered.0) c.requires.look c.in-Ok.ensures.1
           held.game' look (λ same. search rules) (rw c.in_ok-receipt.ensures.reply c.reply_as_stale.ensures.stale)
-          c.hear.ensures.number c.hear.ensures.mine c.hear.ensures.told c.hear.ensures.prefix c.hear.ensures.met,
+          c.hear_at_table.ensures.number c.hear_at_table.ensures.mine c.hear_at_table.ensures.told c.hear_at_table.ensures.prefix
+          c.hear_at_table.ensures.met,
       entered.1,
     )

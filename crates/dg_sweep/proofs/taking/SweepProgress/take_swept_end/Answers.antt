@@ -1,0 +1,16 @@
+use Rattle.dg_sweep.proofs.Common.{◌≡◌, ◌≢◌, [], arith, rules, tests, common_steps}
+use Rattle.dg_sweep.proofs.Taken.{nothing, takes_no_end, takes_end}
+use Rattle.dg_sweep.proofs.taking.SweepProgress.take_swept_end.Goals as goal
+
+pub returns-then-is_empty : goal.returns-then-is_empty
+returns-then-is_empty g c =
+    let none : c.args.self.now.pending.items ≡ [] =
+    nothing c.args.self.now.pending.items (grind (arith, common_steps)) in
+    takes_no_end _ c.args.self.now.pending.items c.clear.new.self.items c.clear.ensures.items none
+
+pub returns : goal.returns
+returns g c =
+    let some : c.args.self.now.pending.items ≢ [] = search (rules, tests) in
+    takes_end _ c.args.self.now.pending.items c.answer_of_kind.new.answer.items c.deref.result.now some
+    c.deref.ensures.value
+    c.in_ok-answer_of_kind.ensures
