@@ -1,7 +1,7 @@
 """Things of two tables can't be mixed up, reckoning can take no lock, and a look that a rank test took can't be kept: it does not
 compile. Each file CRATE.FILE.txt beside this script is added at the end of crates/CRATE/src/FILE.rt in a copy of the checkout, where
-`rt check` then has to fail with just the errors that the file's comments name, each at the line after its comment. It finds them before
-it proves anything, and `--only=` has it prove nothing, no crate below either."""
+`rt try` then has to fail with just the errors that the file's comments name, each at the line after its comment. It proves nothing, and
+wants a test to run."""
 import re
 import shutil
 import subprocess
@@ -10,6 +10,7 @@ from pathlib import Path
 from helpers import ROOT, Test, each
 
 ADDED = sorted(Path(__file__).parent.glob("*.txt"))
+TEST = "\n#[test]\nfn nothing() {}\n"
 
 
 class OfTypes(Test):
@@ -25,11 +26,11 @@ class OfTypes(Test):
         crate, name, _ = file.name.split(".")
         place, added = self.copy / "crates" / crate / "src" / (name + ".rt"), file.read_text()
         code = place.read_text()
-        place.write_text(code + added)
+        place.write_text(code + added + TEST)
         first = code.count("\n") + 1
         wanted = {(first + i + 1, line.split("// ", 1)[1]) for i, line in enumerate(added.split("\n")) if line.strip().startswith("// error[")}
         try:
-            done = subprocess.run(["rt", "check", "--only="], cwd=self.copy / "crates" / crate, capture_output=True, text=True)
+            done = subprocess.run(["rt", "try", "--test"], cwd=self.copy / "crates" / crate, capture_output=True, text=True)
         finally:
             place.write_text(code)
         found = {(int(line), re.split(": (?:help|note): ", text)[0])
