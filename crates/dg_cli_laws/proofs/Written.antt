@@ -1,7 +1,7 @@
 -- Two things that the rows of one command ask for are written alike: each as the rows tell.
 --   told name rows     == the words that the rows of the command of that name tell
 --   asks-told          what is asked for is written as the rows tell
-use Rattle.dg_cli_laws.proofs.Common.{◌≡◌, ◌∙◌, ◌+◌, ◌*◌, ℕ, Bool, true, false, cond, List, [], ◌∷◌, ◌++◌, Option, None, Some, IsSomeAnd, true≢false, codes, decimal, map, refl, sym, ap, slice_index, unwrap_or, is_some, option_map_or, bytes_eq, bytes_eq-Decides, Form, VerdictForm, Invocation, Question, Judge, Rank, RiemannRoch, MAX_CAPACITY, IsGiven, IsGivenOr, IsArgumentNumber, AsksFor, AsksQuestion, HasOneTableArgument, HasFormFlag, HasVerdictFormFlags, IsOrderedByFlag, HasLinesOption, divisors_option, word_of_argument, words_of, form_as_written, lines_as_written, order_as_written, question_as_written, verdict_as_written, seats_as_written, written}
+use Rattle.dg_cli_laws.proofs.Common.{◌≡◌, ◌∙◌, ◌+◌, ◌*◌, ℕ, Bool, true, false, cond, List, [], ◌∷◌, ◌++◌, Option, None, Some, IsSomeAnd, true≢false, codes, decimal, refl, sym, ap, slice_index, unwrap_or, is_some, option_map_or, bytes_eq, bytes_eq-Decides, Form, VerdictForm, Invocation, Question, Judge, Rank, RiemannRoch, MAX_CAPACITY, IsGiven, IsGivenOr, IsArgumentNumber, AsksFor, AsksQuestion, HasOneTableArgument, HasFormFlag, HasVerdictFormFlags, IsOrderedByFlag, HasLinesOption, divisors_option, word_of_argument, words_of, form_as_written, lines_as_written, order_as_written, question_as_written, verdict_as_written, seats_as_written, written}
 use Rattle.std.proofs.Common.{◌==◌}
 use Rattle.clap.specs.Words.{Row, Text}
 use Rattle.dg_invocation.specs.declared.invocation.Invocation.TheVariants as asked
@@ -126,114 +126,77 @@ some-seats low high (Some text) None h = absurd h
 some-seats low high (Some text) (Some n) h = ap (λ (t : Text). t ∷ []) (sym h.spelled)
 
 an-order : (rows : List Row) (ordered : Bool) → IsOrderedByFlag rows ordered → order_as_written ordered ≡ order_told rows
-an-order rows true h = ap order_as_written (sym (set (word_of_argument (codes "order") rows) (h.0 refl)))
-an-order rows false h =
-    ap order_as_written (sym (not-set (word_of_argument (codes "order") rows) (λ is. true≢false (sym (h.1 is)))))
+an-order rows true h = rw (set (word_of_argument (codes "order") rows) (h.0 refl)) refl
+an-order rows false h = rw (not-set (word_of_argument (codes "order") rows) (λ is. true≢false (sym (h.1 is)))) refl
 
 a-form : (rows : List Row) (form : Form) → HasFormFlag rows form → form_as_written form ≡ form_told rows
-a-form rows form.Words h =
-    ap (λ (b : Bool). cond b (codes "--numbers" ∷ []) []) (sym (not-set (word_of_argument (codes "numbers") rows) h))
-a-form rows form.Numbers h =
-    ap (λ (b : Bool). cond b (codes "--numbers" ∷ []) []) (sym (set (word_of_argument (codes "numbers") rows) h))
+a-form rows form.Words h = rw (not-set (word_of_argument (codes "numbers") rows) h) refl
+a-form rows form.Numbers h = rw (set (word_of_argument (codes "numbers") rows) h) refl
 
-a-verdict-form : (rows : List Row) (form : VerdictForm) → HasVerdictFormFlags rows form → verdict_as_written form
-    ≡ verdict_told rows
+a-verdict-form : (rows : List Row) (form : VerdictForm) → HasVerdictFormFlags rows form
+    → verdict_as_written form ≡ verdict_told rows
 a-verdict-form rows (verdict.Words ordered) h =
-    an-order rows ordered h.1
-    ∙ ap (λ (b : Bool). cond b (codes "--numbers" ∷ []) (order_told rows))
-    (sym (not-set (word_of_argument (codes "numbers") rows) h.0))
-a-verdict-form rows verdict.Numbers h =
-    ap (λ (b : Bool). cond b (codes "--numbers" ∷ []) (order_told rows)) (sym (set (word_of_argument (codes "numbers") rows) h.0))
+    rw (not-set (word_of_argument (codes "numbers") rows) h.0) (an-order rows ordered h.1)
+a-verdict-form rows verdict.Numbers h = rw (set (word_of_argument (codes "numbers") rows) h.0) refl
 
 by-table : (n : ℕ) (name : Text) (rows : List Row) → key name ≡ n → of_lines n ≡ true → HasOneTableArgument rows
     → table_told n rows ≡ told name rows
-by-table n name rows is lined alone =
-    sym (ap (λ (m : ℕ). told_by m rows) is
-    ∙ ap (λ (b : Bool). cond b (cond (has_lines rows) (sweep_told n rows) (table_told n rows)) (other_told n rows)) lined
-    ∙ ap (λ (b : Bool). cond b (sweep_told n rows) (table_told n rows)) (one-table rows alone))
+by-table n name rows is lined alone = rw (is, lined, one-table rows alone) refl
 
 by-sweep : (n : ℕ) (name : Text) (rows : List Row) → key name ≡ n → of_lines n ≡ true → HasLinesOption rows (divisors_option rows)
     → sweep_told n rows ≡ told name rows
-by-sweep n name rows is lined lines =
-    sym (ap (λ (m : ℕ). told_by m rows) is
-    ∙ ap (λ (b : Bool). cond b (cond (has_lines rows) (sweep_told n rows) (table_told n rows)) (other_told n rows)) lined
-    ∙ ap (λ (b : Bool). cond b (sweep_told n rows) (table_told n rows)) (swept rows lines))
+by-sweep n name rows is lined lines = rw (is, lined, swept rows lines) refl
 
 by-other : (n : ℕ) (name : Text) (rows : List Row) → key name ≡ n → of_lines n ≡ false → other_told n rows ≡ told name rows
-by-other n name rows is lined =
-    sym (ap (λ (m : ℕ). told_by m rows) is
-    ∙ ap (λ (b : Bool). cond b (cond (has_lines rows) (sweep_told n rows) (table_told n rows)) (other_told n rows)) lined)
+by-other n name rows is lined = rw (is, lined) refl
 
 a-question : (name : Text) (rows : List Row) (question : Question) → AsksQuestion name rows question
     → (n : ℕ) × (key name ≡ n) × (of_lines n ≡ true) × (question_as_written question ≡ question_told n rows)
-a-question name rows (Judge form) h =
-    (27253, ap key h.0, refl, ap (λ (ws : List Text). codes "judge" ∷ ws) (a-verdict-form rows form h.1))
-a-question name rows (Rank k form) h = (
-  29281,
-  ap key h.0,
-  refl,
-  ap (λ (t : Text). codes "rank" ∷ t ∷ form_as_written form)
-      (a-number _ _ k (word_of_argument (codes "degree") rows) h.1)
-      ∙ ap (λ (ws : List Text). codes "rank" ∷ the (codes "degree") rows ∷ ws) (a-form rows form h.2),
-)
-a-question name rows (RiemannRoch form) h =
-    (29298, ap key h.0, refl, ap (λ (ws : List Text). codes "rr" ∷ ws) (a-form rows form h.1))
+a-question name rows (Judge form) h = (27253, ap key h.0, refl, rw (a-verdict-form rows form h.1) refl)
+a-question name rows (Rank k form) h =
+    let degree = a-number _ _ k (word_of_argument (codes "degree") rows) h.1 in
+    (29281, ap key h.0, refl, rw (degree, a-form rows form h.2) refl)
+a-question name rows (RiemannRoch form) h = (29298, ap key h.0, refl, rw (a-form rows form h.1) refl)
 
 pub asks-told : (name : Text) (rows : List Row) (it : Invocation) → AsksFor name rows it → written it ≡ told name rows
 asks-told name rows (asked.Task (task.Judge file ordered)) h =
-    ap (λ (t : Text). codes "judge" ∷ t ∷ order_as_written ordered) (a-word (codes "file") rows file.now h.1)
-    ∙ ap (λ (ws : List Text). codes "judge" ∷ the (codes "file") rows ∷ ws) (an-order rows ordered h.3)
-    ∙ by-table 27253 name rows (ap key h.0) refl h.2.0.0
+    rw (a-word (codes "file") rows file.now h.1, an-order rows ordered h.3)
+    (by-table 27253 name rows (ap key h.0) refl h.2.0.0)
 asks-told name rows (asked.Task (task.Rank test)) h =
-    ap (λ (t : Text). codes "rank" ∷ t ∷ decimal test.degree ∷ decimal test.workers ∷ [])
-    (a-word (codes "file") rows test.file.now h.1.file)
-    ∙ ap (λ (t : Text). codes "rank" ∷ the (codes "file") rows ∷ t ∷ decimal test.workers ∷ [])
-    (a-number _ _ test.degree (word_of_argument (codes "degree") rows) h.1.degree)
-    ∙ ap (λ (t : Text). codes "rank" ∷ the (codes "file") rows ∷ the (codes "degree") rows ∷ t ∷ [])
-    (a-default _ _ _ test.workers (word_of_argument (codes "workers") rows) h.1.workers)
-    ∙ by-table 29281 name rows (ap key h.0) refl h.2.0
+    rw (
+      a-word (codes "file") rows test.file.now h.1.file,
+      a-number _ _ test.degree (word_of_argument (codes "degree") rows) h.1.degree,
+      a-default _ _ _ test.workers (word_of_argument (codes "workers") rows) h.1.workers,
+    ) (by-table 29281 name rows (ap key h.0) refl h.2.0)
 asks-told name rows (asked.Task (task.RiemannRoch file)) h =
-    ap (λ (t : Text). codes "rr" ∷ t ∷ []) (a-word (codes "file") rows file.now h.1)
-    ∙ by-table 29298 name rows (ap key h.0) refl h.2.0.0
+    rw (a-word (codes "file") rows file.now h.1) (by-table 29298 name rows (ap key h.0) refl h.2.0.0)
 asks-told name rows (asked.Task (task.Greedy play)) h =
-    ap (λ (t : Text). codes "greedy" ∷ t ∷ decimal play.turns ∷ []) (a-word (codes "file") rows play.file.now h.1.file)
-    ∙ ap (λ (t : Text). codes "greedy" ∷ the (codes "file") rows ∷ t ∷ [])
-    (a-number _ _ play.turns (word_of_argument (codes "turns") rows) h.1.turns)
-    ∙ by-other 26482 name rows (ap key h.0) refl
+    rw (
+      a-word (codes "file") rows play.file.now h.1.file,
+      a-number _ _ play.turns (word_of_argument (codes "turns") rows) h.1.turns,
+    ) (by-other 26482 name rows (ap key h.0) refl)
 asks-told name rows (asked.Task (task.Rehearse file steps)) h =
-    ap (λ (t : Text). codes "rehearse" ∷ t ∷ steps.now ∷ []) (a-word (codes "file") rows file.now h.1)
-    ∙ ap (λ (t : Text). codes "rehearse" ∷ the (codes "file") rows ∷ t ∷ []) (a-word (codes "steps") rows steps.now h.2)
-    ∙ by-other 29285 name rows (ap key h.0) refl
+    rw (a-word (codes "file") rows file.now h.1, a-word (codes "steps") rows steps.now h.2)
+    (by-other 29285 name rows (ap key h.0) refl)
 asks-told name rows (asked.Serve session) h =
-    ap (λ (t : Text). codes "serve" ∷ t ∷ decimal session.capacity ∷ decimal session.workers ∷ seats_as_written session.seats)
-    (a-word (codes "file") rows session.file.now h.1.file)
-    ∙ ap (λ (t : Text). codes "serve" ∷ the (codes "file") rows ∷ t ∷ decimal session.workers ∷ seats_as_written session.seats)
-    (a-default _ _ _ session.capacity (word_of_argument (codes "cap") rows) h.1.capacity)
-    ∙ ap (λ (t : Text). codes "serve" ∷ the (codes "file") rows ∷ number_or MAX_CAPACITY (codes "cap") rows ∷ t
-    ∷ seats_as_written session.seats)
-    (a-default _ _ _ session.workers (word_of_argument (codes "workers") rows) h.1.workers)
-    ∙ ap (λ (ws : List Text). codes "serve" ∷ the (codes "file") rows ∷ number_or MAX_CAPACITY (codes "cap") rows
-    ∷ number_or 1 (codes "workers") rows ∷ ws)
-    (some-seats _ _ (word_of_argument (codes "seats") rows) session.seats h.1.seats)
-    ∙ by-other 29541 name rows (ap key h.0) refl
+    rw (
+      a-word (codes "file") rows session.file.now h.1.file,
+      a-default _ _ _ session.capacity (word_of_argument (codes "cap") rows) h.1.capacity,
+      a-default _ _ _ session.workers (word_of_argument (codes "workers") rows) h.1.workers,
+      some-seats _ _ (word_of_argument (codes "seats") rows) session.seats h.1.seats,
+    ) (by-other 29541 name rows (ap key h.0) refl)
 asks-told name rows (asked.Party party) h =
-    ap (λ (t : Text). codes "party" ∷ t ∷ decimal party.capacity ∷ map (λ script. script.now) party.scripts.items)
-    (a-word (codes "file") rows party.file.now h.1.file)
-    ∙ ap (λ (t : Text). codes "party" ∷ the (codes "file") rows ∷ t ∷ map (λ script. script.now) party.scripts.items)
-    (a-default _ _ _ party.capacity (word_of_argument (codes "cap") rows) h.1.capacity)
-    ∙ ap (λ (ws : List Text). codes "party" ∷ the (codes "file") rows ∷ number_or MAX_CAPACITY (codes "cap") rows ∷ ws)
-    (sym (ap (λ (o : Option (List Text)). unwrap_or o []) h.1.scripts))
-    ∙ by-other 28769 name rows (ap key h.0) refl
+    rw (
+      a-word (codes "file") rows party.file.now h.1.file,
+      a-default _ _ _ party.capacity (word_of_argument (codes "cap") rows) h.1.capacity,
+      sym (ap (λ (o : Option (List Text)). unwrap_or o []) h.1.scripts),
+    ) (by-other 28769 name rows (ap key h.0) refl)
 asks-told name rows (asked.Sweep sweep) h =
     let (n, is, lined, words) = a-question name rows sweep.question h.question in
-    ap (λ (o : Option Text). lines_as_written o ++ sweep.file.now ∷ decimal sweep.workers ∷ question_as_written sweep.question)
-    h.divisors
-    ∙ ap (λ (t : Text). lines_as_written (divisors_option rows) ++ t ∷ decimal sweep.workers ∷ question_as_written sweep.question)
-    (a-word (codes "file") rows sweep.file.now h.file)
-    ∙ ap (λ (t : Text). lines_as_written (divisors_option rows) ++ the
-    (codes "file") rows ∷ t ∷ question_as_written sweep.question)
-    (a-default _ _ _ sweep.workers (word_of_argument (codes "workers") rows) h.workers)
-    ∙ ap (λ (ws : List Text). lines_as_written (divisors_option rows) ++ the (codes "file") rows
-    ∷ number_or 1 (codes "workers") rows ∷ ws) words
-    ∙ by-sweep n name rows is lined h.lines
+    rw (
+      h.divisors,
+      a-word (codes "file") rows sweep.file.now h.file,
+      a-default _ _ _ sweep.workers (word_of_argument (codes "workers") rows) h.workers,
+      words,
+    ) (by-sweep n name rows is lined h.lines)
 asks-told name rows (asked.Text text) h = absurd h
