@@ -16,18 +16,18 @@ same-may g q D held B v graph solvent same burns = (
   λ may. record {
     vertex = may.vertex;
     unburnt = may.unburnt;
-    reached = (hot_and_left may.vertex may.unburnt).0 (rw (← same v may.vertex) may.reached);
+    reached = (both may.vertex may.unburnt).0 (rw (← same v may.vertex) may.reached);
   },
   λ may. record {
     vertex = may.vertex;
     unburnt = may.unburnt;
-    reached = rw (same v may.vertex) ((hot_and_left may.vertex may.unburnt).1 may.reached);
+    reached = rw (same v may.vertex) ((both may.vertex may.unburnt).1 may.reached);
   },
 )
   where
-    hot_and_left : v < g.size → B v ≡ false → (pos (capped_for_fire (D v)) <ℤ pos (edges_into g B v)) ↔ (D v <ℤ pos
+    both : v < g.size → B v ≡ false → (pos (capped_for_fire (D v)) <ℤ pos (edges_into g B v)) ↔ (D v <ℤ pos
         (edges_into g B v))
-    hot_and_left below out = capped-less (D v) (edges_into g B v)
+    both below out = capped-less (D v) (edges_into g B v)
         (solvent v below (λ is_q. both_ways _ out (ap B is_q ∙ burns)))
         (into-few g B v graph)
 

@@ -1,12 +1,12 @@
 -- The names that the proofs of this crate cite, passed on from one place. Declares nothing.
-pub use Rattle.dg_burn.specs.Fires.{IsFire, IsHeldForFire, IsLeastInFire, IsLeastToBurn, IsFireOut, IsUnlit, IsFireWithout, burns, capped_for_fire, dollars, heat}
+pub use Rattle.dg_burn.specs.Fires.{IsFire, IsHeldForFire, IsLeastToBurn, IsFireOut, IsUnlit, burns, capped_for_fire, dollars, heat}
 pub use Rattle.dg_burn.specs.SoFar.{IsFireBurning, count_unburnt}
 pub use Rattle.dg_burn.specs.declared.fire.Fire.{Fire}
 pub use Rattle.dg_chips.specs.Vector.{at}
 pub use Rattle.dg_graph.proofs.SetLaws.{in_set-none, no_set}
 pub use Rattle.dg_graph.proofs.Valences.{valence-few, valence-outside}
 pub use Rattle.dg_graph.specs.Graph.{IsGraph}
-pub use Rattle.dg_graph.specs.Sets.{IsVertexSet, IsSetWith}
+pub use Rattle.dg_graph.specs.Sets.{AreDisjoint, IsSetWith, IsSetWithout, IsSubset, IsVertexSet}
 unfoldable pub use Rattle.dg_graph.specs.Sets.{in_set}
 pub use Rattle.dg_theory.proofs.BurningLaws.{burnt_reduced, reduced_burnt, rest-out, rest_fires, unburnt_by-below, unburnt_fires}
 pub use Rattle.dg_theory.proofs.Counting.{member_or_none}

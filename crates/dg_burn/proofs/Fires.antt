@@ -12,7 +12,7 @@
 --   left-less      where one is left less, one burns more
 --   burnt_out      in a fire, nobody may burn where each has burnt whose heat is above 127
 --   least_burns    in a fire, the least vertex that has not and whose heat is burns next
-use Rattle.dg_burn.proofs.Common.{if◌then◌else◌, ◌≡◌, ℕ, zero, suc, ◌+◌, ◌-◌, ◌<◌, ◌≤◌, Bool, true, false, not, ◌&&◌, List, arith, refl, sym, ap, ap₂, ◌∙◌, ⊎_elim, nat_lt, slice_index, ◌<ℤ◌, pos, cases_Bool, cases_eq, cases_lt, lt-ltb, both_ways, not-false, ints, total_below, Multigraph, IsMultigraph, edges_between, valence, edges_into, MayBurn, BurnsNext, total_below-cong, total_below-term, total_below-differ_at, into-le-valence, IsGraph, IsVertexSet, IsSetWith, valence-few, valence-outside, Fire, dollars, heat, burns, IsUnlit, IsFireOut, IsLeastToBurn, IsFireWithout, IsFire, in_set}
+use Rattle.dg_burn.proofs.Common.{if◌then◌else◌, ◌≡◌, ℕ, zero, suc, ◌+◌, ◌-◌, ◌<◌, ◌≤◌, Bool, true, false, not, ◌&&◌, List, arith, refl, sym, ap, ap₂, ◌∙◌, ⊎_elim, nat_lt, slice_index, ◌<ℤ◌, pos, cases_Bool, cases_eq, cases_lt, lt-ltb, both_ways, not-false, ints, total_below, Multigraph, IsMultigraph, edges_between, valence, edges_into, MayBurn, BurnsNext, total_below-cong, total_below-term, total_below-differ_at, into-le-valence, IsGraph, IsVertexSet, IsSetWith, valence-few, valence-outside, Fire, dollars, heat, burns, IsUnlit, IsFireOut, IsLeastToBurn, IsSetWithout, IsFire, in_set}
 
 total-zero : (n : ℕ) → total_below n (λ _. 0) ≡ 0
 total-zero zero = refl
@@ -76,7 +76,7 @@ out-left n x v below out = not-false (in_set x.left v)
     (sym (ap (λ b. b && not (in_set x.left v)) (lt-ltb v n below)) ∙ out)
 
 -- where one is left less, one burns more
-pub left-less : (n : ℕ) (x y : Fire) (v : ℕ) → v < n → IsFireWithout (in_set x.left) v (in_set y.left) →
+pub left-less : (n : ℕ) (x y : Fire) (v : ℕ) → v < n → IsSetWithout (in_set x.left) v (in_set y.left) →
     IsSetWith (burns n x) v (burns n y)
 left-less n x y v below less = record {
   here = ap₂ (λ b c. b && not c) (lt-ltb v n below) less.here;
@@ -97,7 +97,7 @@ left-rest n k x size inside v = ⊎_elim
     neither true = refl
     neither false = refl
 
-inside-less : (n : ℕ) (x y : Fire) (v : ℕ) → IsFireWithout (in_set x.left) v (in_set y.left) →
+inside-less : (n : ℕ) (x y : Fire) (v : ℕ) → IsSetWithout (in_set x.left) v (in_set y.left) →
     IsVertexSet n (in_set x.left) → IsVertexSet n (in_set y.left)
 inside-less n x y v less inside w member = ⊎_elim
     (λ (equal : w ≡ v). absurd (both_ways _ (ap (in_set y.left) equal ∙ less.here) member))
@@ -105,7 +105,7 @@ inside-less n x y v less inside w member = ⊎_elim
     (cases_eq w v)
 
 pub fire-more : (g : Multigraph) (held : List ℕ) (x y : Fire) (v : ℕ) → IsMultigraph g → v < g.size →
-    burns g.size x v ≡ false → IsFire g held x → IsFireWithout (in_set x.left) v (in_set y.left) →
+    burns g.size x v ≡ false → IsFire g held x → IsSetWithout (in_set x.left) v (in_set y.left) →
     ((w : ℕ) → w < 16 → heat y w ≡ heat x w + edges_between g v w) → IsFire g held y
 fire-more g held x y v graph below new fire less heats = record {
   inside = inside-less g.size x y v less fire.inside;

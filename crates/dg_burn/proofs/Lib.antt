@@ -5,6 +5,5 @@ pub mod Told
 pub mod Fires
 pub mod Capped
 pub mod Lanes
-pub mod Bits
 pub mod Tried
 pub mod Common

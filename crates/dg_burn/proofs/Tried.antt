@@ -1,6 +1,4 @@
 -- How connected sets are tried.
---   joined_by        an edge into a set counts
---   none_joined      where none leads from a vertex into a set, none is counted
 --   rest_hangs       what burning leaves of the dollars beside a connected set hangs loosely on it
 --   reduced_of_none  and if it leaves nothing they are reduced
 --   beyond_wall      behind a wall at a set, burning from a vertex of what hangs on it leaves all else
@@ -18,7 +16,7 @@
 --   turned-skip      a vertex that is not in U needs no turn
 --   turned-kept      a vertex is kept, and turned-out: left out
 --   turned-all       after all turns
-use Rattle.dg_burn.proofs.Common.{zero, suc, if◌then◌else◌, ◌≡◌, ◌≢◌, ℕ, ◌+◌, ◌<◌, ◌≤◌, ◌&&◌, ◌⊎◌, inl, inr, ⊎_elim, Bool, true, false, not, nat_lt, List, arith, refl, sym, ap, subst, ◌∙◌, pos, ◌≤ℤ◌, cases_Bool, cases_eq, cases_lt, both_ways, and_parts, ints, eq-eqb, le-ltb, lt-ltb, ltb-true, ne_eqb, true_from_ne_false, Multigraph, IsMultigraph, IsGraph, edges_between, edges_into, edges_out, total_below-term, member_or_none, IsReduced, BurnsInOrder, IsGreatestFree, unburnt_by, IsSetWith, IsFireWithout, in_set, in_set-none, no_set, dollars}
+use Rattle.dg_burn.proofs.Common.{zero, suc, if◌then◌else◌, ◌≡◌, ◌≢◌, ℕ, ◌+◌, ◌<◌, ◌≤◌, ◌&&◌, ◌⊎◌, inl, inr, ⊎_elim, Bool, true, false, not, nat_lt, List, arith, refl, sym, ap, subst, ◌∙◌, pos, ◌≤ℤ◌, cases_Bool, cases_eq, cases_lt, both_ways, and_parts, ints, eq-eqb, le-ltb, lt-ltb, ltb-true, ne_eqb, true_from_ne_false, Multigraph, IsMultigraph, IsGraph, edges_between, edges_into, edges_out, total_below-term, member_or_none, IsReduced, BurnsInOrder, IsGreatestFree, unburnt_by, AreDisjoint, IsSetWith, IsSetWithout, IsSubset, in_set, in_set-none, no_set, dollars}
 use Rattle.std.proofs.lemmas.Bool.{and_from, false_from_ne_true, not-true, not_from_false}
 use Rattle.dg_theory.specs.Burning.{FiresFreely}
 use Rattle.dg_theory.specs.Determining.{HangsLoosely, IsConnectedSet, MeetsSpecialSets, beside}
@@ -28,26 +26,16 @@ use Rattle.dg_theory.proofs.Debts.{out-le-valence}
 use Rattle.dg_theory.proofs.SetFiring.{fired-inside, inside-fired, outside-fired}
 use Rattle.dg_theory.proofs.Special.{edge_into, fires_hangs, hangs_not_reduced, total_some}
 use Rattle.dg_theory.proofs.TotalLaws.{total_below-le}
-use Rattle.dg_burn.specs.Special.{AllHang, Hangs, IsGreedyDeterminingSet, IsGrowingSpecial, IsOffSpecial, IsPartOfSpecial, IsSpecialFrom, only, others, fire_wall}
+use Rattle.dg_burn.specs.Special.{AllHang, Hangs, IsGreedyDeterminingSet, IsGrowingSpecial, IsSpecialFrom, only, others, fire_wall}
 use Rattle.dg_burn.proofs.Told.{none_reduced}
 
-pub joined_by : (g : Multigraph) (S : ℕ → Bool) (v w : ℕ) → w < g.size → S w ≡ true → 0 < edges_between g v w →
+joined_by : (g : Multigraph) (S : ℕ → Bool) (v w : ℕ) → w < g.size → S w ≡ true → 0 < edges_between g v w →
     0 < edges_into g S v
 joined_by g S v w below member edge =
     let term : (if S w then edges_between g v w else 0) ≤ edges_into g S v =
     total_below-term g.size (λ u. if S u then edges_between g v u else 0) w below in
     let counted : edges_between g v w ≤ edges_into g S v = rw member at term in
     omega arith
-
-pub none_joined : (g : Multigraph) (S : ℕ → Bool) (v : ℕ) →
-    ((w : ℕ) → w < g.size → S w ≡ true → edges_between g v w ≡ 0) → edges_into g S v ≡ 0
-none_joined g S v none =
-    ⊎_elim
-    (λ (some : 0 < edges_into g S v).
-    let (w, below, member, edge) = edge_into g S v some in
-    absurd (omega (arith, none w below member)))
-    (λ (few : edges_into g S v ≤ 0). omega arith)
-    (cases_lt 0 (edges_into g S v))
 
 -- what burning leaves of the dollars beside a connected set
 pub rest_hangs : (g : Multigraph) (S : ℕ → Bool) (q : ℕ) (held : List ℕ) (R : ℕ → Bool) → IsMultigraph g →
@@ -186,10 +174,10 @@ found-some g S L best seen w some hangs = record {
 }
 
 pub record Passed (g : Multigraph) (S E X P : ℕ → Bool) (v : ℕ) : Type 0 where
-  pub more : IsPartOfSpecial E P
-  pub off : IsOffSpecial S P
+  pub more : IsSubset E P
+  pub off : AreDisjoint S P
   pub reached : (w : ℕ) → w < v → X w ≡ true → 0 < edges_into g S w → P w ≡ true
-  pub hang : (T : ℕ → Bool) → IsConnectedSet g T → IsPartOfSpecial S T → IsOffSpecial T E →
+  pub hang : (T : ℕ → Bool) → IsConnectedSet g T → IsSubset S T → AreDisjoint T E →
       (w : ℕ) → T w ≡ true → P w ≡ true → Hangs g T
 
 pub passed-skip : (g : Multigraph) (S E X P : ℕ → Bool) (v : ℕ) → Passed g S E X P v →
@@ -206,7 +194,7 @@ passed-skip g S E X P v passed skipped = record {
 
 -- a set meets another, or has none of it
 meets_or_off : (g : Multigraph) (T P : ℕ → Bool) → IsConnectedSet g T →
-    ((w : ℕ) × (T w ≡ true) × (P w ≡ true)) ⊎ IsOffSpecial T P
+    ((w : ℕ) × (T w ≡ true) × (P w ≡ true)) ⊎ AreDisjoint T P
 meets_or_off g T P connected =
     ⊎_elim
     (λ (some : (w : ℕ) × (w < g.size) × ((T w && P w) ≡ true)).
@@ -216,7 +204,7 @@ meets_or_off g T P connected =
     both_ways _ (none w (connected.vertices w in_T)) (and_from _ _ in_T in_P))))
     (member_or_none g.size (λ w. T w && P w))
 
-with-part : (S T : ℕ → Bool) (v : ℕ) → IsSetWith S v T → IsPartOfSpecial S T
+with-part : (S T : ℕ → Bool) (v : ℕ) → IsSetWith S v T → IsSubset S T
 with-part S T v is w member =
     ⊎_elim
     (λ (same : w ≡ v). rw same is.here)
@@ -226,7 +214,7 @@ with-part S T v is w member =
 pub passed-more : (g : Multigraph) (S S' E X P P' : ℕ → Bool) (v : ℕ) → Passed g S E X P v → S v ≡ false →
     IsSetWith S v S' → IsSetWith P v P' → AllHang g S' P → Passed g S E X P' (v + 1)
 passed-more g S S' E X P P' v passed out with_v passed_v all =
-    let more : IsPartOfSpecial P P' = with-part P P' v passed_v in
+    let more : IsSubset P P' = with-part P P' v passed_v in
     record {
       more = λ w member. more w (passed.more w member);
       off = λ w member.
@@ -239,7 +227,7 @@ passed-more g S S' E X P P' v passed out with_v passed_v all =
       hang = λ T connected part apart w in_T in_P'. ⊎_elim
           (λ (met : (u : ℕ) × (T u ≡ true) × (P u ≡ true)).
           passed.hang T connected part apart met.0 met.1 met.2)
-          (λ (off : IsOffSpecial T P). ⊎_elim
+          (λ (off : AreDisjoint T P). ⊎_elim
           (λ (same : w ≡ v). all T connected
           (λ u member. ⊎_elim
           (λ (at : u ≡ v). rw (at ∙ sym same) in_T)
@@ -258,7 +246,7 @@ into-le-once true true e none = omega arith
 into-le-once true false e none = omega (arith, none refl refl)
 
 -- what hangs on a set hangs on a larger one that has nothing of it
-hangs-larger : (g : Multigraph) (S T X : ℕ → Bool) → HangsLoosely g S X → IsPartOfSpecial S T → IsOffSpecial T X
+hangs-larger : (g : Multigraph) (S T X : ℕ → Bool) → HangsLoosely g S X → IsSubset S T → AreDisjoint T X
     → HangsLoosely g T X
 hangs-larger g S T X hangs part off = record {
   vertices = hangs.vertices;
@@ -277,7 +265,7 @@ pub passed-all : (g : Multigraph) (S E X P : ℕ → Bool) (q n : ℕ) → IsMul
 passed-all g S E X P q n graph size growing hangs passed T connected part apart =
     ⊎_elim
     (λ (met : (u : ℕ) × (T u ≡ true) × (P u ≡ true)). passed.hang T connected part apart met.0 met.1 met.2)
-    (λ (off : IsOffSpecial T P). ⊎_elim
+    (λ (off : AreDisjoint T P). ⊎_elim
     (λ (met : (u : ℕ) × (T u ≡ true) × (X u ≡ true)).
     let B : ℕ → Bool = λ v. T v && not (X v) in
     let clear : X q ≡ false = false_from_ne_true (X q) (λ in_X. both_ways _ (hangs.apart q in_X) growing.start) in
@@ -295,7 +283,7 @@ passed-all g S E X P q n graph size growing hangs passed T connected part apart 
     joined_by g S b a (connected.vertices a a_in_T) a_in_S (omega (arith, graph.symmetric a b)) in
     absurd (both_ways _ (off b in_b)
     (passed.reached b (omega (arith, connected.vertices b in_b)) b_in_X next)))
-    (λ (off_X : IsOffSpecial T X). (X, hangs-larger g S T X hangs part off_X))
+    (λ (off_X : AreDisjoint T X). (X, hangs-larger g S T X hangs part off_X))
     (meets_or_off g T X connected))
     (meets_or_off g T P connected)
 
@@ -328,7 +316,7 @@ growing-alone g S T E v inside none with_v free =
       off = λ w member. rw (only w member) free;
     }
 
-meets-fewer : (g : Multigraph) (A B U S T : ℕ → Bool) (v : ℕ) → MeetsSpecialSets g A U → IsFireWithout A v B →
+meets-fewer : (g : Multigraph) (A B U S T : ℕ → Bool) (v : ℕ) → MeetsSpecialSets g A U → IsSetWithout A v B →
     ((w : ℕ) → S w ≡ false) → IsSetWith S v T → AllHang g T B → MeetsSpecialSets g B U
 meets-fewer g A B U S T v meets without none with_v all R u connected in_R in_U off =
     ⊎_elim
@@ -343,7 +331,7 @@ meets-fewer g A B U S T v meets without none with_v all R u connected in_R in_U 
     without.others w other ∙ off w member))
     (cases_Bool (R v))
 
-part-fewer : (A B U : ℕ → Bool) (v : ℕ) → IsPartOfSpecial A U → IsFireWithout A v B → IsPartOfSpecial B U
+part-fewer : (A B U : ℕ → Bool) (v : ℕ) → IsSubset A U → IsSetWithout A v B → IsSubset B U
 part-fewer A B U v part without w member =
     ⊎_elim
     (λ (same : w ≡ v). absurd (both_ways _ without.here (ap B (sym same) ∙ member)))
@@ -357,7 +345,7 @@ others-same A B U v same w =
     (λ (after : v ≤ w). rw (le-ltb w v after) refl)
     (cases_lt w v)
 
-others-at : (A B U : ℕ → Bool) (v : ℕ) → IsFireWithout A v B → ((w : ℕ) → v ≤ w → A w ≡ U w) →
+others-at : (A B U : ℕ → Bool) (v : ℕ) → IsSetWithout A v B → ((w : ℕ) → v ≤ w → A w ≡ U w) →
     (w : ℕ) → B w ≡ others A U v w
 others-at A B U v without rest w =
     ⊎_elim
@@ -376,7 +364,7 @@ only-at S T v none with_v w =
     (cases_eq w v)
 
 pub record Turned (g : Multigraph) (U A : ℕ → Bool) (n : ℕ) : Type 0 where
-  pub part : IsPartOfSpecial A U
+  pub part : IsSubset A U
   pub meets : MeetsSpecialSets g A U
   pub rest : (w : ℕ) → n ≤ w → A w ≡ U w
   pub left_out : (v : ℕ) → v < n → U v ≡ true → A v ≡ false → AllHang g (only v) (others A U v)
@@ -406,7 +394,7 @@ turned-skip g U A n turned off = record {
       (cases_eq v n);
 }
 
-pub turned-kept : (g : Multigraph) (U A B S T : ℕ → Bool) (n : ℕ) → Turned g U A n → A n ≡ true → IsFireWithout A n B →
+pub turned-kept : (g : Multigraph) (U A B S T : ℕ → Bool) (n : ℕ) → Turned g U A n → A n ≡ true → IsSetWithout A n B →
     ((w : ℕ) → S w ≡ false) → IsSetWith S n T → IsSpecialFrom g n T B → Turned g U A (n + 1)
 turned-kept g U A B S T n turned member without none with_n special = record {
   part = turned.part;
@@ -424,7 +412,7 @@ turned-kept g U A B S T n turned member without none with_n special = record {
       (cases_eq v n);
 }
 
-pub turned-out : (g : Multigraph) (U A B S T : ℕ → Bool) (n : ℕ) → Turned g U A n → IsFireWithout A n B →
+pub turned-out : (g : Multigraph) (U A B S T : ℕ → Bool) (n : ℕ) → Turned g U A n → IsSetWithout A n B →
     ((w : ℕ) → S w ≡ false) → IsSetWith S n T → AllHang g T B → Turned g U B (n + 1)
 turned-out g U A B S T n turned without none with_n all =
     let same_others : (v : ℕ) → v ≤ n → (w : ℕ) → others A U v w ≡ others B U v w =

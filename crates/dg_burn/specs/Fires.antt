@@ -11,13 +11,10 @@
 --                          is what it lacks to 127 dollars
 --   IsFireOut x         == no vertex that does not burn has a heat above 127
 --   IsLeastToBurn x v   == v is the least vertex that does not burn and has
---   IsEmptyFire S       == S has no vertex
---   IsLeastInFire S v   == v is the least vertex of S
---   IsFireWithout S v T == T is the set S without v
 --   IsFire g l x        == those that do not burn are vertices of the graph, and the heat of each vertex is
 --                          what it lacks to 127 dollars, if it holds what l tells, and its edges to those
 --                          that burn
-use Rattle.std.specs.Prelude.{◌≡◌, ◌≢◌, ℕ, ◌+◌, ◌-◌, ◌<◌, ◌≤◌, ◌&&◌, min, nat_lt, not, Bool, true, false, List, ℤ, pos, negsuc, slice_index}
+use Rattle.std.specs.Prelude.{◌≡◌, ℕ, ◌+◌, ◌-◌, ◌<◌, ◌≤◌, ◌&&◌, min, nat_lt, not, Bool, true, false, List, ℤ, pos, negsuc, slice_index}
 use Rattle.dg_graph.specs.Sets.{in_set, IsVertexSet}
 use Rattle.dg_graph.specs.declared.limits.TheConstants.{MAX_VERTICES}
 use Rattle.dg_theory.specs.Burning.{edges_into}
@@ -54,18 +51,6 @@ pub record IsLeastToBurn (x : Fire) (v : ℕ) : Type 0 where
   pub new : in_set x.left v ≡ true
   pub burns : 127 < heat x v
   pub least : (u : ℕ) → u < v → in_set x.left u ≡ true → heat x u ≤ 127
-
-abbrev pub IsEmptyFire : (ℕ → Bool) → Type 0
-IsEmptyFire S = (v : ℕ) → S v ≡ false
-
-pub record IsLeastInFire (S : ℕ → Bool) (v : ℕ) : Type 0 where
-  pub few : v < MAX_VERTICES
-  pub here : S v ≡ true
-  pub least : (u : ℕ) → u < v → S u ≡ false
-
-pub record IsFireWithout (S : ℕ → Bool) (v : ℕ) (T : ℕ → Bool) : Type 0 where
-  pub here : T v ≡ false
-  pub others : (w : ℕ) → w ≢ v → S w ≡ T w
 
 pub record IsFire (g : Multigraph) (l : List ℕ) (x : Fire) : Type 0 where
   pub inside : IsVertexSet g.size (in_set x.left)

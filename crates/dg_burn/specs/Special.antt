@@ -1,6 +1,4 @@
 -- The search for the special sets that a set of vertices does not meet.
---   IsPartOfSpecial S T          == each vertex of S is in T
---   IsOffSpecial S T             == no vertex of S is in T
 --   Hangs g S                    == something hangs loosely on the set S
 --   fire_wall S                  == 64 dollars at each vertex of S, more than it has edges, and none
 --                                   elsewhere
@@ -19,13 +17,8 @@ use Rattle.std.specs.Prelude.{if◌then◌else◌, ◌≡◌, ℕ, ◌<◌, ◌=
 use Rattle.dg_theory.specs.Multigraph.{Multigraph, IsMultigraph}
 use Rattle.dg_theory.specs.Firing.{Amounts}
 use Rattle.dg_theory.specs.Reduced.{IsReduced}
+use Rattle.dg_graph.specs.Sets.{AreDisjoint, IsSubset}
 use Rattle.dg_theory.specs.Determining.{IsConnectedSet, HangsLoosely, beside}
-
-abbrev pub IsPartOfSpecial : (ℕ → Bool) → (ℕ → Bool) → Type 0
-IsPartOfSpecial S T = (v : ℕ) → S v ≡ true → T v ≡ true
-
-abbrev pub IsOffSpecial : (ℕ → Bool) → (ℕ → Bool) → Type 0
-IsOffSpecial S T = (v : ℕ) → S v ≡ true → T v ≡ false
 
 abbrev pub Hangs : Multigraph → (ℕ → Bool) → Type 0
 Hangs g S = (X : ℕ → Bool) × HangsLoosely g S X
@@ -36,17 +29,17 @@ fire_wall S v = if S v then pos 64 else pos 0
 pub record IsGrowingSpecial (g : Multigraph) (S : ℕ → Bool) (q : ℕ) (E : ℕ → Bool) : Type 0 where
   pub connected : IsConnectedSet g S
   pub start : S q ≡ true
-  pub off : IsOffSpecial S E
+  pub off : AreDisjoint S E
 
 abbrev pub AllHang : Multigraph → (ℕ → Bool) → (ℕ → Bool) → Type 0
 AllHang g S E =
-    (T : ℕ → Bool) → IsConnectedSet g T → IsPartOfSpecial S T → IsOffSpecial T E → Hangs g T
+    (T : ℕ → Bool) → IsConnectedSet g T → IsSubset S T → AreDisjoint T E → Hangs g T
 
 pub record IsSpecialFrom (g : Multigraph) (q : ℕ) (S E : ℕ → Bool) : Type 0 where
   pub set : ℕ → Bool
   pub connected : IsConnectedSet g set
-  pub part : IsPartOfSpecial S set
-  pub off : IsOffSpecial set E
+  pub part : IsSubset S set
+  pub off : AreDisjoint set E
   pub reduced : IsReduced g q (beside g set)
 
 abbrev pub only : ℕ → ℕ → Bool
@@ -56,7 +49,7 @@ abbrev pub others : (ℕ → Bool) → (ℕ → Bool) → ℕ → ℕ → Bool
 others A U v w = if nat_lt w v then A w else (if w == v then false else U w)
 
 pub record IsGreedyDeterminingSet (g : Multigraph) (U A : ℕ → Bool) : Type 0 where
-  pub part : IsPartOfSpecial A U
+  pub part : IsSubset A U
   pub left_out : (v : ℕ) → U v ≡ true → A v ≡ false → AllHang g (only v) (others A U v)
   pub kept : (v : ℕ) → A v ≡ true → IsSpecialFrom g v (only v) (others A U v)
 

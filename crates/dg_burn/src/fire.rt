@@ -1,12 +1,12 @@
 //! A fire that spreads over a graph.
 
-ghost use Rattle.std.specs.Prelude.{◌≡◌, ℕ, ◌+◌, ◌-◌, ◌<◌, ◌≤◌, ◌&&◌, true, nat_lt, MatchOption, slice_index};
+ghost use Rattle.std.specs.Prelude.{◌≡◌, ℕ, ◌+◌, ◌-◌, ◌<◌, ◌≤◌, true, nat_lt, MatchOption, slice_index};
 ghost use Rattle.dg_theory.specs.Multigraph.{edges_between};
 ghost use Rattle.dg_graph.specs.declared.limits.TheConstants.{MAX_VERTICES};
-ghost use Rattle.dg_graph.specs.Sets.{in_set};
-ghost use Rattle.dg_burn.specs.Fires.{heat, IsUnlit, IsFireOut, IsLeastToBurn, IsLeastInFire, IsEmptyFire, IsFireWithout};
+ghost use Rattle.dg_graph.specs.Sets.{in_set, IsSetWithout};
+ghost use Rattle.dg_burn.specs.Fires.{heat, IsUnlit, IsFireOut, IsLeastToBurn};
 
-use dg_graph::{Graph, complement};
+use dg_graph::{Graph, complement, intersection, least_vertex, without_vertex};
 use std::simd::prelude::*;
 
 /// More dollars than a vertex has edges: who holds more burns as who holds so many.
@@ -37,7 +37,7 @@ impl Fire {
     pub fn next_vertex_to_burn(&self) -> Option<usize>
         ensures { MatchOption result (IsFireOut self.now) (IsLeastToBurn self.now) }
     {
-        least_to_burn(hot_and_left(hot(self.heat), self.left))
+        least_vertex(intersection(hot(self.heat), self.left))
     }
 
     /// Lets a vertex that is left burn: its edges are counted at all vertices.
@@ -46,12 +46,12 @@ impl Fire {
         requires left { in_set self.old.left v ≡ true }
         requires room { (w : ℕ) → w < MAX_VERTICES →
             heat self.old w + edges_between graph.now v w ≤ 255 }
-        ensures left { IsFireWithout (in_set self.old.left) v (in_set self.new.left) }
+        ensures left { IsSetWithout (in_set self.old.left) v (in_set self.new.left) }
         ensures heat { (w : ℕ) → w < MAX_VERTICES →
             heat self.new w ≡ heat self.old w + edges_between graph.now v w }
     {
         let _size = graph.size();
-        self.left = fire_without_vertex(self.left, v);
+        self.left = without_vertex(self.left, v);
         self.heat = with_heat_of_row(self.heat, u8x16::from_array(*graph.row(v)));
     }
 }
@@ -87,30 +87,4 @@ fn hot(heat: u8x16) -> u16
     ensures { (v : ℕ) → in_set result v ≡ nat_lt 127 (slice_index heat v) }
 {
     heat.simd_gt(u8x16::splat(ENOUGH)).to_bitmask() as u16
-}
-
-/// The vertices that are in two sets.
-fn hot_and_left(set: u16, other: u16) -> u16
-    ensures { (v : ℕ) → in_set result v ≡ (in_set set v && in_set other v) }
-{
-    set & other
-}
-
-/// The set without one of its vertices.
-pub(crate) fn fire_without_vertex(set: u16, v: usize) -> u16
-    requires few { v < MAX_VERTICES }
-    requires member { in_set set v ≡ true }
-    ensures { IsFireWithout (in_set set) v (in_set result) }
-{
-    set ^ 1 << v
-}
-
-/// The least vertex of a set.
-fn least_to_burn(set: u16) -> Option<usize>
-    ensures { MatchOption result (IsEmptyFire (in_set set)) (IsLeastInFire (in_set set)) }
-{
-    if set == 0 {
-        return None;
-    }
-    Some(set.trailing_zeros() as usize)
 }

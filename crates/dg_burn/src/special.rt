@@ -1,7 +1,6 @@
 //! The vertices at which it is enough to try a rank test: a set that meets each special set.
 
 ghost use Rattle.std.specs.Prelude.{◌≡◌, ◌≢◌, ℕ, ◌<◌, true, MatchBool};
-ghost use Rattle.dg_theory.specs.Burning.{edges_into};
 ghost use Rattle.dg_theory.specs.Determining.{beside, Determines, HangsLoosely, IsConnectedSet, MeetsSpecialSets};
 ghost use Rattle.dg_theory.specs.Reduced.{IsReduced};
 ghost use Rattle.dg_graph.specs.Sets.{in_set, IsVertexSet};
@@ -9,8 +8,7 @@ ghost use Rattle.dg_burn.specs.Fires.{dollars};
 ghost use Rattle.dg_burn.specs.Special.{IsGreedyDeterminingSet, fire_wall, IsGrowingSpecial, AllHang, IsSpecialFrom, GreedyDeterminingSetIsOne};
 
 use crate::burning::burn_counted;
-use crate::fire::fire_without_vertex;
-use dg_graph::{Graph, complement, contains, with_vertex};
+use dg_graph::{Graph, complement, contains, with_vertex, without_vertex};
 
 /// A set of vertices that determines the losses within another: a divisor that can bear each loss of k dollars within
 /// it can bear each loss of k dollars within the other. Each vertex is left out, from the first on, if what is left still
@@ -24,7 +22,7 @@ pub fn determining_set(graph: &Graph, within: u16) -> u16
     let mut asked = within;
     for v in 0..graph.size() {
         if contains(asked, v) {
-            let fewer = fire_without_vertex(asked, v);
+            let fewer = without_vertex(asked, v);
             if determines_without(graph, v, with_vertex(0, v), fewer) {
                 asked = fewer;
             }
@@ -52,7 +50,7 @@ fn determines_without(graph: &Graph, q: usize, set: u16, stop: u16) -> bool
     }
     let mut passed = stop;
     for v in 0..graph.size() {
-        if contains(loose, v) && !contains(passed, v) && is_joined_to_fire(graph, v, set) {
+        if contains(loose, v) && !contains(passed, v) && graph.edges_into(set, v) > 0 {
             if !determines_without(graph, q, with_vertex(set, v), passed) {
                 return false;
             }
@@ -71,7 +69,7 @@ fn part_to_determine_by(graph: &Graph, q: usize, set: u16, stop: u16) -> u16
     ensures special { result ≡ 0 → IsReduced graph.now q (beside graph.now (in_set set)) }
 {
     let _size = graph.size();
-    let loose = burn_counted(graph, q, &dollars_beside_fire(graph, set))
+    let loose = burn_counted(graph, q, &dollars_beside(graph, set))
         .burnt
         .unburnt;
     let mut best = 0;
@@ -80,7 +78,7 @@ fn part_to_determine_by(graph: &Graph, q: usize, set: u16, stop: u16) -> u16
     for w in 0..graph.size() {
         if contains(loose, w) && !contains(seen, w) {
             let part = burnt_component(graph, set, loose, w);
-            let entries = count_ways_for_fire(graph, set, part, stop);
+            let entries = count_ways_into(graph, set, part, stop);
             if best == 0 || entries < least {
                 best = part;
                 least = entries;
@@ -106,10 +104,10 @@ fn burnt_component(graph: &Graph, set: u16, loose: u16, w: usize) -> u16
 }
 
 /// How many vertices of a part are next to a set and not in `stop`.
-fn count_ways_for_fire(graph: &Graph, set: u16, part: u16, stop: u16) -> usize {
+fn count_ways_into(graph: &Graph, set: u16, part: u16, stop: u16) -> usize {
     let mut count = 0;
     for v in 0..graph.size() {
-        if contains(part, v) && !contains(stop, v) && is_joined_to_fire(graph, v, set) {
+        if contains(part, v) && !contains(stop, v) && graph.edges_into(set, v) > 0 {
             count += 1;
         }
     }
@@ -130,30 +128,14 @@ fn walled_against_fire(graph: &Graph, set: u16) -> [u8; 16]
 }
 
 /// A dollar at each vertex outside a set from which an edge leads into the set.
-fn dollars_beside_fire(graph: &Graph, set: u16) -> [u8; 16]
+fn dollars_beside(graph: &Graph, set: u16) -> [u8; 16]
     ensures { (v : ℕ) → v < graph.now.size → dollars result v ≡ beside graph.now (in_set set) v }
 {
     let mut held = [0; 16];
     for v in 0..graph.size() {
-        if !contains(set, v) && is_joined_to_fire(graph, v, set) {
+        if !contains(set, v) && graph.edges_into(set, v) > 0 {
             held[v] = 1;
         }
     }
     held
-}
-
-/// Whether an edge leads from a vertex into a set.
-fn is_joined_to_fire(graph: &Graph, v: usize, set: u16) -> bool
-    requires { v < graph.now.size }
-    ensures { MatchBool result
-        (0 < edges_into graph.now (in_set set) v)
-        (edges_into graph.now (in_set set) v ≡ 0) }
-{
-    let row = graph.row(v);
-    for w in 0..graph.size() {
-        if row[w] > 0 && contains(set, w) {
-            return true;
-        }
-    }
-    false
 }

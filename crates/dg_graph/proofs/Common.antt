@@ -4,7 +4,7 @@ pub use Rattle.dg_graph.specs.Graph.{IsGraph, HasGraphRows}
 pub use Rattle.dg_graph.specs.Items.{IsGraphItem, AreGraphItems, AreGraphItemsBefore, GraphItem, edges_of_graph_item}
 pub use Rattle.dg_graph.specs.Joins.{IsJoinable}
 pub use Rattle.dg_graph.specs.Search.{IsApart, IsInSetOrApart, IsJoinedInGraph, IsNextTo, is_in}
-pub use Rattle.dg_graph.specs.Sets.{IsSetWith}
+pub use Rattle.dg_graph.specs.Sets.{IsSetWith, IsSetWithout, IsLeastInSet}
 pub use Rattle.dg_theory.proofs.Chains.{JoinedInMultigraph-append, JoinedInMultigraph-cong, JoinedInMultigraph-reverse, JoinedInMultigraph-stays}
 pub use Rattle.dg_theory.proofs.Debts.{into-le-valence, out-le-valence}
 pub use Rattle.dg_theory.proofs.JoinLaws.{edge_entry_more-row, joined_is_multigraph, size_stays, valence_grows}
@@ -14,17 +14,19 @@ pub use Rattle.dg_theory.specs.Joins.{at_either, edge_entry_more, one_edge_more}
 pub use Rattle.dg_theory.specs.Multigraph.{JoinedInMultigraph, Multigraph, along, edges_between, here, valence}
 pub use Rattle.dg_theory.specs.Reduced.{edges_out}
 pub use Rattle.dg_theory.specs.Sums.{total_below}
-pub use Rattle.std.proofs.Common.{Bool, List, MatchBool, Some, [], ap, arith, bit_and, bit_or, cond, count_by, ext_get_or, false, get_or, inl, inr, length, length-set, min, nat_eq, not, refl, replicate, rules, set, slice_get, subst, suc, sum_by, sym, take, true, w16, zero, ℕ, ⊎_elim, ◌%◌, ◌&&◌, ◌*◌, ◌+◌, ◌-◌, ◌/◌, ◌<◌, ◌==◌, ◌^◌, ◌||◌, ◌∙◌, ◌∷◌, ◌≡◌, ◌≢◌, ◌≤◌}
+pub use Rattle.std.proofs.Common.{Bool, List, MatchBool, Some, [], ap, ap₂, arith, bit_and, bit_or, cond, count_by, ext_get_or, false, get_or, inl, inr, length, length-set, min, nat_eq, not, refl, replicate, rules, set, slice_get, subst, suc, sum_by, sym, take, true, w16, zero, ℕ, ⊎_elim, ◌%◌, ◌&&◌, ◌*◌, ◌+◌, ◌-◌, ◌/◌, ◌<◌, ◌==◌, ◌^◌, ◌||◌, ◌∙◌, ◌∷◌, ◌≡◌, ◌≢◌, ◌≤◌}
 pub use Rattle.std.proofs.Math.IntN.{pos, ◌+ℤ◌, ◌-ℤ◌}
-pub use Rattle.std.proofs.lemmas.Bool.{cases_Bool, cases_eq, cases_lt, eqb-false, false≢true, le-ltb, lt-ltb}
+pub use Rattle.std.proofs.lemmas.Bool.{cases_Bool, cases_eq, cases_lt, eqb-false, eqb-true, false≢true, le-ltb, lt-ltb}
 pub use Rattle.std.proofs.lemmas.Bool.Decides.{nat_tests}
 pub use Rattle.std.proofs.lemmas.Int.{ints}
 pub use Rattle.std.proofs.lemmas.List.{get_or-set_other, get_or-set_same, get_or-replicate, get_or_past}
 pub use Rattle.std.proofs.lemmas.List.FromFn.{fill_by_all, get_or-map-range_with_len}
 pub use Rattle.std.proofs.lemmas.List.Sums.{sum_by-cons, sum_by-set, sum_by_more}
-pub use Rattle.std.proofs.lemmas.Nat.Bits.{bit_at-lt, bit_at-zero, bit_at_above, bit_at_and, bit_at_not, bit_at_ones, bit_at_ones_above, bit_at_set_other, bit_at_set_same, ones_shr, same_from_bits, shr_and_one}
+pub use Rattle.std.proofs.lemmas.Nat.{one_shl}
+pub use Rattle.std.proofs.lemmas.Nat.Bits.{bit_at-lt, bit_at-pow_other, bit_at-pow_same, bit_at-trailing_zeros, bit_at-zero, bit_at_xor, bit_at_above, bit_at_and, bit_at_not, bit_at_ones, bit_at_ones_above, bit_at_set_other, bit_at_set_same, ones_shr, same_from_bits, shr_and_one}
 pub use Rattle.std.proofs.lemmas.Option.{slice_get-get_or}
-pub use Rattle.std.specs.Int.{bit_at, bit_not, w32}
+pub use Rattle.std.specs.Int.{bit_at, bit_not, trailing_zeros, w32}
+pub use Rattle.std.specs.Int.RustNames.{bit_xor}
 pub use Rattle.std.specs.List.{slice_index_or}
 pub use Rattle.std.specs.Prelude.{if◌then◌else◌, nat_lt, slice_index}
 pub use mir.Val.{of_z, to_z}

@@ -13,4 +13,6 @@ mod table;
 pub use fault::{GraphFault, JoinFault};
 pub use graph::Graph;
 pub use limits::{MAX_VALENCE, MAX_VERTICES};
-pub use sets::{complement, contains, is_vertex_set, with_vertex};
+pub use sets::{
+    complement, contains, intersection, is_vertex_set, least_vertex, with_vertex, without_vertex,
+};

@@ -1,8 +1,8 @@
 //! Sets of vertices: bit v of a number stands for vertex v.
 
-ghost use Rattle.std.specs.Prelude.{◌≡◌, ℕ, ◌<◌, ◌≤◌, ◌&&◌, not, nat_lt, true, false};
+ghost use Rattle.std.specs.Prelude.{◌≡◌, ℕ, ◌<◌, ◌≤◌, ◌&&◌, not, nat_lt, true, false, MatchOption};
 ghost use Rattle.std.specs.Bool.{OnTrue, OnFalse};
-ghost use Rattle.dg_graph.specs.Sets.{in_set, IsVertexSet, IsSetWith};
+ghost use Rattle.dg_graph.specs.Sets.{in_set, IsVertexSet, IsSetWith, IsSetWithout, IsEmptySet, IsLeastInSet};
 
 use crate::limits::MAX_VERTICES;
 
@@ -20,6 +20,32 @@ pub fn with_vertex(set: u16, v: usize) -> u16
     ensures { IsSetWith (in_set set) v (in_set result) }
 {
     set | 1 << v
+}
+
+/// The set without one of its vertices.
+pub fn without_vertex(set: u16, v: usize) -> u16
+    requires few { v < MAX_VERTICES }
+    requires member { in_set set v ≡ true }
+    ensures { IsSetWithout (in_set set) v (in_set result) }
+{
+    set ^ 1 << v
+}
+
+/// The vertices that are in two sets.
+pub fn intersection(set: u16, other: u16) -> u16
+    ensures { (v : ℕ) → in_set result v ≡ (in_set set v && in_set other v) }
+{
+    set & other
+}
+
+/// The least vertex of a set.
+pub fn least_vertex(set: u16) -> Option<usize>
+    ensures { MatchOption result (IsEmptySet (in_set set)) (IsLeastInSet (in_set set)) }
+{
+    if set == 0 {
+        return None;
+    }
+    Some(set.trailing_zeros() as usize)
 }
 
 /// The vertices of a graph of 1 to 16 vertices that are not in a set.

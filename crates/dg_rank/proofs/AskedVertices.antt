@@ -14,7 +14,7 @@
 --   none_made, made_at   the sets that are made: none at first, then one more
 --   loss_from        a loss of the box holds nothing before the place
 --   told_from        so what is told of the box is told of these losses
-use Rattle.dg_rank.proofs.Common.{◌-◌, eq-eqb, eqb-true, ne_eqb, if◌then◌else◌, ◌≡◌, ℕ, ◌+◌, ◌<◌, ◌≤◌, inl, inr, ⊎_elim, Bool, true, false, nat_lt, List, arith, refl, sym, ap, subst, ◌∙◌, cases_eq, cases_lt, cases_Bool, both_ways, false_from_ne_true, lt-ltb, le-ltb, ltb-true, fun_ext, ints, ◌≤ℤ◌, slice_index, length, set, get_or-set_same, get_or-set_other, get_or-replicate, replicate, Option, Some, None, MatchOption, AreSetsForTrials, IsSetForTrials, IsBoxLoss, IsTrialLossFrom, in_set, Multigraph, IsMultigraph, edges_between, JoinedInMultigraph, here, along, JoinedInMultigraph-end, IsConnectedSet, edges_within, BearsLosses, Determines, Amounts, degree, less, HasRankAtLeast, sum_below-one, total_below-cong, count_of-some, member_or_none, IsGreedyDeterminingSet, IsPartOfSpecial, others, greedy-once, TrialsWinFrom, BoxWins, ArePastTrialLimits, IsRankTestWithinLimits, IsSetAskedByTrials, IsPastAskedTrials, how_many_trial_places, DeterminesTrialsFrom}
+use Rattle.dg_rank.proofs.Common.{◌-◌, eq-eqb, eqb-true, ne_eqb, if◌then◌else◌, ◌≡◌, ℕ, ◌+◌, ◌<◌, ◌≤◌, inl, inr, ⊎_elim, Bool, true, false, nat_lt, List, arith, refl, sym, ap, subst, ◌∙◌, cases_eq, cases_lt, cases_Bool, both_ways, false_from_ne_true, lt-ltb, le-ltb, ltb-true, fun_ext, ints, ◌≤ℤ◌, slice_index, length, set, get_or-set_same, get_or-set_other, get_or-replicate, replicate, Option, Some, None, MatchOption, AreSetsForTrials, IsSetForTrials, IsBoxLoss, IsTrialLossFrom, in_set, Multigraph, IsMultigraph, edges_between, JoinedInMultigraph, here, along, JoinedInMultigraph-end, IsConnectedSet, edges_within, BearsLosses, Determines, Amounts, degree, less, HasRankAtLeast, sum_below-one, total_below-cong, count_of-some, member_or_none, IsGreedyDeterminingSet, IsSubset, others, greedy-once, TrialsWinFrom, BoxWins, ArePastTrialLimits, IsRankTestWithinLimits, IsSetAskedByTrials, IsPastAskedTrials, how_many_trial_places, DeterminesTrialsFrom}
 use Rattle.dg_rank.specs.Numbering.{trial_count, nth_trial}
 use Rattle.dg_rank.proofs.CountedOnce.{counted_once}
 use Rattle.dg_rank.proofs.Pascal.{count_grows}
@@ -35,7 +35,7 @@ all_determine g d U whole = record {
       (cases_lt v d));
 }
 
-pub set_determines : (g : Multigraph) (d : ℕ) (S U : ℕ → Bool) → IsAllFrom g.size d U → IsPartOfSpecial S U → Determines g S U →
+pub set_determines : (g : Multigraph) (d : ℕ) (S U : ℕ → Bool) → IsAllFrom g.size d U → IsSubset S U → Determines g S U →
     DeterminesTrialsFrom g d S
 set_determines g d S U whole part determines = record {
   part = λ v low. false_from_ne_true (S v) (λ member. omega (arith, (whole.part v (part v member)).0));

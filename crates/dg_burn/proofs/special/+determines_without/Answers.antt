@@ -3,7 +3,7 @@ use Rattle.dg_theory.specs.Determining.{HangsLoosely}
 use Rattle.dg_burn.proofs.Steps.{count_unburnt-fewer}
 use Rattle.dg_burn.proofs.Tried.{passed-skip, passed-more, passed-all, growing-more}
 use Rattle.dg_burn.proofs.special.+determines_without.Goals as goal
-use Rattle.dg_burn.proofs.special.+determines_without.Goals.{then-contains+then-not-contains+then-is_joined_to_fire+else-not-determines_without, else-contains, else-contains-via-then-contains+then-not-contains+else-is_joined_to_fire, else-contains-via-then-contains+else-not-contains, else-contains-via-else-contains}
+use Rattle.dg_burn.proofs.special.+determines_without.Goals.{then-contains+then-not-contains+then-edges_into-gt0+else-not-determines_without, else-contains, else-contains-via-then-contains+then-not-contains+else-edges_into-gt0, else-contains-via-then-contains+else-not-contains, else-contains-via-else-contains}
 
 pub determines_without-requires : goal.determines_without-requires
 determines_without-requires t c =
@@ -19,12 +19,13 @@ determines_without-requires t c =
       growing-more c.args.graph.now (in_set c.args.set) (in_set c.with_vertex.result) (in_set c.args.stop)
           (in_set c.part_to_determine_by-loose.result) (in_set c.loop-v.passed) c.args.q c.loop-v.v
           c.size-v-end.ensures.graph.multigraph below c.requires c.loop-v.invariant off
-          (sym c.if-not-contains.ensures) c.if-is_joined_to_fire.ensures c.with_vertex.ensures,
+          (sym c.if-not-contains.ensures) (omega (arith, c.edges_into.ensures.sum, c.if-edges_into-gt0.true))
+          c.with_vertex.ensures,
     )
 
 pub loop-v-preserved : goal.loop-v-preserved
 loop-v-preserved t c = elim c.if-contains.branch [
-  | then-contains+then-not-contains+then-is_joined_to_fire+else-not-determines_without w ↦
+  | then-contains+then-not-contains+then-edges_into-gt0+else-not-determines_without w ↦
       let hangs : HangsLoosely c.args.graph.now (in_set c.args.set) (in_set c.part_to_determine_by-loose.result) =
       c.part_to_determine_by-loose.ensures.hangs c.if-loose-eq0.false in
       let off : in_set c.args.set c.loop-v.v ≡ false = hangs.apart c.loop-v.v (sym w.if-contains.ensures) in
@@ -35,8 +36,8 @@ loop-v-preserved t c = elim c.if-contains.branch [
       rw w.passed-is (passed-skip c.args.graph.now (in_set c.args.set) (in_set c.args.stop)
       (in_set c.part_to_determine_by-loose.result) (in_set c.loop-v.passed) c.loop-v.v c.loop-v.invariant
       (λ member next. elim w.else-contains.branch [
-        | else-contains-via-then-contains+then-not-contains+else-is_joined_to_fire w' ↦
-            absurd (omega (arith, w'.if-is_joined_to_fire.ensures))
+        | else-contains-via-then-contains+then-not-contains+else-edges_into-gt0 w' ↦
+            absurd (omega (arith, w'.edges_into.ensures.sum, w'.if-edges_into-gt0.false))
         | else-contains-via-then-contains+else-not-contains w' ↦ sym w'.if-not-contains.ensures
         | else-contains-via-else-contains w' ↦ absurd (both_ways _ (sym w'.if-contains.ensures) member)
       ]))

@@ -9,19 +9,19 @@ loop-v-init c = turned-start c.args.graph.now (in_set c.args.within)
 
 pub determines_without-requires : goal.determines_without-requires
 determines_without-requires c =
-    growing-alone c.args.graph.now (in_set 0) (in_set c.with_vertex.result) (in_set c.fire_without_vertex-fewer.result)
+    growing-alone c.args.graph.now (in_set 0) (in_set c.with_vertex.result) (in_set c.without_vertex-fewer.result)
     c.loop-v.v (omega (arith, c.loop-v-test.true, c.size-v-end.ensures.size)) in_set-none c.with_vertex.ensures
-    c.fire_without_vertex-fewer.ensures.here
+    c.without_vertex-fewer.ensures.here
 
 pub loop-v-preserved : goal.loop-v-preserved
 loop-v-preserved c = elim c.if-contains.branch [
   | then-contains+then-determines_without w ↦ rw w.asked-is (turned-out c.args.graph.now (in_set c.args.within)
-      (in_set c.loop-v.asked) (in_set w.fire_without_vertex-fewer.result) (in_set 0) (in_set w.with_vertex.result)
-      c.loop-v.v c.loop-v.invariant w.fire_without_vertex-fewer.ensures in_set-none w.with_vertex.ensures
+      (in_set c.loop-v.asked) (in_set w.without_vertex-fewer.result) (in_set 0) (in_set w.with_vertex.result)
+      c.loop-v.v c.loop-v.invariant w.without_vertex-fewer.ensures in_set-none w.with_vertex.ensures
       w.if-determines_without.ensures)
   | then-contains+else-determines_without w ↦ rw w.asked-is (turned-kept c.args.graph.now (in_set c.args.within)
-      (in_set c.loop-v.asked) (in_set w.fire_without_vertex-fewer.result) (in_set 0) (in_set w.with_vertex.result)
-      c.loop-v.v c.loop-v.invariant (sym w.if-contains.ensures) w.fire_without_vertex-fewer.ensures in_set-none
+      (in_set c.loop-v.asked) (in_set w.without_vertex-fewer.result) (in_set 0) (in_set w.with_vertex.result)
+      c.loop-v.v c.loop-v.invariant (sym w.if-contains.ensures) w.without_vertex-fewer.ensures in_set-none
       w.with_vertex.ensures w.if-determines_without.ensures)
   | else-contains w ↦ rw w.asked-is (turned-skip c.args.graph.now (in_set c.args.within) (in_set c.loop-v.asked)
       c.loop-v.v c.loop-v.invariant (sym w.if-contains.ensures))

@@ -6,9 +6,9 @@ use Rattle.dg_burn.proofs.special.part_to_determine_by.Goals.{then-contains+then
 
 pub burnt_component-part-requires-clause-hangs : goal.burnt_component-part-requires-clause-hangs
 burnt_component-part-requires-clause-hangs c =
-    rest_hangs c.args.graph.now (in_set c.args.set) c.args.q c.dollars_beside_fire.result
+    rest_hangs c.args.graph.now (in_set c.args.set) c.args.q c.dollars_beside.result
     (in_set c.burn_counted-loose.result.burnt.unburnt) c.size-size.ensures.graph.multigraph c.requires.connected
-    c.requires.start c.dollars_beside_fire.ensures c.burn_counted-loose.ensures.unburnt c.loop-w.w (sym c.if-contains.ensures)
+    c.requires.start c.dollars_beside.ensures c.burn_counted-loose.ensures.unburnt c.loop-w.w (sym c.if-contains.ensures)
 
 pub loop-w-preserved : goal.loop-w-preserved
 loop-w-preserved c =
@@ -32,8 +32,8 @@ loop-w-preserved c =
 pub returns-clause-special : goal.returns-clause-special
 returns-clause-special c empty =
     let m = c.burn_counted-loose.result.burnt.unburnt in
-    reduced_of_none c.args.graph.now (in_set c.args.set) c.args.q c.dollars_beside_fire.result
-    (take c.burn_counted-loose.result.burnt.burnt c.burn_counted-loose.result.burnt.order) m c.dollars_beside_fire.ensures
+    reduced_of_none c.args.graph.now (in_set c.args.set) c.args.q c.dollars_beside.result
+    (take c.burn_counted-loose.result.burnt.burnt c.burn_counted-loose.result.burnt.order) m c.dollars_beside.ensures
     c.burn_counted-loose.ensures.order c.burn_counted-loose.ensures.left
     (λ u. ⊎_elim
     (λ (below : u < c.args.graph.now.size). c.loop-w.invariant.none empty u

@@ -1,6 +1,7 @@
-use Rattle.dg_burn.proofs.Common.{ap, ◌∙◌, arith, in_set-none, in_set}
-use Rattle.dg_burn.proofs.Bits.{least_bit}
-use Rattle.dg_burn.proofs.fire.least_to_burn.Goals as goal
+use Rattle.dg_graph.proofs.Common.{ap, ◌∙◌, arith}
+use Rattle.dg_graph.specs.Sets.{in_set}
+use Rattle.dg_graph.proofs.SetLaws.{in_set-none, least_bit}
+use Rattle.dg_graph.proofs.sets.least_vertex.Goals as goal
 
 pub returns-then-set-eq0 : goal.returns-then-set-eq0
 returns-then-set-eq0 c = λ v. ap (λ m. in_set m v) c.if-set-eq0.true ∙ in_set-none v

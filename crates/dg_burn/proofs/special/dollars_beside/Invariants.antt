@@ -1,6 +1,6 @@
 use Rattle.dg_burn.proofs.Common.{◌≡◌, ℕ, ◌<◌, ◌≤◌, length, slice_index, in_set, dollars}
 use Rattle.dg_theory.specs.Determining.{beside}
-use Rattle.dg_burn.proofs.special.dollars_beside_fire.Given as goal
+use Rattle.dg_burn.proofs.special.dollars_beside.Given as goal
 
 abbrev pub invariant-loop-v : goal.invariant-loop-v
 invariant-loop-v l = record {
