@@ -89,10 +89,10 @@ def commands():
 def kinds():
     """The kinds of words: how a page shows one, and the least and the most number that may stand in it."""
     ranges = {}
-    for given, body in equations(KINDS_OF)["IsNumberForWord"]:
-        bounds = re.fullmatch(r"IsSpelledNumberWithin \((.*)\) \((.*)\) text", body)
+    for given, body in equations(KINDS_OF)["IsNumeralForWord"]:
+        bounds = re.fullmatch(r"IsNumeralWithin \((.*)\) \((.*)\) text", body)
         if not bounds:
-            raise unread(KINDS_OF, "IsNumberForWord")
+            raise unread(KINDS_OF, "IsNumeralForWord")
         ranges[given.split(" ")[0]] = [value_of(bound) for bound in bounds.groups()]
     found = {}
     for kind in dict.fromkeys(kind for given in commands().values() for kind in given):

@@ -3,8 +3,8 @@
 --   IsMoveOfNoVertex n m == the move names a number that is none of the n vertices
 --   IsMoveOfEmptySet m   == the move fires the empty set
 --   HasOtherSize n m     == the move is a script for another number of vertices
---   IsMoveOnDivisor n m  == the move names vertices alone, fires no empty set, and is no script of another
---                           size
+--   IsApplicableMove n m == the move names vertices alone, fires no empty set, and is no script of another
+--                          size
 -- To fire the empty set would change nothing; on a table it is refused, since it is no move.
 use Rattle.std.specs.Prelude.{◌≡◌, ◌≢◌, ℕ, ◌<◌, ◌≤◌, true, pos, negsuc}
 use Rattle.dg_graph.specs.Sets.{in_set, IsVertexSet}
@@ -37,8 +37,8 @@ HasOtherSize n (Borrow v) = ⊥
 HasOtherSize n (Fire m) = ⊥
 HasOtherSize n (Script s) = s.size ≢ n
 
-abbrev pub IsMoveOnDivisor : ℕ → Move → Type 0
-IsMoveOnDivisor n (Lend v) = v < n
-IsMoveOnDivisor n (Borrow v) = v < n
-IsMoveOnDivisor n (Fire m) = (m ≢ 0) × IsVertexSet n (in_set m)
-IsMoveOnDivisor n (Script s) = s.size ≡ n
+abbrev pub IsApplicableMove : ℕ → Move → Type 0
+IsApplicableMove n (Lend v) = v < n
+IsApplicableMove n (Borrow v) = v < n
+IsApplicableMove n (Fire m) = (m ≢ 0) × IsVertexSet n (in_set m)
+IsApplicableMove n (Script s) = s.size ≡ n

@@ -75,11 +75,11 @@ impl Divisor {
             unsigned_abs (slice_index_or amounts.now v (pos 0)) ≤ MAX_AMOUNT }
         ensures { HoldsNumbers amounts.now result }
     {
-        Divisor::of_vector_row(amounts.len(), narrowed(amounts))
+        Divisor::of_vector_entries(amounts.len(), narrowed(amounts))
     }
 
     /// The divisor that is kept as this row.
-    fn of_vector_row(size: usize, amounts: [i32; 16]) -> Divisor
+    fn of_vector_entries(size: usize, amounts: [i32; 16]) -> Divisor
         requires { IsDivisorVector (record { size = size; numbers = amounts }) }
         ensures row { result ≡ record { size = size; numbers = amounts } }
         ensures divisor { IsDivisorVector result }
@@ -98,7 +98,7 @@ impl Divisor {
         for v in 0..size {
             amounts[v] = i32::from(graph.valence(v)) - 2;
         }
-        Divisor::of_vector_row(size, amounts)
+        Divisor::of_vector_entries(size, amounts)
     }
 
     /// The divisor less another one: at each vertex the difference of the amounts.
@@ -123,7 +123,7 @@ impl Divisor {
             }
             amounts[v] = amount as i32;
         }
-        Ok(Divisor::of_vector_row(size, amounts))
+        Ok(Divisor::of_vector_entries(size, amounts))
     }
 
     /// The number of vertices.
@@ -214,7 +214,7 @@ impl Divisor {
         if !fits {
             return None;
         }
-        Some(Divisor::of_vector_row(size, amounts))
+        Some(Divisor::of_vector_entries(size, amounts))
     }
 
     /// The divisor after each vertex of a set has lent once; `None` if an amount is then not within 1,000,000.
@@ -239,6 +239,6 @@ impl Divisor {
         if !fits {
             return None;
         }
-        Some(Divisor::of_vector_row(size, amounts))
+        Some(Divisor::of_vector_entries(size, amounts))
     }
 }

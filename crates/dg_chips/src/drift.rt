@@ -3,7 +3,7 @@
 ghost use Rattle.std.specs.Prelude.{◌≡◌, ℕ, ◌<◌, ◌≤◌, ◌+ℤ◌, ◌-ℤ◌, pos, MatchOption, MatchBool};
 ghost use Rattle.std.specs.Int.RustNames.{unsigned_abs};
 ghost use Rattle.dg_chips.specs.Vector.{at, IsDrift};
-ghost use Rattle.dg_chips.specs.Moves.{script_of_move, IsMoveOnDivisor};
+ghost use Rattle.dg_chips.specs.Moves.{script_of_move, IsApplicableMove};
 ghost use Rattle.dg_theory.specs.Firing.{FiresTo, only_at, indicator};
 ghost use Rattle.dg_graph.specs.Sets.{in_set};
 ghost use Rattle.dg_chips.specs.Drifts.{IsPastDrift};
@@ -71,7 +71,7 @@ impl Drift {
     /// and its script has the graph's size. With it no vertex has lent or borrowed more than 100,000,000,000,000 times.
     pub fn plus(&self, graph: &Graph, chip_move: &Move) -> Drift
         requires size { self.now.size ≡ graph.now.size }
-        requires playable { IsMoveOnDivisor graph.now.size chip_move.now }
+        requires playable { IsApplicableMove graph.now.size chip_move.now }
         requires limit { (v : ℕ) → v < graph.now.size →
             unsigned_abs (at self.now v +ℤ script_of_move chip_move.now v) ≤ MAX_DRIFT }
         ensures size { result.size ≡ graph.now.size }

@@ -75,7 +75,7 @@ impl Script {
             unsigned_abs (slice_index_or entries.now v (pos 0)) ≤ MAX_ENTRY }
         ensures { HoldsNumbers entries.now result }
     {
-        Script::of_vector_row(entries.len(), narrowed(entries))
+        Script::of_vector_entries(entries.len(), narrowed(entries))
     }
 
     /// The script with the first `size` of these entries. The conditions are that `size` is at most 16, and that each entry is
@@ -91,11 +91,11 @@ impl Script {
             let entry = if v < size { entries[v] } else { 0 };
             first[v] = entry;
         }
-        Script::of_vector_row(size, first)
+        Script::of_vector_entries(size, first)
     }
 
     /// The script that is kept as this row.
-    fn of_vector_row(size: usize, entries: [i32; 16]) -> Script
+    fn of_vector_entries(size: usize, entries: [i32; 16]) -> Script
         requires { IsScriptVector (record { size = size; numbers = entries }) }
         ensures { result ≡ record { size = size; numbers = entries } }
     {
@@ -117,7 +117,7 @@ impl Script {
         for v in 0..size {
             entries[v] = (lendings.get(v) - lendings.get(q)) as i32;
         }
-        Script::of_vector_row(size, entries)
+        Script::of_vector_entries(size, entries)
     }
 
     /// The script by which each vertex lends as often as by this one and another together.
@@ -134,7 +134,7 @@ impl Script {
         for v in 0..size {
             entries[v] = (self.get(v) + other.get(v)) as i32;
         }
-        Script::of_vector_row(size, entries)
+        Script::of_vector_entries(size, entries)
     }
 
     /// What this script lends more than a drift, with the drift's number for q added at each vertex: so q lends as often
@@ -153,7 +153,7 @@ impl Script {
         for v in 0..size {
             entries[v] = (self.get(v) - drift.get(v) + drift.get(q)) as i32;
         }
-        Script::of_vector_row(size, entries)
+        Script::of_vector_entries(size, entries)
     }
 
     /// Whether firing by this script leads from a divisor to some amounts.

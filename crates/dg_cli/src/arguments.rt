@@ -64,12 +64,12 @@ impl Argument {
         let name = self.name();
         let argument = Arg::new(alloc, name).help(self.help());
         match self.form() {
-            Form::Word => argument.value_name(self.shown()).required(true),
+            Form::Word => argument.value_name(self.shown_in_usage()).required(true),
             Form::Words => argument
-                .value_name(self.shown())
+                .value_name(self.shown_in_usage())
                 .required(true)
                 .num_args(1..),
-            Form::Option => argument.value_name(self.shown()).long(name),
+            Form::Option => argument.value_name(self.shown_in_usage()).long(name),
             Form::Flag => argument.long(name).action(ArgAction::SetTrue),
         }
     }
@@ -112,7 +112,7 @@ impl Argument {
     }
 
     /// What the usage calls its word; a flag has none.
-    fn shown<'a>(self) -> &'a str {
+    fn shown_in_usage<'a>(self) -> &'a str {
         match self {
             Argument::File => "FILE",
             Argument::Steps => "STEPS",

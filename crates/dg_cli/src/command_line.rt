@@ -67,12 +67,12 @@ fn command_of<'a>(alloc: Global, words: &'a [String]) -> Result<Invocation<'a>, 
     let matches = dollar(alloc)?.try_get_matches_from(words)?;
     match asked_by_words(alloc, &matches) {
         Ok(asked) => Ok(asked),
-        Err(refusal) => Err(error_of(alloc, matches.subcommand_name(), refusal)?),
+        Err(refusal) => Err(clap_error_of(alloc, matches.subcommand_name(), refusal)?),
     }
 }
 
 /// The error of a refusal, for the arguments of that command if it names one.
-fn error_of(
+fn clap_error_of(
     alloc: Global,
     name: Option<&str>,
     refusal: Refusal<'_>,

@@ -65,7 +65,7 @@ impl NumberArgument {
     }
 
     /// How the usage shows it.
-    fn shown(self) -> &'static str {
+    fn shown_in_usage(self) -> &'static str {
         match self {
             NumberArgument::Capacity => "--cap <N>",
             NumberArgument::Workers => "--workers <N>",
@@ -96,7 +96,7 @@ impl fmt::Display for NumberArgument {
         write!(
             f,
             "'{}': a whole number from {least} to {most}",
-            self.shown()
+            self.shown_in_usage()
         )
     }
 }

@@ -10,7 +10,7 @@
 --   edge-three     an array of three values is an edge where they are two texts and a number of edges
 --   edge-others    an array of another number of values is no edge
 use Rattle.dg_file.proofs.Common.{◌≡◌, ◌≢◌, ℕ, suc, ◌+◌, ◌<◌, ◌≤◌, List, [], ◌∷◌, ◌++◌, length, get_or, drop, Option, Some, None, option_map, Bor, Vec, String, Global, refl, sym, ap, ◌∙◌, codes, inl, inr, arith, IsSome, option_and_then, cases_order, append_assoc, append-nil, drop_more, drop_all, Data, null, boolean, number, string, array, object, Members, get, get_member, get_item, as_object, as_array, as_str, view, items_view, members_view, Value, get_item_within, JsonParts, HasJsonParts, put_first_json, edge_in_json, edge_from_json, edge_count_in_json, listed_in_json, IsEdgeFault}
-use Rattle.dg_file.specs.Content.{member_count, each, edge_of}
+use Rattle.dg_file.specs.Content.{member_count, each, edge_of_json}
 
 abbrev pub after : {A : Type 0} → List A → Option (List A) → Option (List A)
 after xs rest = option_map (λ more. xs ++ more) rest
@@ -114,12 +114,12 @@ pub edge-three : (value : Data) (vs : List Value) (one other count : Value)
     → Some (items_view vs) ≡ as_array value → length vs ≡ 3
     → one ≡ get_or vs 0 one → other ≡ get_or vs 1 other → count ≡ get_or vs 2 count
     → edge_in_json value ≡ edge_from_json (as_str (view one)) (as_str (view other)) (edge_count_in_json (view count))
-unfolding edge_of
+unfolding edge_of_json
 edge-three value vs one other count is size e f g = rw (← is, three vs one other count size e f g) refl
 
 pub edge-others : (value : Data) (vs : List Value) → Some (items_view vs) ≡ as_array value → length vs ≢ 3
     → edge_in_json value ≡ None
-unfolding edge_of
+unfolding edge_of_json
 edge-others value [] is different = rw (← is) refl
 edge-others value (a ∷ []) is different = rw (← is) refl
 edge-others value (a ∷ b ∷ []) is different = rw (← is) refl

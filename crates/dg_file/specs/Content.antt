@@ -14,7 +14,7 @@
 --   as_json_edge_count z       == z as a number of edges, if it is from 0 to 255
 --   edge_count_in_json value   == a whole number from 0 to 255
 --   edge_from_json one other n == the edge of the three, if all are there
---   edge_of items              == the edge of just three items: two texts and a number of edges
+--   edge_of_json items         == the edge of just three items: two texts and a number of edges
 --   edge_in_json value         == the edge that an array of three is
 --   texts_in_json value        == an array of texts
 --   edges_in_json value        == an array of edges
@@ -88,16 +88,16 @@ edge_from_json (Some one) (Some other) None = None
 edge_from_json (Some one) (Some other) (Some count) =
     Some (record { one = one; other = other; count = count })
 
-unfoldable pub edge_of : Items → Option FileEdge
-edge_of no_items = None
-edge_of (item one no_items) = None
-edge_of (item one (item other no_items)) = None
-edge_of (item one (item other (item count no_items))) =
+unfoldable pub edge_of_json : Items → Option FileEdge
+edge_of_json no_items = None
+edge_of_json (item one no_items) = None
+edge_of_json (item one (item other no_items)) = None
+edge_of_json (item one (item other (item count no_items))) =
     edge_from_json (as_str one) (as_str other) (edge_count_in_json count)
-edge_of (item one (item other (item count (item more rest)))) = None
+edge_of_json (item one (item other (item count (item more rest)))) = None
 
 abbrev pub edge_in_json : Data → Option FileEdge
-edge_in_json value = option_and_then edge_of (as_array value)
+edge_in_json value = option_and_then edge_of_json (as_array value)
 
 abbrev pub texts_in_json : Data → Option (List (List ℕ))
 texts_in_json value = listed_in_json as_str value

@@ -191,7 +191,7 @@ fn edges_from_json<'v>(
 {
     let mut edges = Vec::new(alloc);
     for (i, item) in items.iter().enumerate() {
-        let Some(edge) = edge_of(item) else {
+        let Some(edge) = edge_of_json(item) else {
             return Ok(Err(i));
         };
         edges.push(edge)?;
@@ -199,7 +199,7 @@ fn edges_from_json<'v>(
     Ok(Ok(edges))
 }
 
-fn edge_of(value: &Value) -> Option<FileEdge<'_>>
+fn edge_of_json(value: &Value) -> Option<FileEdge<'_>>
     ensures { result ≡ edge_in_json (view value.now) }
 {
     let items = value.as_array()?;

@@ -69,14 +69,14 @@ fn table_of_content(alloc: Global, content: &Content<'_>) -> Result<TableFile, F
     ensures table { IfOk result (λ table. IsTableInFile content.now table.start table.names) }
     ensures refused { IfErr result (RefusesContent content.now) }
 {
-    let names = names_of(alloc, content.vertices.as_slice())?;
+    let names = names_in_file(alloc, content.vertices.as_slice())?;
     let items = items_of_file_content(alloc, content, &names)?;
     let start = start_from_json(content, &names, items.as_slice())?;
     Ok(TableFile { start, names })
 }
 
 /// The texts as names, from the first on.
-fn names_of(alloc: Global, vertices: &[&str]) -> Result<Names, FileFault>
+fn names_in_file(alloc: Global, vertices: &[&str]) -> Result<Names, FileFault>
     ensures names { IfOk result (λ names. names ≡ map (λ vertex. vertex.now) vertices.now) }
     ensures are_names { IfOk result AreNames }
     ensures refused { IfErr result (RefusesFileNames (map (λ vertex. vertex.now) vertices.now)) }

@@ -169,13 +169,13 @@ impl Rehearsal {
             return Err(RehearseFault::NoLook(i));
         };
         if look.gifts != self.game.gifts() {
-            self.enter_stale_as_step(seat, &look, &Question::Judge, entry);
+            self.enter_stale_in_rehearsal(seat, &look, &Question::Judge, entry);
             return Ok(());
         }
         let q = self.q();
         renew_game_inverse(&mut self.inverse, q, &look);
         let finding = finding_of_verdict(&self.inverse, q, &look);
-        self.enter_finding_as_step(seat, &look, &finding, entry);
+        self.enter_finding_in_rehearsal(seat, &look, &finding, entry);
         Ok(())
     }
 
@@ -196,13 +196,13 @@ impl Rehearsal {
         if look.gifts != self.game.gifts()
             && let Some(_) = trials(look.graph.size(), k)
         {
-            self.enter_stale_as_step(seat, &look, &Question::Rank(k), entry);
+            self.enter_stale_in_rehearsal(seat, &look, &Question::Rank(k), entry);
             return Ok(());
         }
         let Ok(finding) = rank_look_of_schedule(self.q(), &look, k) else {
             return Err(RehearseFault::TooMany(i));
         };
-        self.enter_finding_as_step(seat, &look, &finding, entry);
+        self.enter_finding_in_rehearsal(seat, &look, &finding, entry);
         Ok(())
     }
 
@@ -228,7 +228,7 @@ impl Rehearsal {
 
     /// Enters what was computed on the look that a seat keeps, writes the entry, and uses the look up.
     #[inline(always)]
-    fn enter_finding_as_step(
+    fn enter_finding_in_rehearsal(
         &mut self,
         seat: u8,
         look: &LookData,
@@ -253,7 +253,13 @@ impl Rehearsal {
     }
 
     /// Enters a question as stale, on the look that a seat keeps, writes the entry, and uses the look up.
-    fn enter_stale_as_step(&mut self, seat: u8, look: &LookData, asks: &Question, entry: &mut Entry)
+    fn enter_stale_in_rehearsal(
+        &mut self,
+        seat: u8,
+        look: &LookData,
+        asks: &Question,
+        entry: &mut Entry,
+    )
         requires playing { (o : StartData) × (H : List Entry) × (steps : List Step) ×
             IsPlayingSchedule o steps H self.old × KeepsLook o H steps seat (Some look.now) }
         requires stale { look.now.gifts ≢ self.old.game.gifts }

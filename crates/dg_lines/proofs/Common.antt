@@ -13,8 +13,8 @@ pub use Rattle.dg_rules.specs.declared.entry.Plain.TheVariants.{Claim, Gift, Joi
 pub use Rattle.dg_rules.specs.declared.step.Command.{Command}
 pub use Rattle.dg_rules.specs.declared.step.Command.TheVariants.{Call, Commit, Rank}
 pub use Rattle.dg_rules.specs.declared.step.Step.{Step}
-pub use Rattle.dg_lines.specs.CommandWords.{AreNamesOnLine, WordsAreNamed, AreNumbersOnLine, IsNumberForWord, IsSpelledNumberWithin, IsScriptSpelledBy, IsScriptWord, IsSetSpelledBy, Kind, degree, dollars, name_part_of_item, number_part_of_item, vertex, vertices}
-pub use Rattle.dg_lines.specs.Commands.{IsCommandLine, IsWellFormedLine, Means, kinds_on_line, kinds_wanted_on_line, words_wanted}
+pub use Rattle.dg_lines.specs.CommandWords.{AreNamesOnLine, WordsOnLineAreNamed, AreNumbersOnLine, IsNumeralForWord, IsNumeralWithin, IsScriptSpelledBy, IsScriptWord, IsSetSpelledBy, Kind, degree, dollars, name_part_of_item, number_part_of_item, vertex, vertices}
+pub use Rattle.dg_lines.specs.Commands.{LineSpellsCommand, IsWellFormedLine, Means, kinds_on_line, kinds_wanted_on_line, words_wanted_on_line}
 pub use Rattle.dg_lines.specs.Cuts.{items, onto_first_piece, text_pieces_after, words, words_after}
 pub use Rattle.dg_lines.specs.Judgements.{JudgementHasNames, burning_text}
 pub use Rattle.dg_lines.specs.Keywords.{AreWords, IsBadScriptWord, keyword_kinds, spelling}

@@ -1,7 +1,7 @@
 -- A line spells no two commands, has no two faults, and never both.
 --   line_read        what is read of the words of a line is what the line spells, or its fault
 --   lines_have_one_meaning
-use Rattle.dg_lines.proofs.Common.{◌≡◌, ℕ, ◌<◌, ◌^◌, cond, true, false, ℤ, pos, List, [], ◌∷◌, length, map, Some, None, Result, Ok, Err, refl, ap, sym, ◌∙◌, subst, arith, codes, FitsSigned, w64, decimal, MatchResult, IfOk, IfErr, All, IsSome, is_some, bytes_eq, option_map, signed_decimal, decimal_injective, signed_decimal_injective, ints, All-nil, All-cons, Vector, Move, Borrow, Fire, Script, Command, Call, Commit, Rank, Gift, Join, Look, Claim, name_at, LineFault, Seat, Word, Form, Name, Number, words, items, Kind, vertex, vertices, degree, dollars, name_part_of_item, number_part_of_item, IsNumberForWord, WordsAreNamed, AreNumbersOnLine, IsScriptWord, IsSetSpelledBy, kinds_wanted_on_line, kinds_on_line, IsWellFormedLine, Means, IsCommandLine, AreRefusedStepLines, IsLineFault, one_vector, LinesHaveOneMeaning}
+use Rattle.dg_lines.proofs.Common.{◌≡◌, ℕ, ◌<◌, ◌^◌, cond, true, false, ℤ, pos, List, [], ◌∷◌, length, map, Some, None, Result, Ok, Err, refl, ap, sym, ◌∙◌, subst, arith, codes, FitsSigned, w64, decimal, MatchResult, IfOk, IfErr, All, IsSome, is_some, bytes_eq, option_map, signed_decimal, decimal_injective, signed_decimal_injective, ints, All-nil, All-cons, Vector, Move, Borrow, Fire, Script, Command, Call, Commit, Rank, Gift, Join, Look, Claim, name_at, LineFault, Seat, Word, Form, Name, Number, words, items, Kind, vertex, vertices, degree, dollars, name_part_of_item, number_part_of_item, IsNumeralForWord, WordsOnLineAreNamed, AreNumbersOnLine, IsScriptWord, IsSetSpelledBy, kinds_wanted_on_line, kinds_on_line, IsWellFormedLine, Means, LineSpellsCommand, AreRefusedStepLines, IsLineFault, one_vector, LinesHaveOneMeaning}
 use Rattle.dg_chips.specs.declared.moves.Move.TheVariants.{Lend}
 use Rattle.dg_rules.specs.declared.entry.Plain.TheVariants.{Move as Play}
 use Rattle.dg_tokens.specs.Names.{place_of}
@@ -20,7 +20,7 @@ module _ (names : List (List ℕ)) (line keyword : List ℕ) (rest : List (List 
     (cut : words line ≡ keyword ∷ rest) where
   pub line_read : (result : Result Command LineFault) → IsWellFormedLine keyword rest
       → MatchResult result (λ command. Means names command keyword rest) (λ fault. AreRefusedStepLines names fault keyword rest)
-      → IfOk result (λ command. IsCommandLine names command line) × IfErr result (λ fault. IsLineFault names fault line)
+      → IfOk result (λ command. LineSpellsCommand names command line) × IfErr result (λ fault. IsLineFault names fault line)
   line_read (Ok command) formed read =
       (record { keyword = keyword; rest = rest; cut = cut; formed = formed; means = read }, tt)
   line_read (Err fault) formed read = (tt, record { keyword = keyword; rest = rest; cut = cut; refused = read })
@@ -31,30 +31,30 @@ module _ (names : List (List ℕ)) (line keyword : List ℕ) (rest : List (List 
       subst (λ k. AreRefusedStepLines names fault k rest) same.0
       (subst (AreRefusedStepLines names fault known.keyword) same.1 known.refused)
 
-  means_at : (c : Command) → IsCommandLine names c line → Means names c keyword rest
+  means_at : (c : Command) → LineSpellsCommand names c line → Means names c keyword rest
   means_at c known =
       let same = same_words known.keyword keyword known.rest rest (sym known.cut ∙ cut) in
       subst (λ k. Means names c k rest) same.0 (subst (Means names c known.keyword) same.1 known.means)
 
 -- ---- what is spelled has no fault
-gift_number : (x : ℤ) → FitsSigned w64 x → IsNumberForWord dollars (signed_decimal x)
+gift_number : (x : ℤ) → FitsSigned w64 x → IsNumeralForWord dollars (signed_decimal x)
 gift_number x fits =
     let sides = within_fits x fits in
     record { number = x; spelled = refl; not_less = sides.0; not_more = sides.1 }
 
-rank_number : (k : ℕ) → k < 2 ^ 32 → IsNumberForWord degree (decimal k)
+rank_number : (k : ℕ) → k < 2 ^ 32 → IsNumeralForWord degree (decimal k)
 rank_number k small =
     record { number = pos k; spelled = refl; not_less = omega (arith, ints); not_more = omega (arith, ints) }
 
-no_numbers : (kind : Kind) → All (IsNumberForWord kind) []
-no_numbers kind = All-nil (IsNumberForWord kind)
+no_numbers : (kind : Kind) → All (IsNumeralForWord kind) []
+no_numbers kind = All-nil (IsNumeralForWord kind)
 
-one_number : (kind : Kind) (text : List ℕ) → IsNumberForWord kind text → All (IsNumberForWord kind) (text ∷ [])
-one_number kind text good = All-cons (IsNumberForWord kind) text [] good (no_numbers kind)
+one_number : (kind : Kind) (text : List ℕ) → IsNumeralForWord kind text → All (IsNumeralForWord kind) (text ∷ [])
+one_number kind text good = All-cons (IsNumeralForWord kind) text [] good (no_numbers kind)
 
 module _ (names : List (List ℕ)) (keyword : List ℕ) (rest : List (List ℕ)) where
   means_good : (c : Command) → Means names c keyword rest
-      → WordsAreNamed names (kinds_on_line keyword) rest × AreNumbersOnLine (kinds_on_line keyword) rest
+      → WordsOnLineAreNamed names (kinds_on_line keyword) rest × AreNumbersOnLine (kinds_on_line keyword) rest
   unfolding kinds_beside
   means_good (Call (Play (Lend v))) (word, one, (key, place)) =
       rw (key, one) ((named_alone names word v place, tt), (no_numbers vertex, tt))

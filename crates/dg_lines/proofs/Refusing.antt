@@ -2,7 +2,7 @@
 --   unnamed       a word names no vertex, or one twice
 --   misnumbered   all names are good, and a word has a number that is none of its kind
 --   no_script     the one word of a script is none
-use Rattle.dg_lines.proofs.Common.{◌≡◌, ℕ, List, [], ◌∷◌, Result, refl, ap, sym, subst, MatchResult, IsErrAnd, err_from_is_err_and, Command, Keyword, LineFault, Seat, Word, Form, Name, Number, WordsAreNamed, AreNumbersOnLine, kinds_on_line, IsWellFormedLine, Means, AreRefusedStepLines, spelling, keyword_kinds, IsBadScriptWord}
+use Rattle.dg_lines.proofs.Common.{◌≡◌, ℕ, List, [], ◌∷◌, Result, refl, ap, sym, subst, MatchResult, IsErrAnd, err_from_is_err_and, Command, Keyword, LineFault, Seat, Word, Form, Name, Number, WordsOnLineAreNamed, AreNumbersOnLine, kinds_on_line, IsWellFormedLine, Means, AreRefusedStepLines, spelling, keyword_kinds, IsBadScriptWord}
 use Rattle.std.specs.Prelude.{unwrap_or}
 use Rattle.dg_lines.specs.declared.command.Keyword.TheVariants as of
 use Rattle.dg_lines.proofs.Keywords.{wanted_of}
@@ -19,17 +19,18 @@ module _ (names : List (List ℕ)) (k : Keyword) (rest : List (List ℕ)) (forme
   refused : AreRefusedStepLines names fault (spelling k) rest → IsRead names k rest result
   refused bad = let told = err_from_is_err_and result handed in rw (told.1, told.2) bad
 
-  pub unnamed : fault ≡ Name → (WordsAreNamed names (keyword_kinds k) rest → ⊥)
+  pub unnamed : fault ≡ Name → (WordsOnLineAreNamed names (keyword_kinds k) rest → ⊥)
       → IsRead names k rest result
   unnamed same never =
-      refused (rw same (formed, subst (λ ks. WordsAreNamed names ks rest → ⊥) own never))
+      refused (rw same (formed, subst (λ ks. WordsOnLineAreNamed names ks rest → ⊥) own never))
 
-  pub misnumbered : fault ≡ Number → WordsAreNamed names (keyword_kinds k) rest → (AreNumbersOnLine (keyword_kinds k) rest → ⊥)
+  pub misnumbered : fault ≡ Number → WordsOnLineAreNamed names (keyword_kinds k) rest →
+      (AreNumbersOnLine (keyword_kinds k) rest → ⊥)
       → IsRead names k rest result
   misnumbered same named never =
       refused (rw same (
         formed,
-        subst (λ ks. WordsAreNamed names ks rest) own named,
+        subst (λ ks. WordsOnLineAreNamed names ks rest) own named,
         subst (λ ks. AreNumbersOnLine ks rest → ⊥) own never,
       ))
 

@@ -9,7 +9,7 @@
 --   HasPairs names all left set entries flag == `left` are the last of the items, and so much is read of
 --                                               those before
 -- What a loop over the pairs does: none read, one more, all; and what it comes to.
-use Rattle.dg_lines.proofs.Common.{◌≡◌, ◌≢◌, ℕ, ◌+◌, ◌<◌, ◌≤◌, ◌==◌, ◌&&◌, cond, Bool, true, false, ℤ, pos, negsuc, neg_ℤ, unsigned_abs, List, [], ◌∷◌, ◌++◌, length, take, map, Option, Some, None, refl, ap, sym, ◌∙◌, subst, arith, append_assoc, FitsSigned, w64, MatchOption, Bor, bytes_eq, All, is_some, replicate, signed_decimal, slice_index_or, slice_set, option_copied, eqb-true, nat_tests, signed_decimal_injective, ints, append-nil, map-append, length-append, length-take, length-set, get_or-set_same, get_or-set_other, get_or_past, get_or-take, get_or-replicate, length-replicate, All-nil, All-cons, All-head, All-tail, All-push, Vector, IsScriptVector, HoldsNumbers, MAX_ENTRY, has, name_at, IsSpelledNumberWithin, AreNamesOnLine, name_part_of_item, number_part_of_item, IsScriptSpelledBy}
+use Rattle.dg_lines.proofs.Common.{◌≡◌, ◌≢◌, ℕ, ◌+◌, ◌<◌, ◌≤◌, ◌==◌, ◌&&◌, cond, Bool, true, false, ℤ, pos, negsuc, neg_ℤ, unsigned_abs, List, [], ◌∷◌, ◌++◌, length, take, map, Option, Some, None, refl, ap, sym, ◌∙◌, subst, arith, append_assoc, FitsSigned, w64, MatchOption, Bor, bytes_eq, All, is_some, replicate, signed_decimal, slice_index_or, slice_set, option_copied, eqb-true, nat_tests, signed_decimal_injective, ints, append-nil, map-append, length-append, length-take, length-set, get_or-set_same, get_or-set_other, get_or_past, get_or-take, get_or-replicate, length-replicate, All-nil, All-cons, All-head, All-tail, All-push, Vector, IsScriptVector, HoldsNumbers, MAX_ENTRY, has, name_at, IsNumeralWithin, AreNamesOnLine, name_part_of_item, number_part_of_item, IsScriptSpelledBy}
 use Rattle.std.proofs.Common.{◌≤ℤ◌}
 use Rattle.std.specs.Prelude.{unwrap_or}
 use Rattle.std.specs.List.{IsDistinct}
@@ -21,7 +21,7 @@ use Rattle.dg_lines.specs.CommandWords.{number_in_script}
 use Rattle.dg_lines.proofs.Given.{same_bytes, vertex_named, IsNamedNext, is_next, other_name, HasTaken, none_taken, one_taken, all_there}
 
 abbrev pub IsEntryText : List ℕ → Type 0
-IsEntryText text = IsSpelledNumberWithin (neg_ℤ (pos MAX_ENTRY)) (pos MAX_ENTRY) text
+IsEntryText text = IsNumeralWithin (neg_ℤ (pos MAX_ENTRY)) (pos MAX_ENTRY) text
 
 abbrev pub IsSpelled : List ℕ → Option ℤ → Type 0
 IsSpelled text o = MatchOption o (IsEntryText text → ⊥) (λ z. (text ≡ signed_decimal z) × (unsigned_abs z ≤ MAX_ENTRY))

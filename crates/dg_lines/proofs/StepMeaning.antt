@@ -1,6 +1,6 @@
 -- A line spells no two steps, has no two faults, and never both.
 --   steps_have_one_meaning
-use Rattle.dg_lines.proofs.Common.{◌≡◌, ℕ, ◌⊎◌, inl, inr, List, Some, refl, sym, ◌∙◌, subst, Step, LineFault, Seat, Word, Form, Name, Number, IsCommandLine, IsLineFault, StepsHaveOneMeaning, IsSeatedLine, IsStepLine, IsTextFault, IsStepFault}
+use Rattle.dg_lines.proofs.Common.{◌≡◌, ℕ, ◌⊎◌, inl, inr, List, Some, refl, sym, ◌∙◌, subst, Step, LineFault, Seat, Word, Form, Name, Number, LineSpellsCommand, IsLineFault, StepsHaveOneMeaning, IsSeatedLine, IsStepLine, IsTextFault, IsStepFault}
 use Rattle.dg_lines.proofs.Meaning.{lines_have_one_meaning}
 use Rattle.dg_lines.proofs.Stepping.{IsUnseated, seated_parts}
 
@@ -30,7 +30,7 @@ module _ (names : List (List ℕ)) (line : List ℕ) where
   not_both step fault known (inr refused) =
       let same = one_seat step.seat refused.seat known.text refused.text known.seated refused.seated in
       lines_have_one_meaning.not_both names refused.text step.command fault
-      (subst (IsCommandLine names step.command) same.1 known.means) refused.refused
+      (subst (LineSpellsCommand names step.command) same.1 known.means) refused.refused
 
   one_fault : (one other : LineFault) → IsEither one → IsEither other → one ≡ other
   one_fault one other (inl (is, never)) (inl (also, neither)) = is ∙ sym also
@@ -45,7 +45,7 @@ module _ (names : List (List ℕ)) (line : List ℕ) where
       → c ≡ d
   one_step c d first second =
       let same = one_seat c.seat d.seat first.text second.text first.seated second.seated in
-      let means = subst (IsCommandLine names c.command) same.1 first.means in
+      let means = subst (LineSpellsCommand names c.command) same.1 first.means in
       let command = lines_have_one_meaning.command names second.text c.command d.command means second.means in
       λ i. record { seat = same.0 i; command = command i }
 

@@ -8,13 +8,13 @@
 --                                              there is none
 --   names_in_word kind word                 == the names that a word of that kind gives, in their order
 --   numbers_in_word kind word               == the numbers that it gives, in their order
---   IsSpelledNumberWithin low high text     == the text is the decimal of a number from low to high
---   IsNumberForWord kind text               == the text is the decimal of a number that may stand in a word
---                                              of that kind: a degree, an entry of a script, or else a number
---                                              that 64 bits hold
+--   IsNumeralWithin low high text           == the text is the decimal of a number from low to high
+--   IsNumeralForWord kind text              == the text is the decimal of a number that may stand in a word
+--                                             of that kind: a degree, an entry of a script, or else a number
+--                                             that 64 bits hold
 --   AreNamesOnLine names given              == each of the names given is among the names, and no two are the
 --                                              same
---   WordsAreNamed names kinds rest          == the names that each of the words gives are given so
+--   WordsOnLineAreNamed names kinds rest    == the names that each of the words gives are given so
 --   AreNumbersOnLine kinds rest             == all numbers that they give may stand in a word of its kind
 --   IsSetSpelledBy names given set          == set has just the vertices of the names given
 --   number_in_script given numbers name     == the number beside the name, and 0 if the name is not given
@@ -59,32 +59,32 @@ numbers_in_word script word = map number_part_of_item (items word)
 numbers_in_word degree word = word ∷ []
 numbers_in_word dollars word = word ∷ []
 
-pub record IsSpelledNumberWithin (low high : ℤ) (text : List ℕ) : Type 0 where
+pub record IsNumeralWithin (low high : ℤ) (text : List ℕ) : Type 0 where
   pub number : ℤ
   pub spelled : text ≡ signed_decimal number
   pub not_less : low ≤ℤ number
   pub not_more : number ≤ℤ high
 
-abbrev pub IsNumberForWord : Kind → List ℕ → Type 0
-IsNumberForWord degree text = IsSpelledNumberWithin (pos 0) (pos (2 ^ 32 - 1)) text
-IsNumberForWord script text = IsSpelledNumberWithin (neg_ℤ (pos MAX_ENTRY)) (pos MAX_ENTRY) text
-IsNumberForWord kind text = IsSpelledNumberWithin (neg_ℤ (pos (2 ^ 63))) (pos (2 ^ 63 - 1)) text
+abbrev pub IsNumeralForWord : Kind → List ℕ → Type 0
+IsNumeralForWord degree text = IsNumeralWithin (pos 0) (pos (2 ^ 32 - 1)) text
+IsNumeralForWord script text = IsNumeralWithin (neg_ℤ (pos MAX_ENTRY)) (pos MAX_ENTRY) text
+IsNumeralForWord kind text = IsNumeralWithin (neg_ℤ (pos (2 ^ 63))) (pos (2 ^ 63 - 1)) text
 
 pub record AreNamesOnLine (names : List (List ℕ)) (given : List (List ℕ)) : Type 0 where
   pub each : All (λ name. IsTrue (has names name)) given
   pub different : IsDistinct bytes_eq given
 
-abbrev pub WordsAreNamed : List (List ℕ) → List Kind → List (List ℕ) → Type 0
-WordsAreNamed names [] rest = Unit {0}
-WordsAreNamed names (kind ∷ kinds) [] = Unit {0}
-WordsAreNamed names (kind ∷ kinds) (word ∷ rest) =
-    AreNamesOnLine names (names_in_word kind word) × WordsAreNamed names kinds rest
+abbrev pub WordsOnLineAreNamed : List (List ℕ) → List Kind → List (List ℕ) → Type 0
+WordsOnLineAreNamed names [] rest = Unit {0}
+WordsOnLineAreNamed names (kind ∷ kinds) [] = Unit {0}
+WordsOnLineAreNamed names (kind ∷ kinds) (word ∷ rest) =
+    AreNamesOnLine names (names_in_word kind word) × WordsOnLineAreNamed names kinds rest
 
 abbrev pub AreNumbersOnLine : List Kind → List (List ℕ) → Type 0
 AreNumbersOnLine [] rest = Unit {0}
 AreNumbersOnLine (kind ∷ kinds) [] = Unit {0}
 AreNumbersOnLine (kind ∷ kinds) (word ∷ rest) =
-    All (IsNumberForWord kind) (numbers_in_word kind word) × AreNumbersOnLine kinds rest
+    All (IsNumeralForWord kind) (numbers_in_word kind word) × AreNumbersOnLine kinds rest
 
 pub record IsSetSpelledBy (names : List (List ℕ)) (given : List (List ℕ)) (set : ℕ) : Type 0 where
   pub are_given : AreNamesOnLine names given

@@ -1,19 +1,19 @@
 -- Command lines: what a line spells. A line is cut into words at each single space, so that two
 -- spaces in a row make an empty word. `names` are the names of the vertices, in vertex order.
---   row keyword                        == the command word, and the kinds of the words after it
---   keywords                           == all commands
---   command_words                      == their rows: the table of the step language
---   kinds_beside rows word             == the kinds beside the word, in the first of the rows that has it, if
---                                         one has
---   kinds_wanted_on_line keyword       == the kinds of the words after the command word, if it is one
---   kinds_on_line keyword              == these kinds, and none if it is no command word
---   words_wanted keyword               == how many words follow the command word, if it is one
---   IsWellFormedLine keyword rest      == so many words follow it, and none of them is empty
---   IsMoveWord names move keyword word == the command word and the word after it spell the move
---   MeansGift names v x rest           == the two words name the vertex v and spell the number x
---   MeansJoin names u v rest           == the two words name the vertices u and v, which may be the same
---   Means names command keyword rest   == the command word and the words after it spell the command
---   IsCommandLine names command line   == the line has the right form, and its words spell the command
+--   row keyword                          == the command word, and the kinds of the words after it
+--   keywords                             == all commands
+--   command_words                        == their rows: the table of the step language
+--   kinds_beside rows word               == the kinds beside the word, in the first of the rows that has it, if
+--                                           one has
+--   kinds_wanted_on_line keyword         == the kinds of the words after the command word, if it is one
+--   kinds_on_line keyword                == these kinds, and none if it is no command word
+--   words_wanted_on_line keyword         == how many words follow the command word, if it is one
+--   IsWellFormedLine keyword rest        == so many words follow it, and none of them is empty
+--   IsMoveWord names move keyword word   == the command word and the word after it spell the move
+--   MeansGift names v x rest             == the two words name the vertex v and spell the number x
+--   MeansJoin names u v rest             == the two words name the vertices u and v, which may be the same
+--   Means names command keyword rest     == the command word and the words after it spell the command
+--   LineSpellsCommand names command line == the line has the right form, and its words spell the command
 use Rattle.std.specs.Prelude.{◌≡◌, ◌≢◌, ℕ, ◌<◌, ◌^◌, ℤ, FitsSigned, List, [], ◌∷◌, length, map, cond, Option, Some, None, option_map, unwrap_or, All, bytes_eq, codes, decimal}
 use Rattle.std.specs.Fmt.{signed_decimal}
 use Rattle.std.specs.Int.{w64}
@@ -59,11 +59,11 @@ kinds_wanted_on_line keyword = kinds_beside command_words keyword
 abbrev pub kinds_on_line : List ℕ → List Kind
 kinds_on_line keyword = unwrap_or (kinds_wanted_on_line keyword) []
 
-abbrev pub words_wanted : List ℕ → Option ℕ
-words_wanted keyword = option_map length (kinds_wanted_on_line keyword)
+abbrev pub words_wanted_on_line : List ℕ → Option ℕ
+words_wanted_on_line keyword = option_map length (kinds_wanted_on_line keyword)
 
 pub record IsWellFormedLine (keyword : List ℕ) (rest : List (List ℕ)) : Type 0 where
-  pub wanted : words_wanted keyword ≡ Some (length rest)
+  pub wanted : words_wanted_on_line keyword ≡ Some (length rest)
   pub filled : All (λ word. word ≢ []) rest
 
 abbrev pub IsMoveWord : List (List ℕ) → Move → List ℕ → List ℕ → Type 0
@@ -97,7 +97,7 @@ Means names Commit keyword rest = (keyword ≡ codes "commit") × (rest ≡ [])
 Means names (Rank k) keyword rest =
     (keyword ≡ codes "rank") × (rest ≡ decimal k ∷ []) × (k < 2 ^ 32)
 
-pub record IsCommandLine (names : List (List ℕ)) (command : Command) (line : List ℕ) : Type 0 where
+pub record LineSpellsCommand (names : List (List ℕ)) (command : Command) (line : List ℕ) : Type 0 where
   pub keyword : List ℕ
   pub rest : List (List ℕ)
   pub cut : words line ≡ keyword ∷ rest

@@ -5,7 +5,7 @@
 --   IsBadScriptWord names fault word == the word is no script, by the names or else by the numbers in it
 --   AreWords n rest                  == just n words, none of which is empty
 use Rattle.std.specs.Prelude.{◌≡◌, ◌≢◌, ℕ, List, [], ◌∷◌, length, take, All}
-use Rattle.dg_lines.specs.CommandWords.{Kind, script, names_in_word, numbers_in_word, IsNumberForWord, AreNamesOnLine}
+use Rattle.dg_lines.specs.CommandWords.{Kind, script, names_in_word, numbers_in_word, IsNumeralForWord, AreNamesOnLine}
 use Rattle.dg_lines.specs.Commands.{row}
 use Rattle.dg_lines.specs.declared.command.Keyword.{Keyword}
 use Rattle.dg_lines.specs.declared.line.LineFault.{LineFault}
@@ -27,5 +27,5 @@ pub record AreWords (n : ℕ) (rest : List (List ℕ)) : Type 0 where
 abbrev pub IsBadScriptWord : List (List ℕ) → LineFault → List ℕ → Type 0
 IsBadScriptWord names Name word = ¬ AreNamesOnLine names (names_in_word script word)
 IsBadScriptWord names Number word =
-    AreNamesOnLine names (names_in_word script word) × ¬ All (IsNumberForWord script) (numbers_in_word script word)
+    AreNamesOnLine names (names_in_word script word) × ¬ All (IsNumeralForWord script) (numbers_in_word script word)
 IsBadScriptWord names fault word = ⊥

@@ -9,10 +9,10 @@
 --              are, or is out of its range
 --   IsLineFault names fault line                 == the words of the line are refused with the fault; none
 --                                                   are for a seat
---   fault_text fault                             == `bad`, what is wrong with the line, and a newline
+--   line_fault_text fault                        == `bad`, what is wrong with the line, and a newline
 use Rattle.std.specs.Prelude.{◌≡◌, ℕ, List, ◌∷◌, None, IsSome, codes}
 use Rattle.dg_lines.specs.Cuts.{words}
-use Rattle.dg_lines.specs.CommandWords.{WordsAreNamed, AreNumbersOnLine}
+use Rattle.dg_lines.specs.CommandWords.{WordsOnLineAreNamed, AreNumbersOnLine}
 use Rattle.dg_lines.specs.Commands.{kinds_wanted_on_line, kinds_on_line, IsWellFormedLine}
 use Rattle.dg_lines.specs.declared.line.LineFault.{LineFault}
 use Rattle.dg_lines.specs.declared.line.LineFault.TheVariants.{Seat, Word, Form, Name, Number}
@@ -22,9 +22,9 @@ AreRefusedStepLines names Seat keyword rest = ⊥
 AreRefusedStepLines names Word keyword rest = kinds_wanted_on_line keyword ≡ None
 AreRefusedStepLines names Form keyword rest = IsSome (kinds_wanted_on_line keyword) × ¬ IsWellFormedLine keyword rest
 AreRefusedStepLines names Name keyword rest =
-    IsWellFormedLine keyword rest × ¬ WordsAreNamed names (kinds_on_line keyword) rest
+    IsWellFormedLine keyword rest × ¬ WordsOnLineAreNamed names (kinds_on_line keyword) rest
 AreRefusedStepLines names Number keyword rest =
-    IsWellFormedLine keyword rest × WordsAreNamed names (kinds_on_line keyword) rest
+    IsWellFormedLine keyword rest × WordsOnLineAreNamed names (kinds_on_line keyword) rest
     × ¬ AreNumbersOnLine (kinds_on_line keyword) rest
 
 pub record IsLineFault (names : List (List ℕ)) (fault : LineFault) (line : List ℕ) : Type 0 where
@@ -33,9 +33,9 @@ pub record IsLineFault (names : List (List ℕ)) (fault : LineFault) (line : Lis
   pub cut : words line ≡ keyword ∷ rest
   pub refused : AreRefusedStepLines names fault keyword rest
 
-abbrev pub fault_text : LineFault → List ℕ
-fault_text Seat = codes "bad seat\n"
-fault_text Word = codes "bad word\n"
-fault_text Form = codes "bad form\n"
-fault_text Name = codes "bad name\n"
-fault_text Number = codes "bad number\n"
+abbrev pub line_fault_text : LineFault → List ℕ
+line_fault_text Seat = codes "bad seat\n"
+line_fault_text Word = codes "bad word\n"
+line_fault_text Form = codes "bad form\n"
+line_fault_text Name = codes "bad name\n"
+line_fault_text Number = codes "bad number\n"

@@ -16,20 +16,20 @@ use Rattle.std.specs.Fmt.{signed_decimal}
 use Rattle.std.specs.Int.RustNames.{unsigned_abs}
 use Rattle.dg_rules.specs.declared.step.Command.{Command}
 use Rattle.dg_rules.specs.declared.step.Step.{Step}
-use Rattle.dg_lines.specs.Commands.{IsCommandLine}
+use Rattle.dg_lines.specs.Commands.{LineSpellsCommand}
 use Rattle.dg_lines.specs.LineFaults.{IsLineFault}
 use Rattle.dg_lines.specs.Steps.{IsStepLine, IsStepFault}
 use Rattle.dg_lines.specs.declared.line.LineFault.{LineFault}
 
 abbrev pub HasMeaning : List (List ℕ) → List ℕ → Type 0
 HasMeaning names line =
-    ((c : Command) × IsCommandLine names c line) ⊎ ((fault : LineFault) × IsLineFault names fault line)
+    ((c : Command) × LineSpellsCommand names c line) ⊎ ((fault : LineFault) × IsLineFault names fault line)
 
 pub record LinesHaveOneMeaning : Type 0 where
   pub not_both : (names : List (List ℕ)) (line : List ℕ) (c : Command) (fault : LineFault)
-      → IsCommandLine names c line → ¬ IsLineFault names fault line
+      → LineSpellsCommand names c line → ¬ IsLineFault names fault line
   pub command : (names : List (List ℕ)) (line : List ℕ) (c d : Command)
-      → IsCommandLine names c line → IsCommandLine names d line → c ≡ d
+      → LineSpellsCommand names c line → LineSpellsCommand names d line → c ≡ d
   pub fault : (names : List (List ℕ)) (line : List ℕ) (one other : LineFault)
       → IsLineFault names one line → IsLineFault names other line → one ≡ other
 

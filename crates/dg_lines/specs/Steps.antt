@@ -6,7 +6,7 @@
 use Rattle.std.specs.Prelude.{◌≡◌, ℕ, ◌≤◌, List, ◌++◌, codes, decimal}
 use Rattle.dg_rules.specs.declared.entry.TheConstants.{MAX_SEATS}
 use Rattle.dg_rules.specs.declared.step.Step.{Step}
-use Rattle.dg_lines.specs.Commands.{IsCommandLine}
+use Rattle.dg_lines.specs.Commands.{LineSpellsCommand}
 use Rattle.dg_lines.specs.LineFaults.{IsLineFault}
 use Rattle.dg_lines.specs.declared.line.LineFault.{LineFault}
 use Rattle.dg_lines.specs.declared.line.LineFault.TheVariants.{Seat}
@@ -19,7 +19,7 @@ pub record IsSeatedLine (seat : ℕ) (text : List ℕ) (line : List ℕ) : Type 
 pub record IsStepLine (names : List (List ℕ)) (step : Step) (line : List ℕ) : Type 0 where
   pub text : List ℕ
   pub seated : IsSeatedLine step.seat text line
-  pub means : IsCommandLine names step.command text
+  pub means : LineSpellsCommand names step.command text
 
 pub record IsTextFault (names : List (List ℕ)) (fault : LineFault) (line : List ℕ) : Type 0 where
   pub seat : ℕ

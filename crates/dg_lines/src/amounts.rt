@@ -17,7 +17,7 @@ pub(crate) trait Amounts {
         ensures few { result ≤ MAX_VERTICES };
 
     /// Writes the number of a vertex so that it ends at `end`, and says where it starts.
-    fn write(&self, v: usize, line: &mut [u8], end: usize) -> usize
+    fn write_amount(&self, v: usize, line: &mut [u8], end: usize) -> usize
         requires vertex { v < (numbers self.now).size }
         requires room { MAX_DIGITS ≤ end }
         requires within { end ≤ length line.old }
@@ -36,7 +36,7 @@ impl Amounts for Divisor {
     }
 
     #[inline(always)]
-    fn write(&self, v: usize, line: &mut [u8], end: usize) -> usize {
+    fn write_amount(&self, v: usize, line: &mut [u8], end: usize) -> usize {
         write_number(self.get(v), line, end)
     }
 }
@@ -50,7 +50,7 @@ impl Amounts for Script {
     }
 
     #[inline(always)]
-    fn write(&self, v: usize, line: &mut [u8], end: usize) -> usize {
+    fn write_amount(&self, v: usize, line: &mut [u8], end: usize) -> usize {
         write_number(self.get(v), line, end)
     }
 }
@@ -64,7 +64,7 @@ impl Amounts for Wide {
     }
 
     #[inline(always)]
-    fn write(&self, v: usize, line: &mut [u8], end: usize) -> usize {
+    fn write_amount(&self, v: usize, line: &mut [u8], end: usize) -> usize {
         write_wide(self.get(v), line, end)
     }
 }

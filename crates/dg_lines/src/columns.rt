@@ -92,7 +92,7 @@ fn push_columns<A: Allocator, N: Amounts>(
     let mut line = [0; MAX_COLUMNS];
     let mut start = MAX_COLUMNS;
     for v in (0..amounts.size()).rev() {
-        start = amounts.write(v, &mut line, start) - 1;
+        start = amounts.write_amount(v, &mut line, start) - 1;
         line[start] = b' ';
     }
     text.extend_from_slice(&line[start..])?;

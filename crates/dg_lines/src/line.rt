@@ -2,14 +2,14 @@
 ghost use Rattle.std.specs.Prelude.{◌≡◌, ℕ, ◌≤◌, List, [], ◌∷◌, None, IfOk, IfErr, IfSome, MatchOption};
 ghost use Rattle.std.specs.Option.{option_copied};
 ghost use Rattle.dg_lines.specs.Cuts.{words_after};
-ghost use Rattle.dg_lines.specs.Commands.{IsCommandLine};
-ghost use Rattle.dg_lines.specs.LineFaults.{IsLineFault, fault_text};
+ghost use Rattle.dg_lines.specs.Commands.{LineSpellsCommand};
+ghost use Rattle.dg_lines.specs.LineFaults.{IsLineFault, line_fault_text};
 ghost use Rattle.dg_lines.specs.Steps.{IsSeatedLine, IsStepLine, IsStepFault};
 ghost use Rattle.dg_lines.specs.Keywords.{first_words, AreWords};
 
 use crate::command::{command_of, keyword_of};
 use crate::cuts::cut;
-use crate::number::seat;
+use crate::number::seat_numeral;
 use dg_rules::{Command, Step};
 use dg_tokens::Names;
 use thiserror::Error;
@@ -37,7 +37,7 @@ pub enum LineFault {
 impl LineFault {
     /// The line that answers such a line in a session: what is said of the fault, and a newline.
     pub fn line(self) -> &'static str
-        ensures { result.now ≡ fault_text self }
+        ensures { result.now ≡ line_fault_text self }
     {
         match self {
             LineFault::Seat => "bad seat\n",
@@ -57,7 +57,7 @@ pub fn split_seat_off_line(line: &[u8]) -> Option<(u8, &[u8])>
     ensures none { result ≡ None → (seat : ℕ) (text : List ℕ) → ¬ IsSeatedLine seat text line.now }
 {
     let (text, rest) = cut(line, b' ');
-    match seat(text) {
+    match seat_numeral(text) {
         Some(seat) => match rest {
             Some(rest) => Some((seat, rest)),
             None => None,
@@ -86,7 +86,7 @@ pub fn parse_step(line: &[u8], names: &Names) -> Result<Step, LineFault>
 ///
 /// Refused with `Word` if the first word is no command, then with `Form`, then with `Name`, then with `Number`.
 pub fn parse_line(line: &[u8], names: &Names) -> Result<Command, LineFault>
-    ensures command { IfOk result (λ command. IsCommandLine names.now command line.now) }
+    ensures command { IfOk result (λ command. LineSpellsCommand names.now command line.now) }
     ensures refused { IfErr result (λ fault. IsLineFault names.now fault line.now) }
 {
     let (word, rest) = cut(line, b' ');

@@ -4,16 +4,16 @@ ghost use Rattle.std.specs.Fmt.{signed_decimal};
 ghost use Rattle.std.specs.Int.RustNames.{unsigned_abs};
 ghost use Rattle.dg_chips.specs.declared.limits.TheConstants.{MAX_ENTRY};
 ghost use Rattle.dg_rules.specs.declared.entry.TheConstants.{MAX_SEATS};
-ghost use Rattle.dg_lines.specs.CommandWords.{IsSpelledNumberWithin};
+ghost use Rattle.dg_lines.specs.CommandWords.{IsNumeralWithin};
 
 use dg_chips::MAX_ENTRY;
 use dg_rules::MAX_SEATS;
 use dg_tokens::integer;
 
 /// The entry of a script, within 1,000,000,000, whose decimal the text is.
-pub fn entry(text: &[u8]) -> Option<i64>
+pub fn entry_numeral(text: &[u8]) -> Option<i64>
     ensures { MatchOption result
-        (¬ IsSpelledNumberWithin (neg_ℤ (pos MAX_ENTRY)) (pos MAX_ENTRY) text.now)
+        (¬ IsNumeralWithin (neg_ℤ (pos MAX_ENTRY)) (pos MAX_ENTRY) text.now)
         (λ z. (text.now ≡ signed_decimal z) × (unsigned_abs z ≤ MAX_ENTRY)) }
 {
     let Some(number) = integer(text) else {
@@ -27,9 +27,9 @@ pub fn entry(text: &[u8]) -> Option<i64>
 }
 
 /// The degree of a rank test, 0 to 4,294,967,295, whose decimal the text is.
-pub fn degree(text: &[u8]) -> Option<u32>
+pub fn degree_numeral(text: &[u8]) -> Option<u32>
     ensures { MatchOption result
-        (¬ IsSpelledNumberWithin (pos 0) (pos (2 ^ 32 - 1)) text.now) (λ k. text.now ≡ decimal k) }
+        (¬ IsNumeralWithin (pos 0) (pos (2 ^ 32 - 1)) text.now) (λ k. text.now ≡ decimal k) }
 {
     let Some(number) = integer(text) else {
         return None;
@@ -41,7 +41,7 @@ pub fn degree(text: &[u8]) -> Option<u32>
 }
 
 /// The seat, 1 to 64, whose decimal the text is.
-pub fn seat(text: &[u8]) -> Option<u8>
+pub fn seat_numeral(text: &[u8]) -> Option<u8>
     ensures { MatchOption result
         ((n : ℕ) → 1 ≤ n → n ≤ MAX_SEATS → text.now ≢ decimal n)
         (λ n. (1 ≤ n) × (n ≤ MAX_SEATS) × (text.now ≡ decimal n)) }

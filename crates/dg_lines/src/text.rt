@@ -210,7 +210,7 @@ fn push_pairs<A: Allocator, N: Amounts>(
     let mut line = [0; MAX_PAIRS];
     let mut start = MAX_PAIRS;
     for v in (0..names.len()).rev() {
-        start = amounts.write(v, &mut line, start);
+        start = amounts.write_amount(v, &mut line, start);
         start = names.write_label(v, &mut line, start);
     }
     // The first pair has no space before it.

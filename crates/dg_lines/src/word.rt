@@ -4,12 +4,12 @@ ghost use Rattle.std.specs.Int.{w64};
 ghost use Rattle.std.specs.Fmt.{signed_decimal};
 ghost use Rattle.dg_tokens.specs.Names.{place_of};
 ghost use Rattle.dg_lines.specs.Cuts.{items};
-ghost use Rattle.dg_lines.specs.CommandWords.{vertex, vertices, degree, dollars, names_in_word, IsNumberForWord, AreNamesOnLine, IsSetSpelledBy, IsScriptWord};
+ghost use Rattle.dg_lines.specs.CommandWords.{vertex, vertices, degree, dollars, names_in_word, IsNumeralForWord, AreNamesOnLine, IsSetSpelledBy, IsScriptWord};
 ghost use Rattle.dg_lines.specs.Keywords.{IsBadScriptWord};
 
 use crate::cuts::cut;
 use crate::line::LineFault;
-use crate::number::{degree, entry};
+use crate::number::{degree_numeral, entry_numeral};
 use dg_chips::Script;
 use dg_graph::{MAX_VERTICES, contains, with_vertex};
 use dg_tokens::{Names, integer};
@@ -30,9 +30,9 @@ pub(crate) fn vertex_in_word(word: &[u8], names: &Names) -> Result<u8, LineFault
 pub(crate) fn degree_in_word(word: &[u8]) -> Result<u32, LineFault>
     ensures { MatchResult result
         (λ k. (word.now ≡ decimal k) × (k < 2 ^ 32))
-        (λ fault. (fault ≡ LineFault.Number) × ¬ IsNumberForWord degree word.now) }
+        (λ fault. (fault ≡ LineFault.Number) × ¬ IsNumeralForWord degree word.now) }
 {
-    match degree(word) {
+    match degree_numeral(word) {
         Some(k) => Ok(k),
         None => Err(LineFault::Number),
     }
@@ -42,7 +42,7 @@ pub(crate) fn degree_in_word(word: &[u8]) -> Result<u32, LineFault>
 pub(crate) fn dollars_in_word(word: &[u8]) -> Result<i64, LineFault>
     ensures { MatchResult result
         (λ x. (word.now ≡ signed_decimal x) × FitsSigned w64 x)
-        (λ fault. (fault ≡ LineFault.Number) × ¬ IsNumberForWord dollars word.now) }
+        (λ fault. (fault ≡ LineFault.Number) × ¬ IsNumeralForWord dollars word.now) }
 {
     match integer(word) {
         Some(x) => Ok(x),
@@ -98,7 +98,7 @@ pub(crate) fn script_in_word(text: &[u8], names: &Names) -> Result<Script, LineF
             return Err(LineFault::Name);
         }
         given = with_vertex(given, v);
-        let entry = entry(number.unwrap_or(&[]));
+        let entry = entry_numeral(number.unwrap_or(&[]));
         are_spelled &= entry.is_some();
         entries[v] = entry.unwrap_or(0);
         rest = after;

@@ -20,7 +20,7 @@ pub use Rattle.dg_table.specs.Closing.{AreAuditTotals, IsCloseRefused, IsClosed}
 pub use Rattle.dg_table.specs.Opened.{AreFreshSeats}
 pub use Rattle.dg_table.specs.Seats.{SeatView, entries_of_seat}
 pub use Rattle.dg_table.specs.declared.audit.Audit.{Audit}
-pub use Rattle.dg_party.specs.Printed.{entries_text, party_seat_text, totals_text}
+pub use Rattle.dg_party.specs.Printed.{party_entries_text, party_seat_text, totals_text}
 pub use Rattle.std.proofs.Common.{List, Result, Some, [], ap, arith, codes, decimal, length, map, refl, rules, slice_get, subst, suc, sym, take, unwrap_or, zero, ℕ, ◌*◌, ◌++◌, ◌+◌, ◌<◌, ◌∙◌, ◌∷◌, ◌≡◌, ◌≤◌}
 pub use Rattle.std.proofs.lemmas.List.{length-map}
 pub use Rattle.std.proofs.Math.Seq.{take-append_seam}

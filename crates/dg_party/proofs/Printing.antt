@@ -6,32 +6,32 @@
 use Rattle.std.proofs.Common.{◌≡◌, ℕ, ◌+◌, ◌<◌, List, [], ◌∷◌, ◌++◌, length, take, arith, sym, ap, ◌∙◌, append_assoc, append-nil}
 use Rattle.std.proofs.lemmas.List.{length-take-le}
 use Rattle.dg_rules.specs.declared.entry.Entry.{Entry}
-use Rattle.dg_party.specs.Printed.{party_entry_text, entries_text, party_seat_text, calls_text}
+use Rattle.dg_party.specs.Printed.{party_entry_text, party_entries_text, party_seat_text, calls_text}
 
 pub entries_more : (names : List (List ℕ)) (n : ℕ) (H : List Entry) (e : Entry) →
-    entries_text names n (H ++ e ∷ []) ≡ entries_text names n H ++ party_entry_text names (n + length H) e
-unfolding entries_text
+    party_entries_text names n (H ++ e ∷ []) ≡ party_entries_text names n H ++ party_entry_text names (n + length H) e
+unfolding party_entries_text
 entries_more names n [] e =
     let number : n ≡ n + 0 = omega arith in
     append-nil (party_entry_text names n e) ∙ ap (λ (k : ℕ). party_entry_text names k e) number
 entries_more names n (x ∷ H) e =
     let number : (n + 1) + length H ≡ n + length (x ∷ H) = omega arith in
     ap (λ (rest : List ℕ). party_entry_text names n x ++ rest) (entries_more names (n + 1) H e)
-    ∙ sym (append_assoc (party_entry_text names n x) (entries_text names (n + 1) H)
+    ∙ sym (append_assoc (party_entry_text names n x) (party_entries_text names (n + 1) H)
     (party_entry_text names ((n + 1) + length H) e))
-    ∙ ap (λ (k : ℕ). (party_entry_text names n x ++ entries_text names (n + 1) H) ++ party_entry_text names k e) number
+    ∙ ap (λ (k : ℕ). (party_entry_text names n x ++ party_entries_text names (n + 1) H) ++ party_entry_text names k e) number
 
 pub entries_step : (names : List (List ℕ)) (H : List Entry) (n : ℕ) (e : Entry) (start text next : List ℕ)
     → n < length H
-    → take (n + 1) H ≡ take n H ++ e ∷ [] → text ≡ start ++ entries_text names 0 (take n H)
-    → next ≡ text ++ party_entry_text names n e → next ≡ start ++ entries_text names 0 (take (n + 1) H)
+    → take (n + 1) H ≡ take n H ++ e ∷ [] → text ≡ start ++ party_entries_text names 0 (take n H)
+    → next ≡ text ++ party_entry_text names n e → next ≡ start ++ party_entries_text names 0 (take (n + 1) H)
 entries_step names H n e start text next within longer before written =
     let number : 0 + length (take n H) ≡ n = omega (arith, length-take-le n H) in
     written ∙ ap (λ (t : List ℕ). t ++ party_entry_text names n e) before
-    ∙ append_assoc start (entries_text names 0 (take n H)) (party_entry_text names n e)
+    ∙ append_assoc start (party_entries_text names 0 (take n H)) (party_entry_text names n e)
     ∙ ap (λ (t : List ℕ). start ++ t)
-    (ap (λ (k : ℕ). entries_text names 0 (take n H) ++ party_entry_text names k e) (sym number)
-    ∙ sym (entries_more names 0 (take n H) e) ∙ ap (entries_text names 0) (sym longer))
+    (ap (λ (k : ℕ). party_entries_text names 0 (take n H) ++ party_entry_text names k e) (sym number)
+    ∙ sym (entries_more names 0 (take n H) e) ∙ ap (party_entries_text names 0) (sym longer))
 
 pub calls_more : (s : ℕ) (calls : List ℕ) (count : ℕ) →
     calls_text s (calls ++ count ∷ []) ≡ calls_text s calls ++ party_seat_text (s + length calls) count

@@ -9,7 +9,7 @@
 --   whole            sessions of fresh seats, which a table was closed with, are a party
 --   whole_lent       so are they where the seats were lent as the front of a list
 --   party_unclosed   where the table was not closed with them, there is no party for that
-use Rattle.dg_party.proofs.Common.{◌≡◌, ℕ, zero, suc, ◌+◌, ◌<◌, ◌≤◌, List, [], ◌∷◌, ◌++◌, length, map, take, slice_get, Some, arith, refl, sym, ap, subst, ◌∙◌, Result, codes, decimal, unwrap_or, slice_index, Vec, none-some, take-append_seam, length-map, StartData, Vector, at, ShowsPosition, position_after, gifts_in, pairs, Entry, vertices_stay, SeatView, entries_of_seat, AreFreshSeats, IsClosed, AreAuditTotals, IsCloseRefused, all_there, none_missing, Ghosts, Audit, SessionEnd, IsPartySessionOver, contents, entries_text, party_seat_text, totals_text, IsParty, IsPartyRefused, Log, TableData}
+use Rattle.dg_party.proofs.Common.{◌≡◌, ℕ, zero, suc, ◌+◌, ◌<◌, ◌≤◌, List, [], ◌∷◌, ◌++◌, length, map, take, slice_get, Some, arith, refl, sym, ap, subst, ◌∙◌, Result, codes, decimal, unwrap_or, slice_index, Vec, none-some, take-append_seam, length-map, StartData, Vector, at, ShowsPosition, position_after, gifts_in, pairs, Entry, vertices_stay, SeatView, entries_of_seat, AreFreshSeats, IsClosed, AreAuditTotals, IsCloseRefused, all_there, none_missing, Ghosts, Audit, SessionEnd, IsPartySessionOver, contents, party_entries_text, party_seat_text, totals_text, IsParty, IsPartyRefused, Log, TableData}
 use Rattle.dg_party.specs.Sessions.{AreSessions}
 use Rattle.dg_party.specs.Printed.{seats_text, calls_text}
 
@@ -112,7 +112,7 @@ whole : {N : Type 0} {named : Ghosts N} (table : TableData) (names scripts : Lis
     (ends : List (Result ℕ SessionEnd)) (a : Audit N named) (text : List ℕ)
     → length scripts ≡ table.seats → AreFreshSeats table.seats xs → AreSessions table names scripts xs ys ends
     → IsClosed table ys a.pen.entries → AreAuditTotals table ys a → table.seats ≤ length a.calls
-    → text ≡ entries_text names 0 a.pen.entries
+    → text ≡ party_entries_text names 0 a.pen.entries
     ++ totals_text names a.entries a.gifts a.position (take table.seats a.calls)
     → IsParty table names scripts ends text
 whole table names scripts xs ys ends a text many fresh are closed totals enough printed =
@@ -139,11 +139,11 @@ whole table names scripts xs ys ends a text many fresh are closed totals enough 
       shown = totals.position;
       printed =
           printed
-          ∙ ap (λ k. entries_text names 0 H ++ totals_text names k a.gifts a.position (take table.seats a.calls))
+          ∙ ap (λ k. party_entries_text names 0 H ++ totals_text names k a.gifts a.position (take table.seats a.calls))
           totals.entries
-          ∙ ap (λ k. entries_text names 0 H ++ totals_text names (length H) k a.position (take table.seats a.calls))
+          ∙ ap (λ k. party_entries_text names 0 H ++ totals_text names (length H) k a.position (take table.seats a.calls))
           totals.gifts
-          ∙ ap (λ t. entries_text names 0 H ++ audit_with names H a.position t)
+          ∙ ap (λ t. party_entries_text names 0 H ++ audit_with names H a.position t)
           (calls_are H 1 table.seats a.calls enough (call_counts table ys a closed totals)
           ∙ ap (λ k. seats_text 1 k H) (sym many));
     }
@@ -163,7 +163,7 @@ pub whole_lent : {N : Type 0} {named : Ghosts N} (table : TableData) (names scri
     → AreSessions table names scripts xs ys ends
     → IsClosed table (take len (ys ++ rest)) a.pen.entries × AreAuditTotals table (take len (ys ++ rest)) a
     → n ≤ length a.calls
-    → text ≡ entries_text names 0 a.pen.entries ++ totals_text names a.entries a.gifts a.position (take n a.calls)
+    → text ≡ party_entries_text names 0 a.pen.entries ++ totals_text names a.entries a.gifts a.position (take n a.calls)
     → IsParty table names scripts ends text
 whole_lent table names scripts n len opened xs ys rest ends a text many same fresh lent counted are closed enough
     printed =
@@ -172,7 +172,7 @@ whole_lent table names scripts n len opened xs ys rest ends a text many same fre
     whole table names scripts xs ys ends a text (many ∙ same)
     (subst (λ k. AreFreshSeats k xs) same (rw lent fresh)) are (rw (← front) closed.0) (rw (← front) closed.1)
     (subst (λ k. k ≤ length a.calls) same enough)
-    (subst (λ k. text ≡ entries_text names 0 a.pen.entries
+    (subst (λ k. text ≡ party_entries_text names 0 a.pen.entries
     ++ totals_text names a.entries a.gifts a.position (take k a.calls)) same printed)
 
 pub party_unclosed : (table : TableData) (names scripts : List (List ℕ)) (n len : ℕ)

@@ -27,7 +27,7 @@ use Rattle.dg_table.specs.Closing.{IsCloseRefused}
 use Rattle.dg_table.specs.Histories.{IsHistoryOfTable}
 use Rattle.dg_table.specs.Opened.{AreFreshSeats}
 use Rattle.dg_table.specs.Seats.{SeatView, entries_of_seat}
-use Rattle.dg_party.specs.Printed.{entries_text, party_audit_text}
+use Rattle.dg_party.specs.Printed.{party_entries_text, party_audit_text}
 use Rattle.dg_party.specs.Sessions.{IsPartySessionOver, AreSessions, RefusesPartySessions}
 use Rattle.dg_party.specs.declared.ending.PartyRefusal.{PartyRefusal}
 use Rattle.dg_party.specs.declared.ending.PartyRefusal.TheVariants.{Shortage, Log}
@@ -56,7 +56,7 @@ pub record IsParty (table : TableData) (names : List (List ℕ)) (scripts : List
       → IsSessionInParty table names history (i + 1) script end
   pub position : Vector
   pub shown : ShowsPosition (position_after table.start history) position
-  pub printed : text ≡ entries_text names 0 history
+  pub printed : text ≡ party_entries_text names 0 history
       ++ party_audit_text names (length scripts) history position
 
 pub record IsOfPartySeats (n : ℕ) (P : List SeatView → List SeatView → Type 0) : Type 0 where

@@ -1,7 +1,7 @@
 -- What is printed of a table that was closed.
 --   party_entry_text names number e      == the line of an entry: its number, its seat and the text of its
 --                                           reply
---   entries_text names n H               == such lines of the entries H, numbered from n on
+--   party_entries_text names n H         == such lines of the entries H, numbered from n on
 --   party_seat_text s count              == the line of a seat: its number and how many entries are its
 --   seats_text s n H                     == for each of n seats, from s on, how many entries of H are its
 --   calls_text s calls                   == for each of the numbers of calls, those of the seats from s on,
@@ -22,9 +22,9 @@ party_entry_text names number e =
     decimal number ++ codes " " ++ decimal e.seat ++ codes " " ++ text_of names e.reply
     ++ codes "\n"
 
-unfoldable pub entries_text : List (List ℕ) → ℕ → List Entry → List ℕ
-entries_text names n [] = []
-entries_text names n (e ∷ H) = party_entry_text names n e ++ entries_text names (n + 1) H
+unfoldable pub party_entries_text : List (List ℕ) → ℕ → List Entry → List ℕ
+party_entries_text names n [] = []
+party_entries_text names n (e ∷ H) = party_entry_text names n e ++ party_entries_text names (n + 1) H
 
 abbrev pub party_seat_text : ℕ → ℕ → List ℕ
 party_seat_text s count = codes "seat " ++ decimal s ++ codes " calls " ++ decimal count ++ codes "\n"

@@ -1,7 +1,7 @@
 //! What is printed of a table that was closed.
 ghost use Rattle.std.specs.Prelude.{◌≡◌, ◌≤◌, ◌++◌, length, take, decimal, IfOk, OnOk};
 ghost use Rattle.dg_lines.specs.Texts.{TextHasNames, RepliesHaveNames};
-ghost use Rattle.dg_party.specs.Printed.{party_entry_text, entries_text, party_seat_text, calls_text, totals_text};
+ghost use Rattle.dg_party.specs.Printed.{party_entry_text, party_entries_text, party_seat_text, calls_text, totals_text};
 
 use dg_chips::Divisor;
 use dg_lines::{push_amounts, push_reply};
@@ -26,7 +26,7 @@ pub(crate) fn closed_party_text<N: Name>(
     requires history { RepliesHaveNames names.now audit.now.pen.entries }
     requires position { length names.now ≡ audit.now.position.size }
     requires seats { seats ≤ 64 }
-    ensures { IfOk result (λ text. text.items ≡ entries_text names.now 0 audit.now.pen.entries
+    ensures { IfOk result (λ text. text.items ≡ party_entries_text names.now 0 audit.now.pen.entries
         ++ totals_text names.now audit.now.entries audit.now.gifts audit.now.position
         (take seats audit.now.calls)) }
 {
@@ -51,7 +51,7 @@ fn push_party_entries<N: Name>(
 ) -> Result<(), AllocError>
     requires { RepliesHaveNames names.now audit.now.pen.entries }
     ensures { OnOk result
-        (text.new.items ≡ text.old.items ++ entries_text names.now 0 audit.now.pen.entries) }
+        (text.new.items ≡ text.old.items ++ party_entries_text names.now 0 audit.now.pen.entries) }
 {
     'entries: for number in 0..audit.len() {
         push_party_entry(text, names, number, audit.entry(number))?;

@@ -98,8 +98,8 @@ fn first_loss_of<G: Gate>(search: &Search, gate: &G, piece: u32) -> Option<Trial
         &mut [0; 16],
         &search.chips,
         search.k,
-        start_of(search, piece),
-        start_of(search, piece + 1),
+        first_trial_of_piece(search, piece),
+        first_trial_of_piece(search, piece + 1),
     )
 }
 
@@ -112,7 +112,7 @@ fn enter<G: Gate>(gate: &G, piece: u32) -> u32
 }
 
 /// The number of the first trial of a piece, and of the one past all trials for the number past all pieces.
-fn start_of(search: &Search, piece: u32) -> u32
+fn first_trial_of_piece(search: &Search, piece: u32) -> u32
     requires search { CanSearch search.now }
     requires workers { MayHaveRankWorkers search.now.workers }
     requires piece { piece ≤ search.now.workers }

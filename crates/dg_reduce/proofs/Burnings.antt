@@ -2,7 +2,7 @@
 --   held-may       who may burn is the same, where q burns
 --   whole_order    so its order is that of the amounts
 --   whole_reduced  and the amounts are reduced
-use Rattle.dg_reduce.proofs.Common.{◌≡◌, ◌≢◌, ℕ, suc, ◌<◌, Bool, true, false, List, take, arith, ap, sym, ◌∙◌, ◌↔◌, both_ways, ints, Multigraph, Amounts, among, MayBurn, BurnsNext, BurnsInOrder, IsReduced, among-first, q_burns, dollars, Burning, IsReducedOrder, IsReducedBurning, IsGuessedOff}
+use Rattle.dg_reduce.proofs.Common.{◌≡◌, ◌≢◌, ℕ, suc, ◌<◌, Bool, true, false, List, take, arith, ap, sym, ◌∙◌, ◌↔◌, both_ways, ints, Multigraph, Amounts, among, MayBurn, BurnsNext, BurnsInOrder, IsReduced, among-first, q_burns, dollars, Burning, IsCertifyingOrder, CertifiesReduced, IsGuessedOff}
 
 pub held-may : (g : Multigraph) (q : ℕ) (D : Amounts) (held : List ℕ) (B : ℕ → Bool) (v : ℕ) →
     IsGuessedOff g.size q D held → B q ≡ true → MayBurn g (dollars held) B v ↔ MayBurn g D B v
@@ -24,7 +24,7 @@ held-may g q D held B v same burns = (
 
 -- q is the first to burn
 pub whole_order : (g : Multigraph) (q : ℕ) (D : Amounts) (x : Burning) → IsGuessedOff g.size q D x.held →
-    IsReducedBurning g q x → IsReducedOrder g q D x.order
+    CertifiesReduced g q x → IsCertifyingOrder g q D x.order
 whole_order g q D x same whole = record {
   burns = record {
     begun = record {
@@ -51,7 +51,7 @@ whole_order g q D x same whole = record {
     order = whole.order.burns
 
 pub whole_reduced : (g : Multigraph) (q : ℕ) (D : Amounts) (x : Burning) → IsGuessedOff g.size q D x.held →
-    IsReducedBurning g q x → IsReduced g q D
+    CertifiesReduced g q x → IsReduced g q D
 whole_reduced g q D x same whole = record {
   no_debt = λ v below other. omega (arith, ints, same v below other);
   none_fires = λ S without u below member.

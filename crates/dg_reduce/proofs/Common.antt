@@ -8,8 +8,8 @@ pub use Rattle.dg_graph.proofs.SetLaws.{in_set-none}
 pub use Rattle.dg_graph.proofs.Valences.{valence-few, valence-outside}
 pub use Rattle.dg_graph.specs.Graph.{IsGraph}
 pub use Rattle.dg_graph.specs.Sets.{in_set}
-pub use Rattle.dg_reduce.specs.Burnings.{IsGuessedOff, IsReducedBurning}
-pub use Rattle.dg_reduce.specs.Certificates.{IsReducedOrder}
+pub use Rattle.dg_reduce.specs.Burnings.{IsGuessedOff, CertifiesReduced}
+pub use Rattle.dg_reduce.specs.Certificates.{IsCertifyingOrder}
 pub use Rattle.dg_reduce.specs.Effective.{IsEffectiveDivisor}
 pub use Rattle.dg_reduce.specs.Firings.{IsMostReducingFirings, LacksForReducingFirings, LastsInReduction, ReducingSetSendsNothing, largest}
 pub use Rattle.dg_reduce.specs.Reaching.{HasNearer, IsLevelReached, spread_level}

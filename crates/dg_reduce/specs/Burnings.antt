@@ -1,5 +1,5 @@
 -- A burning that is kept for amounts which may be those that burnt.
---   IsReducedBurning g q x == all vertices burn from q, in the order of x, if they hold what x tells
+--   CertifiesReduced g q x == all vertices burn from q, in the order of x, if they hold what x tells
 --   IsGuessedOff n q D l   == each of n vertices but q has as many dollars in D as l tells
 use Rattle.std.specs.Prelude.{◌≡◌, ◌≢◌, ℕ, ◌<◌, List}
 use Rattle.dg_burn.specs.Fires.{dollars}
@@ -7,11 +7,11 @@ use Rattle.dg_theory.specs.Firing.{Amounts}
 use Rattle.dg_theory.specs.Multigraph.{Multigraph}
 use Rattle.dg_theory.specs.Reduced.{IsReduced}
 use Rattle.dg_reduce.specs.declared.certificate.Burning.{Burning}
-use Rattle.dg_reduce.specs.Certificates.{IsReducedOrder}
+use Rattle.dg_reduce.specs.Certificates.{IsCertifyingOrder}
 
-pub record IsReducedBurning (g : Multigraph) (q : ℕ) (x : Burning) : Type 0 where
+pub record CertifiesReduced (g : Multigraph) (q : ℕ) (x : Burning) : Type 0 where
   pub reduced : IsReduced g q (dollars x.held)
-  pub order : IsReducedOrder g q (dollars x.held) x.order
+  pub order : IsCertifyingOrder g q (dollars x.held) x.order
 
 abbrev pub IsGuessedOff : ℕ → ℕ → Amounts → List ℕ → Type 0
 IsGuessedOff n q D l = (v : ℕ) → v < n → v ≢ q → D v ≡ dollars l v

@@ -5,8 +5,8 @@ ghost use Rattle.std.specs.Bool.{OnTrue};
 ghost use Rattle.dg_theory.specs.Firing.{HasNoDebtOff};
 ghost use Rattle.dg_theory.specs.Reduced.{IsReduced};
 ghost use Rattle.dg_chips.specs.Vector.{at};
-ghost use Rattle.dg_reduce.specs.Certificates.{IsReducedOrder};
-ghost use Rattle.dg_reduce.specs.Burnings.{IsReducedBurning, IsGuessedOff};
+ghost use Rattle.dg_reduce.specs.Certificates.{IsCertifyingOrder};
+ghost use Rattle.dg_reduce.specs.Burnings.{CertifiesReduced, IsGuessedOff};
 
 use dg_burn::burn;
 use dg_chips::Wide;
@@ -30,11 +30,11 @@ pub fn reduced_order_by(
 ) -> Option<[u8; 16]>
     requires size { chips.now.size ≡ graph.now.size }
     requires vertex { q < graph.now.size }
-    requires known { IfSome known.now (λ x. IsReducedBurning graph.now q x) }
+    requires known { IfSome known.now (λ x. CertifiesReduced graph.now q x) }
     ensures { MatchOption result
         (¬ IsReduced graph.now q (at chips.now))
         (λ order. IsReduced graph.now q (at chips.now) ×
-        IsReducedOrder graph.now q (at chips.now) order) }
+        IsCertifyingOrder graph.now q (at chips.now) order) }
 {
     let _size = graph.size();
     if let Some(burning) = known {
@@ -65,7 +65,7 @@ pub fn reduced_order(graph: &Graph, q: usize, chips: &Wide) -> Option<[u8; 16]>
     ensures { MatchOption result
         (¬ IsReduced graph.now q (at chips.now))
         (λ order. IsReduced graph.now q (at chips.now) ×
-        IsReducedOrder graph.now q (at chips.now) order) }
+        IsCertifyingOrder graph.now q (at chips.now) order) }
 {
     if !is_solvent_off(graph, q, chips) {
         return None;

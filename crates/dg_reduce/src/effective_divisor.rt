@@ -158,7 +158,7 @@ impl EffectiveDivisor {
                 };
                 rest = next;
             }
-            self.fire(graph, &rest);
+            self.fire_rest(graph, &rest);
         }
         true
     }
@@ -214,7 +214,7 @@ impl EffectiveDivisor {
 
     /// Lets each vertex that burning left lend once.
     #[inline(always)]
-    fn fire(&mut self, graph: &Graph, rest: &Rest)
+    fn fire_rest(&mut self, graph: &Graph, rest: &Rest)
         requires size { self.old.size ≡ graph.now.size }
         requires gains { (v : ℕ) → v < MAX_VERTICES → slice_index_or rest.now.gains v (pos 0)
             ≡ gain graph.now (indicator (in_set rest.now.set)) v }

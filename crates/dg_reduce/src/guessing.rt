@@ -9,7 +9,7 @@ ghost use Rattle.std.specs.Int.RustNames.{unsigned_abs};
 ghost use Rattle.dg_chips.specs.Vector.{at};
 ghost use Rattle.dg_chips.specs.declared.limits.TheConstants.{MAX_ENTRY};
 ghost use Rattle.dg_reduce.specs.declared.limits.TheConstants.{MAX_START};
-ghost use Rattle.dg_reduce.specs.Burnings.{IsReducedBurning};
+ghost use Rattle.dg_reduce.specs.Burnings.{CertifiesReduced};
 
 use crate::certificate::Burning;
 use crate::effective_divisor::seen_by_reduction;
@@ -61,7 +61,7 @@ pub fn guess(graph: &Graph, inverse: &InverseLaplacian, q: usize, chips: &Wide) 
     requires range { (v : ℕ) → v < graph.now.size → unsigned_abs (at chips.now v) ≤ MAX_START }
     ensures size { result.script.size ≡ graph.now.size }
     ensures at_q { at result.script q ≡ pos 0 }
-    ensures burning { IfSome result.burning (λ x. IsReducedBurning graph.now q x) }
+    ensures burning { IfSome result.burning (λ x. CertifiesReduced graph.now q x) }
 {
     let _size = graph.size();
     let amounts = guess_amounts_off(q, chips);
@@ -81,7 +81,7 @@ pub fn guess_once(graph: &Graph, q: usize, chips: &Wide) -> Guessed
     requires range { (v : ℕ) → v < graph.now.size → unsigned_abs (at chips.now v) ≤ MAX_START }
     ensures size { result.script.size ≡ graph.now.size }
     ensures at_q { at result.script q ≡ pos 0 }
-    ensures burning { IfSome result.burning (λ x. IsReducedBurning graph.now q x) }
+    ensures burning { IfSome result.burning (λ x. CertifiesReduced graph.now q x) }
 {
     let _size = graph.size();
     let amounts = guess_amounts_off(q, chips);
@@ -101,7 +101,7 @@ fn guess_near(
     requires { q < graph.now.size }
     ensures size { result.script.size ≡ graph.now.size }
     ensures at_q { at result.script q ≡ pos 0 }
-    ensures burning { IfSome result.burning (λ x. IsReducedBurning graph.now q x) }
+    ensures burning { IfSome result.burning (λ x. CertifiesReduced graph.now q x) }
 {
     let _size = graph.size();
     let script = rounded(lendings);
@@ -196,7 +196,7 @@ fn reduce_by_burning(
     near: &mut GuessState,
 ) -> Option<Burning>
     requires { q < graph.now.size }
-    ensures { IfSome result (λ x. IsReducedBurning graph.now q x) }
+    ensures { IfSome result (λ x. CertifiesReduced graph.now q x) }
 {
     for round in 0..BURNING_ROUNDS {
         let chips = near.chips.to_array();
@@ -212,7 +212,7 @@ fn reduce_by_burning(
         } else {
             most_guessed_firings(set, &counted.joined, &chips)
         };
-        fire(lending, set, &counted.joined, times, near);
+        fire_guessed_set(lending, set, &counted.joined, times, near);
     }
     None
 }
@@ -231,7 +231,13 @@ fn most_guessed_firings(set: u16, joined: &[u8; 16], chips: &[i32; 16]) -> i32 {
 }
 
 /// Lets the vertices of a set lend together so many times; `joined` are the edges of each vertex to those that are not in it.
-fn fire(lending: &Lending, set: u16, joined: &[u8; 16], times: i32, near: &mut GuessState) {
+fn fire_guessed_set(
+    lending: &Lending,
+    set: u16,
+    joined: &[u8; 16],
+    times: i32,
+    near: &mut GuessState,
+) {
     let mut chips = near.chips.to_array();
     for v in 0..16 {
         let lends = i32::from(contains(set, v));

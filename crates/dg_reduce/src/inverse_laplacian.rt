@@ -57,7 +57,7 @@ impl InverseLaplacian {
             size: graph.size(),
             valences: u8x16::from_array(*graph.valences()),
             inverse,
-            shift: shift_of(graph, q, &inverse),
+            shift: shift_of_guess(graph, q, &inverse),
             lending: Lending::new(graph, q),
         }
     }
@@ -243,7 +243,7 @@ fn product(row: &[f64; 16], other: &[f64; 16]) -> f64 {
 
 /// The lendings that leave what is aimed at, if nobody holds anything before: a vertex of valence 3 or more is to keep
 /// half of one dollar less than its valence less 1, so that it burns before long.
-fn shift_of(graph: &Graph, q: usize, inverse: &[[f64; 16]; 16]) -> [f64; 16] {
+fn shift_of_guess(graph: &Graph, q: usize, inverse: &[[f64; 16]; 16]) -> [f64; 16] {
     let mut shift = [ROUND_HALVES_UP; 16];
     for v in 0..graph.size() {
         let kept = kept_by_guess(graph, v);

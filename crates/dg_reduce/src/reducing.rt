@@ -5,7 +5,7 @@ ghost use Rattle.std.specs.Int.RustNames.{unsigned_abs};
 ghost use Rattle.dg_chips.specs.Vector.{at};
 ghost use Rattle.dg_reduce.specs.Reductions.{IsReduction};
 ghost use Rattle.dg_reduce.specs.Certificates.{IsCertified};
-ghost use Rattle.dg_reduce.specs.Burnings.{IsReducedBurning};
+ghost use Rattle.dg_reduce.specs.Burnings.{CertifiesReduced};
 
 use crate::by_levels::reduce_after;
 use crate::certificate::{Burning, reduced_order_by};
@@ -81,7 +81,7 @@ pub fn certified_by(
     requires script { script.now.size ≡ graph.now.size }
     requires range { (v : ℕ) → v < graph.now.size → unsigned_abs (at chips.now v) ≤ MAX_START }
     requires start { at script.now q ≡ pos 0 }
-    requires known { IfSome known.now (λ x. IsReducedBurning graph.now q x) }
+    requires known { IfSome known.now (λ x. CertifiesReduced graph.now q x) }
     ensures { IsCertified graph.now q (at chips.now) 451000000 result }
 {
     let _size = graph.size();

@@ -1,12 +1,12 @@
 -- The names that the proofs of this crate cite, passed on from one place. Declares nothing.
 pub use Rattle.dg_chips.proofs.Applying.{moved_once}
 pub use Rattle.dg_chips.specs.Applied.{IsAfterMove}
-pub use Rattle.dg_chips.specs.Moves.{HasOtherSize, IsMoveOfEmptySet, IsMoveOnDivisor, IsMoveOfNoVertex, script_of_move}
+pub use Rattle.dg_chips.specs.Moves.{HasOtherSize, IsMoveOfEmptySet, IsApplicableMove, IsMoveOfNoVertex, script_of_move}
 pub use Rattle.dg_chips.specs.Starts.{StartData}
 pub use Rattle.dg_chips.proofs.VectorLaws.{not_past, one_vector}
 pub use Rattle.dg_chips.specs.Vector.{IsDivisorVector, IsOutOfRange, Vector, at}
 pub use Rattle.dg_rules.specs.GiftReplies.{IsAcceptedGiftReply, RefusesGift, RepliesToGift}
-pub use Rattle.dg_rules.specs.History.{position_after_change, changed, gifts_by_reply, gifts_in, is_change, nothing_played, script_by_reply, scripts_played, scripts_since}
+pub use Rattle.dg_rules.specs.History.{position_after_change, changed, gifts_by_reply, gifts_in, is_change, script_by_reply, scripts_played, scripts_since}
 pub use Rattle.dg_rules.specs.JoinReplies.{IsAcceptedJoinReply, RefusesJoinRequest, RepliesToJoin}
 pub use Rattle.dg_rules.specs.Legal.{IsLegal, IsSeatInGame, LooksBack}
 pub use Rattle.dg_rules.specs.LegalLaws.{LegalGraphsHold, IsReplyOfSize, LegalIsSized, LegalLooksAreShown}

@@ -1,7 +1,7 @@
 -- At one position a call has one reply.
 --   no_vertex_playable, empty_playable, script_playable   a move that may be played has none of these faults
 --   move_once, gift_once, join_once, look_once, claim_once   so it is of each call
-use Rattle.dg_rules.proofs.Common.{◌≡◌, ℕ, ◌<◌, ◌≤◌, ◌⊎◌, inl, inr, arith, refl, sym, ap, ◌∙◌, false≢true, ℤ, moved_once, not_past, in_set-none, in_set, Vector, IsMoveOfNoVertex, IsMoveOfEmptySet, HasOtherSize, IsMoveOnDivisor, IsAfterMove, IsAcceptedGiftReply, RefusesGift, RepliesToGift, IsAcceptedJoinReply, RefusesJoinRequest, RepliesToJoin, RefusesMove, RepliesToMove, Position, RepliesToLook, RepliesToClaim, Refusal, Reply, Moved, Given, Joined, Looked, Won, NotWon, Refused}
+use Rattle.dg_rules.proofs.Common.{◌≡◌, ℕ, ◌<◌, ◌≤◌, ◌⊎◌, inl, inr, arith, refl, sym, ap, ◌∙◌, false≢true, ℤ, moved_once, not_past, in_set-none, in_set, Vector, IsMoveOfNoVertex, IsMoveOfEmptySet, HasOtherSize, IsApplicableMove, IsAfterMove, IsAcceptedGiftReply, RefusesGift, RepliesToGift, IsAcceptedJoinReply, RefusesJoinRequest, RepliesToJoin, RefusesMove, RepliesToMove, Position, RepliesToLook, RepliesToClaim, Refusal, Reply, Moved, Given, Joined, Looked, Won, NotWon, Refused}
 use Rattle.dg_chips.specs.declared.moves.Move.{Move}
 use Rattle.dg_chips.specs.declared.moves.Move.TheVariants.{Lend, Borrow, Fire, Script}
 use Rattle.dg_rules.specs.declared.entry.Refusal.TheVariants as refusal
@@ -17,7 +17,7 @@ module _ (p : Position) where
   no_vertex_script (Script s) none other = absurd none
   no_vertex_script m none other = absurd other
 
-  pub no_vertex_playable : (m : Move) → IsMoveOfNoVertex p.graph.size m → IsMoveOnDivisor p.graph.size m → ⊥
+  pub no_vertex_playable : (m : Move) → IsMoveOfNoVertex p.graph.size m → IsApplicableMove p.graph.size m → ⊥
   no_vertex_playable (Lend v) none playable = omega (arith, none, playable)
   no_vertex_playable (Borrow v) none playable = omega (arith, none, playable)
   no_vertex_playable (Fire s) (v, past, inside) playable = omega (arith, past, playable.1 v inside)
@@ -27,11 +27,11 @@ module _ (p : Position) where
   empty_script (Script s) empty other = absurd empty
   empty_script m empty other = absurd other
 
-  pub empty_playable : (m : Move) → IsMoveOfEmptySet m → IsMoveOnDivisor p.graph.size m → ⊥
+  pub empty_playable : (m : Move) → IsMoveOfEmptySet m → IsApplicableMove p.graph.size m → ⊥
   empty_playable (Fire s) empty playable = playable.0 empty
   empty_playable m empty playable = absurd empty
 
-  pub script_playable : (m : Move) → HasOtherSize p.graph.size m → IsMoveOnDivisor p.graph.size m → ⊥
+  pub script_playable : (m : Move) → HasOtherSize p.graph.size m → IsApplicableMove p.graph.size m → ⊥
   script_playable (Script s) other playable = other playable
   script_playable m other playable = absurd other
 

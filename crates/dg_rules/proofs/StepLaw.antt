@@ -6,7 +6,7 @@
 --   since_start         from the start on,
 --   since_last          and from the last change on
 --   vertices_stay       entries neither add nor remove vertices
-use Rattle.dg_rules.proofs.Common.{refl, ◌≡◌, ℕ, Bool, true, false, List, [], ◌∷◌, ◌++◌, reverse, append_assoc, append-nil, arith, sym, ap, ◌∙◌, cond, false≢true, reverse-append, pos, ◌+ℤ◌, Multigraph, Amounts, fired-fired, fired-constant, size_stays, StartData, Position, position_at_start, position_fired_by, script_by_reply, scripts_played, is_change, changed, scripts_since, position_after_change, nothing_played, after_reply, GameHasNoEntry, OneMoreEntry, PositionSinceChange, PlayedSinceStart, PositionSinceLastChange, VerticesStay, Entry, Request, Move, Gift, Join, Reply, Moved, Given, Joined}
+use Rattle.dg_rules.proofs.Common.{refl, ◌≡◌, ℕ, Bool, true, false, List, [], ◌∷◌, ◌++◌, reverse, append_assoc, append-nil, arith, sym, ap, ◌∙◌, cond, false≢true, reverse-append, pos, ◌+ℤ◌, Multigraph, Amounts, fired-fired, fired-constant, size_stays, StartData, Position, position_at_start, position_fired_by, script_by_reply, scripts_played, is_change, changed, scripts_since, position_after_change, after_reply, GameHasNoEntry, OneMoreEntry, PositionSinceChange, PlayedSinceStart, PositionSinceLastChange, VerticesStay, Entry, Request, Move, Gift, Join, Reply, Moved, Given, Joined}
 use Rattle.dg_rules.specs.History.{position_after}
 
 abbrev placed : Multigraph → Amounts → Position
@@ -16,7 +16,7 @@ placed-cong : (g : Multigraph) (D E : Amounts) → ((v : ℕ) → D v ≡ E v) �
 placed-cong g D E same = λ i. placed g (λ v. same v i)
 
 -- to fire by nothing leaves a position as it is, and to fire twice is to fire by the sum
-still : (p : Position) → p ≡ position_fired_by p nothing_played
+still : (p : Position) → p ≡ position_fired_by p (λ v. pos 0)
 still p = sym (placed-cong p.graph _ p.amounts (λ v. fired-constant p.graph p.amounts (pos 0) v))
 
 fired_on : (p : Position) (s t : Amounts) → position_fired_by (position_fired_by p s) t ≡ position_fired_by p (λ v. s v +ℤ t v)

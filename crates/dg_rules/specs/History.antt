@@ -1,7 +1,6 @@
 -- Histories. An entry is a seat, a request and a reply; a history is a list of entries, and an
 -- entry's number is its place in it, from 0. What changes a position, but for moves, is a change:
 -- an accepted gift, levy or join.
---   nothing_played                == 0 at each vertex
 --   script_by_reply request reply == the script of an accepted move, and 0 for everything else
 --   scripts_played H              == the sum of the scripts of all accepted moves
 --   is_change reply               == the reply accepts a gift, a levy or a join
@@ -28,12 +27,9 @@ use Rattle.dg_rules.specs.declared.entry.Request.TheVariants.{Move, Gift, Join}
 use Rattle.dg_rules.specs.declared.entry.Reply.{Reply}
 use Rattle.dg_rules.specs.declared.entry.Reply.TheVariants.{Moved, Given, Joined, Looked, Verdict, Rank, Stale, Won, NotWon, Refused}
 
-abbrev pub nothing_played : Amounts
-nothing_played v = pos 0
-
 abbrev pub script_by_reply : Request → Reply → Amounts
 script_by_reply (Move m) (Moved d) = script_of_move m
-script_by_reply request reply = nothing_played
+script_by_reply request reply = λ v. pos 0
 
 abbrev pub scripts_played : List Entry → Amounts
 scripts_played [] v = pos 0

@@ -25,7 +25,7 @@
 use Rattle.std.specs.Prelude.{◌≡◌, ℕ, List, length, Option, None, Some, Result, Ok, Err, ◌⊎◌}
 use Rattle.std.specs.Io.KnownBytes.{Keeps}
 use Rattle.std.specs.List.{enumerate_from}
-use Rattle.dg_server.specs.Common.{Entry, AreFreshSeats, IsClosed, IsCloseRefused, SeatView, SessionSetup, session_setup, Passage, passage, IsSession, LineFormat, OneSeat, BySeat, SessionEnd, Table, Full, Held, IsOnTaskTable, RefusesTaskTable, seats_asked_for, ServeTask, OutOfMemory, StartData, table_data_of}
+use Rattle.dg_server.specs.Common.{Entry, AreFreshSeats, IsClosed, IsCloseRefused, SeatView, SessionSetup, session_setup, Passage, passage, IsSession, LineFormat, OneSeat, BySeat, SessionEnd, Table, Full, Held, IsOnTaskTable, RefusesTaskTable, seats_of_invocation, ServeTask, OutOfMemory, StartData, table_data_of}
 use Rattle.dg_server.specs.OfTasks.{IsRunOfTask}
 use Rattle.dg_server.specs.declared.fault.Fault.{Fault}
 use Rattle.dg_server.specs.declared.fault.Fault.TheVariants.{Session, Shortage, History}
@@ -36,7 +36,7 @@ line_format (Some n) = BySeat
 
 abbrev pub session_of_run : ServeTask → StartData → List (List ℕ) → SessionSetup
 session_of_run task o names =
-    session_setup (line_format task.seats) (table_data_of o (seats_asked_for task.seats) task.capacity) names task.workers
+    session_setup (line_format task.seats) (table_data_of o (seats_of_invocation task.seats) task.capacity) names task.workers
 
 pub record IsHeardInRun (t : SessionSetup) (input output : Passage) (end : Result ℕ SessionEnd) : Type 0 where
   pub seats : List SeatView

@@ -86,7 +86,7 @@ where
         Err(PartyRefusal::Shortage(shortage)) => return Err(Fault::Shortage(shortage)),
         Err(PartyRefusal::Log) => return Err(Fault::History),
     };
-    print_played(rt.alloc(), &played, output)
+    print_party_of_run(rt.alloc(), &played, output)
 }
 
 /// The table of the file that is named, and the bytes of the scripts. All files are read before the table's is judged.
@@ -119,7 +119,7 @@ where
 }
 
 /// Prints what came of a party, and tells of the sessions that ended early.
-fn print_played<O: Write>(
+fn print_party_of_run<O: Write>(
     alloc: Global,
     played: &Played,
     output: &mut Output<O>,

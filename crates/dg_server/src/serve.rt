@@ -1,6 +1,6 @@
 //! Sessions over the input of the program.
 ghost use Rattle.std.specs.Prelude.{◌≡◌, ℕ, length, Ok, true, IfErr, OnOk};
-ghost use Rattle.dg_invocation.specs.Seats.{seats_asked_for};
+ghost use Rattle.dg_invocation.specs.Seats.{seats_of_invocation};
 ghost use Rattle.dg_log.specs.Tables.{table_data_of};
 ghost use Rattle.dg_session.specs.Setup.{session_setup};
 ghost use Rattle.dg_session.specs.Streams.{passage};
@@ -80,12 +80,12 @@ where
         Err(LogFault::OutOfMemory) => return Err(Fault::Shortage(Shortage::OutOfMemory)),
     };
     let (seats, how) = seats_of_run(task.seats);
-    serve_stream_on::<Brand, R, I, O>(rt, row, table, seats, how, task.workers, input, output)
+    serve_run_stream::<Brand, R, I, O>(rt, row, table, seats, how, task.workers, input, output)
 }
 
 /// How many seats there are, and how lines name them.
 fn seats_of_run(seats: Option<u8>) -> (u8, LineFormat)
-    ensures count { result.0 ≡ seats_asked_for seats }
+    ensures count { result.0 ≡ seats_of_invocation seats }
     ensures how { result.1 ≡ line_format seats }
 {
     match seats {
@@ -95,7 +95,7 @@ fn seats_of_run(seats: Option<u8>) -> (u8, LineFormat)
 }
 
 /// Answers the lines of the input on a new table with so many seats, which is closed at the end: there is one history of all.
-fn serve_stream_on<N, R, I, O>(
+fn serve_run_stream<N, R, I, O>(
     rt: &R,
     row: Row,
     table: &TableFile,

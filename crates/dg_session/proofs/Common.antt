@@ -17,8 +17,8 @@ pub use Rattle.dg_rules.specs.declared.step.Command.{Command}
 pub use Rattle.dg_rules.specs.declared.step.Command.TheVariants.{Call, Commit, Rank}
 pub use Rattle.dg_lines.proofs.Stepping.{seated_parts}
 pub use Rattle.dg_lines.proofs.Streams.{begins_more, begins_none, begins_one, begins_then, come_last, come_then, line_shorter, one_cutting, one_line, part_front, part_line, part_plain, part_whole}
-pub use Rattle.dg_lines.specs.Commands.{IsCommandLine}
-pub use Rattle.dg_lines.specs.LineFaults.{IsLineFault, fault_text}
+pub use Rattle.dg_lines.specs.Commands.{LineSpellsCommand}
+pub use Rattle.dg_lines.specs.LineFaults.{IsLineFault, line_fault_text}
 pub use Rattle.dg_lines.specs.Steps.{IsSeatedLine}
 pub use Rattle.dg_lines.specs.Streams.{BeginsWithLines, HasNoNewline, LinesOfTextHaveCome, last_line, with_newline}
 pub use Rattle.dg_lines.specs.Texts.{TextHasNames, entry_text}

@@ -1,11 +1,11 @@
 -- Lines that a seat hears.
 --   heard       a line is answered or refused as its command
 --   bad_heard   a line with a fault is answered by it
-use Rattle.dg_session.proofs.Common.{inl, inr, ℕ, List, Result, Ok, Err, refl, Command, IsCommandLine, IsLineFault, LineFault, RefusesSpeakerCommand, RefusesSessionLine, SessionSetup, Speaker, Answer, BadLine, HearsSpeaker, ObeysSpeaker, SessionEnd, Memory}
+use Rattle.dg_session.proofs.Common.{inl, inr, ℕ, List, Result, Ok, Err, refl, Command, LineSpellsCommand, IsLineFault, LineFault, RefusesSpeakerCommand, RefusesSessionLine, SessionSetup, Speaker, Answer, BadLine, HearsSpeaker, ObeysSpeaker, SessionEnd, Memory}
 use Rattle.dg_session.proofs.Made.{gains_same}
 
 line_refused : (t : SessionSetup) (line : List ℕ) (command : Command) (old new : Speaker) (end : SessionEnd)
-    → IsCommandLine t.names command line
+    → LineSpellsCommand t.names command line
     → RefusesSpeakerCommand t old.kept command old.seat new.seat end
     → RefusesSessionLine t old.kept line old.seat new.seat end
 line_refused t line command old new Memory spelled h = record {
@@ -20,7 +20,7 @@ line_refused t line command old new end spelled h = (command, spelled, h)
 
 pub heard : {N : Type 0} {t : SessionSetup} {line : List ℕ} {command : Command} {old new : Speaker}
     {result : Result (Answer N) SessionEnd}
-    → IsCommandLine t.names command line → ObeysSpeaker t command old new result → HearsSpeaker t line old new result
+    → LineSpellsCommand t.names command line → ObeysSpeaker t command old new result → HearsSpeaker t line old new result
 heard {command = command} {result = Ok answer} spelled h = record {
   done = record {
     answers = inr (command, spelled, h.done.answers);

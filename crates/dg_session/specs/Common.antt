@@ -6,9 +6,9 @@ pub use Rattle.dg_rules.specs.declared.entry.Request.{Request}
 pub use Rattle.dg_rules.specs.declared.entry.Request.TheVariants.{Judge, Look}
 pub use Rattle.dg_rules.specs.declared.step.Command.{Command}
 pub use Rattle.dg_rules.specs.declared.step.Command.TheVariants.{Call, Commit, Rank}
-pub use Rattle.dg_lines.specs.Commands.{IsCommandLine}
+pub use Rattle.dg_lines.specs.Commands.{LineSpellsCommand}
 pub use Rattle.dg_lines.specs.Cuts.{lines}
-pub use Rattle.dg_lines.specs.LineFaults.{IsLineFault, fault_text}
+pub use Rattle.dg_lines.specs.LineFaults.{IsLineFault, line_fault_text}
 pub use Rattle.dg_lines.specs.Steps.{IsSeatedLine}
 pub use Rattle.dg_lines.specs.Streams.{BeginsWithLines, HasNoNewline, LinesOfTextHaveCome, last_line, with_newline}
 pub use Rattle.dg_lines.specs.Texts.{TextHasNames, entry_text}

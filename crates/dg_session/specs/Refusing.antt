@@ -11,7 +11,7 @@
 --                                                   the entry may stand
 --   RefusesSessionLine t kept line x y end       == so is the line, as its command
 use Rattle.std.specs.Prelude.{◌≡◌, ℕ, ◌≤◌, ◌⊎◌, List, [], Option, None, Some, ⊤}
-use Rattle.dg_session.specs.Common.{IsRankTestWithinLimits, Entry, Command, Call, Commit, Rank, SeatView, RefusesCallAtTable, IsCommandLine}
+use Rattle.dg_session.specs.Common.{IsRankTestWithinLimits, Entry, Command, Call, Commit, Rank, SeatView, RefusesCallAtTable, LineSpellsCommand}
 use Rattle.dg_session.specs.Setup.{SessionSetup}
 use Rattle.dg_session.specs.Saying.{SessionGains, AnswersCommand, AnswersLine}
 use Rattle.dg_session.specs.declared.ends.SessionEnd.{SessionEnd}
@@ -46,4 +46,4 @@ RefusesSpeakerCommand t kept command x y end = ⊥
 abbrev pub RefusesSessionLine : SessionSetup → Option ℕ → List ℕ → SeatView → SeatView → SessionEnd → Type 0
 RefusesSessionLine t kept line x y Memory = SpeakerMadeAtMost (AnswersLine t kept line) x y
 RefusesSessionLine t kept line x y end =
-    (command : Command) × IsCommandLine t.names command line × RefusesSpeakerCommand t kept command x y end
+    (command : Command) × LineSpellsCommand t.names command line × RefusesSpeakerCommand t kept command x y end

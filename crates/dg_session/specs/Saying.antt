@@ -19,7 +19,7 @@
 --                                                    it had met; and where it made none, it was told of no
 --                                                    entry, and found no history
 use Rattle.std.specs.Prelude.{◌≡◌, ℕ, ◌⊎◌, List, [], ◌∷◌, ◌++◌, Option, Some, None, codes}
-use Rattle.dg_session.specs.Common.{IsRankTestWithinLimits, asked, Entry, Request, Look, Judge, Command, Call, Commit, Rank, IsPrefixOf, SeatView, IsCommandLine, IsLineFault, fault_text, entry_text, LineFault}
+use Rattle.dg_session.specs.Common.{IsRankTestWithinLimits, asked, Entry, Request, Look, Judge, Command, Call, Commit, Rank, IsPrefixOf, SeatView, LineSpellsCommand, IsLineFault, line_fault_text, entry_text, LineFault}
 use Rattle.dg_rules.specs.declared.entry.Request.TheVariants.{Rank as RankRequest}
 use Rattle.dg_session.specs.Setup.{SessionSetup}
 use Rattle.dg_session.specs.Order.{SessionComesAfter}
@@ -57,8 +57,8 @@ AnswersCommand t (Some i) (Rank k) made after text =
 abbrev pub AnswersLine : SessionSetup → Option ℕ → List ℕ → List (ℕ × Entry) → Option ℕ → List ℕ → Type 0
 AnswersLine t kept line made after text =
     ((fault : LineFault) × IsLineFault t.names fault line
-    × SaysToSpeaker kept (fault_text fault) made after text)
-    ⊎ ((command : Command) × IsCommandLine t.names command line
+    × SaysToSpeaker kept (line_fault_text fault) made after text)
+    ⊎ ((command : Command) × LineSpellsCommand t.names command line
     × AnswersCommand t kept command made after text)
 
 pub record SessionGains (x y : SeatView) (made : List (ℕ × Entry)) : Type 0 where

@@ -39,7 +39,7 @@
 use Rattle.std.specs.Prelude.{◌≡◌, ◌≢◌, ℕ, ◌+◌, ◌<◌, ◌≤◌, ◌⊎◌, List, [], ◌∷◌, ◌++◌, length, true, codes, Option, None, Some, Result, Ok, Err, OnOk, OnErr, IfOk, IfErr, ⊤}
 use Rattle.std.specs.Global.{Vec}
 use Rattle.std.specs.Io.KnownBytes.{Appends, append_known}
-use Rattle.dg_session.specs.Common.{Entry, Command, SeatView, TakenLookView, StreamWriting, AppendsFrontToStream, BeginsWithLines, last_line, entry_text, fault_text, TextHasNames}
+use Rattle.dg_session.specs.Common.{Entry, Command, SeatView, TakenLookView, StreamWriting, AppendsFrontToStream, BeginsWithLines, last_line, entry_text, line_fault_text, TextHasNames}
 use Rattle.dg_session.specs.Setup.{SessionSetup}
 use Rattle.dg_session.specs.EntriesSoFar.{EntriesSoFarView}
 use Rattle.dg_session.specs.Streams.{IsSessionLine, AreSessionLines, Passage}
@@ -77,7 +77,7 @@ abbrev pub speaker_answer_text : {N : Type 0} → List (List ℕ) → Answer N �
 speaker_answer_text names (Made r) = entry_text names r.0 r.1.reply
 speaker_answer_text names NoLook = codes "bad look\n"
 speaker_answer_text names TooMany = codes "bad trials\n"
-speaker_answer_text names (BadLine fault) = fault_text fault
+speaker_answer_text names (BadLine fault) = line_fault_text fault
 
 abbrev pub SpeakerAnswerHasNames : {N : Type 0} → List (List ℕ) → Answer N → Type 0
 SpeakerAnswerHasNames names (Made r) = TextHasNames names r.1.reply

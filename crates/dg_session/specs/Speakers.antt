@@ -23,7 +23,7 @@
 --                                           is for
 use Rattle.std.specs.Prelude.{◌≡◌, ℕ, ◌+◌, ◌<◌, ◌⊎◌, List, [], ◌++◌, length, map, Option, None, Some, slice_get}
 use Rattle.std.specs.List.{slice_set}
-use Rattle.dg_session.specs.Common.{Entry, SeatView, TakenLookView, IsSeatedLine, fault_text, Seat}
+use Rattle.dg_session.specs.Common.{Entry, SeatView, TakenLookView, IsSeatedLine, line_fault_text, Seat}
 use Rattle.dg_session.specs.Setup.{SessionSetup}
 use Rattle.dg_session.specs.Order.{SessionComesAfter}
 use Rattle.dg_session.specs.Saying.{SessionGains, AnswersLine}
@@ -82,7 +82,7 @@ pub record AnswersInSession (t : SessionSetup) (i : ℕ) (text : List ℕ) (s z 
 
 abbrev pub AnswersLineOfSpeaker : SessionSetup → Speakers → List ℕ → Speakers → List ℕ → Type 0
 AnswersLineOfSpeaker t s line z said =
-    (IsForNoSpeaker t.how (length s.seats) line × (z ≡ s) × (said ≡ fault_text Seat))
+    (IsForNoSpeaker t.how (length s.seats) line × (z ≡ s) × (said ≡ line_fault_text Seat))
     ⊎ ((i : ℕ) × (text : List ℕ) × IsFor t.how (length s.seats) line i text
     × AnswersInSession t i text s z said)
 

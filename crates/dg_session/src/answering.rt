@@ -71,14 +71,14 @@ impl AnswerBuffer {
     {
         match answer {
             Answer::Made(receipt) => self.say_entry(table, names, receipt),
-            Answer::NoLook => self.say_words(b"bad look\n"),
-            Answer::TooMany => self.say_words(b"bad trials\n"),
-            Answer::BadLine(fault) => self.say_words(fault.line().as_bytes()),
+            Answer::NoLook => self.say_words_to_speaker(b"bad look\n"),
+            Answer::TooMany => self.say_words_to_speaker(b"bad trials\n"),
+            Answer::BadLine(fault) => self.say_words_to_speaker(fault.line().as_bytes()),
         }
     }
 
     /// Says the words. If memory is refused, nothing more is said.
-    fn say_words(&mut self, words: &[u8]) -> Result<(), SessionEnd>
+    fn say_words_to_speaker(&mut self, words: &[u8]) -> Result<(), SessionEnd>
         ensures { TellsSpeaker words.now (heard self.old.text) (heard self.new.text) result }
     {
         let Some(text) = &mut self.text else {

@@ -22,11 +22,11 @@ pub(crate) fn addressed(how: LineFormat, count: usize, line: &[u8]) -> Option<(u
 {
     match how {
         LineFormat::OneSeat => Some((0, line)),
-        LineFormat::BySeat => seat_of_line(count, line),
+        LineFormat::BySeat => speaker_of_line(count, line),
     }
 }
 
-fn seat_of_line(count: usize, line: &[u8]) -> Option<(usize, &[u8])>
+fn speaker_of_line(count: usize, line: &[u8]) -> Option<(usize, &[u8])>
     ensures one { IfSome result (λ p. IsFor LineFormat.BySeat count line.now p.0 p.1.now) }
     ensures there { IfSome result (λ p. p.0 < count) }
     ensures none { result ≡ None → IsForNoSpeaker LineFormat.BySeat count line.now }

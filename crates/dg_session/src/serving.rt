@@ -139,7 +139,8 @@ fn speakers_have_prefixes<N: Name>(seats: &[Seat<N>])
     }
 }
 
-/// Answers the lines of a script, and makes no text. The clauses do not say what those of `serve_lines` do not.
+/// Answers the lines of a script, and makes no text of the answers. As in `serve_lines`, the clauses do not say that the
+/// histories which the seats find are those of the table.
 fn serve_unheard_lines<N: Name, R: Threads + Wait>(
     shared: &Shared<N, R>,
     seats: &mut [Seat<N>],

@@ -7,10 +7,10 @@
 use Rattle.std.specs.Borrow.{Bor}
 use Rattle.dg_theory.specs.Multigraph.{Multigraph}
 use Rattle.dg_strategy.specs.Choices.{Chooses, StrategyGivesPlayable, ChoosesBorrowings, StrategyGivesClaims}
-use Rattle.dg_strategy.proofs.Common.{◌≡◌, Option, Some, None, sym, subst, at, IsEffective, IsGraph, IsMoveOnDivisor, Move, Vector, Choosing, BorrowsInDebt}
+use Rattle.dg_strategy.proofs.Common.{◌≡◌, Option, Some, None, sym, subst, at, IsEffective, IsGraph, IsApplicableMove, Move, Vector, Choosing, BorrowsInDebt}
 
 abbrev pub GivesMoves : Choosing → Type 0
-GivesMoves A = (g : Multigraph) (d : Vector) (m : Move) → IsGraph g → d.size ≡ g.size → A g d (Some m) → IsMoveOnDivisor g.size m
+GivesMoves A = (g : Multigraph) (d : Vector) (m : Move) → IsGraph g → d.size ≡ g.size → A g d (Some m) → IsApplicableMove g.size m
 
 pub record SettlesDebts (A : Choosing) : Type 0 where
   pub moves : (g : Multigraph) (d : Vector) (m : Move) → IsGraph g → d.size ≡ g.size →
@@ -25,7 +25,7 @@ module _ (post : Bor Multigraph → Bor Vector → Option Move → Type 0) where
 
   pub moves_given : StrategyGivesPlayable post → GivesMoves (Chooses post)
   moves_given gives g d m graph size (p, q, at_g, at_d, may) =
-      subst (λ (h : Multigraph). IsMoveOnDivisor h.size m) at_g
+      subst (λ (h : Multigraph). IsApplicableMove h.size m) at_g
       (gives p q m (subst IsGraph (sym at_g) graph) (sizes g d p q at_g at_d size) may)
 
   pub settles_given : ChoosesBorrowings post → StrategyGivesClaims post → SettlesDebts (Chooses post)

@@ -4,12 +4,12 @@
 --   settler_moves    a settler's moves can be made
 --   strategy_turn    a turn by a choice whose moves can be made
 --   settler_turn     a turn by a choice that settles debts
-use Rattle.dg_strategy.proofs.Common.{◌≡◌, ℕ, ◌<◌, [], ◌∷◌, Option, Some, None, arith, refl, ap, subst, ◌∙◌, IsEffective, IsGraph, at, IsMoveOnDivisor, Move, Borrow, no_vertex_playable, empty_playable, script_playable, position_after, gifts_by_reply, Position, RepliesToMove, Replies, RepliesToClaim, Entry, NoVertex, Empty, Range, Reply, Moved, Refused, Won, NotWon, gifts_in-more, legal_part, graphs_hold, SeatView, request_for, Choosing, BorrowsInDebt, IsTurnByStrategy, IsChosenMove, ChoiceIsMadeOrPastRange, IsStrategyTurn, IsSettlerTurn, TableData}
+use Rattle.dg_strategy.proofs.Common.{◌≡◌, ℕ, ◌<◌, [], ◌∷◌, Option, Some, None, arith, refl, ap, subst, ◌∙◌, IsEffective, IsGraph, at, IsApplicableMove, Move, Borrow, no_vertex_playable, empty_playable, script_playable, position_after, gifts_by_reply, Position, RepliesToMove, Replies, RepliesToClaim, Entry, NoVertex, Empty, Range, Reply, Moved, Refused, Won, NotWon, gifts_in-more, legal_part, graphs_hold, SeatView, request_for, Choosing, BorrowsInDebt, IsTurnByStrategy, IsChosenMove, ChoiceIsMadeOrPastRange, IsStrategyTurn, IsSettlerTurn, TableData}
 use Rattle.dg_strategy.proofs.Kept.{GivesMoves, SettlesDebts}
 use Rattle.dg_rules.specs.declared.entry.Refusal.TheVariants.{Script}
 use Rattle.dg_rules.specs.declared.entry.Request.TheVariants as request
 
-pub move_answered : (p : Position) (m : Move) (reply : Reply) → IsMoveOnDivisor p.graph.size m → RepliesToMove p m reply →
+pub move_answered : (p : Position) (m : Move) (reply : Reply) → IsApplicableMove p.graph.size m → RepliesToMove p m reply →
     ChoiceIsMadeOrPastRange reply × (gifts_by_reply reply ≡ 0)
 move_answered p m (Moved d) playable replies = (tt, refl)
 move_answered p m (Refused NoVertex) playable replies = absurd (no_vertex_playable p m replies playable)
@@ -34,7 +34,7 @@ claim_won p reply effective replies = absurd replies
 pub settler_moves : (A : Choosing) → SettlesDebts A → GivesMoves A
 settler_moves A settles g d m graph size may = borrows m (settles.moves g d m graph size may)
   where
-    borrows : (m : Move) → BorrowsInDebt d m → IsMoveOnDivisor g.size m
+    borrows : (m : Move) → BorrowsInDebt d m → IsApplicableMove g.size m
     borrows (Borrow v) debt = subst (λ n. v < n) size debt.0
     borrows m debt = absurd debt
 

@@ -14,7 +14,7 @@
 --                                 debt
 use Rattle.std.specs.Prelude.{◌≡◌, ℕ, ◌<◌, pos, ◌≤ℤ◌, ◌<ℤ◌, Option, Some, None}
 use Rattle.std.specs.Borrow.{Bor}
-use Rattle.dg_strategy.specs.Common.{Multigraph, IsEffective, IsGraph, Vector, at, IsMoveOnDivisor, Move, Borrow}
+use Rattle.dg_strategy.specs.Common.{Multigraph, IsEffective, IsGraph, Vector, at, IsApplicableMove, Move, Borrow}
 
 abbrev pub Choosing : Type 1
 Choosing = Multigraph → Vector → Option Move → Type 0
@@ -27,7 +27,7 @@ Chooses post g d m = (p : Bor Multigraph) × (q : Bor Vector) × (p.now ≡ g) �
 
 abbrev pub StrategyGivesPlayable : (Bor Multigraph → Bor Vector → Option Move → Type 0) → Type 0
 StrategyGivesPlayable post = (p : Bor Multigraph) (q : Bor Vector) (m : Move) → IsGraph p.now →
-    q.now.size ≡ p.now.size → post p q (Some m) → IsMoveOnDivisor p.now.size m
+    q.now.size ≡ p.now.size → post p q (Some m) → IsApplicableMove p.now.size m
 
 abbrev pub IsDebtor : Vector → ℕ → Type 0
 IsDebtor d v = (v < d.size) × (at d v <ℤ pos 0)

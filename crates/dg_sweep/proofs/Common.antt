@@ -18,7 +18,7 @@ pub use Rattle.dg_lines.proofs.Cutting.{none_left, pieces_left, pieces_next}
 pub use Rattle.dg_lines.proofs.Integers.{fits_within}
 pub use Rattle.dg_lines.proofs.Judging.{judged-named}
 pub use Rattle.dg_lines.proofs.Streams.{begins_more, begins_none, begins_one, begins_then, come_last, come_then, line_shorter, one_cutting, part_line, part_plain, part_whole}
-pub use Rattle.dg_lines.specs.CommandWords.{IsSpelledNumberWithin}
+pub use Rattle.dg_lines.specs.CommandWords.{IsNumeralWithin}
 pub use Rattle.dg_lines.specs.Cuts.{lines, text_pieces_after, words}
 unfoldable pub use Rattle.dg_lines.specs.Cuts.{after, before}
 pub use Rattle.dg_lines.specs.Judgements.{burning_text, judgement_text}

@@ -1,7 +1,7 @@
 -- A line of amounts has one meaning.
 --   spelled_once      numbers are spelled in one way
 --   swept_amounts_have_one_meaning
-use Rattle.dg_sweep.proofs.Common.{◌≡◌, ◌≢◌, ℕ, ℤ, pos, List, [], ◌∷◌, length, map, All, FitsSigned, w64, refl, sym, ap, ◌∙◌, arith, subst, ◌^◌, ◌-◌, neg_ℤ, signed_decimal, signed_decimal_injective, All-head, All-tail, StartData, Vector, HoldsNumbers, IsFirstChipFault, IsSpelledNumberWithin, held_once, fits_within, FileFault, SweptAmountsHaveOneMeaning, SpellsSweptAmounts, HasSweptAmounts, RefusesSweptAmounts}
+use Rattle.dg_sweep.proofs.Common.{◌≡◌, ◌≢◌, ℕ, ℤ, pos, List, [], ◌∷◌, length, map, All, FitsSigned, w64, refl, sym, ap, ◌∙◌, arith, subst, ◌^◌, ◌-◌, neg_ℤ, signed_decimal, signed_decimal_injective, All-head, All-tail, StartData, Vector, HoldsNumbers, IsFirstChipFault, IsNumeralWithin, held_once, fits_within, FileFault, SweptAmountsHaveOneMeaning, SpellsSweptAmounts, HasSweptAmounts, RefusesSweptAmounts}
 use Rattle.dg_lines.proofs.Meaning.{same_words}
 use Rattle.dg_file.proofs.OneTable.{chip-one, chip-none}
 use Rattle.dg_file.specs.declared.fault.FileFault.TheVariants as fault
@@ -11,7 +11,7 @@ abbrev Fits : ℤ → Type 0
 Fits = FitsSigned w64
 
 abbrev IsWord : List ℕ → Type 0
-IsWord = IsSpelledNumberWithin (neg_ℤ (pos (2 ^ 63))) (pos (2 ^ 63 - 1))
+IsWord = IsNumeralWithin (neg_ℤ (pos (2 ^ 63))) (pos (2 ^ 63 - 1))
 
 spelled_once : (xs ys : List ℤ) → map signed_decimal xs ≡ map signed_decimal ys → All Fits xs → All Fits ys → xs ≡ ys
 spelled_once [] [] e first second = refl

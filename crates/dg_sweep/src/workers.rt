@@ -67,7 +67,7 @@ pub(crate) fn answer_swept_batch<'a, R: Threads + Wait + Sync, K: LineKind + Syn
     let (pieces, rest) = cut_pieces(context.alloc, bytes)?;
     let next = AtomicUsize::new(0);
     let done = sweep_among_workers(context, workers.min(pieces.len()), &pieces, &next)?;
-    put_answers(context, &pieces, &done, text)?;
+    put_swept_answers(context, &pieces, &done, text)?;
     Ok(answer_swept_lines(context.alloc, context.kind, rest, text, answer)?)
 }
 
@@ -152,7 +152,7 @@ fn answer_piece<R, K: LineKind>(
 }
 
 /// Puts the answers to all pieces after the text, in the order of the pieces.
-fn put_answers<R, K: LineKind>(
+fn put_swept_answers<R, K: LineKind>(
     context: &SweepContext<'_, R, K>,
     pieces: &[&[u8]],
     done: &[Answered],

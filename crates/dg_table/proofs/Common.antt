@@ -31,7 +31,7 @@ pub use Rattle.dg_table.specs.Closing.{AllSeatsHeld, AreAuditTotals, TableHasSea
 pub use Rattle.dg_table.specs.Faults.{RefusesSettlingAtTable, RefusesSeatAtTable}
 pub use Rattle.dg_table.specs.Histories.{IsHistoryOfTable}
 pub use Rattle.dg_table.specs.Lock.{AreSeatCounts, IsLookKeptBySeat, IsReady, IsSeatState, IsUnderLock}
-pub use Rattle.dg_table.specs.Looks.{KeptLookHasVertices, IsLastLookOfSeat, IsLookOfSeat, SeatKeepsLastLook, seat_keeps_look_for, is_look_of_seat, last_look_of_seat}
+pub use Rattle.dg_table.specs.Looks.{KeptLookHasVertices, IsLastLookOfSeat, IsLookOfSeat, SeatKeepsLastLook, asks_for_look, is_look_of_seat, last_look_of_seat}
 pub use Rattle.dg_table.specs.Opened.{AreFreshSeats}
 pub use Rattle.dg_table.specs.SeatLaws.{SeatEntriesStand, SeatHasNoEntries, OneSeatHasAll, OtherSeatsEntry, OwnSeatsEntry}
 pub use Rattle.dg_table.specs.Seats.{AreOfTableSeats, HoldsSeat, IsAdmissibleSeat, SeatMeetsHistory, SeatView, entries_of_seat}

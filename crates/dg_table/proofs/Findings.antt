@@ -9,7 +9,7 @@
 --   stale_both       the reply to a finding on an entry is stale just where a gift was accepted after it
 --   carried_over     where none was, the finding is carried to the position now
 --   look_stands      what is kept of an entry of a legal history that is a look, is of a look of it
-use Rattle.dg_table.proofs.Common.{◌≡◌, ◌≢◌, ◌↔◌, ℕ, Bool, true, false, cond, List, [], ◌∷◌, ◌++◌, take, slice_get, Option, Some, None, refl, sym, ap, subst, ◌∙◌, filter, last_or, append-nil, same_Some, filter-append, Multigraph, StartData, Vector, position_after, gifts_in, IsLegal, IsLookAt, request_for_finding, ReplyKeepsFinding, Replies, Entry, Request, Look, Reply, Looked, Verdict, Stale, Finding, Judged, Ranked, LookData, legal_looks, vertices_stay, IsLookKeptBySeat, SeatKeepsLastLook, KeptLookHasVertices, IsLastLookOfSeat, IsLookOfSeat, is_look_of_seat, last_look_of_seat, seat_keeps_look_for, IsSettledForSeat, RankReply}
+use Rattle.dg_table.proofs.Common.{◌≡◌, ◌≢◌, ◌↔◌, ℕ, Bool, true, false, cond, List, [], ◌∷◌, ◌++◌, take, slice_get, Option, Some, None, refl, sym, ap, subst, ◌∙◌, filter, last_or, append-nil, same_Some, filter-append, Multigraph, StartData, Vector, position_after, gifts_in, IsLegal, IsLookAt, request_for_finding, ReplyKeepsFinding, Replies, Entry, Request, Look, Reply, Looked, Verdict, Stale, Finding, Judged, Ranked, LookData, legal_looks, vertices_stay, IsLookKeptBySeat, SeatKeepsLastLook, KeptLookHasVertices, IsLastLookOfSeat, IsLookOfSeat, is_look_of_seat, last_look_of_seat, asks_for_look, IsSettledForSeat, RankReply}
 
 last_or-snoc : {A : Type 0} (o : Option A) (xs : List A) (x : A) → last_or o (xs ++ x ∷ []) ≡ Some x
 last_or-snoc o [] x = refl
@@ -17,7 +17,7 @@ last_or-snoc o (y ∷ xs) x = last_or-snoc (Some y) xs x
 
 pub last_after : SeatKeepsLastLook
 last_after ps p look =
-    let test : is_look_of_seat p ≡ true = ap seat_keeps_look_for look in
+    let test : is_look_of_seat p ≡ true = ap asks_for_look look in
     ap (last_or None) (filter-append is_look_of_seat ps (p ∷ [])
     ∙ ap (λ (b : Bool). filter is_look_of_seat ps ++ cond b (p ∷ []) []) test)
     ∙ last_or-snoc None (filter is_look_of_seat ps) p

@@ -48,7 +48,7 @@ impl<N: Name> Model for Seat<N> {
 impl<N: Name> Seat<N> {
     /// The seats 1 to `count`, which know of no entry; the leave to make them is used up. The conditions are that they are those
     /// of the table, and that there is space for them, which has none.
-    pub(crate) fn all(
+    pub(crate) fn all_seats(
         alloc: Global,
         space: Vec<Seat<N>>,
         count: u8,

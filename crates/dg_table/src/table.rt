@@ -80,7 +80,7 @@ impl<N: Name> Table<N> {
             return Err((row, TableFault::OutOfMemory));
         };
         let (log, pen, seating) = Log::with_seating(row);
-        let all = Seat::all(alloc, space, seats, seating);
+        let all = Seat::all_seats(alloc, space, seats, seating);
         let held = Mutex::new(Held::new(pen, start, seats));
         let table = Table {
             held,

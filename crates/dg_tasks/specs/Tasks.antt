@@ -21,7 +21,7 @@ use Rattle.std.specs.Prelude.{◌≡◌, ◌⊎◌, ℕ, List}
 use Rattle.dg_tasks.specs.Common.{StartData, IsTableFile, RefusesTableFile, FileFault, lines, IsJudgementText, Held, MayHoldSourceBytes, RefusesSource, file_of, Task, Rehearse, Judge, RiemannRoch, Greedy, OutOfMemory}
 use Rattle.dg_tasks.specs.Rehearsals.{IsPrintedInTask}
 use Rattle.dg_tasks.specs.RankTests.{IsRankTaskAnswer, IsRiemannRochTask, RefusesRankTask, RefusesRiemannRoch}
-use Rattle.dg_tasks.specs.Refusals.{RefusesSchedule}
+use Rattle.dg_tasks.specs.Refusals.{RefusesScheduleTask}
 use Rattle.dg_tasks.specs.Games.{IsGreedyAnswer, RefusesGreedyTask}
 use Rattle.dg_invocation.specs.declared.invocation.Task.TheVariants.{Rank}
 use Rattle.dg_tasks.specs.declared.fault.TaskFault.{TaskFault}
@@ -63,7 +63,7 @@ pub record RefusesTaskContents (h : Held) (fault : FileFault) : Type 0 where
 abbrev pub RefusesTaskOn : (List ℕ → Held) → StartData → List (List ℕ) → Task → TaskFault → Type 0
 RefusesTaskOn held o names (Rehearse file steps) (Source fault) = RefusesSource (held steps.now) fault
 RefusesTaskOn held o names (Rehearse file steps) fault =
-    IsOfTaskSteps (held steps.now) (λ all. RefusesSchedule o.graph.size names all fault)
+    IsOfTaskSteps (held steps.now) (λ all. RefusesScheduleTask o.graph.size names all fault)
 RefusesTaskOn held o names (Judge file ordered) fault = fault ≡ Shortage OutOfMemory
 RefusesTaskOn held o names (Rank test) fault = RefusesRankTask o.graph.size test.degree test.workers fault
 RefusesTaskOn held o names (RiemannRoch file) fault = RefusesRiemannRoch o fault

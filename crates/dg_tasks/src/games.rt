@@ -18,7 +18,7 @@ const FIRST_ROOM: usize = 131_072;
 /// reply; and then `turns` if so many turns were used up before nobody was in debt. The condition is at most 65,536 turns.
 ///
 /// Refused with `Shortage` at the growth that was refused.
-pub fn greedy_history(alloc: Global, table: &TableFile, turns: u32) -> Result<Vec<u8>, TaskFault>
+pub fn greedy_answer(alloc: Global, table: &TableFile, turns: u32) -> Result<Vec<u8>, TaskFault>
     requires { turns ≤ MAX_ENTRIES }
     ensures printed { IfOk result
         (λ text. IsGreedyAnswer table.now.start turns table.now.names text.items) }

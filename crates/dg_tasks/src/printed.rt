@@ -16,7 +16,7 @@ use std::alloc::{AllocError, Global};
 /// which the vertices burn; and a newline.
 ///
 /// Refused with `Shortage` at the growth that was refused, and with nothing else.
-pub fn judgement(alloc: Global, table: &TableFile, ordered: bool) -> Result<Vec<u8>, TaskFault>
+pub fn verdict_answer(alloc: Global, table: &TableFile, ordered: bool) -> Result<Vec<u8>, TaskFault>
     ensures judged { IfOk result
         (λ text. IsJudgementText table.now.start table.now.names ordered text.items) }
     ensures refused { IfErr result (λ fault. fault ≡ TaskFault.Shortage Shortage.OutOfMemory) }

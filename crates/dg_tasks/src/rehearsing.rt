@@ -2,7 +2,7 @@
 ghost use Rattle.std.specs.Prelude.{ℕ, List, ◌≢◌, IfOk, IfErr};
 ghost use Rattle.dg_lines.specs.Cuts.{lines};
 ghost use Rattle.dg_tasks.specs.Rehearsals.{IsPrintedInTask, TaskMayGoOn, played, GoesOn};
-ghost use Rattle.dg_tasks.specs.Refusals.{IsTaskFaultOfSteps, RefusesSchedule};
+ghost use Rattle.dg_tasks.specs.Refusals.{IsTaskFaultOfSteps, RefusesScheduleTask};
 
 use crate::fault::TaskFault;
 use dg_file::TableFile;
@@ -24,7 +24,7 @@ pub fn rehearsal(alloc: Global, table: &TableFile, steps: &[u8]) -> Result<Vec<u
     ensures printed { IfOk result
         (λ text. IsPrintedInTask table.now.start table.now.names (lines steps.now) text.items) }
     ensures refused { IfErr result
-        (RefusesSchedule table.now.start.graph.size table.now.names (lines steps.now)) }
+        (RefusesScheduleTask table.now.start.graph.size table.now.names (lines steps.now)) }
 {
     let names = table.names();
     let mut rehearsal = Rehearsal::new(table.start());
@@ -54,7 +54,8 @@ pub fn rehearsal(alloc: Global, table: &TableFile, steps: &[u8]) -> Result<Vec<u
 /// Why a schedule is not played whose step is refused so. The condition is that the step has a seat.
 fn task_fault(fault: RehearseFault) -> TaskFault
     requires { (i : ℕ) → fault ≢ RehearseFault.Seat i }
-    ensures { (n : ℕ) (names all : List (List ℕ)) → IsTaskFaultOfSteps n names all fault → RefusesSchedule n names all result }
+    ensures { (n : ℕ) (names all : List (List ℕ)) → IsTaskFaultOfSteps n names all fault →
+        RefusesScheduleTask n names all result }
 {
     match fault {
         RehearseFault::Seat(_) => unreachable!(),

@@ -3,8 +3,8 @@ ghost use Rattle.std.specs.Prelude.{IfOk, IfErr, ◌≢◌};
 ghost use Rattle.dg_tasks.specs.Tasks.{IsAnswer, AnswersTask, RefusesTaskOn, RefusesTask};
 
 use crate::fault::TaskFault;
-use crate::games::greedy_history;
-use crate::printed::judgement;
+use crate::games::greedy_answer;
+use crate::printed::verdict_answer;
 use crate::ranks::{rank_answer, rank_task_alone, riemann_roch};
 use crate::rehearsing::rehearsal;
 use crate::table_source::table_of_task;
@@ -19,8 +19,8 @@ use std::thread::Threads;
 /// as `answer_task_alone` does it.
 ///
 /// Refused with `Source` or `File` if its table is not read or is refused, and then as the function is that does the task:
-/// `rehearsal`, which comes after `Source` for the steps, `judgement`, `rank_answer`, `riemann_roch`, or the greedy game with
-/// `Shortage`.
+/// `rehearsal`, which comes after `Source` for the steps, `verdict_answer`, `rank_answer`, `riemann_roch`, or the greedy game
+/// with `Shortage`.
 pub fn answer<R, S>(rt: &R, task: &Task<'_>, sources: &S) -> Result<Vec<u8>, TaskFault>
 where
     R: Files + AllocGlobal + Threads + Wait,
@@ -81,9 +81,9 @@ where
             };
             rehearsal(rt.alloc(), table, steps.as_slice())
         }
-        Task::Judge { file: _, ordered } => judgement(rt.alloc(), table, *ordered),
+        Task::Judge { file: _, ordered } => verdict_answer(rt.alloc(), table, *ordered),
         Task::Rank(test) => rank_task_alone(rt.alloc(), table, test.degree),
         Task::RiemannRoch { file: _ } => riemann_roch(rt.alloc(), table),
-        Task::Greedy(play) => greedy_history(rt.alloc(), table, play.turns),
+        Task::Greedy(play) => greedy_answer(rt.alloc(), table, play.turns),
     }
 }

@@ -7,7 +7,7 @@
 --                          that in which the least vertex burns first
 use Rattle.std.specs.Prelude.{◌≡◌, ℕ, ◌↔◌, true, take, pos}
 use Rattle.dg_chips.specs.Vector.{at}
-use Rattle.dg_reduce.specs.Certificates.{IsReducedOrder}
+use Rattle.dg_reduce.specs.Certificates.{IsCertifyingOrder}
 use Rattle.dg_theory.specs.Burning.{BurnsAll}
 use Rattle.dg_theory.specs.Firing.{Amounts, FiresTo}
 use Rattle.dg_theory.specs.Multigraph.{Multigraph}
@@ -26,4 +26,4 @@ pub record IsRight (g : Multigraph) (q : ℕ) (D : Amounts) (x : Verdict) : Type
 
 pub record IsVerdictOn (g : Multigraph) (q : ℕ) (D : Amounts) (x : Verdict) : Type 0 where
   pub right : IsRight g q D x
-  pub order : IsReducedOrder g q (at x.reduced) x.order
+  pub order : IsCertifyingOrder g q (at x.reduced) x.order

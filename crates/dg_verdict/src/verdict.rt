@@ -2,7 +2,7 @@
 
 ghost use Rattle.std.specs.Prelude.{◌≡◌, ℕ, ◌<◌, pos, IfSome};
 ghost use Rattle.dg_chips.specs.Vector.{at};
-ghost use Rattle.dg_reduce.specs.Burnings.{IsReducedBurning};
+ghost use Rattle.dg_reduce.specs.Burnings.{CertifiesReduced};
 ghost use Rattle.dg_verdict.specs.Right.{IsVerdictOn};
 
 use dg_chips::{Divisor, Script, Wide};
@@ -67,7 +67,7 @@ fn judge_by(graph: &Graph, q: usize, divisor: &Divisor, chips: &Wide, guess: &Gu
     requires chips { (chips.now.size ≡ graph.now.size) ×
         ((v : ℕ) → v < graph.now.size → at chips.now v ≡ at divisor.now v) }
     requires script { (guess.now.script.size ≡ graph.now.size) × (at guess.now.script q ≡ pos 0) }
-    requires burning { IfSome guess.now.burning (λ x. IsReducedBurning graph.now q x) }
+    requires burning { IfSome guess.now.burning (λ x. CertifiesReduced graph.now q x) }
     ensures { IsVerdictOn graph.now q (at divisor.now) result }
 {
     let _size = graph.size();

@@ -111,10 +111,10 @@ fn is_as_anew(rt: &impl Abort, graph: &Graph, q: usize, chips: &Wide) {
     assert!(rt; burnt == burn_anew(graph, q, chips));
     let counted = burn_counted(graph, q, &amounts_to_burn(chips));
     assert!(rt; counted.burnt == burnt);
-    is_joined_to_fire(rt, graph, &counted);
+    is_joined(rt, graph, &counted);
 }
 
-fn is_joined_to_fire(rt: &impl Abort, graph: &Graph, counted: &BurnCounts) {
+fn is_joined(rt: &impl Abort, graph: &Graph, counted: &BurnCounts) {
     for v in 0..graph.size() {
         let out = graph.edges_out(counted.burnt.unburnt, v);
         assert!(rt; u32::from(counted.joined[v]) == out, "vertex {v}");

@@ -22,10 +22,10 @@ returns-clause-refused c =
     let none = faultless _ _ c.in_ok-dollar.ensures c.in_ok-matches.ensures.kinds in
     let rows = entered _ _ _ _ c.in_ok-dollar.ensures c.in_ok-matches.ensures.matches in
     elim c.in-Err.ensures [
-      | inl memory ↦ inl (c.in_ok-error_of-in-Err.ensures.0 memory)
+      | inl memory ↦ inl (c.in_ok-clap_error_of-in-Err.ensures.0 memory)
       | inr nothing ↦ inr (inr (
         ask_nothing _ none (λ it h. nothing it (subst (λ o. Rattle.std.proofs.Common.IsSomeAnd o (λ p. AsksFor p.0 p.1 it))
             (sym rows) h)),
-        c.in_ok-error_of-in-Err.ensures.1,
+        c.in_ok-clap_error_of-in-Err.ensures.1,
       ))
     ]

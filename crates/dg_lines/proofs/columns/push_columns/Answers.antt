@@ -17,14 +17,15 @@ loop-v-preserved g c =
     let next : c.loop-v.v ≡ c.loop-v.v - 1 + 1 = omega (arith, c.loop-v-test.true) in
     let here : c.loop-v.v - 1 < (g.N.Amounts.numbers c.args.amounts.now).size =
     omega (arith, c.loop-v-test.true, c.loop-v.auto.v, c.size-v.ensures.size) in
-    let room : 1 ≤ c.write-start.result = omega (arith, known.room, c.loop-v-test.true, c.write-start.ensures.short) in
-    let back : c.write-start.result - 1 + 1 ≡ c.write-start.result = omega (arith, room) in
+    let room : 1 ≤ c.write_amount-start.result =
+    omega (arith, known.room, c.loop-v-test.true, c.write_amount-start.ensures.short) in
+    let back : c.write_amount-start.result - 1 + 1 ≡ c.write_amount-start.result = omega (arith, room) in
     record {
-      inside = omega (arith, known.inside, c.write-start.ensures.start);
-      room = omega (arith, known.room, c.loop-v-test.true, c.write-start.ensures.short);
+      inside = omega (arith, known.inside, c.write_amount-start.ensures.start);
+      room = omega (arith, known.room, c.loop-v-test.true, c.write_amount-start.ensures.short);
       written = columns_before _ _ _ (at (g.N.Amounts.numbers c.args.amounts.now))
-          (c.loop-v.v - 1) c.loop-v.v _ next here known.written c.write-start.ensures.written
-          (rw (drop-set c.write-start.new.line (c.write-start.result - 1) _ (omega (arith, room)), back));
+          (c.loop-v.v - 1) c.loop-v.v _ next here known.written c.write_amount-start.ensures.written
+          (rw (drop-set c.write_amount-start.new.line (c.write_amount-start.result - 1) _ (omega (arith, room)), back));
     }
 
 pub returns : goal.returns

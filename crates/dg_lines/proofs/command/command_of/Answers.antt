@@ -1,5 +1,5 @@
 -- A word that is not as its kind wants it refuses the line, and what stands before it is good.
-use Rattle.dg_lines.proofs.Common.{[], All-head, degree, dollars, IsNumberForWord}
+use Rattle.dg_lines.proofs.Common.{[], All-head, degree, dollars, IsNumeralForWord}
 use Rattle.dg_lines.specs.declared.command.Keyword.TheVariants as of
 use Rattle.dg_lines.proofs.Given.{named_alone, none_given}
 use Rattle.dg_lines.proofs.Refusing.{unnamed, misnumbered, no_script}
@@ -42,7 +42,7 @@ returns-in_err-dollars_in_word-in-Gift c =
     rw c.in-Gift.is (misnumbered c.args.names.now of.Gift _ (rw c.in-Gift.is at c.requires) _ _
     c.from_residual-in_err-dollars_in_word-in-Gift.ensures.1 same
     (named_alone names c.args.first.now _ c.in_ok-v-in-Gift.ensures, (none_given names, tt))
-    (λ all. bad (All-head (IsNumberForWord dollars) c.args.second.now [] all.1.0)))
+    (λ all. bad (All-head (IsNumeralForWord dollars) c.args.second.now [] all.1.0)))
 
 pub returns-in_err-u-in-Join : goal.returns-in_err-u-in-Join
 returns-in_err-u-in-Join c =
@@ -61,4 +61,4 @@ returns-in_err-degree_in_word-in-Rank c =
     let (same, bad) = c.in_err-degree_in_word-in-Rank.ensures in
     rw c.in-Rank.is (misnumbered c.args.names.now of.Rank _ (rw c.in-Rank.is at c.requires) _ _
     c.from_residual-in_err-degree_in_word-in-Rank.ensures.1 same
-    (none_given c.args.names.now, tt) (λ all. bad (All-head (IsNumberForWord degree) c.args.first.now [] all.0)))
+    (none_given c.args.names.now, tt) (λ all. bad (All-head (IsNumeralForWord degree) c.args.first.now [] all.0)))

@@ -18,17 +18,17 @@ loop-v-preserved g c =
     let here : c.loop-v.v - 1 < length c.args.names.now =
     omega (arith, c.loop-v-test.true, c.loop-v.auto.v, c.len-v.ensures.len) in
     record {
-      inside = omega (arith, known.inside, c.write-start.ensures.start, c.write_label-start.ensures.start);
+      inside = omega (arith, known.inside, c.write_amount-start.ensures.start, c.write_label-start.ensures.start);
       room = omega (
         arith,
         known.room,
         c.loop-v-test.true,
-        c.write-start.ensures.short,
+        c.write_amount-start.ensures.short,
         c.write_label-start.ensures.short,
       );
       written = pairs_before _ _ _ c.args.names.now (at (g.N.Amounts.numbers c.args.amounts.now))
           (c.loop-v.v - 1) c.loop-v.v next here
-          known.written c.write-start.ensures.written c.write_label-start.ensures.written;
+          known.written c.write_amount-start.ensures.written c.write_label-start.ensures.written;
     }
 
 pub returns : goal.returns

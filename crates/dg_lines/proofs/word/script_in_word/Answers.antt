@@ -38,11 +38,11 @@ items-preserved c =
     part_after _ c.cut-in-Some.result.1 _ c.unwrap_or.result refl c.cut-in-Some.ensures.after c.unwrap_or.ensures in
     let held : FitsSigned w64 c.unwrap_or-in-Some.result = search rules in
     rw (to_z-of_z held, c.unwrap_or-in-Some.ensures, c.is_some-are_spelled.ensures)
-    (one_pair _ _ _ _ _ _ _ _ next c.items.invariant c.entry-entry.result c.with_vertex-given.result c.from-v.result
+    (one_pair _ _ _ _ _ _ _ _ next c.items.invariant c.entry_numeral-entry.result c.with_vertex-given.result c.from-v.result
     c.place.ensures.few
     c.len-size.ensures.names.different place (sym c.contains.ensures ∙ c.if-contains.false)
     c.with_vertex-given.ensures.here c.with_vertex-given.ensures.others
-    (subst (λ t. IsSpelled t c.entry-entry.result) text c.entry-entry.ensures))
+    (subst (λ t. IsSpelled t c.entry_numeral-entry.result) text c.entry_numeral-entry.ensures))
 
 pub returns-then-not-are_spelled : goal.returns-then-not-are_spelled
 returns-then-not-are_spelled c =

@@ -1,12 +1,12 @@
 use Rattle.std.proofs.Common.{◌≡◌, ◌+◌, [], ◌∷◌, ◌++◌, take, sym, ap, ◌∙◌, append-nil}
 use Rattle.std.proofs.lemmas.List.{take_more}
 use Rattle.std.proofs.lemmas.Option.{slice_get_within, get_or_from_slice_get}
-use Rattle.dg_party.specs.Printed.{entries_text}
+use Rattle.dg_party.specs.Printed.{party_entries_text}
 use Rattle.dg_party.proofs.Printing.{entries_step}
 use Rattle.dg_party.proofs.closing.push_party_entries.Goals as goal
 
 pub entries-init : goal.entries-init
-unfolding entries_text
+unfolding party_entries_text
 entries-init g c = sym (append-nil c.args.text.now.items)
 
 pub push_party_entry-requires : goal.push_party_entry-requires

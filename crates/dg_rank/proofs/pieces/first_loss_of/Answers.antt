@@ -8,4 +8,4 @@ first_loss-requires-clause-limits g c =
     let s = c.args.search.now in
     let inside : start_of_trials s (c.enter-piece.result + 1) ≤ s.count =
     piece_within s (c.enter-piece.result + 1) (omega (arith, c.enter-piece.ensures)) in
-    (count, within, omega (arith, c.start_of-2.ensures))
+    (count, within, omega (arith, c.first_trial_of_piece-2.ensures))

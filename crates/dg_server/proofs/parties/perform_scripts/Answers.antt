@@ -3,23 +3,23 @@ use Rattle.dg_server.proofs.Serving.{party_on, refused_lent, as_it_was}
 use Rattle.dg_server.proofs.parties.perform_scripts.Goals as goal
 
 pub returns-clause-done : goal.returns-clause-done
-returns-clause-done g c = on_ok_weaker c.print_played.result (λ printed held known. record {
+returns-clause-done g c = on_ok_weaker c.print_party_of_run.result (λ printed held known. record {
   ends = c.in-Ok.played.ends.items;
   text = c.in-Ok.played.text.items;
   party = party_on held c.args.task.now _ _ c.args.scripts.now _ _ known.0 known.1
       (rw (← c.start.ensures, ← c.names.ensures.value) c.in-Ok.ensures.played);
   whole = printed.0;
   printed = printed.1;
-}) c.print_played.ensures.whole
+}) c.print_party_of_run.ensures.whole
 
 pub returns-clause-refused : goal.returns-clause-refused
-returns-clause-refused g c = IfErr-weaker c.print_played.result _ _ (λ fault printed held known. inr (record {
+returns-clause-refused g c = IfErr-weaker c.print_party_of_run.result _ _ (λ fault printed held known. inr (record {
   ends = c.in-Ok.played.ends.items;
   text = c.in-Ok.played.text.items;
   party = party_on held c.args.task.now _ _ c.args.scripts.now _ _ known.0 known.1
       (rw (← c.start.ensures, ← c.names.ensures.value) c.in-Ok.ensures.played);
   printed = printed;
-})) c.print_played.ensures.refused
+})) c.print_party_of_run.ensures.refused
 
 pub returns-in-Err-Shortage-clause-refused : goal.returns-in-Err-Shortage-clause-refused
 returns-in-Err-Shortage-clause-refused g c held known = inl (

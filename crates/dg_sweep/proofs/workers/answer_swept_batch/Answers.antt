@@ -2,12 +2,12 @@ use Rattle.dg_sweep.proofs.Common.{All, map, flat_map, ◌++◌, sym, ap, subst,
 use Rattle.dg_sweep.proofs.Pieces.{leads_rest}
 use Rattle.dg_sweep.proofs.workers.answer_swept_batch.Goals as goal
 
-pub put_answers-requires-clause-lines : goal.put_answers-requires-clause-lines
-put_answers-requires-clause-lines g c =
+pub put_swept_answers-requires-clause-lines : goal.put_swept_answers-requires-clause-lines
+put_swept_answers-requires-clause-lines g c =
     subst (All (λ piece. EndsPiece piece.now)) (sym c.deref-2.ensures.value) c.in_ok-pieces.ensures.lines
 
-pub put_answers-requires-clause-done : goal.put_answers-requires-clause-done
-put_answers-requires-clause-done g c =
+pub put_swept_answers-requires-clause-done : goal.put_swept_answers-requires-clause-done
+put_swept_answers-requires-clause-done g c =
     let right = g.K.LineKind.answers c.args.context.now.kind.now in
     subst (All (IsAnswered right (map (λ piece. piece.now) c.deref-2.result.now))) (sym c.deref-3.ensures.value)
     (subst (λ l. All (IsAnswered right (map (λ piece. piece.now) l)) c.in_ok-done.done.items)
@@ -17,8 +17,8 @@ pub returns-clause-answered : goal.returns-clause-answered
 returns-clause-answered g c =
     let rest = c.in_ok-pieces.rest.now in
     leads_rest _ c.args.bytes.now (flat_map (λ piece. piece.now) c.deref-2.result.now) rest
-    c.in_ok-answer_swept_lines-2.field-0.now c.args.text.now.items c.put_answers.new.text.items
-    c.answer_swept_lines-2.new.text.items c.in_ok-put_answers.ensures
+    c.in_ok-answer_swept_lines-2.field-0.now c.args.text.now.items c.put_swept_answers.new.text.items
+    c.answer_swept_lines-2.new.text.items c.in_ok-put_swept_answers.ensures
     (c.in_ok-pieces.ensures.whole
     ∙ ap (λ l. flat_map (λ piece. piece.now) l ++ rest) (sym c.deref-2.ensures.value))
     c.in_ok-answer_swept_lines-2.ensures

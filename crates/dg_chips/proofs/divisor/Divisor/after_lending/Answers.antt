@@ -120,8 +120,8 @@ loop-w-preserved c =
       small = λ u above. rw (others u above) (c.loop-w.invariant.small u (omega arith));
     }
 
-pub of_vector_row-requires : goal.of_vector_row-requires
-of_vector_row-requires c =
+pub of_vector_entries-requires : goal.of_vector_entries-requires
+of_vector_entries-requires c =
     let near = rw c.if-not-fits.false at c.loop-w.invariant.range in
     let x : ℤ = to_z w32 (of_z w32 c.args.times) in
     let sized : c.self.inside.size ≡ c.args.self.now.size = ap (λ (d : Vector). d.size) c.self.view_is in

@@ -2,15 +2,15 @@ use Rattle.dg_game.proofs.Common.{refl, Commit, look_fits, look_vertices}
 use Rattle.dg_game.proofs.RehearsalLaws.{aimed}
 use Rattle.dg_game.proofs.schedule.Rehearsal.commit.Goals as goal
 
-pub enter_stale_as_step-requires-clause-playing : goal.enter_stale_as_step-requires-clause-playing
-enter_stale_as_step-requires-clause-playing c =
+pub enter_stale_in_rehearsal-requires-clause-playing : goal.enter_stale_in_rehearsal-requires-clause-playing
+enter_stale_in_rehearsal-requires-clause-playing c =
     let (o, H, steps, playing) = c.requires.playing in
     (o, H, steps, playing, c.in-Some.ensures o H steps playing)
 
 pub returns-then-look-gifts-clause-plays : goal.returns-then-look-gifts-clause-plays
 returns-then-look-gifts-clause-plays c = λ o H steps playing there.
     let keeps = c.in-Some.ensures o H steps playing in
-    c.enter_stale_as_step.ensures o H steps Commit playing keeps there tt tt (c.in-Some.look.number, keeps.0, refl)
+    c.enter_stale_in_rehearsal.ensures o H steps Commit playing keeps there tt tt (c.in-Some.look.number, keeps.0, refl)
 
 pub finding_of_verdict-finding-requires-clause-size : goal.finding_of_verdict-finding-requires-clause-size
 finding_of_verdict-finding-requires-clause-size c =
@@ -24,16 +24,17 @@ finding_of_verdict-finding-requires-clause-vertex c =
     let (kept, look) = c.in-Some.ensures o H steps playing in
     rw (look_vertices o H _ _ playing.leads look) c.q-q.ensures.vertex
 
-pub enter_finding_as_step-requires-clause-playing : goal.enter_finding_as_step-requires-clause-playing
-enter_finding_as_step-requires-clause-playing c =
+pub enter_finding_in_rehearsal-requires-clause-playing : goal.enter_finding_in_rehearsal-requires-clause-playing
+enter_finding_in_rehearsal-requires-clause-playing c =
     let (o, H, steps, playing) = c.requires.playing in
     (o, H, steps, aimed o H steps c.args.self.now _ refl refl refl playing, c.in-Some.ensures o H steps playing)
 
-pub enter_finding_as_step-requires-clause-found : goal.enter_finding_as_step-requires-clause-found
-enter_finding_as_step-requires-clause-found c = rw c.q-q.ensures.q at c.finding_of_verdict-finding.ensures.found
+pub enter_finding_in_rehearsal-requires-clause-found : goal.enter_finding_in_rehearsal-requires-clause-found
+enter_finding_in_rehearsal-requires-clause-found c = rw c.q-q.ensures.q at c.finding_of_verdict-finding.ensures.found
 
 pub returns-clause-plays : goal.returns-clause-plays
 returns-clause-plays c = λ o H steps playing there.
     let keeps = c.in-Some.ensures o H steps playing in
-    c.enter_finding_as_step.ensures o H steps Commit (aimed o H steps c.args.self.now _ refl refl refl playing) keeps there tt tt
+    c.enter_finding_in_rehearsal.ensures o H steps Commit (aimed o H steps c.args.self.now _ refl refl refl playing) keeps there
+    tt tt
     (c.in-Some.look.number, keeps.0, c.finding_of_verdict-finding.ensures.asks c.in-Some.look.number)

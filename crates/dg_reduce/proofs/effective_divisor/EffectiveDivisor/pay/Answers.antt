@@ -4,9 +4,9 @@ use Rattle.dg_reduce.specs.Rests.{IsRestInReduction}
 use Rattle.dg_reduce.proofs.DebtSteps.{repaying-start, repaying-done, repaying-lost}
 use Rattle.dg_reduce.proofs.FormSteps.{rest_again, once_more, once_falls, once_limit}
 use Rattle.dg_reduce.proofs.effective_divisor.EffectiveDivisor.pay.Goals as goal
-use Rattle.dg_reduce.proofs.effective_divisor.EffectiveDivisor.pay.Goals.{After-fire, then-not-can_reduce_rest+in-Some-rest, else-not-can_reduce_rest}
+use Rattle.dg_reduce.proofs.effective_divisor.EffectiveDivisor.pay.Goals.{After-fire_rest, then-not-can_reduce_rest+in-Some-rest, else-not-can_reduce_rest}
 
-lends : (c : After-fire) → IsRestInReduction c.args.graph.now c.args.v (at c.paying.self) c.if-not-can_reduce_rest.rest
+lends : (c : After-fire_rest) → IsRestInReduction c.args.graph.now c.args.v (at c.paying.self) c.if-not-can_reduce_rest.rest
 lends c =
     elim c.if-not-can_reduce_rest.branch [
       | then-not-can_reduce_rest+in-Some-rest w ↦ rw w.rest-is w.in-Some-rest.ensures
@@ -33,8 +33,8 @@ returns-in_default-rest c =
     repaying-lost c.args.graph.now c.args.v c.args.self.now c.paying.self c.requires.vertex c.paying.invariant.repaying
     c.in_default-rest.ensures (omega (arith, ints))
 
-pub fire-requires-clause-range : goal.fire-requires-clause-range
-fire-requires-clause-range c w inside =
+pub fire_rest-requires-clause-range : goal.fire_rest-requires-clause-range
+fire_rest-requires-clause-range c w inside =
     let small : unsigned_abs (at c.paying.self w) ≤ 17 * 2 ^ 26 =
     once_limit c.args.graph.now c.args.v c.args.self.now c.paying.self c.size-size.ensures.graph c.requires.vertex
     c.paying.invariant.repaying c.requires.range w inside in
@@ -52,17 +52,17 @@ paying-smaller c =
     let rest = lends c in
     let (u, member) = rest.member in
     once_falls c.args.graph.now c.args.v
-    (in_set c.if-not-can_reduce_rest.rest.set) c.args.self.now c.paying.self c.fire.new.self u
-    c.size-size.ensures.graph c.requires.vertex c.paying.invariant.repaying rest.free member c.fire.ensures.fires
+    (in_set c.if-not-can_reduce_rest.rest.set) c.args.self.now c.paying.self c.fire_rest.new.self u
+    c.size-size.ensures.graph c.requires.vertex c.paying.invariant.repaying rest.free member c.fire_rest.ensures.fires
 
 pub paying-preserved : goal.paying-preserved
 paying-preserved c =
     let rest = lends c in
     record {
       repaying = once_more c.args.graph.now c.args.v
-          (in_set c.if-not-can_reduce_rest.rest.set) c.args.self.now c.paying.self c.fire.new.self
-          c.size-size.ensures.graph c.requires.vertex c.paying.invariant.repaying rest.free c.fire.ensures.size
-          c.fire.ensures.fires;
+          (in_set c.if-not-can_reduce_rest.rest.set) c.args.self.now c.paying.self c.fire_rest.new.self
+          c.size-size.ensures.graph c.requires.vertex c.paying.invariant.repaying rest.free c.fire_rest.ensures.size
+          c.fire_rest.ensures.fires;
       left = (at c.paying.self, rest);
     }
 

@@ -1,6 +1,6 @@
 use Rattle.dg_sweep.proofs.Common.{rules, [], sym, append-nil}
 use Rattle.dg_sweep.proofs.Pieces.{leads_none, puts_piece, puts_all}
-use Rattle.dg_sweep.proofs.workers.put_answers.Goals as goal
+use Rattle.dg_sweep.proofs.workers.put_swept_answers.Goals as goal
 
 pub loop-place-init : goal.loop-place-init
 loop-place-init g c = ([], leads_none _, sym (append-nil c.args.text.now.items))

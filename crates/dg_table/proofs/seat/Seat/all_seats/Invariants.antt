@@ -1,5 +1,5 @@
 use Rattle.dg_table.proofs.Common.{◌≡◌, ◌+◌, ◌≤◌, ℕ, [], length, slice_get, Some, vec_capacity, SeatView}
-use Rattle.dg_table.proofs.seat.Seat.all.Given as goal
+use Rattle.dg_table.proofs.seat.Seat.all_seats.Given as goal
 
 abbrev pub invariant-loop-i : goal.invariant-loop-i
 invariant-loop-i g l = record {

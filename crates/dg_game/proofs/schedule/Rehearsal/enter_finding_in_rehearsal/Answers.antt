@@ -1,6 +1,6 @@
 use Rattle.dg_game.proofs.Common.{None, refl, ap, set, right_in}
 use Rattle.dg_game.proofs.RehearsalLaws.{entered}
-use Rattle.dg_game.proofs.schedule.Rehearsal.enter_finding_as_step.Goals as goal
+use Rattle.dg_game.proofs.schedule.Rehearsal.enter_finding_in_rehearsal.Goals as goal
 
 pub reply_to_finding-requires-clause-look : goal.reply_to_finding-requires-clause-look
 reply_to_finding-requires-clause-look c =

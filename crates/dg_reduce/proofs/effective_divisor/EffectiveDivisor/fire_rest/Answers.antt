@@ -1,8 +1,8 @@
 use Rattle.dg_reduce.proofs.Common.{◌≡◌, ℕ, ◌<◌, ◌≤◌, arith, ◌∙◌, ⊎_elim, slice_index_or, pos, cases_lt, ints, gain, indicator, at, IsWide}
 use Rattle.dg_graph.specs.Sets.{in_set}
 use Rattle.dg_reduce.proofs.FormSteps.{gain_past}
-use Rattle.dg_reduce.proofs.effective_divisor.EffectiveDivisor.fire.Goals as goal
-use Rattle.dg_reduce.proofs.effective_divisor.EffectiveDivisor.fire.Goals.{After-loop-v}
+use Rattle.dg_reduce.proofs.effective_divisor.EffectiveDivisor.fire_rest.Goals as goal
+use Rattle.dg_reduce.proofs.effective_divisor.EffectiveDivisor.fire_rest.Goals.{After-loop-v}
 
 past : (c : After-loop-v) (v : ℕ) → c.args.graph.now.size ≤ v → slice_index_or c.loop-v.amounts v (pos 0) ≡ pos 0
 past c v outside =

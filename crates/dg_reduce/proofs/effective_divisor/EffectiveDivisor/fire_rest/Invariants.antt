@@ -1,6 +1,6 @@
 use Rattle.dg_reduce.proofs.Common.{◌≡◌, ℕ, ◌<◌, ◌≤◌, length, slice_index_or, pos, fired, indicator, at}
 use Rattle.dg_graph.specs.Sets.{in_set}
-use Rattle.dg_reduce.proofs.effective_divisor.EffectiveDivisor.fire.Given as goal
+use Rattle.dg_reduce.proofs.effective_divisor.EffectiveDivisor.fire_rest.Given as goal
 
 abbrev pub invariant-loop-v : goal.invariant-loop-v
 invariant-loop-v l = record {

@@ -1,6 +1,6 @@
 -- The text has the answers to the pieces so far.
 use Rattle.dg_sweep.proofs.Common.{◌≡◌, ◌++◌, ℕ, List, flat_map, take, LeadsSweptPiece}
-use Rattle.dg_sweep.proofs.workers.put_answers.Given as goal
+use Rattle.dg_sweep.proofs.workers.put_swept_answers.Given as goal
 
 abbrev pub invariant-loop-place : goal.invariant-loop-place
 invariant-loop-place g l =

@@ -1,6 +1,6 @@
 use Rattle.dg_game.proofs.Common.{None, refl, ap, set, right_in}
 use Rattle.dg_game.proofs.RehearsalLaws.{entered}
-use Rattle.dg_game.proofs.schedule.Rehearsal.enter_stale_as_step.Goals as goal
+use Rattle.dg_game.proofs.schedule.Rehearsal.enter_stale_in_rehearsal.Goals as goal
 
 pub follow_entry-requires-clause-right : goal.follow_entry-requires-clause-right
 follow_entry-requires-clause-right c =

@@ -1,7 +1,7 @@
 -- A seat has one digit, or two of which the first is not 0.
 use Rattle.dg_lines.proofs.Common.{inl, inr, arith}
 use Rattle.dg_lines.proofs.SeatDigits.{one_digit, two_digits, seat_one, seat_two, seat_length, told_weaker}
-use Rattle.dg_lines.proofs.number.seat.Goals as goal
+use Rattle.dg_lines.proofs.number.seat_numeral.Goals as goal
 
 pub returns-then-text-eq48 : goal.returns-then-text-eq48
 returns-then-text-eq48 c n first last e =

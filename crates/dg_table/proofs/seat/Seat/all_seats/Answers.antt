@@ -1,5 +1,5 @@
 use Rattle.dg_table.proofs.Common.{◌≡◌, ◌+◌, [], ◌∷◌, ◌++◌, length, arith, ap, ◌∙◌, inl, inr, length_push, more_holds}
-use Rattle.dg_table.proofs.seat.Seat.all.Goals as goal
+use Rattle.dg_table.proofs.seat.Seat.all_seats.Goals as goal
 
 pub loop-i-preserved : goal.loop-i-preserved
 loop-i-preserved g c =

@@ -1,6 +1,6 @@
 use Rattle.dg_session.proofs.Common.{arith}
 use Rattle.dg_session.proofs.Seated.{seat_past}
-use Rattle.dg_session.proofs.line_format.seat_of_line.Goals as goal
+use Rattle.dg_session.proofs.line_format.speaker_of_line.Goals as goal
 
 pub returns-else-seat-count-clause-none : goal.returns-else-seat-count-clause-none
 returns-else-seat-count-clause-none c same =

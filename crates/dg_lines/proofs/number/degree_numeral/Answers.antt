@@ -1,7 +1,7 @@
 -- A number that does not fit is not that of a degree.
 use Rattle.dg_lines.proofs.Common.{rules, FitsSigned, w64, to_z-of_z}
 use Rattle.dg_lines.proofs.Integers.{other_degree}
-use Rattle.dg_lines.proofs.number.degree.Goals as goal
+use Rattle.dg_lines.proofs.number.degree_numeral.Goals as goal
 
 pub returns-in-Err : goal.returns-in-Err
 returns-in-Err c =

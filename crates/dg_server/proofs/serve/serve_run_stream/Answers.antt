@@ -1,6 +1,6 @@
 use Rattle.dg_server.proofs.Common.{rules, sym, subst, AreFreshSeats, IsClosed, IsCloseRefused, seats_back}
 use Rattle.dg_server.proofs.Serving.{served, unclosed}
-use Rattle.dg_server.proofs.serve.serve_stream_on.Goals as goal
+use Rattle.dg_server.proofs.serve.serve_run_stream.Goals as goal
 
 pub returns-in-Ok-ended-clause-done : goal.returns-in-Ok-ended-clause-done
 returns-in-Ok-ended-clause-done g c = (

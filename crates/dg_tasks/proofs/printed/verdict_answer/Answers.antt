@@ -1,5 +1,5 @@
 use Rattle.dg_tasks.proofs.Common.{◌≡◌, ◌∙◌, ◌<◌, length, sym, ap, arith, judged-named}
-use Rattle.dg_tasks.proofs.printed.judgement.Goals as goal
+use Rattle.dg_tasks.proofs.printed.verdict_answer.Goals as goal
 
 pub push_judgement-requires : goal.push_judgement-requires
 push_judgement-requires c =

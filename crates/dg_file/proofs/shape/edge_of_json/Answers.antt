@@ -1,8 +1,8 @@
 -- The array has three items, and each is what an edge wants there.
 use Rattle.dg_file.proofs.Common.{◌≡◌, sym, ◌∙◌, arith, as_str, view, edge_in_json, edge_from_json, edge_count_in_json}
 use Rattle.dg_file.proofs.Listing.{edge-three, edge-others}
-use Rattle.dg_file.proofs.shape.edge_of.Goals as goal
-use Rattle.dg_file.proofs.shape.edge_of.Goals.{After-index-3}
+use Rattle.dg_file.proofs.shape.edge_of_json.Goals as goal
+use Rattle.dg_file.proofs.shape.edge_of_json.Goals.{After-index-3}
 
 parts : (c : After-index-3)
     → edge_in_json (view c.args.value.now)

@@ -1,7 +1,7 @@
 -- A number past the limit is no other number within it.
 use Rattle.dg_lines.proofs.Common.{rules, arith, FitsSigned, w64, to_z-of_z}
 use Rattle.dg_lines.proofs.Integers.{large_entry}
-use Rattle.dg_lines.proofs.number.entry.Goals as goal
+use Rattle.dg_lines.proofs.number.entry_numeral.Goals as goal
 
 pub returns-else-unsigned_abs-le-MAX_ENTRY : goal.returns-else-unsigned_abs-le-MAX_ENTRY
 returns-else-unsigned_abs-le-MAX_ENTRY c =
