@@ -27,11 +27,16 @@ class Network:
         threading.Thread(target=self.run, daemon=True).start()
 
     def run(self):
-        with contextlib.suppress(OSError):
-            while True:
-                ends = self.listener.accept()[0], socket.create_connection(("127.0.0.1", self.to))
-                for one, other in ends, ends[::-1]:
-                    threading.Thread(target=self.carry, args=[self.age, one, other], daemon=True).start()
+        while True:
+            page = self.listener.accept()[0]
+            try:
+                server = socket.create_connection(("127.0.0.1", self.to))
+            except ConnectionRefusedError:
+                # The server is down, or not up again.
+                page.close()
+                continue
+            for one, other in (page, server), (server, page):
+                threading.Thread(target=self.carry, args=[self.age, one, other], daemon=True).start()
 
     def carry(self, age, one, other):
         with contextlib.suppress(OSError):
