@@ -95,7 +95,7 @@ def first_table(ann, others, desk, wall, networks):
     """The four houses: the first minute teaches, and what is played while connections die is played and drawn."""
     equal(ann.text("#note"), "Click cyd: it sends a dollar along each of its roads.", "the first minute")
     for word in "edges", "roads":
-        desk.click("#may-houses")
+        desk.value("$('#may-houses').click()")
         ann.until(f"$('#note').textContent.endsWith(' {word}.') && $('#legend').textContent.includes(' {word[:-1]} was')")
         desk.until(f"state.may.houses === {str(word == 'roads').lower()}")
     for name, size in SIZES.items():
