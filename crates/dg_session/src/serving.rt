@@ -5,8 +5,9 @@ ghost use Rattle.dg_table.specs.Histories.{SeatHasPrefix};
 ghost use Rattle.dg_session.specs.Ends.{IsOver, IsSession};
 ghost use Rattle.dg_session.specs.Setup.{session_setup};
 ghost use Rattle.dg_session.specs.Streams.{passage};
+ghost use Rattle.dg_session.specs.declared.ends.TheConstants.{READ_SIZE};
 ghost use Rattle.dg_session.specs.declared.line_format.LineFormat.TheVariants.{OneSeat};
-ghost use Rattle.dg_session.specs.SoFar.{heard, IsWrittenInSession};
+ghost use Rattle.dg_session.specs.SoFar.{IsWrittenInSession, beginning_of_session, heard, so_far};
 
 use crate::answering::{AnswerBuffer, Shared};
 use crate::ends::{READ_SIZE, SessionEnd};
@@ -188,18 +189,40 @@ fn serve_lines<N: Name, R: Threads + Wait, I: Read, O: Write>(
     else {
         return Err(SessionEnd::Memory);
     };
+    serve_reads(shared, &mut progress, seats, reader, writer, &mut buffer)
+}
+
+/// Answers the lines of a session that has read nothing, read by read.
+fn serve_reads<N: Name, R: Threads + Wait, I: Read, O: Write>(
+    shared: &Shared<N, R>,
+    progress: &mut SessionProgress<N>,
+    seats: &mut [Seat<N>],
+    reader: &mut Input<I>,
+    writer: &mut Output<O>,
+    buffer: &mut Vec<u8>,
+) -> Result<u32, SessionEnd>
+    requires some { 1 ≤ length seats.old }
+    requires begins { so_far progress.old seats.old ≡ beginning_of_session seats.old }
+    requires heard { heard progress.old.said.text ≡ Some [] }
+    requires buffer { length buffer.old.items ≡ READ_SIZE }
+    ensures session { IsOver (session_setup shared.now.how N.table shared.now.names.now shared.now.workers)
+        (passage reader.old.remaining reader.new.remaining)
+        (passage writer.old.contents writer.new.contents) seats.old seats.new result }
+    ensures read { result ≡ Err SessionEnd.Read → reader.new.has_failed ≡ true }
+    ensures write { result ≡ Err SessionEnd.Write → writer.new.has_failed ≡ true }
+{
     'reads: loop {
-        let Some(size) = reader.read_some(&mut buffer) else {
+        let Some(size) = reader.read_some(buffer) else {
             return Err(SessionEnd::Read);
         };
         if size == 0 {
-            let taken = take_session_end(shared, &mut progress, seats);
-            match write_said(writer, &mut progress.said, taken) {
-                Ok(()) => return Ok(progress.count),
-                Err(end) => return Err(end),
-            }
+            let taken = take_session_end(shared, progress, seats);
+            return match write_said(writer, &mut progress.said, taken) {
+                Ok(()) => Ok(progress.count),
+                Err(end) => Err(end),
+            };
         }
-        let taken = take_session_bytes(shared, &mut progress, seats, &buffer[..size]);
+        let taken = take_session_bytes(shared, progress, seats, &buffer[..size]);
         match write_said(writer, &mut progress.said, taken) {
             Ok(()) => {}
             Err(end) => return Err(end),
