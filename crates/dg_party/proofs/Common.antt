@@ -22,9 +22,9 @@ pub use Rattle.dg_table.specs.Seats.{SeatView, entries_of_seat}
 pub use Rattle.dg_table.specs.declared.audit.Audit.{Audit}
 pub use Rattle.dg_party.specs.Printed.{party_entries_text, party_seat_text, totals_text}
 pub use Rattle.std.proofs.Common.{List, Result, Some, [], ap, arith, codes, decimal, length, map, refl, rules, slice_get, subst, suc, sym, take, unwrap_or, zero, ℕ, ◌*◌, ◌++◌, ◌+◌, ◌<◌, ◌∙◌, ◌∷◌, ◌≡◌, ◌≤◌}
-pub use Rattle.std.proofs.lemmas.List.{length-map}
+pub use Rattle.std.proofs.lemmas.List.{length-map, nil_from_length}
 pub use Rattle.std.proofs.Math.Seq.{take-append_seam}
-pub use Rattle.std.proofs.lemmas.Result.{IfErr-weaker, IfOk-weaker}
+pub use Rattle.std.proofs.lemmas.Result.{IfErr-weaker, on_ok_weaker}
 pub use Rattle.std.proofs.lemmas.Option.{none-some}
 pub use Rattle.std.specs.Global.{Vec}
-pub use Rattle.std.specs.List.{slice_index}
+pub use Rattle.std.specs.List.{slice_index, slice_index_or, slice_set}

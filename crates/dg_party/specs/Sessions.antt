@@ -10,9 +10,9 @@
 --                                                    the script at its place
 --   HaveBegun .. k scripts xs ys                  == the first k seats had such sessions, and the others are
 --                                                    as they were
---   RefusesPartySessions .. scripts xs ys fault   == memory was refused after all seats had such sessions; or
---                                                    a thread was not started, and some first seats had them,
---                                                    not all, and the others are as they were
+--   HaveSomeBegun .. scripts xs ys                == some first seats had them, not all
+--   RefusesPartySessions .. scripts xs ys fault   == memory was refused, and the seats are as they were; or a
+--                                                    thread was not started, and some first seats had sessions
 use Rattle.std.specs.Prelude.{◌≡◌, ◌≢◌, ℕ, zero, suc, ◌<◌, List, [], ◌∷◌, length, None, Some, ⊤, Result, Err, map}
 use Rattle.std.specs.Global.{Vec}
 use Rattle.dg_log.specs.Tables.{TableData}
@@ -53,9 +53,10 @@ HaveBegun table names (suc k) (script ∷ scripts) (x ∷ xs) (y ∷ ys) =
     × HaveBegun table names k scripts xs ys
 HaveBegun table names k scripts xs ys = ⊥
 
+abbrev pub HaveSomeBegun : TableData → List (List ℕ) → List (List ℕ) → List SeatView → List SeatView → Type 0
+HaveSomeBegun table names scripts xs ys = (k : ℕ) × (k < length scripts) × HaveBegun table names k scripts xs ys
+
 abbrev pub RefusesPartySessions : TableData → List (List ℕ) → List (List ℕ) → List SeatView
     → List SeatView → Shortage → Type 0
-RefusesPartySessions table names scripts xs ys OutOfMemory =
-    (ends : List (Result ℕ SessionEnd)) × AreSessions table names scripts xs ys ends
-RefusesPartySessions table names scripts xs ys Spawn =
-    (k : ℕ) × (k < length scripts) × HaveBegun table names k scripts xs ys
+RefusesPartySessions table names scripts xs ys OutOfMemory = ys ≡ xs
+RefusesPartySessions table names scripts xs ys Spawn = HaveSomeBegun table names scripts xs ys

@@ -1,6 +1,6 @@
 //! Sessions side by side, each with a seat and a thread of its own.
-ghost use Rattle.std.specs.Prelude.{◌≡◌, ℕ, ◌≤◌, ◌∷◌, length, IfOk, IfErr};
-ghost use Rattle.dg_party.specs.Sessions.{IsPartySessionOver, AreSessions, RefusesPartySessions, contents};
+ghost use Rattle.std.specs.Prelude.{◌≡◌, ◌≤◌, length, IfErr, IfOk, OnOk};
+ghost use Rattle.dg_party.specs.Sessions.{AreSessions, HaveSomeBegun, IsPartySessionOver, RefusesPartySessions, contents};
 
 use dg_log::Name;
 use dg_rank::Gate;
@@ -27,8 +27,8 @@ struct PartyContext<'a, N: Name, R, G> {
 /// the seat's number, and then answers the lines of its script. The one session of one script is held by the thread that calls.
 /// What they came to is told in the order of the scripts. The conditions are as many scripts as seats, and one name per vertex.
 ///
-/// Refused with `OutOfMemory`, after all sessions, and with `Spawn` if a thread could not be started, which only two scripts or
-/// more ask for: then some first seats had their sessions, not all, and the others know what they knew.
+/// Refused with `OutOfMemory`, before the first session, and with `Spawn` if a thread could not be started, which only two
+/// scripts or more ask for: then some first seats had their sessions, not all, and the others know what they knew.
 pub fn sessions<N: Name + Send + Sync, R: Threads + Wait + Sync, G: Gate>(
     rt: &R,
     alloc: Global,
@@ -55,10 +55,16 @@ pub fn sessions<N: Name + Send + Sync, R: Threads + Wait + Sync, G: Gate>(
         names,
         gate,
     };
+    let Ok(mut ends) = vec![in alloc; Ok(0); scripts.len()] else {
+        return Err(Shortage::OutOfMemory);
+    };
     if scripts.len() == 1 {
-        play_one_session(&context, scripts, seats)
-    } else {
-        play_in_parallel(&context, scripts, seats)
+        play_one_session(&context, scripts, seats, &mut ends);
+        return Ok(ends);
+    }
+    match play_in_parallel(&context, scripts, seats, &mut ends) {
+        Ok(()) => Ok(ends),
+        Err(shortage) => Err(shortage),
     }
 }
 
@@ -67,65 +73,57 @@ fn play_one_session<'a, N: Name, R: Threads + Wait, G: Gate>(
     context: &PartyContext<'a, N, R, G>,
     scripts: &[Vec<u8>],
     seats: &mut [Seat<N>],
-) -> Result<Vec<Result<u32, SessionEnd>>, Shortage>
+    ends: &mut [Result<u32, SessionEnd>],
+)
     requires one { length scripts.now ≡ 1 }
-    requires scripts { length scripts.now ≡ length seats.old }
-    ensures ok { IfOk result
-        (λ v. AreSessions N.table context.now.names.now (contents scripts.now)
-        seats.old seats.new v.items) }
-    ensures fault { IfErr result
-        (RefusesPartySessions N.table context.now.names.now (contents scripts.now)
-        seats.old seats.new) }
-    ensures memory { IfErr result (λ shortage. shortage ≡ Shortage.OutOfMemory) }
+    requires seats { length seats.old ≡ 1 }
+    requires ends { length ends.old ≡ 1 }
+    ensures { AreSessions N.table context.now.names.now (contents scripts.now) seats.old seats.new ends.new }
 {
-    let Some((seat, _rest)) = seats.split_first_mut() else {
-        unreachable!()
-    };
-    let Some((script, _)) = scripts.split_first() else {
-        unreachable!()
-    };
-    let end = run_script(context, script.as_slice(), seat);
-    with_first_session(end, Vec::new(context.alloc))
+    let script = scripts[0].as_slice();
+    ends[0] = run_script(context, script, &mut seats[0]);
 }
 
 // A thread for the first seat, and beside it this call again for the others.
-#[tactic(auto, unfolding(crate::specs::Sessions::AreSessions))]
 fn play_in_parallel<'a, N: Name + Send + Sync, R: Threads + Wait + Sync, G: Gate>(
     context: &PartyContext<'a, N, R, G>,
     scripts: &[Vec<u8>],
     seats: &mut [Seat<N>],
-) -> Result<Vec<Result<u32, SessionEnd>>, Shortage>
+    ends: &mut [Result<u32, SessionEnd>],
+) -> Result<(), Shortage>
     requires scripts { length scripts.now ≡ length seats.old }
-    ensures ok { IfOk result
-        (λ v. AreSessions N.table context.now.names.now (contents scripts.now)
-        seats.old seats.new v.items) }
-    ensures fault { IfErr result
-        (RefusesPartySessions N.table context.now.names.now (contents scripts.now)
-        seats.old seats.new) }
+    requires ends { length scripts.now ≡ length ends.old }
+    ensures ok { OnOk result (AreSessions N.table context.now.names.now (contents scripts.now)
+        seats.old seats.new ends.new) }
+    ensures fault { IfErr result (λ shortage. (shortage ≡ Shortage.Spawn)
+        × HaveSomeBegun N.table context.now.names.now (contents scripts.now) seats.old seats.new) }
 {
     let Some((seat, rest)) = seats.split_first_mut() else {
-        return Ok(Vec::new(context.alloc));
+        return Ok(());
     };
     let Some((script, left)) = scripts.split_first() else {
-        return Ok(Vec::new(context.alloc));
+        unreachable!()
     };
-    let bytes = script.as_slice();
+    let Some((end, later)) = ends.split_first_mut() else {
+        unreachable!()
+    };
+    let script = script.as_slice();
     let mut first = || -> Result<u32, SessionEnd>
         ensures { IsPartySessionOver N.table context.entry.now.names.now
-            bytes.entry.now seat.entry.now seat.exit.now result }
-    { run_script(context, bytes, seat) };
-    let mut others = || -> Result<Vec<Result<u32, SessionEnd>>, Shortage>
-        requires { length left.now ≡ length rest.now }
-        ensures { IfOk result
-            (λ v. AreSessions N.table context.entry.now.names.now
-            (contents left.entry.now) rest.entry.now rest.exit.now v.items)
-            × IfErr result
-            (RefusesPartySessions N.table context.entry.now.names.now
-            (contents left.entry.now) rest.entry.now rest.exit.now) }
-    { play_in_parallel(context, left, rest) };
+            script.entry.now seat.entry.now seat.exit.now result }
+    { run_script(context, script, seat) };
+    let mut others = || -> Result<(), Shortage>
+        requires { (length left.now ≡ length rest.now) × (length left.now ≡ length later.now) }
+        ensures { OnOk result (AreSessions N.table context.entry.now.names.now
+            (contents left.entry.now) rest.entry.now rest.exit.now later.exit.now)
+            × IfErr result (λ shortage. (shortage ≡ Shortage.Spawn)
+            × HaveSomeBegun N.table context.entry.now.names.now (contents left.entry.now) rest.entry.now rest.exit.now) }
+    { play_in_parallel(context, left, rest, later) };
     match in_parallel(context.rt, &mut first, &mut others) {
-        Ok((end, Ok(ends))) => with_first_session(end, ends),
-        Ok((_, Err(shortage))) => Err(shortage),
+        Ok((ended, told)) => {
+            *end = ended;
+            told
+        }
         Err(shortage) => Err(shortage),
     }
 }
@@ -172,19 +170,5 @@ fn ask_ahead_for_sessions(alloc: Global, bytes: usize) {
         let Ok(()) = pieces.push(piece) else {
             return;
         };
-    }
-}
-
-// The ends, and one before them.
-fn with_first_session(
-    first: Result<u32, SessionEnd>,
-    mut ends: Vec<Result<u32, SessionEnd>>,
-) -> Result<Vec<Result<u32, SessionEnd>>, Shortage>
-    ensures all { IfOk result (λ all. all.items ≡ first ∷ ends.items) }
-    ensures memory { IfErr result (λ shortage. shortage ≡ Shortage.OutOfMemory) }
-{
-    match ends.insert(0, first) {
-        Ok(()) => Ok(ends),
-        Err(_) => Err(Shortage::OutOfMemory),
     }
 }

@@ -1,27 +1,26 @@
-use Rattle.dg_party.proofs.Common.{rules, IfErr-weaker, IfOk-weaker}
-use Rattle.dg_party.proofs.Begun.{none_begun, one_more, more_begun, all_begun}
+use Rattle.dg_party.proofs.Common.{rules, IfErr-weaker, on_ok_weaker}
+use Rattle.dg_party.proofs.Begun.{nobody_plays, none_begun, one_more, more_begun}
 use Rattle.dg_party.proofs.threads.+fn-play_in_parallel-others+play_in_parallel.Goals as goal
 
-pub returns-in-Ok-default-Ok-clause-ok : goal.returns-in-Ok-default-Ok-clause-ok
-returns-in-Ok-default-Ok-clause-ok g n c =
-    IfOk-weaker c.with_first_session.result _ _ (λ all is.
-    one_more _ _ _ _ _ _ _ _ _ _ c.in-Ok-default-Ok.end c.in-Ok-default-Ok.ends.items _
-    c.in-Some-split_first.ensures.cases.0 c.in-Some.ensures.cases.0 is (search rules) (search rules))
-    c.with_first_session.ensures.all
+pub returns-in_default-clause-ok : goal.returns-in_default-clause-ok
+returns-in_default-clause-ok g n c =
+    nobody_plays _ _ _ _ _ c.requires.scripts c.requires.ends c.in_default.ensures.cases
 
-pub returns-in-Ok-default-Ok-clause-fault : goal.returns-in-Ok-default-Ok-clause-fault
-returns-in-Ok-default-Ok-clause-fault g n c =
-    IfErr-weaker c.with_first_session.result _ _ (λ lack is.
-    all_begun _ _ _ _ _ _ _ _ _ _ c.in-Ok-default-Ok.end c.in-Ok-default-Ok.ends.items _
-    c.in-Some-split_first.ensures.cases.0 c.in-Some.ensures.cases.0 (search rules) (search rules) is)
-    c.with_first_session.ensures.memory
+pub returns-in-Ok-clause-ok : goal.returns-in-Ok-clause-ok
+returns-in-Ok-clause-ok g n c =
+    on_ok_weaker c.in-Ok.told (λ are.
+    one_more _ _ _ _ _ _ _ _ _ _ c.in-Ok.ended _ c.in-Some-split_first.ensures.cases.0
+    c.in-Some.ensures.cases.0 (search rules) are) (search rules)
 
-pub returns-in-Ok-default-Err-clause-fault : goal.returns-in-Ok-default-Err-clause-fault
-returns-in-Ok-default-Err-clause-fault g n c =
-    more_begun _ _ _ _ _ _ _ _ _ _ c.in-Ok-default-Err.field-0-0 _
-    c.in-Some-split_first.ensures.cases.0 c.in-Some.ensures.cases.0 (search rules) (search rules)
+pub returns-in-Ok-clause-fault : goal.returns-in-Ok-clause-fault
+returns-in-Ok-clause-fault g n c =
+    IfErr-weaker c.in-Ok.told _ _ (λ lack begun.
+    more_begun _ _ _ _ _ _ _ _ _ _ c.in-Ok.ended lack c.in-Some-split_first.ensures.cases.0 c.in-Some.ensures.cases.0
+    (search rules) begun) (search rules)
 
 pub returns-in-Err-clause-fault : goal.returns-in-Err-clause-fault
-returns-in-Err-clause-fault g n c =
-    none_begun _ _ _ _ _ _ _ _ _ _ c.in-Err.shortage
-    c.in-Some-split_first.ensures.cases.0 c.in-Some.ensures.cases.0 (search rules) (search rules) c.in-Err.ensures.0
+returns-in-Err-clause-fault g n c = (
+  c.in-Err.ensures.0,
+  none_begun _ _ _ _ _ _ _ _ _ _ c.in-Some-split_first.ensures.cases.0 c.in-Some.ensures.cases.0
+      (search rules) (search rules),
+)
