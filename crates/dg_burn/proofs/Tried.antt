@@ -26,7 +26,8 @@ use Rattle.dg_theory.proofs.Debts.{out-le-valence}
 use Rattle.dg_theory.proofs.SetFiring.{fired-inside, inside-fired, outside-fired}
 use Rattle.dg_theory.proofs.Special.{edge_into, fires_hangs, hangs_not_reduced, total_some}
 use Rattle.dg_theory.proofs.TotalLaws.{total_below-le}
-use Rattle.dg_burn.specs.Special.{AllHang, Hangs, IsGreedyDeterminingSet, IsGrowingSpecial, IsSpecialFrom, only, others, fire_wall}
+use Rattle.dg_burn.specs.Special.{IsGrowingSpecial, fire_wall}
+use Rattle.dg_theory.specs.GreedyDetermining.{AllHang, Hangs, IsGreedyDeterminingSet, IsSpecialFrom, only, others}
 use Rattle.dg_burn.proofs.Told.{none_reduced}
 
 joined_by : (g : Multigraph) (S : ℕ → Bool) (v w : ℕ) → w < g.size → S w ≡ true → 0 < edges_between g v w →

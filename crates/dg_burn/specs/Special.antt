@@ -1,27 +1,11 @@
--- The search for the special sets that a set of vertices does not meet.
---   Hangs g S                    == something hangs loosely on the set S
---   fire_wall S                  == 64 dollars at each vertex of S, more than it has edges, and none
---                                   elsewhere
---   IsGrowingSpecial g S q E     == S is a connected set that has q, and none of E
---   AllHang g S E                == something hangs on each connected set that has all of S and none of E
---   IsSpecialFrom g q S E        == some connected set that has all of S and none of E is special: the
---                                   dollars beside it are reduced for q
---   only v                       == the set of v alone
---   others A U v                 == what is asked when v's turn comes: those of A before v, and those of U
---                                   after it
---   IsGreedyDeterminingSet g U A == A is what is left of U, if each vertex, from the first on, is left out
---                                   exactly if something hangs on each connected set that has it and none of
---                                   the others
---   GreedyDeterminingSetIsOne    == there is only one such set
-use Rattle.std.specs.Prelude.{if◌then◌else◌, ◌≡◌, ℕ, ◌<◌, ◌==◌, Bool, true, false, nat_lt, pos}
-use Rattle.dg_theory.specs.Multigraph.{Multigraph, IsMultigraph}
+-- What serves the search for special sets alone.
+--   fire_wall S            == 64 dollars at each vertex of S, more than it has edges, and none elsewhere
+--   IsGrowingSpecial g S q E == S is a connected set that has q, and none of E
+use Rattle.std.specs.Prelude.{if◌then◌else◌, ◌≡◌, ℕ, Bool, true, pos}
+use Rattle.dg_theory.specs.Multigraph.{Multigraph}
 use Rattle.dg_theory.specs.Firing.{Amounts}
-use Rattle.dg_theory.specs.Reduced.{IsReduced}
-use Rattle.dg_graph.specs.Sets.{AreDisjoint, IsSubset}
-use Rattle.dg_theory.specs.Determining.{IsConnectedSet, HangsLoosely, beside}
-
-abbrev pub Hangs : Multigraph → (ℕ → Bool) → Type 0
-Hangs g S = (X : ℕ → Bool) × HangsLoosely g S X
+use Rattle.dg_theory.specs.Sets.{AreDisjoint}
+use Rattle.dg_theory.specs.Determining.{IsConnectedSet}
 
 abbrev pub fire_wall : (ℕ → Bool) → Amounts
 fire_wall S v = if S v then pos 64 else pos 0
@@ -30,30 +14,3 @@ pub record IsGrowingSpecial (g : Multigraph) (S : ℕ → Bool) (q : ℕ) (E : �
   pub connected : IsConnectedSet g S
   pub start : S q ≡ true
   pub off : AreDisjoint S E
-
-abbrev pub AllHang : Multigraph → (ℕ → Bool) → (ℕ → Bool) → Type 0
-AllHang g S E =
-    (T : ℕ → Bool) → IsConnectedSet g T → IsSubset S T → AreDisjoint T E → Hangs g T
-
-pub record IsSpecialFrom (g : Multigraph) (q : ℕ) (S E : ℕ → Bool) : Type 0 where
-  pub set : ℕ → Bool
-  pub connected : IsConnectedSet g set
-  pub part : IsSubset S set
-  pub off : AreDisjoint set E
-  pub reduced : IsReduced g q (beside g set)
-
-abbrev pub only : ℕ → ℕ → Bool
-only v w = w == v
-
-abbrev pub others : (ℕ → Bool) → (ℕ → Bool) → ℕ → ℕ → Bool
-others A U v w = if nat_lt w v then A w else (if w == v then false else U w)
-
-pub record IsGreedyDeterminingSet (g : Multigraph) (U A : ℕ → Bool) : Type 0 where
-  pub part : IsSubset A U
-  pub left_out : (v : ℕ) → U v ≡ true → A v ≡ false → AllHang g (only v) (others A U v)
-  pub kept : (v : ℕ) → A v ≡ true → IsSpecialFrom g v (only v) (others A U v)
-
-abbrev pub GreedyDeterminingSetIsOne : Type 0
-GreedyDeterminingSetIsOne = (g : Multigraph) (U A B : ℕ → Bool) → IsMultigraph g → IsGreedyDeterminingSet g U A →
-    IsGreedyDeterminingSet g U B →
-    (v : ℕ) → v < g.size → A v ≡ B v

@@ -3,9 +3,11 @@
 ghost use Rattle.std.specs.Prelude.{◌≡◌, ◌≢◌, ℕ, ◌<◌, true, MatchBool};
 ghost use Rattle.dg_theory.specs.Determining.{beside, Determines, HangsLoosely, IsConnectedSet, MeetsSpecialSets};
 ghost use Rattle.dg_theory.specs.Reduced.{IsReduced};
-ghost use Rattle.dg_graph.specs.Sets.{in_set, IsVertexSet};
+ghost use Rattle.dg_graph.specs.Sets.{in_set};
+ghost use Rattle.dg_theory.specs.Sets.{IsVertexSet};
 ghost use Rattle.dg_burn.specs.Fires.{dollars};
-ghost use Rattle.dg_burn.specs.Special.{IsGreedyDeterminingSet, fire_wall, IsGrowingSpecial, AllHang, IsSpecialFrom, GreedyDeterminingSetIsOne};
+ghost use Rattle.dg_burn.specs.Special.{fire_wall, IsGrowingSpecial};
+ghost use Rattle.dg_theory.specs.GreedyDetermining.{IsGreedyDeterminingSet, AllHang, IsSpecialFrom, GreedyDeterminingSetIsOne};
 
 use crate::burning::burn_counted;
 use dg_graph::{Graph, complement, contains, with_vertex, without_vertex};

@@ -7,7 +7,8 @@ pub use Rattle.dg_chips.specs.declared.divisor.ChipFault.{ChipFault}
 pub use Rattle.dg_chips.specs.declared.divisor.ChipFault.TheVariants.{Length, Range}
 pub use Rattle.dg_graph.proofs.Valences.{valence-few, valence-outside}
 pub use Rattle.dg_graph.specs.Graph.{IsGraph}
-pub use Rattle.dg_graph.specs.Sets.{IsVertexSet, in_set}
+pub use Rattle.dg_graph.specs.Sets.{in_set}
+pub use Rattle.dg_theory.specs.Sets.{IsVertexSet}
 pub use Rattle.dg_theory.proofs.Absolute.{abs-add, abs_within, within_abs}
 pub use Rattle.dg_theory.proofs.Debts.{into-le-valence}
 pub use Rattle.dg_theory.proofs.Multiples.{gain-all_inside, gain-all_outside}

@@ -7,7 +7,8 @@
 --                          size
 -- To fire the empty set would change nothing; on a table it is refused, since it is no move.
 use Rattle.std.specs.Prelude.{◌≡◌, ◌≢◌, ℕ, ◌<◌, ◌≤◌, true, pos, negsuc}
-use Rattle.dg_graph.specs.Sets.{in_set, IsVertexSet}
+use Rattle.dg_graph.specs.Sets.{in_set}
+use Rattle.dg_theory.specs.Sets.{IsVertexSet}
 use Rattle.dg_theory.specs.Firing.{Amounts, only_at, indicator}
 use Rattle.dg_chips.specs.Vector.{at}
 use Rattle.dg_chips.specs.declared.moves.Move.{Move}

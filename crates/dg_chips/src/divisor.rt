@@ -5,7 +5,8 @@ ghost use Rattle.std.specs.List.{slice_index_or};
 ghost use Rattle.std.specs.Int.RustNames.{unsigned_abs};
 ghost use Rattle.dg_theory.specs.Rank.{canonical};
 ghost use Rattle.dg_theory.specs.Firing.{degree, IsEffective, only_at, indicator, fired};
-ghost use Rattle.dg_graph.specs.Sets.{in_set, IsVertexSet};
+ghost use Rattle.dg_graph.specs.Sets.{in_set};
+ghost use Rattle.dg_theory.specs.Sets.{IsVertexSet};
 ghost use Rattle.dg_chips.specs.Vector.{at, HoldsNumbers, IsDivisorVector, IsOutOfRange};
 ghost use Rattle.dg_chips.specs.DivisorFaults.{IsFirstChipFault, IsFirstMinusFault};
 

@@ -6,7 +6,8 @@ ghost use Rattle.dg_theory.specs.Multigraph.{valence};
 ghost use Rattle.dg_theory.specs.Burning.{edges_into};
 ghost use Rattle.dg_theory.specs.Firing.{gain, indicator, multiple};
 ghost use Rattle.dg_graph.specs.declared.limits.TheConstants.{MAX_VERTICES, MAX_VALENCE};
-ghost use Rattle.dg_graph.specs.Sets.{in_set, IsVertexSet};
+ghost use Rattle.dg_graph.specs.Sets.{in_set};
+ghost use Rattle.dg_theory.specs.Sets.{IsVertexSet};
 
 use dg_graph::{Graph, contains};
 use std::simd::prelude::*;

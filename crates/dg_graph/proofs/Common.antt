@@ -4,7 +4,8 @@ pub use Rattle.dg_graph.specs.Graph.{IsGraph, HasGraphRows}
 pub use Rattle.dg_graph.specs.Items.{IsGraphItem, AreGraphItems, AreGraphItemsBefore, GraphItem, edges_of_graph_item}
 pub use Rattle.dg_graph.specs.Joins.{IsJoinable}
 pub use Rattle.dg_graph.specs.Search.{IsApart, IsInSetOrApart, IsJoinedInGraph, IsNextTo, is_in}
-pub use Rattle.dg_graph.specs.Sets.{IsSetWith, IsSetWithout, IsLeastInSet}
+pub use Rattle.dg_graph.specs.Sets.{IsLeastInSet}
+pub use Rattle.dg_theory.specs.Sets.{IsSetWith, IsSetWithout}
 pub use Rattle.dg_theory.proofs.Chains.{JoinedInMultigraph-append, JoinedInMultigraph-cong, JoinedInMultigraph-reverse, JoinedInMultigraph-stays}
 pub use Rattle.dg_theory.proofs.Debts.{into-le-valence, out-le-valence}
 pub use Rattle.dg_theory.proofs.JoinLaws.{edge_entry_more-row, joined_is_multigraph, size_stays, valence_grows}

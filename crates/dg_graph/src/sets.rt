@@ -2,7 +2,8 @@
 
 ghost use Rattle.std.specs.Prelude.{◌≡◌, ℕ, ◌<◌, ◌≤◌, ◌&&◌, not, nat_lt, true, false, MatchOption};
 ghost use Rattle.std.specs.Bool.{OnTrue, OnFalse};
-ghost use Rattle.dg_graph.specs.Sets.{in_set, IsVertexSet, IsSetWith, IsSetWithout, IsEmptySet, IsLeastInSet};
+ghost use Rattle.dg_graph.specs.Sets.{in_set, IsLeastInSet};
+ghost use Rattle.dg_theory.specs.Sets.{IsVertexSet, IsSetWith, IsSetWithout, IsEmptySet};
 
 use crate::limits::MAX_VERTICES;
 

@@ -28,7 +28,8 @@ use Rattle.std.specs.Int.RustNames.{unsigned_abs}
 use Rattle.std.specs.List.{IsDistinct}
 use Rattle.dg_chips.specs.Vector.{Vector, IsScriptVector, at}
 use Rattle.dg_chips.specs.declared.limits.TheConstants.{MAX_ENTRY}
-use Rattle.dg_graph.specs.Sets.{in_set, IsVertexSet}
+use Rattle.dg_graph.specs.Sets.{in_set}
+use Rattle.dg_theory.specs.Sets.{IsVertexSet}
 use Rattle.dg_tokens.specs.Names.{has, name_at}
 use Rattle.dg_lines.specs.Cuts.{before, after, items}
 

@@ -3,10 +3,10 @@ pub use Rattle.dg_chips.proofs.VectorLaws.{filled-set}
 pub use Rattle.dg_chips.specs.Vector.{Vector, at}
 pub use Rattle.dg_graph.proofs.SetLaws.{in_set-none}
 pub use Rattle.dg_graph.specs.Graph.{IsGraph}
-pub use Rattle.dg_graph.specs.Sets.{IsSubset}
+pub use Rattle.dg_theory.specs.Sets.{IsSubset}
 unfoldable pub use Rattle.dg_graph.specs.Sets.{in_set}
 pub use Rattle.dg_burn.proofs.Tried.{greedy-once}
-pub use Rattle.dg_burn.specs.Special.{IsGreedyDeterminingSet, others}
+pub use Rattle.dg_theory.specs.GreedyDetermining.{IsGreedyDeterminingSet, others}
 pub use Rattle.dg_rank.specs.Asked.{AreSetsForTrials, DeterminesTrialsFrom, IsSetForTrials}
 pub use Rattle.dg_rank.specs.Boxes.{BoxWins, IsBoxLoss, IsFirstTrialFrom, IsTrialFrom, IsInBox, IsTrialLossFrom, TrialsWinFrom}
 pub use Rattle.dg_rank.specs.Divisors.{HoldsTrial, amounts_of_trial}

@@ -34,7 +34,7 @@ use Rattle.dg_theory.specs.Firing.{Amounts, degree}
 use Rattle.dg_theory.specs.Multigraph.{Multigraph, genus}
 use Rattle.dg_theory.specs.Sums.{total_below}
 use Rattle.dg_theory.specs.Rank.{less, canonical, HasRankAtLeast, IsRank}
-use Rattle.dg_burn.specs.Special.{IsGreedyDeterminingSet}
+use Rattle.dg_theory.specs.GreedyDetermining.{IsGreedyDeterminingSet}
 use Rattle.dg_rank.specs.Limits.{AreTrialsWithinLimits, ArePastTrialLimits}
 use Rattle.dg_rank.specs.declared.rank_fault.RankFault.{RankFault}
 use Rattle.dg_rank.specs.declared.rank_fault.RankFault.TheVariants.{TooMany, Workers, OutOfMemory, Spawn}

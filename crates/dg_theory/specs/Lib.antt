@@ -1,6 +1,7 @@
 -- The definitions of the dollar game, in reading order: what has to be believed.
 pub mod Sums
 pub mod Multigraph
+pub mod Sets
 pub mod Firing
 pub mod Play
 pub mod Reduced
@@ -20,4 +21,5 @@ pub mod JoinLaws
 pub mod DualityLaws
 pub mod DeterminingLaws
 -- For the proofs of other crates.
+pub mod GreedyDetermining
 pub mod Distances

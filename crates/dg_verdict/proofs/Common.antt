@@ -6,7 +6,8 @@ pub use Rattle.dg_burn.specs.SoFar.{IsFireBurning, count_unburnt}
 pub use Rattle.dg_chips.specs.Vector.{Vector, at}
 pub use Rattle.dg_reduce.proofs.Outcome.{script_near}
 pub use Rattle.dg_graph.proofs.SetLaws.{in_set-none}
-pub use Rattle.dg_graph.specs.Sets.{IsSetWith, in_set}
+pub use Rattle.dg_graph.specs.Sets.{in_set}
+pub use Rattle.dg_theory.specs.Sets.{IsSetWith}
 pub use Rattle.dg_theory.proofs.Agreement.{agree-sym, fired-here, winnable-cong}
 pub use Rattle.dg_theory.proofs.BurningLaws.{reduced_burnt}
 pub use Rattle.dg_theory.proofs.BurningOrder.{may_burn}
