@@ -132,8 +132,10 @@ pub(crate) fn asked_by_words<'a>(
     ensures { TellsSubcommand
         (λ asked. IsSomeAnd (subcommand_rows_of matches.now) (λ entered. AsksFor entered.0 entered.1 asked)) result }
 {
-    let (name, inner) = matches.subcommand().ok_or(Refusal::Command)?;
-    subcommand_in(alloc, name, inner)
+    match matches.subcommand() {
+        Some((name, inner)) => subcommand_in(alloc, name, inner),
+        None => Err(Refusal::Command),
+    }
 }
 
 /// What a command with its arguments asks for.
@@ -145,14 +147,14 @@ fn subcommand_in<'a>(
     ensures { TellsSubcommand (AsksFor name.now (argument_rows inner.now)) result }
 {
     match name {
-        "serve" => Ok(Invocation::Serve(serve_in(inner)?)),
-        "party" => Ok(Invocation::Party(party_in(alloc, inner)?)),
-        "greedy" => Ok(Invocation::Task(Task::Greedy(greedy_in(inner)?))),
-        "rehearse" => Ok(Invocation::Task(rehearsal_in(inner)?)),
+        "serve" => serve_in(inner).map(Invocation::Serve),
+        "party" => party_in(alloc, inner).map(Invocation::Party),
+        "greedy" => greedy_in(inner).map(|task| Invocation::Task(Task::Greedy(task))),
+        "rehearse" => rehearsal_in(inner).map(Invocation::Task),
         _ if has_lines_flag(inner) || divisors_in(inner).is_some() => {
-            Ok(Invocation::Sweep(sweep_in(name, inner)?))
+            sweep_in(name, inner).map(Invocation::Sweep)
         }
-        _ => Ok(Invocation::Task(task_in(name, inner)?)),
+        _ => task_in(name, inner).map(Invocation::Task),
     }
 }
 
@@ -215,7 +217,7 @@ fn question_in<'a>(name: &str, inner: &ArgMatches<'a>) -> Result<Question, Refus
     ensures { TellsSubcommand (AsksQuestion name.now (argument_rows inner.now)) result }
 {
     match name {
-        "judge" => Ok(Question::Judge(verdict_form_in(inner)?)),
+        "judge" => verdict_form_in(inner).map(Question::Judge),
         "rank" => {
             let degree = number_in(inner, NumberArgument::Degree)?;
             Ok(Question::Rank(degree, form_in(inner)))

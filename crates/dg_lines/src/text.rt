@@ -71,7 +71,7 @@ pub fn push_reply<A: Allocator>(
         }
         Reply::Won => text.extend_from_slice(b"won"),
         Reply::NotWon => text.extend_from_slice(b"not won"),
-        Reply::Refused(refusal) => push_refusal(text, *refusal),
+        Reply::Refused(refusal) => text.extend_from_slice(refusal_words(*refusal)),
     }
 }
 
@@ -129,7 +129,7 @@ pub(crate) fn push_verdict<A: Allocator>(
     requires reduced { length names.now ≡ verdict.now.reduced.size }
     ensures { OnOk result (text.new.items ≡ text.old.items ++ verdict_text names.now verdict.now) }
 {
-    push_word(text, verdict.winnable)?;
+    text.extend_from_slice(verdict_words(verdict.winnable))?;
     push_pairs(text, names, &verdict.script)?;
     text.extend_from_slice(b" to ")?;
     push_pairs(text, names, &verdict.reduced)
@@ -169,27 +169,27 @@ fn push_number<A: Allocator>(text: &mut Vec<u8, A>, number: u32) -> Result<(), A
     text.extend_from_slice(Buffer::new().format(number).as_bytes())
 }
 
-fn push_word<A: Allocator>(text: &mut Vec<u8, A>, winnable: bool) -> Result<(), AllocError>
-    ensures { OnOk result (text.new.items ≡ text.old.items ++ verdict_word winnable) }
+fn verdict_words(winnable: bool) -> &'static [u8]
+    ensures { result.now ≡ verdict_word winnable }
 {
     if winnable {
-        text.extend_from_slice(b"winnable by ")
+        b"winnable by "
     } else {
-        text.extend_from_slice(b"unwinnable by ")
+        b"unwinnable by "
     }
 }
 
-fn push_refusal<A: Allocator>(text: &mut Vec<u8, A>, refusal: Refusal) -> Result<(), AllocError>
-    ensures { OnOk result (text.new.items ≡ text.old.items ++ refusal_text refusal) }
+fn refusal_words(refusal: Refusal) -> &'static [u8]
+    ensures { result.now ≡ refusal_text refusal }
 {
     match refusal {
-        Refusal::NoVertex => text.extend_from_slice(b"refused vertex"),
-        Refusal::Empty => text.extend_from_slice(b"refused empty"),
-        Refusal::Script => text.extend_from_slice(b"refused script"),
-        Refusal::Gift => text.extend_from_slice(b"refused gift"),
-        Refusal::Range => text.extend_from_slice(b"refused range"),
-        Refusal::Loop => text.extend_from_slice(b"refused loop"),
-        Refusal::Valence => text.extend_from_slice(b"refused valence"),
+        Refusal::NoVertex => b"refused vertex",
+        Refusal::Empty => b"refused empty",
+        Refusal::Script => b"refused script",
+        Refusal::Gift => b"refused gift",
+        Refusal::Range => b"refused range",
+        Refusal::Loop => b"refused loop",
+        Refusal::Valence => b"refused valence",
     }
 }
 
