@@ -54,7 +54,7 @@ pub use Rattle.dg_verdict.specs.Right.{IsVerdictOn}
 pub use Rattle.dg_verdict.specs.declared.rank_verdict.RankVerdict.TheVariants.{AtLeast, Below}
 pub use Rattle.dg_verdict.specs.declared.rank_verdict.RankVerdict.{RankVerdict}
 pub use Rattle.dg_verdict.specs.declared.verdict.Verdict.{Verdict}
-pub use Rattle.std.proofs.Common.{All, Bool, Bor, Err, FitsSigned, List, None, Ok, Option, Result, [], ap, append-nil, append_assoc, arith, codes, drop, false, flat_map, get_or, inl, inr, length, map, neg_ℤ, negsuc, of_z, pos, refl, rules, subst, suc, sym, take, tests, to_z, to_z-of_z, true, w64, zero, ℕ, ℤ, ◌*◌, ◌++◌, ◌+◌, ◌-◌, ◌<◌, ◌==◌, ◌^◌, ◌∙◌, ◌∷◌, ◌≡◌, ◌≢◌, ◌≤◌, ◌⊎◌}
+pub use Rattle.std.proofs.Common.{All, Bool, Bor, Err, FitsSigned, IfOk, IsOkAnd, List, None, Ok, Option, Result, [], ap, append-nil, append_assoc, arith, codes, drop, false, flat_map, get_or, inl, inr, length, map, neg_ℤ, negsuc, of_z, pos, refl, rules, subst, suc, sym, take, tests, to_z, to_z-of_z, true, w64, zero, ℕ, ℤ, ◌*◌, ◌++◌, ◌+◌, ◌-◌, ◌<◌, ◌==◌, ◌^◌, ◌∙◌, ◌∷◌, ◌≡◌, ◌≢◌, ◌≤◌, ◌⊎◌}
 pub use Rattle.std.proofs.Math.Seq.{take-append_seam}
 pub use Rattle.std.proofs.lemmas.Bool.{cases_eq, cases_lt, eqb-true, false≢true, ne_eqb}
 pub use Rattle.std.proofs.lemmas.Fmt.{decimal_is_IsNumeral, signed_decimal_injective}
@@ -62,6 +62,7 @@ pub use Rattle.std.proofs.lemmas.Grind.{common_steps, flat_map-append}
 pub use Rattle.std.proofs.lemmas.Int.{ints}
 pub use Rattle.std.proofs.lemmas.List.Elements.{All-append, All-cons, All-contains, All-get_or, All-head, All-nil, All-push, All-tail}
 pub use Rattle.std.proofs.lemmas.List.{get_or-map, take-append-drop, take_all, take_more, take_rest}
+pub use Rattle.std.proofs.lemmas.Result.{IfOk-weaker, on_ok_weaker}
 pub use Rattle.std.proofs.lemmas.Option.{get_or_from_slice_get, slice_get-get_or, slice_get_within}
 pub use Rattle.std.proofs.lemmas.Str.Parse.{digit_from_value}
 pub use Rattle.std.specs.Fmt.{signed_decimal}

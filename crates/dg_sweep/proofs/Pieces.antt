@@ -1,16 +1,25 @@
 -- Pieces of bytes that workers answer.
---   all_both, all_and_one      what holds of each element of two lists; and of one more
+--   all_both, all_joined, all_and_one   what holds of each element of two lists; of two results; and of one more
 --   piece_at                   the text that answers a piece answers the piece at its place
 --   pieces_more                one piece more
 --   leads_none, leads_piece    no pieces, and one piece more
 --   puts_piece                 the text has the answers to one piece more
 --   puts_all                   it has those to all
 --   leads_rest                 pieces, and then what follows them
-use Rattle.dg_sweep.proofs.Common.{◌≡◌, ℕ, ◌+◌, ◌<◌, ◌≤◌, List, [], ◌∷◌, ◌++◌, length, map, get_or, All, Bor, refl, sym, ap, subst, ◌∙◌, arith, append_assoc, append-nil, flat_map, take, get_or-map, take_more, take_all, All-append, All-cons, All-nil, All-get_or, flat_map-append, AnswersSweptFront, EndsPiece, AnswersPiece, LeadsSweptPiece}
+use Rattle.dg_sweep.proofs.Common.{◌≡◌, ℕ, ◌+◌, ◌<◌, ◌≤◌, List, [], ◌∷◌, ◌++◌, length, map, get_or, All, Bor, Result, Ok, Err, IfOk, IsOkAnd, refl, sym, ap, subst, ◌∙◌, arith, append_assoc, append-nil, flat_map, take, get_or-map, take_more, take_all, All-append, All-cons, All-nil, All-get_or, flat_map-append, AnswersSweptFront, EndsPiece, AnswersPiece, LeadsSweptPiece}
 use Rattle.dg_sweep.proofs.Taken.{pieces_both}
 
 pub all_both : {X : Type 0} (P : X → Type 0) (xs ys zs : List X) → All P xs → All P ys → zs ≡ xs ++ ys → All P zs
 all_both P xs ys zs here there e = subst (All P) (sym e) (All-append P xs ys here there)
+
+pub all_joined : {X V E : Type 0} (P : X → Type 0) (items : V → List X) (here there done : Result V E)
+    → IfOk here (λ v. All P (items v)) → IfOk there (λ v. All P (items v))
+    → IfOk done (λ v. IsOkAnd here (λ a. IsOkAnd there (λ b. items v ≡ items a ++ items b)))
+    → IfOk done (λ v. All P (items v))
+all_joined P items here there (Err fault) p q e = tt
+all_joined P items (Ok a) (Ok b) (Ok v) p q e = all_both P (items a) (items b) (items v) p q e
+all_joined P items (Ok a) (Err fault) (Ok v) p q e = absurd e
+all_joined P items (Err fault) there (Ok v) p q e = absurd e
 
 pub all_and_one : {X : Type 0} (P : X → Type 0) (xs zs : List X) (x : X) → All P xs → P x → zs ≡ xs ++ x ∷ [] → All P zs
 all_and_one P xs zs x all one e = all_both P xs (x ∷ []) zs all (All-cons P x [] one (All-nil P)) e

@@ -1,4 +1,5 @@
 -- What is said of bytes that are refused as a table.
+--   text_of_fault_words words     == the text of these words
 --   sweep_shape_fault_words shape == of a part that has another shape than it should
 --   sweep_graph_fault_words fault == of vertices and edges that are no graph
 --   sweep_chip_fault_words fault  == of amounts that are no divisor
@@ -7,6 +8,13 @@ use Rattle.std.specs.Prelude.{ℕ, List, ◌++◌, codes, decimal}
 use Rattle.dg_sweep.specs.Common.{GraphFault, Size, NoVertex, Loop, Multiplicity, Valence, NotConnected, ChipFault, Length, Range, Top, Vertices, Edges, FileEdge, Amounts, Q, FileFault, Json, Graph, Name, Twice, Chip, NoQ, OutOfMemory}
 use Rattle.dg_file.specs.declared.fault.Shape.{Shape}
 use Rattle.dg_file.specs.declared.fault.FileFault.TheVariants.{Shape as OfShape}
+use Rattle.dg_sweep.specs.declared.fault_words.FaultWords.{FaultWords}
+use Rattle.dg_sweep.specs.declared.fault_words.FaultWords.TheVariants.{Alone, Before, Around}
+
+abbrev pub text_of_fault_words : FaultWords → List ℕ
+text_of_fault_words (Alone words) = words.now
+text_of_fault_words (Before label number) = label.now ++ decimal number
+text_of_fault_words (Around label number words) = (label.now ++ decimal number) ++ words.now
 
 abbrev pub sweep_shape_fault_words : Shape → List ℕ
 sweep_shape_fault_words Top = codes "shape of top"

@@ -1,5 +1,5 @@
 //! Answering one line.
-ghost use Rattle.std.specs.Prelude.{◌≡◌, ◌++◌, ℕ, List, [], length, codes, OnOk};
+ghost use Rattle.std.specs.Prelude.{◌≡◌, ◌≢◌, ◌++◌, ℕ, List, [], length, codes, OnOk};
 ghost use Rattle.dg_chips.specs.Starts.{IsStart};
 ghost use Rattle.dg_chips.specs.Vector.{at};
 ghost use Rattle.dg_verdict.specs.Right.{IsVerdictOn};
@@ -69,15 +69,18 @@ pub(crate) fn answer_of_kind<K: LineKind>(
     kind.answer(alloc, line, answer)
 }
 
-/// `refused`, the text of the fault and a newline, into an empty buffer.
+/// `refused`, the text of the fault and a newline, into an empty buffer. Want of memory is no fault of a line.
 pub(crate) fn push_refusal(fault: &FileFault, answer: &mut Vec<u8>) -> Result<(), AllocError>
     requires { answer.old.items ≡ [] }
-    ensures { OnOk result (answer.new.items ≡ sweep_refusal_line (sweep_file_fault_words fault.now)) }
+    ensures { OnOk result ((fault.now ≢ FileFault.OutOfMemory)
+        × (answer.new.items ≡ sweep_refusal_line (sweep_file_fault_words fault.now))) }
 {
+    if let FileFault::OutOfMemory = fault {
+        return Err(AllocError);
+    }
     answer.extend_from_slice(b"refused ")?;
     push_swept_fault(answer, fault)?;
-    answer.push(b'\n')?;
-    Ok(())
+    answer.extend_from_slice(b"\n")
 }
 
 /// What a question is about: amounts for the vertices of a graph, and the vertex q.
@@ -161,6 +164,5 @@ pub(crate) fn push_swept_verdict_line(
     ensures { OnOk result (answer.new.items ≡ text_of names.now reply.now ++ codes "\n") }
 {
     push_reply(answer, reply, names)?;
-    answer.push(b'\n')?;
-    Ok(())
+    answer.extend_from_slice(b"\n")
 }

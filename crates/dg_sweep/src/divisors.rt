@@ -64,7 +64,6 @@ impl LineKind for Divisors<'_> {
                 };
                 push_swept_answer(self.question, &subject, self.table.names(), answer)
             }
-            Err(FileFault::OutOfMemory) => Err(AllocError),
             Err(fault) => push_refusal(&fault, answer),
         }
     }
@@ -81,7 +80,7 @@ fn divisor_of_swept_line(alloc: Global, graph: &Graph, line: &[u8]) -> Result<Di
     let Some(amounts) = amounts_of_swept_line(alloc, line)? else {
         return Err(FileFault::Shape(Shape::Amounts));
     };
-    Ok(Divisor::new(graph, amounts.as_slice())?)
+    Divisor::new(graph, amounts.as_slice()).map_err(FileFault::Chip)
 }
 
 /// The whole numbers that the words of a line are, with one space between two; `None` if a word is none within 64 bits.

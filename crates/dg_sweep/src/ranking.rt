@@ -1,6 +1,5 @@
 //! Rank tests, and the four numbers of Riemann-Roch: laws come before limits.
 ghost use Rattle.std.specs.Prelude.{◌≡◌, ◌<◌, ◌++◌, ◌⊎◌, [], length, codes, decimal, OnOk, MatchOption};
-ghost use Rattle.std.specs.Fmt.{signed_decimal};
 ghost use Rattle.dg_chips.specs.Starts.{IsStart};
 ghost use Rattle.dg_chips.specs.Vector.{at};
 ghost use Rattle.dg_lines.specs.Texts.{TextHasNames};
@@ -36,20 +35,15 @@ pub(crate) fn push_rank(
         (AnswersRankLine (swept_start subject.now) k form names.now answer.new.items) }
 {
     if let Ok(verdict) = swept_rank(subject, k) {
-        push_swept_test(answer, form, &verdict, names)?;
-        return Ok(());
+        return push_swept_test(answer, form, &verdict, names);
     }
     let Ok(passes) = has_rank(subject.graph, subject.q, subject.divisor, k) else {
-        answer.extend_from_slice(b"refused too many trials\n")?;
-        return Ok(());
+        return answer.extend_from_slice(b"refused too many trials\n");
     };
     if passes {
-        let verdict = RankVerdict::AtLeast(k);
-        push_swept_test(answer, form, &verdict, names)?;
-        return Ok(());
+        return push_swept_test(answer, form, &RankVerdict::AtLeast(k), names);
     }
-    push_swept_below(k, form, names.len(), answer)?;
-    Ok(())
+    push_swept_below(k, form, names.len(), answer)
 }
 
 /// The answer that is a rank test, into an empty buffer.
@@ -142,11 +136,11 @@ pub(crate) fn push_swept_ranks(
         ⊎ AreSweptRanksUntested (swept_start subject.now) form answer.new.items) }
 {
     let Some((rank, dual_rank)) = swept_ranks(subject) else {
-        push_swept_line(subject, form, swept_mark(form), swept_mark(form), answer)?;
-        return Ok(());
+        return push_swept_line(subject, form, swept_mark(form), swept_mark(form), answer);
     };
-    push_swept_told(subject, form, rank, dual_rank, answer)?;
-    Ok(())
+    let (mut first, mut second) = (Buffer::new(), Buffer::new());
+    let (rank, dual_rank) = (first.format(rank), second.format(dual_rank));
+    push_swept_line(subject, form, rank, dual_rank, answer)
 }
 
 /// What stands in the place of a rank that is not told.
@@ -157,29 +151,6 @@ fn swept_mark(form: Form) -> &'static str
         Form::Words => "?",
         Form::Numbers => "NA",
     }
-}
-
-/// The line of a subject with these two ranks, into an empty buffer.
-fn push_swept_told(
-    subject: &Subject<'_>,
-    form: Form,
-    rank: i64,
-    dual_rank: i64,
-    answer: &mut Vec<u8>,
-) -> Result<(), AllocError>
-    requires start { IsStart (swept_start subject.now) }
-    requires empty { answer.old.items ≡ [] }
-    ensures { OnOk result (answer.new.items
-        ≡ sweep_ranks_line form (swept_start subject.now) (signed_decimal rank) (signed_decimal dual_rank)) }
-{
-    let (mut first, mut second) = (Buffer::new(), Buffer::new());
-    push_swept_line(
-        subject,
-        form,
-        first.format(rank),
-        second.format(dual_rank),
-        answer,
-    )
 }
 
 /// The degree and the genus of a subject and two texts for its ranks, into an empty buffer.
@@ -196,11 +167,8 @@ fn push_swept_line(
         (answer.new.items ≡ sweep_ranks_line form (swept_start subject.now) rank.now dual_rank.now) }
 {
     push_swept_front(subject, form, answer)?;
-    push_swept_labelled(answer, form, "rank ", rank)?;
-    answer.push(b' ')?;
-    push_swept_labelled(answer, form, "dual ", dual_rank)?;
-    answer.push(b'\n')?;
-    Ok(())
+    push_swept_labelled(answer, form, "rank ", rank, b" ")?;
+    push_swept_labelled(answer, form, "dual ", dual_rank, b"\n")
 }
 
 /// The degree and the genus of a subject, with a space after each, into an empty buffer.
@@ -221,22 +189,23 @@ fn push_swept_front(
 fn push_number(answer: &mut Vec<u8>, form: Form, words: &str, number: i64) -> Result<(), AllocError>
     ensures { OnOk result (answer.new.items ≡ answer.old.items ++ sweep_field form words.now number) }
 {
-    push_swept_labelled(answer, form, words, Buffer::new().format(number))?;
-    answer.push(b' ')?;
-    Ok(())
+    push_swept_labelled(answer, form, words, Buffer::new().format(number), b" ")
 }
 
-/// A text after its label, which stands in words alone.
+/// A text after its label, which stands in words alone, and what follows it.
 fn push_swept_labelled(
     answer: &mut Vec<u8>,
     form: Form,
     words: &str,
     text: &str,
+    after: &[u8],
 ) -> Result<(), AllocError>
-    ensures { OnOk result (answer.new.items ≡ answer.old.items ++ (label form words.now ++ text.now)) }
+    ensures { OnOk result
+        (answer.new.items ≡ answer.old.items ++ (label form words.now ++ text.now ++ after.now)) }
 {
     push_swept_label(answer, form, words)?;
-    answer.extend_from_slice(text.as_bytes())
+    answer.extend_from_slice(text.as_bytes())?;
+    answer.extend_from_slice(after)
 }
 
 /// The label of a text, in words alone.

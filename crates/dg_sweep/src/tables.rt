@@ -2,7 +2,7 @@
 ghost use Rattle.std.specs.Prelude.{◌≡◌, OnOk};
 
 use crate::answering::{LineKind, Subject, push_refusal, push_swept_answer};
-use dg_file::{FileFault, read_table};
+use dg_file::read_table;
 use dg_invocation::Question;
 use std::alloc::{AllocError, Global};
 
@@ -29,7 +29,6 @@ impl LineKind for Tables {
                 };
                 push_swept_answer(self.question, &subject, table.names(), answer)
             }
-            Err(FileFault::OutOfMemory) => Err(AllocError),
             Err(fault) => push_refusal(&fault, answer),
         }
     }

@@ -1,8 +1,8 @@
 //! Taking what was read: bytes that are cut into lines, and the end.
-ghost use Rattle.std.specs.Prelude.{◌≡◌, ◌≢◌, ◌≤◌, ◌++◌, ℕ, List, [], true, IfOk, OnOk, Err};
+ghost use Rattle.std.specs.Prelude.{◌≡◌, ◌≢◌, ◌≤◌, ◌++◌, ℕ, List, [], true, IfOk, IfErr, OnOk, Err};
 ghost use Rattle.dg_sweep.specs.Steps.{AnswersSweptFront, KeepsPartOfPiece, PassesSweptAnswers, TakesSweptBytes, AnswersLastSweptLine};
 ghost use Rattle.dg_sweep.specs.declared.ends.SweepEnd.TheVariants.{Write as WriteEnd, Shortage as ShortageEnd};
-ghost use Rattle.dg_system.specs.declared.shortage.Shortage.TheVariants.{Spawn};
+ghost use Rattle.dg_system.specs.declared.shortage.Shortage.TheVariants.{OutOfMemory, Spawn};
 
 use crate::answering::{LineKind, answer_of_kind};
 use crate::ends::{MAX_LINE, SweepEnd};
@@ -99,8 +99,7 @@ impl SweepProgress {
         answer_of_kind(context.alloc, context.kind, &self.pending, &mut self.text)?;
         self.pending.clear();
         let part = answer_swept_batch(context, after, &mut self.text, &mut self.answer)?;
-        keep_part_of_piece(&mut self.pending, part)?;
-        Ok(())
+        keep_part_of_piece(&mut self.pending, part)
     }
 
     /// Takes the end: answers what is pending as the last line, if it has a byte.
@@ -111,14 +110,14 @@ impl SweepProgress {
         if self.pending.is_empty() {
             return Ok(());
         }
-        answer_of_kind(alloc, kind, &self.pending, &mut self.text)?;
-        Ok(())
+        answer_of_kind(alloc, kind, &self.pending, &mut self.text)
     }
 }
 
 /// Keeps a part of a line, unless what is pending is longer already than a line may be.
-fn keep_part_of_piece(pending: &mut Vec<u8>, part: &[u8]) -> Result<(), AllocError>
-    ensures { OnOk result (KeepsPartOfPiece pending.old.items part.now pending.new.items) }
+fn keep_part_of_piece(pending: &mut Vec<u8>, part: &[u8]) -> Result<(), Shortage>
+    ensures kept { OnOk result (KeepsPartOfPiece pending.old.items part.now pending.new.items) }
+    ensures memory { IfErr result (λ shortage. shortage ≡ OutOfMemory) }
 {
     if pending.len() <= MAX_LINE {
         pending.extend_from_slice(part)?;
@@ -133,9 +132,11 @@ pub(crate) fn answer_swept_lines<'a, K: LineKind>(
     bytes: &'a [u8],
     text: &mut Vec<u8>,
     answer: &mut Vec<u8>,
-) -> Result<&'a [u8], AllocError>
-    ensures { IfOk result (λ rest. (said : List ℕ) × AnswersSweptFront (K.answers kind.now) bytes.now rest.now said
+) -> Result<&'a [u8], Shortage>
+    ensures answered { IfOk result (λ rest. (said : List ℕ)
+        × AnswersSweptFront (K.answers kind.now) bytes.now rest.now said
         × (text.new.items ≡ text.old.items ++ said)) }
+    ensures memory { IfErr result (λ shortage. shortage ≡ OutOfMemory) }
 {
     let mut rest = bytes;
     'lines: loop {

@@ -1,5 +1,5 @@
 //! Lines answered among workers, each with a thread of its own.
-ghost use Rattle.std.specs.Prelude.{◌≡◌, ◌<◌, ◌≤◌, ◌++◌, ℕ, List, [], length, get_or, map, flat_map, All, Contains, IfOk, IfSome, OnOk, Err};
+ghost use Rattle.std.specs.Prelude.{◌≡◌, ◌<◌, ◌≤◌, ◌++◌, ℕ, List, [], length, get_or, map, flat_map, All, Contains, IfOk, IfSome, IsOkAnd, OnOk, Err};
 ghost use Rattle.dg_sweep.specs.Steps.{AnswersSweptFront, EndsPiece};
 ghost use Rattle.dg_sweep.specs.Pieces.{AnswersPiece, IsAnswered, LeadsSweptPiece};
 ghost use Rattle.dg_system.specs.declared.shortage.Shortage.TheVariants.{Spawn};
@@ -62,13 +62,13 @@ pub(crate) fn answer_swept_batch<'a, R: Threads + Wait + Sync, K: LineKind + Syn
 {
     let workers = context.workers.min(bytes.len() / SHARE_SIZE);
     if workers < 2 {
-        return Ok(answer_swept_lines(context.alloc, context.kind, bytes, text, answer)?);
+        return answer_swept_lines(context.alloc, context.kind, bytes, text, answer);
     }
     let (pieces, rest) = cut_pieces(context.alloc, bytes)?;
     let next = AtomicUsize::new(0);
     let done = sweep_among_workers(context, workers.min(pieces.len()), &pieces, &next)?;
     put_swept_answers(context, &pieces, &done, text)?;
-    Ok(answer_swept_lines(context.alloc, context.kind, rest, text, answer)?)
+    answer_swept_lines(context.alloc, context.kind, rest, text, answer)
 }
 
 /// The answers to pieces that so many workers take, each the next that none has taken. The first has a thread of its own, and
@@ -83,9 +83,9 @@ fn sweep_among_workers<R: Threads + Wait + Sync, K: LineKind + Sync>(
         All (IsAnswered (K.answers context.now.kind.now) (map (λ piece. piece.now) pieces.now)) done.items) }
 {
     if workers < 2 {
-        return Ok(answer_next_piece(context, pieces, next)?);
+        return answer_next_piece(context, pieces, next);
     }
-    let mut first = || -> Result<Vec<Answered>, AllocError>
+    let mut first = || -> Result<Vec<Answered>, Shortage>
         ensures { IfOk result (λ done. All (IsAnswered (K.answers context.entry.now.kind.now)
             (map (λ piece. piece.now) pieces.entry.now)) done.items) }
     { answer_next_piece(context, pieces, next) };
@@ -94,22 +94,23 @@ fn sweep_among_workers<R: Threads + Wait + Sync, K: LineKind + Sync>(
         ensures { IfOk result (λ done. All (IsAnswered (K.answers context.entry.now.kind.now)
             (map (λ piece. piece.now) pieces.entry.now)) done.items) }
     { sweep_among_workers(context, workers - 1, pieces, next) };
-    let (here, there) = match in_parallel(context.rt, &mut first, &mut others) {
-        Ok(both) => both,
-        Err(shortage) => return Err(shortage),
-    };
-    let mut done = match here {
-        Ok(here) => here,
-        Err(_) => return Err(Shortage::OutOfMemory),
-    };
-    let mut there = match there {
-        Ok(there) => there,
-        Err(shortage) => return Err(shortage),
-    };
-    match done.append(&mut there) {
-        Ok(()) => Ok(done),
-        Err(_) => Err(Shortage::OutOfMemory),
+    match in_parallel(context.rt, &mut first, &mut others) {
+        Ok((here, there)) => joined_answers(here, there),
+        Err(shortage) => Err(shortage),
     }
+}
+
+/// All answers, if both have some.
+fn joined_answers(
+    here: Result<Vec<Answered>, Shortage>,
+    there: Result<Vec<Answered>, Shortage>,
+) -> Result<Vec<Answered>, Shortage>
+    ensures { IfOk result (λ done.
+        IsOkAnd here (λ here. IsOkAnd there (λ there. done.items ≡ here.items ++ there.items))) }
+{
+    let mut done = here?;
+    done.append(&mut there?)?;
+    Ok(done)
 }
 
 /// The answers to the pieces that one worker takes.
@@ -117,7 +118,7 @@ fn answer_next_piece<R, K: LineKind>(
     context: &SweepContext<'_, R, K>,
     pieces: &[&[u8]],
     next: &AtomicUsize,
-) -> Result<Vec<Answered>, AllocError>
+) -> Result<Vec<Answered>, Shortage>
     ensures { IfOk result (λ done.
         All (IsAnswered (K.answers context.now.kind.now) (map (λ piece. piece.now) pieces.now)) done.items) }
 {
@@ -128,7 +129,9 @@ fn answer_next_piece<R, K: LineKind>(
             break;
         }
         let answered = answer_piece(context, pieces[place], place)?;
-        done.push(answered)?;
+        let Ok(()) = done.push(answered) else {
+            return Err(Shortage::OutOfMemory);
+        };
     }
     Ok(done)
 }
@@ -138,7 +141,7 @@ fn answer_piece<R, K: LineKind>(
     context: &SweepContext<'_, R, K>,
     piece: &[u8],
     place: usize,
-) -> Result<Answered, AllocError>
+) -> Result<Answered, Shortage>
     ensures text { IfOk result (λ answered.
         AnswersPiece (K.answers context.now.kind.now) piece.now answered.text.items) }
     ensures place { IfOk result (λ answered. answered.place ≡ place) }
@@ -147,7 +150,7 @@ fn answer_piece<R, K: LineKind>(
     let mut answer = Vec::new(context.alloc);
     match answer_swept_lines(context.alloc, context.kind, piece, &mut text, &mut answer) {
         Ok(_) => Ok(Answered { place, text }),
-        Err(error) => Err(error),
+        Err(shortage) => Err(shortage),
     }
 }
 
@@ -157,7 +160,7 @@ fn put_swept_answers<R, K: LineKind>(
     pieces: &[&[u8]],
     done: &[Answered],
     text: &mut Vec<u8>,
-) -> Result<(), AllocError>
+) -> Result<(), Shortage>
     requires lines { All (λ piece. EndsPiece piece.now) pieces.now }
     requires done { All (IsAnswered (K.answers context.now.kind.now) (map (λ piece. piece.now) pieces.now)) done.now }
     ensures { OnOk result ((said : List ℕ) ×
@@ -194,7 +197,7 @@ fn put_swept_answer<R, K: LineKind>(
     done: &[Answered],
     found: &[usize],
     text: &mut Vec<u8>,
-) -> Result<(), AllocError>
+) -> Result<(), Shortage>
     requires place { place < length pieces.now }
     requires done { All (IsAnswered (K.answers context.now.kind.now) (map (λ piece. piece.now) pieces.now)) done.now }
     ensures { OnOk result ((said : List ℕ)

@@ -5,8 +5,8 @@ use Rattle.dg_sweep.proofs.taking.answer_swept_lines.Goals as goal
 pub lines-init : goal.lines-init
 lines-init g c = so_far_none _ c.args.bytes.now c.args.text.now.items
 
-pub returns-in_default : goal.returns-in_default
-returns-in_default g c =
+pub returns-in_default-clause-answered : goal.returns-in_default-clause-answered
+returns-in_default-clause-answered g c =
     so_far_rest _ c.args.bytes.now c.lines.rest.now c.args.text.now.items c.lines.text.items
     c.cut.result.0.now
     c.lines.invariant (part_plain c.lines.rest.now c.cut.result.0.now c.cut.ensures.before)

@@ -8,4 +8,4 @@ loop-preserved g c =
     c.loop.done.items c.push.new.self.items c.in_ok-answered.answered c.loop.invariant
     (piece_at _ c.args.pieces.now c.fetch_add-place.result c.in_ok-answered.answered.place _ c.in_ok-answered.answered.text.items
     (search rules) c.in_ok-answered.ensures.place c.in_ok-answered.ensures.text)
-    c.in_ok-push.ensures.items
+    c.in-Ok.ensures.items

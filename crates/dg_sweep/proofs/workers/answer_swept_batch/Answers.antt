@@ -1,4 +1,4 @@
-use Rattle.dg_sweep.proofs.Common.{All, map, flat_map, ◌++◌, sym, ap, subst, ◌∙◌, EndsPiece, IsAnswered}
+use Rattle.dg_sweep.proofs.Common.{All, map, flat_map, ◌++◌, sym, ap, subst, ◌∙◌, IfOk-weaker, EndsPiece, IsAnswered}
 use Rattle.dg_sweep.proofs.Pieces.{leads_rest}
 use Rattle.dg_sweep.proofs.workers.answer_swept_batch.Goals as goal
 
@@ -16,9 +16,10 @@ put_swept_answers-requires-clause-done g c =
 pub returns-clause-answered : goal.returns-clause-answered
 returns-clause-answered g c =
     let rest = c.in_ok-pieces.rest.now in
-    leads_rest _ c.args.bytes.now (flat_map (λ piece. piece.now) c.deref-2.result.now) rest
-    c.in_ok-answer_swept_lines-2.field-0.now c.args.text.now.items c.put_swept_answers.new.text.items
-    c.answer_swept_lines-2.new.text.items c.in_ok-put_swept_answers.ensures
+    IfOk-weaker c.answer_swept_lines-2.result _ _
+    (λ last. leads_rest _ c.args.bytes.now (flat_map (λ piece. piece.now) c.deref-2.result.now) rest last.now
+    c.args.text.now.items c.put_swept_answers.new.text.items c.answer_swept_lines-2.new.text.items
+    c.in_ok-put_swept_answers.ensures
     (c.in_ok-pieces.ensures.whole
-    ∙ ap (λ l. flat_map (λ piece. piece.now) l ++ rest) (sym c.deref-2.ensures.value))
-    c.in_ok-answer_swept_lines-2.ensures
+    ∙ ap (λ l. flat_map (λ piece. piece.now) l ++ rest) (sym c.deref-2.ensures.value)))
+    c.answer_swept_lines-2.ensures.answered

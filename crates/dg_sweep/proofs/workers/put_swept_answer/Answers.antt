@@ -15,7 +15,7 @@ returns-in-Some g c =
 
 pub returns : goal.returns
 returns g c =
-    let (said, front, same) = c.in_ok-answer_swept_lines.ensures in (
+    let (said, front, same) = c.in_ok-answer_swept_lines.ensures.answered in (
       said,
       piece_at _ c.args.pieces.now c.args.place c.args.place _ said c.requires.place refl (_, front),
       same,

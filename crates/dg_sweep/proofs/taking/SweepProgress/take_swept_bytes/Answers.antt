@@ -1,4 +1,4 @@
-use Rattle.dg_sweep.proofs.Common.{part_plain, part_whole, part_line}
+use Rattle.dg_sweep.proofs.Common.{part_plain, part_whole, part_line, on_ok_weaker}
 use Rattle.dg_sweep.proofs.Taken.{takes_part, takes_lines}
 use Rattle.dg_sweep.proofs.taking.SweepProgress.take_swept_bytes.Goals as goal
 
@@ -9,17 +9,19 @@ returns-in_default-clause-taken g c =
     c.clear.new.self.items c.clear.ensures.items (part_plain c.args.bytes.now c.cut.result.0.now c.cut.ensures.before)
     (part_whole c.args.bytes.now c.cut.result.0.now c.cut.result.1 c.cut.ensures.before c.cut.ensures.after
     c.in_default.is)
-    c.in_ok-keep_part_of_piece.ensures
+    c.in_ok-keep_part_of_piece.ensures.kept
 
 pub returns-clause-taken : goal.returns-clause-taken
 returns-clause-taken g c =
-    takes_lines _ c.args.self.now.pending.items c.args.bytes.now c.cut.result.0.now
+    on_ok_weaker c.keep_part_of_piece-2.result
+    (takes_lines _ c.args.self.now.pending.items c.args.bytes.now c.cut.result.0.now
     c.in-Some.after.now
     c.keep_part_of_piece.new.pending.items c.answer_of_kind.new.answer.items c.answer_swept_batch.new.text.items
     c.in_ok-part.part.now
     c.keep_part_of_piece-2.new.pending.items (part_plain c.args.bytes.now c.cut.result.0.now c.cut.ensures.before)
     (part_line c.args.bytes.now c.cut.result.0.now c.cut.result.1 c.in-Some.after c.cut.ensures.before
     c.cut.ensures.after c.in-Some.is)
-    c.in_ok-keep_part_of_piece.ensures c.deref.result.now c.deref.ensures.value c.in_ok-answer_of_kind.ensures
+    c.in_ok-keep_part_of_piece.ensures.kept c.deref.result.now c.deref.ensures.value c.in_ok-answer_of_kind.ensures
     c.in_ok-part.ensures.answered
-    c.clear-2.new.self.items c.clear-2.ensures.items c.in_ok-keep_part_of_piece-2.ensures
+    c.clear-2.new.self.items c.clear-2.ensures.items)
+    c.keep_part_of_piece-2.ensures.kept

@@ -1,4 +1,4 @@
-use Rattle.dg_sweep.proofs.Common.{◌≡◌, ◌≢◌, [], arith, rules, tests, common_steps}
+use Rattle.dg_sweep.proofs.Common.{◌≡◌, ◌≢◌, [], arith, rules, tests, common_steps, on_ok_weaker}
 use Rattle.dg_sweep.proofs.Taken.{nothing, takes_no_end, takes_end}
 use Rattle.dg_sweep.proofs.taking.SweepProgress.take_swept_end.Goals as goal
 
@@ -11,6 +11,6 @@ returns-then-is_empty g c =
 pub returns : goal.returns
 returns g c =
     let some : c.args.self.now.pending.items ≢ [] = search (rules, tests) in
-    takes_end _ c.args.self.now.pending.items c.answer_of_kind.new.answer.items c.deref.result.now some
-    c.deref.ensures.value
-    c.in_ok-answer_of_kind.ensures
+    on_ok_weaker c.answer_of_kind.result
+    (takes_end _ c.args.self.now.pending.items c.answer_of_kind.new.answer.items c.deref.result.now some
+    c.deref.ensures.value) c.answer_of_kind.ensures
