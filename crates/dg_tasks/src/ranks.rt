@@ -1,5 +1,5 @@
 //! Rank tests that are printed, and both sides of Riemann-Roch.
-ghost use Rattle.std.specs.Prelude.{◌≡◌, ℤ, ◌++◌, codes, IfOk, IfErr, OnOk};
+ghost use Rattle.std.specs.Prelude.{◌≡◌, ℤ, [], ◌++◌, codes, IfOk, IfErr, OnOk};
 ghost use Rattle.dg_rank.specs.Ranks.{MayHaveRankWorkers};
 ghost use Rattle.dg_lines.specs.Texts.{TextHasNames, text_of};
 ghost use Rattle.dg_rules.specs.declared.entry.Reply.TheVariants.{Rank};
@@ -95,27 +95,27 @@ pub fn riemann_roch(alloc: Global, table: &TableFile) -> Result<Vec<u8>, TaskFau
     let Some((rank, dual_rank)) = both_ranks_in_limits(graph, q, divisor) else {
         return Err(TaskFault::TooMany);
     };
-    match riemann_roch_lines(alloc, start, rank, dual_rank) {
-        Ok(text) => Ok(text),
+    let mut text = Vec::new(alloc);
+    match push_riemann_roch(&mut text, start, rank, dual_rank) {
+        Ok(()) => Ok(text),
         Err(_) => Err(TaskFault::Shortage(Shortage::OutOfMemory)),
     }
 }
 
-/// The four lines of a start with these two ranks.
-fn riemann_roch_lines(
-    alloc: Global,
+/// The four lines of a start with these two ranks, into an empty text.
+fn push_riemann_roch(
+    text: &mut Vec<u8>,
     start: &Start,
     rank: i64,
     dual_rank: i64,
-) -> Result<Vec<u8>, AllocError>
-    ensures { IfOk result (λ text. text.items ≡ riemann_roch_text start.now rank dual_rank) }
+) -> Result<(), AllocError>
+    requires { text.old.items ≡ [] }
+    ensures { OnOk result (text.new.items ≡ riemann_roch_text start.now rank dual_rank) }
 {
-    let mut text = Vec::new(alloc);
-    push_task_line(&mut text, "degree ", start.divisor().degree())?;
-    push_task_line(&mut text, "genus ", i64::from(start.graph().genus()))?;
-    push_task_line(&mut text, "rank ", rank)?;
-    push_task_line(&mut text, "dual ", dual_rank)?;
-    Ok(text)
+    push_task_line(text, "degree ", start.divisor().degree())?;
+    push_task_line(text, "genus ", i64::from(start.graph().genus()))?;
+    push_task_line(text, "rank ", rank)?;
+    push_task_line(text, "dual ", dual_rank)
 }
 
 /// A label, a number and a newline.
@@ -124,6 +124,5 @@ fn push_task_line(text: &mut Vec<u8>, label: &str, number: i64) -> Result<(), Al
 {
     text.extend_from_slice(label.as_bytes())?;
     text.extend_from_slice(Buffer::new().format(number).as_bytes())?;
-    text.extend_from_slice(b"\n")?;
-    Ok(())
+    text.extend_from_slice(b"\n")
 }

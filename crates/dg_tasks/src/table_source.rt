@@ -18,12 +18,8 @@ where
         (λ table. DescribesTaskTable (S.held sources.now file.now) table.start table.names) }
     ensures refused { IfErr result (RefusesTaskTable (S.held sources.now file.now)) }
 {
-    let bytes = match sources.bytes(rt, file) {
-        Ok(bytes) => bytes,
-        Err(fault) => return Err(TaskFault::Source(fault)),
-    };
-    match read_table(rt.alloc(), bytes.as_slice()) {
-        Ok(table) => Ok(table),
-        Err(fault) => Err(TaskFault::File(fault)),
+    match sources.bytes(rt, file) {
+        Ok(bytes) => read_table(rt.alloc(), bytes.as_slice()).map_err(TaskFault::File),
+        Err(fault) => Err(TaskFault::Source(fault)),
     }
 }

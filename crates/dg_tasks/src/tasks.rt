@@ -29,13 +29,10 @@ where
     ensures refused { IfErr result (RefusesTask (S.held sources.now) task.now) }
 {
     match task {
-        Task::Rank(test) if test.workers > 1 => {
-            let table = match table_of_task(rt, sources, test.file) {
-                Ok(table) => table,
-                Err(fault) => return Err(fault),
-            };
-            rank_answer(rt, rt.alloc(), &table, test.degree, test.workers)
-        }
+        Task::Rank(test) => match table_of_task(rt, sources, test.file) {
+            Ok(table) => rank_answer(rt, rt.alloc(), &table, test.degree, test.workers),
+            Err(fault) => Err(fault),
+        },
         _ => answer_task_alone(rt, task, sources),
     }
 }
@@ -50,11 +47,10 @@ where
     ensures refused { IfErr result (RefusesTask (S.held sources.now) task.now) }
     ensures alone { IfErr result (λ fault. fault ≢ TaskFault.Shortage Shortage.Spawn) }
 {
-    let table = match table_of_task(rt, sources, task.file()) {
-        Ok(table) => table,
-        Err(fault) => return Err(fault),
-    };
-    answer_task_on(rt, &table, task, sources)
+    match table_of_task(rt, sources, task.file()) {
+        Ok(table) => answer_task_on(rt, &table, task, sources),
+        Err(fault) => Err(fault),
+    }
 }
 
 /// The answer to a task on its table.
@@ -74,13 +70,10 @@ where
     ensures alone { IfErr result (λ fault. fault ≢ TaskFault.Shortage Shortage.Spawn) }
 {
     match task {
-        Task::Rehearse { file: _, steps } => {
-            let steps = match sources.bytes(rt, steps) {
-                Ok(steps) => steps,
-                Err(fault) => return Err(TaskFault::Source(fault)),
-            };
-            rehearsal(rt.alloc(), table, steps.as_slice())
-        }
+        Task::Rehearse { file: _, steps } => match sources.bytes(rt, steps) {
+            Ok(steps) => rehearsal(rt.alloc(), table, steps.as_slice()),
+            Err(fault) => Err(TaskFault::Source(fault)),
+        },
         Task::Judge { file: _, ordered } => verdict_answer(rt.alloc(), table, *ordered),
         Task::Rank(test) => rank_task_alone(rt.alloc(), table, test.degree),
         Task::RiemannRoch { file: _ } => riemann_roch(rt.alloc(), table),

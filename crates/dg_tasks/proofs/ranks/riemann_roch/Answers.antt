@@ -21,14 +21,14 @@ returns-in-Ok-clause-told c =
     rw (← c.graph-graph.ensures.graph, ← c.divisor-divisor.ensures) dual_rank in
     let fits : FitsSigned w64 c.in-Some.rank = search rules in
     let dual_fits : FitsSigned w64 c.in-Some.dual_rank = search rules in
-    let text : c.in-Ok.text.items
+    let text : c.push_riemann_roch.new.text.items
     ≡ riemann_roch_text o (to_z w64 (of_z w64 c.in-Some.rank)) (to_z w64 (of_z w64 c.in-Some.dual_rank)) =
     c.in-Ok.ensures in
     let (size, is_dual, in_range) = c.in_default.ensures in
     let inside : IsInRange c.graph-graph.result.now.size
     (less (canonical c.graph-graph.result.now) (at c.divisor-divisor.result.now)) =
     λ v below. omega (arith, ints, is_dual v below, in_range v below) in
-    let told : IsRiemannRochTask o c.in-Ok.text.items = record {
+    let told : IsRiemannRochTask o c.push_riemann_roch.new.text.items = record {
       in_range = rw (← c.graph-graph.ensures.graph, ← c.divisor-divisor.ensures) inside;
       rank = c.in-Some.rank;
       of_divisor = of_divisor;
