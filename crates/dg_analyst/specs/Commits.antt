@@ -21,17 +21,17 @@ use Rattle.dg_table.specs.Settled.{IsSettledAtTable, IsStaleAtTable}
 use Rattle.dg_table.specs.declared.fault.Fault.{Fault}
 use Rattle.dg_verdict.specs.declared.rank_verdict.RankVerdict.{RankVerdict}
 use Rattle.dg_verdict.specs.declared.verdict.Verdict.{Verdict}
-use Rattle.dg_analyst.specs.Views.{TakenLookView, FoundOnLook, IsLookJudged}
+use Rattle.dg_analyst.specs.Views.{TakenLookView, LookWithFinding, IsLookJudged}
 
-pub record IsReckoned (q : ℕ) (x : TakenLookView) (found : FoundOnLook Verdict) : Type 0 where
+pub record IsReckoned (q : ℕ) (x : TakenLookView) (found : LookWithFinding Verdict) : Type 0 where
   pub look : found.look ≡ x
   pub judged : IsLookJudged q x found.verdict
 
-abbrev pub IsLookCommitted : TableData → FoundOnLook Verdict → ℕ × Entry → SeatView → SeatView → Type 0
+abbrev pub IsLookCommitted : TableData → LookWithFinding Verdict → ℕ × Entry → SeatView → SeatView → Type 0
 IsLookCommitted table found r x y =
     IsSettledAtTable table found.look.receipt (Judged found.verdict) r x y
 
-abbrev pub IsLookRankCommitted : TableData → FoundOnLook RankVerdict → ℕ × Entry → SeatView → SeatView
+abbrev pub IsLookRankCommitted : TableData → LookWithFinding RankVerdict → ℕ × Entry → SeatView → SeatView
     → Type 0
 IsLookRankCommitted table found r x y =
     IsSettledAtTable table found.look.receipt (Ranked found.verdict) r x y
@@ -40,10 +40,10 @@ abbrev pub RefusesLookCommit : TableData → SeatView → SeatView → Fault →
 RefusesLookCommit table x y fault = Keeps x y × RefusesCallAtTable table y fault
 
 abbrev pub StaleIsCommitted : Type 0
-StaleIsCommitted = (table : TableData) (found : FoundOnLook Verdict) (r : ℕ × Entry) (x y : SeatView) →
+StaleIsCommitted = (table : TableData) (found : LookWithFinding Verdict) (r : ℕ × Entry) (x y : SeatView) →
     IsStaleAtTable table found.look.receipt Judge r x y → IsLookCommitted table found r x y
 
 abbrev pub StaleTriedIsCommitted : Type 0
-StaleTriedIsCommitted = (table : TableData) (found : FoundOnLook RankVerdict) (r : ℕ × Entry)
+StaleTriedIsCommitted = (table : TableData) (found : LookWithFinding RankVerdict) (r : ℕ × Entry)
     (x y : SeatView) → IsStaleAtTable table found.look.receipt (Rank (degree_of_finding found.verdict)) r x y →
     IsLookRankCommitted table found r x y

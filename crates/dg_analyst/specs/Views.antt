@@ -1,6 +1,6 @@
 -- Looks, and what was found on them.
 --   TakenLookView      == a look's entry, with its number, and what is kept of it
---   FoundOnLook A      == a look, and what was found on it: a verdict, or the answer of a rank test
+--   LookWithFinding A  == a look, and what was found on it: a verdict, or the answer of a rank test
 --   IsTakenLook o x    == what is kept of the look x of a table with the start o is that of its entry, and
 --                         has the vertices of the start
 --   IsLookJudged q x v == v is the verdict that is computed, from the vertex q, for the look x, its amounts
@@ -23,7 +23,7 @@ pub record TakenLookView : Type 0 where
   pub receipt : ℕ × Entry
   pub shown : LookData
 
-pub record FoundOnLook (A : Type 0) : Type 0 where
+pub record LookWithFinding (A : Type 0) : Type 0 where
   pub look : TakenLookView
   pub verdict : A
 

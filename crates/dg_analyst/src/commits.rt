@@ -2,7 +2,7 @@
 ghost use Rattle.std.specs.Prelude.{◌≡◌, length, IfOk, IfErr, MatchOption};
 ghost use Rattle.dg_verdict.specs.declared.verdict.Verdict.{Verdict as VerdictData};
 ghost use Rattle.dg_analyst.specs.Commits.{IsReckoned, IsLookCommitted, IsLookRankCommitted, RefusesLookCommit};
-ghost use Rattle.dg_analyst.specs.Views.{FoundOnLook};
+ghost use Rattle.dg_analyst.specs.Views.{LookWithFinding};
 ghost use Rattle.dg_table.specs.Settled.{IsStaleAtTable, IsNotStaleAtTable};
 
 use crate::looks::Look;
@@ -76,7 +76,7 @@ pub fn commit_look<N: Name>(
     look: &Look<N>,
     inverse: &mut InverseLaplacian,
 ) -> Result<Receipt<N>, Fault>
-    ensures settled { (found : FoundOnLook VerdictData) × IsReckoned N.table.start.q look.now found ×
+    ensures settled { (found : LookWithFinding VerdictData) × IsReckoned N.table.start.q look.now found ×
         IfOk result (λ r. IsLookCommitted N.table found r seat.old seat.new) }
     ensures fault { IfErr result (RefusesLookCommit N.table seat.old seat.new) }
 {

@@ -22,12 +22,12 @@ pub struct Reckoned<N: Name> {
 }
 
 impl<N: Name> Model for Reckoned<N> {
-    ghost use Rattle.dg_analyst.specs.Views.{FoundOnLook};
+    ghost use Rattle.dg_analyst.specs.Views.{LookWithFinding};
     ghost use Rattle.dg_rules.specs.declared.finding.Finding.TheVariants.{Judged};
     ghost use Rattle.dg_rules.specs.Look.{IsRightFinding};
     ghost use Rattle.dg_verdict.specs.declared.verdict.Verdict.{Verdict as VerdictData};
 
-    ghost Value = { FoundOnLook VerdictData };
+    ghost Value = { LookWithFinding VerdictData };
 
     ghost view = { λ r. record { look = r.look; verdict = r.verdict } };
 
@@ -59,12 +59,12 @@ pub struct Tried<N: Name> {
 }
 
 impl<N: Name> Model for Tried<N> {
-    ghost use Rattle.dg_analyst.specs.Views.{FoundOnLook};
+    ghost use Rattle.dg_analyst.specs.Views.{LookWithFinding};
     ghost use Rattle.dg_rules.specs.declared.finding.Finding.TheVariants.{Ranked};
     ghost use Rattle.dg_verdict.specs.declared.rank_verdict.RankVerdict.{RankVerdict as RankData};
     ghost use Rattle.dg_rules.specs.Look.{IsRightFinding};
 
-    ghost Value = { FoundOnLook RankData };
+    ghost Value = { LookWithFinding RankData };
 
     ghost view = { λ t. record { look = t.look; verdict = t.verdict } };
 

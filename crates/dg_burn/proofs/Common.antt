@@ -1,5 +1,5 @@
 -- The names that the proofs of this crate cite, passed on from one place. Declares nothing.
-pub use Rattle.dg_burn.specs.Fires.{IsFire, IsHeldForFire, IsLeastToBurn, IsFireOut, IsUnlit, burns, capped_for_fire, dollars, heat}
+pub use Rattle.dg_burn.specs.Fires.{IsFire, IsHeldForFire, IsNextInFire, IsFireOut, IsUnlit, burns, capped_for_fire, dollars, heat}
 pub use Rattle.dg_burn.specs.SoFar.{IsFireBurning, count_unburnt}
 pub use Rattle.dg_burn.specs.declared.fire.Fire.{Fire}
 pub use Rattle.dg_chips.specs.Vector.{at}

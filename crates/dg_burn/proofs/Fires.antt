@@ -12,7 +12,7 @@
 --   left-less      where one is left less, one burns more
 --   burnt_out      in a fire, nobody may burn where each has burnt whose heat is above 127
 --   least_burns    in a fire, the least vertex that has not and whose heat is burns next
-use Rattle.dg_burn.proofs.Common.{if◌then◌else◌, ◌≡◌, ℕ, zero, suc, ◌+◌, ◌-◌, ◌<◌, ◌≤◌, Bool, true, false, not, ◌&&◌, List, arith, refl, sym, ap, ap₂, ◌∙◌, ⊎_elim, nat_lt, slice_index, ◌<ℤ◌, pos, cases_Bool, cases_eq, cases_lt, lt-ltb, both_ways, not-false, ints, total_below, Multigraph, IsMultigraph, edges_between, valence, edges_into, MayBurn, BurnsNext, total_below-cong, total_below-term, total_below-differ_at, into-le-valence, IsGraph, IsVertexSet, IsSetWith, valence-few, valence-outside, Fire, dollars, heat, burns, IsUnlit, IsFireOut, IsLeastToBurn, IsSetWithout, IsFire, in_set}
+use Rattle.dg_burn.proofs.Common.{if◌then◌else◌, ◌≡◌, ℕ, zero, suc, ◌+◌, ◌-◌, ◌<◌, ◌≤◌, Bool, true, false, not, ◌&&◌, List, arith, refl, sym, ap, ap₂, ◌∙◌, ⊎_elim, nat_lt, slice_index, ◌<ℤ◌, pos, cases_Bool, cases_eq, cases_lt, lt-ltb, both_ways, not-false, ints, total_below, Multigraph, IsMultigraph, edges_between, valence, edges_into, MayBurn, BurnsNext, total_below-cong, total_below-term, total_below-differ_at, into-le-valence, IsGraph, IsVertexSet, IsSetWith, valence-few, valence-outside, Fire, dollars, heat, burns, IsUnlit, IsFireOut, IsNextInFire, IsSetWithout, IsFire, in_set}
 
 total-zero : (n : ℕ) → total_below n (λ _. 0) ≡ 0
 total-zero zero = refl
@@ -144,7 +144,7 @@ burnt_out g held x graph fire none v may =
     )
 
 pub least_burns : (g : Multigraph) (held : List ℕ) (x : Fire) (v : ℕ) → IsGraph g → IsFire g held x →
-    IsLeastToBurn x v → BurnsNext g (dollars held) (burns g.size x) v
+    IsNextInFire x v → BurnsNext g (dollars held) (burns g.size x) v
 least_burns g held x v graph fire next = record {
   may = record {
     vertex = fire.inside v next.new;

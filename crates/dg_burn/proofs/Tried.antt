@@ -26,7 +26,7 @@ use Rattle.dg_theory.proofs.Debts.{out-le-valence}
 use Rattle.dg_theory.proofs.SetFiring.{fired-inside, inside-fired, outside-fired}
 use Rattle.dg_theory.proofs.Special.{edge_into, fires_hangs, hangs_not_reduced, total_some}
 use Rattle.dg_theory.proofs.TotalLaws.{total_below-le}
-use Rattle.dg_burn.specs.Special.{IsGrowingSpecial, fire_wall}
+use Rattle.dg_burn.specs.Special.{IsSearchedForSpecial, never_burning_dollars}
 use Rattle.dg_theory.specs.GreedyDetermining.{AllHang, Hangs, IsGreedyDeterminingSet, IsSpecialFrom, only, others}
 use Rattle.dg_burn.proofs.Told.{none_reduced}
 
@@ -59,10 +59,10 @@ reduced_of_none g S q held l m same order rest none =
     reduced-cong g q (dollars held) (beside g S) same
     (none_reduced g q (dollars held) l m (λ v _ _. omega (arith, ints)) order rest (no_set m none))
 
-wall-inside : (S : ℕ → Bool) (v : ℕ) → S v ≡ true → fire_wall S v ≡ pos 64
+wall-inside : (S : ℕ → Bool) (v : ℕ) → S v ≡ true → never_burning_dollars S v ≡ pos 64
 wall-inside S v inside = rw inside refl
 
-wall-outside : (S : ℕ → Bool) (v : ℕ) → S v ≡ false → fire_wall S v ≡ pos 0
+wall-outside : (S : ℕ → Bool) (v : ℕ) → S v ≡ false → never_burning_dollars S v ≡ pos 0
 wall-outside S v outside = rw outside refl
 
 -- all vertices but those of X
@@ -96,7 +96,7 @@ out-none g R v none =
 
 -- behind a wall at S only what hangs together with w burns
 beyond_wall : (g : Multigraph) (S X : ℕ → Bool) (held : List ℕ) (w : ℕ) → IsGraph g → HangsLoosely g S X →
-    X w ≡ true → ((v : ℕ) → v < g.size → dollars held v ≡ fire_wall S v) → FiresFreely g w (dollars held) (but g X)
+    X w ≡ true → ((v : ℕ) → v < g.size → dollars held v ≡ never_burning_dollars S v) → FiresFreely g w (dollars held) (but g X)
 beyond_wall g S X held w graph hangs member same = record {
   vertices = λ v in_v. (but-below g X v in_v).0;
   without = false_from_ne_true (but g X w) (λ in_w. both_ways _ (but-below g X w in_w).1 member);
@@ -118,7 +118,7 @@ beyond_wall g S X held w graph hangs member same = record {
 }
 
 pub part_hangs : (g : Multigraph) (S X R : ℕ → Bool) (held : List ℕ) (w : ℕ) → IsGraph g → HangsLoosely g S X →
-    X w ≡ true → ((v : ℕ) → v < g.size → dollars held v ≡ fire_wall S v) → IsGreatestFree g w (dollars held) R →
+    X w ≡ true → ((v : ℕ) → v < g.size → dollars held v ≡ never_burning_dollars S v) → IsGreatestFree g w (dollars held) R →
     HangsLoosely g S (but g R)
 part_hangs g S X R held w graph hangs member same rest =
     let part : (v : ℕ) → but g R v ≡ true → X v ≡ true = λ v in_v.
@@ -261,7 +261,7 @@ hangs-larger g S T X hangs part off = record {
       omega (arith, hangs.loose v member);
 }
 
-pub passed-all : (g : Multigraph) (S E X P : ℕ → Bool) (q n : ℕ) → IsMultigraph g → n ≡ g.size → IsGrowingSpecial g S q E →
+pub passed-all : (g : Multigraph) (S E X P : ℕ → Bool) (q n : ℕ) → IsMultigraph g → n ≡ g.size → IsSearchedForSpecial g S q E →
     HangsLoosely g S X → Passed g S E X P n → AllHang g S E
 passed-all g S E X P q n graph size growing hangs passed T connected part apart =
     ⊎_elim
@@ -289,8 +289,8 @@ passed-all g S E X P q n graph size growing hangs passed T connected part apart 
     (meets_or_off g T P connected)
 
 pub growing-more : (g : Multigraph) (S S' E X P : ℕ → Bool) (q v : ℕ) → IsMultigraph g → v < g.size →
-    IsGrowingSpecial g S q E → Passed g S E X P v → S v ≡ false → P v ≡ false → 0 < edges_into g S v → IsSetWith S v S' →
-    IsGrowingSpecial g S' q P
+    IsSearchedForSpecial g S q E → Passed g S E X P v → S v ≡ false → P v ≡ false → 0 < edges_into g S v → IsSetWith S v S' →
+    IsSearchedForSpecial g S' q P
 growing-more g S S' E X P q v graph inside growing passed out free next with_v =
     let (a, below, in_a, edge) = edge_into g S v next in
     record {
@@ -305,7 +305,7 @@ growing-more g S S' E X P q v graph inside growing passed out free next with_v =
 
 -- a vertex alone
 pub growing-alone : (g : Multigraph) (S T E : ℕ → Bool) (v : ℕ) → v < g.size → ((w : ℕ) → S w ≡ false) →
-    IsSetWith S v T → E v ≡ false → IsGrowingSpecial g T v E
+    IsSetWith S v T → E v ≡ false → IsSearchedForSpecial g T v E
 growing-alone g S T E v inside none with_v free =
     let only : (w : ℕ) → T w ≡ true → w ≡ v = λ w member. ⊎_elim
     (λ (same : w ≡ v). same)

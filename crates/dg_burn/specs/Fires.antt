@@ -10,7 +10,7 @@
 --   IsUnlit n l x       == those that do not burn are below n, none of n vertices burns, and the heat of each
 --                          is what it lacks to 127 dollars
 --   IsFireOut x         == no vertex that does not burn has a heat above 127
---   IsLeastToBurn x v   == v is the least vertex that does not burn and has
+--   IsNextInFire x v    == v is the least vertex that does not burn and has a heat above 127
 --   IsFire g l x        == those that do not burn are vertices of the graph, and the heat of each vertex is
 --                          what it lacks to 127 dollars, if it holds what l tells, and its edges to those
 --                          that burn
@@ -47,7 +47,7 @@ pub record IsUnlit (n : ℕ) (l : List ℕ) (x : Fire) : Type 0 where
 abbrev pub IsFireOut : Fire → Type 0
 IsFireOut x = (v : ℕ) → v < MAX_VERTICES → in_set x.left v ≡ true → heat x v ≤ 127
 
-pub record IsLeastToBurn (x : Fire) (v : ℕ) : Type 0 where
+pub record IsNextInFire (x : Fire) (v : ℕ) : Type 0 where
   pub few : v < MAX_VERTICES
   pub new : in_set x.left v ≡ true
   pub burns : 127 < heat x v

@@ -5,7 +5,7 @@ ghost use Rattle.dg_theory.specs.Multigraph.{edges_between};
 ghost use Rattle.dg_graph.specs.declared.limits.TheConstants.{MAX_VERTICES};
 ghost use Rattle.dg_graph.specs.Sets.{in_set};
 ghost use Rattle.dg_theory.specs.Sets.{IsSetWithout};
-ghost use Rattle.dg_burn.specs.Fires.{heat, IsUnlit, IsFireOut, IsLeastToBurn};
+ghost use Rattle.dg_burn.specs.Fires.{heat, IsUnlit, IsFireOut, IsNextInFire};
 
 use dg_graph::{Graph, complement, intersection, least_vertex, without_vertex};
 use std::simd::prelude::*;
@@ -36,7 +36,7 @@ impl Fire {
 
     /// The least vertex that does not burn with more edges to burning ones than it holds dollars.
     pub fn next_vertex_to_burn(&self) -> Option<usize>
-        ensures { MatchOption result (IsFireOut self.now) (IsLeastToBurn self.now) }
+        ensures { MatchOption result (IsFireOut self.now) (IsNextInFire self.now) }
     {
         least_vertex(intersection(hot(self.heat), self.left))
     }

@@ -6,7 +6,7 @@ ghost use Rattle.dg_theory.specs.Reduced.{IsReduced};
 ghost use Rattle.dg_graph.specs.Sets.{in_set};
 ghost use Rattle.dg_theory.specs.Sets.{IsVertexSet};
 ghost use Rattle.dg_burn.specs.Fires.{dollars};
-ghost use Rattle.dg_burn.specs.Special.{fire_wall, IsGrowingSpecial};
+ghost use Rattle.dg_burn.specs.Special.{never_burning_dollars, IsSearchedForSpecial};
 ghost use Rattle.dg_theory.specs.GreedyDetermining.{IsGreedyDeterminingSet, AllHang, IsSpecialFrom, GreedyDeterminingSetIsOne};
 
 use crate::burning::burn_counted;
@@ -41,7 +41,7 @@ pub fn determining_sets_are_one()
 /// Whether something hangs loosely on each connected set that has all vertices of one set, and none of another. Where
 /// something hangs on the one, only a larger set that takes a vertex of it can be special.
 fn determines_without(graph: &Graph, q: usize, set: u16, stop: u16) -> bool
-    requires { IsGrowingSpecial graph.now (in_set set) q (in_set stop) }
+    requires { IsSearchedForSpecial graph.now (in_set set) q (in_set stop) }
     ensures { MatchBool result
         (AllHang graph.now (in_set set) (in_set stop))
         (IsSpecialFrom graph.now q (in_set set) (in_set stop)) }
@@ -118,7 +118,7 @@ fn count_ways_into(graph: &Graph, set: u16, part: u16, stop: u16) -> usize {
 
 /// So many dollars at each vertex of a set that it does not burn, and none elsewhere.
 fn walled_against_fire(graph: &Graph, set: u16) -> [u8; 16]
-    ensures { (v : ℕ) → v < graph.now.size → dollars result v ≡ fire_wall (in_set set) v }
+    ensures { (v : ℕ) → v < graph.now.size → dollars result v ≡ never_burning_dollars (in_set set) v }
 {
     let mut held = [0; 16];
     for v in 0..graph.size() {

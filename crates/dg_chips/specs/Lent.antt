@@ -1,7 +1,7 @@
 -- What it leaves if one vertex lends, and why it is refused.
 --   IsLent g D v x d                == d holds the amounts after v has lent x times, all of them in
 --                                      range
---   IsLendingRefusal g D v x fault  == the lending is refused for this cause
+--   IsLendingFault g D v x fault    == the lending is refused for this cause
 use Rattle.std.specs.Prelude.{◌≡◌, ℕ, ◌<◌, ◌≤◌, ℤ}
 use Rattle.dg_theory.specs.Firing.{Amounts, fired, only_at}
 use Rattle.dg_theory.specs.Multigraph.{Multigraph}
@@ -15,8 +15,8 @@ pub record IsLent (g : Multigraph) (D : Amounts) (v : ℕ) (x : ℤ) (d : Vector
   pub divisor : IsDivisorVector d
   pub amounts : (w : ℕ) → w < g.size → at d w ≡ fired g D (only_at v x) w
 
-abbrev pub IsLendingRefusal : Multigraph → Amounts → ℕ → ℤ → MoveFault → Type 0
-IsLendingRefusal g D v x NoVertex = g.size ≤ v
-IsLendingRefusal g D v x Empty = ⊥
-IsLendingRefusal g D v x Script = ⊥
-IsLendingRefusal g D v x Range = (v < g.size) × IsOutOfRange g.size (fired g D (only_at v x))
+abbrev pub IsLendingFault : Multigraph → Amounts → ℕ → ℤ → MoveFault → Type 0
+IsLendingFault g D v x NoVertex = g.size ≤ v
+IsLendingFault g D v x Empty = ⊥
+IsLendingFault g D v x Script = ⊥
+IsLendingFault g D v x Range = (v < g.size) × IsOutOfRange g.size (fired g D (only_at v x))

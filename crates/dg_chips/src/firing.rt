@@ -7,7 +7,7 @@ ghost use Rattle.std.specs.Int.RustNames.{unsigned_abs};
 ghost use Rattle.dg_theory.specs.Firing.{gain, fired, FiresTo};
 ghost use Rattle.dg_chips.specs.Vector.{at};
 ghost use Rattle.dg_chips.specs.Applied.{IsAfterMove};
-ghost use Rattle.dg_chips.specs.Lent.{IsLent, IsLendingRefusal};
+ghost use Rattle.dg_chips.specs.Lent.{IsLent, IsLendingFault};
 ghost use Rattle.dg_chips.specs.Refused.{IsMoveFault};
 ghost use Rattle.dg_chips.specs.Light.{IsLightScript};
 ghost use Rattle.dg_chips.specs.declared.moves.Move.TheVariants.{Fire, Script as ScriptMove};
@@ -45,7 +45,7 @@ fn lent(graph: &Graph, divisor: &Divisor, v: usize, times: i32) -> Result<Diviso
     requires times { unsigned_abs times ≤ 1 }
     ensures { MatchResult result
         (IsLent graph.now (at divisor.now) v times)
-        (IsLendingRefusal graph.now (at divisor.now) v times) }
+        (IsLendingFault graph.now (at divisor.now) v times) }
 {
     if v >= graph.size() {
         return Err(MoveFault::NoVertex);

@@ -10,7 +10,7 @@ pub use Rattle.clap.specs.declared.error.kind.ErrorKind.{ErrorKind}
 pub use Rattle.dg_cli.specs.Asks.{Asks, AsksFor, word_of_argument}
 pub use Rattle.dg_cli.specs.Building.{IsArgument, HasSubcommandShape, clap_rule_for, shape_for}
 pub use Rattle.dg_cli.specs.Commands.{bare_program, command_shape}
-pub use Rattle.dg_cli.specs.Faults.{IsSaid, IsWhyWordsAskNothing}
+pub use Rattle.dg_cli.specs.Faults.{IsSaidOfClapError, IsWhyWordsAskNothing}
 pub use Rattle.dg_cli.specs.Numbers.{IsGiven, IsGivenOr, IsArgumentNumber}
 pub use Rattle.dg_cli.specs.Refusals.{AskNothing, RefusesCommandLine}
 pub use Rattle.dg_cli.specs.Telling.{TellsSubcommand, least_of_argument, most_of_argument, argument_rows}

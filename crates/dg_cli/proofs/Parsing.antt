@@ -1,5 +1,5 @@
 -- What a parse of the words tells.
-use Rattle.dg_cli.proofs.Common.{◌≡◌, ◌∙◌, List, [], Option, Some, None, Result, Ok, Err, IsSomeAnd, IfErr, true, inl, inr, refl, ap, subst, App, HasKind, IsAmong, Kinds, Row, Text, fault_of, is_simple, is_simple_and_free, kind_of, subcommand_of, Error, ErrorKind, Invocation, ArgsFault, CommandLine, NotText, OutOfMemory, Asks, AsksFor, AskNothing, RefusesCommandLine, IsSaid, IsWhyWordsAskNothing}
+use Rattle.dg_cli.proofs.Common.{◌≡◌, ◌∙◌, List, [], Option, Some, None, Result, Ok, Err, IsSomeAnd, IfErr, true, inl, inr, refl, ap, subst, App, HasKind, IsAmong, Kinds, Row, Text, fault_of, is_simple, is_simple_and_free, kind_of, subcommand_of, Error, ErrorKind, Invocation, ArgsFault, CommandLine, NotText, OutOfMemory, Asks, AsksFor, AskNothing, RefusesCommandLine, IsSaidOfClapError, IsWhyWordsAskNothing}
 use Rattle.dg_invocation.specs.declared.invocation.Invocation.TheVariants as asked
 use Rattle.dg_cli.specs.Commands.{dollar}
 
@@ -56,7 +56,7 @@ ask_nothing words none h = record { faultless = none; nothing = nothing }
     ]
 
 pub refuses : (words : List Text) (kind : ErrorKind) (r : Result Invocation ArgsFault) → IsWhyWordsAskNothing words kind →
-    IsSaid kind r → IfErr r (λ fault. RefusesCommandLine words fault)
+    IsSaidOfClapError kind r → IfErr r (λ fault. RefusesCommandLine words fault)
 refuses words kind (Ok it) why said = tt
 refuses words kind (Err OutOfMemory) why said = tt
 refuses words kind (Err NotText) why said = said

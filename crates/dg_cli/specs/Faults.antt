@@ -1,7 +1,7 @@
 -- Why words ask for nothing, by the kind of the library's error.
 --   IsWhyWordsAskNothing words kind == memory was refused; or the library finds a fault of that kind; or the
 --                                      words ask for nothing, and the kind is none of help or the version
---   IsSaid kind result              == what is said of an error of that kind: its text, if it is one of help
+--   IsSaidOfClapError kind result   == what is said of an error of that kind: its text, if it is one of help
 --                                      or the version, and else a fault; for want of memory the fault says so
 use Rattle.std.specs.Prelude.{◌≡◌, ◌≢◌, ◌⊎◌, List, Result, Ok, Err, ⊤}
 use Rattle.clap.specs.Words.{IsAmong, Text, fault_of}
@@ -22,9 +22,9 @@ abbrev pub IsWhyWordsAskNothing : List Text → ErrorKind → Type 0
 IsWhyWordsAskNothing words kind =
     (kind ≡ error.OutOfMemory) ⊎ (IsAmong kind (fault_of dollar words) ⊎ (AskNothing words × IsNoCallForHelp kind))
 
-abbrev pub IsSaid : ErrorKind → Result Invocation ArgsFault → Type 0
-IsSaid kind (Ok (asked.Text text)) = (kind ≡ DisplayHelp) ⊎ (kind ≡ DisplayVersion)
-IsSaid kind (Ok _) = ⊥
-IsSaid kind (Err OutOfMemory) = ⊤
-IsSaid kind (Err NotText) = ⊥
-IsSaid kind (Err (CommandLine text)) = (kind ≢ error.OutOfMemory) × IsNoCallForHelp kind
+abbrev pub IsSaidOfClapError : ErrorKind → Result Invocation ArgsFault → Type 0
+IsSaidOfClapError kind (Ok (asked.Text text)) = (kind ≡ DisplayHelp) ⊎ (kind ≡ DisplayVersion)
+IsSaidOfClapError kind (Ok _) = ⊥
+IsSaidOfClapError kind (Err OutOfMemory) = ⊤
+IsSaidOfClapError kind (Err NotText) = ⊥
+IsSaidOfClapError kind (Err (CommandLine text)) = (kind ≢ error.OutOfMemory) × IsNoCallForHelp kind

@@ -4,7 +4,7 @@ ghost use Rattle.clap.specs.Words.{IsAmong, fault_of, kind_of};
 ghost use Rattle.dg_cli.specs.Asks.{Asks};
 ghost use Rattle.dg_cli.specs.Commands.{dollar};
 ghost use Rattle.dg_cli.specs.Refusals.{AskNothing, RefusesCommandLine};
-ghost use Rattle.dg_cli.specs.Faults.{IsNoCallForHelp, IsSaid, IsWhyWordsAskNothing};
+ghost use Rattle.dg_cli.specs.Faults.{IsNoCallForHelp, IsSaidOfClapError, IsWhyWordsAskNothing};
 
 use crate::commands::{SUBCOMMANDS, dollar};
 use crate::reading::{Refusal, asked_by_words};
@@ -44,7 +44,7 @@ pub fn invocation_of<'a>(alloc: Global, words: &'a [String]) -> Result<Invocatio
 
 /// The answer to words that ask for no command: a text for the standard output after a call for help, else a fault.
 fn help_or_error<'a>(alloc: Global, error: &clap::Error) -> Result<Invocation<'a>, ArgsFault>
-    ensures { IsSaid (kind_of error.now) result }
+    ensures { IsSaidOfClapError (kind_of error.now) result }
 {
     if error.kind() == ErrorKind::OutOfMemory {
         return Err(ArgsFault::OutOfMemory);

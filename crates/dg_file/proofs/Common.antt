@@ -7,7 +7,7 @@ pub use Rattle.dg_chips.specs.VectorFaults.{IsFirstPast}
 pub use Rattle.dg_chips.specs.declared.divisor.ChipFault.{ChipFault}
 pub use Rattle.dg_chips.specs.declared.divisor.ChipFault.TheVariants.{Length, Range}
 pub use Rattle.dg_file.specs.Content.{Content, HasJsonParts, IsContent, IsNotJson, JsonParts, ReadsJson, edge_count_in_json, edge_from_json, edge_in_json, edges_in_json, listed_in_json, numbers_in_json, put_first_json, texts_in_json, whole}
-pub use Rattle.dg_file.specs.FileFaults.{FileGivesDivisor, FileGivesGraph, IsEdgeFault, IsFileGraphFault, IsFileNameFault, IsFileContentFault, IsShapeFault, IsShapeFaultOf, IsFileTwiceFault, RefusesTableFile, RefusesTable}
+pub use Rattle.dg_file.specs.FileFaults.{FileGivesDivisor, FileGivesGraph, IsEdgeFault, IsFileGraphFault, IsFileNameFault, IsFileContentFault, IsShapeFault, IsShapeFaultOf, IsFileTwiceFault, RefusesTableFile, RefusesTableContent}
 pub use Rattle.dg_file.specs.FileLaws.{FilesHaveOneMeaning}
 pub use Rattle.dg_file.specs.TableFiles.{IsTableInFile, IsTableFile, item_of_file_edge, items_of_file_content}
 pub use Rattle.dg_file.specs.declared.fault.FileFault.{FileFault}

@@ -10,7 +10,7 @@
 --   edge-three     an array of three values is an edge where they are two texts and a number of edges
 --   edge-others    an array of another number of values is no edge
 use Rattle.dg_file.proofs.Common.{◌≡◌, ◌≢◌, ℕ, suc, ◌+◌, ◌<◌, ◌≤◌, List, [], ◌∷◌, ◌++◌, length, get_or, drop, Option, Some, None, option_map, Bor, Vec, String, Global, refl, sym, ap, ◌∙◌, codes, inl, inr, arith, IsSome, option_and_then, cases_order, append_assoc, append-nil, drop_more, drop_all, Data, null, boolean, number, string, array, object, Members, get, get_member, get_item, as_object, as_array, as_str, view, items_view, members_view, Value, get_item_within, JsonParts, HasJsonParts, put_first_json, edge_in_json, edge_from_json, edge_count_in_json, listed_in_json, IsEdgeFault}
-use Rattle.dg_file.specs.Content.{member_count, each, edge_of_json}
+use Rattle.dg_file.specs.Content.{json_member_count, each, edge_of_json}
 
 abbrev pub after : {A : Type 0} → List A → Option (List A) → Option (List A)
 after xs rest = option_map (λ more. xs ++ more) rest
@@ -77,8 +77,8 @@ get-object k (object own) ms is = ap (get_member k) (let e : own ≡ ms = cc in 
 abbrev Entry : Type 0
 Entry = String Global × Value
 
-member_count-view : (es : List Entry) → member_count (members_view es) ≡ length es
-unfolding member_count
+member_count-view : (es : List Entry) → json_member_count (members_view es) ≡ length es
+unfolding json_member_count
 member_count-view [] = refl
 member_count-view (e ∷ es) = ap suc (member_count-view es)
 
@@ -100,7 +100,7 @@ pub parts-counted : (value : Data) (es : List Entry) (parts : JsonParts) → Som
 parts-counted value es parts is other has =
     let both : Some (members_view es) ≡ Some has.members = is ∙ has.object in
     let same : members_view es ≡ has.members = cc in
-    other (sym (member_count-view es) ∙ ap member_count same ∙ has.four)
+    other (sym (member_count-view es) ∙ ap json_member_count same ∙ has.four)
 
 three : (vs : List Value) (one other count : Value) → length vs ≡ 3 → one ≡ get_or vs 0 one → other ≡ get_or vs 1 other
     → count ≡ get_or vs 2 count → vs ≡ one ∷ other ∷ count ∷ []

@@ -3,7 +3,7 @@
 --   chip-none     and none if they are those of a divisor
 --   table-one     one fault
 --   table-none    no fault where there is a table
-use Rattle.dg_file.proofs.Common.{◌≡◌, ℕ, ◌<◌, ℤ, List, length, refl, sym, ap, ◌∙◌, arith, IsSize, GraphFault, Size, NoVertex, Loop, Multiplicity, Valence, NotConnected, StartData, Vector, at, HoldsNumbers, IsDivisorVector, IsFirstPast, IsFirstChipFault, ChipFault, Length, Range, Content, AreNames, items_of_file_content, IsTableInFile, IsFileGraphFault, IsFileNameFault, IsFileTwiceFault, FileGivesGraph, FileGivesDivisor, RefusesTable, FileFault, Graph, Name, Twice, Chip, NoQ}
+use Rattle.dg_file.proofs.Common.{◌≡◌, ℕ, ◌<◌, ℤ, List, length, refl, sym, ap, ◌∙◌, arith, IsSize, GraphFault, Size, NoVertex, Loop, Multiplicity, Valence, NotConnected, StartData, Vector, at, HoldsNumbers, IsDivisorVector, IsFirstPast, IsFirstChipFault, ChipFault, Length, Range, Content, AreNames, items_of_file_content, IsTableInFile, IsFileGraphFault, IsFileNameFault, IsFileTwiceFault, FileGivesGraph, FileGivesDivisor, RefusesTableContent, FileFault, Graph, Name, Twice, Chip, NoQ}
 use Rattle.dg_file.proofs.OneContent.{none-found, first-once}
 use Rattle.dg_file.proofs.OneGraph.{graph-one, graph-none}
 use Rattle.dg_file.proofs.OneName.{stops-name, stops-twice, stops-one, name-or-twice}
@@ -63,7 +63,7 @@ module _ (content : Content) where
       name-or-twice content.vertices i j
       (stops-one content.vertices i j (stops-name content.vertices i a) (stops-twice content.vertices j b)) a b
 
-  pub table-one : (f h : FileFault) → RefusesTable content f → RefusesTable content h → f ≡ h
+  pub table-one : (f h : FileFault) → RefusesTableContent content f → RefusesTableContent content h → f ≡ h
   table-one (Graph f) (Graph h) a b =
       ap Graph (graph-one (length content.vertices) (items_of_file_content content) f h a.first b.first)
   table-one (Graph f) (Name j) a b = absurd (graph-name f j a b)
@@ -115,7 +115,7 @@ module _ (content : Content) where
   }
 
   pub table-none : (o : StartData) (names : List (List ℕ)) → IsTableInFile content o names → (f : FileFault)
-      → RefusesTable content f → ⊥
+      → RefusesTableContent content f → ⊥
   table-none o names table (Graph f) fault = graph-given f fault (gives-graph o names table)
   table-none o names table (Name i) fault = name-given i fault (gives-graph o names table)
   table-none o names table (Twice i) fault = twice-given i fault (gives-graph o names table)

@@ -5,7 +5,7 @@
 --   JsonParts                  == the values of the four members
 --   ReadsJson bytes value      == the bytes are a JSON text in UTF-8, and that is its value
 --   IsNotJson bytes            == the bytes are not UTF-8, or no JSON text with a value
---   member_count members       == how many members there are
+--   json_member_count members  == how many members there are
 --   HasJsonParts value parts   == the value is an object of just four members, with the names of the parts
 --   put_first_json a rest      == the list of the first and the rest, if both are there
 --   each read items            == what the items are read as, if each can be read
@@ -48,14 +48,14 @@ ReadsJson bytes value = IsUtf8 bytes × (read bytes ≡ Some value)
 abbrev pub IsNotJson : List ℕ → Type 0
 IsNotJson bytes = IsUtf8 bytes → read bytes ≡ None
 
-unfoldable pub member_count : Members → ℕ
-member_count no_members = 0
-member_count (member key value rest) = suc (member_count rest)
+unfoldable pub json_member_count : Members → ℕ
+json_member_count no_members = 0
+json_member_count (member key value rest) = suc (json_member_count rest)
 
 pub record HasJsonParts (value : Data) (parts : JsonParts) : Type 0 where
   pub members : Members
   pub object : as_object value ≡ Some members
-  pub four : member_count members ≡ 4
+  pub four : json_member_count members ≡ 4
   pub vertices : get_member (codes "vertices") members ≡ Some parts.vertices
   pub edges : get_member (codes "edges") members ≡ Some parts.edges
   pub amounts : get_member (codes "amounts") members ≡ Some parts.amounts

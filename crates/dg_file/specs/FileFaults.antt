@@ -12,7 +12,7 @@
 --                                     the first of the graph
 --   FileGivesGraph content         == the names are names, and the vertices and edges give a graph
 --   FileGivesDivisor content       == the amounts are those of a divisor, one for each name
---   RefusesTable content fault     == the first fault of the content
+--   RefusesTableContent content fault == the first fault of the content
 --   IsFileContentFault bytes fault == the bytes say a content, and that is its first fault
 --   RefusesTableFile bytes fault   == the first fault of the bytes; of want of memory nothing is said
 use Rattle.std.specs.Prelude.{◌≡◌, ◌≢◌, ℕ, ◌<◌, List, length, take, slice_get, Some, None, IsSome, IsTrue, ⊤}
@@ -85,24 +85,24 @@ pub record FileGivesDivisor (content : Content) : Type 0 where
   pub amounts : HoldsNumbers content.amounts divisor
   pub within : IsDivisorVector divisor
 
-abbrev pub RefusesTable : Content → FileFault → Type 0
-RefusesTable content Json = ⊥
-RefusesTable content (OfShape shape) = ⊥
-RefusesTable content (Graph fault) = IsFileGraphFault content fault
-RefusesTable content (Name i) = IsFileNameFault content.vertices i
-RefusesTable content (Twice i) = IsFileTwiceFault content.vertices i
-RefusesTable content (Chip fault) =
+abbrev pub RefusesTableContent : Content → FileFault → Type 0
+RefusesTableContent content Json = ⊥
+RefusesTableContent content (OfShape shape) = ⊥
+RefusesTableContent content (Graph fault) = IsFileGraphFault content fault
+RefusesTableContent content (Name i) = IsFileNameFault content.vertices i
+RefusesTableContent content (Twice i) = IsFileTwiceFault content.vertices i
+RefusesTableContent content (Chip fault) =
     FileGivesGraph content × IsFirstChipFault (length content.vertices) content.amounts fault
-RefusesTable content NoQ =
+RefusesTableContent content NoQ =
     FileGivesGraph content × FileGivesDivisor content × (place_of content.vertices content.q ≡ None)
-RefusesTable content OutOfMemory = ⊥
+RefusesTableContent content OutOfMemory = ⊥
 
 pub record IsFileContentFault (bytes : List ℕ) (fault : FileFault) : Type 0 where
   pub value : Data
   pub reads : ReadsJson bytes value
   pub content : Content
   pub says : IsContent value content
-  pub refused : RefusesTable content fault
+  pub refused : RefusesTableContent content fault
 
 abbrev pub RefusesTableFile : List ℕ → FileFault → Type 0
 RefusesTableFile bytes Json = IsNotJson bytes

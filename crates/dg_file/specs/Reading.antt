@@ -12,7 +12,7 @@ use Rattle.dg_graph.specs.declared.fault.GraphFault.TheVariants.{Size}
 use Rattle.serde_json.specs.Data.{Data}
 use Rattle.serde_json.specs.View.{view}
 use Rattle.dg_file.specs.Content.{JsonParts, Content, IsContent}
-use Rattle.dg_file.specs.FileFaults.{IsShapeFault, IsFileNameFault, IsFileTwiceFault, RefusesTable}
+use Rattle.dg_file.specs.FileFaults.{IsShapeFault, IsFileNameFault, IsFileTwiceFault, RefusesTableContent}
 use Rattle.dg_file.specs.declared.fault.FileFault.{FileFault}
 use Rattle.dg_file.specs.declared.fault.FileFault.TheVariants as file
 use Rattle.dg_file.specs.declared.shape.Members.{Members}
@@ -44,11 +44,11 @@ RefusesFileNames names fault = ⊥
 
 abbrev pub RefusesContent : Content → FileFault → Type 0
 RefusesContent content file.OutOfMemory = ⊤
-RefusesContent content fault = RefusesTable content fault
+RefusesContent content fault = RefusesTableContent content fault
 
 abbrev pub RefusesJsonValue : Data → FileFault → Type 0
 RefusesJsonValue value file.Json = ⊥
 RefusesJsonValue value (file.Shape part) = IsShapeFault value part
 RefusesJsonValue value file.OutOfMemory = ⊤
 RefusesJsonValue value fault =
-    (content : Content) × IsContent value content × RefusesTable content fault
+    (content : Content) × IsContent value content × RefusesTableContent content fault

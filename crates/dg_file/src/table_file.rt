@@ -3,7 +3,7 @@ ghost use Rattle.std.specs.Prelude.{◌≡◌, [], length, map, IfOk, IfErr, OnO
 ghost use Rattle.dg_graph.specs.Faults.{IsSize};
 ghost use Rattle.dg_tokens.specs.Names.{AreNames};
 ghost use Rattle.dg_file.specs.TableFiles.{IsTableInFile, IsTableFile, vertex_named_in_file, items_of_file_content};
-ghost use Rattle.dg_file.specs.FileFaults.{RefusesTable, RefusesTableFile};
+ghost use Rattle.dg_file.specs.FileFaults.{RefusesTableContent, RefusesTableFile};
 ghost use Rattle.dg_file.specs.Reading.{RefusesFileNames, RefusesContent, RefusesJsonValue};
 ghost use Rattle.dg_file.specs.Content.{Content, IsContent};
 ghost use Rattle.serde_json.specs.View.{view};
@@ -136,7 +136,7 @@ fn start_from_json(
     requires are_names { AreNames names.now }
     requires items { items.now ≡ items_of_file_content content.now }
     ensures table { IfOk result (λ start. IsTableInFile content.now start names.now) }
-    ensures refused { IfErr result (RefusesTable content.now) }
+    ensures refused { IfErr result (RefusesTableContent content.now) }
 {
     let graph = Graph::new(names.len(), items)?;
     let divisor = Divisor::new(&graph, content.amounts.as_slice())?;

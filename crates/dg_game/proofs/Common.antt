@@ -17,7 +17,7 @@ pub use Rattle.dg_rules.specs.declared.step.Command.{Command}
 pub use Rattle.dg_rules.specs.declared.step.Command.TheVariants.{Call, Commit, Rank}
 pub use Rattle.dg_rules.specs.declared.step.Step.{Step}
 pub use Rattle.dg_rank.specs.Limits.{ArePastTrialLimits}
-pub use Rattle.dg_game.specs.Rehearsal.{IsPlayingSchedule, KeepsLook, PlaysScheduleOn, StopsSchedule}
+pub use Rattle.dg_game.specs.Rehearsal.{IsPlayingSchedule, RehearsalKeepsLook, PlaysScheduleOn, StopsSchedule}
 pub use Rattle.dg_game.specs.Schedule.{IsScheduleGoodBefore, HasScheduleLook, ScheduleHasTrials, IsAskedInSchedule, IsEntryOfSchedule, IsGoodScheduleStep, IsKeptInSchedule, StepUsesKeptLook, UsesUpKeptLook}
 pub use Rattle.dg_game.specs.ScheduleFaults.{IsFirstRehearsalFault}
 pub use Rattle.dg_game.specs.declared.schedule.Rehearsal.{Rehearsal}

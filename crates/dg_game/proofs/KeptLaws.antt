@@ -6,7 +6,7 @@
 --   keeps_more     the look that a seat keeps stays, unless the step is the seat's and uses looks
 --   keeps_new      after a look by the seat it keeps that one
 --   keeps_none     after a step of the seat that uses its look up it keeps none
-use Rattle.dg_game.proofs.Common.{◌≡◌, ℕ, ◌+◌, List, [], ◌∷◌, ◌++◌, length, length-append, slice_get, Option, Some, None, arith, refl, sym, ap, subst, ◌∙◌, inl, inr, cases_lt, StartData, IsLookAt, KeepsLook, UsesUpKeptLook, StepUsesKeptLook, IsKeptInSchedule, Entry, LookData, Command, Call, Commit, Rank, Step, look_kept}
+use Rattle.dg_game.proofs.Common.{◌≡◌, ℕ, ◌+◌, List, [], ◌∷◌, ◌++◌, length, length-append, slice_get, Option, Some, None, arith, refl, sym, ap, subst, ◌∙◌, inl, inr, cases_lt, StartData, IsLookAt, RehearsalKeepsLook, UsesUpKeptLook, StepUsesKeptLook, IsKeptInSchedule, Entry, LookData, Command, Call, Commit, Rank, Step, look_kept}
 use Rattle.dg_rules.specs.declared.entry.Plain.TheVariants as plain
 
 -- the step is another seat's, or uses no look
@@ -90,8 +90,8 @@ longer H e = omega (arith, length-append H (e ∷ []))
 
 pub keeps_more : (o : StartData) (H : List Entry) (e : Entry) (steps : List Step) (seat : ℕ) (step : Step)
     (x : Option LookData) →
-    slice_get steps (length H) ≡ Some step → LeavesLook seat step → KeepsLook o H steps seat x →
-    KeepsLook o (H ++ e ∷ []) steps seat x
+    slice_get steps (length H) ≡ Some step → LeavesLook seat step → RehearsalKeepsLook o H steps seat x →
+    RehearsalKeepsLook o (H ++ e ∷ []) steps seat x
 keeps_more o H e steps seat step (Some x) there leaves (kept, look) =
     (rw (longer H e) (kept_more steps seat (length H) x.number step there leaves kept), look_kept o H e x look)
 keeps_more o H e steps seat step None there leaves none =
@@ -100,11 +100,11 @@ keeps_more o H e steps seat step None there leaves none =
 
 pub keeps_new : (o : StartData) (H : List Entry) (e : Entry) (steps : List Step) (seat : ℕ) (x : LookData) →
     slice_get steps (length H) ≡ Some (record { seat = seat; command = Call plain.Look }) → x.number ≡ length H →
-    IsLookAt o (H ++ e ∷ []) x → KeepsLook o (H ++ e ∷ []) steps seat (Some x)
+    IsLookAt o (H ++ e ∷ []) x → RehearsalKeepsLook o (H ++ e ∷ []) steps seat (Some x)
 keeps_new o H e steps seat x there number look = (rw (longer H e, number) (kept_new steps seat (length H) there), look)
 
 pub keeps_none : (o : StartData) (H : List Entry) (e : Entry) (steps : List Step) (seat : ℕ) (c : Command) →
     slice_get steps (length H) ≡ Some (record { seat = seat; command = c }) → UsesUpKeptLook c →
-    KeepsLook o (H ++ e ∷ []) steps seat None
+    RehearsalKeepsLook o (H ++ e ∷ []) steps seat None
 keeps_none o H e steps seat c there up i kept =
     kept_none steps seat (length H) i c there up (subst (λ n. IsKeptInSchedule steps seat n i) (longer H e) kept)

@@ -13,7 +13,7 @@
 --   past_limits    a rank test past the limits is the first fault, where the seat keeps a look
 --   plays_at, stops_at   a step is played, or stops the play, as its command
 --   told_err       a refusal that is handed on tells what it told before
-use Rattle.dg_game.proofs.Common.{◌≡◌, ℕ, ◌+◌, ◌<◌, List, [], ◌∷◌, ◌++◌, length, length-append, slice_get, Option, Some, None, Result, Ok, Err, set, arith, refl, sym, ap, subst, ◌∙◌, inl, inr, length-set, replicate, slice_index_or, MatchResult, IsErrAnd, cases_lt, cases_eq, get_or-set_same, get_or-set_other, get_or-replicate, length-replicate, StartData, ArePastTrialLimits, IsSeatInGame, IsLegal, KeepsLook, IsPlayingSchedule, PlaysScheduleOn, StopsSchedule, RehearseFault, asked, UsesUpKeptLook, StepUsesKeptLook, IsKeptInSchedule, IsAskedInSchedule, IsEntryOfSchedule, HasScheduleLook, ScheduleHasTrials, IsGoodScheduleStep, IsScheduleGoodBefore, IsFirstRehearsalFault, HistoryLeadsTo, Entry, Plain, MAX_ENTRIES, LookData, Rehearsal, TooMany, Command, Call, Commit, Rank, Step, more_holds, legal_none, look_new}
+use Rattle.dg_game.proofs.Common.{◌≡◌, ℕ, ◌+◌, ◌<◌, List, [], ◌∷◌, ◌++◌, length, length-append, slice_get, Option, Some, None, Result, Ok, Err, set, arith, refl, sym, ap, subst, ◌∙◌, inl, inr, length-set, replicate, slice_index_or, MatchResult, IsErrAnd, cases_lt, cases_eq, get_or-set_same, get_or-set_other, get_or-replicate, length-replicate, StartData, ArePastTrialLimits, IsSeatInGame, IsLegal, RehearsalKeepsLook, IsPlayingSchedule, PlaysScheduleOn, StopsSchedule, RehearseFault, asked, UsesUpKeptLook, StepUsesKeptLook, IsKeptInSchedule, IsAskedInSchedule, IsEntryOfSchedule, HasScheduleLook, ScheduleHasTrials, IsGoodScheduleStep, IsScheduleGoodBefore, IsFirstRehearsalFault, HistoryLeadsTo, Entry, Plain, MAX_ENTRIES, LookData, Rehearsal, TooMany, Command, Call, Commit, Rank, Step, more_holds, legal_none, look_new}
 use Rattle.dg_rules.specs.declared.entry.Plain.TheVariants as plain
 use Rattle.dg_game.proofs.KeptLaws.{keeps_more, keeps_new, keeps_none}
 
@@ -45,7 +45,7 @@ good_more size steps n step there good before k s below at = elim (cases_lt k n)
 
 -- the looks kept after a history
 abbrev pub AreLooks : StartData → List Entry → List Step → List (Option LookData) → Type 0
-AreLooks o H steps looks = (seat : ℕ) → IsSeatInGame seat → KeepsLook o H steps seat (slice_index_or looks seat None)
+AreLooks o H steps looks = (seat : ℕ) → IsSeatInGame seat → RehearsalKeepsLook o H steps seat (slice_index_or looks seat None)
 
 pub playing_more : (o : StartData) (H : List Entry) (steps : List Step) (r t : Rehearsal) (step : Step) (e : Entry) →
     IsPlayingSchedule o steps H r →
@@ -75,7 +75,7 @@ looks_same o H e steps step looks there leaves kept seat is =
 pub looks_set : (o : StartData) (H : List Entry) (e : Entry) (steps : List Step) (step : Step)
     (looks : List (Option LookData)) (x : Option LookData) →
     slice_get steps (length H) ≡ Some step → length looks ≡ 65 → IsSeatInGame step.seat →
-    KeepsLook o (H ++ e ∷ []) steps step.seat x →
+    RehearsalKeepsLook o (H ++ e ∷ []) steps step.seat x →
     AreLooks o H steps looks → AreLooks o (H ++ e ∷ []) steps (set looks step.seat x)
 looks_set o H e steps step looks x there places its keeps kept seat is = elim (cases_eq seat step.seat) [
   | inl same ↦ rw (same, get_or-set_same looks step.seat x None (omega (arith, places, its.1))) keeps
@@ -127,7 +127,7 @@ has_look steps seat j i (Rank k) kept = (i, kept)
 
 pub entered : (o : StartData) (H : List Entry) (e : Entry) (steps : List Step) (r t : Rehearsal) (seat : ℕ) (c : Command)
     (x : LookData) → IsPlayingSchedule o steps H r → slice_get steps (length H) ≡ Some (record { seat = seat; command = c }) →
-    IsSeatInGame seat → KeepsLook o H steps seat (Some x) → UsesUpKeptLook c → ScheduleHasTrials o.graph.size c →
+    IsSeatInGame seat → RehearsalKeepsLook o H steps seat (Some x) → UsesUpKeptLook c → ScheduleHasTrials o.graph.size c →
     e.seat ≡ seat → IsAskedInSchedule steps seat (length H) c e.request →
     IsLegal o (H ++ e ∷ []) → HistoryLeadsTo o (H ++ e ∷ []) t.game →
     t.q ≡ r.q → t.looks ≡ set r.looks seat None → IsPlayingSchedule o steps (H ++ e ∷ []) t

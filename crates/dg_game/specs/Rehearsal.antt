@@ -1,5 +1,5 @@
 -- A schedule that is being played.
---   KeepsLook o H steps seat x    == x is the look that the seat keeps after the history H, if it keeps one
+--   RehearsalKeepsLook o H steps seat x == x is the look that the seat keeps after the history H, if it keeps one
 --   IsPlayingSchedule o steps H r == after the first steps the history is H, and r holds the game, its vertex
 --                                    q and the looks kept
 --   IsRehearsalInPlay r           == r is what some schedule has come to
@@ -22,9 +22,9 @@ use Rattle.dg_game.specs.declared.schedule.Rehearsal.{Rehearsal}
 use Rattle.dg_game.specs.declared.schedule.RehearseFault.{RehearseFault}
 use Rattle.dg_game.specs.declared.schedule.RehearseFault.TheVariants.{OutOfMemory}
 
-abbrev pub KeepsLook : StartData → List Entry → List Step → ℕ → Option LookData → Type 0
-KeepsLook o H steps seat (Some x) = IsKeptInSchedule steps seat (length H) x.number × IsLookAt o H x
-KeepsLook o H steps seat None = (i : ℕ) → ¬ IsKeptInSchedule steps seat (length H) i
+abbrev pub RehearsalKeepsLook : StartData → List Entry → List Step → ℕ → Option LookData → Type 0
+RehearsalKeepsLook o H steps seat (Some x) = IsKeptInSchedule steps seat (length H) x.number × IsLookAt o H x
+RehearsalKeepsLook o H steps seat None = (i : ℕ) → ¬ IsKeptInSchedule steps seat (length H) i
 
 pub record IsPlayingSchedule (o : StartData) (steps : List Step) (H : List Entry)
     (r : Rehearsal) : Type 0 where
@@ -35,7 +35,7 @@ pub record IsPlayingSchedule (o : StartData) (steps : List Step) (H : List Entry
   pub entries : (j : ℕ) (step : Step) (e : Entry) → slice_get steps j ≡ Some step →
       slice_get H j ≡ Some e → IsEntryOfSchedule steps j step e
   pub places : length r.looks ≡ 65
-  pub looks : (seat : ℕ) → IsSeatInGame seat → KeepsLook o H steps seat (slice_index_or r.looks seat None)
+  pub looks : (seat : ℕ) → IsSeatInGame seat → RehearsalKeepsLook o H steps seat (slice_index_or r.looks seat None)
 
 abbrev pub IsRehearsalInPlay : Rehearsal → Type 0
 IsRehearsalInPlay r = (o : StartData) × (H : List Entry) × (steps : List Step) × IsPlayingSchedule o steps H r

@@ -5,7 +5,7 @@ ghost use Rattle.dg_rules.specs.Legal.{IsSeatInGame};
 ghost use Rattle.dg_rules.specs.Look.{IsRightFinding, request_for_finding, request_for_question};
 ghost use Rattle.dg_game.specs.Schedule.{UsesUpKeptLook, IsKeptInSchedule, IsAskedInSchedule, ScheduleHasTrials, IsRehearsal};
 ghost use Rattle.dg_game.specs.ScheduleFaults.{IsFirstRehearsalFault};
-ghost use Rattle.dg_game.specs.Rehearsal.{KeepsLook, IsPlayingSchedule, IsRehearsalInPlay, PlaysScheduleOn, StopsSchedule};
+ghost use Rattle.dg_game.specs.Rehearsal.{RehearsalKeepsLook, IsPlayingSchedule, IsRehearsalInPlay, PlaysScheduleOn, StopsSchedule};
 ghost use Rattle.dg_rules.specs.declared.entry.Entry.{Entry};
 ghost use Rattle.dg_rules.specs.declared.step.Command.{Command};
 ghost use Rattle.dg_rules.specs.declared.step.Step.{Step};
@@ -221,7 +221,7 @@ impl Rehearsal {
         requires playing { IsRehearsalInPlay self.now }
         requires seat { IsSeatInGame seat }
         ensures { (o : StartData) (H : List Entry) (steps : List Step) →
-            IsPlayingSchedule o steps H self.now → KeepsLook o H steps seat result }
+            IsPlayingSchedule o steps H self.now → RehearsalKeepsLook o H steps seat result }
     {
         self.looks[usize::from(seat)]
     }
@@ -236,12 +236,12 @@ impl Rehearsal {
         entry: &mut Entry,
     )
         requires playing { (o : StartData) × (H : List Entry) × (steps : List Step) ×
-            IsPlayingSchedule o steps H self.old × KeepsLook o H steps seat (Some look.now) }
+            IsPlayingSchedule o steps H self.old × RehearsalKeepsLook o H steps seat (Some look.now) }
         requires found { IsRightFinding self.old.game.q look.now finding.now }
         requires room { self.old.game.entries < MAX_ENTRIES }
         requires seat { IsSeatInGame seat }
         ensures { (o : StartData) (H : List Entry) (steps : List Step) (c : Command) →
-            IsPlayingSchedule o steps H self.old → KeepsLook o H steps seat (Some look.now) →
+            IsPlayingSchedule o steps H self.old → RehearsalKeepsLook o H steps seat (Some look.now) →
             slice_get steps (length H) ≡ Some (record { seat = seat; command = c }) →
             UsesUpKeptLook c → ScheduleHasTrials o.graph.size c →
             IsAskedInSchedule steps seat (length H) c (request_for_finding look.now.number finding.now) →
@@ -261,12 +261,12 @@ impl Rehearsal {
         entry: &mut Entry,
     )
         requires playing { (o : StartData) × (H : List Entry) × (steps : List Step) ×
-            IsPlayingSchedule o steps H self.old × KeepsLook o H steps seat (Some look.now) }
+            IsPlayingSchedule o steps H self.old × RehearsalKeepsLook o H steps seat (Some look.now) }
         requires stale { look.now.gifts ≢ self.old.game.gifts }
         requires room { self.old.game.entries < MAX_ENTRIES }
         requires seat { IsSeatInGame seat }
         ensures { (o : StartData) (H : List Entry) (steps : List Step) (c : Command) →
-            IsPlayingSchedule o steps H self.old → KeepsLook o H steps seat (Some look.now) →
+            IsPlayingSchedule o steps H self.old → RehearsalKeepsLook o H steps seat (Some look.now) →
             slice_get steps (length H) ≡ Some (record { seat = seat; command = c }) →
             UsesUpKeptLook c → ScheduleHasTrials o.graph.size c →
             IsAskedInSchedule steps seat (length H) c (request_for_question look.now.number asks.now) →

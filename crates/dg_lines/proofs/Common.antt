@@ -13,7 +13,7 @@ pub use Rattle.dg_rules.specs.declared.entry.Plain.TheVariants.{Claim, Gift, Joi
 pub use Rattle.dg_rules.specs.declared.step.Command.{Command}
 pub use Rattle.dg_rules.specs.declared.step.Command.TheVariants.{Call, Commit, Rank}
 pub use Rattle.dg_rules.specs.declared.step.Step.{Step}
-pub use Rattle.dg_lines.specs.CommandWords.{AreNamesOnLine, WordsOnLineAreNamed, AreNumbersOnLine, IsNumeralForWord, IsNumeralWithin, IsScriptSpelledBy, IsScriptWord, IsSetSpelledBy, Kind, degree, dollars, name_part_of_item, number_part_of_item, vertex, vertices}
+pub use Rattle.dg_lines.specs.CommandWords.{AreNamesOnLine, WordsOnLineAreNamed, AreNumbersOnLine, IsNumeralForWord, IsNumeralWithin, IsScriptSpelledBy, SpellsScript, IsSetSpelledBy, WordKind, degree, dollars, name_part_of_item, number_part_of_item, vertex, vertices}
 pub use Rattle.dg_lines.specs.Commands.{LineSpellsCommand, IsWellFormedLine, Means, kinds_on_line, kinds_wanted_on_line, words_wanted_on_line}
 pub use Rattle.dg_lines.specs.Cuts.{items, onto_first_piece, text_pieces_after, words, words_after}
 pub use Rattle.dg_lines.specs.Judgements.{JudgementHasNames, burning_text}
@@ -21,7 +21,7 @@ pub use Rattle.dg_lines.specs.Keywords.{AreWords, IsBadScriptWord, keyword_kinds
 pub use Rattle.dg_lines.specs.LineFaults.{AreRefusedStepLines, IsLineFault}
 pub use Rattle.dg_lines.specs.LineLaws.{IsLineDigit, IsLineNumeral, IsShortLineNumeral, IsUnsignedLineNumeral, LinesHaveOneMeaning, LineNumeralsAreDecimals, StepsHaveOneMeaning}
 pub use Rattle.dg_lines.specs.Schedules.{AreStepsOf, StepLinesHaveSeats}
-pub use Rattle.dg_lines.specs.Steps.{IsSeatedLine, IsStepFault, IsStepLine, IsTextFault}
+pub use Rattle.dg_lines.specs.Steps.{IsSeatedLine, IsStepFault, IsStepLine, IsStepTextFault}
 pub use Rattle.dg_lines.specs.Streams.{BeginsWithLines, HasNoNewline, LinesOfTextHaveCome, last_line, with_newline}
 pub use Rattle.dg_lines.specs.Texts.{RepliesHaveNames, entry_text, pair, rank_text, verdict_text, verdict_word}
 pub use Rattle.dg_lines.specs.declared.command.Keyword.{Keyword}

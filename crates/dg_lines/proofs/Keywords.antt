@@ -5,7 +5,7 @@
 --   some_words              behind a space there are words
 --   none_there, word_more, word_less   no words, one more and one less
 --   well_formed, ill_formed whether just the words follow that are wanted
-use Rattle.dg_lines.proofs.Common.{◌≡◌, ◌≢◌, ℕ, ◌+◌, ◌==◌, ◌⊎◌, inl, inr, Bool, true, false, List, [], ◌∷◌, length, Option, Some, refl, ap, sym, ◌∙◌, arith, Bor, bytes_eq, IsSome, is_some, option_map, option_copied, nat_tests, All-nil, All-cons, All-head, All-tail, bytes_eq-Decides, words_after, Keyword, Lend, Kind, kinds_wanted_on_line, words_wanted_on_line, IsWellFormedLine, spelling, keyword_kinds, AreWords}
+use Rattle.dg_lines.proofs.Common.{◌≡◌, ◌≢◌, ℕ, ◌+◌, ◌==◌, ◌⊎◌, inl, inr, Bool, true, false, List, [], ◌∷◌, length, Option, Some, refl, ap, sym, ◌∙◌, arith, Bor, bytes_eq, IsSome, is_some, option_map, option_copied, nat_tests, All-nil, All-cons, All-head, All-tail, bytes_eq-Decides, words_after, Keyword, Lend, WordKind, kinds_wanted_on_line, words_wanted_on_line, IsWellFormedLine, spelling, keyword_kinds, AreWords}
 use Rattle.dg_lines.specs.Cuts.{before, after}
 use Rattle.dg_lines.specs.Commands.{kinds_beside}
 use Rattle.dg_lines.proofs.Cutting.{pieces_cut}
@@ -49,7 +49,7 @@ pub none_there : AreWords 0 []
 none_there = record { count = refl; filled = All-nil (λ w. w ≢ []) }
 
 -- ---- the words that are wanted
-module _ (keyword : List ℕ) (keyword_kinds : List Kind) (rest : List (List ℕ)) (wants : kinds_wanted_on_line keyword ≡ Some
+module _ (keyword : List ℕ) (keyword_kinds : List WordKind) (rest : List (List ℕ)) (wants : kinds_wanted_on_line keyword ≡ Some
     keyword_kinds) where
   counted : words_wanted_on_line keyword ≡ Some (length keyword_kinds)
   counted = ap (option_map length) wants

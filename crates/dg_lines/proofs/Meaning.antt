@@ -1,11 +1,11 @@
 -- A line spells no two commands, has no two faults, and never both.
 --   line_read        what is read of the words of a line is what the line spells, or its fault
 --   lines_have_one_meaning
-use Rattle.dg_lines.proofs.Common.{◌≡◌, ℕ, ◌<◌, ◌^◌, cond, true, false, ℤ, pos, List, [], ◌∷◌, length, map, Some, None, Result, Ok, Err, refl, ap, sym, ◌∙◌, subst, arith, codes, FitsSigned, w64, decimal, MatchResult, IfOk, IfErr, All, IsSome, is_some, bytes_eq, option_map, signed_decimal, decimal_injective, signed_decimal_injective, ints, All-nil, All-cons, Vector, Move, Borrow, Fire, Script, Command, Call, Commit, Rank, Gift, Join, Look, Claim, name_at, LineFault, Seat, Word, Form, Name, Number, words, items, Kind, vertex, vertices, degree, dollars, name_part_of_item, number_part_of_item, IsNumeralForWord, WordsOnLineAreNamed, AreNumbersOnLine, IsScriptWord, IsSetSpelledBy, kinds_wanted_on_line, kinds_on_line, IsWellFormedLine, Means, LineSpellsCommand, AreRefusedStepLines, IsLineFault, one_vector, LinesHaveOneMeaning}
+use Rattle.dg_lines.proofs.Common.{◌≡◌, ℕ, ◌<◌, ◌^◌, cond, true, false, ℤ, pos, List, [], ◌∷◌, length, map, Some, None, Result, Ok, Err, refl, ap, sym, ◌∙◌, subst, arith, codes, FitsSigned, w64, decimal, MatchResult, IfOk, IfErr, All, IsSome, is_some, bytes_eq, option_map, signed_decimal, decimal_injective, signed_decimal_injective, ints, All-nil, All-cons, Vector, Move, Borrow, Fire, Script, Command, Call, Commit, Rank, Gift, Join, Look, Claim, name_at, LineFault, Seat, Word, Form, Name, Number, words, items, WordKind, vertex, vertices, degree, dollars, name_part_of_item, number_part_of_item, IsNumeralForWord, WordsOnLineAreNamed, AreNumbersOnLine, SpellsScript, IsSetSpelledBy, kinds_wanted_on_line, kinds_on_line, IsWellFormedLine, Means, LineSpellsCommand, AreRefusedStepLines, IsLineFault, one_vector, LinesHaveOneMeaning}
 use Rattle.dg_chips.specs.declared.moves.Move.TheVariants.{Lend}
 use Rattle.dg_rules.specs.declared.entry.Plain.TheVariants.{Move as Play}
 use Rattle.dg_tokens.specs.Names.{place_of}
-use Rattle.dg_lines.specs.CommandWords.{number_in_script}
+use Rattle.dg_lines.specs.CommandWords.{number_spelled_for}
 use Rattle.dg_lines.specs.Commands.{kinds_beside}
 use Rattle.dg_lines.proofs.Given.{named_alone, none_given, one_set}
 use Rattle.dg_lines.proofs.Integers.{within_fits}
@@ -46,10 +46,10 @@ rank_number : (k : ℕ) → k < 2 ^ 32 → IsNumeralForWord degree (decimal k)
 rank_number k small =
     record { number = pos k; spelled = refl; not_less = omega (arith, ints); not_more = omega (arith, ints) }
 
-no_numbers : (kind : Kind) → All (IsNumeralForWord kind) []
+no_numbers : (kind : WordKind) → All (IsNumeralForWord kind) []
 no_numbers kind = All-nil (IsNumeralForWord kind)
 
-one_number : (kind : Kind) (text : List ℕ) → IsNumeralForWord kind text → All (IsNumeralForWord kind) (text ∷ [])
+one_number : (kind : WordKind) (text : List ℕ) → IsNumeralForWord kind text → All (IsNumeralForWord kind) (text ∷ [])
 one_number kind text good = All-cons (IsNumeralForWord kind) text [] good (no_numbers kind)
 
 module _ (names : List (List ℕ)) (keyword : List ℕ) (rest : List (List ℕ)) where
@@ -148,14 +148,14 @@ module _ (names : List (List ℕ)) where
   one_place : (word : List ℕ) (v w : ℕ) → place_of names word ≡ Some v → place_of names word ≡ Some w → v ≡ w
   one_place word v w here there = let same : Some v ≡ Some w = sym here ∙ there in cc
 
-  one_script : (word : List ℕ) (s t : Vector) → IsScriptWord names word s → IsScriptWord names word t
+  one_script : (word : List ℕ) (s t : Vector) → SpellsScript names word s → SpellsScript names word t
       → s ≡ t
   one_script word s t first second =
       one_vector 1_000_000_000 s t first.script.within second.script.within
       (first.script.size ∙ sym second.script.size) (λ v inside.
       let below : v < length names = omega (arith, inside, first.script.size) in
       first.script.entries v below
-      ∙ ap (λ xs. number_in_script (map name_part_of_item (items word)) xs (name_at names v)) numbers
+      ∙ ap (λ xs. number_spelled_for (map name_part_of_item (items word)) xs (name_at names v)) numbers
       ∙ sym (second.script.entries v below))
     where
       numbers : first.numbers ≡ second.numbers
@@ -198,7 +198,7 @@ module _ (names : List (List ℕ)) (keyword : List ℕ) (rest : List (List ℕ))
   one_command (Call (Play (Script s))) d (word, one, (key, known)) other form =
       let (t, is) = subst (HasForm d) key form in
       let also = meant_as d (play (Script t)) is other in
-      let there = subst (λ w. IsScriptWord names w t) (one_word word also.0 rest one also.1) also.2.1 in
+      let there = subst (λ w. SpellsScript names w t) (one_word word also.0 rest one also.1) also.2.1 in
       ap (λ x. play (Script x)) (one_script names word s t known there) ∙ sym is
   one_command (Call (Gift v x)) d (key, known) other form =
       let (w, y, is) = subst (HasForm d) key form in

@@ -17,7 +17,7 @@ use Rattle.dg_graph.specs.Sets.{in_set}
 use Rattle.dg_tokens.specs.Names.{place_of}
 use Rattle.dg_tokens.proofs.NamesLaws.{or-false}
 use Rattle.dg_lines.specs.Cuts.{after}
-use Rattle.dg_lines.specs.CommandWords.{number_in_script}
+use Rattle.dg_lines.specs.CommandWords.{number_spelled_for}
 use Rattle.dg_lines.proofs.Given.{same_bytes, vertex_named, IsNamedNext, is_next, other_name, HasTaken, none_taken, one_taken, all_there}
 
 abbrev pub IsEntryText : List ℕ → Type 0
@@ -69,22 +69,22 @@ either_within true x y first second = first
 either_within false x y first second = second
 
 given_within : (given : List (List ℕ)) (numbers : List ℤ) (name : List ℕ) → All IsSmall numbers
-    → IsSmall (number_in_script given numbers name)
-unfolding number_in_script
+    → IsSmall (number_spelled_for given numbers name)
+unfolding number_spelled_for
 given_within [] numbers name within = omega arith
 given_within (first ∷ given) [] name within = omega arith
 given_within (first ∷ given) (x ∷ numbers) name within =
-    either_within (bytes_eq first name) x (number_in_script given numbers name)
+    either_within (bytes_eq first name) x (number_spelled_for given numbers name)
     (All-head IsSmall x numbers within) (given_within given numbers name (All-tail IsSmall x numbers within))
 
-none_is_given : (numbers : List ℤ) (name : List ℕ) → number_in_script [] numbers name ≡ pos 0
-unfolding number_in_script
+none_is_given : (numbers : List ℤ) (name : List ℕ) → number_spelled_for [] numbers name ≡ pos 0
+unfolding number_spelled_for
 none_is_given numbers name = refl
 
 module _ (name own : List ℕ) (x : ℤ) where
   given_before : (done : List (List ℕ)) (numbers : List ℤ) → length done ≡ length numbers → bytes_eq name own ≡ false
-      → number_in_script (done ++ name ∷ []) (numbers ++ x ∷ []) own ≡ number_in_script done numbers own
-  unfolding number_in_script
+      → number_spelled_for (done ++ name ∷ []) (numbers ++ x ∷ []) own ≡ number_spelled_for done numbers own
+  unfolding number_spelled_for
   given_before [] [] count other = ap (λ t. cond t x (pos 0)) other
   given_before [] (y ∷ numbers) count other = absurd (omega arith)
   given_before (first ∷ done) [] count other = absurd (omega arith)
@@ -92,14 +92,14 @@ module _ (name own : List ℕ) (x : ℤ) where
       ap (λ rest. cond (bytes_eq first own) y rest) (given_before done numbers (omega arith) other)
 
   given_last : (done : List (List ℕ)) (numbers : List ℤ) → length done ≡ length numbers → has done own ≡ false
-      → bytes_eq name own ≡ true → number_in_script (done ++ name ∷ []) (numbers ++ x ∷ []) own ≡ x
-  unfolding number_in_script
+      → bytes_eq name own ≡ true → number_spelled_for (done ++ name ∷ []) (numbers ++ x ∷ []) own ≡ x
+  unfolding number_spelled_for
   given_last [] [] count fresh same = ap (λ t. cond t x (pos 0)) same
   given_last [] (y ∷ numbers) count fresh same = absurd (omega arith)
   given_last (first ∷ done) [] count fresh same = absurd (omega arith)
   given_last (first ∷ done) (y ∷ numbers) count fresh same =
       let (differs, later) = or-false (bytes_eq own first) (has done own) fresh in
-      ap (λ t. cond t y (number_in_script (done ++ name ∷ []) (numbers ++ x ∷ []) own))
+      ap (λ t. cond t y (number_spelled_for (done ++ name ∷ []) (numbers ++ x ∷ []) own))
       (same_bytes.symm first own ∙ differs) ∙ given_last done numbers (omega arith) later same
 
 -- ---- the loop
@@ -108,7 +108,7 @@ pub record AreRead (names given texts : List (List ℕ)) (entries : List ℤ) (f
   pub count : length given ≡ length numbers
   pub size : length entries ≡ 16
   pub entered : (v : ℕ) → v < length names
-      → slice_index_or entries v (pos 0) ≡ number_in_script given numbers (name_at names v)
+      → slice_index_or entries v (pos 0) ≡ number_spelled_for given numbers (name_at names v)
   pub within : All IsSmall numbers
   pub spelled : flag ≡ true → texts ≡ map signed_decimal numbers
   pub unspelled : flag ≡ false → All IsEntryText texts → ⊥
@@ -194,7 +194,7 @@ module _ (names done told : List (List ℕ)) (entries : List ℤ) (flag : Bool)
       found = vertex_named names name v next.place
 
       number : (w : ℕ) → w < length names → (t : Bool) → (w == v) ≡ t → slice_index_or (slice_set entries v x) w (pos 0)
-          ≡ number_in_script (done ++ name ∷ []) (known.numbers ++ x ∷ []) (name_at names w)
+          ≡ number_spelled_for (done ++ name ∷ []) (known.numbers ++ x ∷ []) (name_at names w)
       number w less true same =
           let is : w ≡ v = eqb-true w v same in
           let named : name_at names w ≡ name = ap (name_at names) is ∙ found.1 in

@@ -1,6 +1,6 @@
 -- A line spells no two steps, has no two faults, and never both.
 --   steps_have_one_meaning
-use Rattle.dg_lines.proofs.Common.{◌≡◌, ℕ, ◌⊎◌, inl, inr, List, Some, refl, sym, ◌∙◌, subst, Step, LineFault, Seat, Word, Form, Name, Number, LineSpellsCommand, IsLineFault, StepsHaveOneMeaning, IsSeatedLine, IsStepLine, IsTextFault, IsStepFault}
+use Rattle.dg_lines.proofs.Common.{◌≡◌, ℕ, ◌⊎◌, inl, inr, List, Some, refl, sym, ◌∙◌, subst, Step, LineFault, Seat, Word, Form, Name, Number, LineSpellsCommand, IsLineFault, StepsHaveOneMeaning, IsSeatedLine, IsStepLine, IsStepTextFault, IsStepFault}
 use Rattle.dg_lines.proofs.Meaning.{lines_have_one_meaning}
 use Rattle.dg_lines.proofs.Stepping.{IsUnseated, seated_parts}
 
@@ -16,7 +16,7 @@ module _ (names : List (List ℕ)) (line : List ℕ) where
 
   -- a fault is that of the seat or that of the text
   abbrev IsEither : LineFault → Type 0
-  IsEither fault = ((fault ≡ Seat) × IsUnseated line) ⊎ IsTextFault names fault line
+  IsEither fault = ((fault ≡ Seat) × IsUnseated line) ⊎ IsStepTextFault names fault line
 
   which : (fault : LineFault) → IsStepFault names fault line → IsEither fault
   which Seat refused = inl (refl, refused)

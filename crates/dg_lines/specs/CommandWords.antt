@@ -1,6 +1,6 @@
 -- What the words after a command word tell. The items of a word are cut at commas. The byte 61 is
 -- `=`, and `names` are the names of the vertices, in vertex order.
---   Kind                                    == a vertex, a set of vertices, a script, the degree of a rank
+--   WordKind                                == a vertex, a set of vertices, a script, the degree of a rank
 --                                              test, or dollars
 --   name_part_of_item item                  == what stands before the first `=` of the item, or all of it if
 --                                              there is none
@@ -17,10 +17,10 @@
 --   WordsOnLineAreNamed names kinds rest    == the names that each of the words gives are given so
 --   AreNumbersOnLine kinds rest             == all numbers that they give may stand in a word of its kind
 --   IsSetSpelledBy names given set          == set has just the vertices of the names given
---   number_in_script given numbers name     == the number beside the name, and 0 if the name is not given
+--   number_spelled_for given numbers name   == the number beside the name, and 0 if the name is not given
 --   IsScriptSpelledBy names given numbers s == s has at each vertex the number given for its name, and 0 if
 --                                              none is
---   IsScriptWord names word s               == the items of the word spell the script: each a name, `=` and a
+--   SpellsScript names word s               == the items of the word spell the script: each a name, `=` and a
 --                                              number
 use Rattle.std.specs.Prelude.{◌≡◌, ℕ, ◌<◌, ◌≤◌, ◌-◌, ◌^◌, ℤ, pos, neg_ℤ, ◌≤ℤ◌, List, [], ◌∷◌, length, map, cond, All, IsTrue, bytes_eq, unwrap_or}
 use Rattle.std.specs.Fmt.{signed_decimal}
@@ -33,12 +33,12 @@ use Rattle.dg_theory.specs.Sets.{IsVertexSet}
 use Rattle.dg_tokens.specs.Names.{has, name_at}
 use Rattle.dg_lines.specs.Cuts.{before, after, items}
 
-pub data Kind : Type 0 where
-  vertex : Kind
-  vertices : Kind
-  script : Kind
-  degree : Kind
-  dollars : Kind
+pub data WordKind : Type 0 where
+  vertex : WordKind
+  vertices : WordKind
+  script : WordKind
+  degree : WordKind
+  dollars : WordKind
 
 abbrev pub name_part_of_item : List ℕ → List ℕ
 name_part_of_item item = before 61 item
@@ -46,14 +46,14 @@ name_part_of_item item = before 61 item
 abbrev pub number_part_of_item : List ℕ → List ℕ
 number_part_of_item item = unwrap_or (after 61 item) []
 
-abbrev pub names_in_word : Kind → List ℕ → List (List ℕ)
+abbrev pub names_in_word : WordKind → List ℕ → List (List ℕ)
 names_in_word vertex word = word ∷ []
 names_in_word vertices word = items word
 names_in_word script word = map name_part_of_item (items word)
 names_in_word degree word = []
 names_in_word dollars word = []
 
-abbrev pub numbers_in_word : Kind → List ℕ → List (List ℕ)
+abbrev pub numbers_in_word : WordKind → List ℕ → List (List ℕ)
 numbers_in_word vertex word = []
 numbers_in_word vertices word = []
 numbers_in_word script word = map number_part_of_item (items word)
@@ -66,7 +66,7 @@ pub record IsNumeralWithin (low high : ℤ) (text : List ℕ) : Type 0 where
   pub not_less : low ≤ℤ number
   pub not_more : number ≤ℤ high
 
-abbrev pub IsNumeralForWord : Kind → List ℕ → Type 0
+abbrev pub IsNumeralForWord : WordKind → List ℕ → Type 0
 IsNumeralForWord degree text = IsNumeralWithin (pos 0) (pos (2 ^ 32 - 1)) text
 IsNumeralForWord script text = IsNumeralWithin (neg_ℤ (pos MAX_ENTRY)) (pos MAX_ENTRY) text
 IsNumeralForWord kind text = IsNumeralWithin (neg_ℤ (pos (2 ^ 63))) (pos (2 ^ 63 - 1)) text
@@ -75,13 +75,13 @@ pub record AreNamesOnLine (names : List (List ℕ)) (given : List (List ℕ)) : 
   pub each : All (λ name. IsTrue (has names name)) given
   pub different : IsDistinct bytes_eq given
 
-abbrev pub WordsOnLineAreNamed : List (List ℕ) → List Kind → List (List ℕ) → Type 0
+abbrev pub WordsOnLineAreNamed : List (List ℕ) → List WordKind → List (List ℕ) → Type 0
 WordsOnLineAreNamed names [] rest = Unit {0}
 WordsOnLineAreNamed names (kind ∷ kinds) [] = Unit {0}
 WordsOnLineAreNamed names (kind ∷ kinds) (word ∷ rest) =
     AreNamesOnLine names (names_in_word kind word) × WordsOnLineAreNamed names kinds rest
 
-abbrev pub AreNumbersOnLine : List Kind → List (List ℕ) → Type 0
+abbrev pub AreNumbersOnLine : List WordKind → List (List ℕ) → Type 0
 AreNumbersOnLine [] rest = Unit {0}
 AreNumbersOnLine (kind ∷ kinds) [] = Unit {0}
 AreNumbersOnLine (kind ∷ kinds) (word ∷ rest) =
@@ -92,19 +92,19 @@ pub record IsSetSpelledBy (names : List (List ℕ)) (given : List (List ℕ)) (s
   pub members : (v : ℕ) → v < length names → in_set set v ≡ has given (name_at names v)
   pub within : IsVertexSet (length names) (in_set set)
 
-unfoldable pub number_in_script : List (List ℕ) → List ℤ → List ℕ → ℤ
-number_in_script [] numbers name = pos 0
-number_in_script (first ∷ given) [] name = pos 0
-number_in_script (first ∷ given) (x ∷ numbers) name =
-    cond (bytes_eq first name) x (number_in_script given numbers name)
+unfoldable pub number_spelled_for : List (List ℕ) → List ℤ → List ℕ → ℤ
+number_spelled_for [] numbers name = pos 0
+number_spelled_for (first ∷ given) [] name = pos 0
+number_spelled_for (first ∷ given) (x ∷ numbers) name =
+    cond (bytes_eq first name) x (number_spelled_for given numbers name)
 
 pub record IsScriptSpelledBy (names given : List (List ℕ)) (numbers : List ℤ) (s : Vector) : Type 0 where
   pub are_given : AreNamesOnLine names given
   pub size : s.size ≡ length names
-  pub entries : (v : ℕ) → v < length names → at s v ≡ number_in_script given numbers (name_at names v)
+  pub entries : (v : ℕ) → v < length names → at s v ≡ number_spelled_for given numbers (name_at names v)
   pub within : IsScriptVector s
 
-pub record IsScriptWord (names : List (List ℕ)) (word : List ℕ) (s : Vector) : Type 0 where
+pub record SpellsScript (names : List (List ℕ)) (word : List ℕ) (s : Vector) : Type 0 where
   pub numbers : List ℤ
   pub spelled : map number_part_of_item (items word) ≡ map signed_decimal numbers
   pub limit : All (λ x. unsigned_abs x ≤ MAX_ENTRY) numbers

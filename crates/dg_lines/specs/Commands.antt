@@ -24,11 +24,11 @@ use Rattle.dg_rules.specs.declared.step.Command.TheVariants.{Call, Commit, Rank}
 use Rattle.dg_tokens.specs.Names.{place_of}
 use Rattle.dg_rules.specs.declared.entry.Plain.TheVariants.{Gift, Join, Look, Claim, Move as Play}
 use Rattle.dg_lines.specs.Cuts.{words, items}
-use Rattle.dg_lines.specs.CommandWords.{Kind, vertex, vertices, script, degree, dollars, IsSetSpelledBy, IsScriptWord}
+use Rattle.dg_lines.specs.CommandWords.{WordKind, vertex, vertices, script, degree, dollars, IsSetSpelledBy, SpellsScript}
 use Rattle.dg_lines.specs.declared.command.Keyword.{Keyword}
 use Rattle.dg_lines.specs.declared.command.Keyword.TheVariants as of
 
-abbrev pub row : Keyword → List ℕ × List Kind
+abbrev pub row : Keyword → List ℕ × List WordKind
 row of.Lend = (codes "lend", vertex ∷ [])
 row of.Borrow = (codes "borrow", vertex ∷ [])
 row of.Fire = (codes "fire", vertices ∷ [])
@@ -45,18 +45,18 @@ keywords =
     of.Lend ∷ of.Borrow ∷ of.Fire ∷ of.Script ∷ of.Gift ∷ of.Join ∷ of.Look
     ∷ of.Claim ∷ of.Commit ∷ of.Rank ∷ []
 
-abbrev pub command_words : List (List ℕ × List Kind)
+abbrev pub command_words : List (List ℕ × List WordKind)
 command_words = map row keywords
 
-unfoldable pub kinds_beside : List (List ℕ × List Kind) → List ℕ → Option (List Kind)
+unfoldable pub kinds_beside : List (List ℕ × List WordKind) → List ℕ → Option (List WordKind)
 kinds_beside [] word = None
 kinds_beside (first ∷ rows) word =
     cond (bytes_eq word first.0) (Some first.1) (kinds_beside rows word)
 
-abbrev pub kinds_wanted_on_line : List ℕ → Option (List Kind)
+abbrev pub kinds_wanted_on_line : List ℕ → Option (List WordKind)
 kinds_wanted_on_line keyword = kinds_beside command_words keyword
 
-abbrev pub kinds_on_line : List ℕ → List Kind
+abbrev pub kinds_on_line : List ℕ → List WordKind
 kinds_on_line keyword = unwrap_or (kinds_wanted_on_line keyword) []
 
 abbrev pub words_wanted_on_line : List ℕ → Option ℕ
@@ -71,7 +71,7 @@ IsMoveWord names (Lend v) keyword word = (keyword ≡ codes "lend") × (place_of
 IsMoveWord names (Borrow v) keyword word =
     (keyword ≡ codes "borrow") × (place_of names word ≡ Some v)
 IsMoveWord names (Fire set) keyword word = (keyword ≡ codes "fire") × IsSetSpelledBy names (items word) set
-IsMoveWord names (Script s) keyword word = (keyword ≡ codes "script") × IsScriptWord names word s
+IsMoveWord names (Script s) keyword word = (keyword ≡ codes "script") × SpellsScript names word s
 
 pub record MeansGift (names : List (List ℕ)) (v : ℕ) (x : ℤ) (rest : List (List ℕ)) : Type 0 where
   pub name : List ℕ

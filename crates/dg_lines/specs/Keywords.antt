@@ -5,7 +5,7 @@
 --   IsBadScriptWord names fault word == the word is no script, by the names or else by the numbers in it
 --   AreWords n rest                  == just n words, none of which is empty
 use Rattle.std.specs.Prelude.{◌≡◌, ◌≢◌, ℕ, List, [], ◌∷◌, length, take, All}
-use Rattle.dg_lines.specs.CommandWords.{Kind, script, names_in_word, numbers_in_word, IsNumeralForWord, AreNamesOnLine}
+use Rattle.dg_lines.specs.CommandWords.{WordKind, script, names_in_word, numbers_in_word, IsNumeralForWord, AreNamesOnLine}
 use Rattle.dg_lines.specs.Commands.{row}
 use Rattle.dg_lines.specs.declared.command.Keyword.{Keyword}
 use Rattle.dg_lines.specs.declared.line.LineFault.{LineFault}
@@ -14,7 +14,7 @@ use Rattle.dg_lines.specs.declared.line.LineFault.TheVariants.{Name, Number}
 abbrev pub spelling : Keyword → List ℕ
 spelling keyword = (row keyword).0
 
-abbrev pub keyword_kinds : Keyword → List Kind
+abbrev pub keyword_kinds : Keyword → List WordKind
 keyword_kinds keyword = (row keyword).1
 
 abbrev pub first_words : ℕ → List ℕ → List ℕ → List (List ℕ)

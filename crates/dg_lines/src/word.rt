@@ -4,7 +4,7 @@ ghost use Rattle.std.specs.Int.{w64};
 ghost use Rattle.std.specs.Fmt.{signed_decimal};
 ghost use Rattle.dg_tokens.specs.Names.{place_of};
 ghost use Rattle.dg_lines.specs.Cuts.{items};
-ghost use Rattle.dg_lines.specs.CommandWords.{vertex, vertices, degree, dollars, names_in_word, IsNumeralForWord, AreNamesOnLine, IsSetSpelledBy, IsScriptWord};
+ghost use Rattle.dg_lines.specs.CommandWords.{vertex, vertices, degree, dollars, names_in_word, IsNumeralForWord, AreNamesOnLine, IsSetSpelledBy, SpellsScript};
 ghost use Rattle.dg_lines.specs.Keywords.{IsBadScriptWord};
 
 use crate::cuts::cut;
@@ -80,7 +80,7 @@ pub(crate) fn set_in_word(text: &[u8], names: &Names) -> Result<u16, LineFault>
 /// Refused with `Name` before `Number`.
 pub(crate) fn script_in_word(text: &[u8], names: &Names) -> Result<Script, LineFault>
     ensures { MatchResult result
-        (IsScriptWord names.now text.now) (λ fault. IsBadScriptWord names.now fault text.now) }
+        (SpellsScript names.now text.now) (λ fault. IsBadScriptWord names.now fault text.now) }
 {
     let size = names.len();
     let mut given = 0;

@@ -5,30 +5,30 @@
 --   more_begun     the session of a first seat, and what became of those after it
 --   alone_all      the one session of one seat is that of all
 --   party_lacks    a party whose sessions are not told is refused for what they lack
-use Rattle.dg_party.proofs.Common.{◌≡◌, ℕ, nil_from_length, slice_index_or, slice_set, suc, ◌≤◌, List, [], ◌∷◌, length, arith, refl, sym, ap, subst, ◌∙◌, Result, Vec, AreFreshSeats, SeatView, SessionEnd, IsPartySessionOver, RefusesPartySessions, contents, Shortage, OutOfMemory, Spawn, IsPartyRefused, TableData}
-use Rattle.dg_party.specs.Sessions.{AreSessions, HaveBegun, HaveSomeBegun}
+use Rattle.dg_party.proofs.Common.{◌≡◌, ℕ, nil_from_length, slice_index_or, slice_set, suc, ◌≤◌, List, [], ◌∷◌, length, arith, refl, sym, ap, subst, ◌∙◌, Result, Vec, AreFreshSeats, SeatView, SessionEnd, IsPartySessionOver, RefusesPartySessions, script_contents, Shortage, OutOfMemory, Spawn, IsPartyRefused, TableData}
+use Rattle.dg_party.specs.Sessions.{AreSessions, HavePartySessionsBegun, HaveSomePartySessionsBegun}
 use Rattle.dg_party.specs.declared.ending.PartyRefusal.TheVariants as party
 
 pub none_begun : (table : TableData) (names : List (List ℕ)) (scripts left : List (Vec ℕ)) (script : Vec ℕ)
     (xs rest ys : List SeatView) (x y : SeatView)
     → scripts ≡ script ∷ left → xs ≡ x ∷ rest → y ≡ x → ys ≡ rest
-    → HaveSomeBegun table names (contents scripts) xs (y ∷ ys)
-unfolding HaveBegun
+    → HaveSomePartySessionsBegun table names (script_contents scripts) xs (y ∷ ys)
+unfolding HavePartySessionsBegun
 none_begun table names scripts left script xs rest ys x y d e f h =
     (0, rw d (omega arith), ap (λ z. z ∷ ys) f ∙ ap (λ zs. x ∷ zs) h ∙ sym e)
 
 pub one_more : (table : TableData) (names : List (List ℕ)) (scripts left : List (Vec ℕ)) (script : Vec ℕ)
     (xs rest ys : List SeatView) (x y : SeatView) (end : Result ℕ SessionEnd) (ends : List (Result ℕ SessionEnd))
     → scripts ≡ script ∷ left → xs ≡ x ∷ rest → IsPartySessionOver table names script.items x y end
-    → AreSessions table names (contents left) rest ys ends
-    → AreSessions table names (contents scripts) xs (y ∷ ys) (end ∷ ends)
+    → AreSessions table names (script_contents left) rest ys ends
+    → AreSessions table names (script_contents scripts) xs (y ∷ ys) (end ∷ ends)
 unfolding AreSessions
 one_more table names scripts left script xs rest ys x y end ends e f session are = rw (e, f) (session, are)
 
 pub nobody_plays : (table : TableData) (names : List (List ℕ)) (scripts : List (Vec ℕ)) (xs : List SeatView)
     (ends : List (Result ℕ SessionEnd))
     → length scripts ≡ length xs → length scripts ≡ length ends → length xs ≡ 0
-    → AreSessions table names (contents scripts) xs xs ends
+    → AreSessions table names (script_contents scripts) xs xs ends
 unfolding AreSessions
 nobody_plays table names scripts xs ends same told none =
     rw (nil_from_length scripts (same ∙ none), nil_from_length xs none, nil_from_length ends (sym told ∙ same ∙ none)) tt
@@ -36,9 +36,9 @@ nobody_plays table names scripts xs ends same told none =
 pub more_begun : (table : TableData) (names : List (List ℕ)) (scripts left : List (Vec ℕ)) (script : Vec ℕ)
     (xs rest ys : List SeatView) (x y : SeatView) (end : Result ℕ SessionEnd) (lack : Shortage)
     → scripts ≡ script ∷ left → xs ≡ x ∷ rest → IsPartySessionOver table names script.items x y end
-    → (lack ≡ Spawn) × HaveSomeBegun table names (contents left) rest ys
-    → (lack ≡ Spawn) × HaveSomeBegun table names (contents scripts) xs (y ∷ ys)
-unfolding HaveBegun
+    → (lack ≡ Spawn) × HaveSomePartySessionsBegun table names (script_contents left) rest ys
+    → (lack ≡ Spawn) × HaveSomePartySessionsBegun table names (script_contents scripts) xs (y ∷ ys)
+unfolding HavePartySessionsBegun
 more_begun table names scripts left script xs rest ys x y end lack e f session (told, (k, some, begun)) =
     (told, (suc k, rw e (omega (arith, some)), rw (e, f) ((end, session), begun)))
 
@@ -46,7 +46,7 @@ pub alone_all : (table : TableData) (names : List (List ℕ)) (scripts : List (V
     (xs : List SeatView) (x y : SeatView) (ends : List (Result ℕ SessionEnd)) (end : Result ℕ SessionEnd)
     → length scripts ≡ 1 → length xs ≡ 1 → length ends ≡ 1 → script ≡ slice_index_or scripts 0 script → x ≡ slice_index_or xs 0 x
     → IsPartySessionOver table names script.items x y end
-    → AreSessions table names (contents scripts) xs (slice_set xs 0 y) (slice_set ends 0 end)
+    → AreSessions table names (script_contents scripts) xs (slice_set xs 0 y) (slice_set ends 0 end)
 unfolding AreSessions
 alone_all table names (s ∷ []) script (z ∷ []) x y (e ∷ []) end one single place is has session =
     rw (sym is, sym has) (session, tt)

@@ -10,7 +10,7 @@ pub use Rattle.dg_lines.specs.Texts.{pairs}
 pub use Rattle.dg_log.specs.Tables.{TableData, table_data_of}
 pub use Rattle.dg_log.specs.declared.name.Name.{Ghosts}
 pub use Rattle.dg_party.specs.Parties.{IsParty, IsPartyRefused}
-pub use Rattle.dg_party.specs.Sessions.{IsPartySessionOver, RefusesPartySessions, contents}
+pub use Rattle.dg_party.specs.Sessions.{IsPartySessionOver, RefusesPartySessions, script_contents}
 pub use Rattle.dg_party.specs.declared.ending.PartyRefusal.TheVariants.{Log}
 pub use Rattle.dg_session.specs.declared.ends.SessionEnd.{SessionEnd}
 pub use Rattle.dg_system.specs.declared.shortage.Shortage.{Shortage}

@@ -9,7 +9,7 @@
 --   whole            sessions of fresh seats, which a table was closed with, are a party
 --   whole_lent       so are they where the seats were lent as the front of a list
 --   party_unclosed   where the table was not closed with them, there is no party for that
-use Rattle.dg_party.proofs.Common.{◌≡◌, ℕ, zero, suc, ◌+◌, ◌<◌, ◌≤◌, List, [], ◌∷◌, ◌++◌, length, map, take, slice_get, Some, arith, refl, sym, ap, subst, ◌∙◌, Result, codes, decimal, unwrap_or, slice_index, Vec, none-some, take-append_seam, length-map, StartData, Vector, at, ShowsPosition, position_after, gifts_in, pairs, Entry, vertices_stay, SeatView, entries_of_seat, AreFreshSeats, IsClosed, AreAuditTotals, IsCloseRefused, all_there, none_missing, Ghosts, Audit, SessionEnd, IsPartySessionOver, contents, party_entries_text, party_seat_text, totals_text, IsParty, IsPartyRefused, Log, TableData}
+use Rattle.dg_party.proofs.Common.{◌≡◌, ℕ, zero, suc, ◌+◌, ◌<◌, ◌≤◌, List, [], ◌∷◌, ◌++◌, length, map, take, slice_get, Some, arith, refl, sym, ap, subst, ◌∙◌, Result, codes, decimal, unwrap_or, slice_index, Vec, none-some, take-append_seam, length-map, StartData, Vector, at, ShowsPosition, position_after, gifts_in, pairs, Entry, vertices_stay, SeatView, entries_of_seat, AreFreshSeats, IsClosed, AreAuditTotals, IsCloseRefused, all_there, none_missing, Ghosts, Audit, SessionEnd, IsPartySessionOver, script_contents, party_entries_text, party_seat_text, totals_text, IsParty, IsPartyRefused, Log, TableData}
 use Rattle.dg_party.specs.Sessions.{AreSessions}
 use Rattle.dg_party.specs.Printed.{seats_text, calls_text}
 
@@ -94,7 +94,7 @@ call_counts table ys a closed totals k less =
     ∙ ap length (sym (closed.held has.0 has.1 has.2).mine)
     ∙ ap (λ j. length (entries_of_seat j a.pen.entries)) (has.3 ∙ same)
 
-pub contents_count : (scripts : List (Vec ℕ)) → length (contents scripts) ≡ length scripts
+pub contents_count : (scripts : List (Vec ℕ)) → length (script_contents scripts) ≡ length scripts
 contents_count [] = refl
 contents_count (script ∷ scripts) = ap suc (contents_count scripts)
 

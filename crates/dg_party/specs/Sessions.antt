@@ -1,6 +1,6 @@
 -- Sessions side by side. A script is the bytes of a session's lines; x and y are seats before and
 -- after.
---   contents scripts                              == the bytes of each of the scripts
+--   script_contents scripts                       == the bytes of each of the scripts
 --   IsPartySessionOver table names script x y end == a session of the seat over the bytes of the script came
 --                                                    to this end, on a table of so many seats and cap cells,
 --                                                    of which it found one history, with one worker; the script
@@ -8,9 +8,9 @@
 --                                                    say, so that no stream failed
 --   AreSessions .. scripts xs ys ends             == so did, one beside another, a session of each seat over
 --                                                    the script at its place
---   HaveBegun .. k scripts xs ys                  == the first k seats had such sessions, and the others are
+--   HavePartySessionsBegun .. k scripts xs ys     == the first k seats had such sessions, and the others are
 --                                                    as they were
---   HaveSomeBegun .. scripts xs ys                == some first seats had them, not all
+--   HaveSomePartySessionsBegun .. scripts xs ys   == some first seats had them, not all
 --   RefusesPartySessions .. scripts xs ys fault   == memory was refused, and the seats are as they were; or a
 --                                                    thread was not started, and some first seats had sessions
 use Rattle.std.specs.Prelude.{◌≡◌, ◌≢◌, ℕ, zero, suc, ◌<◌, List, [], ◌∷◌, length, None, Some, ⊤, Result, Err, map}
@@ -26,8 +26,8 @@ use Rattle.dg_system.specs.declared.shortage.Shortage.{Shortage}
 use Rattle.dg_system.specs.declared.shortage.Shortage.TheVariants.{OutOfMemory, Spawn}
 use Rattle.dg_table.specs.Seats.{SeatView}
 
-abbrev pub contents : List (Vec ℕ) → List (List ℕ)
-contents scripts = map (λ (script : Vec ℕ). script.items) scripts
+abbrev pub script_contents : List (Vec ℕ) → List (List ℕ)
+script_contents scripts = map (λ (script : Vec ℕ). script.items) scripts
 
 pub record IsPartySessionOver (table : TableData) (names : List (List ℕ)) (script : List ℕ)
     (x y : SeatView)
@@ -45,18 +45,18 @@ AreSessions table names (script ∷ scripts) (x ∷ xs) (y ∷ ys) (end ∷ ends
 AreSessions table names [] [] [] [] = ⊤
 AreSessions table names scripts xs ys ends = ⊥
 
-unfoldable pub HaveBegun : TableData → List (List ℕ) → ℕ → List (List ℕ) → List SeatView
+unfoldable pub HavePartySessionsBegun : TableData → List (List ℕ) → ℕ → List (List ℕ) → List SeatView
     → List SeatView → Type 0
-HaveBegun table names zero scripts xs ys = ys ≡ xs
-HaveBegun table names (suc k) (script ∷ scripts) (x ∷ xs) (y ∷ ys) =
+HavePartySessionsBegun table names zero scripts xs ys = ys ≡ xs
+HavePartySessionsBegun table names (suc k) (script ∷ scripts) (x ∷ xs) (y ∷ ys) =
     ((end : Result ℕ SessionEnd) × IsPartySessionOver table names script x y end)
-    × HaveBegun table names k scripts xs ys
-HaveBegun table names k scripts xs ys = ⊥
+    × HavePartySessionsBegun table names k scripts xs ys
+HavePartySessionsBegun table names k scripts xs ys = ⊥
 
-abbrev pub HaveSomeBegun : TableData → List (List ℕ) → List (List ℕ) → List SeatView → List SeatView → Type 0
-HaveSomeBegun table names scripts xs ys = (k : ℕ) × (k < length scripts) × HaveBegun table names k scripts xs ys
+abbrev pub HaveSomePartySessionsBegun : TableData → List (List ℕ) → List (List ℕ) → List SeatView → List SeatView → Type 0
+HaveSomePartySessionsBegun table names scripts xs ys = (k : ℕ) × (k < length scripts) × HavePartySessionsBegun table names k scripts xs ys
 
 abbrev pub RefusesPartySessions : TableData → List (List ℕ) → List (List ℕ) → List SeatView
     → List SeatView → Shortage → Type 0
 RefusesPartySessions table names scripts xs ys OutOfMemory = ys ≡ xs
-RefusesPartySessions table names scripts xs ys Spawn = HaveSomeBegun table names scripts xs ys
+RefusesPartySessions table names scripts xs ys Spawn = HaveSomePartySessionsBegun table names scripts xs ys

@@ -3,7 +3,7 @@ ghost use Rattle.std.specs.Prelude.{◌≡◌, length, IfOk, IfErr};
 ghost use Rattle.dg_log.specs.Rows.{IsLogCapacity};
 ghost use Rattle.dg_log.specs.Tables.{table_data_of};
 ghost use Rattle.dg_table.specs.Opened.{TableMayHaveSeats};
-ghost use Rattle.dg_party.specs.Sessions.{contents};
+ghost use Rattle.dg_party.specs.Sessions.{script_contents};
 ghost use Rattle.dg_party.specs.Parties.{IsParty, IsPartyRefused};
 
 use crate::closing::closed_party_text;
@@ -39,10 +39,10 @@ pub fn party<R: Threads + Wait + Sync, G: Gate>(
     requires scripts { TableMayHaveSeats (length scripts.now) }
     requires names { length names.now ≡ start.now.graph.size }
     ensures played { IfOk result
-        (λ p. IsParty (table_data_of start.now (length scripts.now) cap) names.now (contents scripts.now)
+        (λ p. IsParty (table_data_of start.now (length scripts.now) cap) names.now (script_contents scripts.now)
         p.ends.items p.text.items) }
     ensures refused { IfErr result
-        (IsPartyRefused (table_data_of start.now (length scripts.now) cap) names.now (contents scripts.now)) }
+        (IsPartyRefused (table_data_of start.now (length scripts.now) cap) names.now (script_contents scripts.now)) }
 {
     let row = match Row::new(alloc, cap) {
         Ok(row) => row,
@@ -67,10 +67,10 @@ fn party_of<N: Name + Send + Sync, R: Threads + Wait + Sync, G: Gate>(
     requires scripts { TableMayHaveSeats (length scripts.now) }
     requires names { length names.now ≡ start.now.graph.size }
     ensures played { IfOk result
-        (λ p. IsParty N.table names.now (contents scripts.now) p.ends.items
+        (λ p. IsParty N.table names.now (script_contents scripts.now) p.ends.items
         p.text.items) }
     ensures refused { IfErr result
-        (IsPartyRefused N.table names.now (contents scripts.now)) }
+        (IsPartyRefused N.table names.now (script_contents scripts.now)) }
 {
     let count = scripts.len();
     let (table, mut seats) = match Table::<N>::open(alloc, row, start, count as u8) {

@@ -1,6 +1,6 @@
 //! Sessions side by side, each with a seat and a thread of its own.
 ghost use Rattle.std.specs.Prelude.{◌≡◌, ◌≤◌, length, IfErr, IfOk, OnOk};
-ghost use Rattle.dg_party.specs.Sessions.{AreSessions, HaveSomeBegun, IsPartySessionOver, RefusesPartySessions, contents};
+ghost use Rattle.dg_party.specs.Sessions.{AreSessions, HaveSomePartySessionsBegun, IsPartySessionOver, RefusesPartySessions, script_contents};
 
 use dg_log::Name;
 use dg_rank::Gate;
@@ -41,10 +41,10 @@ pub fn sessions<N: Name + Send + Sync, R: Threads + Wait + Sync, G: Gate>(
     requires scripts { length scripts.now ≡ length seats.old }
     requires names { length names.now ≡ N.table.start.graph.size }
     ensures ok { IfOk result
-        (λ v. AreSessions N.table names.now (contents scripts.now)
+        (λ v. AreSessions N.table names.now (script_contents scripts.now)
         seats.old seats.new v.items) }
     ensures fault { IfErr result
-        (RefusesPartySessions N.table names.now (contents scripts.now) seats.old
+        (RefusesPartySessions N.table names.now (script_contents scripts.now) seats.old
         seats.new) }
     ensures spawn { IfErr result (λ shortage. shortage ≡ Shortage.Spawn → 2 ≤ length scripts.now) }
 {
@@ -78,7 +78,7 @@ fn play_one_session<'a, N: Name, R: Threads + Wait, G: Gate>(
     requires one { length scripts.now ≡ 1 }
     requires seats { length seats.old ≡ 1 }
     requires ends { length ends.old ≡ 1 }
-    ensures { AreSessions N.table context.now.names.now (contents scripts.now) seats.old seats.new ends.new }
+    ensures { AreSessions N.table context.now.names.now (script_contents scripts.now) seats.old seats.new ends.new }
 {
     let script = scripts[0].as_slice();
     ends[0] = run_script(context, script, &mut seats[0]);
@@ -93,10 +93,10 @@ fn play_in_parallel<'a, N: Name + Send + Sync, R: Threads + Wait + Sync, G: Gate
 ) -> Result<(), Shortage>
     requires scripts { length scripts.now ≡ length seats.old }
     requires ends { length scripts.now ≡ length ends.old }
-    ensures ok { OnOk result (AreSessions N.table context.now.names.now (contents scripts.now)
+    ensures ok { OnOk result (AreSessions N.table context.now.names.now (script_contents scripts.now)
         seats.old seats.new ends.new) }
     ensures fault { IfErr result (λ shortage. (shortage ≡ Shortage.Spawn)
-        × HaveSomeBegun N.table context.now.names.now (contents scripts.now) seats.old seats.new) }
+        × HaveSomePartySessionsBegun N.table context.now.names.now (script_contents scripts.now) seats.old seats.new) }
 {
     let Some((seat, rest)) = seats.split_first_mut() else {
         return Ok(());
@@ -115,9 +115,9 @@ fn play_in_parallel<'a, N: Name + Send + Sync, R: Threads + Wait + Sync, G: Gate
     let mut others = || -> Result<(), Shortage>
         requires { (length left.now ≡ length rest.now) × (length left.now ≡ length later.now) }
         ensures { OnOk result (AreSessions N.table context.entry.now.names.now
-            (contents left.entry.now) rest.entry.now rest.exit.now later.exit.now)
+            (script_contents left.entry.now) rest.entry.now rest.exit.now later.exit.now)
             × IfErr result (λ shortage. (shortage ≡ Shortage.Spawn)
-            × HaveSomeBegun N.table context.entry.now.names.now (contents left.entry.now) rest.entry.now rest.exit.now) }
+            × HaveSomePartySessionsBegun N.table context.entry.now.names.now (script_contents left.entry.now) rest.entry.now rest.exit.now) }
     { play_in_parallel(context, left, rest, later) };
     match in_parallel(context.rt, &mut first, &mut others) {
         Ok((ended, told)) => {

@@ -10,7 +10,7 @@
 --                              on what the trial number j of degree r does
 --   among                      the trials that differ from E from place d on alone come right after it
 use Rattle.dg_rank.proofs.Common.{◌≡◌, ℕ, zero, suc, ◌+◌, ◌-◌, ◌<◌, ◌≤◌, List, [], ◌∷◌, ◌++◌, length, take, drop, arith, refl, sym, ap, ◌∙◌, slice_index, sum, take-append-drop, length-take-le, length-drop, get_or-drop, sum_by-take-drop, IsTrial, IsTrialNumbering, AnyTrial, AreTrialsWithinLimits}
-use Rattle.dg_rank.specs.Numbering.{trial_count, raised, nth_trial}
+use Rattle.dg_rank.specs.Numbering.{trial_count, trial_raised, nth_trial}
 use Rattle.dg_rank.proofs.Lists.{sum_cons}
 use Rattle.dg_rank.proofs.Numbering.{numbered, some_trial, limits_count, limits_trial}
 use Rattle.dg_rank.proofs.CountedOnce.{no_lower}
@@ -23,7 +23,7 @@ record IsFirst (n a k base i : ℕ) : Type 0 where
   trial : nth_trial (suc n) (a + k) (base + i) ≡ a ∷ nth_trial n k i
 
 firsts : (n a k : ℕ) → (base : ℕ) × ((i : ℕ) → i < trial_count n k → IsFirst n a k base i)
-unfolding raised
+unfolding trial_raised
 firsts n zero k = (
   0,
   λ i low. let start : 0 + i ≡ i = omega arith in let all : 0 + k ≡ k = omega arith in
@@ -48,7 +48,7 @@ firsts n (suc a) k =
           record {
             within = rw all (omega (arith, count_more n (a + k), one.within));
             trial = rw all (nth_high n (a + k) (before + base + i) (omega arith)
-                ∙ ap (λ (j : ℕ). raised (nth_trial (suc n) (a + k) j)) back ∙ ap raised one.trial);
+                ∙ ap (λ (j : ℕ). trial_raised (nth_trial (suc n) (a + k) j)) back ∙ ap trial_raised one.trial);
           },
     )
 

@@ -12,7 +12,7 @@ pub use Rattle.dg_reduce.specs.Burnings.{IsGuessedOff, CertifiesReduced}
 pub use Rattle.dg_reduce.specs.Certificates.{IsCertifyingOrder}
 pub use Rattle.dg_reduce.specs.Effective.{IsEffectiveDivisor}
 pub use Rattle.dg_reduce.specs.Firings.{IsMostReducingFirings, LacksForReducingFirings, LastsInReduction, ReducingSetSendsNothing, largest}
-pub use Rattle.dg_reduce.specs.Reaching.{HasNearer, IsLevelReached, spread_level}
+pub use Rattle.dg_reduce.specs.Reaching.{HasNearerLevel, IsLevelReached, spread_level}
 pub use Rattle.dg_reduce.specs.Reductions.{IsOnlyReduction, IsReduction}
 pub use Rattle.dg_reduce.specs.States.{IsCleared, IsClearedOff, IsFiredInReduction, IsLargestDebt, IsTiedInReduction}
 pub use Rattle.dg_reduce.specs.declared.certificate.Burning.{Burning}

@@ -11,7 +11,7 @@
 --   reached-next      once all vertices of a level are passed, it is the turn of the next
 --   reached-gradual   when no level is left, the levels are gradual
 --   levels-first      so the list at the start is right
-use Rattle.dg_reduce.proofs.Common.{◌≡◌, ◌≢◌, ℕ, ◌+◌, ◌<◌, ◌≤◌, set, replicate, slice_index, arith, ap, sym, subst, ◌∙◌, ⊎_elim, cases_eq, cases_lt, nat_tests, get_or-set_same, get_or-set_other, get_or-replicate, length-replicate, Multigraph, IsMultigraph, edges_between, IsGradual, HasNearer, IsLevelReached, spread_level}
+use Rattle.dg_reduce.proofs.Common.{◌≡◌, ◌≢◌, ℕ, ◌+◌, ◌<◌, ◌≤◌, set, replicate, slice_index, arith, ap, sym, subst, ◌∙◌, ⊎_elim, cases_eq, cases_lt, nat_tests, get_or-set_same, get_or-set_other, get_or-replicate, length-replicate, Multigraph, IsMultigraph, edges_between, IsGradual, HasNearerLevel, IsLevelReached, spread_level}
 
 spread_level-new : (g : Multigraph) (v k : ℕ) (level : ℕ → ℕ) (w : ℕ) → level w ≡ g.size → 0 < edges_between g v w →
     spread_level g v k level w ≡ k
@@ -75,7 +75,7 @@ reached-first g q level vertex start others = record {
 
 reached_nearer : (g : Multigraph) (q k v : ℕ) (level after : ℕ → ℕ) → IsMultigraph g → v < g.size → k + 1 < g.size →
     IsLevelReached g q k v level → level v ≡ k → AreSpread g v (k + 1) level after → (w : ℕ) → w < g.size → w ≢ q →
-    after w < g.size → HasNearer g after w
+    after w < g.size → HasNearerLevel g after w
 reached_nearer g q k v level after graph vertex few state at spreads w inside other near =
     by_spread g v (k + 1) level after w spreads inside (state.most w inside)
     (λ low same.

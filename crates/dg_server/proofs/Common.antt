@@ -6,7 +6,7 @@ pub use Rattle.dg_invocation.specs.declared.invocation.PartyTask.{PartyTask}
 pub use Rattle.dg_log.specs.Tables.{table_data_of}
 pub use Rattle.dg_party.proofs.Whole.{contents_count, seats_back}
 pub use Rattle.dg_party.specs.Parties.{IsParty, IsPartyRefused}
-pub use Rattle.dg_party.specs.Sessions.{contents}
+pub use Rattle.dg_party.specs.Sessions.{script_contents}
 pub use Rattle.dg_party.specs.declared.ending.PartyRefusal.{PartyRefusal}
 pub use Rattle.dg_party.specs.declared.ending.PartyRefusal.TheVariants.{Log, Shortage}
 pub use Rattle.dg_server.specs.Parties.{IsPartyInRun, IsRunRefusedOn, early, script_names_of_run}

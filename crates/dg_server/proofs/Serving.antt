@@ -9,7 +9,7 @@
 --   reader_anew, writer_anew   a reader, and a writer, to which nothing has happened
 use Rattle.dg_system.specs.Growth.{StreamReading, StreamWriting, reading_anew, writing_anew}
 use Rattle.std.specs.Prelude.{false}
-use Rattle.dg_server.proofs.Common.{◌≡◌, ℕ, suc, ◌≤◌, List, [], ◌∷◌, ◌++◌, length, take, map, Option, None, Some, refl, sym, ap, subst, ◌∙◌, Bor, Vec, Global, length-map, take-append_seam, MAX_SEATS, TableMayHaveSeats, SeatView, Held, StartData, Entry, IsClosed, IsCloseRefused, all_there, none_missing, entered_all, full_at_close, SessionSetup, Passage, IsHeardInRun, IsServedInRun, IsUnclosedInRun, SessionEnd, contents, IsParty, IsPartyRefused, contents_count, PartyRefusal, PartyTask, DescribesTaskTable, MayHoldAllSourceBytes, Keeps, script_names_of_run, IsPartyInRun, IsRunRefusedOn, table_data_of, Result}
+use Rattle.dg_server.proofs.Common.{◌≡◌, ℕ, suc, ◌≤◌, List, [], ◌∷◌, length, map, Option, None, Some, refl, sym, ap, subst, ◌∙◌, Bor, Vec, Global, length-map, MAX_SEATS, TableMayHaveSeats, SeatView, Held, StartData, Entry, IsClosed, IsCloseRefused, all_there, none_missing, entered_all, full_at_close, SessionSetup, Passage, IsHeardInRun, IsServedInRun, IsUnclosedInRun, SessionEnd, script_contents, IsParty, IsPartyRefused, contents_count, PartyRefusal, PartyTask, DescribesTaskTable, MayHoldAllSourceBytes, Keeps, script_names_of_run, IsPartyInRun, IsRunRefusedOn, table_data_of, Result}
 
 pub held_count : (held : List ℕ → Held) (names all : List (List ℕ)) → MayHoldAllSourceBytes held names all
     → length all ≡ length names
@@ -63,7 +63,7 @@ pub party_on : (held : List ℕ → Held) (task : PartyTask) (o : StartData) (na
     (all : List (Vec ℕ Global))
     (ends : List (Result ℕ SessionEnd)) (text : List ℕ) → DescribesTaskTable (held task.file.now) o names →
     MayHoldAllSourceBytes held (script_names_of_run task) (map (λ script. script.items) all)
-    → IsParty (table_data_of o (length all) task.capacity) names (contents all) ends text →
+    → IsParty (table_data_of o (length all) task.capacity) names (script_contents all) ends text →
     IsPartyInRun held task ends text
 party_on held task o names all ends text table known party =
     record {
@@ -71,9 +71,9 @@ party_on held task o names all ends text table known party =
       names = names;
       table = table;
       holds = (
-        contents all,
+        script_contents all,
         known,
-        subst (λ n. IsParty (table_data_of o n task.capacity) names (contents all) ends text) (sym (contents_count all)) party,
+        subst (λ n. IsParty (table_data_of o n task.capacity) names (script_contents all) ends text) (sym (contents_count all)) party,
       );
     }
 
@@ -81,17 +81,17 @@ pub refused_lent : (held : List ℕ → Held) (task : PartyTask) {o o' : StartDa
     (all : List (Vec ℕ Global)) (refusal : PartyRefusal) → o' ≡ o → names' ≡ names → DescribesTaskTable (held task.file.now)
     o names
     → MayHoldAllSourceBytes held (script_names_of_run task) (map (λ script. script.items) all)
-    → IsPartyRefused (table_data_of o' (length all) task.capacity) names' (contents all) refusal
+    → IsPartyRefused (table_data_of o' (length all) task.capacity) names' (script_contents all) refusal
     → IsRunRefusedOn held task refusal
 refused_lent held task {o} {o'} {names} {names'} all refusal opened named table known refused =
     let at : ℕ → StartData → List (List ℕ) → Type 0 =
-    λ n x ns. IsPartyRefused (table_data_of x n task.capacity) ns (contents all) refusal in
+    λ n x ns. IsPartyRefused (table_data_of x n task.capacity) ns (script_contents all) refusal in
     record {
       start = o;
       names = names;
       table = table;
       holds = (
-        contents all,
+        script_contents all,
         known,
         subst (λ n. at n o names) (sym (contents_count all))
             (subst (λ x. at (length all) x names) opened (subst (at (length all) o') named refused)),

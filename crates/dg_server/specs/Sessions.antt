@@ -1,5 +1,5 @@
 -- Sessions over the input.
---   line_format seats                 == how the lines name the seats: by number if so many are asked for,
+--   line_format_of_run seats          == how the lines name the seats: by number if so many are asked for,
 --                                        and not if none are
 --   session_of_run task o names       == what holds for the session that is asked for, on the table of the
 --                                        start o
@@ -30,13 +30,13 @@ use Rattle.dg_server.specs.OfTasks.{IsRunOfTask}
 use Rattle.dg_server.specs.declared.fault.Fault.{Fault}
 use Rattle.dg_server.specs.declared.fault.Fault.TheVariants.{Session, Shortage, History}
 
-abbrev pub line_format : Option ℕ → LineFormat
-line_format None = OneSeat
-line_format (Some n) = BySeat
+abbrev pub line_format_of_run : Option ℕ → LineFormat
+line_format_of_run None = OneSeat
+line_format_of_run (Some n) = BySeat
 
 abbrev pub session_of_run : ServeTask → StartData → List (List ℕ) → SessionSetup
 session_of_run task o names =
-    session_setup (line_format task.seats) (table_data_of o (seats_of_invocation task.seats) task.capacity) names task.workers
+    session_setup (line_format_of_run task.seats) (table_data_of o (seats_of_invocation task.seats) task.capacity) names task.workers
 
 pub record IsHeardInRun (t : SessionSetup) (input output : Passage) (end : Result ℕ SessionEnd) : Type 0 where
   pub seats : List SeatView

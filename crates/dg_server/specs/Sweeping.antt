@@ -3,7 +3,7 @@
 --   LinesSweptInRun held file question divisors P == P holds of the file of lines, and of what answers them:
 --                                                    as tables, if none of amounts is named; or else as
 --                                                    amounts, for the table that the file describes
---   HasSweptFileLines held task P                 == the same for the files that the task names
+--   RunHasSweptFileLines held task P              == the same for the files that the task names
 --   IsSweptInRun old new result h right           == bytes that the file h may have were swept, with that
 --                                                    result, where `right` says what answers a line
 --   RunSweeps held task old new                   == all its lines were answered
@@ -25,9 +25,9 @@ LinesSweptInRun held file question None P = P (held file) (AnswersTableWithin qu
 LinesSweptInRun held file question (Some lines) P =
     IsOnTaskTable (held file) (λ o names. P (held lines.now) (AnswersAmounts question o names))
 
-abbrev pub HasSweptFileLines : (List ℕ → Held) → SweepTask
+abbrev pub RunHasSweptFileLines : (List ℕ → Held) → SweepTask
     → (Held → (List ℕ → List ℕ → Type 0) → Type 0) → Type 0
-HasSweptFileLines held task P = LinesSweptInRun held task.file.now task.question task.divisors P
+RunHasSweptFileLines held task P = LinesSweptInRun held task.file.now task.question task.divisors P
 
 pub record IsSweptInRun (old new : Option (List ℕ)) (result : Result (Unit {0}) SweepEnd) (h : Held)
     (right : List ℕ → List ℕ → Type 0) : Type 0 where
@@ -37,7 +37,7 @@ pub record IsSweptInRun (old new : Option (List ℕ)) (result : Result (Unit {0}
   pub swept : IsSweep right input rest old new result
 
 abbrev pub RunSweeps : (List ℕ → Held) → SweepTask → Option (List ℕ) → Option (List ℕ) → Type 0
-RunSweeps held task old new = HasSweptFileLines held task (IsSweptInRun old new (Ok tt))
+RunSweeps held task old new = RunHasSweptFileLines held task (IsSweptInRun old new (Ok tt))
 
 abbrev pub RunRefusesSweptFile : Held → TaskFault → Type 0
 RunRefusesSweptFile h (Source fault) = RefusesSourceStream h fault
@@ -53,5 +53,5 @@ abbrev pub RunRefusesSweeping : (List ℕ → Held) → SweepTask → Fault → 
     → Type 0
 RunRefusesSweeping held task (Task fault) old new =
     RefusesFilesAsked held task.file.now task.divisors fault × Keeps old new
-RunRefusesSweeping held task (Sweep end) old new = HasSweptFileLines held task (IsSweptInRun old new (Err end))
+RunRefusesSweeping held task (Sweep end) old new = RunHasSweptFileLines held task (IsSweptInRun old new (Err end))
 RunRefusesSweeping held task fault old new = ⊥

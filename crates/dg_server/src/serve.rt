@@ -6,7 +6,7 @@ ghost use Rattle.dg_session.specs.Setup.{session_setup};
 ghost use Rattle.dg_session.specs.Streams.{passage};
 ghost use Rattle.dg_rank.specs.Ranks.{MayHaveRankWorkers};
 ghost use Rattle.dg_table.specs.Opened.{TableMayHaveSeats};
-ghost use Rattle.dg_server.specs.Sessions.{line_format, session_of_run, RunServes, RunEndsEarly, IsServedInRun, RunRefusesServing};
+ghost use Rattle.dg_server.specs.Sessions.{line_format_of_run, session_of_run, RunServes, RunEndsEarly, IsServedInRun, RunRefusesServing};
 ghost use Rattle.dg_server.specs.Streams.{IsRunInput, IsRunOutput};
 
 use crate::fault::Fault;
@@ -86,7 +86,7 @@ where
 /// How many seats there are, and how lines name them.
 fn seats_of_run(seats: Option<u8>) -> (u8, LineFormat)
     ensures count { result.0 ≡ seats_of_invocation seats }
-    ensures how { result.1 ≡ line_format seats }
+    ensures how { result.1 ≡ line_format_of_run seats }
 {
     match seats {
         Some(count) => (count, LineFormat::BySeat),

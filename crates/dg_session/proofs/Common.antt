@@ -35,7 +35,7 @@ pub use Rattle.dg_session.specs.Order.{AnswersAscendFrom, SessionComesAfter}
 pub use Rattle.dg_session.specs.Refusing.{SpeakerCallsTable, RefusesSpeakerCommand, RefusesSessionLine}
 pub use Rattle.dg_session.specs.Saying.{AnswersCommand, AnswersLine, SpeakerEnters, SessionGains, speakers_kept_after, speakers_look_after}
 pub use Rattle.dg_session.specs.Setup.{SessionSetup, session_setup}
-pub use Rattle.dg_session.specs.SoFar.{Goes, HaltsSession, HandlesSessionLine, HearsSpeaker, IsReady, IsWrittenInSession, ObeysSpeaker, SessionRefusesPart, SoFar, Speaker, SessionStaysAt, SessionStopsIn, TakesInSession, TakesSessionEnd, TellsSpeaker, answer_entries, speaker_answer_text, beginning_of_session, heard, keeping_speaker, round, so_far, speaker}
+pub use Rattle.dg_session.specs.SoFar.{SessionGoes, HaltsSession, HandlesSessionLine, HearsSpeaker, IsReady, IsWrittenInSession, ObeysSpeaker, SessionRefusesPart, SoFar, Speaker, SessionStaysAt, SessionStopsIn, TakesInSession, TakesSessionEnd, TellsSpeaker, answer_entries, speaker_answer_text, beginning_of_session, heard, keeping_speaker, round, so_far, speaker}
 pub use Rattle.dg_session.specs.Speakers.{AnswersLineOfSpeaker, GoesOn, IsFor, IsForNoSpeaker, RefusesLineOfSpeaker, ReplacesSpeaker, Speakers, kept_by_speaker, new_speakers, speakers}
 pub use Rattle.dg_session.specs.Streams.{AreSessionLines, IsSessionLine, Passage, passage}
 pub use Rattle.dg_session.specs.declared.answering.Answer.{Answer}

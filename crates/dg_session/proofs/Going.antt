@@ -7,7 +7,7 @@
 --   halts_part, halts_line       the session ends at a part that is not taken, and at a line that is refused
 --   last_none, last_one, last_halts   what is pending as the last line: none, one that is answered, and one that is
 --       refused
-use Rattle.dg_session.proofs.Common.{◌≡◌, ◌≢◌, ℕ, ◌+◌, ◌<◌, ◌≤◌, inl, inr, List, [], ◌∷◌, ◌++◌, length, take, drop, refl, sym, ap, subst, ◌∙◌, arith, append_assoc, append-nil, length-append, take-append-drop, All-append, All-nil, All-take, length-take-le, HasNoNewline, BeginsWithLines, last_line, begins_none, begins_one, begins_then, begins_more, one_line, SessionSetup, IsSessionLine, AreSessionLines, Speakers, AnswersLineOfSpeaker, RefusesLineOfSpeaker, SoFar, IsReady, Goes, round, HaltsSession, SessionRefusesPart, SessionStaysAt, MAX_LINE, MAX_LINES, SessionEnd, LongLine, Turns, Answers}
+use Rattle.dg_session.proofs.Common.{◌≡◌, ◌≢◌, ℕ, ◌+◌, ◌<◌, ◌≤◌, inl, inr, List, [], ◌∷◌, ◌++◌, length, take, drop, refl, sym, ap, subst, ◌∙◌, arith, append_assoc, append-nil, length-append, take-append-drop, All-append, All-nil, All-take, length-take-le, HasNoNewline, BeginsWithLines, last_line, begins_none, begins_one, begins_then, begins_more, one_line, SessionSetup, IsSessionLine, AreSessionLines, Speakers, AnswersLineOfSpeaker, RefusesLineOfSpeaker, SoFar, IsReady, SessionGoes, round, HaltsSession, SessionRefusesPart, SessionStaysAt, MAX_LINE, MAX_LINES, SessionEnd, LongLine, Turns, Answers}
 use Rattle.dg_session.proofs.Cutting.{lines_end}
 use Rattle.dg_session.proofs.Seated.{sizes_kept}
 
@@ -46,7 +46,7 @@ line_with {at} part ready plain short = record {
 pub empty_line : (p : List ℕ) → p ≡ [] → IsSessionLine p
 empty_line p none = subst IsSessionLine (sym none) (record { no_newline = All-nil (λ byte. byte ≢ 10); short = omega arith })
 
-pub goes_none : {t : SessionSetup} {at : SoFar} {bytes text : List ℕ} → text ≡ [] → IsReady at → Goes t at bytes bytes at text
+pub goes_none : {t : SessionSetup} {at : SoFar} {bytes text : List ℕ} → text ≡ [] → IsReady at → SessionGoes t at bytes bytes at text
 goes_none {t} {at} {bytes} {text} none ready = record {
   ls = [];
   came = begins_none (at.pending ++ bytes);
@@ -55,9 +55,9 @@ goes_none {t} {at} {bytes} {text} none ready = record {
   ready = ready;
 }
 
-pub goes_more : {t : SessionSetup} {old mid new : SoFar} {b c rest text more : List ℕ} → Goes t old b [] mid text
-    → Goes t mid c rest new more
-    → Goes t old (b ++ c) rest new (text ++ more)
+pub goes_more : {t : SessionSetup} {old mid new : SoFar} {b c rest text more : List ℕ} → SessionGoes t old b [] mid text
+    → SessionGoes t mid c rest new more
+    → SessionGoes t old (b ++ c) rest new (text ++ more)
 goes_more {t} {old} {mid} {new} {b} {c} {rest} {text} {more} g h = record {
   ls = g.ls ++ h.ls;
   came = subst (λ l. BeginsWithLines IsSessionLine l (g.ls ++ h.ls) (new.pending ++ rest)) (append_assoc old.pending b c)
@@ -68,10 +68,10 @@ goes_more {t} {old} {mid} {new} {b} {c} {rest} {text} {more} g h = record {
   ready = h.ready;
 }
 
-module _ {t : SessionSetup} {old at : SoFar} {bytes rest text : List ℕ} (g : Goes t old bytes rest at text) where
+module _ {t : SessionSetup} {old at : SoFar} {bytes rest text : List ℕ} (g : SessionGoes t old bytes rest at text) where
   pub goes_part : (part p : List ℕ) → rest ≡ part → p ≡ at.pending ++ part → HasNoNewline part
       → length at.pending + length part ≤ MAX_LINE → at.count ≢ MAX_LINES
-      → Goes t old bytes [] (record at { pending = p }) text
+      → SessionGoes t old bytes [] (record at { pending = p }) text
   goes_part part p cut grown plain short other = record {
     ls = g.ls;
     came = subst (BeginsWithLines IsSessionLine (old.pending ++ bytes) g.ls)
@@ -91,7 +91,7 @@ module _ {t : SessionSetup} {old at : SoFar} {bytes rest text : List ℕ} (g : G
   pub goes_line : {new : SoFar} {more told : List ℕ} (part : List ℕ) → rest ≡ part ++ 10 ∷ more
       → IsSessionLine (at.pending ++ part)
       → at.count < MAX_LINES → AnswersLineOfSpeaker t at.who (at.pending ++ part) new.who told
-      → new.pending ≡ [] → new.count ≡ at.count + 1 → Goes t old bytes more new (text ++ told)
+      → new.pending ≡ [] → new.count ≡ at.count + 1 → SessionGoes t old bytes more new (text ++ told)
   goes_line {new} {more} {told} part cut is few holds none next =
       let line = at.pending ++ part in
       let sizes = sizes_kept t at.who new.who line told holds in record {

@@ -18,7 +18,7 @@
 --   session_alone    a session of the seat that is alone
 --   one_more         what holds of each seat so far, and of the next
 --   fewer_left       fewer bytes can still be read
-use Rattle.dg_session.proofs.Common.{◌≡◌, ◌≢◌, ℕ, zero, suc, ◌+◌, ◌-◌, ◌*◌, ◌<◌, ◌≤◌, inl, inr, List, [], ◌∷◌, ◌++◌, length, take, map, Option, None, Some, Result, Ok, Err, OnOk, IfErr, true, refl, sym, ap, subst, ◌∙◌, arith, append-nil, length-append, All, flat_map, ⊤, All-nil, All-head, All-tail, All-push, length-map, slice_index_or, Appends, Consumes, IsAtEnd, SeatView, BeginsWithLines, with_newline, last_line, begins_then, begins_more, one_cutting, StreamWriting, AppendsFrontToStream, appends_none, appends_more, consumes_none, consumes_more, consumes_kept, SessionSetup, IsSessionLine, AreSessionLines, Passage, passage, Speakers, new_speakers, SessionReading, reading, SessionStopsAt, EndsBy, WritesInSession, IsOver, SoFar, beginning_of_session, IsReady, Goes, SessionStopsIn, round, HaltsSession, TakesInSession, TakesSessionEnd, IsWrittenInSession, MAX_LINE, MAX_LINES, READ_SIZE, SessionEnd, Read, Write, LongLine, Turns, Table, Memory, Spawn, Answers, IsSession}
+use Rattle.dg_session.proofs.Common.{◌≡◌, ◌≢◌, ℕ, zero, suc, ◌+◌, ◌-◌, ◌*◌, ◌<◌, ◌≤◌, inl, inr, List, [], ◌∷◌, ◌++◌, length, take, map, Option, None, Some, Result, Ok, Err, OnOk, IfErr, refl, sym, ap, subst, ◌∙◌, arith, append-nil, length-append, All, flat_map, ⊤, All-nil, All-head, All-tail, All-push, length-map, slice_index_or, Appends, Consumes, IsAtEnd, SeatView, BeginsWithLines, with_newline, last_line, begins_then, begins_more, one_cutting, StreamWriting, AppendsFrontToStream, appends_none, appends_more, consumes_none, consumes_more, consumes_kept, SessionSetup, IsSessionLine, AreSessionLines, Passage, passage, Speakers, new_speakers, SessionReading, reading, SessionStopsAt, EndsBy, WritesInSession, IsOver, SoFar, beginning_of_session, IsReady, SessionGoes, SessionStopsIn, round, HaltsSession, TakesInSession, TakesSessionEnd, IsWrittenInSession, MAX_LINE, MAX_LINES, READ_SIZE, SessionEnd, Read, Write, LongLine, Turns, Table, Memory, Spawn, Answers, IsSession}
 use Rattle.std.specs.Io.KnownBytes.{Keeps}
 use Rattle.std.specs.Prelude.{false}
 use Rattle.dg_session.proofs.Cutting.{plain, lines_then, lines_end}
@@ -30,7 +30,7 @@ pub record IsSoFar (t : SessionSetup) (input rest old new : Option (List ℕ)) (
   pub stream : List ℕ
   pub read : Consumes input rest stream
   pub text : List ℕ
-  pub goes : Goes t (beginning_of_session xs) stream [] at text
+  pub goes : SessionGoes t (beginning_of_session xs) stream [] at text
   pub written : Appends old new text
 
 abbrev pub so_far_new : {t : SessionSetup} {input old : Option (List ℕ)} {xs : List SeatView} → 1 ≤ length xs
@@ -57,7 +57,7 @@ so_far_new {t} {input} {old} {xs} some =
     }
 
 pub so_far_more : {t : SessionSetup} {input rest rest' old mid new : Option (List ℕ)} {xs : List SeatView} {at to : SoFar}
-    {bytes text : List ℕ} → IsSoFar t input rest old mid xs at → Consumes rest rest' bytes → Goes t at bytes [] to text
+    {bytes text : List ℕ} → IsSoFar t input rest old mid xs at → Consumes rest rest' bytes → SessionGoes t at bytes [] to text
     → Appends mid new text → IsSoFar t input rest' old new xs to
 so_far_more {t} {input} {rest} {rest'} {old} {mid} {new} {xs} {at} {to} {bytes} {text} far read goes written = record {
   stream = far.stream ++ bytes;
@@ -145,7 +145,7 @@ module _ {t : SessionSetup} {input rest old mid : Option (List ℕ)} {xs : List 
   }
 
   over_goes : {rest' new : Option (List ℕ)} {result : Result ℕ SessionEnd} {bytes text back : List ℕ} {to : SoFar}
-      (z : Speakers) (g : Goes t at bytes back to text) → Consumes rest rest' bytes → length bytes ≤ READ_SIZE
+      (z : Speakers) (g : SessionGoes t at bytes back to text) → Consumes rest rest' bytes → length bytes ≤ READ_SIZE
       → WritesInSession result (passage old new) far.text text
       → EndsBy t (reading (far.stream ++ bytes) (far.goes.ls ++ g.ls) rest') to.who z result
       → IsOver t (passage input rest') (passage old new) xs z.seats result
@@ -164,11 +164,11 @@ module _ {t : SessionSetup} {input rest old mid : Option (List ℕ)} {xs : List 
       (last_few at.pending at.count far.goes.ready.few far.goes.ready.full)
       (last_short at.pending far.goes.ready.line) answered written ends
 
-  cut : {bytes text back : List ℕ} {to : SoFar} (g : Goes t at bytes back to text)
+  cut : {bytes text back : List ℕ} {to : SoFar} (g : SessionGoes t at bytes back to text)
       → BeginsWithLines IsSessionLine (far.stream ++ bytes) (far.goes.ls ++ g.ls) (to.pending ++ back)
   cut {bytes} g = begins_then (begins bytes) g.came
 
-  number : {bytes text back : List ℕ} {to : SoFar} (g : Goes t at bytes back to text)
+  number : {bytes text back : List ℕ} {to : SoFar} (g : SessionGoes t at bytes back to text)
       → length (far.goes.ls ++ g.ls) ≡ to.count
   number g = let size = length-append far.goes.ls g.ls in omega (arith, size, far.goes.counted, g.counted)
 
@@ -217,13 +217,13 @@ module _ {t : SessionSetup} {input rest old mid : Option (List ℕ)} {xs : List 
   pub session_reads : {rest' : Option (List ℕ)} → Keeps rest rest'
       → IsOver t (passage input rest') (passage old mid) xs at.who.seats (Err Read)
   session_reads {rest'} keeps =
-      let g : Goes t at [] [] at [] = goes_none refl far.goes.ready in
+      let g : SessionGoes t at [] [] at [] = goes_none refl far.goes.ready in
       over_goes at.who g (consumes_kept rest rest' keeps) (omega arith) unsaid
       (refl, (at.pending ++ [], cut g, subst IsSessionLine (sym (append-nil at.pending)) far.goes.ready.line))
 
   pub session_unsaid : IsOver t (passage input rest) (passage old mid) xs at.who.seats (Err Memory)
   session_unsaid =
-      let g : Goes t at [] [] at [] = goes_none refl far.goes.ready in
+      let g : SessionGoes t at [] [] at [] = goes_none refl far.goes.ready in
       over_goes at.who g (consumes_none rest) (omega arith) unsaid (inl refl)
 
 pub written_ok : {B P : Type 0} {b : B} (taken : Result B SessionEnd) (text : List ℕ) (w w' : StreamWriting)
@@ -276,7 +276,7 @@ module _ {t : SessionSetup} {input rest old : Option (List ℕ)} {xs : List Seat
       → IsWrittenInSession taken takes.text w w' (Err end) → Over rest' to.who end
   session_halts {taken = taken} {to} {bytes = bytes} read small takes written =
       breaks (λ (none : ⊥). absurd none) bytes takes.text to.who taken read small takes.halted
-      (on_ok taken (λ (g : Goes t at bytes [] to takes.text) front. over_goes far to.who g read small front (inl refl))
+      (on_ok taken (λ (g : SessionGoes t at bytes [] to takes.text) front. over_goes far to.who g read small front (inl refl))
       takes.taken) written
 
   pub session_closes : {rest' : Option (List ℕ)} {B : Type 0} {taken : Result B SessionEnd} {to : SoFar}
@@ -311,7 +311,7 @@ ScriptOver t script xs ys result = IsOver t (passage (Some script) (Some [])) (p
 
 module _ {t : SessionSetup} {xs : List SeatView} (some : 1 ≤ length xs) (script : List ℕ) where
   stops : {rest text : List ℕ} {at : SoFar} (z : Speakers) (end : SessionEnd)
-      → (g : Goes t (beginning_of_session xs) script rest at text) → IsHalt end
+      → (g : SessionGoes t (beginning_of_session xs) script rest at text) → IsHalt end
       → EndsBy t (reading script g.ls (Some [])) at.who z (Err end) → ScriptOver t script xs z.seats (Err end)
   stops {rest} {text} {at} z end g halt by =
       let few : length g.ls ≤ MAX_LINES = omega (arith, g.counted, g.ready.few) in
@@ -358,7 +358,7 @@ module _ {t : SessionSetup} {xs : List SeatView} (some : 1 ≤ length xs) (scrip
       (is : first ≡ Ok b) (takes : TakesSessionEnd t mid to said' taken) where
     far : IsSoFar t (Some script) (Some []) None None xs mid
     far = so_far_more begun (sym (append-nil script))
-        (subst (λ r. OnOk r (Goes t (beginning_of_session xs) script [] mid goes.text)) is goes.taken) tt
+        (subst (λ r. OnOk r (SessionGoes t (beginning_of_session xs) script [] mid goes.text)) is goes.taken) tt
 
     pub script_closes : (end : SessionEnd) → taken ≡ Err end → ScriptOver t script xs to.who.seats (Err end)
     script_closes end stopped = session_closes silent silent far refl refl takes (inl (stopped, tt))
@@ -441,7 +441,7 @@ length_lines (line ∷ ls) each =
     let size = length-append (line ++ 10 ∷ []) (flat_map with_newline ls) in
     omega (arith, tail, head, one, size)
 
-pub fewer_left : {t : SessionSetup} {old new : SoFar} {bytes text : List ℕ} → IsReady old → Goes t old bytes [] new text
+pub fewer_left : {t : SessionSetup} {old new : SoFar} {bytes text : List ℕ} → IsReady old → SessionGoes t old bytes [] new text
     → 1 ≤ length bytes
     → bytes_left new.pending new.count < bytes_left old.pending old.count
 fewer_left {t} {old} {new} {bytes} ready g some =

@@ -3,7 +3,7 @@
 --   HaveGone       bytes are taken but for a rest, and what is said of it comes after what was said before
 --   said_whole     after nothing, all that is kept is what was said since
 --   is_heard       and it is kept
-use Rattle.dg_session.proofs.Common.{◌≡◌, ◌≢◌, ℕ, List, [], ◌++◌, Option, Some, None, refl, sym, ap, ◌∙◌, append_assoc, append-nil, append_known, SessionSetup, SoFar, Goes}
+use Rattle.dg_session.proofs.Common.{◌≡◌, ◌≢◌, ℕ, List, [], ◌++◌, Option, Some, None, refl, sym, ap, ◌∙◌, append_assoc, append-nil, append_known, SessionSetup, SoFar, SessionGoes}
 
 pub said_none : (a : Option (List ℕ)) → a ≡ append_known a []
 said_none None = refl
@@ -19,7 +19,7 @@ pub record HaveGone (t : SessionSetup) (old : SoFar) (bytes rest : List ℕ) (ne
     : Type 0 where
   pub text : List ℕ
   pub said : after ≡ append_known before text
-  pub goes : Goes t old bytes rest new text
+  pub goes : SessionGoes t old bytes rest new text
 
 pub said_whole : {a b : Option (List ℕ)} (text : List ℕ) → a ≡ Some [] → b ≡ append_known a text → b ≡ Some text
 said_whole text none said = said ∙ ap (λ x. append_known x text) none

@@ -18,7 +18,7 @@
 --   HandlesSessionLine t line old new result      == so is a line, of the seat that it is for
 --   IsReady at                                    == the session can go on: what is pending may be of a line,
 --                                                    and a look may be kept for each seat
---   Goes t old bytes rest new text                == of the bytes all but the rest are taken: the lines that
+--   SessionGoes t old bytes rest new text         == of the bytes all but the rest are taken: the lines that
 --                                                    end in them are answered with the text
 --   SessionRefusesPart pending count part end     == the part of a line is not taken, for its length or as
 --                                                    one of a line too many
@@ -147,7 +147,7 @@ pub record IsReady (at : SoFar) : Type 0 where
   pub some : 1 ≤ length at.who.seats
   pub each : length at.who.kept ≡ length at.who.seats
 
-pub record Goes (t : SessionSetup) (old : SoFar) (bytes rest : List ℕ) (new : SoFar)
+pub record SessionGoes (t : SessionSetup) (old : SoFar) (bytes rest : List ℕ) (new : SoFar)
     (text : List ℕ) : Type 0 where
   pub ls : List (List ℕ)
   pub came : BeginsWithLines IsSessionLine (old.pending ++ bytes) ls (new.pending ++ rest)
@@ -185,14 +185,14 @@ pub record HaltsSession (t : SessionSetup) (ended : Type 0) (old : SoFar) (bytes
     (end : SessionEnd) : Type 0 where
   pub rest : List ℕ
   pub at : SoFar
-  pub goes : Goes t old bytes rest at after.text
+  pub goes : SessionGoes t old bytes rest at after.text
   pub fails : (SessionStaysAt at rest end × (after.who ≡ at.who)) ⊎ SessionStopsIn t ended at rest after.who end
 
 pub record TakesInSession {B : Type 0} (t : SessionSetup) (old : SoFar) (bytes : List ℕ) (new : SoFar)
     (said : Passage) (result : Result B SessionEnd) : Type 0 where
   pub text : List ℕ
   pub grown : said.after ≡ append_known said.before text
-  pub taken : OnOk result (Goes t old bytes [] new text)
+  pub taken : OnOk result (SessionGoes t old bytes [] new text)
   pub halted : IfErr result (HaltsSession t ⊥ old bytes (round new.who text))
 
 pub record TakesSessionEnd {B : Type 0} (t : SessionSetup) (old new : SoFar) (said : Passage)

@@ -14,7 +14,7 @@ use Rattle.std.specs.List.{enumerate_from}
 use Rattle.dg_strategy.specs.Common.{Multigraph, StartData, Vector, Move, Entry, TableData, SeatView}
 use Rattle.dg_strategy.specs.Choices.{Choosing, GreedyBorrowsAtLeast}
 use Rattle.dg_strategy.specs.Greedy.{IsGreedyGame}
-use Rattle.dg_strategy.specs.Plays.{IsSettlerTurn, Plays, is_settled}
+use Rattle.dg_strategy.specs.Plays.{IsSettlerTurn, Plays, ended_with_claim}
 use Rattle.dg_strategy.specs.declared.playing.Ended.{Ended}
 
 abbrev pub IsGreedyChoice : Choosing → Type 0
@@ -25,7 +25,7 @@ StrategyIsAloneAt table x = (table.seats ≡ 1) × (x.mine ≡ [])
 
 abbrev pub HasGreedyGame : {N : Type 0} → TableData → ℕ → SeatView → Ended N → Type 0
 HasGreedyGame table n y ended = (H : List Entry) × (y.mine ≡ enumerate_from 0 H) ×
-    IsGreedyGame table.start n H (is_settled ended)
+    IsGreedyGame table.start n H (ended_with_claim ended)
 
 abbrev pub SettlingOutIsGreedy : Type 0 → Choosing → TableData → Type 0
 SettlingOutIsGreedy N A table = (n : ℕ) (x y : SeatView) (ended : Ended N) → IsGreedyChoice A →

@@ -10,7 +10,7 @@
 --   IsStrategyTurn A table x r y   == it is such a turn; the gift count stays, and a move is answered so
 --   IsSettlerTurn A table x r y    == it is such a turn too; a move is a borrowing by a vertex in debt, and a
 --                                     claim is won
---   is_settled ended               == whether it ended with a claim
+--   ended_with_claim ended         == whether it ended with a claim
 --   Gains T x es y                 == the seat gained the entries es, in order, each by a step of T, and was
 --                                     told of nothing
 --   IsPlayed T n x y ended         == in n turns, all moves, the seat gained n entries; or in fewer, by moves
@@ -60,9 +60,9 @@ pub record IsSettlerTurn (A : Choosing) (table : TableData) (x : SeatView) (r : 
   pub borrows : (m : Move) → strategy.turn.answer ≡ Some m → BorrowsInDebt strategy.turn.amounts m
   pub won : strategy.turn.answer ≡ None → r.1.reply ≡ Won
 
-abbrev pub is_settled : {N : Type 0} → Ended N → Bool
-is_settled (Settled r) = true
-is_settled Turns = false
+abbrev pub ended_with_claim : {N : Type 0} → Ended N → Bool
+ended_with_claim (Settled r) = true
+ended_with_claim Turns = false
 
 module _ (T : SeatView → ℕ × Entry → SeatView → Type 0) where
   pub record Gains (x : SeatView) (es : List (ℕ × Entry)) (y : SeatView) : Type 0 where

@@ -27,8 +27,8 @@ pub enum Ended<N: Name> {
 
 impl<N: Name> Ended<N> {
     /// Whether it ended with a claim.
-    pub fn is_settled(&self) -> bool
-        ensures { result ≡ Rattle.dg_strategy.specs.Plays.is_settled self.now }
+    pub fn ended_with_claim(&self) -> bool
+        ensures { result ≡ Rattle.dg_strategy.specs.Plays.ended_with_claim self.now }
     {
         match self {
             Ended::Settled(_) => true,

@@ -5,7 +5,7 @@ pub use Rattle.dg_chips.specs.Starts.{IsStart, StartData}
 pub use Rattle.dg_chips.specs.Vector.{HoldsNumbers, Vector, at}
 pub use Rattle.dg_chips.specs.declared.divisor.ChipFault.{ChipFault}
 pub use Rattle.dg_file.specs.Content.{Content}
-pub use Rattle.dg_file.specs.FileFaults.{RefusesTableFile, RefusesTable}
+pub use Rattle.dg_file.specs.FileFaults.{RefusesTableFile, RefusesTableContent}
 pub use Rattle.dg_file.specs.FileLaws.{FilesHaveOneMeaning}
 pub use Rattle.dg_file.specs.TableFiles.{IsTableInFile}
 pub use Rattle.dg_file.specs.declared.fault.FileFault.TheVariants.{Chip}
@@ -32,7 +32,7 @@ pub use Rattle.dg_sweep.specs.DivisorLaws.{with_swept_amounts}
 pub use Rattle.dg_sweep.specs.Divisors.{AnswersAmounts, HasSweptAmounts, RefusesSweptAmounts, SpellsSweptAmounts, SpellsNoSweptAmounts}
 pub use Rattle.dg_sweep.specs.FaultTexts.{sweep_file_fault_words}
 pub use Rattle.dg_sweep.specs.Pieces.{AnswersPiece, IsAnswered, LeadsSweptPiece}
-pub use Rattle.dg_sweep.specs.Steps.{AnswersSweptFront, AnswersLastSweptLine, EndsPiece, KeepsPartOfPiece, PassesSweptAnswers, StandsForSweptPart, TakesSweptBytes}
+pub use Rattle.dg_sweep.specs.Steps.{AnswersSweptFront, AnswersLastSweptLine, EndsSweptPiece, KeepsPartOfPiece, PassesSweptAnswers, StandsForSweptPart, TakesSweptBytes}
 pub use Rattle.dg_sweep.specs.Sweeps.{EndsSweepAfter, IsSweep, WritesSweptAnswers}
 pub use Rattle.dg_sweep.specs.declared.ends.SweepEnd.TheVariants.{Read, Shortage, Write}
 pub use Rattle.dg_sweep.specs.declared.ends.SweepEnd.{SweepEnd}

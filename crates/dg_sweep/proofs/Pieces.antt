@@ -6,7 +6,7 @@
 --   puts_piece                 the text has the answers to one piece more
 --   puts_all                   it has those to all
 --   leads_rest                 pieces, and then what follows them
-use Rattle.dg_sweep.proofs.Common.{◌≡◌, ℕ, ◌+◌, ◌<◌, ◌≤◌, List, [], ◌∷◌, ◌++◌, length, map, get_or, All, Bor, Result, Ok, Err, IfOk, IsOkAnd, refl, sym, ap, subst, ◌∙◌, arith, append_assoc, append-nil, flat_map, take, get_or-map, take_more, take_all, All-append, All-cons, All-nil, All-get_or, flat_map-append, AnswersSweptFront, EndsPiece, AnswersPiece, LeadsSweptPiece}
+use Rattle.dg_sweep.proofs.Common.{◌≡◌, ℕ, ◌+◌, ◌<◌, ◌≤◌, List, [], ◌∷◌, ◌++◌, length, map, get_or, All, Bor, Result, Ok, Err, IfOk, IsOkAnd, refl, sym, ap, subst, ◌∙◌, arith, append_assoc, append-nil, flat_map, take, get_or-map, take_more, take_all, All-append, All-cons, All-nil, All-get_or, flat_map-append, AnswersSweptFront, EndsSweptPiece, AnswersPiece, LeadsSweptPiece}
 use Rattle.dg_sweep.proofs.Taken.{pieces_both}
 
 pub all_both : {X : Type 0} (P : X → Type 0) (xs ys zs : List X) → All P xs → All P ys → zs ≡ xs ++ ys → All P zs
@@ -50,7 +50,7 @@ pub leads_none : (right : List ℕ → List ℕ → Type 0) → LeadsSweptPiece 
 leads_none right back rest text answers = answers
 
 pub leads_piece : (right : List ℕ → List ℕ → Type 0) (front piece said text : List ℕ) → LeadsSweptPiece right front said →
-    EndsPiece piece
+    EndsSweptPiece piece
     → AnswersPiece right piece text
     → LeadsSweptPiece right (front ++ piece) (said ++ text)
 leads_piece right front piece said text leads ends answered back rest more answers =
@@ -74,7 +74,7 @@ leads_rest right bytes front back rest old mid new first whole second =
     )
 
 pub puts_piece : (right : List ℕ → List ℕ → Type 0) (pieces : List (Bor (List ℕ))) (n : ℕ) (old mid new : List ℕ)
-    → n < length pieces → All (λ (p : Bor (List ℕ)). EndsPiece p.now) pieces
+    → n < length pieces → All (λ (p : Bor (List ℕ)). EndsSweptPiece p.now) pieces
     → (said : List ℕ) × LeadsSweptPiece right (flat_map (λ (p : Bor (List ℕ)). p.now) (take n pieces)) said × (mid ≡ old ++ said)
     → (said : List ℕ) × AnswersPiece right (get_or (map (λ (p : Bor (List ℕ)). p.now) pieces) n []) said × (new ≡ mid ++ said)
     → (said : List ℕ) × LeadsSweptPiece right (flat_map (λ (p : Bor (List ℕ)). p.now) (take (n + 1) pieces)) said × (new ≡
@@ -93,7 +93,7 @@ puts_piece right (p ∷ ps) n old mid new within ends first second =
       said ++ more,
       subst (λ l. LeadsSweptPiece right l (said ++ more)) (sym longer)
           (leads_piece right front piece.now said more leads
-          (All-get_or (λ (p : Bor (List ℕ)). EndsPiece p.now) pieces n p within ends) answers),
+          (All-get_or (λ (p : Bor (List ℕ)). EndsSweptPiece p.now) pieces n p within ends) answers),
       grown' ∙ ap (λ l. l ++ more) grown ∙ append_assoc old said more,
     )
 

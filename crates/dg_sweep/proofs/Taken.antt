@@ -7,7 +7,7 @@
 --   takes_part, takes_lines    bytes without a newline, and with one
 --   nothing                    a list of length 0
 --   takes_no_end, takes_end    the end
-use Rattle.dg_sweep.proofs.Common.{◌≡◌, ◌≢◌, ℕ, ◌+◌, ◌-◌, ◌≤◌, take, drop, inl, inr, List, [], ◌∷◌, ◌++◌, length, refl, sym, ap, subst, ◌∙◌, arith, append_assoc, append-nil, flat_map, All-append, All-head, All-tail, take-append_seam, take-append-drop, AnswersLine, HasNoNewline, BeginsWithLines, with_newline, last_line, begins_none, begins_one, begins_more, begins_then, StandsForSweptPart, KeepsPartOfPiece, AnswersSweptFront, EndsPiece, TakesSweptBytes, AnswersLastSweptLine}
+use Rattle.dg_sweep.proofs.Common.{◌≡◌, ◌≢◌, ℕ, ◌+◌, ◌-◌, ◌≤◌, take, drop, inl, inr, List, [], ◌∷◌, ◌++◌, length, refl, sym, ap, subst, ◌∙◌, arith, append_assoc, append-nil, flat_map, All-append, All-head, All-tail, take-append_seam, take-append-drop, AnswersLine, HasNoNewline, BeginsWithLines, with_newline, last_line, begins_none, begins_one, begins_more, begins_then, StandsForSweptPart, KeepsPartOfPiece, AnswersSweptFront, EndsSweptPiece, TakesSweptBytes, AnswersLastSweptLine}
 use Rattle.std.proofs.Common.{length-append}
 use Rattle.dg_sweep.specs.Answers.{AnswersLines}
 
@@ -100,7 +100,7 @@ ends_with (x ∷ xs) ys (z ∷ front) y byte e = ends_with xs ys front y byte (a
     tail (h ∷ t) = t
 
 pub nothing_left : (bytes rest : List ℕ) (ls : List (List ℕ)) → BeginsWithLines HasNoNewline bytes ls rest → HasNoNewline rest
-    → EndsPiece bytes → rest ≡ []
+    → EndsSweptPiece bytes → rest ≡ []
 nothing_left bytes [] ls cut none ends = refl
 nothing_left bytes (y ∷ ys) ls cut none ends =
     let (more, e) = ends_with (flat_map with_newline ls) ys ends.0 y 10 (sym cut.whole ∙ ends.1) in
@@ -112,7 +112,7 @@ nothing_left bytes (y ∷ ys) ls cut none ends =
 
 pub front_ends : (bytes early later part after : List ℕ) (n : ℕ) → early ≡ take n bytes → later ≡ drop n bytes
     → later ≡ part ++ 10 ∷ after
-    → (length after ≤ length bytes) × EndsPiece (take (length bytes - length after) bytes)
+    → (length after ≤ length bytes) × EndsSweptPiece (take (length bytes - length after) bytes)
     × (bytes ≡ take (length bytes - length after) bytes ++ after)
 front_ends bytes early later part after n e1 e2 e =
     let split : early ++ later ≡ bytes = ap (λ l. l ++ later) e1 ∙ ap (λ l. take n bytes ++ l) e2
@@ -127,7 +127,7 @@ front_ends bytes early later part after n e1 e2 e =
     ap (λ n. take n bytes) size ∙ ap (take (length front)) whole ∙ take-append_seam front after in
     (omega (arith, ap length whole, sum), (early ++ part, same), whole ∙ ap (λ l. l ++ after) (sym same))
 
-pub pieces_both : (right : List ℕ → List ℕ → Type 0) (bytes front back rest rest' last said said' text : List ℕ) → EndsPiece front
+pub pieces_both : (right : List ℕ → List ℕ → Type 0) (bytes front back rest rest' last said said' text : List ℕ) → EndsSweptPiece front
     → bytes ≡ front ++ back
     → AnswersSweptFront right front rest said → AnswersSweptFront right back rest' said' → last ≡ rest'
     → text ≡ said ++ said'

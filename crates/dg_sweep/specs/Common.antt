@@ -5,7 +5,7 @@ pub use Rattle.dg_chips.specs.Vector.{HoldsNumbers, IsDivisorVector, Vector, at}
 pub use Rattle.dg_chips.specs.declared.divisor.ChipFault.{ChipFault}
 pub use Rattle.dg_chips.specs.declared.divisor.ChipFault.TheVariants.{Length, Range}
 pub use Rattle.dg_file.specs.Content.{Content}
-pub use Rattle.dg_file.specs.FileFaults.{RefusesTableFile, RefusesTable}
+pub use Rattle.dg_file.specs.FileFaults.{RefusesTableFile, RefusesTableContent}
 pub use Rattle.dg_file.specs.TableFiles.{IsTableInFile, IsTableFile}
 pub use Rattle.dg_file.specs.declared.fault.FileFault.{FileFault}
 pub use Rattle.dg_file.specs.declared.fault.FileFault.TheVariants.{Chip, Graph, Json, Name, NoQ, OutOfMemory, Shape, Twice}

@@ -4,7 +4,7 @@
 --                                    number or range, it spells numbers with which the file that says the
 --                                    table would describe that start, or would be refused so
 use Rattle.std.specs.Prelude.{ℕ, ℤ, List}
-use Rattle.dg_sweep.specs.Common.{StartData, ChipFault, Content, IsTableInFile, RefusesTable, Chip}
+use Rattle.dg_sweep.specs.Common.{StartData, ChipFault, Content, IsTableInFile, RefusesTableContent, Chip}
 use Rattle.dg_sweep.specs.Divisors.{SpellsSweptAmounts, HasSweptAmounts, RefusesSweptAmounts}
 
 abbrev pub with_swept_amounts : Content → List ℤ → Content
@@ -16,4 +16,4 @@ pub record LinesStandForTables : Type 0 where
       → (xs : List ℤ) × SpellsSweptAmounts line xs × IsTableInFile (with_swept_amounts content xs) p names
   pub refused : (content : Content) (o : StartData) (names : List (List ℕ)) (line : List ℕ)
       (fault : ChipFault) → IsTableInFile content o names → RefusesSweptAmounts o.graph.size line (Chip fault)
-      → (xs : List ℤ) × SpellsSweptAmounts line xs × RefusesTable (with_swept_amounts content xs) (Chip fault)
+      → (xs : List ℤ) × SpellsSweptAmounts line xs × RefusesTableContent (with_swept_amounts content xs) (Chip fault)

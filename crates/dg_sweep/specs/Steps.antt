@@ -6,7 +6,7 @@
 --   AnswersSweptFront right bytes rest text  == the bytes are lines, each with its newline, and then the
 --                                               rest, which has none; and the text is the answers to the
 --                                               lines
---   EndsPiece bytes                          == the last of the bytes is a newline
+--   EndsSweptPiece bytes                     == the last of the bytes is a newline
 --   TakesSweptBytes right old bytes new text == whatever part of a line was pending, it and the bytes are
 --                                               lines and then a part of a line, which then is pending; there
 --                                               are no more lines than bytes; and the text is their answers
@@ -38,8 +38,8 @@ pub record AnswersSweptFront (right : List ℕ → List ℕ → Type 0) (bytes r
   pub few : length ls ≤ length bytes
   pub answers : AnswersLines right ls text
 
-abbrev pub EndsPiece : List ℕ → Type 0
-EndsPiece bytes = (front : List ℕ) × (bytes ≡ front ++ 10 ∷ [])
+abbrev pub EndsSweptPiece : List ℕ → Type 0
+EndsSweptPiece bytes = (front : List ℕ) × (bytes ≡ front ++ 10 ∷ [])
 
 pub record TakenBySweep (right : List ℕ → List ℕ → Type 0) (bytes new text : List ℕ) (n : ℕ) : Type 0 where
   pub ls : List (List ℕ)

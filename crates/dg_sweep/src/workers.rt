@@ -1,6 +1,6 @@
 //! Lines answered among workers, each with a thread of its own.
 ghost use Rattle.std.specs.Prelude.{◌≡◌, ◌<◌, ◌≤◌, ◌++◌, ℕ, List, [], length, get_or, map, flat_map, All, Contains, IfOk, IfSome, IsOkAnd, OnOk, Err};
-ghost use Rattle.dg_sweep.specs.Steps.{AnswersSweptFront, EndsPiece};
+ghost use Rattle.dg_sweep.specs.Steps.{AnswersSweptFront, EndsSweptPiece};
 ghost use Rattle.dg_sweep.specs.Pieces.{AnswersPiece, IsAnswered, LeadsSweptPiece};
 ghost use Rattle.dg_system.specs.declared.shortage.Shortage.TheVariants.{Spawn};
 
@@ -161,7 +161,7 @@ fn put_swept_answers<R, K: LineKind>(
     done: &[Answered],
     text: &mut Vec<u8>,
 ) -> Result<(), Shortage>
-    requires lines { All (λ piece. EndsPiece piece.now) pieces.now }
+    requires lines { All (λ piece. EndsSweptPiece piece.now) pieces.now }
     requires done { All (IsAnswered (K.answers context.now.kind.now) (map (λ piece. piece.now) pieces.now)) done.now }
     ensures { OnOk result ((said : List ℕ) ×
         LeadsSweptPiece (K.answers context.now.kind.now) (flat_map (λ piece. piece.now) pieces.now) said
@@ -233,7 +233,7 @@ fn text_of_piece<'a>(done: &'a [Answered], found: &[usize], place: usize) -> Opt
 
 /// Cuts bytes into pieces, each up to a newline, and what follows them.
 fn cut_pieces(alloc: Global, bytes: &[u8]) -> Result<(Vec<&[u8]>, &[u8]), AllocError>
-    ensures lines { IfOk result (λ r. All (λ piece. EndsPiece piece.now) r.0.items) }
+    ensures lines { IfOk result (λ r. All (λ piece. EndsSweptPiece piece.now) r.0.items) }
     ensures whole { IfOk result (λ r. bytes.now ≡ flat_map (λ piece. piece.now) r.0.items ++ r.1.now) }
 {
     let mut pieces = Vec::new(alloc);
@@ -248,7 +248,7 @@ fn cut_pieces(alloc: Global, bytes: &[u8]) -> Result<(Vec<&[u8]>, &[u8]), AllocE
 /// The first piece, up to a newline, and what follows it; `None` if there is no newline to end it. Near the end a piece is
 /// half of what is left, and then the rest of a line.
 fn first_piece_of_sweep(bytes: &[u8]) -> Option<(&[u8], &[u8])>
-    ensures { IfSome result (λ r. EndsPiece r.0.now × (bytes.now ≡ r.0.now ++ r.1.now)) }
+    ensures { IfSome result (λ r. EndsSweptPiece r.0.now × (bytes.now ≡ r.0.now ++ r.1.now)) }
 {
     let (_, later) = bytes.split_at(PIECE_SIZE.min(bytes.len() / 2));
     let (_, after) = cut(later, b'\n');

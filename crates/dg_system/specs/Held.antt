@@ -7,7 +7,7 @@
 --                                 there, as too long if it is not known that it has no more bytes than a file
 --                                 may have; of want of memory nothing is said
 --   held_by_source read        == these bytes, or that there is no file
---   held_among files name      == the bytes of the first of the files with that name, and that there is none
+--   held_among_sources files name == the bytes of the first of the files with that name, and that there is none
 --                                 if no file has it
 use Rattle.std.specs.Prelude.{◌≡◌, ℕ, ◌<◌, ◌≤◌, List, [], ◌∷◌, length, Option, Some, None, cond, bytes_eq, ⊤}
 use Rattle.dg_system.specs.declared.sources.TheConstants.{MAX_FILE}
@@ -36,9 +36,9 @@ RefusesSource missing TooLong = ⊥
 RefusesSource (bytes known) Unreadable = ⊥
 RefusesSource (bytes known) TooLong = MAX_FILE < length known
 
-unfoldable pub held_among : List (List ℕ × List ℕ) → List ℕ → Held
-held_among [] name = missing
-held_among (file ∷ files) name = cond (bytes_eq file.0 name) (bytes file.1) (held_among files name)
+unfoldable pub held_among_sources : List (List ℕ × List ℕ) → List ℕ → Held
+held_among_sources [] name = missing
+held_among_sources (file ∷ files) name = cond (bytes_eq file.0 name) (bytes file.1) (held_among_sources files name)
 
 abbrev pub held_by_source : Option (List ℕ) → Held
 held_by_source None = missing

@@ -1,6 +1,6 @@
 //! Where the bytes of files come from.
 ghost use Rattle.std.specs.Prelude.{◌≡◌, ◌≢◌, ◌<◌, ◌≤◌, ℕ, List, length, map, vec_len, IfOk, IfErr, IfSome};
-ghost use Rattle.dg_system.specs.Held.{Held, MayHoldSourceBytes, RefusesSource, held_among, held_by_source, unknown};
+ghost use Rattle.dg_system.specs.Held.{Held, MayHoldSourceBytes, RefusesSource, held_among_sources, held_by_source, unknown};
 ghost use Rattle.dg_system.specs.Streams.{MayGiveAsStream, RefusesSourceStream, stream_remaining};
 ghost use Rattle.std.specs.Option.{option_copied};
 
@@ -95,9 +95,9 @@ pub struct MemoryFiles<'a> {
 
 impl Sources for MemoryFiles<'_> {
     ghost use Rattle.std.specs.Prelude.{map};
-    ghost use Rattle.dg_system.specs.Held.{held_among};
+    ghost use Rattle.dg_system.specs.Held.{held_among_sources};
 
-    ghost held = { λ shelf. held_among (map (λ file. (file.0.now, file.1.now)) shelf.files.now) };
+    ghost held = { λ shelf. held_among_sources (map (λ file. (file.0.now, file.1.now)) shelf.files.now) };
 
     fn bytes<R: Files + AllocGlobal>(&self, rt: &R, name: &str) -> Result<Vec<u8>, SourceFault> {
         match source_found(self.files, name) {
@@ -119,9 +119,9 @@ impl Sources for MemoryFiles<'_> {
 }
 
 /// The bytes of the first of the files with that name.
-#[tactic(auto, unfolding(crate::specs::Held::held_among))]
+#[tactic(auto, unfolding(crate::specs::Held::held_among_sources))]
 fn source_found<'a>(files: &[(&'a str, &'a [u8])], name: &str) -> Option<&'a [u8]>
-    ensures { held_among (map (λ file. (file.0.now, file.1.now)) files.now) name.now
+    ensures { held_among_sources (map (λ file. (file.0.now, file.1.now)) files.now) name.now
         ≡ held_by_source (option_copied result) }
 {
     let (file, after) = files.split_first()?;

@@ -8,7 +8,7 @@
 --                                   gift count, and the graph and the amounts after it; and at each seat's
 --                                   place, from 0, the number of its calls, and 0 past the table's seats;
 --                                   together they are the number of entries
---   IsMissing n xs s             == s is the least of the seats 1 to n that is not among xs
+--   IsMissingSeat n xs s         == s is the least of the seats 1 to n that is not among xs
 --   HasInadmissibleSeat H xs     == one of the seats xs is not admissible after H
 --   RefusesClose H n xs s        == s is the least seat that is missing; or s is 0, none is missing, and one
 --                                   of the seats is not admissible after H
@@ -47,7 +47,7 @@ pub record AreAuditTotals {N : Type 0} {named : Ghosts N} (table : TableData) (x
   pub others : (s : ℕ) → table.seats ≤ s → s < MAX_SEATS → slice_index a.calls s ≡ 0
   pub all : sum a.calls ≡ a.entries
 
-pub record IsMissing (n : ℕ) (xs : List SeatView) (s : ℕ) : Type 0 where
+pub record IsMissingSeat (n : ℕ) (xs : List SeatView) (s : ℕ) : Type 0 where
   pub seat : (1 ≤ s) × (s ≤ n)
   pub missing : ¬ TableHasSeat xs s
   pub least : (t : ℕ) → 1 ≤ t → t < s → TableHasSeat xs t
@@ -56,7 +56,7 @@ abbrev pub HasInadmissibleSeat : List Entry → List SeatView → Type 0
 HasInadmissibleSeat H xs = (i : ℕ) × (x : SeatView) × (slice_get xs i ≡ Some x) × (¬ IsAdmissibleSeat H x)
 
 abbrev pub RefusesClose : List Entry → ℕ → List SeatView → ℕ → Type 0
-RefusesClose H n xs s = IsMissing n xs s ⊎ ((s ≡ 0) × IsTableComplete n xs × HasInadmissibleSeat H xs)
+RefusesClose H n xs s = IsMissingSeat n xs s ⊎ ((s ≡ 0) × IsTableComplete n xs × HasInadmissibleSeat H xs)
 
 pub record SeatsHaveMetHistory (H : List Entry) (xs ys : List SeatView) : Type 0 where
   pub count : length ys ≡ length xs

@@ -8,7 +8,7 @@ ghost use Rattle.dg_rules.specs.Requests.{asked};
 ghost use Rattle.dg_rules.specs.State.{HistoryLeadsTo};
 ghost use Rattle.dg_log.specs.Written.{nothing_written, with_entry, written_after_refusal};
 ghost use Rattle.dg_table.specs.Answered.{entering_at_table, IsAnsweredAtTableAfter};
-ghost use Rattle.dg_table.specs.Closing.{TableHasSeat, IsTableComplete, AllSeatsHeld, AreAuditTotals, IsMissing, HasInadmissibleSeat, RefusesClose, SeatsHaveMetHistory};
+ghost use Rattle.dg_table.specs.Closing.{TableHasSeat, IsTableComplete, AllSeatsHeld, AreAuditTotals, IsMissingSeat, HasInadmissibleSeat, RefusesClose, SeatsHaveMetHistory};
 ghost use Rattle.dg_table.specs.Faults.{RefusesSeatAtTable, RefusesSettlingAtTable};
 ghost use Rattle.dg_table.specs.declared.fault.Fault.TheVariants.{Log as LogFault};
 ghost use Rattle.dg_rules.specs.declared.entry.Entry.{Entry as EntryData};
@@ -406,7 +406,7 @@ impl<N: Name> Held<N> {
 
 /// The least of the seats 1 to `count` that is not among these.
 fn first_missing_seat<N: Name>(seats: &[Seat<N>], count: u8) -> Option<u8>
-    ensures { MatchOption result (IsTableComplete count seats.now) (IsMissing count seats.now) }
+    ensures { MatchOption result (IsTableComplete count seats.now) (IsMissingSeat count seats.now) }
 {
     for i in 0..count {
         if !table_has_seat(seats, i + 1) {

@@ -45,4 +45,3 @@ abbrev pub GreedyDeterminingSetIsOne : Type 0
 GreedyDeterminingSetIsOne = (g : Multigraph) (U A B : ℕ → Bool) → IsMultigraph g → IsGreedyDeterminingSet g U A →
     IsGreedyDeterminingSet g U B →
     (v : ℕ) → v < g.size → A v ≡ B v
-

@@ -26,4 +26,3 @@ IsSubset S T = (v : ℕ) → S v ≡ true → T v ≡ true
 
 abbrev pub AreDisjoint : (ℕ → Bool) → (ℕ → Bool) → Type 0
 AreDisjoint S T = (v : ℕ) → S v ≡ true → T v ≡ false
-

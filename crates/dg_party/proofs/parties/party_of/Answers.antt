@@ -1,4 +1,4 @@
-use Rattle.dg_party.proofs.Common.{rules, length, ap, sym, ◌∙◌, contents, legal_named}
+use Rattle.dg_party.proofs.Common.{rules, length, ap, sym, ◌∙◌, script_contents, legal_named}
 use Rattle.dg_party.proofs.Begun.{party_lacks}
 use Rattle.dg_party.proofs.Whole.{contents_count, shown_size, whole_lent, party_unclosed}
 use Rattle.dg_party.proofs.parties.party_of.Goals as goal
@@ -16,7 +16,7 @@ closed_party_text-requires-clause-position g c =
 
 pub returns-in-Ok-closed_party_text-clause-played : goal.returns-in-Ok-closed_party_text-clause-played
 returns-in-Ok-closed_party_text-clause-played g c =
-    whole_lent g.N.Name.table c.args.names.now (contents c.args.scripts.now)
+    whole_lent g.N.Name.table c.args.names.now (script_contents c.args.scripts.now)
     (length c.args.scripts.now) c.in-Ok.opened.1.len c.in-Ok.opened.1.items c.deref_mut.result.now c.sessions.new.seats _
     c.in-Ok-sessions.ends.items
     c.in-Ok-close.audit c.in-Ok-closed_party_text.text.items
@@ -27,13 +27,13 @@ returns-in-Ok-closed_party_text-clause-played g c =
 pub returns-in-Err-clause-refused : goal.returns-in-Err-clause-refused
 returns-in-Err-clause-refused g c =
     party_lacks g.N.Name.table (length c.args.scripts.now) c.args.names.now
-    (contents c.args.scripts.now) c.in-Ok.opened.1.items c.deref_mut.result.now c.sessions.new.seats c.in-Err.shortage
+    (script_contents c.args.scripts.now) c.in-Ok.opened.1.items c.deref_mut.result.now c.sessions.new.seats c.in-Err.shortage
     (ap (λ t. t.seats) (sym c.requires.table)) c.in-Ok.ensures (search rules)
     (λ spawn. rw (contents_count c.args.scripts.now) (c.in-Err.ensures.spawn spawn)) c.in-Err.ensures.fault
 
 pub returns-in_default-clause-refused : goal.returns-in_default-clause-refused
 returns-in_default-clause-refused g c =
-    party_unclosed g.N.Name.table c.args.names.now (contents c.args.scripts.now)
+    party_unclosed g.N.Name.table c.args.names.now (script_contents c.args.scripts.now)
     (length c.args.scripts.now) c.in-Ok.opened.1.len c.in-Ok.opened.1.items c.deref_mut.result.now c.sessions.new.seats _
     c.in_default.field-0.seats.items c.in-Ok-sessions.ends.items c.in_default.field-0.missing
     (ap (λ t. t.seats) (sym c.requires.table))

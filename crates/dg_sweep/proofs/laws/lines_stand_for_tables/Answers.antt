@@ -1,5 +1,5 @@
 -- The table with other amounts has the same names, graph and q.
-use Rattle.dg_sweep.proofs.Common.{◌≡◌, ℕ, ℤ, List, length, sym, ap, ◌∙◌, subst, StartData, IsFirstChipFault, ChipFault, Content, IsTableInFile, RefusesTable, Chip, SpellsSweptAmounts, HasSweptAmounts, RefusesSweptAmounts, with_swept_amounts}
+use Rattle.dg_sweep.proofs.Common.{◌≡◌, ℕ, ℤ, List, length, sym, ap, ◌∙◌, subst, StartData, IsFirstChipFault, ChipFault, Content, IsTableInFile, RefusesTableContent, Chip, SpellsSweptAmounts, HasSweptAmounts, RefusesSweptAmounts, with_swept_amounts}
 use Rattle.dg_sweep.proofs.laws.lines_stand_for_tables.Goals as goal
 
 stands : (content : Content) (o p : StartData) (names : List (List ℕ)) (line : List ℕ) → IsTableInFile content o names
@@ -21,7 +21,7 @@ stands content o p names line table has = (
 
 refused : (content : Content) (o : StartData) (names : List (List ℕ)) (line : List ℕ) (fault : ChipFault)
     → IsTableInFile content o names → RefusesSweptAmounts o.graph.size line (Chip fault)
-    → (xs : List ℤ) × SpellsSweptAmounts line xs × RefusesTable (with_swept_amounts content xs) (Chip fault)
+    → (xs : List ℤ) × SpellsSweptAmounts line xs × RefusesTableContent (with_swept_amounts content xs) (Chip fault)
 refused content o names line fault table (xs, spelled, first) =
     let size : o.graph.size ≡ length content.vertices = table.graph.size ∙ ap length table.given in (
       xs,

@@ -1,10 +1,10 @@
-use Rattle.dg_sweep.proofs.Common.{All, map, flat_map, ◌++◌, sym, ap, subst, ◌∙◌, IfOk-weaker, EndsPiece, IsAnswered}
+use Rattle.dg_sweep.proofs.Common.{All, map, flat_map, ◌++◌, sym, ap, subst, ◌∙◌, IfOk-weaker, EndsSweptPiece, IsAnswered}
 use Rattle.dg_sweep.proofs.Pieces.{leads_rest}
 use Rattle.dg_sweep.proofs.workers.answer_swept_batch.Goals as goal
 
 pub put_swept_answers-requires-clause-lines : goal.put_swept_answers-requires-clause-lines
 put_swept_answers-requires-clause-lines g c =
-    subst (All (λ piece. EndsPiece piece.now)) (sym c.deref-2.ensures.value) c.in_ok-pieces.ensures.lines
+    subst (All (λ piece. EndsSweptPiece piece.now)) (sym c.deref-2.ensures.value) c.in_ok-pieces.ensures.lines
 
 pub put_swept_answers-requires-clause-done : goal.put_swept_answers-requires-clause-done
 put_swept_answers-requires-clause-done g c =
