@@ -54,7 +54,8 @@ HavePartySessionsBegun table names (suc k) (script ∷ scripts) (x ∷ xs) (y �
 HavePartySessionsBegun table names k scripts xs ys = ⊥
 
 abbrev pub HaveSomePartySessionsBegun : TableData → List (List ℕ) → List (List ℕ) → List SeatView → List SeatView → Type 0
-HaveSomePartySessionsBegun table names scripts xs ys = (k : ℕ) × (k < length scripts) × HavePartySessionsBegun table names k scripts xs ys
+HaveSomePartySessionsBegun table names scripts xs ys =
+    (k : ℕ) × (k < length scripts) × HavePartySessionsBegun table names k scripts xs ys
 
 abbrev pub RefusesPartySessions : TableData → List (List ℕ) → List (List ℕ) → List SeatView
     → List SeatView → Shortage → Type 0

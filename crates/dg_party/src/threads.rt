@@ -117,7 +117,8 @@ fn play_in_parallel<'a, N: Name + Send + Sync, R: Threads + Wait + Sync, G: Gate
         ensures { OnOk result (AreSessions N.table context.entry.now.names.now
             (script_contents left.entry.now) rest.entry.now rest.exit.now later.exit.now)
             × IfErr result (λ shortage. (shortage ≡ Shortage.Spawn)
-            × HaveSomePartySessionsBegun N.table context.entry.now.names.now (script_contents left.entry.now) rest.entry.now rest.exit.now) }
+            × HaveSomePartySessionsBegun N.table context.entry.now.names.now (script_contents left.entry.now)
+            rest.entry.now rest.exit.now) }
     { play_in_parallel(context, left, rest, later) };
     match in_parallel(context.rt, &mut first, &mut others) {
         Ok((ended, told)) => {

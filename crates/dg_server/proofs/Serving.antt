@@ -73,7 +73,8 @@ party_on held task o names all ends text table known party =
       holds = (
         script_contents all,
         known,
-        subst (λ n. IsParty (table_data_of o n task.capacity) names (script_contents all) ends text) (sym (contents_count all)) party,
+        subst (λ n. IsParty (table_data_of o n task.capacity) names (script_contents all) ends text)
+            (sym (contents_count all)) party,
       );
     }
 

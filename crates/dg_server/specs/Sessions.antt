@@ -36,7 +36,8 @@ line_format_of_run (Some n) = BySeat
 
 abbrev pub session_of_run : ServeTask → StartData → List (List ℕ) → SessionSetup
 session_of_run task o names =
-    session_setup (line_format_of_run task.seats) (table_data_of o (seats_of_invocation task.seats) task.capacity) names task.workers
+    session_setup (line_format_of_run task.seats) (table_data_of o (seats_of_invocation task.seats) task.capacity) names
+    task.workers
 
 pub record IsHeardInRun (t : SessionSetup) (input output : Passage) (end : Result ℕ SessionEnd) : Type 0 where
   pub seats : List SeatView

@@ -46,7 +46,8 @@ line_with {at} part ready plain short = record {
 pub empty_line : (p : List ℕ) → p ≡ [] → IsSessionLine p
 empty_line p none = subst IsSessionLine (sym none) (record { no_newline = All-nil (λ byte. byte ≢ 10); short = omega arith })
 
-pub goes_none : {t : SessionSetup} {at : SoFar} {bytes text : List ℕ} → text ≡ [] → IsReady at → SessionGoes t at bytes bytes at text
+pub goes_none : {t : SessionSetup} {at : SoFar} {bytes text : List ℕ} → text ≡ [] → IsReady at
+    → SessionGoes t at bytes bytes at text
 goes_none {t} {at} {bytes} {text} none ready = record {
   ls = [];
   came = begins_none (at.pending ++ bytes);

@@ -127,7 +127,8 @@ front_ends bytes early later part after n e1 e2 e =
     ap (λ n. take n bytes) size ∙ ap (take (length front)) whole ∙ take-append_seam front after in
     (omega (arith, ap length whole, sum), (early ++ part, same), whole ∙ ap (λ l. l ++ after) (sym same))
 
-pub pieces_both : (right : List ℕ → List ℕ → Type 0) (bytes front back rest rest' last said said' text : List ℕ) → EndsSweptPiece front
+pub pieces_both : (right : List ℕ → List ℕ → Type 0) (bytes front back rest rest' last said said' text : List ℕ)
+    → EndsSweptPiece front
     → bytes ≡ front ++ back
     → AnswersSweptFront right front rest said → AnswersSweptFront right back rest' said' → last ≡ rest'
     → text ≡ said ++ said'
