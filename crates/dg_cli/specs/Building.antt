@@ -1,5 +1,5 @@
 -- What the library is told.
---   clap_rule_by form name        == the rule of an argument of that form and name
+--   clap_rule_by syntax name      == the rule of an argument of that syntax and name
 --   clap_rule_for argument        == the rule of an argument
 --   shape_for subcommand          == the shape of a command
 --   IsArgument rule arg           == the argument is the one of the rule, and of its command alone
@@ -12,16 +12,16 @@ use Rattle.clap.specs.declared.builder.command.Command.TheViews.{out-Command as 
 use Rattle.dg_cli.specs.Commands.{flag_argument, greedy_command, judge_command, option_argument, party_command, rank_command, rehearse_command, riemann_roch_command, serve_command, word_argument, words_argument}
 use Rattle.dg_cli.specs.declared.arguments.Argument.{Argument}
 use Rattle.dg_cli.specs.declared.arguments.Argument.TheVariants as argument
-use Rattle.dg_cli.specs.declared.arguments.Form.{Form}
-use Rattle.dg_cli.specs.declared.arguments.Form.TheVariants as form
+use Rattle.dg_cli.specs.declared.arguments.Syntax.{Syntax}
+use Rattle.dg_cli.specs.declared.arguments.Syntax.TheVariants as syntax
 use Rattle.dg_cli.specs.declared.commands.Subcommand.{Subcommand}
 use Rattle.dg_cli.specs.declared.commands.Subcommand.TheVariants as subcommand
 
-abbrev pub clap_rule_by : Form → Text → Rule
-clap_rule_by form.Word name = word_argument name
-clap_rule_by form.Words name = words_argument name
-clap_rule_by form.Option name = option_argument name
-clap_rule_by form.Flag name = flag_argument name
+abbrev pub clap_rule_by : Syntax → Text → Rule
+clap_rule_by syntax.Word name = word_argument name
+clap_rule_by syntax.Words name = words_argument name
+clap_rule_by syntax.Option name = option_argument name
+clap_rule_by syntax.Flag name = flag_argument name
 
 abbrev pub clap_rule_for : Argument → Rule
 clap_rule_for argument.File = word_argument (codes "file")

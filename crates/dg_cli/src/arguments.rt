@@ -45,7 +45,7 @@ pub(crate) enum Argument {
 
 /// How an argument is written.
 #[derive(Clone, Copy)]
-pub(crate) enum Form {
+pub(crate) enum Syntax {
     /// A word that has to be there.
     Word,
     /// One word or more, after all others.
@@ -63,14 +63,14 @@ impl Argument {
     {
         let name = self.name();
         let argument = Arg::new(alloc, name).help(self.help());
-        match self.form() {
-            Form::Word => argument.value_name(self.shown_in_usage()).required(true),
-            Form::Words => argument
+        match self.syntax() {
+            Syntax::Word => argument.value_name(self.shown_in_usage()).required(true),
+            Syntax::Words => argument
                 .value_name(self.shown_in_usage())
                 .required(true)
                 .num_args(1..),
-            Form::Option => argument.value_name(self.shown_in_usage()).long(name),
-            Form::Flag => argument.long(name).action(ArgAction::SetTrue),
+            Syntax::Option => argument.value_name(self.shown_in_usage()).long(name),
+            Syntax::Flag => argument.long(name).action(ArgAction::SetTrue),
         }
     }
 
@@ -95,19 +95,19 @@ impl Argument {
     }
 
     /// Whether it is one word or more at its place, a flag, or an option with a value.
-    fn form(self) -> Form
+    fn syntax(self) -> Syntax
         ensures { clap_rule_for self ≡ clap_rule_by result (clap_rule_for self).id }
     {
         match self {
-            Argument::File | Argument::Steps | Argument::Degree | Argument::Turns => Form::Word,
-            Argument::Scripts => Form::Words,
-            Argument::Lines | Argument::Order | Argument::Numbers => Form::Flag,
+            Argument::File | Argument::Steps | Argument::Degree | Argument::Turns => Syntax::Word,
+            Argument::Scripts => Syntax::Words,
+            Argument::Lines | Argument::Order | Argument::Numbers => Syntax::Flag,
             Argument::Divisors
             | Argument::Seats
             | Argument::Capacity
             | Argument::Workers
             | Argument::RankWorkers
-            | Argument::LineWorkers => Form::Option,
+            | Argument::LineWorkers => Syntax::Option,
         }
     }
 

@@ -165,7 +165,7 @@ impl Rehearsal {
         ensures same { OnErr result ((self.new ≡ self.old) × (entry.new ≡ entry.old)) }
     {
         let i = self.game.entries() as usize;
-        let Some(look) = self.kept(seat) else {
+        let Some(look) = self.kept_look(seat) else {
             return Err(RehearseFault::NoLook(i));
         };
         if look.gifts != self.game.gifts() {
@@ -190,7 +190,7 @@ impl Rehearsal {
         ensures same { OnErr result ((self.new ≡ self.old) × (entry.new ≡ entry.old)) }
     {
         let i = self.game.entries() as usize;
-        let Some(look) = self.kept(seat) else {
+        let Some(look) = self.kept_look(seat) else {
             return Err(RehearseFault::NoLook(i));
         };
         if look.gifts != self.game.gifts()
@@ -217,7 +217,7 @@ impl Rehearsal {
     }
 
     /// The look that a seat keeps, if it keeps one.
-    fn kept(&self, seat: u8) -> Option<LookData>
+    fn kept_look(&self, seat: u8) -> Option<LookData>
         requires playing { IsRehearsalInPlay self.now }
         requires seat { IsSeatInGame seat }
         ensures { (o : StartData) (H : List Entry) (steps : List Step) →
