@@ -3,7 +3,7 @@
 use crate::matching::is_wanted;
 use crate::rows::{Named, Row};
 use anyhow::Result;
-use dg_server::run;
+use dg_run::run;
 use dg_system::MemoryFiles;
 use std::alloc::{AllocError, Global};
 use std::rt::Files;

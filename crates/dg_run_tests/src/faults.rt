@@ -2,7 +2,7 @@
 
 use dg_file::FileFault;
 use dg_invocation::ArgsFault;
-use dg_server::{Fault, report, status_of};
+use dg_run::{Fault, report, status_of};
 use dg_session::SessionEnd;
 use dg_system::{Shortage, SourceFault};
 use dg_table::Fault as TableFault;

@@ -1,4 +1,4 @@
-//! The tests of `dg_system`, `dg_file`, `dg_lines`, `dg_sweep`, `dg_session`, `dg_party` and `dg_server`: what no row in
+//! The tests of `dg_system`, `dg_file`, `dg_lines`, `dg_sweep`, `dg_session` and `dg_run`: what no row in
 //! tests/rows shows. They call only what those crates make public.
 #![tactic(auto)]
 

@@ -1,7 +1,7 @@
 //! An output that fails.
 
 use dg_invocation::{Invocation, Task};
-use dg_server::{Fault, perform};
+use dg_run::{Fault, perform};
 use dg_system::{Input, MemoryFiles, Output};
 use std::process::Abort;
 use std::rt::Files;

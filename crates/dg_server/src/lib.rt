@@ -1,15 +1,7 @@
-//! What the commands of the program `dollar` do: sessions, parties, sweeps and tasks, their faults, and a run of the program.
+//! What the program `dollar` offers to other Rust code: a run of it, and sessions side by side. It stands apart from the crate
+//! that does the work: one whose public functions speak of names of vertices takes long to be built on.
 #![tactic(auto)]
 
-mod fault;
-mod parties;
-mod program;
-mod running;
-mod serve;
-mod sweeps;
-
-pub use dg_party::{PartyFault, sessions};
+pub use dg_run::run;
+pub use dg_session::{PartyFault, sessions};
 pub use dg_system::{SourceFault, Sources, Stream};
-pub use fault::{Fault, report, status_of};
-pub use program::perform;
-pub use running::{run, run_streams};

@@ -21,22 +21,22 @@ pub use Rattle.dg_lines.specs.Commands.{LineSpellsCommand}
 pub use Rattle.dg_lines.specs.LineFaults.{IsLineFault, line_fault_text}
 pub use Rattle.dg_lines.specs.Steps.{IsSeatedLine}
 pub use Rattle.dg_lines.specs.Streams.{BeginsWithLines, HasNoNewline, LinesOfTextHaveCome, last_line, with_newline}
-pub use Rattle.dg_lines.specs.Texts.{TextHasNames, entry_text}
+pub use Rattle.dg_lines.specs.Texts.{TextHasNames, entry_text, pairs}
 pub use Rattle.dg_lines.specs.declared.line.LineFault.{LineFault}
 pub use Rattle.dg_log.specs.Numbered.{ReceiptsAreBelow, IsPrefixOf, StandInLog}
-pub use Rattle.dg_log.specs.Tables.{TableData}
+pub use Rattle.dg_log.specs.Tables.{TableData, table_data_of}
 pub use Rattle.dg_rank.proofs.Numbering.{past_within}
 pub use Rattle.dg_rank.specs.Limits.{ArePastTrialLimits}
 pub use Rattle.dg_rank.specs.Ranks.{IsRankTestFault, IsRankTestWithinLimits}
-unfoldable pub use Rattle.dg_session.specs.Ends.{Answers}
+unfoldable pub use Rattle.dg_session.specs.Ends.{AnswersSpeakers}
 pub use Rattle.dg_session.specs.EntriesSoFar.{EntriesSoFarView}
-pub use Rattle.dg_session.specs.Ends.{AreSessionEntriesInOrder, EndsBy, IsOver, IsSession, SessionReading, SessionStopsAt, WritesInSession, reading}
+pub use Rattle.dg_session.specs.Ends.{AreSessionEntriesInOrder, SessionEndsBy, IsOver, IsSession, SessionReading, SessionStopsAt, WritesInSession, reading}
 pub use Rattle.dg_session.specs.Order.{AnswersAscendFrom, SessionComesAfter}
 pub use Rattle.dg_session.specs.Refusing.{SpeakerCallsTable, RefusesSpeakerCommand, RefusesSessionLine}
 pub use Rattle.dg_session.specs.Saying.{AnswersCommand, AnswersLine, SpeakerEnters, SessionGains, speakers_kept_after, speakers_look_after}
 pub use Rattle.dg_session.specs.Setup.{SessionSetup, session_setup}
 pub use Rattle.dg_session.specs.SoFar.{SessionGoes, HaltsSession, HandlesSessionLine, HearsSpeaker, IsReady, IsWrittenInSession, ObeysSpeaker, SessionRefusesPart, SoFar, Speaker, SessionStaysAt, SessionStopsIn, TakesInSession, TakesSessionEnd, TellsSpeaker, answer_entries, speaker_answer_text, beginning_of_session, heard, keeping_speaker, round, so_far, speaker}
-pub use Rattle.dg_session.specs.Speakers.{AnswersLineOfSpeaker, GoesOn, IsFor, IsForNoSpeaker, RefusesLineOfSpeaker, ReplacesSpeaker, Speakers, kept_by_speaker, new_speakers, speakers}
+pub use Rattle.dg_session.specs.Speakers.{AnswersLineOfSpeaker, GoesOn, IsForSpeaker, IsForNoSpeaker, RefusesLineOfSpeaker, ReplacesSpeaker, Speakers, kept_by_speaker, new_speakers, speakers}
 pub use Rattle.dg_session.specs.Streams.{AreSessionLines, IsSessionLine, Passage, passage}
 pub use Rattle.dg_session.specs.declared.answering.Answer.{Answer}
 pub use Rattle.dg_session.specs.declared.answering.Answer.TheVariants.{BadLine, Made, NoLook}
@@ -51,7 +51,7 @@ pub use Rattle.dg_table.proofs.Counts.{seats_counted}
 pub use Rattle.dg_table.proofs.Numbered.{begins_length, begins_on, stand_longer}
 pub use Rattle.dg_table.proofs.Placed.{get_set}
 pub use Rattle.dg_table.specs.Answered.{IsAnswered, IsEnteredAfter, entering_at_table}
-pub use Rattle.dg_table.specs.Closing.{IsClosed}
+pub use Rattle.dg_table.specs.Closing.{IsClosed, AreAuditTotals, IsCloseRefused}
 pub use Rattle.dg_table.specs.Faults.{RefusesCallAtTable}
 pub use Rattle.dg_table.specs.Histories.{SeatHasPrefix, IsHistoryOfTable}
 pub use Rattle.dg_table.specs.Opened.{AreFreshSeats}
@@ -61,11 +61,28 @@ pub use Rattle.dg_table.specs.declared.fault.Fault.{Fault}
 pub use Rattle.dg_table.specs.declared.fault.Fault.TheVariants.{Full}
 pub use Rattle.dg_verdict.specs.declared.rank_verdict.RankVerdict.{RankVerdict}
 pub use Rattle.dg_verdict.specs.declared.rank_verdict.RankVerdict.TheVariants.{AtLeast, Below}
-pub use Rattle.std.proofs.Common.{All, Err, IfErr, List, None, Ok, OnOk, Option, Result, Some, [], ap, append-nil, append_assoc, arith, codes, drop, flat_map, get_or, inl, inr, length, length-append, length-set, map, refl, rules, slice_get, subst, suc, sum, sym, take, take-append-drop, tests, true, zero, ℕ, ◌*◌, ◌++◌, ◌+◌, ◌-◌, ◌<◌, ◌∙◌, ◌∷◌, ◌≡◌, ◌≢◌, ◌≤◌}
+pub use Rattle.dg_chips.specs.Vector.{Vector, at}
+pub use Rattle.dg_rules.proofs.StepLaw.{vertices_stay}
+pub use Rattle.dg_rules.specs.History.{gifts_in, position_after}
+pub use Rattle.dg_rules.specs.Position.{ShowsPosition}
+pub use Rattle.dg_lines.proofs.Printing.{legal_named}
+pub use Rattle.dg_log.specs.declared.name.Name.{Ghosts}
+pub use Rattle.dg_session.specs.Parties.{IsParty, IsPartyRefused}
+pub use Rattle.dg_session.specs.PartySessions.{IsPartySessionOver, RefusesPartySessions, script_contents}
+pub use Rattle.dg_session.specs.declared.played.PartyRefusal.TheVariants.{Log}
+pub use Rattle.dg_system.specs.declared.shortage.Shortage.{Shortage}
+pub use Rattle.dg_system.specs.declared.shortage.Shortage.TheVariants.{OutOfMemory, Spawn as NoThread}
+pub use Rattle.dg_table.proofs.Complete.{all_there, none_missing}
+pub use Rattle.dg_table.specs.declared.audit.Audit.{Audit}
+pub use Rattle.dg_session.specs.Printed.{party_entries_text, party_seat_text, totals_text}
+pub use Rattle.std.proofs.Common.{All, Err, IfErr, List, None, Ok, OnOk, Option, Result, Some, [], ap, append-nil, append_assoc, arith, codes, drop, flat_map, get_or, inl, inr, length, length-append, length-set, map, refl, rules, slice_get, subst, suc, sum, sym, take, take-append-drop, tests, true, zero, ℕ, ◌*◌, ◌++◌, ◌+◌, ◌-◌, ◌<◌, ◌∙◌, ◌∷◌, ◌≡◌, ◌≢◌, ◌≤◌, decimal, unwrap_or}
 pub use Rattle.std.proofs.lemmas.List.{length-map, length-take-le, map-set, nil_from_length, take_all}
 pub use Rattle.std.proofs.lemmas.List.Elements.{All-append, All-head, All-nil, All-push, All-tail, All-take}
 pub use Rattle.std.proofs.lemmas.List.Sums.{sum_by-cons}
-pub use Rattle.std.proofs.lemmas.Option.{same_Some, slice_get_within}
+pub use Rattle.std.proofs.lemmas.Option.{same_Some, slice_get_within, none-some}
 pub use Rattle.std.specs.Io.KnownBytes.{Appends, Consumes, IsAtEnd, append_known}
-pub use Rattle.std.specs.List.{enumerate_from, slice_index_or, slice_set}
+pub use Rattle.std.specs.List.{enumerate_from, slice_index_or, slice_set, slice_index}
 pub use Rattle.std.specs.Prelude.{⊤}
+pub use Rattle.std.proofs.Math.Seq.{take-append_seam}
+pub use Rattle.std.proofs.lemmas.Result.{IfErr-weaker, on_ok_weaker}
+pub use Rattle.std.specs.Global.{Vec}

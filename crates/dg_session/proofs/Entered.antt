@@ -5,7 +5,7 @@
 --   calls_all       the calls of all seats are as many as the entries of their history
 --   entered_all     what was entered is all of the history
 --   full_at_close   which is full, where the session ended so
-use Rattle.dg_session.proofs.Common.{◌≡◌, ℕ, zero, suc, ◌+◌, ◌<◌, ◌≤◌, inl, inr, List, [], ◌∷◌, ◌++◌, length, length-append, map, Some, sum, get_or, slice_get, Result, Err, refl, sym, ap, subst, ◌∙◌, arith, append_assoc, enumerate_from, same_Some, length-map, nil_from_length, sum_by-cons, Entry, slice_get-seam, ReceiptsAreBelow, StandInLog, IsPrefixOf, IsClosed, AreFreshSeats, SeatView, entries_of_seat, Full, seats_counted, begins_length, SessionSetup, AnswersAscendFrom, Passage, reading, EndsBy, IsOver, SessionEnd, Table, get_set, TableData}
+use Rattle.dg_session.proofs.Common.{◌≡◌, ℕ, zero, suc, ◌+◌, ◌<◌, ◌≤◌, inl, inr, List, [], ◌∷◌, ◌++◌, length, length-append, map, Some, sum, get_or, slice_get, Result, Err, refl, sym, ap, subst, ◌∙◌, arith, append_assoc, enumerate_from, same_Some, length-map, nil_from_length, sum_by-cons, Entry, slice_get-seam, ReceiptsAreBelow, StandInLog, IsPrefixOf, IsClosed, AreFreshSeats, SeatView, entries_of_seat, Full, seats_counted, begins_length, SessionSetup, AnswersAscendFrom, Passage, reading, SessionEndsBy, IsOver, SessionEnd, Table, get_set, TableData}
 use Rattle.dg_session.proofs.Coming.{below_stand, stand_on}
 use Rattle.dg_session.proofs.InOrder.{calls_of, fits_all}
 
@@ -111,7 +111,7 @@ pub full_at_close : {t : SessionSetup} {input output : Passage} {xs ys : List Se
     {result : Result ℕ SessionEnd} {H : List Entry} (over : IsOver t input output xs ys result)
     → IsClosed t.table ys H → result ≡ Err (Table Full) → length H ≡ t.table.capacity
 full_at_close {t} {input = input} {ys = ys} {H = H} over closed is =
-    let ends = subst (λ r. EndsBy t (reading over.stream (over.told ++ over.last) input.after) over.after over.end r) is
+    let ends = subst (λ r. SessionEndsBy t (reading over.stream (over.told ++ over.last) input.after) over.after over.end r) is
     over.ends in
     elim ends.2 [
       | inl other ↦ absurd (cc)

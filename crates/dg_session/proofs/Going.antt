@@ -7,24 +7,25 @@
 --   halts_part, halts_line       the session ends at a part that is not taken, and at a line that is refused
 --   last_none, last_one, last_halts   what is pending as the last line: none, one that is answered, and one that is
 --       refused
-use Rattle.dg_session.proofs.Common.{◌≡◌, ◌≢◌, ℕ, ◌+◌, ◌<◌, ◌≤◌, inl, inr, List, [], ◌∷◌, ◌++◌, length, take, drop, refl, sym, ap, subst, ◌∙◌, arith, append_assoc, append-nil, length-append, take-append-drop, All-append, All-nil, All-take, length-take-le, HasNoNewline, BeginsWithLines, last_line, begins_none, begins_one, begins_then, begins_more, one_line, SessionSetup, IsSessionLine, AreSessionLines, Speakers, AnswersLineOfSpeaker, RefusesLineOfSpeaker, SoFar, IsReady, SessionGoes, round, HaltsSession, SessionRefusesPart, SessionStaysAt, MAX_LINE, MAX_LINES, SessionEnd, LongLine, Turns, Answers}
+use Rattle.dg_session.proofs.Common.{◌≡◌, ◌≢◌, ℕ, ◌+◌, ◌<◌, ◌≤◌, inl, inr, List, [], ◌∷◌, ◌++◌, length, take, drop, refl, sym, ap, subst, ◌∙◌, arith, append_assoc, append-nil, length-append, take-append-drop, All-append, All-nil, All-take, length-take-le, HasNoNewline, BeginsWithLines, last_line, begins_none, begins_one, begins_then, begins_more, one_line, SessionSetup, IsSessionLine, AreSessionLines, Speakers, AnswersLineOfSpeaker, RefusesLineOfSpeaker, SoFar, IsReady, SessionGoes, round, HaltsSession, SessionRefusesPart, SessionStaysAt, MAX_LINE, MAX_LINES, SessionEnd, LongLine, Turns, AnswersSpeakers}
 use Rattle.dg_session.proofs.Cutting.{lines_end}
 use Rattle.dg_session.proofs.Seated.{sizes_kept}
 
-pub answers_none : (t : SessionSetup) (s : Speakers) → Answers t s [] s []
-unfolding Answers
+pub answers_none : (t : SessionSetup) (s : Speakers) → AnswersSpeakers t s [] s []
+unfolding AnswersSpeakers
 answers_none t s = (refl, refl)
 
 pub answers_one : (t : SessionSetup) (s z : Speakers) (line text : List ℕ) → AnswersLineOfSpeaker t s line z text
-    → Answers t s (line ∷ []) z text
-unfolding Answers
+    → AnswersSpeakers t s (line ∷ []) z text
+unfolding AnswersSpeakers
 answers_one t s z line text p = (z, text, [], p, (refl, refl), sym (append-nil text))
 
 pub answers_more : (t : SessionSetup) (s m z : Speakers) (ls ls' : List (List ℕ)) (text text' : List ℕ)
-    → Answers t s ls m text → Answers t m ls' z text' → Answers t s (ls ++ ls') z (text ++ text')
-unfolding Answers
+    → AnswersSpeakers t s ls m text → AnswersSpeakers t m ls' z text' → AnswersSpeakers t s (ls ++ ls') z (text ++ text')
+unfolding AnswersSpeakers
 answers_more t s m z [] ls' text text' p q =
-    subst (λ k. Answers t k ls' z (text ++ text')) p.0 (subst (Answers t m ls' z) (sym (ap (λ l. l ++ text') p.1)) q)
+    subst (λ k. AnswersSpeakers t k ls' z (text ++ text')) p.0
+    (subst (AnswersSpeakers t m ls' z) (sym (ap (λ l. l ++ text') p.1)) q)
 answers_more t s m z (line ∷ ls) ls' text text' p q =
     let (first, front, back, answer, more, whole) = p in (
       first,
@@ -52,7 +53,7 @@ goes_none {t} {at} {bytes} {text} none ready = record {
   ls = [];
   came = begins_none (at.pending ++ bytes);
   counted = omega arith;
-  answered = subst (Answers t at.who [] at.who) (sym none) (answers_none t at.who);
+  answered = subst (AnswersSpeakers t at.who [] at.who) (sym none) (answers_none t at.who);
   ready = ready;
 }
 
@@ -159,7 +160,7 @@ module _ {t : SessionSetup} {old at : SoFar} {bytes rest text : List ℕ} (g : S
   }
 
 -- what is pending is the last line
-pub last_none : (t : SessionSetup) (s : Speakers) (p : List ℕ) → length p ≡ 0 → Answers t s (last_line p) s []
+pub last_none : (t : SessionSetup) (s : Speakers) (p : List ℕ) → length p ≡ 0 → AnswersSpeakers t s (last_line p) s []
 last_none t s [] none = answers_none t s
 last_none t s (b ∷ bs) none = absurd (omega (arith, none))
 
@@ -168,7 +169,7 @@ last_counted [] c none = omega arith
 last_counted (b ∷ bs) c none = absurd (omega (arith, none))
 
 pub last_one : {t : SessionSetup} {s z : Speakers} {text : List ℕ} (p : List ℕ) → 1 ≤ length p
-    → AnswersLineOfSpeaker t s (p ++ []) z text → Answers t s (last_line p) z text
+    → AnswersLineOfSpeaker t s (p ++ []) z text → AnswersSpeakers t s (last_line p) z text
 last_one [] some holds = absurd (omega (arith, some))
 last_one {t} {s} {z} {text} (b ∷ bs) some holds =
     answers_one t s z (b ∷ bs) text (subst (λ l. AnswersLineOfSpeaker t s l z text) (append-nil (b ∷ bs)) holds)

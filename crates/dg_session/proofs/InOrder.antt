@@ -3,7 +3,7 @@
 --   Fits n s      what the lines entered is in order, and the seats, which had n calls, made no others
 --   fits_begun    so it is before the first line
 --   fits_all      and after all, however the session ends
-use Rattle.dg_session.proofs.Common.{◌≡◌, ℕ, zero, suc, ◌+◌, inl, inr, List, [], ◌∷◌, ◌++◌, length, length-append, Some, slice_get, Result, Ok, Err, refl, sym, ap, subst, ◌∙◌, arith, slice_set, Entry, StandInLog, SeatView, get_set, SessionSetup, AnswersAscendFrom, SessionGains, Speakers, new_speakers, ReplacesSpeaker, GoesOn, AnswersLineOfSpeaker, RefusesLineOfSpeaker, SessionReading, SessionStopsAt, EndsBy, AreSessionEntriesInOrder, SessionEnd, Read, Write, LongLine, Turns, Table, Memory, Spawn, Answers}
+use Rattle.dg_session.proofs.Common.{◌≡◌, ℕ, zero, suc, ◌+◌, inl, inr, List, [], ◌∷◌, ◌++◌, length, length-append, Some, slice_get, Result, Ok, Err, refl, sym, ap, subst, ◌∙◌, arith, slice_set, Entry, StandInLog, SeatView, get_set, SessionSetup, AnswersAscendFrom, SessionGains, Speakers, new_speakers, ReplacesSpeaker, GoesOn, AnswersLineOfSpeaker, RefusesLineOfSpeaker, SessionReading, SessionStopsAt, SessionEndsBy, AreSessionEntriesInOrder, SessionEnd, Read, Write, LongLine, Turns, Table, Memory, Spawn, AnswersSpeakers}
 use Rattle.dg_session.proofs.Coming.{ascend_more, below_stand, stand_on, stand_both}
 
 abbrev pub calls_of : List SeatView → ℕ
@@ -59,9 +59,9 @@ fits_left {n} t s z line end r fits = elim r [
   | inr q ↦ fits_on q.0 s z q.3.x q.3.y q.3.made q.3.seat q.3.gained q.3.goes_on fits
 ]
 
-fits_answered : {n : ℕ} (t : SessionSetup) (ls : List (List ℕ)) (s z : Speakers) (text : List ℕ) → Answers t s ls z text
+fits_answered : {n : ℕ} (t : SessionSetup) (ls : List (List ℕ)) (s z : Speakers) (text : List ℕ) → AnswersSpeakers t s ls z text
     → Fits n s → Fits n z
-unfolding Answers
+unfolding AnswersSpeakers
 fits_answered {n} t [] s z text p fits = subst (Fits n) (sym p.0) fits
 fits_answered {n} t (line ∷ ls) s z text p fits =
     let (m, front, back, answer, more, whole) = p in
@@ -74,7 +74,7 @@ module _ {n : ℕ} (t : SessionSetup) (r : SessionReading) (s z : Speakers) (fit
   stopped : (end : SessionEnd) → SessionStopsAt t r s z end → Fits n z
   stopped end h = fits_left t s z h.0 end h.2 fits
 
-  fits_ended : (result : Result ℕ SessionEnd) → EndsBy t r s z result → Fits n z
+  fits_ended : (result : Result ℕ SessionEnd) → SessionEndsBy t r s z result → Fits n z
   fits_ended (Ok count) h = same h.0
   fits_ended (Err Read) h = same h.0
   fits_ended (Err LongLine) h = same h.0
@@ -85,8 +85,8 @@ module _ {n : ℕ} (t : SessionSetup) (r : SessionReading) (s z : Speakers) (fit
   fits_ended (Err Spawn) h = stopped Spawn h
 
 pub fits_all : (t : SessionSetup) (r : SessionReading) (told last : List (List ℕ)) (xs : List SeatView)
-    (m w z : Speakers) (said text : List ℕ) (result : Result ℕ SessionEnd) → Answers t (new_speakers xs) told m said
-    → Answers t m last w text → EndsBy t r w z result → Fits (calls_of xs) z
+    (m w z : Speakers) (said text : List ℕ) (result : Result ℕ SessionEnd) → AnswersSpeakers t (new_speakers xs) told m said
+    → AnswersSpeakers t m last w text → SessionEndsBy t r w z result → Fits (calls_of xs) z
 fits_all t r told last xs m w z said text result first second ends =
     fits_ended t r w z
     (fits_answered t last m w text second (fits_answered t told (new_speakers xs) m said first (fits_begun xs))) result ends

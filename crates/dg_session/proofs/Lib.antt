@@ -8,5 +8,8 @@ pub mod Lines
 pub mod Seated
 pub mod Going
 pub mod Spoken
-pub mod Sessions
+pub mod SessionLaws
+mod Begun
+mod Printing
+pub mod Whole
 pub mod Common

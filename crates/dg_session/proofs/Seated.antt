@@ -5,7 +5,7 @@
 --   sizes_kept    a line leaves as many seats, and as many looks
 --   numbers       the numbers of the seats
 --   numbers_said, numbers_left   a line leaves each seat its number
-use Rattle.dg_session.proofs.Common.{◌≡◌, ℕ, zero, suc, ◌+◌, ◌<◌, ◌≤◌, inl, inr, List, [], ◌∷◌, ◌++◌, length, length-set, map, Option, Some, Result, Ok, Err, refl, sym, ap, subst, ◌∙◌, arith, slice_get, ⊤, slice_set, slice_index_or, map-set, Entry, SeatView, SeatMeetsHistory, TakenLookView, IsSeatedLine, seated_parts, RefusesSessionLine, SessionGains, SessionSetup, Speakers, speakers, kept_by_speaker, IsFor, IsForNoSpeaker, ReplacesSpeaker, GoesOn, AnswersLineOfSpeaker, RefusesLineOfSpeaker, HearsSpeaker, HandlesSessionLine, Answer, TellsSpeaker, answer_entries, speaker_answer_text, speaker, BySeat, SessionEnd, Table, Memory, Spawn}
+use Rattle.dg_session.proofs.Common.{◌≡◌, ℕ, zero, suc, ◌+◌, ◌<◌, ◌≤◌, inl, inr, List, [], ◌∷◌, ◌++◌, length, length-set, map, Option, Some, Result, Ok, Err, refl, sym, ap, subst, ◌∙◌, arith, slice_get, ⊤, slice_set, slice_index_or, map-set, Entry, SeatView, SeatMeetsHistory, TakenLookView, IsSeatedLine, seated_parts, RefusesSessionLine, SessionGains, SessionSetup, Speakers, speakers, kept_by_speaker, IsForSpeaker, IsForNoSpeaker, ReplacesSpeaker, GoesOn, AnswersLineOfSpeaker, RefusesLineOfSpeaker, HearsSpeaker, HandlesSessionLine, Answer, TellsSpeaker, answer_entries, speaker_answer_text, speaker, BySeat, SessionEnd, Table, Memory, Spawn}
 use Rattle.dg_session.proofs.Coming.{comes_from, met_keeps, gained_met, line_met, line_one, refused_made}
 
 pub seat_past : (n seat : ℕ) (text line : List ℕ) → IsSeatedLine seat text line → (seat ≤ n → ⊥) → IsForNoSpeaker BySeat n line
@@ -73,7 +73,7 @@ went_on {H} {x = x} {m} {y} xs ys ks ls made meets latest follows gained one = r
 
 module _ {t : SessionSetup} (line text : List ℕ) (xs : List SeatView) (ks : List (Option TakenLookView)) (i : ℕ)
     (d m y : SeatView)
-    (e l : Option TakenLookView) (H L : List Entry) (ps qs : List (ℕ × Entry)) (for : IsFor t.how (length xs) line i text)
+    (e l : Option TakenLookView) (H L : List Entry) (ps qs : List (ℕ × Entry)) (for : IsForSpeaker t.how (length xs) line i text)
     (low : i < length xs) (size : length ks ≡ length xs) (meets : SeatMeetsHistory H (slice_index_or xs i d) m) (latest : L ≡
     y.met)
     (follows : Follows (slice_index_or xs i d) y ps qs) where

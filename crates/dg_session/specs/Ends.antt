@@ -1,5 +1,5 @@
 -- How a session ends; s are the seats before, and z after.
---   Answers t s ls z text                   == the lines ls are answered one after another with the text
+--   AnswersSpeakers t s ls z text           == the lines ls are answered one after another with the text
 --   IsTooLongForSession rest                == the rest begins with one byte more than a line may have, and
 --                                              no newline
 --   SessionReading                          == what was read, the lines in it that are answered, and what the
@@ -9,7 +9,7 @@
 --                                              holds
 --   SessionStopsAt t r s z end              == after the answered lines one more came, at which the session
 --                                              ends so
---   EndsBy t r s z result                   == what each end says, if just those lines are answered: they are
+--   SessionEndsBy t r s z result            == what each end says, if just those lines are answered: they are
 --                                              all, and counted; reading failed after all whole lines; a line
 --                                              is too long, or one too many; it stops at a line for what the
 --                                              table or a thread refused; or for memory, or before; or the
@@ -38,10 +38,10 @@ use Rattle.dg_session.specs.declared.ends.TheConstants.{MAX_LINE, MAX_LINES, REA
 use Rattle.dg_session.specs.declared.ends.SessionEnd.{SessionEnd}
 use Rattle.dg_session.specs.declared.ends.SessionEnd.TheVariants.{Read, Write, LongLine, Turns, Memory}
 
-unfoldable pub Answers : SessionSetup → Speakers → List (List ℕ) → Speakers → List ℕ → Type 0
-Answers t s [] z text = (z ≡ s) × (text ≡ [])
-Answers t s (line ∷ ls) z text = (m : Speakers) × (front back : List ℕ) ×
-    AnswersLineOfSpeaker t s line m front × Answers t m ls z back × (text ≡ front ++ back)
+unfoldable pub AnswersSpeakers : SessionSetup → Speakers → List (List ℕ) → Speakers → List ℕ → Type 0
+AnswersSpeakers t s [] z text = (z ≡ s) × (text ≡ [])
+AnswersSpeakers t s (line ∷ ls) z text = (m : Speakers) × (front back : List ℕ) ×
+    AnswersLineOfSpeaker t s line m front × AnswersSpeakers t m ls z back × (text ≡ front ++ back)
 
 pub record IsTooLongForSession (rest : List ℕ) : Type 0 where
   pub front : List ℕ
@@ -65,16 +65,16 @@ abbrev pub SessionStopsAt : SessionSetup → SessionReading → Speakers → Spe
 SessionStopsAt t r s z end = (line : List ℕ) × AreSessionLines (IsAtEnd r.left) r.stream (r.answered ++ line ∷ [])
     × RefusesLineOfSpeaker t s line z end
 
-abbrev pub EndsBy : SessionSetup → SessionReading → Speakers → Speakers → Result ℕ SessionEnd → Type 0
-EndsBy t r s z (Ok count) =
+abbrev pub SessionEndsBy : SessionSetup → SessionReading → Speakers → Speakers → Result ℕ SessionEnd → Type 0
+SessionEndsBy t r s z (Ok count) =
     (z ≡ s) × IsAtEnd r.left × (r.answered ≡ lines r.stream) × (count ≡ length r.answered)
-EndsBy t r s z (Err Read) = (z ≡ s) × SessionLeaves r IsSessionLine
-EndsBy t r s z (Err LongLine) = (z ≡ s) × (length r.answered < MAX_LINES) × SessionLeaves r IsTooLongForSession
-EndsBy t r s z (Err Turns) =
+SessionEndsBy t r s z (Err Read) = (z ≡ s) × SessionLeaves r IsSessionLine
+SessionEndsBy t r s z (Err LongLine) = (z ≡ s) × (length r.answered < MAX_LINES) × SessionLeaves r IsTooLongForSession
+SessionEndsBy t r s z (Err Turns) =
     (z ≡ s) × (length r.answered ≡ MAX_LINES) × SessionLeaves r (λ rest. 1 ≤ length rest)
-EndsBy t r s z (Err Write) = (z ≡ s) ⊎ ((end : SessionEnd) × SessionStopsAt t r s z end)
-EndsBy t r s z (Err Memory) = (z ≡ s) ⊎ SessionStopsAt t r s z Memory
-EndsBy t r s z (Err end) = SessionStopsAt t r s z end
+SessionEndsBy t r s z (Err Write) = (z ≡ s) ⊎ ((end : SessionEnd) × SessionStopsAt t r s z end)
+SessionEndsBy t r s z (Err Memory) = (z ≡ s) ⊎ SessionStopsAt t r s z Memory
+SessionEndsBy t r s z (Err end) = SessionStopsAt t r s z end
 
 pub record AreSessionEntriesInOrder (s : Speakers) : Type 0 where
   pub ascend : AnswersAscendFrom 0 s.entered
@@ -99,10 +99,10 @@ pub record IsOver (t : SessionSetup) (input output : Passage) (xs ys : List Seat
   pub end : Speakers
   pub said : List ℕ
   pub text : List ℕ
-  pub first : Answers t (new_speakers xs) told middle said
-  pub second : Answers t middle last after text
+  pub first : AnswersSpeakers t (new_speakers xs) told middle said
+  pub second : AnswersSpeakers t middle last after text
   pub written : WritesInSession result output said text
-  pub ends : EndsBy t (reading stream (told ++ last) input.after) after end result
+  pub ends : SessionEndsBy t (reading stream (told ++ last) input.after) after end result
   pub seats : end.seats ≡ ys
   pub order : AreSessionEntriesInOrder end
 

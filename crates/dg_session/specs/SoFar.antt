@@ -46,7 +46,7 @@ use Rattle.dg_session.specs.Streams.{IsSessionLine, AreSessionLines, Passage}
 use Rattle.dg_session.specs.Saying.{SessionGains, AnswersCommand, AnswersLine}
 use Rattle.dg_session.specs.Refusing.{RefusesSpeakerCommand, RefusesSessionLine}
 use Rattle.dg_session.specs.Speakers.{Speakers, speakers, new_speakers, kept_by_speaker, AnswersLineOfSpeaker, RefusesLineOfSpeaker}
-use Rattle.dg_session.specs.Ends.{Answers, IsTooLongForSession}
+use Rattle.dg_session.specs.Ends.{AnswersSpeakers, IsTooLongForSession}
 use Rattle.dg_session.specs.declared.answering.Answer.{Answer}
 use Rattle.dg_session.specs.declared.answering.Answer.TheVariants.{Made, NoLook, TooMany, BadLine}
 use Rattle.dg_session.specs.declared.answering.AnswerBuffer.{AnswerBuffer}
@@ -152,7 +152,7 @@ pub record SessionGoes (t : SessionSetup) (old : SoFar) (bytes rest : List ℕ) 
   pub ls : List (List ℕ)
   pub came : BeginsWithLines IsSessionLine (old.pending ++ bytes) ls (new.pending ++ rest)
   pub counted : new.count ≡ old.count + length ls
-  pub answered : Answers t old.who ls new.who text
+  pub answered : AnswersSpeakers t old.who ls new.who text
   pub ready : IsReady new
 
 abbrev pub SessionRefusesPart : List ℕ → ℕ → List ℕ → SessionEnd → Type 0
@@ -199,7 +199,7 @@ pub record TakesSessionEnd {B : Type 0} (t : SessionSetup) (old new : SoFar) (sa
     (result : Result B SessionEnd) : Type 0 where
   pub text : List ℕ
   pub grown : said.after ≡ append_known said.before text
-  pub answered : OnOk result (Answers t old.who (last_line old.pending) new.who text)
+  pub answered : OnOk result (AnswersSpeakers t old.who (last_line old.pending) new.who text)
   pub counted : OnOk result (new.count ≡ old.count + length (last_line old.pending))
   pub halted : IfErr result (HaltsSession t ⊤ old [] (round new.who text))
 

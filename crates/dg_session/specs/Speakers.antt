@@ -5,7 +5,7 @@
 --   speakers xs looks H ps               == those of these seats and looks, with that history and these
 --                                           entries
 --   new_speakers xs                      == the seats, and no look is kept; there was no line
---   IsFor how n line i text              == of n seats, the line is for that at the place i, from 0, and the
+--   IsForSpeaker how n line i text       == of n seats, the line is for that at the place i, from 0, and the
 --                                           text is its command line: the line begins with the number i + 1
 --                                           and a space; or it names no seat, and is for the first
 --   IsForNoSpeaker how n line            == the line is for none of n seats
@@ -51,12 +51,12 @@ speakers xs looks H ps =
 abbrev pub new_speakers : List SeatView → Speakers
 new_speakers xs = record { seats = xs; kept = map (λ x. None) xs; latest = []; entered = [] }
 
-abbrev pub IsFor : LineFormat → ℕ → List ℕ → ℕ → List ℕ → Type 0
-IsFor OneSeat n line i text = (i ≡ 0) × (text ≡ line)
-IsFor BySeat n line i text = IsSeatedLine (i + 1) text line × (i < n)
+abbrev pub IsForSpeaker : LineFormat → ℕ → List ℕ → ℕ → List ℕ → Type 0
+IsForSpeaker OneSeat n line i text = (i ≡ 0) × (text ≡ line)
+IsForSpeaker BySeat n line i text = IsSeatedLine (i + 1) text line × (i < n)
 
 abbrev pub IsForNoSpeaker : LineFormat → ℕ → List ℕ → Type 0
-IsForNoSpeaker how n line = (i : ℕ) (text : List ℕ) → ¬ IsFor how n line i text
+IsForNoSpeaker how n line = (i : ℕ) (text : List ℕ) → ¬ IsForSpeaker how n line i text
 
 pub record ReplacesSpeaker {A : Type 0} (i : ℕ) (xs ys : List A) (x y : A) : Type 0 where
   pub old : slice_get xs i ≡ Some x
@@ -83,7 +83,7 @@ pub record AnswersInSession (t : SessionSetup) (i : ℕ) (text : List ℕ) (s z 
 abbrev pub AnswersLineOfSpeaker : SessionSetup → Speakers → List ℕ → Speakers → List ℕ → Type 0
 AnswersLineOfSpeaker t s line z said =
     (IsForNoSpeaker t.how (length s.seats) line × (z ≡ s) × (said ≡ line_fault_text Seat))
-    ⊎ ((i : ℕ) × (text : List ℕ) × IsFor t.how (length s.seats) line i text
+    ⊎ ((i : ℕ) × (text : List ℕ) × IsForSpeaker t.how (length s.seats) line i text
     × AnswersInSession t i text s z said)
 
 pub record RefusesSpeaker (t : SessionSetup) (i : ℕ) (text : List ℕ) (s z : Speakers) (end : SessionEnd)
@@ -102,5 +102,5 @@ pub record RefusesSpeaker (t : SessionSetup) (i : ℕ) (text : List ℕ) (s z : 
 abbrev pub RefusesLineOfSpeaker : SessionSetup → Speakers → List ℕ → Speakers → SessionEnd → Type 0
 RefusesLineOfSpeaker t s line z end =
     ((end ≡ Memory) × (z ≡ s))
-    ⊎ ((i : ℕ) × (text : List ℕ) × IsFor t.how (length s.seats) line i text
+    ⊎ ((i : ℕ) × (text : List ℕ) × IsForSpeaker t.how (length s.seats) line i text
     × RefusesSpeaker t i text s z end)

@@ -1,17 +1,27 @@
-//! Sessions: lines come in on a stream, each is answered, and many sessions may share one table.
+//! Sessions: lines come in on a stream, each is answered, and many sessions may share one table. Parties: sessions side by
+//! side, one for each script, and what is printed of their history.
 #![tactic(auto)]
 
 mod answering;
+mod closing;
 mod ends;
 mod entries_so_far;
 mod laws;
 mod line_format;
+mod parties;
+mod played;
 mod serving;
 mod speaking;
 mod taking;
+mod threads;
 
 pub use dg_lines::{LineFault, parse_line, parse_step, reply_text};
+/// Why sessions are not held, or what they came to is not told.
+pub use dg_system::Shortage as PartyFault;
 pub use ends::{MAX_LINE, MAX_LINES, READ_SIZE, SessionEnd};
 pub use laws::sessions_cut_one_way;
 pub use line_format::LineFormat;
-pub use serving::{serve, serve_seats, serve_unheard};
+pub use parties::party;
+pub use played::{PartyRefusal, Played};
+pub use serving::{serve, serve_seats};
+pub use threads::sessions;

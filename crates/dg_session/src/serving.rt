@@ -100,7 +100,7 @@ pub fn serve_seats<N: Name, R: Threads + Wait, I: Read, O: Write>(
 
 /// Answers the lines of a script for one seat, in the same way, if nobody hears the answers: no text is made of them. It ends
 /// neither with `Read` nor with `Write`. The conditions are the same.
-pub fn serve_unheard<N: Name, R: Threads + Wait>(
+pub(crate) fn serve_unheard<N: Name, R: Threads + Wait>(
     rt: &R,
     alloc: Global,
     table: &Table<N>,

@@ -6,7 +6,7 @@ ghost use Rattle.dg_session.specs.SoFar.{talk, HandlesSessionLine};
 use crate::answering::{Answer, AnswerBuffer, Shared, answer_seat};
 use crate::ends::SessionEnd;
 use crate::entries_so_far::EntriesSoFar;
-use crate::line_format::addressed;
+use crate::line_format::addressed_speaker;
 use dg_analyst::Look;
 use dg_lines::LineFault;
 use dg_log::Name;
@@ -31,7 +31,7 @@ pub(crate) fn answer_line<N: Name, R: Threads + Wait>(
         line.now (talk seats.old kept.old entries_so_far.old said.old)
         (talk seats.new kept.new entries_so_far.new said.new) result }
 {
-    let Some((place, text)) = addressed(shared.how, seats.len(), line) else {
+    let Some((place, text)) = addressed_speaker(shared.how, seats.len(), line) else {
         return said.say(
             shared.table,
             shared.names,

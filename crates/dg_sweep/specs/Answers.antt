@@ -16,7 +16,7 @@
 --   label form words                      == the words, if the answer is in words
 --   sweep_mark form                       == what stands for a number that nothing tells
 --   sweep_field form words z              == the label and the number, and a space
---   front form o                          == the degree of the amounts and the genus of the graph
+--   swept_front form o                    == the degree of the amounts and the genus of the graph
 --   sweep_ranks_line form o rank dual     == these, and two texts for the ranks
 --   AreSweptRanks o form text             == the text is that of the rank of the amounts and that of their
 --                                            residual; no test is needed that nothing tells
@@ -88,14 +88,14 @@ sweep_mark Numbers = codes "NA"
 abbrev pub sweep_field : Form → List ℕ → ℤ → List ℕ
 sweep_field form words z = label form words ++ signed_decimal z ++ codes " "
 
-abbrev pub front : Form → StartData → List ℕ
-front form o =
+abbrev pub swept_front : Form → StartData → List ℕ
+swept_front form o =
     sweep_field form (codes "degree ") (degree o.graph.size (at o.divisor))
     ++ sweep_field form (codes "genus ") (genus o.graph)
 
 abbrev pub sweep_ranks_line : Form → StartData → List ℕ → List ℕ → List ℕ
 sweep_ranks_line form o rank dual =
-    front form o ++ label form (codes "rank ") ++ rank ++ codes " " ++ label form (codes "dual ")
+    swept_front form o ++ label form (codes "rank ") ++ rank ++ codes " " ++ label form (codes "dual ")
     ++ dual ++ codes "\n"
 
 pub record AreSweptRanks (o : StartData) (form : Form) (text : List ℕ) : Type 0 where

@@ -5,7 +5,7 @@ ghost use Rattle.dg_chips.specs.Vector.{at};
 ghost use Rattle.dg_lines.specs.Texts.{TextHasNames};
 ghost use Rattle.dg_rank.specs.Ladders.{AnswersRankTest};
 ghost use Rattle.dg_rank.specs.Ranks.{AreBothRanks, NeedsPastTests};
-ghost use Rattle.dg_sweep.specs.Answers.{AnswersRankLine, AreSweptRanks, AreSweptRanksUntested, sweep_field, front, label, sweep_mark, sweep_rank_line, sweep_ranks_line, swept_unnamed_line};
+ghost use Rattle.dg_sweep.specs.Answers.{AnswersRankLine, AreSweptRanks, AreSweptRanksUntested, sweep_field, swept_front, label, sweep_mark, sweep_rank_line, sweep_ranks_line, swept_unnamed_line};
 ghost use Rattle.dg_sweep.specs.Subjects.{swept_start};
 ghost use Rattle.dg_rules.specs.declared.entry.Reply.TheVariants.{Rank};
 
@@ -179,7 +179,7 @@ fn push_swept_front(
 ) -> Result<(), AllocError>
     requires start { IsStart (swept_start subject.now) }
     requires empty { answer.old.items ≡ [] }
-    ensures { OnOk result (answer.new.items ≡ front form (swept_start subject.now)) }
+    ensures { OnOk result (answer.new.items ≡ swept_front form (swept_start subject.now)) }
 {
     push_number(answer, form, "degree ", subject.divisor.degree())?;
     push_number(answer, form, "genus ", i64::from(subject.graph.genus()))

@@ -12,8 +12,4 @@ mod tasks;
 
 pub use fault::TaskFault;
 pub use laws::rehearsal_tasks_have_one_text;
-pub use printed::verdict_answer;
-pub use ranks::{rank_answer, rank_task_alone, riemann_roch};
-pub use rehearsing::rehearsal;
-pub use table_source::table_of_task;
 pub use tasks::{answer, answer_task_alone};

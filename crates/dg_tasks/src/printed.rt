@@ -14,9 +14,11 @@ use std::alloc::{AllocError, Global};
 
 /// The verdict on a table's amounts as text, computed from its vertex q: the text of a reply; if it is `ordered`, the order in
 /// which the vertices burn; and a newline.
-///
-/// Refused with `Shortage` at the growth that was refused, and with nothing else.
-pub fn verdict_answer(alloc: Global, table: &TableFile, ordered: bool) -> Result<Vec<u8>, TaskFault>
+pub(crate) fn verdict_answer(
+    alloc: Global,
+    table: &TableFile,
+    ordered: bool,
+) -> Result<Vec<u8>, TaskFault>
     ensures judged { IfOk result
         (λ text. IsJudgementText table.now.start table.now.names ordered text.items) }
     ensures refused { IfErr result (λ fault. fault ≡ TaskFault.Shortage Shortage.OutOfMemory) }

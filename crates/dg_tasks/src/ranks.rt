@@ -19,11 +19,8 @@ use std::sync::Wait;
 use std::thread::Threads;
 
 /// Whether the rank of a table's amounts is at least k, as text: the text of a reply, and a newline.
-///
-/// The trials are shared among so many workers; the condition is 1 to 16. One worker is the thread that calls. Refused with
-/// `TooMany` if the test is past the limits; and with `Shortage` if there are two workers or more and a thread could not be
-/// started, or at the growth that was refused.
-pub fn rank_answer<R: Threads + Wait>(
+/// The trials are shared among so many workers, 1 to 16; one is the thread that calls.
+pub(crate) fn rank_answer<R: Threads + Wait>(
     rt: &R,
     alloc: Global,
     table: &TableFile,
@@ -49,8 +46,12 @@ pub fn rank_answer<R: Threads + Wait>(
     }
 }
 
-/// The same by the thread that calls alone: it is refused with `TooMany`, and with `Shortage` at the growth that was refused.
-pub fn rank_task_alone(alloc: Global, table: &TableFile, k: u32) -> Result<Vec<u8>, TaskFault>
+/// The same by the thread that calls alone.
+pub(crate) fn rank_task_alone(
+    alloc: Global,
+    table: &TableFile,
+    k: u32,
+) -> Result<Vec<u8>, TaskFault>
     ensures ranked { IfOk result
         (λ text. IsRankTaskAnswer table.now.start k table.now.names text.items) }
     ensures refused { IfErr result (RefusesRankTask table.now.start.graph.size k 1) }
@@ -78,10 +79,7 @@ fn rank_task_line(alloc: Global, verdict: RankVerdict, names: &Names) -> Result<
 
 /// Both sides of Riemann-Roch for a table's amounts, as text: the degree, the genus of the graph, the rank, and the rank
 /// of the canonical divisor less these amounts, each on a line. The rank is -1 if the amounts can't be won.
-///
-/// Refused with `Chip` if the canonical divisor less these amounts is out of range, then with `TooMany` if one of
-/// the two ranks needs a test past the limits. `Shortage` comes at the growth that was refused.
-pub fn riemann_roch(alloc: Global, table: &TableFile) -> Result<Vec<u8>, TaskFault>
+pub(crate) fn riemann_roch_answer(alloc: Global, table: &TableFile) -> Result<Vec<u8>, TaskFault>
     ensures told { IfOk result (λ text. IsRiemannRochTask table.now.start text.items) }
     ensures refused { IfErr result (RefusesRiemannRoch table.now.start) }
 {

@@ -16,11 +16,12 @@ use std::alloc::Global;
 /// The history of a schedule as text: a line for each entry, with its number, from 0 on, and the text of its reply. The
 /// history is the legal one that the steps make from the table's start, as `rehearse` of `dg_game` does: it promises
 /// `IsRehearsal`, too, and `IsFirstRehearsalFault` of a step that is refused.
-///
-/// Refused with `Line` for the first line that spells no step; then for the first step that is refused, with `Full` if
-/// it is the step after 65,536 others, with `NoLook` if it wants a look while its seat keeps none, or with `StepTrials`
-/// if it asks for a rank test past the limits. `Shortage` comes in the place of a step whose line did not fit.
-pub fn rehearsal(alloc: Global, table: &TableFile, steps: &[u8]) -> Result<Vec<u8>, TaskFault>
+/// `Shortage` comes in the place of a step whose line did not fit.
+pub(crate) fn rehearsal(
+    alloc: Global,
+    table: &TableFile,
+    steps: &[u8],
+) -> Result<Vec<u8>, TaskFault>
     ensures printed { IfOk result
         (λ text. IsPrintedInTask table.now.start table.now.names (lines steps.now) text.items) }
     ensures refused { IfErr result

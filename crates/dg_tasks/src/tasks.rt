@@ -5,7 +5,7 @@ ghost use Rattle.dg_tasks.specs.Tasks.{IsAnswer, AnswersTask, RefusesTaskOn, Ref
 use crate::fault::TaskFault;
 use crate::games::greedy_answer;
 use crate::printed::verdict_answer;
-use crate::ranks::{rank_answer, rank_task_alone, riemann_roch};
+use crate::ranks::{rank_answer, rank_task_alone, riemann_roch_answer};
 use crate::rehearsing::rehearsal;
 use crate::table_source::table_of_task;
 use dg_file::TableFile;
@@ -18,9 +18,11 @@ use std::thread::Threads;
 /// The answer to a task, as text. Only a rank test by two workers or more starts threads and waits for them; all else is done
 /// as `answer_task_alone` does it.
 ///
-/// Refused with `Source` or `File` if its table is not read or is refused, and then as the function is that does the task:
-/// `rehearsal`, which comes after `Source` for the steps, `verdict_answer`, `rank_answer`, `riemann_roch`, or the greedy game
-/// with `Shortage`.
+/// Refused with `Source` or `File` if its table is not read or is refused. Then a rehearsal is refused with `Source` for its
+/// steps, with `Line` for the first line that spells no step, and for the first step that is refused, with `Full` after 65,536
+/// others, with `NoLook` if its seat keeps none, or with `StepTrials` past the limits; a rank test with `TooMany`; Riemann-Roch
+/// with `Chip` if the residual is out of range, and then with `TooMany`. `Shortage` comes in any task, at the growth or the
+/// thread that was refused.
 pub fn answer<R, S>(rt: &R, task: &Task<'_>, sources: &S) -> Result<Vec<u8>, TaskFault>
 where
     R: Files + AllocGlobal + Threads + Wait,
@@ -76,7 +78,7 @@ where
         },
         Task::Judge { file: _, ordered } => verdict_answer(rt.alloc(), table, *ordered),
         Task::Rank(test) => rank_task_alone(rt.alloc(), table, test.degree),
-        Task::RiemannRoch { file: _ } => riemann_roch(rt.alloc(), table),
+        Task::RiemannRoch { file: _ } => riemann_roch_answer(rt.alloc(), table),
         Task::Greedy(play) => greedy_answer(rt.alloc(), table, play.turns),
     }
 }

@@ -2,7 +2,7 @@
 #![tactic(auto)]
 
 use dg_cli::words_of;
-use dg_server::{Fault, report, run};
+use dg_run::{Fault, report, run};
 use dg_system::DiskFiles;
 use std::process::ExitCode;
 

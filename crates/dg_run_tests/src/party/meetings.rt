@@ -3,9 +3,8 @@
 use crate::tables::TRIANGLE;
 use dg_chips::Start;
 use dg_file::{Names, read_table};
-use dg_party::{Played, party};
 use dg_rank::Gate;
-use dg_session::SessionEnd;
+use dg_session::{Played, SessionEnd, party};
 use std::alloc::{AllocError, Global};
 use std::process::Abort;
 use std::sync::Wait;

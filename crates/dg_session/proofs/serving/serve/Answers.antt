@@ -1,4 +1,4 @@
-use Rattle.dg_session.proofs.Sessions.{session_alone}
+use Rattle.dg_session.proofs.SessionLaws.{session_alone}
 use Rattle.dg_session.proofs.serving.serve.Goals as goal
 
 pub returns : goal.returns

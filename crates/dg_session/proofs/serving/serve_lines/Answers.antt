@@ -1,4 +1,4 @@
-use Rattle.dg_session.proofs.Sessions.{so_far_new, session_unsaid}
+use Rattle.dg_session.proofs.SessionLaws.{so_far_new, session_unsaid}
 use Rattle.dg_session.proofs.serving.serve_lines.Goals as goal
 
 pub returns-in_default-clause-session : goal.returns-in_default-clause-session

@@ -1,5 +1,5 @@
 use Rattle.dg_session.proofs.Common.{◌<◌, ◌∙◌, length, refl, arith, chunk_size, read_chunk, read_nothing, Read, Write}
-use Rattle.dg_session.proofs.Sessions.{so_far_new, so_far_more, session_reads, session_ends, session_closes, session_halts, written_ok, not_by, halts_by, fewer_left}
+use Rattle.dg_session.proofs.SessionLaws.{so_far_new, so_far_more, session_reads, session_ends, session_closes, session_halts, written_ok, not_by, halts_by, fewer_left}
 use Rattle.dg_session.proofs.Spoken.{said_whole, is_heard}
 use Rattle.dg_session.proofs.serving.serve_reads.Goals as goal
 

@@ -1,6 +1,6 @@
 -- All that was read is handled but what is pending, and all that there was to say is written.
 use Rattle.dg_session.proofs.Common.{◌≡◌, length, [], Some, session_setup, heard, so_far, READ_SIZE}
-use Rattle.dg_session.proofs.Sessions.{IsSoFar, bytes_left}
+use Rattle.dg_session.proofs.SessionLaws.{IsSoFar, bytes_left}
 use Rattle.dg_session.proofs.serving.serve_reads.Given as goal
 
 abbrev pub invariant-reads : goal.invariant-reads

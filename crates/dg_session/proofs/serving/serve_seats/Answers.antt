@@ -1,4 +1,4 @@
-use Rattle.dg_session.proofs.Sessions.{numbers_of}
+use Rattle.dg_session.proofs.SessionLaws.{numbers_of}
 use Rattle.dg_session.proofs.serving.serve_seats.Goals as goal
 
 pub returns-clause-session : goal.returns-clause-session

@@ -1,4 +1,4 @@
-use Rattle.dg_session.proofs.Sessions.{numbers_of, session_alone}
+use Rattle.dg_session.proofs.SessionLaws.{numbers_of, session_alone}
 use Rattle.dg_session.proofs.serving.serve_unheard.Goals as goal
 
 pub returns-clause-session : goal.returns-clause-session

@@ -1,4 +1,4 @@
-use Rattle.dg_session.proofs.Sessions.{script_unsaid, script_halts, script_closes, script_ends}
+use Rattle.dg_session.proofs.SessionLaws.{script_unsaid, script_halts, script_closes, script_ends}
 use Rattle.dg_session.proofs.serving.serve_unheard_lines.Goals as goal
 
 pub returns-in_default-clause-session : goal.returns-in_default-clause-session

@@ -1,5 +1,5 @@
 use Rattle.dg_session.proofs.Common.{subst, arith, All, take_all, SeatHasPrefix}
-use Rattle.dg_session.proofs.Sessions.{one_more}
+use Rattle.dg_session.proofs.SessionLaws.{one_more}
 use Rattle.dg_session.proofs.serving.speakers_have_prefixes.Goals as goal
 
 pub loop-seat-preserved : goal.loop-seat-preserved

@@ -1,0 +1,50 @@
+-- What is asked for, done or refused. `held` tells what is known of the file of each name; input
+-- stands for the bytes that the reader had to give and has left, and old and new for what the output
+-- held and holds, if those are known.
+--   PrintsAnswer held task old new                  == the output has grown by the answer to the task
+--   RefusesToPrintAnswer held task fault old new    == the task is refused so, or the output failed at its answer
+--   Performs held input asked old new               == what is asked for is done: the output has grown by the
+--                                                      answer to the task, by the text of a call for help, by
+--                                                      what a session said, by the history and the totals of
+--                                                      a party, or by the answers to the lines of a file
+--   LeavesInputOfRun asked input rest               == the input is as it was: only a session reads it
+--   RefusesToPerform held input asked fault old new == what is asked for is refused so, or ended so; or the
+--                                                      output failed at the text of the answer, or of the
+--                                                      help
+use Rattle.std.specs.Prelude.{◌≡◌, ◌⊎◌, ℕ, List, Option, string_bytes, ⊤}
+use Rattle.std.specs.Io.KnownBytes.{Appends, Keeps}
+use Rattle.dg_run.specs.Common.{Passage, StreamReading, Held, IsAnswer, RefusesTask, Invocation, Task, Serve, Party, Sweep, Text}
+use Rattle.dg_invocation.specs.declared.invocation.Task as asked
+use Rattle.dg_run.specs.OfTasks.{IsRunOfTask}
+use Rattle.dg_run.specs.Streams.{BreaksOffRun}
+use Rattle.dg_run.specs.Sessions.{RunServes, RunRefusesServing}
+use Rattle.dg_run.specs.Parties.{RunPlaysParty, RunRefusesParty}
+use Rattle.dg_run.specs.Sweeping.{RunSweeps, RunRefusesSweeping}
+use Rattle.dg_run.specs.declared.fault.Fault.{Fault}
+
+abbrev pub PrintsAnswer : (List ℕ → Held) → asked.Task → Option (List ℕ) → Option (List ℕ) → Type 0
+PrintsAnswer held task old new = (text : List ℕ) × IsAnswer held task text × Appends old new text
+
+abbrev pub RefusesToPrintAnswer : (List ℕ → Held) → asked.Task → Fault → Option (List ℕ) → Option (List ℕ) → Type 0
+RefusesToPrintAnswer held task fault old new = (IsRunOfTask (RefusesTask held task) fault × Keeps old new)
+    ⊎ ((text : List ℕ) × IsAnswer held task text × BreaksOffRun fault old new text)
+
+abbrev pub Performs : (List ℕ → Held) → Passage → Invocation → Option (List ℕ) → Option (List ℕ)
+    → Type 0
+Performs held input (Task task) old new = PrintsAnswer held task old new
+Performs held input (Serve task) old new = RunServes held input task old new
+Performs held input (Party task) old new = RunPlaysParty held task old new
+Performs held input (Sweep task) old new = RunSweeps held task old new
+Performs held input (Text help) old new = Appends old new (string_bytes help)
+
+abbrev pub LeavesInputOfRun : Invocation → StreamReading → StreamReading → Type 0
+LeavesInputOfRun (Serve task) input rest = ⊤
+LeavesInputOfRun asked input rest = rest ≡ input
+
+abbrev pub RefusesToPerform : (List ℕ → Held) → Passage → Invocation → Fault → Option (List ℕ)
+    → Option (List ℕ) → Type 0
+RefusesToPerform held input (Task task) fault old new = RefusesToPrintAnswer held task fault old new
+RefusesToPerform held input (Serve task) fault old new = RunRefusesServing held input task fault old new
+RefusesToPerform held input (Party task) fault old new = RunRefusesParty held task fault old new
+RefusesToPerform held input (Sweep task) fault old new = RunRefusesSweeping held task fault old new
+RefusesToPerform held input (Text help) fault old new = BreaksOffRun fault old new (string_bytes help)

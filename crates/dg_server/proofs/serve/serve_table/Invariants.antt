@@ -1,6 +1,0 @@
-use Rattle.dg_server.proofs.Common.{length, table_data_of}
-use Rattle.dg_server.proofs.serve.serve_table.Given as goal
-
--- A table is named by its row, its start and its number of seats.
-abbrev pub ghosts-serve_run_stream : goal.ghosts-serve_run_stream
-ghosts-serve_run_stream g a = record { cells = a.row; table = table_data_of a.table.now.start a.seats (length a.row) }

@@ -1,9 +1,0 @@
--- Faults of tasks.
---   IsRunOfTask P fault == it is the fault of a task, and P holds of that
-use Rattle.dg_server.specs.Common.{TaskFault}
-use Rattle.dg_server.specs.declared.fault.Fault.{Fault}
-use Rattle.dg_server.specs.declared.fault.Fault.TheVariants.{Task}
-
-abbrev pub IsRunOfTask : (TaskFault → Type 0) → Fault → Type 0
-IsRunOfTask P (Task fault) = P fault
-IsRunOfTask P fault = ⊥

@@ -1,0 +1,176 @@
+//! Sessions side by side, each with a seat and a thread of its own.
+ghost use Rattle.std.specs.Prelude.{◌≡◌, ◌≤◌, length, IfErr, IfOk, OnOk};
+ghost use Rattle.dg_session.specs.PartySessions.{AreSessions, HaveSomePartySessionsBegun, IsPartySessionOver, RefusesPartySessions, script_contents};
+
+use crate::ends::SessionEnd;
+use crate::serving::serve_unheard;
+use dg_log::Name;
+use dg_rank::Gate;
+use dg_system::{Shortage, in_parallel};
+use dg_table::{Seat, Table};
+use dg_tokens::Names;
+use std::alloc::Global;
+use std::sync::Wait;
+use std::thread::Threads;
+
+// What all sessions of a table share: there is a name for each vertex.
+#[derive(Drop)]
+struct PartyContext<'a, N: Name, R, G> {
+    rt: &'a R,
+    alloc: Global,
+    table: &'a Table<N>,
+    names: &'a Names,
+    gate: &'a G,
+    ghost named: { length names.now ≡ N.table.start.graph.size },
+}
+
+/// Sessions of the seats of a table, all at once, each over the script at its place: a thread for each seat enters the gate with
+/// the seat's number, and then answers the lines of its script. The one session of one script is held by the thread that calls.
+/// What they came to is told in the order of the scripts. The conditions are as many scripts as seats, and one name per vertex.
+///
+/// Refused with `OutOfMemory`, before the first session, and with `Spawn` if a thread could not be started, which only two
+/// scripts or more ask for: then some first seats had their sessions, not all, and the others know what they knew.
+pub fn sessions<N: Name + Send + Sync, R: Threads + Wait + Sync, G: Gate>(
+    rt: &R,
+    alloc: Global,
+    table: &Table<N>,
+    seats: &mut [Seat<N>],
+    names: &Names,
+    scripts: &[Vec<u8>],
+    gate: &G,
+) -> Result<Vec<Result<u32, SessionEnd>>, Shortage>
+    requires scripts { length scripts.now ≡ length seats.old }
+    requires names { length names.now ≡ N.table.start.graph.size }
+    ensures ok { IfOk result
+        (λ v. AreSessions N.table names.now (script_contents scripts.now)
+        seats.old seats.new v.items) }
+    ensures fault { IfErr result
+        (RefusesPartySessions N.table names.now (script_contents scripts.now) seats.old
+        seats.new) }
+    ensures spawn { IfErr result (λ shortage. shortage ≡ Shortage.Spawn → 2 ≤ length scripts.now) }
+{
+    let context = PartyContext {
+        rt,
+        alloc,
+        table,
+        names,
+        gate,
+    };
+    let Ok(mut ends) = vec![in alloc; Ok(0); scripts.len()] else {
+        return Err(Shortage::OutOfMemory);
+    };
+    if scripts.len() == 1 {
+        play_one_session(&context, scripts, seats, &mut ends);
+        return Ok(ends);
+    }
+    match play_in_parallel(&context, scripts, seats, &mut ends) {
+        Ok(()) => Ok(ends),
+        Err(shortage) => Err(shortage),
+    }
+}
+
+// The one session of one script, in the thread that calls.
+fn play_one_session<'a, N: Name, R: Threads + Wait, G: Gate>(
+    context: &PartyContext<'a, N, R, G>,
+    scripts: &[Vec<u8>],
+    seats: &mut [Seat<N>],
+    ends: &mut [Result<u32, SessionEnd>],
+)
+    requires one { length scripts.now ≡ 1 }
+    requires seats { length seats.old ≡ 1 }
+    requires ends { length ends.old ≡ 1 }
+    ensures { AreSessions N.table context.now.names.now (script_contents scripts.now) seats.old seats.new ends.new }
+{
+    let script = scripts[0].as_slice();
+    ends[0] = run_script(context, script, &mut seats[0]);
+}
+
+// A thread for the first seat, and beside it this call again for the others.
+fn play_in_parallel<'a, N: Name + Send + Sync, R: Threads + Wait + Sync, G: Gate>(
+    context: &PartyContext<'a, N, R, G>,
+    scripts: &[Vec<u8>],
+    seats: &mut [Seat<N>],
+    ends: &mut [Result<u32, SessionEnd>],
+) -> Result<(), Shortage>
+    requires scripts { length scripts.now ≡ length seats.old }
+    requires ends { length scripts.now ≡ length ends.old }
+    ensures ok { OnOk result (AreSessions N.table context.now.names.now (script_contents scripts.now)
+        seats.old seats.new ends.new) }
+    ensures fault { IfErr result (λ shortage. (shortage ≡ Shortage.Spawn)
+        × HaveSomePartySessionsBegun N.table context.now.names.now (script_contents scripts.now) seats.old seats.new) }
+{
+    let Some((seat, rest)) = seats.split_first_mut() else {
+        return Ok(());
+    };
+    let Some((script, left)) = scripts.split_first() else {
+        unreachable!()
+    };
+    let Some((end, later)) = ends.split_first_mut() else {
+        unreachable!()
+    };
+    let script = script.as_slice();
+    let mut first = || -> Result<u32, SessionEnd>
+        ensures { IsPartySessionOver N.table context.entry.now.names.now
+            script.entry.now seat.entry.now seat.exit.now result }
+    { run_script(context, script, seat) };
+    let mut others = || -> Result<(), Shortage>
+        requires { (length left.now ≡ length rest.now) × (length left.now ≡ length later.now) }
+        ensures { OnOk result (AreSessions N.table context.entry.now.names.now
+            (script_contents left.entry.now) rest.entry.now rest.exit.now later.exit.now)
+            × IfErr result (λ shortage. (shortage ≡ Shortage.Spawn)
+            × HaveSomePartySessionsBegun N.table context.entry.now.names.now (script_contents left.entry.now)
+            rest.entry.now rest.exit.now) }
+    { play_in_parallel(context, left, rest, later) };
+    match in_parallel(context.rt, &mut first, &mut others) {
+        Ok((ended, told)) => {
+            *end = ended;
+            told
+        }
+        Err(shortage) => Err(shortage),
+    }
+}
+
+// A session of the seat over a script, after the gate. What it would say nobody hears.
+fn run_script<'a, N: Name, R: Threads + Wait, G: Gate>(
+    context: &PartyContext<'a, N, R, G>,
+    script: &[u8],
+    seat: &mut Seat<N>,
+) -> Result<u32, SessionEnd>
+    ensures { IsPartySessionOver N.table context.now.names.now script.now seat.old
+        seat.new result }
+{
+    context.gate.enter(u32::from(seat.number()));
+    ask_ahead_for_sessions(context.alloc, script.len());
+    serve_unheard(
+        context.rt,
+        context.alloc,
+        context.table,
+        seat,
+        context.names,
+        script,
+        1,
+    )
+}
+
+// The bytes of a piece of memory. The C library maps one of 128 KB or more by itself, and unmaps it if it is given back.
+const PIECE: usize = 122_880;
+
+// How many bytes an entry in its box takes for each byte of its line: 496 for the five of a look.
+const SHARE: usize = 100;
+
+// The most pieces that are asked for at once.
+const MAX_PIECES: usize = 16;
+
+// Asks for the space of a script's entries at once, and gives it back, which leaves it to them. Otherwise the C library asks the
+// system for each page of it, and all other threads wait meanwhile. If it is refused, that is what happens.
+fn ask_ahead_for_sessions(alloc: Global, bytes: usize) {
+    let mut pieces = Vec::new(alloc);
+    for _ in 0..(bytes / (PIECE / SHARE) + 1).min(MAX_PIECES) {
+        let Ok(piece) = Vec::<u8>::with_capacity(alloc, PIECE) else {
+            return;
+        };
+        let Ok(()) = pieces.push(piece) else {
+            return;
+        };
+    }
+}
