@@ -127,7 +127,7 @@ class OfBuilds(Test):
         self.assertTrue(self.end(child, number).endswith(KEPT))
         self.assertEqual(child.returncode, status)
         left = len(list(self.made.glob("*.sum")))
-        self.assertIn(f"its crates are proved: {left} of 25, ", self.builds())
+        self.assertIn(f"its crates are proved: {left} of 24, ", self.builds())
 
     def test_an_edit_that_is_taken_back_after_a_kill(self):
         """The process of the toolchain lives on, and makes the crate of the edited file. Then one far above is edited."""
@@ -139,7 +139,7 @@ class OfBuilds(Test):
         back()
         self.edit("dollar")
         file.unlink()
-        self.assertIn("its crates are proved: 23 of 25, ", self.builds(pace=0.3))
+        self.assertIn("its crates are proved: 22 of 24, ", self.builds(pace=0.3))
 
     def test_an_edit_during_a_build(self):
         """What was edited while it was made is made again, even if the edit was taken back in time."""
@@ -160,15 +160,15 @@ class OfBuilds(Test):
         os.killpg(second.pid, signal.SIGINT)
         self.assertEqual((second.communicate()[1], second.returncode), (KEPT, -signal.SIGINT))
         file.unlink()
-        self.assertEqual(first.communicate(timeout=HUNG)[1].splitlines()[-1], "dollar: 25 of 25, done")
+        self.assertEqual(first.communicate(timeout=HUNG)[1].splitlines()[-1], "dollar: 24 of 24, done")
         self.assertEqual(self.builds(), "")
 
     def test_the_first_lines(self):
         first, second, *more = self.builds().splitlines()
         self.assertEqual(first, "dollar: for a first answer without any proof, in two minutes or more: ./dollar --unproved ..")
-        self.assertRegex(second, "^dollar: the program is missing, and its crates are proved: 0 of 25, some [0-9]+ minutes left$")
+        self.assertRegex(second, "^dollar: the program is missing, and its crates are proved: 0 of 24, some [0-9]+ minutes left$")
         self.assertEqual(more, sorted(more, key=lambda line: int(line.split()[1])))
-        self.assertEqual(more[-1], "dollar: 25 of 25, done")
+        self.assertEqual(more[-1], "dollar: 24 of 24, done")
 
     def test_no_toolchain(self):
         self.assertEqual(self.fails("'rt', the toolchain of Rattle, is not on the PATH; 'How to get it' in README.md", without="rt"), [])
@@ -247,7 +247,7 @@ class OfBuilds(Test):
         lines = [child.stderr.readline() for _ in range(5)]
         os.killpg(child.pid, signal.SIGINT)
         child.communicate()
-        self.assertEqual([line.split(",")[0] for line in lines[2:]], ["dollar: 0 of 25"] * 3)
+        self.assertEqual([line.split(",")[0] for line in lines[2:]], ["dollar: 0 of 24"] * 3)
 
     @each([("0::/a/b\n", {"a/b/memory.max": "max\n", "a/memory.max": "5000000000\n", "a/memory.current": "1500000000\n",
                           "a/memory.stat": "anon 7\ninactive_file 500000000\n"}, 4000000000),
