@@ -124,8 +124,7 @@ class OfBuilds(Test):
         for path in "out", "crates/dollar/out":
             shutil.rmtree(self.tree / path, ignore_errors=True)
         child = self.begun(self.tree / "tools" / "build", pace=5)
-        self.assertTrue(self.end(child, number).endswith(KEPT))
-        self.assertEqual(child.returncode, status)
+        self.assertEqual((self.end(child, number)[-len(KEPT):], child.returncode), (KEPT, status))
         left = len(list(self.made.glob("*.sum")))
         self.assertIn(f"its crates are proved: {left} of 24, ", self.builds())
 
