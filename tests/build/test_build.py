@@ -22,6 +22,7 @@ NOBODY = 65534
 PYTHON = "/usr/bin/python3" if os.path.exists("/usr/bin/python3") else sys.executable
 KEPT = "dollar: interrupted; what is proved is kept, and the next call goes on from there\n"
 ENDED = {signal.SIGINT: 130, signal.SIGTERM: 143, signal.SIGHUP: 129}
+BUILT = 24  # The crates of the program.
 
 
 def crates():
@@ -125,8 +126,7 @@ class OfBuilds(Test):
             shutil.rmtree(self.tree / path, ignore_errors=True)
         child = self.begun(self.tree / "tools" / "build", pace=5)
         self.assertEqual((self.end(child, number)[-len(KEPT):], child.returncode), (KEPT, status))
-        left = len(list(self.made.glob("*.sum")))
-        self.assertIn(f"its crates are proved: {left} of 24, ", self.builds())
+        self.assertIn(f"its crates are proved: {len([*self.made.glob('*.sum')])} of {BUILT}, ", self.builds())
 
     def test_an_edit_that_is_taken_back_after_a_kill(self):
         """The process of the toolchain lives on, and makes the crate of the edited file. Then one far above is edited."""
@@ -138,7 +138,7 @@ class OfBuilds(Test):
         back()
         self.edit("dollar")
         file.unlink()
-        self.assertIn("its crates are proved: 22 of 24, ", self.builds(pace=0.3))
+        self.assertIn(f"its crates are proved: {BUILT - 2} of {BUILT}, ", self.builds(pace=0.3))
 
     def test_an_edit_during_a_build(self):
         """What was edited while it was made is made again, even if the edit was taken back in time."""
@@ -159,15 +159,15 @@ class OfBuilds(Test):
         os.killpg(second.pid, signal.SIGINT)
         self.assertEqual((second.communicate()[1], second.returncode), (KEPT, -signal.SIGINT))
         file.unlink()
-        self.assertEqual(first.communicate(timeout=HUNG)[1].splitlines()[-1], "dollar: 24 of 24, done")
+        self.assertEqual(first.communicate(timeout=HUNG)[1].splitlines()[-1], f"dollar: {BUILT} of {BUILT}, done")
         self.assertEqual(self.builds(), "")
 
     def test_the_first_lines(self):
         first, second, *more = self.builds().splitlines()
         self.assertEqual(first, "dollar: for a first answer without any proof, in two minutes or more: ./dollar --unproved ..")
-        self.assertRegex(second, "^dollar: the program is missing, and its crates are proved: 0 of 24, some [0-9]+ minutes left$")
+        self.assertRegex(second, f"^dollar: the program is missing, and its crates are proved: 0 of {BUILT}, some [0-9]+ minutes left$")
         self.assertEqual(more, sorted(more, key=lambda line: int(line.split()[1])))
-        self.assertEqual(more[-1], "dollar: 24 of 24, done")
+        self.assertEqual(more[-1], f"dollar: {BUILT} of {BUILT}, done")
 
     def test_no_toolchain(self):
         self.assertEqual(self.fails("'rt', the toolchain of Rattle, is not on the PATH; 'How to get it' in README.md", without="rt"), [])
@@ -246,7 +246,7 @@ class OfBuilds(Test):
         lines = [child.stderr.readline() for _ in range(5)]
         os.killpg(child.pid, signal.SIGINT)
         child.communicate()
-        self.assertEqual([line.split(",")[0] for line in lines[2:]], ["dollar: 0 of 24"] * 3)
+        self.assertEqual([line.split(",")[0] for line in lines[2:]], [f"dollar: 0 of {BUILT}"] * 3)
 
     @each([("0::/a/b\n", {"a/b/memory.max": "max\n", "a/memory.max": "5000000000\n", "a/memory.current": "1500000000\n",
                           "a/memory.stat": "anon 7\ninactive_file 500000000\n"}, 4000000000),
