@@ -1,4 +1,5 @@
 -- The names that the proofs of this crate cite, passed on from one place. Declares nothing.
+pub use Rattle.dg_log.specs.Rolls.{IsBlankRoll, claim_owns, coded_tally, first_halves, roll_owns, unclaimed_halves}
 pub use Rattle.dg_rules.specs.declared.entry.Entry.{Entry}
 pub use Rattle.dg_log.specs.Numbered.{IsLongerPrefix, IsPrefixOf, ReceiptsAreBelow, StandInLog}
 pub use Rattle.dg_log.specs.ReceiptSets.{AreReceiptsNamed, IsReceiptSetEnd, entries_of_receipts}
@@ -14,15 +15,15 @@ pub use Rattle.std.proofs.lemmas.Bool.Decides.{nat_tests}
 pub use Rattle.std.proofs.lemmas.List.{append-nil, length-map}
 pub use Rattle.std.proofs.lemmas.Option.{slice_get-map, slice_get_read, slice_get_within}
 pub use Rattle.std.proofs.raw_atomic.Walks.{leaves, proved}
-pub use Rattle.std.specs.List.{slice_get}
+pub use Rattle.std.specs.List.{slice_get, slice_set}
 pub use Rattle.std.specs.Option.{option_map}
 pub use Rattle.std.specs.Vec.{vec_len}
 pub use Rattle.std.specs.declared.alloc.Global.{Global}
 pub use Rattle.std.specs.declared.option.Option.{Option}
 pub use Rattle.std.specs.declared.option.Option.TheVariants.{Some}
 pub use base.Before.{before}
-pub use base.Fml.{Fml, Lft, Share, fbor, flft, fsep, ftrue}
-pub use base.Logic.{SProp, all, all_e, apply∗, emp, emp∗, ent, sep, snd∗, via, wand}
+pub use base.Fml.{Fml, Lft, Share, fauth, fbor, flft, fobs, fsep, ftrue}
+pub use base.Logic.{SProp, all, all_e, apply∗, emp, emp∗, ent, ex, guard, never_e, sep, snd∗, via, wand}
 pub use base.Shift.{Keyless}
 pub use contract.Monad.{fact, fact_i, fact_mono, fact_use}
 pub use contract.Running.{tables}
@@ -39,7 +40,7 @@ pub use denote.Ref.{mut_Tells, mut_vals, shr_Tells, shr_vals}
 pub use denote.Shadow.{makes_shadow}
 pub use denote.Sharing.{said}
 pub use denote.Signature.{plain, types_at}
-pub use denote.Steps.{heard, nothing}
+pub use denote.Steps.{closes, heard, nothing, opens}
 pub use denote.Struct.Laws.{field_copy}
 pub use denote.Struct.Lending.{Lends, of_Lends}
 pub use denote.Struct.Owning.{shape}
@@ -52,7 +53,8 @@ pub use mir.Val.{Val, vcons, vint, vnil, vptr, vstruct, vunit}
 pub use native.Mathlib.Decide.{ℕ_discrete}
 pub use seplogic.Ra.Ura.{Ura}
 pub use types.ByLocal.{alloc_all, free_all, get, look_at, pass_all, sets}
-pub use types.Kit.{ !, await, by, done, drop, feq_i, fjoin, fsplit, fsplit3, join, keep, later, move, now, qed, raw, rewrite, split, split3, updating, use0, use1, use2, ‵, ◌$◌, ◌∵◌, ◌⊛◌}
+pub use types.Kit.{ !, await, by, check, done, drop, feq_i, fjoin, fjoin3, fsplit, fsplit3, given, join, keep, later, learn, move, now, pick, qed, raw, rewrite, show, some, split, split3, updating, use0, use1, use2, ‵, ◌$◌, ◌∵◌, ◌⊛◌}
 pub use types.Logic.{Logic, lfts, sem}
 pub use types.Part.{agg}
+pub use types.Tokens.{name_agree, name_new, name_set}
 pub use types.Run.{and_then, enter, no_more, of_opd, returns, unit_lit}

@@ -2,5 +2,6 @@
 mod AllNoted
 mod Cells
 mod ReceiptSets
+mod Rolls
 mod Tokens
 pub mod Common

@@ -7,3 +7,4 @@ pub mod Tables
 pub mod Nobody
 pub mod ReceiptSets
 pub mod Witnesses
+pub mod Rolls

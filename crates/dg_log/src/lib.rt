@@ -11,8 +11,8 @@ mod pen;
 mod prefix;
 mod receipt;
 mod receipt_set;
+mod roll;
 mod row;
-mod seating;
 mod witness;
 mod witnesses;
 
@@ -22,5 +22,5 @@ pub use pen::Pen;
 pub use prefix::Prefix;
 pub use receipt::Receipt;
 pub use receipt_set::ReceiptSet;
+pub use roll::{Claim, Roll};
 pub use row::{LogFault, Row};
-pub use seating::Seating;

@@ -3,13 +3,14 @@ ghost use Rattle.std.specs.Prelude.{◌≡◌, ◌<◌, ◌≤◌, List, length,
 ghost use Rattle.std.specs.Vec.{vec_len};
 ghost use Rattle.once_cell.specs.Once.{cell_name};
 ghost use Rattle.dg_rules.specs.declared.game.TheConstants.{MAX_ENTRIES};
+ghost use Rattle.dg_log.specs.Rolls.{IsBlankRoll};
 ghost use Rattle.dg_log.specs.Written.{nothing_written};
 
 use crate::name::Name;
 use crate::pen::Pen;
 use crate::receipt::Receipt;
+use crate::roll::Roll;
 use crate::row::Row;
-use crate::seating::Seating;
 use crate::witness::Witness;
 use crate::witnesses::Witnesses;
 use dg_rules::Entry;
@@ -21,39 +22,42 @@ use std::marker::PhantomData;
 pub struct Log<N: Name> {
     pub(crate) cells: Vec<OnceBox<Entry>>,
     of: PhantomData<N>,
-    ghost named: { map cell_name cells.items ≡ N.cells },
-    ghost capacity: { length N.cells ≡ N.table.capacity },
+    ghost named: { map cell_name cells.items ≡ N.names.cells },
+    ghost capacity: { length N.names.cells ≡ N.table.capacity },
     ghost fits: { vec_len cells ≤ MAX_ENTRIES },
 }
 
 impl<N: Name> Log<N> {
     /// The log of an empty history, and the one pen that writes it. The conditions are that N names the row, and that as many
-    /// entries may be in the history as the row has cells. No seat can be made for it: that takes the leave of `with_seating`.
+    /// entries may be in the history as the row has cells. No seat can be made for it: that takes the roll of `with_roll`.
     pub fn new(row: Row) -> (Log<N>, Pen<N>)
-        requires row { row ≡ N.cells }
-        requires capacity { length row ≡ N.table.capacity }
+        requires row { row ≡ N.names }
+        requires capacity { length row.cells ≡ N.table.capacity }
         ensures { result.1 ≡ nothing_written }
     {
-        let (log, pen, _) = Log::with_seating(row);
+        let (log, pen, _) = Log::with_roll(row);
         (log, pen)
     }
 
-    /// The log and the pen of `new`, and the leave to make the seats of its table. The conditions are those of `new`.
-    pub fn with_seating(row: Row) -> (Log<N>, Pen<N>, Seating<N>)
-        requires row { row ≡ N.cells }
-        requires capacity { length row ≡ N.table.capacity }
-        ensures { result.1 ≡ nothing_written }
+    /// The log and the pen of `new`, and the roll of its table, whose seats made no call yet. The conditions are those of `new`.
+    pub fn with_roll(row: Row) -> (Log<N>, Pen<N>, Roll)
+        requires row { row ≡ N.names }
+        requires capacity { length row.cells ≡ N.table.capacity }
+        ensures pen { result.1 ≡ nothing_written }
+        ensures names { result.2.names ≡ N.names.tallies }
+        ensures blank { IsBlankRoll result.2.names result.2.tallies result.2.claimed }
     {
+        let Row { cells, roll } = row;
         let log = Log {
-            cells: row.cells,
+            cells,
             of: PhantomData,
         };
-        (log, Pen::new(), Seating::new())
+        (log, Pen::new(), roll)
     }
 
     /// How many entries the history may have, at most 65,536.
     pub fn len(&self) -> u32
-        ensures length { result ≡ length N.cells }
+        ensures length { result ≡ length N.names.cells }
         ensures capacity { result ≡ N.table.capacity }
         ensures limit { result ≤ MAX_ENTRIES }
     {
@@ -77,7 +81,7 @@ impl<N: Name> Log<N> {
     /// no memory.
     pub fn read(&self, number: u32) -> Option<(Receipt<N>, &Entry)>
         ensures { MatchOption result ⊤
-            (λ r. (r.0.0 ≡ number) × (r.1.now ≡ r.0.1) × (number < length N.cells)) }
+            (λ r. (r.0.0 ≡ number) × (r.1.now ≡ r.0.1) × (number < length N.names.cells)) }
     {
         let cell = self.cells.get(number as usize)?;
         let mut note = cell.note();

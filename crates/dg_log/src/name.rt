@@ -1,7 +1,7 @@
 //! Names of tables, which exist in the proofs alone.
-ghost use Rattle.std.specs.Prelude.{ℕ, List, []};
+ghost use Rattle.dg_log.specs.Rows.{RowNames};
 ghost use Rattle.dg_log.specs.Tables.{TableData};
-ghost use Rattle.dg_log.specs.Nobody.{no_table_data};
+ghost use Rattle.dg_log.specs.Nobody.{no_row_names, no_table_data};
 
 use std::marker::Brand;
 
@@ -9,15 +9,15 @@ use std::marker::Brand;
 /// may have. All that belongs to a table has its name in its type. So things of two tables can't be mixed up: that does not
 /// compile.
 pub trait Name {
-    /// The names of the cells, in order.
-    ghost cells: { List ℕ };
+    /// The names of the cells and of the seats' tallies, in order.
+    ghost names: { RowNames };
 
     /// The start of the game, how many seats there are, and how many entries there may be: as many as there are cells.
     ghost table: { TableData };
 }
 
 impl Name for Brand {
-    ghost cells = { [] };
+    ghost names = { no_row_names };
 
     ghost table = { no_table_data };
 }

@@ -35,7 +35,7 @@ impl<N: Name> Model for Pen<N> {
     ghost view = { λ p. record { entries = map (λ x. x.2) p.witnesses.items; stuck = p.stuck } };
 
     ghost invariant = { λ p. (p.len ≡ length p.witnesses.items) × (p.len ≤ N.table.capacity) × (N.table.capacity ≤ MAX_ENTRIES) ×
-        (map (λ x. x.1) p.witnesses.items ≡ take (length p.witnesses.items) N.cells) };
+        (map (λ x. x.1) p.witnesses.items ≡ take (length p.witnesses.items) N.names.cells) };
 }
 
 impl<N: Name> Pen<N> {

@@ -26,7 +26,7 @@ impl<N: Name> Model for Prefix<N> {
     ghost view = { λ p. map (λ x. x.2) p.witnesses.items };
 
     ghost invariant = { λ p. (p.len ≡ length p.witnesses.items) ×
-        (map (λ x. x.1) p.witnesses.items ≡ take (length p.witnesses.items) N.cells) };
+        (map (λ x. x.1) p.witnesses.items ≡ take (length p.witnesses.items) N.names.cells) };
 }
 
 impl<N: Name> Prefix<N> {
@@ -44,7 +44,7 @@ impl<N: Name> Prefix<N> {
     /// What a pen has written, each entry in the cell of its number.
     pub(crate) fn of(witnesses: Witnesses<Entry>, len: u32) -> Prefix<N>
         requires { (len ≡ length witnesses.items) ×
-            (map (λ x. x.1) witnesses.items ≡ take (length witnesses.items) N.cells) }
+            (map (λ x. x.1) witnesses.items ≡ take (length witnesses.items) N.names.cells) }
         ensures { result ≡ map (λ x. x.2) witnesses.items }
     {
         Prefix {

@@ -23,13 +23,13 @@ impl<N: Name> Model for Receipt<N> {
 
     ghost view = { λ r. (r.number, r.witness.value) };
 
-    ghost invariant = { λ r. slice_get N.cells r.number ≡ Some r.witness.cell };
+    ghost invariant = { λ r. slice_get N.names.cells r.number ≡ Some r.witness.cell };
 }
 
 impl<N: Name> Receipt<N> {
     /// A receipt for the entry that the cell of this number is known to hold.
     pub(crate) fn of(number: u32, witness: Witness<Entry>) -> Receipt<N>
-        requires { slice_get N.cells number ≡ Some witness.cell }
+        requires { slice_get N.names.cells number ≡ Some witness.cell }
         ensures { result ≡ (number, witness.value) }
     {
         Receipt {
@@ -42,7 +42,7 @@ impl<N: Name> Receipt<N> {
     /// The entry's number in the history, from 0.
     pub fn number(&self) -> u32
         ensures number { result ≡ self.now.0 }
-        ensures cell { result < length N.cells }
+        ensures cell { result < length N.names.cells }
     {
         self.number
     }

@@ -24,7 +24,7 @@ impl<N: Name> Model for ReceiptSet<N> {
 
     ghost view = { λ d. entries_of_receipts d.witnesses.items };
 
-    ghost invariant = { λ d. AreReceiptsNamed N.cells d.witnesses.items
+    ghost invariant = { λ d. AreReceiptsNamed N.names.cells d.witnesses.items
         × IsReceiptSetEnd d.end (entries_of_receipts d.witnesses.items) };
 }
 
@@ -55,7 +55,7 @@ impl<N: Name> ReceiptSet<N> {
     /// Whether all numbers are less than the given one. They are if that is the number of cells, or greater.
     pub fn below(&self, count: u32) -> bool
         ensures below { IsTrue result ↔ ReceiptsAreBelow count self.now }
-        ensures cells { length N.cells ≤ count → IsTrue result }
+        ensures cells { length N.names.cells ≤ count → IsTrue result }
     {
         self.end <= u64::from(count)
     }

@@ -5,6 +5,7 @@ ghost use Rattle.once_cell.specs.Once.{cell_name};
 ghost use Rattle.dg_log.specs.Rows.{IsLogCapacity, RefusesRowOfCells};
 ghost use Rattle.dg_rules.specs.declared.game.TheConstants.{MAX_ENTRIES};
 
+use crate::roll::Roll;
 use dg_rules::{Entry, MAX_ENTRIES};
 use once_cell::race::OnceBox;
 use std::alloc::{AllocError, Global};
@@ -22,18 +23,28 @@ pub enum LogFault {
     OutOfMemory,
 }
 
-/// Empty cells, one for each entry that the history of a table may have. A contract sees the cells' names.
+/// Empty cells, one for each entry that the history of a table may have, and the roll of its seats, who made no call yet. A
+/// contract sees the names of the cells and of the tallies.
 #[derive(Drop)]
 pub struct Row {
     pub(crate) cells: Vec<OnceBox<Entry>>,
+    pub(crate) roll: Roll,
 }
 
 impl Model for Row {
-    ghost Value = { List ℕ };
+    ghost use Rattle.std.specs.Prelude.{◌≤◌, map};
+    ghost use Rattle.std.specs.Vec.{vec_len};
+    ghost use Rattle.once_cell.specs.Once.{cell_name};
+    ghost use Rattle.dg_log.specs.Rolls.{IsBlankRoll};
+    ghost use Rattle.dg_log.specs.Rows.{RowNames};
+    ghost use Rattle.dg_rules.specs.declared.game.TheConstants.{MAX_ENTRIES};
 
-    ghost view = { λ r. map cell_name r.cells.items };
+    ghost Value = { RowNames };
 
-    ghost invariant = { λ r. vec_len r.cells ≤ MAX_ENTRIES };
+    ghost view = { λ r. record { cells = map cell_name r.cells.items; tallies = r.roll.names } };
+
+    ghost invariant = { λ r. (vec_len r.cells ≤ MAX_ENTRIES) ×
+        IsBlankRoll r.roll.names r.roll.tallies r.roll.claimed };
 }
 
 impl Row {
@@ -41,7 +52,7 @@ impl Row {
     ///
     /// Refused with `Capacity` if the number is another, and with `OutOfMemory`.
     pub fn new(alloc: Global, capacity: u32) -> Result<Row, LogFault>
-        ensures { MatchResult result (λ r. (length r ≡ capacity) × IsLogCapacity capacity)
+        ensures { MatchResult result (λ r. (length r.cells ≡ capacity) × IsLogCapacity capacity)
             (RefusesRowOfCells capacity) }
     {
         let count = capacity as usize;
@@ -49,7 +60,10 @@ impl Row {
             return Err(LogFault::Capacity);
         }
         match Row::empty(alloc, count) {
-            Ok(cells) => Ok(Row { cells }),
+            Ok(cells) => Ok(Row {
+                cells,
+                roll: Roll::new(),
+            }),
             Err(AllocError) => Err(LogFault::OutOfMemory),
         }
     }
@@ -67,7 +81,7 @@ impl Row {
 
     /// How many cells there are.
     pub fn len(&self) -> u32
-        ensures { result ≡ length self.now }
+        ensures { result ≡ length self.now.cells }
     {
         self.cells.len() as u32
     }

@@ -108,8 +108,8 @@ fn opened<N: Name, R: Threads + Wait + Abort + Print>(
     count: u8,
     test: TableTest,
 ) -> Result<Outcome, Fail>
-    requires row { row ≡ N.cells }
-    requires table { N.table ≡ table_data_of file.now.start count (length row) }
+    requires row { row ≡ N.names }
+    requires table { N.table ≡ table_data_of file.now.start count (length row.cells) }
 {
     if let TableTest::Pen = test {
         return writes::<N, R>(rt, alloc, row);
@@ -158,8 +158,8 @@ fn shown<N: Name, R: Threads + Wait + Abort + Print>(
 
 // A pen writes a claim that is won into the first cell of the row.
 fn writes<N: Name, R: Abort + Print>(rt: &R, alloc: Global, row: Row) -> Result<Outcome, Fail>
-    requires row { row ≡ N.cells }
-    requires capacity { length row ≡ N.table.capacity }
+    requires row { row ≡ N.names }
+    requires capacity { length row.cells ≡ N.table.capacity }
 {
     let (log, mut pen) = Log::<N>::new(row);
     let claim = Entry {

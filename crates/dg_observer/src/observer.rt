@@ -39,7 +39,7 @@ impl<N: Name, W: Watch, F> Model for Observer<N, W, F> {
 
     ghost invariant = { λ o. Folds W.begins W.goes_on (map (λ r. r.1) o.receipts.items) o.state
         × AreObservedInOrder o.receipts.items
-        × (length o.receipts.items ≤ length N.cells) × (length o.receipts.items ≤ MAX_ENTRIES) };
+        × (length o.receipts.items ≤ length N.names.cells) × (length o.receipts.items ≤ MAX_ENTRIES) };
 }
 
 impl<N, W, F> Observer<N, W, F>
@@ -75,7 +75,7 @@ where
     /// How many entries were read.
     pub fn count(&self) -> u32
         ensures count { result ≡ length self.now.entries }
-        ensures cells { result ≤ length N.cells }
+        ensures cells { result ≤ length N.names.cells }
     {
         self.receipts.len() as u32
     }
@@ -116,8 +116,8 @@ where
     fn fold(&mut self, receipt: Receipt<N>, entry: &Entry) -> Result<(), AllocError>
         requires number { receipt.0 ≡ length self.old.entries }
         requires entry { receipt.1 ≡ entry.now }
-        requires cell { length self.old.entries < length N.cells }
-        requires few { length N.cells ≤ MAX_ENTRIES }
+        requires cell { length self.old.entries < length N.names.cells }
+        requires few { length N.names.cells ≤ MAX_ENTRIES }
         requires asked { IsAskedInEveryFold (F.pre self.old.step) }
         requires keeps { GoesOn (F.post self.old.step) W.goes_on }
         ensures step { self.new.step ≡ self.old.step }

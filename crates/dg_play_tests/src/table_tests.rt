@@ -56,8 +56,8 @@ fn opened<N: Name + Send + Sync, R: Threads + Wait + Abort + Sync>(
     count: u8,
     test: TableTest<'_>,
 ) -> Result<(), Fail>
-    requires row { row ≡ N.cells }
-    requires table { N.table ≡ table_data_of start.now count (length row) }
+    requires row { row ≡ N.names }
+    requires table { N.table ≡ table_data_of start.now count (length row.cells) }
 {
     let (table, seats) = Table::<N>::open(alloc, row, start, count)
         .ok()

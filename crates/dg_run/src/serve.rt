@@ -110,17 +110,17 @@ where
     R: AllocGlobal + Threads + Wait,
     I: Read,
     O: Write,
-    requires row { row ≡ N.cells }
-    requires table { N.table ≡ table_data_of table.now.start seats (length row) }
+    requires row { row ≡ N.names }
+    requires table { N.table ≡ table_data_of table.now.start seats (length row.cells) }
     requires some { TableMayHaveSeats seats }
     requires workers { MayHaveRankWorkers workers }
     ensures done { OnOk result ((count : ℕ)
-        × IsServedInRun (session_setup how (table_data_of table.now.start seats (length row)) table.now.names workers)
+        × IsServedInRun (session_setup how (table_data_of table.now.start seats (length row.cells)) table.now.names workers)
         (passage input.old.remaining input.new.remaining) (passage output.old.contents output.new.contents) (Ok count)) }
     ensures read { IfErr result (λ fault. IsRunInput fault → input.new.has_failed ≡ true) }
     ensures write { IfErr result (λ fault. IsRunOutput fault → output.new.has_failed ≡ true) }
     ensures early { IfErr result (λ fault.
-        RunEndsEarly (session_setup how (table_data_of table.now.start seats (length row)) table.now.names workers)
+        RunEndsEarly (session_setup how (table_data_of table.now.start seats (length row.cells)) table.now.names workers)
         (passage input.old.remaining input.new.remaining) fault (passage output.old.contents output.new.contents)) }
 {
     let alloc = rt.alloc();

@@ -62,8 +62,8 @@ fn party_of<N: Name + Send + Sync, R: Threads + Wait + Sync, G: Gate>(
     scripts: &[Vec<u8>],
     gate: &G,
 ) -> Result<Played, PartyRefusal>
-    requires row { row ≡ N.cells }
-    requires table { N.table ≡ table_data_of start.now (length scripts.now) (length row) }
+    requires row { row ≡ N.names }
+    requires table { N.table ≡ table_data_of start.now (length scripts.now) (length row.cells) }
     requires scripts { TableMayHaveSeats (length scripts.now) }
     requires names { length names.now ≡ start.now.graph.size }
     ensures played { IfOk result

@@ -27,14 +27,14 @@ pub use Rattle.dg_log.specs.Tables.{TableData}
 pub use Rattle.dg_log.specs.Written.{Written}
 pub use Rattle.dg_log.specs.declared.name.Name.{Ghosts}
 pub use Rattle.dg_table.specs.Answered.{IsAnsweredAtTableAfter, IsEnteredAfter, entering_at_table}
-pub use Rattle.dg_table.specs.Closing.{AllSeatsHeld, AreAuditTotals, TableHasSeat, SeatsHaveMetHistory, IsCloseRefused, IsTableComplete}
+pub use Rattle.dg_table.specs.Closing.{AllSeatsAttested, AllSeatsHeld, AttestedTablesAreOne, AreAuditTotals, TableHasSeat, SeatsHaveMetHistory, IsCloseRefused, IsTableComplete}
 pub use Rattle.dg_table.specs.Faults.{RefusesSettlingAtTable, RefusesSeatAtTable}
 pub use Rattle.dg_table.specs.Histories.{IsHistoryOfTable}
-pub use Rattle.dg_table.specs.Lock.{AreSeatCounts, IsLookKeptBySeat, IsReady, IsSeatState, IsUnderLock}
+pub use Rattle.dg_table.specs.Lock.{AreSeatCounts, IsLookKeptBySeat, IsReady, IsRollAfter, IsRowShown, IsRowSigned, IsSeatState, IsUnderLock, row_of_seat}
 pub use Rattle.dg_table.specs.Looks.{KeptLookHasVertices, IsLastLookOfSeat, IsLookOfSeat, SeatKeepsLastLook, asks_for_look, is_look_of_seat, last_look_of_seat}
 pub use Rattle.dg_table.specs.Opened.{AreFreshSeats}
 pub use Rattle.dg_table.specs.SeatLaws.{SeatEntriesStand, SeatHasNoEntries, OneSeatHasAll, OtherSeatsEntry, OwnSeatsEntry}
-pub use Rattle.dg_table.specs.Seats.{AreOfTableSeats, HoldsSeat, IsAdmissibleSeat, SeatMeetsHistory, SeatView, entries_of_seat}
+pub use Rattle.dg_table.specs.Seats.{AreOfTableSeats, HoldsSeat, IsAdmissibleSeat, IsSeatAttested, SeatMeetsHistory, SeatView, entries_of_seat}
 pub use Rattle.dg_table.specs.Settled.{IsSettledForSeat, IsNotStaleAtTableAfter, IsSettledAtTableAfter, IsStaleAtTableAfter}
 pub use Rattle.dg_table.specs.Turns.{IsAskedToEnter, asking_at_table}
 pub use Rattle.dg_table.specs.declared.audit.Audit.{Audit}

@@ -6,5 +6,7 @@ pub mod Turning
 pub mod Totals
 pub mod Findings
 pub mod Placed
+pub mod Rolls
+pub mod Attested
 pub mod Complete
 pub mod Common

@@ -2,6 +2,10 @@
 --   TableHasSeat xs s            == the seat s is among the seats xs
 --   IsTableComplete n xs         == each of the seats 1 to n is among the seats xs
 --   AllSeatsHeld H xs            == the history H holds what each of the seats xs knows
+--   AllSeatsAttested H xs        == the history H begins with what each of the seats xs found at its last call, and its entries of
+--                                   the seat are just those of the seat's calls
+--   IsTableAttested table xs H   == H is a history of the table, and so it is with each of the seats xs
+--   AttestedTablesAreOne         == if all of a table's seats are among xs, it is so with one history at most
 --   IsClosed table xs H          == H is a history of the table, and holds what each of the seats xs knows,
 --                                   among which are all of the table's
 --   AreAuditTotals table xs a    == what the audit a says of its history is so: the number of entries, the
@@ -19,7 +23,7 @@ use Rattle.std.specs.Prelude.{◌≡◌, ℕ, ◌+◌, ◌<◌, ◌≤◌, List,
 use Rattle.std.specs.List.{slice_index}
 use Rattle.dg_table.specs.Common.{ShowsPosition, position_after, gifts_in, Entry, MAX_SEATS, Ghosts, TableData}
 use Rattle.dg_table.specs.Histories.{IsHistoryOfTable}
-use Rattle.dg_table.specs.Seats.{SeatView, HoldsSeat, IsAdmissibleSeat, SeatMeetsHistory}
+use Rattle.dg_table.specs.Seats.{SeatView, HoldsSeat, IsAdmissibleSeat, IsSeatAttested, SeatMeetsHistory}
 use Rattle.dg_table.specs.declared.audit.Audit.{Audit}
 
 abbrev pub TableHasSeat : List SeatView → ℕ → Type 0
@@ -30,6 +34,17 @@ IsTableComplete n xs = (s : ℕ) → 1 ≤ s → s ≤ n → TableHasSeat xs s
 
 abbrev pub AllSeatsHeld : List Entry → List SeatView → Type 0
 AllSeatsHeld H xs = (i : ℕ) (x : SeatView) → slice_get xs i ≡ Some x → HoldsSeat H x
+
+abbrev pub AllSeatsAttested : List Entry → List SeatView → Type 0
+AllSeatsAttested H xs = (i : ℕ) (x : SeatView) → slice_get xs i ≡ Some x → IsSeatAttested H x
+
+pub record IsTableAttested (table : TableData) (xs : List SeatView) (H : List Entry) : Type 0 where
+  pub history : IsHistoryOfTable table H
+  pub attested : AllSeatsAttested H xs
+
+abbrev pub AttestedTablesAreOne : Type 0
+AttestedTablesAreOne = (table : TableData) (xs : List SeatView) (H K : List Entry) → IsTableComplete table.seats xs →
+    IsTableAttested table xs H → IsTableAttested table xs K → H ≡ K
 
 pub record IsClosed (table : TableData) (xs : List SeatView) (H : List Entry) : Type 0 where
   pub history : IsHistoryOfTable table H

@@ -11,6 +11,8 @@
 --   IsAdmissibleSeat H x   == H has as many entries as the history that the seat x has met, or more, an entry
 --                             of each number that it was told of, and as many of the seat's entries as it
 --                             keeps
+--   IsSeatAttested H x     == the history H begins with the one that the seat x found at its last call, and the seat's
+--                             entries in H are just those of its own calls
 --   Keeps x y              == the seat y is the seat x and knows the same, but that it may have met a longer
 --                             history
 --   SeatMeetsHistory H x y == the seat y is the seat x as it was, but that it has met the history H: of H and
@@ -44,6 +46,10 @@ pub record IsAdmissibleSeat (H : List Entry) (x : SeatView) : Type 0 where
   pub met : length x.met ≤ length H
   pub told : ReceiptsAreBelow (length H) x.told
   pub count : length x.mine ≡ length (entries_of_seat x.number H)
+
+pub record IsSeatAttested (H : List Entry) (x : SeatView) : Type 0 where
+  pub prefix : IsPrefixOf x.prefix H
+  pub mine : entries_of_seat x.number H ≡ x.mine
 
 pub record Keeps (x y : SeatView) : Type 0 where
   pub number : y.number ≡ x.number

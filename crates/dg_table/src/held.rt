@@ -8,15 +8,15 @@ ghost use Rattle.dg_rules.specs.Requests.{asked};
 ghost use Rattle.dg_rules.specs.State.{HistoryLeadsTo};
 ghost use Rattle.dg_log.specs.Written.{nothing_written, with_entry, written_after_refusal};
 ghost use Rattle.dg_table.specs.Answered.{entering_at_table, IsAnsweredAtTableAfter};
-ghost use Rattle.dg_table.specs.Closing.{TableHasSeat, IsTableComplete, AllSeatsHeld, AreAuditTotals, IsMissingSeat, HasInadmissibleSeat, RefusesClose, SeatsHaveMetHistory};
+ghost use Rattle.dg_table.specs.Closing.{AllSeatsAttested, TableHasSeat, IsTableComplete, AllSeatsHeld, AreAuditTotals, IsMissingSeat, HasInadmissibleSeat, RefusesClose, SeatsHaveMetHistory};
 ghost use Rattle.dg_table.specs.Faults.{RefusesSeatAtTable, RefusesSettlingAtTable};
 ghost use Rattle.dg_table.specs.declared.fault.Fault.TheVariants.{Log as LogFault};
 ghost use Rattle.dg_rules.specs.declared.entry.Entry.{Entry as EntryData};
 ghost use Rattle.dg_table.specs.Histories.{IsHistoryOfTable};
-ghost use Rattle.dg_table.specs.Lock.{IsReady};
+ghost use Rattle.dg_table.specs.Lock.{IsReady, IsRollAfter};
 ghost use Rattle.dg_table.specs.Looks.{IsLookOfSeat};
 ghost use Rattle.dg_table.specs.Opened.{TableMayHaveSeats};
-ghost use Rattle.dg_table.specs.Seats.{SeatView, HoldsSeat, IsAdmissibleSeat, SeatMeetsHistory};
+ghost use Rattle.dg_table.specs.Seats.{SeatView, HoldsSeat, IsAdmissibleSeat, IsSeatAttested, SeatMeetsHistory};
 ghost use Rattle.dg_table.specs.Settled.{IsSettledAtTableAfter, IsStaleAtTableAfter, IsNotStaleAtTableAfter};
 ghost use Rattle.dg_table.specs.Turns.{MayBeAsked, asking_at_table, IsTurnAfter, IsAskedToEnter};
 
@@ -25,12 +25,12 @@ use crate::fault::Fault;
 use crate::seat::Seat;
 use dg_chips::{Divisor, Move, Start};
 use dg_graph::Graph;
-use dg_log::{Log, Name, Pen, Receipt};
+use dg_log::{Log, Name, Pen, Receipt, Roll};
 use dg_rules::{Entry, Finding, Game, LookData, Plain, Question};
 use std::marker::Model;
 
-/// The game of the table N, the pen that writes its history, and how many entries each seat has. A contract sees what
-/// the pen has written; the rest is a function of it. No call of it takes memory: a step uses the box and the space that
+/// The game of the table N, the pen that writes its history, how many entries each seat has, and the roll, which shows that
+/// each seat knows of them. A contract sees what the pen has written; the rest is a function of it. No call of it takes memory: a step uses the box and the space that
 /// `Seat::room` made.
 #[derive(Drop)]
 pub struct Held<N: Name> {
@@ -38,27 +38,30 @@ pub struct Held<N: Name> {
     pen: Pen<N>,
     counts: [u64; 64],
     seats: u8,
+    roll: Roll,
 }
 
 impl<N: Name> Model for Held<N> {
     ghost use Rattle.std.specs.Prelude.{◌≡◌};
     ghost use Rattle.dg_log.specs.Written.{Written};
-    ghost use Rattle.dg_table.specs.Lock.{IsUnderLock};
+    ghost use Rattle.dg_table.specs.Lock.{IsUnderLock, IsRollAfter};
 
     ghost Value = { Written };
 
     ghost view = { λ h. h.pen };
 
-    ghost invariant = { λ h. IsUnderLock N.table.start N.table.seats h.pen.entries h.game h.counts × (h.seats ≡ N.table.seats) };
+    ghost invariant = { λ h. IsUnderLock N.table.start N.table.seats h.pen.entries h.game h.counts × (h.seats ≡ N.table.seats) ×
+        (h.roll.name ≡ N.names.roll) × IsRollAfter N.table.seats h.pen.entries h.roll.rows };
 }
 
 impl<N: Name> Held<N> {
     /// What the lock of a table holds before its first entry.
-    pub(crate) fn new(pen: Pen<N>, start: &Start, seats: u8) -> Held<N>
+    pub(crate) fn new(pen: Pen<N>, start: &Start, seats: u8, roll: Roll) -> Held<N>
         requires pen { pen ≡ nothing_written }
         requires start { start.now ≡ N.table.start }
         requires seats { seats ≡ N.table.seats }
         requires count { TableMayHaveSeats seats }
+        requires roll { (roll.name ≡ N.names.roll) × IsRollAfter seats [] roll.rows }
         ensures { result ≡ nothing_written }
     {
         Held {
@@ -66,6 +69,7 @@ impl<N: Name> Held<N> {
             pen,
             counts: [0; 64],
             seats,
+            roll,
         }
     }
 
@@ -84,6 +88,28 @@ impl<N: Name> Held<N> {
         self.pen.began(seat.met());
         self.pen.holds(seat.told_to_seat());
         true
+    }
+
+    /// Shows that the history begins with the one that the seat found at its last call, and that the seat's entries in it are
+    /// just those of its own calls. It changes nothing.
+    pub fn attest(&mut self, seat: &mut Seat<N>)
+        ensures same { (self.new ≡ self.old) × (seat.new ≡ seat.old) }
+        ensures attested { IsSeatAttested self.old.entries seat.old }
+    {
+        seat.show_claim(&mut self.roll);
+        self.pen.began(seat.prefix());
+    }
+
+    /// Shows it of each of these seats.
+    pub fn attest_all(&mut self, seats: &mut [Seat<N>])
+        ensures same { (self.new ≡ self.old) × (seats.new ≡ seats.old) }
+        ensures history { IsHistoryOfTable N.table self.old.entries }
+        ensures attested { AllSeatsAttested self.old.entries seats.old }
+    {
+        let _len = self.pen.len();
+        for seat in seats.iter_mut() {
+            self.attest(seat);
+        }
     }
 
     /// Tells the seat of the history as it stands.
@@ -341,7 +367,13 @@ impl<N: Name> Held<N> {
         };
         let place = usize::from(seat.place());
         let entry = log.entry(&receipt);
-        seat.take_receipt_at_table(&self.game, &self.pen.prefix(), entry, &receipt);
+        seat.take_receipt_at_table(
+            &self.game,
+            &self.pen.prefix(),
+            entry,
+            &receipt,
+            &mut self.roll,
+        );
         self.game.follow_entry(entry);
         self.counts[place] += 1;
         Ok(receipt)
@@ -391,6 +423,7 @@ impl<N: Name> Held<N> {
             pen,
             counts,
             seats: _,
+            roll: _,
         } = self;
         Audit {
             entries: game.entries(),

@@ -1,4 +1,5 @@
 //! The laws of seats, and the value that the lock of a table holds.
+ghost use Rattle.dg_table.specs.Closing.{AttestedTablesAreOne};
 ghost use Rattle.dg_table.specs.Looks.{SeatKeepsLastLook};
 ghost use Rattle.dg_table.specs.SeatLaws.{SeatHasNoEntries, OwnSeatsEntry, OtherSeatsEntry, SeatEntriesStand, OneSeatHasAll};
 
@@ -18,4 +19,10 @@ pub fn law_of_seats()
 /// Which look of a seat is its last: the one after which it took no other.
 pub fn law_of_kept_looks()
     ensures { SeatKeepsLastLook }
+{}
+
+/// All seats of a table together determine its history: so what is attested of them before and after a call that is refused is
+/// one history.
+pub fn law_of_attested_tables()
+    ensures { AttestedTablesAreOne }
 {}

@@ -7,12 +7,12 @@ ghost use Rattle.dg_rules.specs.declared.entry.Entry.{Entry as EntryData};
 ghost use Rattle.std.specs.Vec.{vec_capacity, vec_len};
 ghost use Rattle.dg_table.specs.Faults.{TableStandsFull};
 ghost use Rattle.dg_table.specs.Histories.{SeatHasPrefix, IsHistoryOfTable};
-ghost use Rattle.dg_table.specs.Lock.{IsLookKeptBySeat};
+ghost use Rattle.dg_table.specs.Lock.{IsLookKeptBySeat, IsRollAfter, IsRowShown, IsRowSigned};
 ghost use Rattle.dg_table.specs.Looks.{KeptLookHasVertices, IsLastLookOfSeat};
 ghost use Rattle.dg_table.specs.Opened.{TableMayHaveSeats, AreFreshSeats};
 ghost use Rattle.dg_table.specs.Seats.{HoldsSeat, Keeps, SeatMeetsHistory};
 
-use dg_log::{Log, Name, Prefix, Receipt, ReceiptSet, Seating};
+use dg_log::{Claim, Log, Name, Prefix, Receipt, ReceiptSet, Roll};
 use dg_rules::{BLANK, Entry, Game, LookData, Reply};
 use std::alloc::{AllocError, Global};
 use std::marker::{Model, PhantomData};
@@ -22,7 +22,6 @@ use std::marker::{Model, PhantomData};
 /// histories, whether it has space for one more call, and whether it has space to be told of one more entry.
 #[derive(Drop)]
 pub struct Seat<N: Name> {
-    // Private: so a seat is made here alone, with the leave to make it, and what it knows only grows.
     number: u8,
     mine: Vec<Receipt<N>>,
     told: Vec<Receipt<N>>,
@@ -30,6 +29,8 @@ pub struct Seat<N: Name> {
     met: Prefix<N>,
     told_to_seat: ReceiptSet<N>,
     look: Option<LookData>,
+    // What the table's lock counts of the seat too: no call that it does not know is counted, and none that it knows is not.
+    claim: Claim,
     of: PhantomData<N>,
 }
 
@@ -38,38 +39,44 @@ impl<N: Name> Model for Seat<N> {
 
     ghost Value = { SeatView };
 
-    ghost use Rattle.dg_table.specs.Lock.{seat_view, IsSeatState};
+    ghost use Rattle.dg_table.specs.Lock.{seat_view, IsSeatState, IsClaimOfSeat};
 
     ghost view = { seat_view };
 
-    ghost invariant = { λ x. IsSeatState N.table (seat_view x) x.told_to_seat x.look };
+    ghost invariant = { λ x. IsSeatState N.table (seat_view x) x.told_to_seat x.look ×
+        IsClaimOfSeat N.names.roll (seat_view x) x.claim.name x.claim.place x.claim.row };
 }
 
 impl<N: Name> Seat<N> {
-    /// The seats 1 to `count`, which know of no entry; the leave to make them is used up. The conditions are that they are those
-    /// of the table, and that there is space for them, which has none.
+    /// The seats 1 to `count`, which know of no entry, each with a claim to its row of the roll. The conditions are that they are
+    /// those of the table, that there is space for them, which has none, and that the roll is the table's, and has no row.
     pub(crate) fn all_seats(
         alloc: Global,
         space: Vec<Seat<N>>,
         count: u8,
-        _seating: Seating<N>,
-    ) -> Vec<Seat<N>>
+        roll: Roll,
+    ) -> (Vec<Seat<N>>, Roll)
         requires count { count ≡ N.table.seats }
         requires seats { TableMayHaveSeats count }
         requires empty { space.items ≡ [] }
         requires room { count ≤ vec_capacity space }
-        ensures { AreFreshSeats count result.items }
+        requires roll { (roll.name ≡ N.names.roll) × (roll.rows ≡ []) }
+        ensures seats { AreFreshSeats count result.0.items }
+        ensures roll { (result.1.name ≡ N.names.roll) × IsRollAfter count [] result.1.rows }
     {
         let mut seats = space;
+        let mut enrolled = roll;
         for i in 0..count {
-            seats.push(Seat::new(alloc, i + 1)).unwrap();
+            let claim = enrolled.enroll();
+            seats.push(Seat::new(alloc, i + 1, claim)).unwrap();
         }
-        seats
+        (seats, enrolled)
     }
 
-    /// The seat with this number, which knows of no entry.
-    fn new(alloc: Global, number: u8) -> Seat<N>
-        requires { (1 ≤ number) × (number ≤ N.table.seats) }
+    /// The seat with this number, which knows of no entry. The condition is that the claim is to its row.
+    fn new(alloc: Global, number: u8, claim: Claim) -> Seat<N>
+        requires number { (1 ≤ number) × (number ≤ N.table.seats) }
+        requires claim { (claim.name ≡ N.names.roll) × (claim.place + 1 ≡ number) × (claim.row ≡ (0, 0)) }
         ensures number { result.number ≡ number }
         ensures mine { result.mine ≡ [] }
         ensures told { result.told ≡ [] }
@@ -84,6 +91,7 @@ impl<N: Name> Seat<N> {
             met: Prefix::new(),
             told_to_seat: ReceiptSet::new(),
             look: None,
+            claim,
             of: PhantomData,
         }
     }
@@ -217,16 +225,18 @@ impl<N: Name> Seat<N> {
     }
 
     /// Gives the seat the receipt of its next call, whose entry is the last of a history, and keeps the look that it takes. The
-    /// conditions are that the seat has the space, that the history is one of the table, which before the entry holds what
-    /// the seat knows, and that the game stands there.
+    /// conditions are that the seat has the space, that the roll is the table's, that the history is one of the table, which
+    /// before the entry holds what the seat knows, and that the game stands there.
     pub(crate) fn take_receipt_at_table(
         &mut self,
         game: &Game,
         history: &Prefix<N>,
         entry: &Entry,
         receipt: &Receipt<N>,
+        roll: &mut Roll,
     )
         requires space { self.old.space ≡ true }
+        requires roll { roll.old.name ≡ N.names.roll }
         requires found { IsHistoryOfTable N.table history.now }
         requires next { (H : List EntryData) × (history.now ≡ H ++ entry.now ∷ []) ×
             (receipt.now ≡ (length H, entry.now)) × (entry.now.seat ≡ self.old.number) × HoldsSeat H self.old ×
@@ -237,11 +247,24 @@ impl<N: Name> Seat<N> {
         ensures prefix { self.new.prefix ≡ history.now }
         ensures met { self.new.met ≡ history.now }
         ensures hears { self.new.hears ≡ true }
+        ensures roll { roll.new.name ≡ roll.old.name }
+        ensures signed { IsRowSigned self.old self.new roll.old.rows roll.new.rows }
     {
+        roll.sign(&mut self.claim, history.len(), 1);
         keep_look_at_table(&mut self.look, game, entry);
         self.prefix = history.copy();
         self.met = history.copy();
         self.mine.push(receipt.again()).unwrap();
+    }
+
+    /// Shows that the roll has the seat's row. It changes nothing. The condition is that the roll is the table's.
+    pub(crate) fn show_claim(&mut self, roll: &mut Roll)
+        requires { roll.old.name ≡ N.names.roll }
+        ensures seat { self.new ≡ self.old }
+        ensures roll { (roll.new.name ≡ roll.old.name) × (roll.new.rows ≡ roll.old.rows) }
+        ensures shown { IsRowShown self.old roll.old.rows }
+    {
+        roll.sign(&mut self.claim, self.prefix.len(), 0);
     }
 
     /// Makes space for one more call, and a box for its entry; what is in the box means nothing.

@@ -1,10 +1,11 @@
 //! The table that seats call.
-ghost use Rattle.std.specs.Prelude.{◌≡◌, ◌≢◌, ◌<◌, length, true, IfOk, IfErr, MatchOption, MatchResult};
+ghost use Rattle.std.specs.Prelude.{◌≡◌, ◌≢◌, ◌<◌, List, length, true, IfOk, IfErr, MatchOption, MatchResult};
 ghost use Rattle.dg_rules.specs.Look.{IsRightFinding};
 ghost use Rattle.dg_rules.specs.Requests.{asked};
+ghost use Rattle.dg_rules.specs.declared.entry.Entry.{Entry as EntryData};
 ghost use Rattle.dg_log.specs.Tables.{table_data_of};
 ghost use Rattle.dg_table.specs.Answered.{IsAnswered};
-ghost use Rattle.dg_table.specs.Closing.{IsClosed, AreAuditTotals, IsCloseRefused};
+ghost use Rattle.dg_table.specs.Closing.{IsClosed, IsTableAttested, AreAuditTotals, IsCloseRefused};
 ghost use Rattle.dg_table.specs.Faults.{RefusesCallAtTable};
 ghost use Rattle.dg_table.specs.Looks.{IsLookOfSeat};
 ghost use Rattle.dg_table.specs.Opened.{AreFreshSeats, RefusesOpening};
@@ -67,8 +68,8 @@ impl<N: Name> Table<N> {
         start: &Start,
         seats: u8,
     ) -> Result<(Table<N>, Vec<Seat<N>>), (Row, TableFault)>
-        requires row { row ≡ N.cells }
-        requires table { N.table ≡ table_data_of start.now seats (length row) }
+        requires row { row ≡ N.names }
+        requires table { N.table ≡ table_data_of start.now seats (length row.cells) }
         ensures { MatchResult result
             (λ r. AreFreshSeats seats r.1.items)
             (λ e. (e.0 ≡ row) × RefusesOpening seats e.1) }
@@ -79,9 +80,9 @@ impl<N: Name> Table<N> {
         let Ok(space) = Vec::with_capacity(alloc, usize::from(seats)) else {
             return Err((row, TableFault::OutOfMemory));
         };
-        let (log, pen, seating) = Log::with_seating(row);
-        let all = Seat::all_seats(alloc, space, seats, seating);
-        let held = Mutex::new(Held::new(pen, start, seats));
+        let (log, pen, roll) = Log::with_roll(row);
+        let (all, roll) = Seat::all_seats(alloc, space, seats, roll);
+        let held = Mutex::new(Held::new(pen, start, seats, roll));
         let table = Table {
             held,
             log,
@@ -227,6 +228,16 @@ impl<N: Name> Table<N> {
     /// The cells of the history, which anyone may read at any time.
     pub fn log(&self) -> &Log<N> {
         &self.log
+    }
+
+    /// Shows that the one history has just the calls of these seats, as far as they are the seats of its entries, each at its
+    /// number; at any time, and with no refusal. So if they are all the table's, no entry was made but those that they know. It
+    /// waits for the lock.
+    pub fn attest(&self, rt: &impl Wait, seats: &mut [Seat<N>])
+        ensures same { seats.new ≡ seats.old }
+        ensures attested { (H : List EntryData) × IsTableAttested N.table seats.old H }
+    {
+        self.held.lock(rt).attest_all(seats)
     }
 
     /// Ends the game, if all its seats are handed in: each seat's calls are just its entries of the one history. It takes

@@ -20,8 +20,8 @@ fn rows_have_limits(rt: HostRuntime) -> Result<(), Fail> {
 
 // A pen writes a claim into the first of two cells.
 pub(crate) fn writes<N: Name>(rt: &impl Abort, alloc: Global, row: Row) -> Result<(), Fail>
-    requires row { row ≡ N.cells }
-    requires capacity { length row ≡ N.table.capacity }
+    requires row { row ≡ N.names }
+    requires capacity { length row.cells ≡ N.table.capacity }
 {
     let cells = row.len();
     let (log, mut pen): (Log<N>, Pen<N>) = Log::<N>::new(row);

@@ -105,8 +105,8 @@ fn opened<N: Name + Send + Sync, R: Threads + Wait + Clock + Abort + Sync>(
     count: u8,
     test: TableTest,
 ) -> Result<(), Fail>
-    requires row { row ≡ N.cells }
-    requires table { N.table ≡ table_data_of start.now count (length row) }
+    requires row { row ≡ N.names }
+    requires table { N.table ≡ table_data_of start.now count (length row.cells) }
 {
     if let TableTest::Pen = test {
         return writes::<N>(rt, alloc, row);

@@ -4,4 +4,4 @@ use Rattle.dg_memory_tests.proofs.tables.on_a_table.Given as goal
 
 -- A table is named by its row, its start and its number of seats.
 abbrev pub ghosts-opened : goal.ghosts-opened
-ghosts-opened g a = record { cells = a.row; table = table_data_of a.file.now.start a.count (length a.row) }
+ghosts-opened g a = record { names = a.row; table = table_data_of a.file.now.start a.count (length a.row.cells) }

@@ -3,4 +3,4 @@ use Rattle.dg_run.proofs.serve.serve_table.Given as goal
 
 -- A table is named by its row, its start and its number of seats.
 abbrev pub ghosts-serve_run_stream : goal.ghosts-serve_run_stream
-ghosts-serve_run_stream g a = record { cells = a.row; table = table_data_of a.table.now.start a.seats (length a.row) }
+ghosts-serve_run_stream g a = record { names = a.row; table = table_data_of a.table.now.start a.seats (length a.row.cells) }

@@ -4,4 +4,4 @@ use Rattle.dg_table_tests.proofs.table_tests.on_a_table.Given as goal
 
 -- A table is named by its row, its start and its number of seats.
 abbrev pub ghosts-opened : goal.ghosts-opened
-ghosts-opened g a = record { cells = a.row; table = table_data_of a.start.now a.count (length a.row) }
+ghosts-opened g a = record { names = a.row; table = table_data_of a.start.now a.count (length a.row.cells) }

@@ -10,13 +10,13 @@ invariant_of-result g c =
     let r = c.receipt.inside in
     let x : ℕ × ℕ × Entry = (c.number-2.result, r.witness.cell, r.witness.value) in
     let longer : c.and.result.items ≡ items ++ x ∷ [] = c.and.ensures in
-    let named : slice_get g.N.Name.cells x.0 ≡ Some x.1 =
-    ap (slice_get g.N.Name.cells) (c.number-2.ensures.number ∙ ap (λ p. p.0) (sym c.receipt.view_is))
+    let named : slice_get g.N.Name.names.cells x.0 ≡ Some x.1 =
+    ap (slice_get g.N.Name.names.cells) (c.number-2.ensures.number ∙ ap (λ p. p.0) (sym c.receipt.view_is))
     ∙ c.receipt.invariant in
     let said : entries_of_receipts (items ++ x ∷ []) ≡ entries_of_receipts items ++ (x.0, x.2) ∷ [] = said_more items x in
     let prefix : c.from-prefix.result + 1 ≡ c.number-2.result + 1 = search rules in
     rw longer (
-      named_more g.N.Name.cells items x c.self.invariant.0 named,
+      named_more g.N.Name.names.cells items x c.self.invariant.0 named,
       elim c.if-prefix-self.branch [
         | then-prefix-self w ↦ rw (said, w.result-is)
             (end_more c.self.inside.end (c.from-prefix.result + 1) (entries_of_receipts items)

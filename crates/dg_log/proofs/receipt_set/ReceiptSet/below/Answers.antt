@@ -17,6 +17,6 @@ returns-clause-below g c =
 pub returns-clause-cells : goal.returns-clause-cells
 returns-clause-cells g c =
     let items = c.self.inside.witnesses.items in
-    let named = named_below g.N.Name.cells items c.self.invariant.0 in
-    let least = c.self.invariant.1.1 (length g.N.Name.cells) named in
+    let named = named_below g.N.Name.names.cells items c.self.invariant.0 in
+    let least = c.self.invariant.1.1 (length g.N.Name.names.cells) named in
     λ enough. grind (arith, nat_tests, least, enough, c.from.ensures)

@@ -7,4 +7,4 @@ invariant-entries g l = (l.self.step ≡ l.initial.self.step) ×
     (es : List EntryData) × (l.self.entries ≡ l.initial.self.entries ++ es)
 
 abbrev pub decreases-entries : goal.decreases-entries
-decreases-entries g l = length g.N.Name.cells - length l.self.entries
+decreases-entries g l = length g.N.Name.names.cells - length l.self.entries

@@ -13,8 +13,8 @@ invariant_of-self-2 g c =
     let step : c.self.inside.step ≡ c.args.self.now.step = ap (λ (o : Observed _ _). o.step) c.self.view_is in
     let counted : length (map (λ (x : ℕ × Entry). x.1) ps) ≡ length ps = length-map ps (λ (x : ℕ × Entry). x.1) in
     let number : p.0 ≡ length ps = c.requires.number ∙ ap length (sym entries) ∙ counted in
-    let room : length ps < length g.N.Name.cells =
-    subst (λ (n : ℕ). n < length g.N.Name.cells) (ap length (sym entries) ∙ counted) c.requires.cell in
+    let room : length ps < length g.N.Name.names.cells =
+    subst (λ (n : ℕ). n < length g.N.Name.names.cells) (ap length (sym entries) ∙ counted) c.requires.cell in
     let count : length (ps ++ p ∷ []) ≡ length ps + 1 = length-append ps (p ∷ []) in
     let last : map (λ (x : ℕ × Entry). x.1) (ps ++ p ∷ []) ≡ map (λ (x : ℕ × Entry). x.1) ps ++ p.1 ∷ [] =
     map-append (λ (x : ℕ × Entry). x.1) ps (p ∷ []) in

@@ -2,6 +2,7 @@ use Rattle.dg_table.proofs.Common.{◌≡◌, ℕ, ◌+◌, ◌==◌, Bool, [], 
 use Rattle.std.proofs.Common.{not}
 use Rattle.std.proofs.lemmas.List.Filters.{length-filter_both}
 use Rattle.std.proofs.lemmas.List.FromFn.{length-enumerate_from}
+use Rattle.dg_table.proofs.Rolls.{roll_more}
 use Rattle.dg_table.proofs.Steps.{held_more, history_more, answered}
 use Rattle.dg_table.proofs.held.Held.enter.Goals as goal
 
@@ -60,6 +61,8 @@ overflow_add-self g c =
 pub invariant_of-self-2 : goal.invariant_of-self-2
 invariant_of-self-2 g c =
     let e : Entry = c.args.slot.value in
+    let given = c.take_receipt_at_table.ensures in
+    let receipt : c.in-Ok.receipt ≡ (length c.self.inside.pen.entries, e) = c.in-Ok.ensures.0 in
     let history : c.put.new.self.entries ≡ c.self.inside.pen.entries ++ e ∷ [] =
     ap (λ (w : Written). w.entries) c.in-Ok.ensures.1 in
     let legal = rw (← c.self.view_is) at c.requires.legal in
@@ -73,6 +76,9 @@ invariant_of-self-2 g c =
           (omega (arith, c.from-place.ensures, c.place.ensures.place, c.requires.seat))
           (omega (arith, c.place.ensures.most, c.requires.seat)) refl),
       c.self.invariant.1,
+      given.roll ∙ c.self.invariant.2,
+      rw history (roll_more e c.self.invariant.3 c.requires.seat (given.prefix ∙ c.prefix.ensures ∙ history)
+          (rw receipt at given.mine) given.signed),
     )
 
 pub returns-clause-entered : goal.returns-clause-entered

@@ -8,4 +8,6 @@ invariant_of-result g c =
       rw c.requires.pen (held_none g.N.Name.table.seats _ (rw c.requires.start at c.new.ensures) (length-replicate 64 zero)
           (λ s below. get_or-replicate 64 s zero zero below) (omega (arith, c.requires.seats, c.requires.count))),
       c.requires.seats,
+      c.requires.roll.0,
+      rw (← c.requires.seats, c.requires.pen) c.requires.roll.1,
     )

@@ -1,3 +1,4 @@
+use Rattle.dg_table.proofs.Rolls.{roll_none}
 use Rattle.dg_table.proofs.Common.{◌≡◌, ◌+◌, [], ◌∷◌, ◌++◌, length, arith, ap, ◌∙◌, inl, inr, length_push, more_holds}
 use Rattle.dg_table.proofs.seat.Seat.all_seats.Goals as goal
 
@@ -15,4 +16,24 @@ loop-i-preserved g c =
             rw last.1 (number, c.new.ensures.mine, c.new.ensures.told, c.new.ensures.prefix, c.new.ensures.met)
       ];
       room = omega (arith, c.push.ensures.capacity, c.loop-i.invariant.room);
+      named = c.enroll-claim.ensures.0 ∙ c.loop-i.invariant.named;
+      rows = ap length c.enroll-claim.ensures.1
+          ∙ omega (arith, length_push c.loop-i.enrolled.rows (0, 0), c.loop-i.invariant.rows);
+      zeros = λ s r at. elim (more_holds c.loop-i.enrolled.rows (0, 0) s r (rw c.enroll-claim.ensures.1 at at)) [
+        | inl old ↦ c.loop-i.invariant.zeros s r old.1
+        | inr last ↦ last.1
+      ];
     }
+
+pub new-requires-clause-claim : goal.new-requires-clause-claim
+new-requires-clause-claim g c = (
+  c.enroll-claim.ensures.2 ∙ c.loop-i.invariant.named,
+  omega (arith, c.enroll-claim.ensures.3, c.loop-i.invariant.rows),
+  c.enroll-claim.ensures.4,
+)
+
+pub returns-clause-roll : goal.returns-clause-roll
+returns-clause-roll g c = (
+  c.loop-i.invariant.named,
+  roll_none _ c.loop-i.enrolled.rows (omega (arith, c.loop-i.invariant.rows)) c.loop-i.invariant.zeros,
+)

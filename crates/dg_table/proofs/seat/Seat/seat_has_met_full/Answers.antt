@@ -4,7 +4,7 @@ use Rattle.dg_table.proofs.seat.Seat.seat_has_met_full.Goals as goal
 
 pub returns-then-below : goal.returns-then-below
 returns-then-below g c =
-    let kept = c.self.invariant in
+    let kept = c.self.invariant.0 in
     rw (← c.self.view_is) (record {
       full = omega (arith, kept.met.few, c.if-len.false, c.len-len.ensures, c.len.ensures.length);
       history = kept.met;
