@@ -1,5 +1,5 @@
 -- The halves of tallies, their ghost steps, and a `Roll` and a `Claim` as values. Assumes `Logic`.
-use Rattle.dg_log.proofs.Common.{◌≡◌, ℕ, zero, suc, ◌<◌, List, [], ◌∷◌, length, map, arith, refl, ap, sym, Ura, vstruct, vnil, SProp, ent, sep, ex, guard, emp, never_e, Logic, sem, ‵, ◌⊛◌, later, some, given, ◌$◌, ◌∵◌, !, qed, by, move, keep, drop, use0, use1, use2, split, fsplit, fjoin, updating, await, now, done, pick, learn, show, check, nothing, Keyless, makes_shadow, Struct, shape, slice_get, slice_set, Some, name_new, name_agree, name_set, coded_tally, first_halves, unclaimed_halves, roll_owns, claim_owns}
+use Rattle.dg_log.proofs.Common.{◌≡◌, ℕ, zero, suc, ◌<◌, List, [], ◌∷◌, length, map, arith, refl, ap, sym, Ura, vstruct, vnil, SProp, ent, sep, ex, guard, emp, never_e, Logic, sem, ‵, ◌⊛◌, later, some, given, ◌$◌, ◌∵◌, !, qed, by, move, keep, use0, use1, use2, split, fsplit, fjoin, updating, await, now, done, pick, learn, show, check, nothing, Keyless, makes_shadow, Struct, shape, slice_get, slice_set, Some, name_new, name_agree, name_set, coded_tally, first_halves, unclaimed_halves, roll_owns, claim_owns}
 use Rattle.dg_log.specs.contracts.roll.Roll as roll
 use Rattle.dg_log.specs.contracts.roll.Claim as claim
 use Rattle.dg_log.proofs.Tokens.{token}
@@ -104,7 +104,7 @@ module _ {M : Type 1} {𝓤 : Ura M} (𝓛 : Logic 𝓤) where
       qed 𝓛 (‵ (first_halves (name ∷ names) (x ∷ ts)) ∷ ‵ (claim_owns (name ∷ names) (suc i) t) ∷ []) ∵ updating ! $
       fsplit ! $ move ! (1 ∷ 2 ∷ []) $
       use2 𝓛 (later (given (slice_get ts i ≡ Some t)
-          (‵ (first_halves names (slice_set ts i next)) ⊛ ‵ (claim_owns names i next))))
+      (‵ (first_halves names (slice_set ts i next)) ⊛ ‵ (claim_owns names i next))))
       (halves_set names ts i t next) $ await ! tt $ learn ! (λ has. split ! $
       now ! $ check ! has $ move ! (2 ∷ 0 ∷ []) $ fjoin ! $ done !)
 
@@ -116,6 +116,6 @@ module _ {M : Type 1} {𝓤 : Ura M} (𝓛 : Logic 𝓤) where
       qed 𝓛 (‵ (roll_owns names ts n) ∷ ‵ (claim_owns names i t) ∷ []) ∵ updating ! $
       fsplit ! $ move ! (0 ∷ 2 ∷ []) $
       use2 𝓛 (later (given (slice_get ts i ≡ Some t)
-          (‵ (first_halves names (slice_set ts i next)) ⊛ ‵ (claim_owns names i next))))
+      (‵ (first_halves names (slice_set ts i next)) ⊛ ‵ (claim_owns names i next))))
       (halves_set names ts i t next) $ await ! tt $ learn ! (λ has. split ! $
       now ! $ check ! has $ move ! (0 ∷ 2 ∷ []) $ fjoin ! $ done !)

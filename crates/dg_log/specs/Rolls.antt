@@ -1,5 +1,6 @@
 -- What a roll and a claim own. A tally is two numbers with two halves, like a split stick: while both halves are there they
--- agree, and nobody changes the numbers but with both. A roll has one half of each tally, and the other too until a claim takes it.
+-- agree, and nobody changes the numbers but with both. A roll has one half of each tally, and the other too until a claim
+-- takes it.
 --   coded_tally                  == a tally as a ghost value
 --   first_halves names ts        == one half of each of the tallies ts, which have these names
 --   unclaimed_halves names n     == the other half of each tally past the first n, whose numbers are 0

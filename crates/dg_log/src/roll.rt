@@ -56,8 +56,8 @@ impl Roll {
         }
     }
 
-    /// Shows that the roll has the tally of a claim, and sets it: the history has this many entries now, and `more` more of them
-    /// are the seat's. The condition is that the claim is to a tally of this roll.
+    /// Shows that the roll has the tally of a claim, and sets it: the history has this many entries now, of which `more` more are
+    /// the seat's. The condition is that the claim is to a tally of this roll.
     pub fn sign(&mut self, claim: &mut Claim, found: u32, more: u32)
         requires { claim.old.names ≡ self.old.names }
         ensures { (slice_get self.old.tallies claim.old.place ≡ Some claim.old.tally) × (self.new.names ≡ self.old.names) ×

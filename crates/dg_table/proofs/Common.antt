@@ -30,7 +30,7 @@ pub use Rattle.dg_table.specs.Answered.{IsAnsweredAtTableAfter, IsEnteredAfter, 
 pub use Rattle.dg_table.specs.Closing.{AllSeatsAttested, AllSeatsHeld, AttestedTablesAreOne, AreAuditTotals, TableHasSeat, SeatsHaveMetHistory, IsCloseRefused, IsTableComplete}
 pub use Rattle.dg_table.specs.Faults.{RefusesSettlingAtTable, RefusesSeatAtTable}
 pub use Rattle.dg_table.specs.Histories.{IsHistoryOfTable}
-pub use Rattle.dg_table.specs.Lock.{AreSeatCounts, IsLookKeptBySeat, IsReady, IsRollAfter, IsRowShown, IsRowSigned, IsSeatState, IsUnderLock, row_of_seat}
+pub use Rattle.dg_table.specs.Lock.{AreSeatCounts, IsLookKeptBySeat, IsReady, IsRollAfter, IsSeatState, IsTallyShown, IsTallySigned, IsUnderLock, tally_of_seat}
 pub use Rattle.dg_table.specs.Looks.{KeptLookHasVertices, IsLastLookOfSeat, IsLookOfSeat, SeatKeepsLastLook, asks_for_look, is_look_of_seat, last_look_of_seat}
 pub use Rattle.dg_table.specs.Opened.{AreFreshSeats}
 pub use Rattle.dg_table.specs.SeatLaws.{SeatEntriesStand, SeatHasNoEntries, OneSeatHasAll, OtherSeatsEntry, OwnSeatsEntry}

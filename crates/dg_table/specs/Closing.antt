@@ -2,10 +2,9 @@
 --   TableHasSeat xs s            == the seat s is among the seats xs
 --   IsTableComplete n xs         == each of the seats 1 to n is among the seats xs
 --   AllSeatsHeld H xs            == the history H holds what each of the seats xs knows
---   AllSeatsAttested H xs        == the history H begins with what each of the seats xs found at its last call, and its entries of
---                                   the seat are just those of the seat's calls
---   IsTableAttested table xs H   == H is a history of the table, and so it is with each of the seats xs
---   AttestedTablesAreOne         == if all of a table's seats are among xs, it is so with one history at most
+--   AllSeatsAttested H xs        == each of the seats xs is attested by the history H
+--   IsTableAttested table xs H   == H is a history of the table, and attests each of the seats xs
+--   AttestedTablesAreOne         == no two histories of a table attest seats among which are all of the table's
 --   IsClosed table xs H          == H is a history of the table, and holds what each of the seats xs knows,
 --                                   among which are all of the table's
 --   AreAuditTotals table xs a    == what the audit a says of its history is so: the number of entries, the

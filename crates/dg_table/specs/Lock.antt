@@ -6,13 +6,14 @@
 --                                    and holds what it knows
 --   IsLookKeptBySeat o ps look    == the look that is kept is the last of the entries ps, and has the
 --                                    vertices of the start o
---   row_of_seat x                 == the row that the roll has of the seat x: the length of the history that it found at its
---                                    last call, and the number of its calls
---   IsClaimOfSeat name x n p r    == a claim to the row r at the place p of the roll n is the seat x's to the roll of this name
---   IsRollAfter n H rows          == there is a row for each of the seats 1 to n: it has at most the length of the history H,
---                                    and the number of the seat's entries in H
---   IsRowShown x rows             == the roll has the row of the seat x at its place
---   IsRowSigned x y rows rows'    == the roll had the row of the seat x, and has that of the seat y in its place
+--   tally_of_seat x               == what the roll has of the seat x: the length of the history that it found at its last call,
+--                                    and the number of its calls
+--   IsClaimOfSeat names x ns i t  == a claim to the tally t at the place i of the tallies named ns is the seat x's, where the
+--                                    table's tallies have these names
+--   IsRollAfter H ts              == the tally of each seat is of a history no longer than H, and has the number of the seat's
+--                                    entries in H
+--   IsTallyShown x ts             == the tally of the seat x is among the tallies ts at its place
+--   IsTallySigned x y ts ts'      == the tally of the seat x was among the tallies ts, and that of the seat y is there instead
 --   seat_view x                   == what a contract sees of a seat, by its fields x
 --   IsSeatState table x d look    == what the seat x keeps fits together: the history that it found is one of
 --                                    the table, with the seat's entries as its own; so is the history that it
@@ -51,29 +52,28 @@ pub record IsLookKeptBySeat (o : StartData) (ps : List (ℕ × Entry)) (look : O
   pub last : IsLastLookOfSeat ps look
   pub vertices : IfSome look (KeptLookHasVertices o.graph.size)
 
-abbrev pub row_of_seat : SeatView → ℕ × ℕ
-row_of_seat x = (length x.prefix, length x.mine)
+abbrev pub tally_of_seat : SeatView → ℕ × ℕ
+tally_of_seat x = (length x.prefix, length x.mine)
 
-pub record IsClaimOfSeat (name : ℕ) (x : SeatView) (n p : ℕ) (r : ℕ × ℕ) : Type 0 where
-  pub roll : n ≡ name
-  pub place : p + 1 ≡ x.number
-  pub row : r ≡ row_of_seat x
+pub record IsClaimOfSeat (names : List ℕ) (x : SeatView) (ns : List ℕ) (i : ℕ) (t : ℕ × ℕ) : Type 0 where
+  pub roll : ns ≡ names
+  pub place : i + 1 ≡ x.number
+  pub tally : t ≡ tally_of_seat x
 
-pub record IsRollAfter (n : ℕ) (H : List Entry) (rows : List (ℕ × ℕ)) : Type 0 where
-  pub count : length rows ≡ n
-  pub each : (s : ℕ) (r : ℕ × ℕ) → slice_get rows s ≡ Some r →
-      (r.0 ≤ length H) × (r.1 ≡ length (entries_of_seat (s + 1) H))
+abbrev pub IsRollAfter : List Entry → List (ℕ × ℕ) → Type 0
+IsRollAfter H ts = (i : ℕ) (t : ℕ × ℕ) → slice_get ts i ≡ Some t →
+    (t.0 ≤ length H) × (t.1 ≡ length (entries_of_seat (i + 1) H))
 
-pub record IsRowShown (x : SeatView) (rows : List (ℕ × ℕ)) : Type 0 where
+pub record IsTallyShown (x : SeatView) (ts : List (ℕ × ℕ)) : Type 0 where
   pub place : ℕ
-  pub is : place + 1 ≡ x.number
-  pub row : slice_get rows place ≡ Some (row_of_seat x)
+  pub number : place + 1 ≡ x.number
+  pub tally : slice_get ts place ≡ Some (tally_of_seat x)
 
-pub record IsRowSigned (x y : SeatView) (rows rows' : List (ℕ × ℕ)) : Type 0 where
+pub record IsTallySigned (x y : SeatView) (ts ts' : List (ℕ × ℕ)) : Type 0 where
   pub place : ℕ
-  pub is : place + 1 ≡ x.number
-  pub was : slice_get rows place ≡ Some (row_of_seat x)
-  pub now : rows' ≡ slice_set rows place (row_of_seat y)
+  pub number : place + 1 ≡ x.number
+  pub was : slice_get ts place ≡ Some (tally_of_seat x)
+  pub now : ts' ≡ slice_set ts place (tally_of_seat y)
 
 abbrev pub seat_view : {N : Type 0} → Inside N → SeatView
 seat_view x = record {

@@ -11,8 +11,8 @@
 --   IsAdmissibleSeat H x   == H has as many entries as the history that the seat x has met, or more, an entry
 --                             of each number that it was told of, and as many of the seat's entries as it
 --                             keeps
---   IsSeatAttested H x     == the history H begins with the one that the seat x found at its last call, and the seat's
---                             entries in H are just those of its own calls
+--   IsSeatAttested H x     == the history H attests the seat x: H begins with the one that the seat found at its last
+--                             call, and its entries in H are just those of its own calls
 --   Keeps x y              == the seat y is the seat x and knows the same, but that it may have met a longer
 --                             history
 --   SeatMeetsHistory H x y == the seat y is the seat x as it was, but that it has met the history H: of H and

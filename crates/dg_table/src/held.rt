@@ -29,9 +29,9 @@ use dg_log::{Log, Name, Pen, Receipt, Roll};
 use dg_rules::{Entry, Finding, Game, LookData, Plain, Question};
 use std::marker::Model;
 
-/// The game of the table N, the pen that writes its history, how many entries each seat has, and the roll, which shows that
-/// each seat knows of them. A contract sees what the pen has written; the rest is a function of it. No call of it takes memory: a step uses the box and the space that
-/// `Seat::room` made.
+/// The game of the table N, the pen that writes its history, how many entries each seat has, and the roll, which shows that each
+/// seat knows of its entries. A contract sees what the pen has written; the rest is a function of it. No call of it takes
+/// memory: a step uses the box and the space that `Seat::room` made.
 #[derive(Drop)]
 pub struct Held<N: Name> {
     game: Game,
@@ -51,7 +51,7 @@ impl<N: Name> Model for Held<N> {
     ghost view = { λ h. h.pen };
 
     ghost invariant = { λ h. IsUnderLock N.table.start N.table.seats h.pen.entries h.game h.counts × (h.seats ≡ N.table.seats) ×
-        (h.roll.name ≡ N.names.roll) × IsRollAfter N.table.seats h.pen.entries h.roll.rows };
+        (h.roll.names ≡ N.names.tallies) × IsRollAfter h.pen.entries h.roll.tallies };
 }
 
 impl<N: Name> Held<N> {
@@ -61,7 +61,7 @@ impl<N: Name> Held<N> {
         requires start { start.now ≡ N.table.start }
         requires seats { seats ≡ N.table.seats }
         requires count { TableMayHaveSeats seats }
-        requires roll { (roll.name ≡ N.names.roll) × IsRollAfter seats [] roll.rows }
+        requires roll { (roll.names ≡ N.names.tallies) × IsRollAfter [] roll.tallies }
         ensures { result ≡ nothing_written }
     {
         Held {
@@ -91,7 +91,7 @@ impl<N: Name> Held<N> {
     }
 
     /// Shows that the history begins with the one that the seat found at its last call, and that the seat's entries in it are
-    /// just those of its own calls. It changes nothing.
+    /// just those of its own calls. It does nothing else.
     pub fn attest(&mut self, seat: &mut Seat<N>)
         ensures same { (self.new ≡ self.old) × (seat.new ≡ seat.old) }
         ensures attested { IsSeatAttested self.old.entries seat.old }
@@ -100,7 +100,7 @@ impl<N: Name> Held<N> {
         self.pen.began(seat.prefix());
     }
 
-    /// Shows it of each of these seats.
+    /// Shows the same of each of these seats.
     pub fn attest_all(&mut self, seats: &mut [Seat<N>])
         ensures same { (self.new ≡ self.old) × (seats.new ≡ seats.old) }
         ensures history { IsHistoryOfTable N.table self.old.entries }

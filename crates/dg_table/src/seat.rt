@@ -7,7 +7,8 @@ ghost use Rattle.dg_rules.specs.declared.entry.Entry.{Entry as EntryData};
 ghost use Rattle.std.specs.Vec.{vec_capacity, vec_len};
 ghost use Rattle.dg_table.specs.Faults.{TableStandsFull};
 ghost use Rattle.dg_table.specs.Histories.{SeatHasPrefix, IsHistoryOfTable};
-ghost use Rattle.dg_table.specs.Lock.{IsLookKeptBySeat, IsRollAfter, IsRowShown, IsRowSigned};
+ghost use Rattle.dg_table.specs.Lock.{IsLookKeptBySeat, IsRollAfter, IsTallyShown, IsTallySigned};
+ghost use Rattle.dg_log.specs.Rolls.{IsBlankRoll};
 ghost use Rattle.dg_table.specs.Looks.{KeptLookHasVertices, IsLastLookOfSeat};
 ghost use Rattle.dg_table.specs.Opened.{TableMayHaveSeats, AreFreshSeats};
 ghost use Rattle.dg_table.specs.Seats.{HoldsSeat, Keeps, SeatMeetsHistory};
@@ -29,7 +30,7 @@ pub struct Seat<N: Name> {
     met: Prefix<N>,
     told_to_seat: ReceiptSet<N>,
     look: Option<LookData>,
-    // What the table's lock counts of the seat too: no call that it does not know is counted, and none that it knows is not.
+    // The lock's roll has the same tally: so the history has just the calls of the seat that it knows.
     claim: Claim,
     of: PhantomData<N>,
 }
@@ -44,12 +45,13 @@ impl<N: Name> Model for Seat<N> {
     ghost view = { seat_view };
 
     ghost invariant = { λ x. IsSeatState N.table (seat_view x) x.told_to_seat x.look ×
-        IsClaimOfSeat N.names.roll (seat_view x) x.claim.name x.claim.place x.claim.row };
+        IsClaimOfSeat N.names.tallies (seat_view x) x.claim.names x.claim.place x.claim.tally };
 }
 
 impl<N: Name> Seat<N> {
-    /// The seats 1 to `count`, which know of no entry, each with a claim to its row of the roll. The conditions are that they are
-    /// those of the table, that there is space for them, which has none, and that the roll is the table's, and has no row.
+    /// The seats 1 to `count`, which know of no entry, each with the claim to its tally, and the roll. The conditions are that
+    /// they are those of the table, that there is space for them, which has none, and that the roll is the table's, of which
+    /// nobody has claimed a tally.
     pub(crate) fn all_seats(
         alloc: Global,
         space: Vec<Seat<N>>,
@@ -60,9 +62,9 @@ impl<N: Name> Seat<N> {
         requires seats { TableMayHaveSeats count }
         requires empty { space.items ≡ [] }
         requires room { count ≤ vec_capacity space }
-        requires roll { (roll.name ≡ N.names.roll) × (roll.rows ≡ []) }
+        requires roll { (roll.names ≡ N.names.tallies) × IsBlankRoll roll.names roll.tallies roll.claimed }
         ensures seats { AreFreshSeats count result.0.items }
-        ensures roll { (result.1.name ≡ N.names.roll) × IsRollAfter count [] result.1.rows }
+        ensures roll { (result.1.names ≡ N.names.tallies) × IsRollAfter [] result.1.tallies }
     {
         let mut seats = space;
         let mut enrolled = roll;
@@ -73,10 +75,10 @@ impl<N: Name> Seat<N> {
         (seats, enrolled)
     }
 
-    /// The seat with this number, which knows of no entry. The condition is that the claim is to its row.
+    /// The seat with this number, which knows of no entry. The condition is that the claim is to its tally.
     fn new(alloc: Global, number: u8, claim: Claim) -> Seat<N>
         requires number { (1 ≤ number) × (number ≤ N.table.seats) }
-        requires claim { (claim.name ≡ N.names.roll) × (claim.place + 1 ≡ number) × (claim.row ≡ (0, 0)) }
+        requires claim { (claim.names ≡ N.names.tallies) × (claim.place + 1 ≡ number) × (claim.tally ≡ (0, 0)) }
         ensures number { result.number ≡ number }
         ensures mine { result.mine ≡ [] }
         ensures told { result.told ≡ [] }
@@ -236,7 +238,7 @@ impl<N: Name> Seat<N> {
         roll: &mut Roll,
     )
         requires space { self.old.space ≡ true }
-        requires roll { roll.old.name ≡ N.names.roll }
+        requires roll { roll.old.names ≡ N.names.tallies }
         requires found { IsHistoryOfTable N.table history.now }
         requires next { (H : List EntryData) × (history.now ≡ H ++ entry.now ∷ []) ×
             (receipt.now ≡ (length H, entry.now)) × (entry.now.seat ≡ self.old.number) × HoldsSeat H self.old ×
@@ -247,8 +249,8 @@ impl<N: Name> Seat<N> {
         ensures prefix { self.new.prefix ≡ history.now }
         ensures met { self.new.met ≡ history.now }
         ensures hears { self.new.hears ≡ true }
-        ensures roll { roll.new.name ≡ roll.old.name }
-        ensures signed { IsRowSigned self.old self.new roll.old.rows roll.new.rows }
+        ensures roll { roll.new.names ≡ roll.old.names }
+        ensures signed { IsTallySigned self.old self.new roll.old.tallies roll.new.tallies }
     {
         roll.sign(&mut self.claim, history.len(), 1);
         keep_look_at_table(&mut self.look, game, entry);
@@ -257,12 +259,12 @@ impl<N: Name> Seat<N> {
         self.mine.push(receipt.again()).unwrap();
     }
 
-    /// Shows that the roll has the seat's row. It changes nothing. The condition is that the roll is the table's.
+    /// Shows that the roll has the seat's tally. It changes nothing. The condition is that the roll is the table's.
     pub(crate) fn show_claim(&mut self, roll: &mut Roll)
-        requires { roll.old.name ≡ N.names.roll }
+        requires { roll.old.names ≡ N.names.tallies }
         ensures seat { self.new ≡ self.old }
-        ensures roll { (roll.new.name ≡ roll.old.name) × (roll.new.rows ≡ roll.old.rows) }
-        ensures shown { IsRowShown self.old roll.old.rows }
+        ensures roll { (roll.new.names ≡ roll.old.names) × (roll.new.tallies ≡ roll.old.tallies) }
+        ensures shown { IsTallyShown self.old roll.old.tallies }
     {
         roll.sign(&mut self.claim, self.prefix.len(), 0);
     }

@@ -1,5 +1,5 @@
 -- The claim takes the roll's other half of the next tally.
-use Rattle.dg_log.proofs.Common.{◌≡◌, ℕ, suc, ◌+◌, ◌<◌, List, [], ◌∷◌, length, arith, refl, named, Val, vptr, SProp, emp, Lft, Share, ftrue, flft, ‵, raw, ◌⊛◌, ◌$◌, ◌∵◌, !, qed, by, move, keep, drop, split, join, fsplit, fsplit3, fjoin, fjoin3, use0, use1, feq_i, no_more, and_then, returns, enter, alloc_all, pass_all, free_all, look_at, get, sets, agg, tables, fact, fact_i, RattleType, owns, types_at, plain, nothing, heard, mut_vals, mut_Tells, Stays, walk_of, stay_ref, Goes-ref, proved, leaves, opens, closes, roll_owns, claim_owns}
+use Rattle.dg_log.proofs.Common.{◌≡◌, ℕ, suc, ◌+◌, ◌<◌, List, [], ◌∷◌, length, arith, refl, named, Val, vptr, SProp, emp, Lft, Share, ftrue, flft, ‵, raw, ◌⊛◌, ◌$◌, ◌∵◌, !, qed, by, move, keep, split, join, fsplit, fsplit3, fjoin, fjoin3, use0, use1, feq_i, no_more, and_then, returns, enter, alloc_all, pass_all, free_all, look_at, get, sets, agg, tables, fact, fact_i, RattleType, owns, types_at, plain, nothing, heard, mut_vals, mut_Tells, Stays, walk_of, stay_ref, Goes-ref, proved, leaves, opens, closes, roll_owns, claim_owns}
 use Rattle.dg_log.specs.contracts.roll.Roll as roll
 use Rattle.dg_log.specs.contracts.roll.Claim as claim
 use Rattle.dg_log.proofs.Tokens.{token}
@@ -18,10 +18,12 @@ enroll_spec 𝓤 𝓛 𝓜 𝓡 wired =
     proved 𝓛 En hs c 𝓜 𝓡 (Goes-ref 𝓛 1 0 tt (plain (λ _. S)), tt) #self fn (code.unfolded 𝓤 H 𝓜 𝓡 wired)
     (λ κs. (mut_vals, tt)) (λ κs. (mut_Tells (named 0) κs.0 S, tt)) (λ κs qs bounds a gh are.
     let κ : Lft = κs.0 in let q : Share = qs.0 in let b : ℕ = a.0.ref_ptr.0 in let o : ℕ = a.0.ref_ptr.1 in
-    let n = a.0.now in let names : List ℕ = n.names in let ts : List (ℕ × ℕ) = n.tallies in let k : ℕ = n.claimed in let p : Val = vptr b o in
+    let n = a.0.now in let names : List ℕ = n.names in let ts : List (ℕ × ℕ) = n.tallies in let k : ℕ = n.claimed in
+    let p : Val = vptr b o in
     let n' : S.Denot = record { marker = n.marker; names = names; tallies = ts; claimed = suc k } in
     let r : C.Denot = record { marker = record {}; names = names; place = k; tally = (0, 0) } in
-    let Told : Type 0 = (names ≡ names) × (ts ≡ ts) × (suc k ≡ k + 1) × (names ≡ names) × (k ≡ k) × (r.tally ≡ r.tally) in
+    let Told : Type 0 =
+    (names ≡ names) × (ts ≡ ts) × (suc k ≡ k + 1) × (names ≡ names) × (k ≡ k) × (r.tally ≡ r.tally) in
     let y : (walk_of 𝓛 En hs c).Ghost = ((κs, qs, bounds, a, (p ∷ [], tt)), gh) in
     let Post : Val → SProp 𝓤 = (walk_of 𝓛 En hs c).post y in
     qed 𝓛 (((‵ (flft κ q) ⊛ ‵ ftrue) ⊛ ‵ (owns (types_at En.signature.params κs) a y.0.4)) ∷

@@ -27,6 +27,7 @@ new_spec 𝓤 𝓛 𝓜 𝓡 wired =
     use1 𝓛 (‵ (S.own_val r (token ∷ []))) (roll_made 𝓛 names (zeros names) 0) $
     sets ! (agg ! (no_more !)) refl (tt, tt) $
     sets ! (agg ! (and_then ! (get ! refl) (no_more !))) refl (tt, (tt, tt)) $
-    use0 𝓛 (raw (fact 𝓤 Told)) (fact_i 𝓤 Told (emp 𝓤) (record { seats = seats; zeros = refl; unclaimed = refl })) $ nothing ! $
+    use0 𝓛 (raw (fact 𝓤 Told))
+    (fact_i 𝓤 Told (emp 𝓤) (record { seats = seats; zeros = refl; unclaimed = refl })) $ nothing ! $
     returns ! (look_at ! 0 refl) $ free_all ! refl $ keep ! (3 ∷ 0 ∷ 2 ∷ 1 ∷ []) $
     by ! (leaves 𝓛 En hs c y token r tt tt)))))

@@ -77,8 +77,8 @@ invariant_of-self-2 g c =
           (omega (arith, c.place.ensures.most, c.requires.seat)) refl),
       c.self.invariant.1,
       given.roll ∙ c.self.invariant.2,
-      rw history (roll_more e c.self.invariant.3 c.requires.seat (given.prefix ∙ c.prefix.ensures ∙ history)
-          (rw receipt at given.mine) given.signed),
+      rw history (roll_more c.self.inside.pen.entries e c.self.invariant.3 c.requires.seat
+          (given.prefix ∙ c.prefix.ensures ∙ history) (rw receipt at given.mine) given.signed),
     )
 
 pub returns-clause-entered : goal.returns-clause-entered

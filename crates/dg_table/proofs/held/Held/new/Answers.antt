@@ -9,5 +9,5 @@ invariant_of-result g c =
           (λ s below. get_or-replicate 64 s zero zero below) (omega (arith, c.requires.seats, c.requires.count))),
       c.requires.seats,
       c.requires.roll.0,
-      rw (← c.requires.seats, c.requires.pen) c.requires.roll.1,
+      rw c.requires.pen c.requires.roll.1,
     )

@@ -16,24 +16,25 @@ loop-i-preserved g c =
             rw last.1 (number, c.new.ensures.mine, c.new.ensures.told, c.new.ensures.prefix, c.new.ensures.met)
       ];
       room = omega (arith, c.push.ensures.capacity, c.loop-i.invariant.room);
-      named = c.enroll-claim.ensures.0 ∙ c.loop-i.invariant.named;
-      rows = ap length c.enroll-claim.ensures.1
-          ∙ omega (arith, length_push c.loop-i.enrolled.rows (0, 0), c.loop-i.invariant.rows);
-      zeros = λ s r at. elim (more_holds c.loop-i.enrolled.rows (0, 0) s r (rw c.enroll-claim.ensures.1 at at)) [
-        | inl old ↦ c.loop-i.invariant.zeros s r old.1
-        | inr last ↦ last.1
-      ];
+      names = c.enroll-claim.ensures.0 ∙ c.loop-i.invariant.names;
+      tallies = c.enroll-claim.ensures.1 ∙ c.loop-i.invariant.tallies;
+      claimed = c.enroll-claim.ensures.2 ∙ ap (λ k. k + 1) c.loop-i.invariant.claimed;
     }
 
 pub new-requires-clause-claim : goal.new-requires-clause-claim
 new-requires-clause-claim g c = (
-  c.enroll-claim.ensures.2 ∙ c.loop-i.invariant.named,
-  omega (arith, c.enroll-claim.ensures.3, c.loop-i.invariant.rows),
-  c.enroll-claim.ensures.4,
+  c.enroll-claim.ensures.3 ∙ c.loop-i.invariant.names ∙ c.requires.roll.0,
+  omega (arith, c.enroll-claim.ensures.4, c.loop-i.invariant.claimed),
+  c.enroll-claim.ensures.5,
 )
 
 pub returns-clause-roll : goal.returns-clause-roll
 returns-clause-roll g c = (
-  c.loop-i.invariant.named,
-  roll_none _ c.loop-i.enrolled.rows (omega (arith, c.loop-i.invariant.rows)) c.loop-i.invariant.zeros,
+  c.loop-i.invariant.names ∙ c.requires.roll.0,
+  rw (c.loop-i.invariant.tallies, c.requires.roll.1.zeros) (roll_none c.args.roll.names),
 )
+
+pub enroll-claim-requires : goal.enroll-claim-requires
+enroll-claim-requires g c =
+    let seats = ap length c.loop-i.invariant.names ∙ c.requires.roll.1.seats in
+    omega (arith, seats, c.loop-i.invariant.claimed, c.requires.seats)

@@ -7,7 +7,7 @@ invariant-loop-i g l = record {
   fresh : (k : ℕ) (x : SeatView) → slice_get l.seats.items k ≡ Some x →
       (x.number ≡ k + 1) × (x.mine ≡ []) × (x.told ≡ []) × (x.prefix ≡ []) × (x.met ≡ []);
   room : l.count ≤ vec_capacity l.seats;
-  named : l.enrolled.name ≡ g.N.Name.names.roll;
-  rows : length l.enrolled.rows ≡ l.i;
-  zeros : (s : ℕ) (r : ℕ × ℕ) → slice_get l.enrolled.rows s ≡ Some r → r ≡ (0, 0);
+  names : l.enrolled.names ≡ l.fn.roll.names;
+  tallies : l.enrolled.tallies ≡ l.fn.roll.tallies;
+  claimed : l.enrolled.claimed ≡ l.i;
 }

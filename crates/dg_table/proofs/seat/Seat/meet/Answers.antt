@@ -17,5 +17,5 @@ invariant_of-self g c =
         told_said = kept.told_said;
         look_kept = kept.look_kept;
       },
-      record { roll = claim.roll; place = claim.place; row = claim.row },
+      record { roll = claim.roll; place = claim.place; tally = claim.tally },
     )

@@ -1,5 +1,5 @@
-use Rattle.dg_table.proofs.Common.{◌≡◌, ℕ, ◌+◌, List, [], ◌∷◌, ◌++◌, length, ap, ◌∙◌, refl, Some, slice_set, Entry}
-use Rattle.dg_table.proofs.Rolls.{row_more}
+use Rattle.dg_table.proofs.Common.{◌≡◌, ℕ, ◌+◌, List, [], ◌∷◌, ◌++◌, length, ap, ◌∙◌, refl, Entry}
+use Rattle.dg_table.proofs.Rolls.{tally_more}
 use Rattle.dg_table.proofs.Steps.{kept_more}
 use Rattle.dg_table.proofs.seat.Seat.take_receipt_at_table.Goals as goal
 
@@ -15,8 +15,9 @@ invariant_of-self g c =
       kept_more H c.args.entry.now c.self.invariant.0 (rw next.1 at c.requires.found) next.4.mine next.3 seen refl items refl
           (c.copy-self-inside.ensures ∙ next.1) (c.copy-self-inside-2.ensures ∙ next.1),
       record {
-        roll = c.sign.ensures.3 ∙ claim.roll;
-        place = ap (λ p. p + 1) c.sign.ensures.4 ∙ claim.place;
-        row = row_more c.self.inside.claim.row.1 c.self.inside.mine.items (length H, c.args.entry.now) (ap (λ (p : ℕ × ℕ). p.1) claim.row) c.sign.ensures.5 c.len.ensures c.copy-self-inside.ensures items;
+        roll = c.sign.ensures.4 ∙ claim.roll;
+        place = ap (λ i. i + 1) c.sign.ensures.5 ∙ claim.place;
+        tally = tally_more c.self.inside.claim.tally.1 c.self.inside.mine.items (length H, c.args.entry.now)
+            (ap (λ (p : ℕ × ℕ). p.1) claim.tally) c.sign.ensures.6 c.len.ensures c.copy-self-inside.ensures items;
       },
     )
