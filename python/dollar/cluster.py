@@ -19,8 +19,8 @@ rows is shown as it grows.
     [7, '000000ab', 'true', 'a=0 b=-1', 'a=0 b=1', '']
     >>> row("rank", 8, 0, "rank below 2 at ?")
     [8, '00000000', 'false', '2', '', '']
-    >>> row("rr", 9, 0, "refused no vertex q"), row("rr", 10, 0, "degree 9 genus 9 rank ? dual ?")
-    ([9, '00000000', '', '', '', '', 'no vertex q'], [10, '00000000', '9', '9', '', '', 'too many trials'])
+    >>> row("rr", 9, 0, "refused no vertex q"), row("rr", 10, 0, "degree 2 genus 1 rank 1 dual -1")
+    ([9, '00000000', '', '', '', '', 'no vertex q'], [10, '00000000', '2', '1', '1', '-1', ''])
 """
 
 from __future__ import annotations
@@ -41,7 +41,6 @@ from concurrent.futures import Future, ThreadPoolExecutor
 from typing import Any, Callable, Deque, Dict, Iterable, Iterator, List, NamedTuple, Optional, Sequence, Tuple, Union
 
 from dollar.answers import RIEMANN_ROCH, no_answer, parts_of
-from dollar.commands import TOO_MANY
 from dollar.program import command_line, find_program, typed
 from dollar.sweeps import Progress
 from dollar.table import members
@@ -69,7 +68,7 @@ def row(command: str, number: int, checksum: int, answer: str) -> List[Any]:
         numbers = RIEMANN_ROCH.fullmatch(answer)
         if numbers is None:
             raise no_answer(answer)
-        return [*first, *("" if each == "?" else each for each in numbers.groups()), TOO_MANY if "?" in answer else ""]
+        return [*first, *numbers.groups(), ""]
     word, *rest = parts_of(answer)
     if word not in {"judge": ("winnable", "unwinnable"), "rank": ("rank at least", "rank below")}[command]:
         raise no_answer(answer)

@@ -110,7 +110,7 @@ def asked(table: Asked, ask: Callable[[bytes], str], read: Callable[[str, Any], 
 
 
 def line_of(command: str, file: bytes, *words: str, program: Optional[Place] = None) -> str:
-    """The answer to one table by a line of a sweep, which the program gives also past the limits if a law or the dual settles it."""
+    """The answer to one table by a line of a sweep, which the program gives also past the limits of one rank test."""
     # A newline in a table file is a space, and so is a tab; neither may be in a name.
     out = printed(command, "--lines", file.replace(b"\n", b"\t") or b"\t", *words, program=program)
     line, end, more = out.partition("\n")
@@ -133,8 +133,8 @@ def judge(table: Asked, *, program: Optional[Place] = None) -> Verdict:
 
 
 def rank(table: Asked, *, program: Optional[Place] = None) -> int:
-    """The rank of the table: how many dollars can be lost, no matter where, and the table still be won; -1 if it can't be won now. It is a
-    Fault, `too many trials`, if both ranks of Riemann-Roch are past the limits. `rr_all` has the ranks of many tables.
+    """The rank of the table: how many dollars can be lost, no matter where, and the table still be won; -1 if it can't be won now. On
+    graphs of many edges that may take long. `rr_all` has the ranks of many tables.
 
     >>> from dollar import Table
     >>> rank(Table([[0, 3], [3, 0]], [2, 2]))
@@ -144,8 +144,8 @@ def rank(table: Asked, *, program: Optional[Place] = None) -> int:
 
 
 def rank_test(table: Asked, degree: int, *, workers: Optional[int] = None, program: Optional[Place] = None) -> RankTest:
-    """Whether so many dollars can be lost, no matter where, and the table still be won. A test past the limits has an answer too if a
-    law or the dual settles it; otherwise it is a Fault, `too many trials`. `workers` is the number of threads that share the test.
+    """Whether so many dollars can be lost, no matter where, and the table still be won. A test past the limits has an answer
+    too, but no first loss. `workers` is the number of threads that share the test.
 
     >>> from dollar import Table
     >>> rank_test(Table([[0, 1], [1, 0]], [2, -1]), 2)
@@ -165,19 +165,13 @@ def rank_test(table: Asked, degree: int, *, workers: Optional[int] = None, progr
 
 
 def rr(table: Asked, *, program: Optional[Place] = None) -> RiemannRoch:
-    """The four numbers of Riemann-Roch. It is a Fault, `too many trials`, if both ranks are past the limits.
+    """The four numbers of Riemann-Roch.
 
     >>> from dollar import Table
     >>> rr(Table([[0, 1], [1, 0]], [2, -1]))
     RiemannRoch(degree=1, genus=0, rank=1, dual=-1)
     """
-    def ask(file: bytes) -> str:
-        line = line_of("rr", file, program=program)
-        if line.endswith("?"):
-            raise Fault(TOO_MANY, 3)
-        return line
-
-    return asked(table, ask, lambda text, kept: riemann_roch_of(text), program)
+    return asked(table, lambda file: line_of("rr", file, program=program), lambda text, kept: riemann_roch_of(text), program)
 
 
 def rehearse(table: Asked, steps: Lines, *, program: Optional[Place] = None) -> History:

@@ -23,7 +23,7 @@ from dollar.answers import (
     RankTest, RefusedRankTest, RefusedRiemannRoch, RefusedVerdict, RiemannRoch, Verdict, no_answer, refusal, vertices_of)
 from dollar.columns import (
     AnyInts, AnyTruths, ArrayInts, Columns, NumpyInts, NumpyTruths, RankTestColumns, RiemannRochColumns, VerdictColumns)
-from dollar.commands import MOST_DEGREE, TOO_MANY, beside, option
+from dollar.commands import MOST_DEGREE, beside, option
 from dollar.program import Fault, Place, command_line, ended_by, fault_of
 from dollar.readers import (
     Form, divisors_by_batches, divisors_one_by_one, lines_in, numpy_or_none, ordered, rank_test_form, riemann_roch_form, rows_of, verdict_form)
@@ -211,14 +211,11 @@ class Job(NamedTuple):
         return (self.answer(text, place, take()) for place, text in enumerate(texts, number))
 
     def answer(self, text: str, number: int, kept: Any) -> Any:
-        """The answer with this text and number. A table that was refused has a row, if it is not raised, and so have four numbers of which
-        two are not known."""
-        is_cut = self.refused is RefusedRiemannRoch and text.endswith(" NA NA")
-        if not is_cut and not text.startswith("refused "):
+        """The answer with this text and number. A table that was refused has a row, if it is not raised."""
+        if not text.startswith("refused "):
             return self.told(text, kept)
-        known = dict(zip(("degree", "genus"), map(int, text.split(" ")[:2]))) if is_cut else {}
-        reason = TOO_MANY if is_cut else text[len("refused "):]
-        row = refusal(self.refused, reason, number, beside(reason, kept), **known)
+        reason = text[len("refused "):]
+        row = refusal(self.refused, reason, number, beside(reason, kept))
         if self.errors == "raise":
             raise Fault(row.text, row.status, number, row.more)
         return row
@@ -302,8 +299,8 @@ class Answers(Generic[Found, Told, OfNumpy, OfArray], Iterator[Found]):
 
     def columns(self, kind: Optional[str] = None) -> Any:
         """All answers at once, as columns: arrays of numpy if it is installed, and else of the module `array`; or of the kind that is asked
-        for. Columns have no place for a missing answer: a divisor that is refused, or a rank past the limits, is raised as a Fault, whose
-        `table` is its number. `help(dollar.columns)` has an example.
+        for. Columns have no place for a missing answer: a divisor that is refused, or a first loss that is not named, is raised as a
+        Fault, whose `table` is its number. `help(dollar.columns)` has an example.
         """
         if self._found is not None or self._skipped:
             raise ValueError("the sweep has begun: ask again for columns")
@@ -444,7 +441,7 @@ def rank_test_all(tables: Tables, degree: int, *, workers: Optional[int] = ..., 
 
 def rank_test_all(tables: Tables, degree: int, *, workers: Optional[int] = None, errors: Errors = "row", divisors: Optional[Divisors] = None,
                   ahead: Optional[int] = None, progress: bool = False, program: Optional[Place] = None) -> RankTests[Any]:
-    """The rank tests of a degree, as `judge_all` has verdicts. If a law settles a test past the limits, it has no first loss.
+    """The rank tests of a degree, as `judge_all` has verdicts. A test past the limits has no first loss.
 
     >>> from dollar import Table
     >>> pair = Table([[0, 1], [1, 0]])
@@ -473,8 +470,7 @@ def rr_all(tables: Tables, *, workers: Optional[int] = ..., errors: Errors = ...
 
 def rr_all(tables: Tables, *, workers: Optional[int] = None, errors: Errors = "row", divisors: Optional[Divisors] = None,
            ahead: Optional[int] = None, progress: bool = False, program: Optional[Place] = None) -> RiemannRochs[Any]:
-    """The four numbers of the tables, as `judge_all` has verdicts. If both ranks are past the limits, it is a `RefusedRiemannRoch`, which
-    has the degree and the genus.
+    """The four numbers of the tables, as `judge_all` has verdicts. On graphs of many edges some ranks take long.
 
     >>> from dollar import Table
     >>> pair = Table([[0, 3], [3, 0]])

@@ -490,8 +490,8 @@ class Table(AbstractMapping[str, Any]):
         return None if any(reduced) else script
 
     def rank(self, *, program: Optional[Place] = None) -> int:
-        """The rank of the divisor; -1 if it can't be won. It is a Fault, `too many trials`, if both ranks of Riemann-Roch are past the
-        limits. For many divisors `rr_all` has their ranks at a hundredth of the cost.
+        """The rank of the divisor; -1 if it can't be won. On graphs of many edges that may take long. For many divisors `rr_all` has
+        their ranks at a hundredth of the cost.
 
         >>> Table([[0, 3], [3, 0]], [2, 2]).rank()
         2

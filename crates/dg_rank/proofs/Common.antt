@@ -5,16 +5,14 @@ pub use Rattle.dg_graph.proofs.SetLaws.{in_set-none}
 pub use Rattle.dg_graph.specs.Graph.{IsGraph}
 pub use Rattle.dg_theory.specs.Sets.{IsSubset}
 unfoldable pub use Rattle.dg_graph.specs.Sets.{in_set}
-pub use Rattle.dg_burn.proofs.Tried.{greedy-once}
-pub use Rattle.dg_theory.specs.GreedyDetermining.{IsGreedyDeterminingSet, others}
-pub use Rattle.dg_rank.specs.Asked.{AreSetsForTrials, DeterminesTrialsFrom, IsSetForTrials}
+pub use Rattle.dg_rank.specs.Asked.{AreSetsForTrials, DeterminesTrialsFrom}
 pub use Rattle.dg_rank.specs.Boxes.{BoxWins, IsBoxLoss, IsFirstTrialFrom, IsTrialFrom, IsInBox, IsTrialLossFrom, TrialsWinFrom}
 pub use Rattle.dg_rank.specs.Divisors.{HoldsTrial, amounts_of_trial}
 pub use Rattle.dg_rank.specs.Ladders.{AnswersRankTest, AreRankTestAnswers, FailsRankTestsAfter, MeetsTooManyTrials, PassesRankTestsBelow, RankByTrialLadder, RanksByTrialLadders}
 pub use Rattle.dg_rank.specs.Limits.{ArePastTrialLimits, AreTrialsWithinLimits}
 pub use Rattle.dg_rank.specs.Losses.{AllTrialsWin, IsFirstLossOfTrials, IsTrialLeftBeforeLast, WinsWithoutTrial}
 pub use Rattle.dg_rank.specs.Pieces.{start_of_trials}
-pub use Rattle.dg_rank.specs.Ranks.{BothArePast, FailsRankTestsFirstAt, IsSetAskedByTrials, IsPastAskedTrials, how_many_trial_places, IsRankInLimits, IsRankUntold, IsRankTestWithinLimits, NeedsPastTests, NeedsTooMany}
+pub use Rattle.dg_rank.specs.Ranks.{FailsRankTestsFirstAt, IsRankInLimits, IsRankTestWithinLimits, NeedsTooMany}
 pub use Rattle.dg_rank.specs.Trials.{AnyTrial, AreTrialsCounted, IsTrialBefore, IsTrialNumbering, IsTrial}
 pub use Rattle.dg_rank.specs.declared.counting.TheConstants.{MAX_TRIALS}
 pub use Rattle.dg_rank.specs.declared.pieces.Search.{Search}

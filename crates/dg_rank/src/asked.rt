@@ -1,16 +1,14 @@
 //! The vertices that rank tests ask: it is enough to lose dollars at these. A determining set of vertices takes as long to make
 //! as some dozens of boxes to search, so it is made once a search is longer than that.
-ghost use Rattle.std.specs.Prelude.{◌≡◌, ℕ, ◌<◌, ◌≤◌, ⊤, true, MatchBool, MatchOption, slice_index, if◌then◌else◌};
+ghost use Rattle.std.specs.Prelude.{◌≡◌, ℕ, ◌<◌, ◌≤◌, true, MatchOption, slice_index, if◌then◌else◌};
 ghost use Rattle.dg_theory.specs.Firing.{IsEffective};
 ghost use Rattle.dg_graph.specs.Sets.{in_set};
 ghost use Rattle.dg_chips.specs.Vector.{at};
-ghost use Rattle.dg_rank.specs.Asked.{AreSetsForTrials, IsSetForTrials};
+ghost use Rattle.dg_rank.specs.Asked.{AreSetsForTrials, DeterminesTrialsFrom};
 ghost use Rattle.dg_rank.specs.Boxes.{TrialsWinFrom, IsTrialLossFrom};
 ghost use Rattle.dg_rank.specs.Losses.{AddUpToFewForTrials};
-ghost use Rattle.dg_rank.specs.Ranks.{IsPastAskedTrials, how_many_trial_places};
 
 use crate::boxes::{Stopped, find_in_box};
-use crate::counting::trials;
 use crate::enumeration::Trial;
 use dg_burn::determining_set;
 use dg_graph::{Graph, MAX_VERTICES, contains, with_vertex};
@@ -54,31 +52,12 @@ pub(crate) fn find_from(
     }
 }
 
-/// Whether the trials of degree k are within the limits, if they are counted on the determining set of all vertices.
-pub(crate) fn may_make_trials(graph: &Graph, made: &mut [u16; 16], k: u32) -> bool
-    requires some { 0 < graph.now.size }
-    requires made { AreSetsForTrials graph.now made.old }
-    ensures made { AreSetsForTrials graph.now made.new }
-    ensures few { MatchBool result (k ≤ 1000) ⊤ }
-    ensures asked { MatchBool result (¬ IsPastAskedTrials graph.now k) (IsPastAskedTrials graph.now k) }
-{
-    let size = graph.size();
-    if let Some(_count) = trials(size, k) {
-        return true;
-    }
-    let set = tried_set_from(graph, made, 0);
-    match trials(count_tried_vertices(size, set), k) {
-        Some(_count) => true,
-        None => false,
-    }
-}
-
 /// The determining set for the losses that hold nothing before a place.
 fn tried_set_from(graph: &Graph, made: &mut [u16; 16], place: usize) -> u16
     requires place { place < graph.now.size }
     requires made { AreSetsForTrials graph.now made.old }
     ensures made { AreSetsForTrials graph.now made.new }
-    ensures asked { IsSetForTrials graph.now place (in_set result) }
+    ensures determines { DeterminesTrialsFrom graph.now place (in_set result) }
 {
     let size = graph.size();
     let known = made[place];
@@ -115,18 +94,4 @@ fn trial_places_from(size: usize, place: usize) -> u16
         set = with_vertex(set, v);
     }
     set
-}
-
-/// How many vertices are in a set.
-fn count_tried_vertices(size: usize, set: u16) -> usize
-    requires { size ≤ MAX_VERTICES }
-    ensures { result ≡ how_many_trial_places size (in_set set) }
-{
-    let mut count = 0;
-    for v in 0..size {
-        if contains(set, v) {
-            count += 1;
-        }
-    }
-    count
 }

@@ -21,5 +21,4 @@ pub mod JoinLaws
 pub mod DualityLaws
 pub mod DeterminingLaws
 -- For the proofs of other crates.
-pub mod GreedyDetermining
 pub mod Distances

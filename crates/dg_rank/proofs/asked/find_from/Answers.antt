@@ -18,4 +18,4 @@ returns-clause-told c =
     let g = c.args.graph.now in
     told_from g (at c.args.left.now) c.args.place (in_set c.tried_set_from.result) c.box_room_at-room-2.result c.args.dollars
     c.in-Ok-find_in_box.found c.size-size.ensures.graph.few (omega (arith, c.requires.place))
-    c.tried_set_from.ensures.asked.determines c.box_room_at-room-2.ensures c.in-Ok-find_in_box.ensures
+    c.tried_set_from.ensures.determines c.box_room_at-room-2.ensures c.in-Ok-find_in_box.ensures
