@@ -4,10 +4,13 @@
 --   bears_box        where all of a box win that has room at the vertices of a set, each loss within it can be borne
 --   wins_from        so if the set determines the losses that hold nothing before a place, these can
 --   rank_from        and from place 0 on that is a rank
---   none_made, made_at   the sets that are made: none at first, then one more
+--   none_made, made_at   what is made: nothing at first, then one more set
+--   no_twins         sets of twins without anybody
 --   loss_from        a loss of the box holds nothing before the place
 --   told_from        so what is told of the box is told of these losses
-use Rattle.dg_rank.proofs.Common.{◌-◌, if◌then◌else◌, ◌≡◌, ℕ, ◌<◌, ◌≤◌, inl, inr, ⊎_elim, Bool, true, false, List, arith, cases_eq, cases_lt, cases_Bool, both_ways, false_from_ne_true, ints, ◌≤ℤ◌, slice_index, length, set, get_or-set_same, get_or-set_other, get_or-replicate, replicate, Option, Some, None, MatchOption, AreSetsForTrials, IsBoxLoss, IsTrialLossFrom, in_set, Multigraph, BearsLosses, Determines, Amounts, degree, HasRankAtLeast, sum_below-one, IsSubset, TrialsWinFrom, BoxWins, DeterminesTrialsFrom}
+use Rattle.dg_rank.proofs.Common.{if◌then◌else◌, ◌≡◌, ℕ, ◌<◌, ◌≤◌, inl, inr, ⊎_elim, Bool, true, false, List, arith, cases_eq, cases_lt, cases_Bool, both_ways, false_from_ne_true, ints, ◌≤ℤ◌, slice_index, length, set, get_or-set_same, get_or-set_other, get_or-replicate, replicate, Option, Some, None, MatchOption, IsMadeOf, IsBoxLoss, IsTrialLossFrom, in_set, in_set-none, Multigraph, BearsLosses, Determines, Amounts, degree, HasRankAtLeast, sum_below-one, IsSubset, TrialsWinFrom, BoxWins, DeterminesTrialsFrom}
+use Rattle.dg_rank.specs.Boxes.{AreTwinsInSets}
+use Rattle.dg_rank.specs.declared.asked.Made.{Made}
 
 pub record IsAllFrom (n d : ℕ) (U : ℕ → Bool) : Type 0 where
   pub part : (v : ℕ) → U v ≡ true → (d ≤ v) × (v < n)
@@ -59,15 +62,23 @@ rank_from g A k wins E effective of_degree = wins E (record {
   empty = λ v low. absurd (omega arith);
 })
 
-pub none_made : (g : Multigraph) → g.size ≤ 16 → AreSetsForTrials g (replicate 16 0)
-none_made g few p below = inl (get_or-replicate 16 p 0 0 (omega arith))
+pub none_made : (g : Multigraph) → g.size ≤ 16 → IsMadeOf g (record { sets = replicate 16 0; twins = None })
+none_made g few = record { sets = λ p below. inl (get_or-replicate 16 p 0 0 (omega arith)); twins = tt }
 
-pub made_at : (g : Multigraph) (l : List ℕ) (d m : ℕ) → d < length l → AreSetsForTrials g l →
-    DeterminesTrialsFrom g d (in_set m) → AreSetsForTrials g (set l d m)
-made_at g l d m inside made new p below = ⊎_elim
-    (λ (same : p ≡ d). inr (rw (same, get_or-set_same l d m 0 inside) new))
-    (λ (other : p ≡ d → ⊥). rw (get_or-set_other l d p m 0 other) (made p below))
-    (cases_eq p d)
+pub no_twins : (g : Multigraph) → g.size ≤ 16 → AreTwinsInSets g (replicate 16 0)
+no_twins g few v u below member =
+    let none : slice_index (replicate 16 0) v ≡ 0 = get_or-replicate 16 v 0 0 (omega arith) in
+    absurd (both_ways _ (in_set-none u) (rw none at member))
+
+pub made_at : (g : Multigraph) (a : Made) (d m : ℕ) → d < length a.sets → IsMadeOf g a →
+    DeterminesTrialsFrom g d (in_set m) → IsMadeOf g (record { sets = set a.sets d m; twins = a.twins })
+made_at g a d m inside made new = record {
+  sets = λ p below. ⊎_elim
+      (λ (same : p ≡ d). inr (rw (same, get_or-set_same a.sets d m 0 inside) new))
+      (λ (other : p ≡ d → ⊥). rw (get_or-set_other a.sets d p m 0 other) (made.sets p below))
+      (cases_eq p d);
+  twins = made.twins;
+}
 
 pub loss_from : (g : Multigraph) (A : Amounts) (d : ℕ) (S : ℕ → Bool) (room : List ℕ) (r : ℕ) (E : List ℕ) → g.size ≤ 16 →
     d ≤ g.size → DeterminesTrialsFrom g d S → IsRoomAt room S r → IsBoxLoss g A room r E → IsTrialLossFrom g A r d E

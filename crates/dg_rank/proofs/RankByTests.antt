@@ -5,7 +5,7 @@
 --   not_all_pass      from the genus on, and where it is not rich, a divisor fails
 --   in_limits         the rank is told within the limits, where the next test is
 --   needs_too_many    where a test of the next degree after the rank is past the limits, too many tests are needed
-use Rattle.dg_rank.proofs.Common.{◌≡◌, ℕ, zero, suc, ◌+◌, ◌<◌, ◌≤◌, arith, refl, sym, subst, unsigned_abs, ◌≤ℤ◌, ◌<ℤ◌, ints, by_lt_z, ℤ, pos, ◌-ℤ◌, Multigraph, IsMultigraph, genus, Amounts, degree, less, canonical, HasRankAtLeast, IsRank, poor_rank, rank_passes, rank_of_dual, IsDual, high_rank, AreTrialsWithinLimits, ArePastTrialLimits, IsRankInLimits, NeedsTooMany, FailsRankTestsFirstAt}
+use Rattle.dg_rank.proofs.Common.{◌≡◌, ℕ, zero, suc, ◌+◌, ◌<◌, ◌≤◌, arith, refl, sym, subst, unsigned_abs, ◌≤ℤ◌, ◌<ℤ◌, ints, by_lt_z, ℤ, pos, ◌-ℤ◌, Multigraph, IsMultigraph, genus, Amounts, degree, less, canonical, HasRankAtLeast, IsRank, poor_rank, rank_passes, rank_of_dual, IsDual, high_rank, IsRankTestWithinLimits, ArePastTrialLimits, IsRankInLimits, NeedsTooMany, FailsRankTestsFirstAt}
 use Rattle.std.proofs.Math.IntN.{◌+ℤ◌}
 
 pub rank_before : (g : Multigraph) (D : Amounts) (k : ℕ) → FailsRankTestsFirstAt g D k → IsRank g D (pos k -ℤ pos 1)
@@ -41,11 +41,11 @@ pub not_all_pass : (g : Multigraph) (D : Amounts) (k : ℕ) → IsMultigraph g �
 not_all_pass g D k graph some high poor rank =
     let none : ⊥ = omega (arith, ints, high_rank g D k graph some high rank) in none
 
-pub in_limits : (g : Multigraph) (D : Amounts) (k c : ℕ) (r : ℤ) → IsRank g D (pos k -ℤ pos 1) → r ≡ pos k -ℤ pos 1 →
-    AreTrialsWithinLimits g.size k c → IsRankInLimits g D r
-in_limits g D k c r rank same within = record {
+pub in_limits : (g : Multigraph) (D : Amounts) (k : ℕ) (r : ℤ) → IsRank g D (pos k -ℤ pos 1) → r ≡ pos k -ℤ pos 1 →
+    IsRankTestWithinLimits g.size k → IsRankInLimits g D r
+in_limits g D k r rank same within = record {
   is_rank = subst (IsRank g D) (sym same) rank;
   next = k;
   follows = omega (arith, ints);
-  within = (c, within);
+  within = within;
 }

@@ -15,7 +15,7 @@
 --                                   no definition can say
 use Rattle.std.specs.Prelude.{◌≡◌, ℕ, ◌<◌, ◌≤◌, ◌⊎◌, ℤ, pos, ◌+ℤ◌}
 use Rattle.dg_chips.specs.Vector.{IsInRange}
-use Rattle.dg_theory.specs.Firing.{Amounts, degree}
+use Rattle.dg_theory.specs.Firing.{Amounts}
 use Rattle.dg_theory.specs.Multigraph.{Multigraph}
 use Rattle.dg_theory.specs.Rank.{less, canonical, HasRankAtLeast, IsRank}
 use Rattle.dg_rank.specs.Limits.{AreTrialsWithinLimits, ArePastTrialLimits}

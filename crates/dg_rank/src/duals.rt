@@ -7,10 +7,10 @@ ghost use Rattle.dg_theory.specs.Firing.{degree};
 ghost use Rattle.dg_theory.specs.Rank.{less, canonical, HasRankAtLeast};
 ghost use Rattle.dg_graph.specs.Graph.{IsGraph};
 ghost use Rattle.dg_chips.specs.Vector.{at};
-ghost use Rattle.dg_rank.specs.Asked.{AreSetsForTrials};
+ghost use Rattle.dg_rank.specs.Asked.{IsMadeOf};
 ghost use Rattle.dg_rank.specs.Losses.{AreSmallForTrials};
 
-use crate::asked::find_from;
+use crate::asked::{Made, find_from};
 use crate::enumeration::Trial;
 use crate::first_loss::left_before_last;
 use dg_chips::{Divisor, Wide};
@@ -27,10 +27,11 @@ pub fn has_rank(graph: &Graph, divisor: &Divisor, k: u32) -> bool
         (HasRankAtLeast graph.now (at divisor.now) k)
         (¬ HasRankAtLeast graph.now (at divisor.now) k) }
 {
+    let _size = graph.size();
     passes_rank_test(
         graph,
         &InverseLaplacian::new(graph, 0),
-        &mut [0; 16],
+        &mut Made::nothing(),
         divisor,
         k,
     )
@@ -40,14 +41,14 @@ pub fn has_rank(graph: &Graph, divisor: &Divisor, k: u32) -> bool
 pub(crate) fn passes_rank_test(
     graph: &Graph,
     inverse: &InverseLaplacian,
-    made: &mut [u16; 16],
+    made: &mut Made,
     divisor: &Divisor,
     k: u32,
 ) -> bool
     requires size { divisor.now.size ≡ graph.now.size }
     requires some { 0 < graph.now.size }
-    requires made { AreSetsForTrials graph.now made.old }
-    ensures made { AreSetsForTrials graph.now made.new }
+    requires made { IsMadeOf graph.now made.old }
+    ensures made { IsMadeOf graph.now made.new }
     ensures tells { MatchBool result
         (HasRankAtLeast graph.now (at divisor.now) k)
         (¬ HasRankAtLeast graph.now (at divisor.now) k) }
@@ -83,15 +84,15 @@ pub(crate) fn degree_left(divisor: &Divisor, k: u32) -> i64
 pub(crate) fn dual_passes_rank_test(
     graph: &Graph,
     inverse: &InverseLaplacian,
-    made: &mut [u16; 16],
+    made: &mut Made,
     divisor: &Divisor,
     k: u32,
 ) -> bool
     requires size { divisor.now.size ≡ graph.now.size }
     requires some { 0 < graph.now.size }
     requires few { k ≤ 1000 }
-    requires made { AreSetsForTrials graph.now made.old }
-    ensures made { AreSetsForTrials graph.now made.new }
+    requires made { IsMadeOf graph.now made.old }
+    ensures made { IsMadeOf graph.now made.new }
     ensures told { MatchBool result (HasRankAtLeast graph.now (at divisor.now) k) ⊤ }
 {
     let _size = graph.size();
@@ -146,7 +147,7 @@ fn dual_for_rank(graph: &Graph, divisor: &Divisor) -> Wide
 fn all_trials_win(
     graph: &Graph,
     inverse: &InverseLaplacian,
-    made: &mut [u16; 16],
+    made: &mut Made,
     amounts: &Wide,
     k: u32,
 ) -> bool
@@ -155,8 +156,8 @@ fn all_trials_win(
     requires size { amounts.now.size ≡ graph.now.size }
     requires range { AreSmallForTrials graph.now.size (at amounts.now) }
     requires few { k ≤ 1000 }
-    requires made { AreSetsForTrials graph.now made.old }
-    ensures made { AreSetsForTrials graph.now made.new }
+    requires made { IsMadeOf graph.now made.old }
+    ensures made { IsMadeOf graph.now made.new }
     ensures told { MatchBool result
         (HasRankAtLeast graph.now (at amounts.now) k)
         (¬ HasRankAtLeast graph.now (at amounts.now) k) }

@@ -4,8 +4,9 @@ ghost use Rattle.std.specs.Prelude.{◌≡◌, ◌<◌, true, MatchOption};
 ghost use Rattle.dg_theory.specs.Multigraph.{genus};
 ghost use Rattle.dg_theory.specs.Firing.{degree};
 ghost use Rattle.dg_chips.specs.Vector.{at};
-ghost use Rattle.dg_rank.specs.Ranks.{AreBothRanks, IsRankInLimits, AreRanksInLimits, NeedsTooMany, EitherNeedsTooMany, FailsRankTestsFirstAt};
+ghost use Rattle.dg_rank.specs.Ranks.{AreBothRanks, IsRankInLimits, AreRanksInLimits, NeedsTooMany, EitherNeedsTooMany, FailsRankTestsFirstAt, IsRankTestWithinLimits};
 
+use crate::asked::Made;
 use crate::counting::trials;
 use crate::duals::{passes_rank_test, rank_degree_of_dual, ranks_apart};
 use dg_chips::Divisor;
@@ -21,9 +22,8 @@ pub fn rank(graph: &Graph, q: usize, divisor: &Divisor) -> Option<i64>
         (NeedsTooMany graph.now (at divisor.now))
         (IsRankInLimits graph.now (at divisor.now)) }
 {
-    let size = graph.size();
+    let _size = graph.size();
     let fails = first_failing(graph, &InverseLaplacian::new(graph, 0), divisor, true)?;
-    trials(size, fails)?;
     Some(i64::from(fails) - 1)
 }
 
@@ -40,11 +40,7 @@ pub fn both_ranks(graph: &Graph, divisor: &Divisor) -> (i64, i64)
 
 /// Both ranks as `both_ranks` tells them, by an inverse of the graph's Laplacian that many calls share. The answer is the
 /// same whatever inverse it is; that of the graph for its first vertex is the quick one.
-pub fn both_ranks_by(
-    graph: &Graph,
-    inverse: &InverseLaplacian,
-    divisor: &Divisor,
-) -> (i64, i64)
+pub fn both_ranks_by(graph: &Graph, inverse: &InverseLaplacian, divisor: &Divisor) -> (i64, i64)
     requires size { divisor.now.size ≡ graph.now.size }
     requires some { 0 < graph.now.size }
     ensures { AreBothRanks graph.now (at divisor.now) result }
@@ -69,13 +65,12 @@ pub fn both_ranks_in_limits(graph: &Graph, q: usize, divisor: &Divisor) -> Optio
     let size = graph.size();
     let fails = first_failing(graph, &InverseLaplacian::new(graph, 0), divisor, true)?;
     let dual_fails = rank_degree_of_dual(graph, divisor, fails);
-    trials(size, fails)?;
     trials(size, dual_fails)?;
     Some((i64::from(fails) - 1, i64::from(dual_fails) - 1))
 }
 
-/// The least degree at which the rank test of a divisor fails. `None` if the tests are limited, and all pass before one that is
-/// past the limits.
+/// The least degree at which the rank test of a divisor fails. If the tests are limited, that one is within the limits; `None` if
+/// all pass before one that is past them.
 fn first_failing(
     graph: &Graph,
     inverse: &InverseLaplacian,
@@ -86,13 +81,14 @@ fn first_failing(
     requires some { 0 < graph.now.size }
     ensures { MatchOption result
         ((limited ≡ true) × NeedsTooMany graph.now (at divisor.now))
-        (FailsRankTestsFirstAt graph.now (at divisor.now)) }
+        (λ k. FailsRankTestsFirstAt graph.now (at divisor.now) k
+        × (limited ≡ true → IsRankTestWithinLimits graph.now.size k)) }
 {
     let size = graph.size();
     // A divisor passes all tests for which it is rich. It fails the first other one past half its degree, at the genus at last.
     let first = ranks_apart(graph, divisor).max(0);
     let end = first.max(i64::from(graph.genus())) + 1;
-    let mut made = [0; 16];
+    let mut made = Made::nothing();
     for k in first as u32..end as u32 {
         if limited {
             trials(size, k)?;

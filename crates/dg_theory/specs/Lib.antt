@@ -9,6 +9,7 @@ pub mod Burning
 pub mod Rank
 pub mod Determining
 pub mod Joins
+pub mod Twins
 -- The laws, which are proved.
 pub mod FiringLaws
 pub mod EquivalenceLaws

@@ -1,9 +1,9 @@
-use Rattle.dg_rank.proofs.Common.{◌≡◌, arith, sym, subst, ⊎_elim, ◌≤ℤ◌, cases_eq, ints, pos, genus, degree, HasRankAtLeast, rich_rank, natural, at}
-use Rattle.dg_rank.proofs.AskedVertices.{none_made}
+use Rattle.dg_rank.proofs.Common.{◌≡◌, arith, sym, subst, both_ways, ⊎_elim, ◌≤ℤ◌, cases_eq, ints, pos, genus, degree, HasRankAtLeast, rich_rank, natural, at}
 use Rattle.dg_rank.proofs.RankByTests.{not_all_pass}
 use Rattle.dg_rank.proofs.SmallDegrees.{genus_small, genus_least}
 use Rattle.dg_rank.proofs.TestDegrees.{rich_below, first_small, last_small, one_more, last_tested, through}
 use Rattle.dg_rank.proofs.numbers.first_failing.Goals as goal
+use Rattle.dg_rank.proofs.numbers.first_failing.Goals.{then-limited+in_ok-trials, else-limited}
 
 pub loop-k-init : goal.loop-k-init
 loop-k-init c =
@@ -13,7 +13,7 @@ loop-k-init c =
       passed = λ j below. rich_rank g D j c.size-size.ensures.graph.multigraph (omega arith)
           (rich_below (degree g.size D) (genus g) c.ranks_apart.result c.max-first.result j
           c.ranks_apart.ensures.apart c.ranks_apart.ensures.small c.max-first.ensures.value below);
-      made = none_made g c.size-size.ensures.graph.few;
+      made = c.nothing-made.ensures g c.size-size.ensures.graph.few;
     }
 
 pub returns-in_err-trials : goal.returns-in_err-trials
@@ -26,6 +26,15 @@ returns-in_err-trials c =
         passed = c.loop-k.invariant.passed;
       },
     )
+
+pub returns-then-not-passes_rank_test : goal.returns-then-not-passes_rank_test
+returns-then-not-passes_rank_test c = (
+  record { passed = c.loop-k.invariant.passed; fails = c.if-not-passes_rank_test.ensures.tells },
+  elim c.if-limited.branch [
+    | then-limited+in_ok-trials w ↦ λ _. (w.in_ok-trials.field-0, rw c.size-size.ensures.size at w.in_ok-trials.ensures)
+    | else-limited w ↦ λ limited. absurd (both_ways _ w.if-limited.false limited)
+  ],
+)
 
 pub loop-k-preserved : goal.loop-k-preserved
 loop-k-preserved c = record {
