@@ -119,8 +119,8 @@ fn is_past_the_limits(
     Ok(())
 }
 
-// Of degree g - 1 both tests have the same degree. With two edges between each two of eight vertices all are asked: no vertex
-// has just one edge to another. So 16, a third of the degree, has 245,157 trials, and no limit keeps them from being made.
+// Of degree g - 1 both tests have the same degree, and that of 16 dollars has 245,157 trials. By Baker and Norine's formula the
+// rank is 15: 1 less than the least degree of the positive part of D - nu_P, over the class and all orders P.
 #[test]
 fn many_trials_of_both(rt: HostRuntime) -> Result<(), Fail> {
     let eight = complete(2)?;

@@ -1,4 +1,4 @@
-use Rattle.dg_burn.proofs.Common.{◌<◌, ◌≡◌, arith, sym, in_set, in_set-none}
+use Rattle.dg_burn.proofs.Common.{arith, in_set, in_set-none}
 use Rattle.dg_theory.proofs.Determining.{determines_losses}
 use Rattle.dg_burn.proofs.Tried.{growing-alone, meets-all, meets-fewer, part-fewer}
 use Rattle.dg_burn.proofs.special.determining_set.Goals as goal
@@ -19,12 +19,12 @@ determines_without-requires c =
 pub loop-v-preserved : goal.loop-v-preserved
 loop-v-preserved c = elim c.if-contains.branch [
   | then-contains+then-determines_without w ↦ rw w.asked-is record {
-      part = part-fewer (in_set c.loop-v.asked) (in_set w.without_vertex-fewer.result) (in_set c.args.within) c.loop-v.v
-          c.loop-v.invariant.part w.without_vertex-fewer.ensures;
-      meets = meets-fewer c.args.graph.now (in_set c.loop-v.asked) (in_set w.without_vertex-fewer.result)
-          (in_set c.args.within) (in_set 0) (in_set w.with_vertex.result) c.loop-v.v c.loop-v.invariant.meets
-          w.without_vertex-fewer.ensures in_set-none w.with_vertex.ensures w.if-determines_without.ensures;
-    }
+    part = part-fewer (in_set c.loop-v.asked) (in_set w.without_vertex-fewer.result) (in_set c.args.within) c.loop-v.v
+        c.loop-v.invariant.part w.without_vertex-fewer.ensures;
+    meets = meets-fewer c.args.graph.now (in_set c.loop-v.asked) (in_set w.without_vertex-fewer.result)
+        (in_set c.args.within) (in_set 0) (in_set w.with_vertex.result) c.loop-v.v c.loop-v.invariant.meets
+        w.without_vertex-fewer.ensures in_set-none w.with_vertex.ensures w.if-determines_without.ensures;
+  }
   | then-contains+else-determines_without w ↦ rw w.asked-is c.loop-v.invariant
   | else-contains w ↦ rw w.asked-is c.loop-v.invariant
 ]
