@@ -48,11 +48,11 @@ Divisors = Iterable[Union[Table, Dollars]]
 class Sweep:
     """One run of a command over lines. All is done in the thread of the caller: the tables are taken there, and sent as far as the
     pipe takes their lines, and the answers are read as they come. A word as bytes stands for a file with these bytes. At most `ahead`
-    tables are taken before their answers are read."""
+    tables are taken before their answers are read, and `patience` is how many seconds there may be no answer."""
 
-    def __init__(self, words: Sequence[Union[str, bytes]], tables: Iterator[Kept], program: Optional[Place],
+    def __init__(self, words: Sequence[Union[str, bytes]], tables: Iterator[Kept], program: Optional[Place], patience: Optional[float],
                  ahead: Optional[int] = None) -> None:
-        self.said = tempfile.TemporaryFile()
+        self.said, self.patience = tempfile.TemporaryFile(), patience
         with command_line(words, program) as (line, descriptors):
             # An interrupt at the terminal is for Python, which ends the program when the sweep is left.
             self.child = subprocess.Popen(line, bufsize=0, stdin=subprocess.PIPE, stdout=subprocess.PIPE, stderr=self.said,
@@ -124,7 +124,9 @@ class Sweep:
             is_idle = not self.unsent and not self.input.closed
             if is_idle and self.waiting and (self.is_slow or len(self.waiting) >= self.ahead):
                 is_idle = False
-            readable, writable = self.ready(0 if is_idle else None)
+            readable, writable = self.ready(0 if is_idle else self.patience)
+            if not (is_idle or readable or writable):
+                raise TimeoutError("no answer for %s seconds" % self.patience)
             if is_idle and not readable:
                 self.is_slow = False
                 self.take()
@@ -166,16 +168,16 @@ class Progress:
 
     def add(self, count: int) -> None:
         self.count += count
-        if self.is_shown and time.monotonic() - self.at > 0.2:
+        if time.monotonic() - self.at > 0.2:
             self.tell("")
 
     def tell(self, end: str) -> None:
         self.at = time.monotonic()
-        print("\r%d %s" % (self.count, self.unit), end=end, file=sys.stderr, flush=True)
+        if self.is_shown:
+            print("\r%d %s" % (self.count, self.unit), end=end, file=sys.stderr, flush=True)
 
     def close(self) -> None:
-        if self.is_shown:
-            self.tell("\n")
+        self.tell("\n")
 
 
 class Lines(NamedTuple):
@@ -195,6 +197,7 @@ class Job(NamedTuple):
     lines: Lines
     program: Optional[Place]
     ahead: Optional[int]
+    patience: Optional[float]
     progress: bool
     errors: str
     refused: Callable[..., Any]
@@ -234,7 +237,7 @@ class Job(NamedTuple):
 
 def answers_one_by_one(job: Job, number: int, over: List[bool]) -> Iterator[Any]:
     """The answers, of which the first has this number. It is noted in `over` that they have come to their end."""
-    sweep = Sweep(job.lines.words, job.lines.one_by_one, job.program, job.ahead)
+    sweep = Sweep(job.lines.words, job.lines.one_by_one, job.program, job.patience, job.ahead)
     progress = Progress(job.progress)
     try:
         for piece in sweep.pieces():
@@ -311,7 +314,7 @@ class Answers(Generic[Found, Told, OfNumpy, OfArray], Iterator[Found]):
             raise ImportError("columns of numpy are asked for, and numpy is not installed")
         job, columns = self._job, self._columns(self._job.lines.vertices, numpy)
         self.close()
-        sweep = Sweep(job.lines.words, job.lines.by_batches, job.program)
+        sweep = Sweep(job.lines.words, job.lines.by_batches, job.program, job.patience)
         sweep.widen()
         progress, answered = Progress(job.progress), 0
         try:
@@ -424,24 +427,26 @@ def judge_all(tables: Tables, *, workers: Optional[int] = None, errors: Errors =
     """
     lines = asked("judge", [], tables, divisors, workers, errors)
     one = None if lines.vertices is None else verdict_form(lines.vertices)
-    return Answers(Job(lines, program, ahead, progress, errors, RefusedVerdict, lambda kept: verdict_form(vertices_kept(kept)), one),
+    return Answers(Job(lines, program, ahead, None, progress, errors, RefusedVerdict, lambda kept: verdict_form(vertices_kept(kept)), one),
                    of_one_table(VerdictColumns))
 
 
 @overload
 def rank_test_all(tables: Tables, degree: int, *, workers: Optional[int] = ..., errors: Literal["raise"], divisors: Optional[Divisors] = ...,
-                  ahead: Optional[int] = ..., progress: bool = ..., program: Optional[Place] = ...) -> RankTests[RankTest]: ...
+                  ahead: Optional[int] = ..., patience: Optional[float] = ..., progress: bool = ...,
+                  program: Optional[Place] = ...) -> RankTests[RankTest]: ...
 
 
 @overload
 def rank_test_all(tables: Tables, degree: int, *, workers: Optional[int] = ..., errors: Errors = ..., divisors: Optional[Divisors] = ...,
-                  ahead: Optional[int] = ..., progress: bool = ...,
+                  ahead: Optional[int] = ..., patience: Optional[float] = ..., progress: bool = ...,
                   program: Optional[Place] = ...) -> RankTests[Union[RankTest, RefusedRankTest]]: ...
 
 
 def rank_test_all(tables: Tables, degree: int, *, workers: Optional[int] = None, errors: Errors = "row", divisors: Optional[Divisors] = None,
-                  ahead: Optional[int] = None, progress: bool = False, program: Optional[Place] = None) -> RankTests[Any]:
-    """The rank tests of a degree, as `judge_all` has verdicts. A test past the limits has no first loss.
+                  ahead: Optional[int] = None, patience: Optional[float] = None, progress: bool = False,
+                  program: Optional[Place] = None) -> RankTests[Any]:
+    """The rank tests of a degree, as `judge_all` has verdicts. A test past the limits has no first loss. `patience` is as for `rr_all`.
 
     >>> from dollar import Table
     >>> pair = Table([[0, 1], [1, 0]])
@@ -453,24 +458,27 @@ def rank_test_all(tables: Tables, degree: int, *, workers: Optional[int] = None,
     degree = within(degree, "the degree", 0, MOST_DEGREE)
     lines = asked("rank", [str(degree)], tables, divisors, workers, errors)
     one = None if lines.vertices is None else rank_test_form(lines.vertices, degree)
-    return Answers(Job(lines, program, ahead, progress, errors, RefusedRankTest, lambda kept: rank_test_form(vertices_kept(kept), degree), one),
-                   of_one_table(RankTestColumns))
+    return Answers(Job(lines, program, ahead, patience, progress, errors, RefusedRankTest,
+                       lambda kept: rank_test_form(vertices_kept(kept), degree), one), of_one_table(RankTestColumns))
 
 
 @overload
 def rr_all(tables: Tables, *, workers: Optional[int] = ..., errors: Literal["raise"], divisors: Optional[Divisors] = ...,
-           ahead: Optional[int] = ..., progress: bool = ..., program: Optional[Place] = ...) -> RiemannRochs[RiemannRoch]: ...
+           ahead: Optional[int] = ..., patience: Optional[float] = ..., progress: bool = ...,
+           program: Optional[Place] = ...) -> RiemannRochs[RiemannRoch]: ...
 
 
 @overload
 def rr_all(tables: Tables, *, workers: Optional[int] = ..., errors: Errors = ..., divisors: Optional[Divisors] = ...,
-           ahead: Optional[int] = ..., progress: bool = ...,
+           ahead: Optional[int] = ..., patience: Optional[float] = ..., progress: bool = ...,
            program: Optional[Place] = ...) -> RiemannRochs[Union[RiemannRoch, RefusedRiemannRoch]]: ...
 
 
 def rr_all(tables: Tables, *, workers: Optional[int] = None, errors: Errors = "row", divisors: Optional[Divisors] = None,
-           ahead: Optional[int] = None, progress: bool = False, program: Optional[Place] = None) -> RiemannRochs[Any]:
-    """The four numbers of the tables, as `judge_all` has verdicts. On graphs of many edges some ranks take long.
+           ahead: Optional[int] = None, patience: Optional[float] = None, progress: bool = False,
+           program: Optional[Place] = None) -> RiemannRochs[Any]:
+    """The four numbers of the tables, as `judge_all` has verdicts. On graphs of many edges some ranks take hours: with `patience` it is a
+    TimeoutError if no answer comes for so many seconds, and with `ahead=1` the table is the one whose answer is next.
 
     >>> from dollar import Table
     >>> pair = Table([[0, 3], [3, 0]])
@@ -481,4 +489,4 @@ def rr_all(tables: Tables, *, workers: Optional[int] = None, errors: Errors = "r
     """
     lines = asked("rr", [], tables, divisors, workers, errors)
     form = riemann_roch_form()
-    return Answers(Job(lines, program, ahead, progress, errors, RefusedRiemannRoch, lambda kept: form, form), RiemannRochColumns)
+    return Answers(Job(lines, program, ahead, patience, progress, errors, RefusedRiemannRoch, lambda kept: form, form), RiemannRochColumns)
