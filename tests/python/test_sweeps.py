@@ -1,4 +1,5 @@
 """Sweeps: in order, lazy, in the thread of the caller, and whatever goes wrong is told after the answers before it."""
+import asyncio
 import contextlib
 import io
 import itertools
@@ -6,9 +7,11 @@ import os
 import sqlite3
 import threading
 import time
+from unittest import mock
 
 import dollar
 from dollar import Fault, Table
+from dollar.board import alone
 from helpers import HUNG, Test, each
 
 PAIR = Table([[0, 2], [2, 0]])
@@ -59,6 +62,9 @@ class OfSweeps(Test):
         for ask in (dollar.rank, dollar.rr, lambda table, **how: dollar.rank_test(table, 1, **how)):
             with self.assertRaisesRegex(TimeoutError, "no answer for 0.2 seconds"):
                 ask(PAIR, patience=0.2, program=silent)
+        with mock.patch.dict(os.environ, DOLLAR=str(silent)), mock.patch.object(alone, "FOR_A_RANK", 0.2):
+            said = asyncio.run(alone.question({"command": "rr", "table": PAIR.to_json()}.__getitem__))
+        self.assertEqual((said["status"], said.get("late")), (None, True))
         once = self.script("#!/bin/sh\nread line\necho '0 1 0 0'\nexec sleep %d\n" % HUNG)
         answers = dollar.rr_all([PAIR, PAIR], patience=0.2, program=once)
         self.assertEqual(next(answers).rank, 0)
