@@ -176,7 +176,7 @@ class Verdict(OfTable):
 @dataclass(frozen=True, eq=False)
 class RankTest(OfTable):
     """Whether so many dollars can be lost, no matter where; if not, the first way to lose them after which the table can't be won.
-    `loss` is also None if a law settles a test that is past the limits.
+    `loss` is also None if there are too many trials to name the first.
 
     >>> from dollar import Table, rank_test
     >>> table = Table([[0, 3], [3, 0]], [1, 1])
@@ -500,18 +500,18 @@ class RefusedRankTest(Refused):
 
 @dataclass(eq=False)
 class RefusedRiemannRoch(Refused):
-    """A table that was refused its four numbers, or whose ranks are both past the limits: then it has the degree and the genus."""
+    """A table that was refused its four numbers."""
 
-    degree: Optional[int] = None
-    genus: Optional[int] = None
+    degree: None = None
+    genus: None = None
     rank: None = None
     dual: None = None
     refused: str = ""
 
 
-def refusal(kind: Callable[..., Row], text: str, table: Optional[int], more: str = "", **known: int) -> Row:
+def refusal(kind: Callable[..., Row], text: str, table: Optional[int], more: str = "") -> Row:
     """The row of such a kind for a table that was refused."""
-    row = kind(refused=text, **known)
+    row = kind(refused=text)
     Fault.__init__(row, text, 3, table, more)
     return row
 
@@ -627,13 +627,13 @@ def rank_test_of(text: str, table: Any = None, vertices: Optional[Vertices] = No
     return test
 
 
-RIEMANN_ROCH = re.compile(r"degree (-?\d+) genus (-?\d+) rank (-?\d+|\?) dual (-?\d+|\?)", re.ASCII)
+RIEMANN_ROCH = re.compile(r"degree (-?\d+) genus (-?\d+) rank (-?\d+) dual (-?\d+)", re.ASCII)
 
 
 def riemann_roch_of(text: str) -> RiemannRoch:
     """The four numbers, of which each stands after its word."""
     found = RIEMANN_ROCH.fullmatch(text)
-    if not found or "?" in text:
+    if not found:
         raise no_answer(text)
     return RiemannRoch(*map(int, found.groups()))
 

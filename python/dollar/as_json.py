@@ -10,8 +10,8 @@ as it is read: amounts are objects by the names of the vertices, and numbers are
     {"word": "winnable", "found": {"winnable": true, "script": {"a": 0, "b": -1}, "reduced": {"a": 1, "b": 0}}, "number": 2}
     >>> read("0 3 given 1 a=2 b=-1")
     {'word': 'given', 'gifts': 1, 'amounts': {'a': 2, 'b': -1}, 'number': 0, 'seat': 3}
-    >>> read("degree 2 genus 1 rank ? dual ?"), read("rank -1"), read("seat 2 calls 5"), read("refused shape of q")
-    ({'degree': 2, 'genus': 1, 'rank': None, 'dual': None}, {'rank': -1}, {'seat': 2, 'calls': 5}, {'refused': 'shape of q'})
+    >>> read("degree 2 genus 1 rank 1 dual -1"), read("rank -1"), read("seat 2 calls 5"), read("refused shape of q")
+    ({'degree': 2, 'genus': 1, 'rank': 1, 'dual': -1}, {'rank': -1}, {'seat': 2, 'calls': 5}, {'refused': 'shape of q'})
 """
 
 from __future__ import annotations
@@ -41,7 +41,7 @@ def read(line: str) -> Dict[str, object]:
         return {"refused": line[len("refused "):]}
     numbers, total, position = RIEMANN_ROCH.fullmatch(line), TOTAL.fullmatch(line), POSITION.fullmatch(line)
     if numbers:
-        return {word: None if number == "?" else int(number) for word, number in zip(("degree", "genus", "rank", "dual"), numbers.groups())}
+        return {word: int(number) for word, number in zip(("degree", "genus", "rank", "dual"), numbers.groups())}
     if total:
         return {total[1]: int(total[2])} if total[1] else {"seat": int(total[3]), "calls": int(total[4])}
     if position:

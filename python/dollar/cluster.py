@@ -13,14 +13,14 @@ at ADDRESS run it instead, and PROGRAM is its path there, by default the one tha
 The CSV file has a row for each line, in order: its number from 1 on, a checksum of it, the answer, and in the last column why it was refused.
 If the file exists, the sweep goes on after its last whole row, so the same command resumes an interrupted sweep. A file with
 the rows of other lines is refused, and not changed. If a run or a worker dies, its lines are done again. On a terminal the number of
-rows is shown as it grows.
+rows is shown as it grows, and after ten seconds without a row that the next take long.
 
     >>> row("judge", 7, 0xab, "winnable by a=0 b=-1 to a=0 b=1")
     [7, '000000ab', 'true', 'a=0 b=-1', 'a=0 b=1', '']
     >>> row("rank", 8, 0, "rank below 2 at ?")
     [8, '00000000', 'false', '2', '', '']
-    >>> row("rr", 9, 0, "refused no vertex q"), row("rr", 10, 0, "degree 9 genus 9 rank ? dual ?")
-    ([9, '00000000', '', '', '', '', 'no vertex q'], [10, '00000000', '9', '9', '', '', 'too many trials'])
+    >>> row("rr", 9, 0, "refused no vertex q"), row("rr", 10, 0, "degree 2 genus 1 rank 1 dual -1")
+    ([9, '00000000', '', '', '', '', 'no vertex q'], [10, '00000000', '2', '1', '1', '-1', ''])
 """
 
 from __future__ import annotations
@@ -38,10 +38,9 @@ import sys
 import time
 import zlib
 from concurrent.futures import Future, ThreadPoolExecutor
-from typing import Any, Callable, Deque, Dict, Iterable, Iterator, List, NamedTuple, Optional, Sequence, Tuple, Union
+from typing import Any, Callable, Deque, Dict, Iterable, Iterator, List, NamedTuple, Optional, Sequence, Set, Tuple, Union
 
 from dollar.answers import RIEMANN_ROCH, no_answer, parts_of
-from dollar.commands import TOO_MANY
 from dollar.program import command_line, find_program, typed
 from dollar.sweeps import Progress
 from dollar.table import members
@@ -69,7 +68,7 @@ def row(command: str, number: int, checksum: int, answer: str) -> List[Any]:
         numbers = RIEMANN_ROCH.fullmatch(answer)
         if numbers is None:
             raise no_answer(answer)
-        return [*first, *("" if each == "?" else each for each in numbers.groups()), TOO_MANY if "?" in answer else ""]
+        return [*first, *numbers.groups(), ""]
     word, *rest = parts_of(answer)
     if word not in {"judge": ("winnable", "unwinnable"), "rank": ("rank at least", "rank below")}[command]:
         raise no_answer(answer)
@@ -181,15 +180,20 @@ def threads_of(client: Any) -> int:
         raise ValueError(GONE) from None
 
 
-def result_of(client: Any, future: Any) -> Any:
-    """What comes of a run. If there is no worker, that is told, and one is waited for."""
-    is_told = False
+def result_of(client: Any, future: Any, count: int, progress: Progress) -> Any:
+    """What comes of a run for so many lines. If it takes long, that is told, and if there is no worker, that one is waited for."""
+    told: Set[bool] = set()
     while True:
         try:
             return future.result(timeout=PATIENCE)
         except (TimeoutError, asyncio.TimeoutError, concurrent.futures.TimeoutError):
-            if not is_told and not threads_of(client):
-                is_told = True
+            has_worker = threads_of(client) > 0
+            if has_worker in told:
+                continue
+            told.add(has_worker)
+            if has_worker:
+                progress.tell(", and no answer yet to the next %d\n" % count)
+            else:
                 print("%s: the scheduler has no worker, and one is waited for: `dask worker ADDRESS` begins one" % typed("sweep"), file=sys.stderr)
         except (concurrent.futures.CancelledError, asyncio.CancelledError):
             raise ValueError(GONE) from None
@@ -197,13 +201,13 @@ def result_of(client: Any, future: Any) -> Any:
             raise ValueError("a worker has %s: install it on each machine, and the same command goes on" % str(error).lower()) from None
 
 
-def rows(client: Any, sweep: Sweep, lines: Iterator[Tuple[bytes, int]], pace: Pace) -> Iterator[Tuple[int, str]]:
+def rows(client: Any, sweep: Sweep, lines: Iterator[Tuple[bytes, int]], pace: Pace, progress: Progress) -> Iterator[Tuple[int, str]]:
     """The checksum of each line, and its answer, in order. A few chunks for each thread of the cluster are under way at once."""
     under_way: Deque[Any] = collections.deque()
 
     def first() -> Iterable[Tuple[int, str]]:
         chunk, future = under_way.popleft()
-        out, seconds = result_of(client, future)
+        out, seconds = result_of(client, future, len(chunk), progress)
         pace.took(len(chunk), seconds)
         answers = out.decode().splitlines()
         if len(answers) != len(chunk):
@@ -229,7 +233,7 @@ def swept(client: Any, sweep: Sweep, place: str) -> Pace:
             writer = csv.writer(file, lineterminator="\n")
             if file.tell() == 0:
                 writer.writerow(header(sweep.command))
-            for number, (checksum, answer) in enumerate(rows(client, sweep, lines, pace), number + 1):
+            for number, (checksum, answer) in enumerate(rows(client, sweep, lines, pace, progress), number + 1):
                 writer.writerow(row(sweep.command, number, checksum, answer))
                 progress.add(1)
     finally:

@@ -109,10 +109,10 @@ def asked(table: Asked, ask: Callable[[bytes], str], read: Callable[[str, Any], 
         raise ValueError("%s: %s" % (find_program(program), flaw)) from None
 
 
-def line_of(command: str, file: bytes, *words: str, program: Optional[Place] = None) -> str:
-    """The answer to one table by a line of a sweep, which the program gives also past the limits if a law or the dual settles it."""
+def line_of(command: str, file: bytes, *words: str, patience: Optional[float] = None, program: Optional[Place] = None) -> str:
+    """The answer to one table by a line of a sweep, which the program gives also past the limits of one rank test."""
     # A newline in a table file is a space, and so is a tab; neither may be in a name.
-    out = printed(command, "--lines", file.replace(b"\n", b"\t") or b"\t", *words, program=program)
+    out = printed(command, "--lines", file.replace(b"\n", b"\t") or b"\t", *words, program=program, patience=patience)
     line, end, more = out.partition("\n")
     if not end or more:
         raise ValueError("no answer of the program: %r" % out)
@@ -132,20 +132,23 @@ def judge(table: Asked, *, program: Optional[Place] = None) -> Verdict:
                  lambda text, kept: verdict_of(text, kept, vertices_of(kept)), program)
 
 
-def rank(table: Asked, *, program: Optional[Place] = None) -> int:
-    """The rank of the table: how many dollars can be lost, no matter where, and the table still be won; -1 if it can't be won now. It is a
-    Fault, `too many trials`, if both ranks of Riemann-Roch are past the limits. `rr_all` has the ranks of many tables.
+def rank(table: Asked, *, patience: Optional[float] = None, program: Optional[Place] = None) -> int:
+    """The rank of the table: how many dollars can be lost, no matter where, and the table still be won; -1 if it can't be won now. On
+    graphs of many edges that may take hours: with `patience` it is a TimeoutError after so many seconds. `rr_all` has the ranks of
+    many tables.
 
     >>> from dollar import Table
     >>> rank(Table([[0, 3], [3, 0]], [2, 2]))
     2
     """
-    return table.rank(program=program) if isinstance(table, Table) else rr(table, program=program).rank
+    return table.rank(patience=patience, program=program) if isinstance(table, Table) else rr(table, patience=patience, program=program).rank
 
 
-def rank_test(table: Asked, degree: int, *, workers: Optional[int] = None, program: Optional[Place] = None) -> RankTest:
-    """Whether so many dollars can be lost, no matter where, and the table still be won. A test past the limits has an answer too if a
-    law or the dual settles it; otherwise it is a Fault, `too many trials`. `workers` is the number of threads that share the test.
+def rank_test(table: Asked, degree: int, *, workers: Optional[int] = None, patience: Optional[float] = None,
+              program: Optional[Place] = None) -> RankTest:
+    """Whether so many dollars can be lost, no matter where, and the table still be won. A test past the limits has an answer
+    too, but no first loss; it may take as long as `rank`, and `patience` is the same. `workers` is the number of threads that share
+    the test.
 
     >>> from dollar import Table
     >>> rank_test(Table([[0, 1], [1, 0]], [2, -1]), 2)
@@ -155,29 +158,24 @@ def rank_test(table: Asked, degree: int, *, workers: Optional[int] = None, progr
 
     def ask(file: bytes) -> str:
         try:
-            return printed("rank", file, word, *more, program=program).rstrip("\n")
+            return printed("rank", file, word, *more, program=program, patience=patience).rstrip("\n")
         except Fault as fault:
             if fault.text != TOO_MANY:
                 raise
-        return line_of("rank", file, word, program=program)
+        return line_of("rank", file, word, program=program, patience=patience)
 
     return asked(table, ask, lambda text, kept: rank_test_of(text, kept, vertices_of(kept)), program)
 
 
-def rr(table: Asked, *, program: Optional[Place] = None) -> RiemannRoch:
-    """The four numbers of Riemann-Roch. It is a Fault, `too many trials`, if both ranks are past the limits.
+def rr(table: Asked, *, patience: Optional[float] = None, program: Optional[Place] = None) -> RiemannRoch:
+    """The four numbers of Riemann-Roch. They may take as long as `rank`, and `patience` is the same.
 
     >>> from dollar import Table
     >>> rr(Table([[0, 1], [1, 0]], [2, -1]))
     RiemannRoch(degree=1, genus=0, rank=1, dual=-1)
     """
-    def ask(file: bytes) -> str:
-        line = line_of("rr", file, program=program)
-        if line.endswith("?"):
-            raise Fault(TOO_MANY, 3)
-        return line
-
-    return asked(table, ask, lambda text, kept: riemann_roch_of(text), program)
+    return asked(table, lambda file: line_of("rr", file, program=program, patience=patience), lambda text, kept: riemann_roch_of(text),
+                 program)
 
 
 def rehearse(table: Asked, steps: Lines, *, program: Optional[Place] = None) -> History:

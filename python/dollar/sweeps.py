@@ -23,7 +23,7 @@ from dollar.answers import (
     RankTest, RefusedRankTest, RefusedRiemannRoch, RefusedVerdict, RiemannRoch, Verdict, no_answer, refusal, vertices_of)
 from dollar.columns import (
     AnyInts, AnyTruths, ArrayInts, Columns, NumpyInts, NumpyTruths, RankTestColumns, RiemannRochColumns, VerdictColumns)
-from dollar.commands import MOST_DEGREE, TOO_MANY, beside, option
+from dollar.commands import MOST_DEGREE, beside, option
 from dollar.program import Fault, Place, command_line, ended_by, fault_of
 from dollar.readers import (
     Form, divisors_by_batches, divisors_one_by_one, lines_in, numpy_or_none, ordered, rank_test_form, riemann_roch_form, rows_of, verdict_form)
@@ -48,11 +48,11 @@ Divisors = Iterable[Union[Table, Dollars]]
 class Sweep:
     """One run of a command over lines. All is done in the thread of the caller: the tables are taken there, and sent as far as the
     pipe takes their lines, and the answers are read as they come. A word as bytes stands for a file with these bytes. At most `ahead`
-    tables are taken before their answers are read."""
+    tables are taken before their answers are read, and `patience` is how many seconds there may be no answer."""
 
-    def __init__(self, words: Sequence[Union[str, bytes]], tables: Iterator[Kept], program: Optional[Place],
+    def __init__(self, words: Sequence[Union[str, bytes]], tables: Iterator[Kept], program: Optional[Place], patience: Optional[float],
                  ahead: Optional[int] = None) -> None:
-        self.said = tempfile.TemporaryFile()
+        self.said, self.patience = tempfile.TemporaryFile(), patience
         with command_line(words, program) as (line, descriptors):
             # An interrupt at the terminal is for Python, which ends the program when the sweep is left.
             self.child = subprocess.Popen(line, bufsize=0, stdin=subprocess.PIPE, stdout=subprocess.PIPE, stderr=self.said,
@@ -124,7 +124,9 @@ class Sweep:
             is_idle = not self.unsent and not self.input.closed
             if is_idle and self.waiting and (self.is_slow or len(self.waiting) >= self.ahead):
                 is_idle = False
-            readable, writable = self.ready(0 if is_idle else None)
+            readable, writable = self.ready(0 if is_idle else self.patience)
+            if not (is_idle or readable or writable):
+                raise TimeoutError("no answer for %s seconds" % self.patience)
             if is_idle and not readable:
                 self.is_slow = False
                 self.take()
@@ -166,16 +168,16 @@ class Progress:
 
     def add(self, count: int) -> None:
         self.count += count
-        if self.is_shown and time.monotonic() - self.at > 0.2:
+        if time.monotonic() - self.at > 0.2:
             self.tell("")
 
     def tell(self, end: str) -> None:
         self.at = time.monotonic()
-        print("\r%d %s" % (self.count, self.unit), end=end, file=sys.stderr, flush=True)
+        if self.is_shown:
+            print("\r%d %s" % (self.count, self.unit), end=end, file=sys.stderr, flush=True)
 
     def close(self) -> None:
-        if self.is_shown:
-            self.tell("\n")
+        self.tell("\n")
 
 
 class Lines(NamedTuple):
@@ -195,6 +197,7 @@ class Job(NamedTuple):
     lines: Lines
     program: Optional[Place]
     ahead: Optional[int]
+    patience: Optional[float]
     progress: bool
     errors: str
     refused: Callable[..., Any]
@@ -211,14 +214,11 @@ class Job(NamedTuple):
         return (self.answer(text, place, take()) for place, text in enumerate(texts, number))
 
     def answer(self, text: str, number: int, kept: Any) -> Any:
-        """The answer with this text and number. A table that was refused has a row, if it is not raised, and so have four numbers of which
-        two are not known."""
-        is_cut = self.refused is RefusedRiemannRoch and text.endswith(" NA NA")
-        if not is_cut and not text.startswith("refused "):
+        """The answer with this text and number. A table that was refused has a row, if it is not raised."""
+        if not text.startswith("refused "):
             return self.told(text, kept)
-        known = dict(zip(("degree", "genus"), map(int, text.split(" ")[:2]))) if is_cut else {}
-        reason = TOO_MANY if is_cut else text[len("refused "):]
-        row = refusal(self.refused, reason, number, beside(reason, kept), **known)
+        reason = text[len("refused "):]
+        row = refusal(self.refused, reason, number, beside(reason, kept))
         if self.errors == "raise":
             raise Fault(row.text, row.status, number, row.more)
         return row
@@ -237,7 +237,7 @@ class Job(NamedTuple):
 
 def answers_one_by_one(job: Job, number: int, over: List[bool]) -> Iterator[Any]:
     """The answers, of which the first has this number. It is noted in `over` that they have come to their end."""
-    sweep = Sweep(job.lines.words, job.lines.one_by_one, job.program, job.ahead)
+    sweep = Sweep(job.lines.words, job.lines.one_by_one, job.program, job.patience, job.ahead)
     progress = Progress(job.progress)
     try:
         for piece in sweep.pieces():
@@ -302,8 +302,8 @@ class Answers(Generic[Found, Told, OfNumpy, OfArray], Iterator[Found]):
 
     def columns(self, kind: Optional[str] = None) -> Any:
         """All answers at once, as columns: arrays of numpy if it is installed, and else of the module `array`; or of the kind that is asked
-        for. Columns have no place for a missing answer: a divisor that is refused, or a rank past the limits, is raised as a Fault, whose
-        `table` is its number. `help(dollar.columns)` has an example.
+        for. Columns have no place for a missing answer: a divisor that is refused, or a first loss that is not named, is raised as a
+        Fault, whose `table` is its number. `help(dollar.columns)` has an example.
         """
         if self._found is not None or self._skipped:
             raise ValueError("the sweep has begun: ask again for columns")
@@ -314,7 +314,7 @@ class Answers(Generic[Found, Told, OfNumpy, OfArray], Iterator[Found]):
             raise ImportError("columns of numpy are asked for, and numpy is not installed")
         job, columns = self._job, self._columns(self._job.lines.vertices, numpy)
         self.close()
-        sweep = Sweep(job.lines.words, job.lines.by_batches, job.program)
+        sweep = Sweep(job.lines.words, job.lines.by_batches, job.program, job.patience)
         sweep.widen()
         progress, answered = Progress(job.progress), 0
         try:
@@ -427,24 +427,26 @@ def judge_all(tables: Tables, *, workers: Optional[int] = None, errors: Errors =
     """
     lines = asked("judge", [], tables, divisors, workers, errors)
     one = None if lines.vertices is None else verdict_form(lines.vertices)
-    return Answers(Job(lines, program, ahead, progress, errors, RefusedVerdict, lambda kept: verdict_form(vertices_kept(kept)), one),
+    return Answers(Job(lines, program, ahead, None, progress, errors, RefusedVerdict, lambda kept: verdict_form(vertices_kept(kept)), one),
                    of_one_table(VerdictColumns))
 
 
 @overload
 def rank_test_all(tables: Tables, degree: int, *, workers: Optional[int] = ..., errors: Literal["raise"], divisors: Optional[Divisors] = ...,
-                  ahead: Optional[int] = ..., progress: bool = ..., program: Optional[Place] = ...) -> RankTests[RankTest]: ...
+                  ahead: Optional[int] = ..., patience: Optional[float] = ..., progress: bool = ...,
+                  program: Optional[Place] = ...) -> RankTests[RankTest]: ...
 
 
 @overload
 def rank_test_all(tables: Tables, degree: int, *, workers: Optional[int] = ..., errors: Errors = ..., divisors: Optional[Divisors] = ...,
-                  ahead: Optional[int] = ..., progress: bool = ...,
+                  ahead: Optional[int] = ..., patience: Optional[float] = ..., progress: bool = ...,
                   program: Optional[Place] = ...) -> RankTests[Union[RankTest, RefusedRankTest]]: ...
 
 
 def rank_test_all(tables: Tables, degree: int, *, workers: Optional[int] = None, errors: Errors = "row", divisors: Optional[Divisors] = None,
-                  ahead: Optional[int] = None, progress: bool = False, program: Optional[Place] = None) -> RankTests[Any]:
-    """The rank tests of a degree, as `judge_all` has verdicts. If a law settles a test past the limits, it has no first loss.
+                  ahead: Optional[int] = None, patience: Optional[float] = None, progress: bool = False,
+                  program: Optional[Place] = None) -> RankTests[Any]:
+    """The rank tests of a degree, as `judge_all` has verdicts. A test past the limits has no first loss. `patience` is as for `rr_all`.
 
     >>> from dollar import Table
     >>> pair = Table([[0, 1], [1, 0]])
@@ -456,25 +458,27 @@ def rank_test_all(tables: Tables, degree: int, *, workers: Optional[int] = None,
     degree = within(degree, "the degree", 0, MOST_DEGREE)
     lines = asked("rank", [str(degree)], tables, divisors, workers, errors)
     one = None if lines.vertices is None else rank_test_form(lines.vertices, degree)
-    return Answers(Job(lines, program, ahead, progress, errors, RefusedRankTest, lambda kept: rank_test_form(vertices_kept(kept), degree), one),
-                   of_one_table(RankTestColumns))
+    return Answers(Job(lines, program, ahead, patience, progress, errors, RefusedRankTest,
+                       lambda kept: rank_test_form(vertices_kept(kept), degree), one), of_one_table(RankTestColumns))
 
 
 @overload
 def rr_all(tables: Tables, *, workers: Optional[int] = ..., errors: Literal["raise"], divisors: Optional[Divisors] = ...,
-           ahead: Optional[int] = ..., progress: bool = ..., program: Optional[Place] = ...) -> RiemannRochs[RiemannRoch]: ...
+           ahead: Optional[int] = ..., patience: Optional[float] = ..., progress: bool = ...,
+           program: Optional[Place] = ...) -> RiemannRochs[RiemannRoch]: ...
 
 
 @overload
 def rr_all(tables: Tables, *, workers: Optional[int] = ..., errors: Errors = ..., divisors: Optional[Divisors] = ...,
-           ahead: Optional[int] = ..., progress: bool = ...,
+           ahead: Optional[int] = ..., patience: Optional[float] = ..., progress: bool = ...,
            program: Optional[Place] = ...) -> RiemannRochs[Union[RiemannRoch, RefusedRiemannRoch]]: ...
 
 
 def rr_all(tables: Tables, *, workers: Optional[int] = None, errors: Errors = "row", divisors: Optional[Divisors] = None,
-           ahead: Optional[int] = None, progress: bool = False, program: Optional[Place] = None) -> RiemannRochs[Any]:
-    """The four numbers of the tables, as `judge_all` has verdicts. If both ranks are past the limits, it is a `RefusedRiemannRoch`, which
-    has the degree and the genus.
+           ahead: Optional[int] = None, patience: Optional[float] = None, progress: bool = False,
+           program: Optional[Place] = None) -> RiemannRochs[Any]:
+    """The four numbers of the tables, as `judge_all` has verdicts. On graphs of many edges some ranks take hours: with `patience` it is a
+    TimeoutError if no answer comes for so many seconds, and with `ahead=1` the table is the one whose answer is next.
 
     >>> from dollar import Table
     >>> pair = Table([[0, 3], [3, 0]])
@@ -485,4 +489,4 @@ def rr_all(tables: Tables, *, workers: Optional[int] = None, errors: Errors = "r
     """
     lines = asked("rr", [], tables, divisors, workers, errors)
     form = riemann_roch_form()
-    return Answers(Job(lines, program, ahead, progress, errors, RefusedRiemannRoch, lambda kept: form, form), RiemannRochColumns)
+    return Answers(Job(lines, program, ahead, patience, progress, errors, RefusedRiemannRoch, lambda kept: form, form), RiemannRochColumns)

@@ -489,9 +489,9 @@ class Table(AbstractMapping[str, Any]):
         script, reduced = difference._verdict(program)
         return None if any(reduced) else script
 
-    def rank(self, *, program: Optional[Place] = None) -> int:
-        """The rank of the divisor; -1 if it can't be won. It is a Fault, `too many trials`, if both ranks of Riemann-Roch are past the
-        limits. For many divisors `rr_all` has their ranks at a hundredth of the cost.
+    def rank(self, *, patience: Optional[float] = None, program: Optional[Place] = None) -> int:
+        """The rank of the divisor; -1 if it can't be won. On graphs of many edges that may take hours: with `patience` it is a
+        TimeoutError after so many seconds. For many divisors `rr_all` has their ranks at a hundredth of the cost.
 
         >>> Table([[0, 3], [3, 0]], [2, 2]).rank()
         2
@@ -499,7 +499,7 @@ class Table(AbstractMapping[str, Any]):
         from dollar.commands import rr
         from dollar.divisors import level
 
-        return rr(level(self)[0], program=program).rank
+        return rr(level(self)[0], patience=patience, program=program).rank
 
     def effective_divisors(self, degree: int) -> EffectiveDivisors:
         """The effective divisors of a degree on the graph, as tables, in the order of lists; its `count` is their number.

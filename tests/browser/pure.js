@@ -114,8 +114,8 @@ function games() {
 
 function ranks() {
   equal(numbersOf("degree 2 genus 5 rank 0 dual -1"), { degree: "2", genus: "5", rank: "0", dual: "-1" }, "the four numbers of a line");
-  equal([rankWords("-1", new Map()), rankWords("?"), rankWords("8", undefined), rankWords("1", new Map([["b", 1], ["c", 0], ["d", 1]]))],
-    ["The rank is -1. It can't be won as it stands.", "The rank is not known, since too many losses would have to be tried.",
+  equal([rankWords("-1", new Map()), rankWords("8", undefined), rankWords("1", new Map([["b", 1], ["c", 0], ["d", 1]]))],
+    ["The rank is -1. It can't be won as it stands.",
       "The rank is 8. Some loss of 9 dollars is too much; which one is not known, since too many losses would have to be tried.",
       "The rank is 1. If b loses 1 dollar and d loses 1 dollar, the debts can no longer be cleared."], "words of a rank");
 }

@@ -146,16 +146,13 @@ class OfAnswers(Test):
             # Numbers stay whole beside what is refused.
             whole = frame.convert_dtypes()
             self.assertEqual({str(whole[name].dtype) for name in ("degree", "genus", "rank", "dual")}, {"Int64"})
-        # If both ranks are past the limits, the degree and the genus are there, and the reason.
-        complete = dollar.Table([[int(u != v) for v in range(16)] for u in range(16)], [7] * 15 + [6])
+        # On the complete graph of 13 vertices of degree g - 1 both ranks are past the limits of one test.
+        complete = dollar.Table([[int(u != v) for v in range(13)] for u in range(13)], [5] * 13)
         row, = dollar.rr_all([complete])
-        self.assertEqual((row.degree, row.genus, row.rank, row.refused, row.as_dict()),
-                         (111, 105, None, "too many trials", {"degree": 111, "genus": 105, "refused": "too many trials"}))
-        with self.assertRaisesRegex(Fault, "table 0: too many trials: only the degree 1000 and 200000 trials are possible"):
-            list(dollar.rr_all([complete], errors="raise"))
+        self.assertEqual(row.as_dict(), {"degree": 65, "genus": 66, "rank": 20, "dual": 20})
         place = self.folder() / "rows.csv"
-        dollar.to_csv(dollar.rr_all([complete]), place)
-        self.assertEqual(place.read_text(), "table,degree,genus,rank,dual,refused\n0,111,105,,,too many trials\n")
+        dollar.to_csv(dollar.rr_all([complete, LOOPING]), place)
+        self.assertEqual(place.read_text(), "table,degree,genus,rank,dual,refused\n0,65,66,20,20,\n1,,,,,edge 0 is a loop\n")
         columns = dollar.rr_all([TRIANGLE] * 3).columns()
         frame = pandas.DataFrame(columns)
         self.assertEqual((list(frame.columns), len(frame), str(frame["rank"].dtype), list(columns), columns.count),

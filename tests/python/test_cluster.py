@@ -1,5 +1,7 @@
 """`dollar sweep` by two runs at once, and on a Dask cluster of two workers, one of which is killed in the middle: the rows are those of one
 run of the program. And it goes on with a sweep that was interrupted within a row, and refuses the rows of another file."""
+import concurrent.futures
+import contextlib
 import csv
 import io
 import json
@@ -9,6 +11,7 @@ import re
 import signal
 import subprocess
 import sys
+import threading
 import zlib
 from unittest import mock
 
@@ -61,6 +64,13 @@ exec %s "$@"
 
 
 class OfTwoRuns(Test):
+    def test_what_takes_long_is_told_once(self):
+        told, run, progress = io.StringIO(), concurrent.futures.Future(), cluster.Progress(True, "rows")
+        threading.Timer(0.5, run.set_result, ["answers"]).start()
+        with mock.patch.object(cluster, "PATIENCE", 0.1), contextlib.redirect_stderr(told), cluster.Runs(1) as runs:
+            self.assertEqual(cluster.result_of(runs, run, 8, progress), "answers")
+        self.assertEqual(told.getvalue(), "\r0 rows, and no answer yet to the next 8\n")
+
     def test_a_run_is_killed_and_the_sweep_interrupted(self):
         place, rng = self.folder(), random.Random(1)
         tables = [line(rng, number) for number in range(1, SIZE + 1)]

@@ -133,10 +133,6 @@ class OfColumns(Test):
                 rows[2_500][0] = amount
                 with self.assertRaisesRegex(Fault, "amount of vertex 0|shape of amounts"):
                     dollar.judge_all(PETERSEN, divisors=rows).columns()
-            complete = Table([[int(u != v) for v in range(16)] for u in range(16)])
-            with self.assertRaisesRegex(Fault, "too many trials") as caught:
-                dollar.rr_all(complete, divisors=[[0] * 16, [7] * 15 + [6]]).columns()
-            self.assertEqual(caught.exception.table, 1)
             with self.assertRaisesRegex(Fault, "too many trials") as caught:
                 dollar.rank_test_all(ALONE, 2_000, divisors=[[3_000], [1_000]]).columns()
             self.assertEqual(caught.exception.table, 1)

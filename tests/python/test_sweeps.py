@@ -1,4 +1,5 @@
 """Sweeps: in order, lazy, in the thread of the caller, and whatever goes wrong is told after the answers before it."""
+import asyncio
 import contextlib
 import io
 import itertools
@@ -6,10 +7,12 @@ import os
 import sqlite3
 import threading
 import time
+from unittest import mock
 
 import dollar
 from dollar import Fault, Table
-from helpers import Test, each
+from dollar.board import alone
+from helpers import HUNG, Test, each
 
 PAIR = Table([[0, 2], [2, 0]])
 
@@ -53,6 +56,22 @@ class OfSweeps(Test):
         rows = base.execute("select first, second from tables")
         degrees = [numbers.degree for numbers in dollar.rr_all(Table(PAIR, row) for row in rows)]
         self.assertEqual(degrees, [place % 5 + -place % 3 for place in range(1000)])
+
+    def test_patience(self):
+        silent = self.script("#!/bin/sh\nexec sleep %d\n" % HUNG)
+        for ask in (dollar.rank, dollar.rr, lambda table, **how: dollar.rank_test(table, 1, **how)):
+            with self.assertRaisesRegex(TimeoutError, "no answer for 0.2 seconds"):
+                ask(PAIR, patience=0.2, program=silent)
+        with mock.patch.dict(os.environ, DOLLAR=str(silent)), mock.patch.object(alone, "FOR_A_RANK", 0.2):
+            said = asyncio.run(alone.question({"command": "rr", "table": PAIR.to_json()}.__getitem__))
+        self.assertEqual((said["status"], said.get("late")), (None, True))
+        once = self.script("#!/bin/sh\nread line\necho '0 1 0 0'\nexec sleep %d\n" % HUNG)
+        answers = dollar.rr_all([PAIR, PAIR], patience=0.2, program=once)
+        self.assertEqual(next(answers).rank, 0)
+        with self.assertRaisesRegex(TimeoutError, "no answer for 0.2 seconds"):
+            next(answers)
+        with self.assertRaises(TimeoutError):
+            dollar.rr_all(PAIR, divisors=[[0, 0]] * 2, patience=0.2, program=once).columns()
 
     def test_a_slow_source_is_answered_as_it_goes(self):
         taken = []

@@ -1,34 +1,28 @@
 -- How connected sets are tried.
 --   rest_hangs       what burning leaves of the dollars beside a connected set hangs loosely on it
---   reduced_of_none  and if it leaves nothing they are reduced
 --   beyond_wall      behind a wall at a set, burning from a vertex of what hangs on it leaves all else
 --   part_hangs       so what burns there hangs on the set
 --   hangs-larger     what hangs on a set hangs on a larger one that has nothing of it
---   Found g S L best seen w  the best component so far hangs on S, and if there is none, L has no vertex below w
 --   Passed g S E X P v  all connected sets that have S, none of E, and some vertex of P, are tried; P has each vertex
 --                    of X below v that is next to S
 --   passed-skip      a vertex that is not in X, or in P, or is not next to S, need not be tried
 --   passed-more      after a vertex is tried
 --   passed-all       after all vertices are
 --   growing-more     a set with a vertex next to it
---   greedy-once      there is only one such set
---   Turned g U A n   each vertex below n has had its turn, and A is what is left of U
---   turned-skip      a vertex that is not in U needs no turn
---   turned-kept      a vertex is kept, and turned-out: left out
---   turned-all       after all turns
-use Rattle.dg_burn.proofs.Common.{zero, suc, if◌then◌else◌, ◌≡◌, ◌≢◌, ℕ, ◌+◌, ◌<◌, ◌≤◌, ◌&&◌, ◌⊎◌, inl, inr, ⊎_elim, Bool, true, false, not, nat_lt, List, arith, refl, sym, ap, subst, ◌∙◌, pos, ◌≤ℤ◌, cases_Bool, cases_eq, cases_lt, both_ways, and_parts, ints, eq-eqb, le-ltb, lt-ltb, ltb-true, ne_eqb, true_from_ne_false, Multigraph, IsMultigraph, IsGraph, edges_between, edges_into, edges_out, total_below-term, member_or_none, IsReduced, BurnsInOrder, IsGreatestFree, unburnt_by, AreDisjoint, IsSetWith, IsSetWithout, IsSubset, in_set, in_set-none, no_set, dollars}
+--   growing-alone    a vertex alone
+--   meets-all        each set meets the special sets that it meets
+--   meets-fewer      so does one without a vertex, where something hangs on all that has it and none of the others
+--   part-fewer       and it is a part
+use Rattle.dg_burn.proofs.Common.{if◌then◌else◌, ◌≡◌, ◌≢◌, ℕ, ◌+◌, ◌<◌, ◌≤◌, ◌&&◌, ◌⊎◌, inl, inr, ⊎_elim, Bool, true, false, not, nat_lt, List, arith, refl, sym, ap, subst, ◌∙◌, pos, ◌≤ℤ◌, cases_Bool, cases_eq, cases_lt, both_ways, and_parts, ints, lt-ltb, ltb-true, true_from_ne_false, Multigraph, IsMultigraph, IsGraph, edges_between, edges_into, edges_out, total_below-term, member_or_none, IsGreatestFree, AreDisjoint, IsSetWith, IsSetWithout, IsSubset, dollars}
 use Rattle.std.proofs.lemmas.Bool.{and_from, false_from_ne_true, not-true, not_from_false}
 use Rattle.dg_theory.specs.Burning.{FiresFreely}
 use Rattle.dg_theory.specs.Determining.{HangsLoosely, IsConnectedSet, MeetsSpecialSets, beside}
-use Rattle.dg_theory.proofs.Agreement.{reduced-cong}
 use Rattle.dg_theory.proofs.Components.{connected-alone, connected-more, connected_grows}
 use Rattle.dg_theory.proofs.Debts.{out-le-valence}
 use Rattle.dg_theory.proofs.SetFiring.{fired-inside, inside-fired, outside-fired}
-use Rattle.dg_theory.proofs.Special.{edge_into, fires_hangs, hangs_not_reduced, total_some}
+use Rattle.dg_theory.proofs.Special.{edge_into, fires_hangs, total_some}
 use Rattle.dg_theory.proofs.TotalLaws.{total_below-le}
-use Rattle.dg_burn.specs.Special.{IsSearchedForSpecial, never_burning_dollars}
-use Rattle.dg_theory.specs.GreedyDetermining.{AllHang, Hangs, IsGreedyDeterminingSet, IsSpecialFrom, only, others}
-use Rattle.dg_burn.proofs.Told.{none_reduced}
+use Rattle.dg_burn.specs.Special.{AllHang, Hangs, IsSearchedForSpecial, never_burning_dollars}
 
 joined_by : (g : Multigraph) (S : ℕ → Bool) (v w : ℕ) → w < g.size → S w ≡ true → 0 < edges_between g v w →
     0 < edges_into g S v
@@ -50,14 +44,6 @@ rest_hangs g S q held R graph connected start same rest w member =
       no_debt = λ v below other. omega (arith, ints, same v below, rest.free.no_debt v below other);
     })
     (w, member)
-
-pub reduced_of_none : (g : Multigraph) (S : ℕ → Bool) (q : ℕ) (held l : List ℕ) (m : ℕ) →
-    ((v : ℕ) → v < g.size → dollars held v ≡ beside g S v) →
-    BurnsInOrder g q (dollars held) l → ((v : ℕ) → in_set m v ≡ unburnt_by g l v) → ((v : ℕ) → in_set m v ≡ false) →
-    IsReduced g q (beside g S)
-reduced_of_none g S q held l m same order rest none =
-    reduced-cong g q (dollars held) (beside g S) same
-    (none_reduced g q (dollars held) l m (λ v _ _. omega (arith, ints)) order rest (no_set m none))
 
 wall-inside : (S : ℕ → Bool) (v : ℕ) → S v ≡ true → never_burning_dollars S v ≡ pos 64
 wall-inside S v inside = rw inside refl
@@ -145,34 +131,6 @@ part_hangs g S X R held w graph hangs member same rest =
           (cases_lt u g.size);
       loose = λ v in_v. hangs.loose v (part v in_v);
     }
-
-pub record Found (g : Multigraph) (S L : ℕ → Bool) (best seen w : ℕ) : Type 0 where
-  pub hangs : best ≢ 0 → HangsLoosely g S (in_set best)
-  pub none : best ≡ 0 → (u : ℕ) → u < w → L u ≡ false
-  pub unseen : best ≡ 0 → seen ≡ 0
-
-pub found-skip : (g : Multigraph) (S L : ℕ → Bool) (best seen w : ℕ) → Found g S L best seen w →
-    (L w ≡ false) ⊎ (in_set seen w ≡ true) → Found g S L best seen (w + 1)
-found-skip g S L best seen w found skipped = record {
-  hangs = found.hangs;
-  none = λ empty u below. ⊎_elim
-      (λ (same : u ≡ w). ⊎_elim
-      (λ (off : L w ≡ false). rw same off)
-      (λ (met : in_set seen w ≡ true).
-      absurd (both_ways _ (in_set-none w) (sym (ap (λ m. in_set m w) (found.unseen empty)) ∙ met)))
-      skipped)
-      (λ (other : u ≡ w → ⊥). found.none empty u (omega arith))
-      (cases_eq u w);
-  unseen = found.unseen;
-}
-
-pub found-some : (g : Multigraph) (S L : ℕ → Bool) (best seen w : ℕ) → best ≢ 0 → HangsLoosely g S (in_set best) →
-    Found g S L best seen w
-found-some g S L best seen w some hangs = record {
-  hangs = λ _. hangs;
-  none = λ empty. absurd (some empty);
-  unseen = λ empty. absurd (some empty);
-}
 
 pub record Passed (g : Multigraph) (S E X P : ℕ → Bool) (v : ℕ) : Type 0 where
   pub more : IsSubset E P
@@ -317,7 +275,10 @@ growing-alone g S T E v inside none with_v free =
       off = λ w member. rw (only w member) free;
     }
 
-meets-fewer : (g : Multigraph) (A B U S T : ℕ → Bool) (v : ℕ) → MeetsSpecialSets g A U → IsSetWithout A v B →
+pub meets-all : (g : Multigraph) (U : ℕ → Bool) → MeetsSpecialSets g U U
+meets-all g U S u connected in_S in_U off = absurd (both_ways _ (off u in_S) in_U)
+
+pub meets-fewer : (g : Multigraph) (A B U S T : ℕ → Bool) (v : ℕ) → MeetsSpecialSets g A U → IsSetWithout A v B →
     ((w : ℕ) → S w ≡ false) → IsSetWith S v T → AllHang g T B → MeetsSpecialSets g B U
 meets-fewer g A B U S T v meets without none with_v all R u connected in_R in_U off =
     ⊎_elim
@@ -332,144 +293,9 @@ meets-fewer g A B U S T v meets without none with_v all R u connected in_R in_U 
     without.others w other ∙ off w member))
     (cases_Bool (R v))
 
-part-fewer : (A B U : ℕ → Bool) (v : ℕ) → IsSubset A U → IsSetWithout A v B → IsSubset B U
+pub part-fewer : (A B U : ℕ → Bool) (v : ℕ) → IsSubset A U → IsSetWithout A v B → IsSubset B U
 part-fewer A B U v part without w member =
     ⊎_elim
     (λ (same : w ≡ v). absurd (both_ways _ without.here (ap B (sym same) ∙ member)))
     (λ (other : w ≡ v → ⊥). part w (without.others w other ∙ member))
     (cases_eq w v)
-
-others-same : (A B U : ℕ → Bool) (v : ℕ) → ((w : ℕ) → w < v → A w ≡ B w) → (w : ℕ) → others A U v w ≡ others B U v w
-others-same A B U v same w =
-    ⊎_elim
-    (λ (before : w < v). rw (lt-ltb w v before) (same w before))
-    (λ (after : v ≤ w). rw (le-ltb w v after) refl)
-    (cases_lt w v)
-
-others-at : (A B U : ℕ → Bool) (v : ℕ) → IsSetWithout A v B → ((w : ℕ) → v ≤ w → A w ≡ U w) →
-    (w : ℕ) → B w ≡ others A U v w
-others-at A B U v without rest w =
-    ⊎_elim
-    (λ (before : w < v). rw (lt-ltb w v before) (sym (without.others w (omega arith))))
-    (λ (after : v ≤ w). ⊎_elim
-    (λ (same : w ≡ v). rw (le-ltb w v after, eq-eqb w v same) (ap B same ∙ without.here))
-    (λ (other : w ≡ v → ⊥). rw (le-ltb w v after, ne_eqb w v other) (sym (without.others w other) ∙ rest w after))
-    (cases_eq w v))
-    (cases_lt w v)
-
-only-at : (S T : ℕ → Bool) (v : ℕ) → ((w : ℕ) → S w ≡ false) → IsSetWith S v T → (w : ℕ) → T w ≡ only v w
-only-at S T v none with_v w =
-    ⊎_elim
-    (λ (same : w ≡ v). rw (eq-eqb w v same) (ap T same ∙ with_v.here))
-    (λ (other : w ≡ v → ⊥). rw (ne_eqb w v other) (with_v.others w other ∙ none w))
-    (cases_eq w v)
-
-pub record Turned (g : Multigraph) (U A : ℕ → Bool) (n : ℕ) : Type 0 where
-  pub part : IsSubset A U
-  pub meets : MeetsSpecialSets g A U
-  pub rest : (w : ℕ) → n ≤ w → A w ≡ U w
-  pub left_out : (v : ℕ) → v < n → U v ≡ true → A v ≡ false → AllHang g (only v) (others A U v)
-  pub kept : (v : ℕ) → v < n → A v ≡ true → IsSpecialFrom g v (only v) (others A U v)
-
-pub turned-start : (g : Multigraph) (U : ℕ → Bool) → Turned g U U 0
-turned-start g U = record {
-  part = λ v member. member;
-  meets = λ S u connected in_S in_U off. absurd (both_ways _ (off u in_S) in_U);
-  rest = λ w _. refl;
-  left_out = λ v below _ _. absurd (omega arith);
-  kept = λ v below _. absurd (omega arith);
-}
-
-pub turned-skip : (g : Multigraph) (U A : ℕ → Bool) (n : ℕ) → Turned g U A n → A n ≡ false → Turned g U A (n + 1)
-turned-skip g U A n turned off = record {
-  part = turned.part;
-  meets = turned.meets;
-  rest = λ w past. turned.rest w (omega arith);
-  left_out = λ v below in_U off_v. ⊎_elim
-      (λ (same : v ≡ n). absurd (both_ways _ off (turned.rest n (omega arith) ∙ ap U (sym same) ∙ in_U)))
-      (λ (other : v ≡ n → ⊥). turned.left_out v (omega arith) in_U off_v)
-      (cases_eq v n);
-  kept = λ v below in_A. ⊎_elim
-      (λ (same : v ≡ n). absurd (both_ways _ off (ap A (sym same) ∙ in_A)))
-      (λ (other : v ≡ n → ⊥). turned.kept v (omega arith) in_A)
-      (cases_eq v n);
-}
-
-pub turned-kept : (g : Multigraph) (U A B S T : ℕ → Bool) (n : ℕ) → Turned g U A n → A n ≡ true → IsSetWithout A n B →
-    ((w : ℕ) → S w ≡ false) → IsSetWith S n T → IsSpecialFrom g n T B → Turned g U A (n + 1)
-turned-kept g U A B S T n turned member without none with_n special = record {
-  part = turned.part;
-  meets = turned.meets;
-  rest = λ w past. turned.rest w (omega arith);
-  left_out = λ v below in_U off_v. ⊎_elim
-      (λ (same : v ≡ n). absurd (both_ways _ off_v (ap A same ∙ member)))
-      (λ (other : v ≡ n → ⊥). turned.left_out v (omega arith) in_U off_v)
-      (cases_eq v n);
-  kept = λ v below in_A. ⊎_elim
-      (λ (same : v ≡ n). subst (λ u. IsSpecialFrom g u (only u) (others A U u)) (sym same)
-      (subst (IsSpecialFrom g n (only n)) (λ i w. others-at A B U n without turned.rest w i)
-      (subst (λ R. IsSpecialFrom g n R B) (λ i w. only-at S T n none with_n w i) special)))
-      (λ (other : v ≡ n → ⊥). turned.kept v (omega arith) in_A)
-      (cases_eq v n);
-}
-
-pub turned-out : (g : Multigraph) (U A B S T : ℕ → Bool) (n : ℕ) → Turned g U A n → IsSetWithout A n B →
-    ((w : ℕ) → S w ≡ false) → IsSetWith S n T → AllHang g T B → Turned g U B (n + 1)
-turned-out g U A B S T n turned without none with_n all =
-    let same_others : (v : ℕ) → v ≤ n → (w : ℕ) → others A U v w ≡ others B U v w =
-    λ v early. others-same A B U v (λ w below. without.others w (omega arith)) in
-    record {
-      part = part-fewer A B U n turned.part without;
-      meets = meets-fewer g A B U S T n turned.meets without none with_n all;
-      rest = λ w past. sym (without.others w (omega arith)) ∙ turned.rest w (omega arith);
-      left_out = λ v below in_U off_v. ⊎_elim
-          (λ (same : v ≡ n). subst (λ u. AllHang g (only u) (others B U u)) (sym same)
-          (subst (AllHang g (only n))
-          (λ i w. (others-at A B U n without turned.rest w ∙ same_others n (omega arith) w) i)
-          (subst (λ R. AllHang g R B) (λ i w. only-at S T n none with_n w i) all)))
-          (λ (other : v ≡ n → ⊥). subst (AllHang g (only v)) (λ i w. same_others v (omega arith) w i)
-          (turned.left_out v (omega arith) in_U (without.others v other ∙ off_v)))
-          (cases_eq v n);
-      kept = λ v below in_B. ⊎_elim
-          (λ (same : v ≡ n). absurd (both_ways _ without.here (ap B (sym same) ∙ in_B)))
-          (λ (other : v ≡ n → ⊥). subst (IsSpecialFrom g v (only v)) (λ i w. same_others v (omega arith) w i)
-          (turned.kept v (omega arith) (without.others v other ∙ in_B)))
-          (cases_eq v n);
-    }
-
-pub turned-all : (g : Multigraph) (U A : ℕ → Bool) (n : ℕ) → ((v : ℕ) → U v ≡ true → v < n) → Turned g U A n →
-    IsGreedyDeterminingSet g U A
-turned-all g U A n inside turned = record {
-  part = turned.part;
-  left_out = λ v in_U off. turned.left_out v (inside v in_U) in_U off;
-  kept = λ v in_A. turned.kept v (inside v (turned.part v in_A)) in_A;
-}
-
--- one set keeps n and the other leaves it out
-greedy-clash : (g : Multigraph) (U A B : ℕ → Bool) (n : ℕ) → IsMultigraph g → IsGreedyDeterminingSet g U A →
-    IsGreedyDeterminingSet g U B →
-    ((w : ℕ) → w < n → A w ≡ B w) → A n ≡ true → B n ≡ false → ⊥
-greedy-clash g U A B n graph a b same in_A off_B =
-    let special : IsSpecialFrom g n (only n) (others A U n) = a.kept n in_A in
-    let in_set_n : special.set n ≡ true = special.part n (eq-eqb n n refl) in
-    let hangs : Hangs g special.set = b.left_out n (a.part n in_A) off_B special.set special.connected special.part
-    (λ w member. sym (others-same A B U n same w) ∙ special.off w member) in
-    hangs_not_reduced g special.set hangs.0 n in_set_n hangs.1 special.reduced
-
-pub greedy-once : (g : Multigraph) (U A B : ℕ → Bool) (n : ℕ) → IsMultigraph g → IsGreedyDeterminingSet g U A →
-    IsGreedyDeterminingSet g U B →
-    (v : ℕ) → v < n → A v ≡ B v
-greedy-once g U A B zero graph a b v below = absurd (omega arith)
-greedy-once g U A B (suc n) graph a b v below =
-    let before : (w : ℕ) → w < n → A w ≡ B w = greedy-once g U A B n graph a b in
-    let back : (w : ℕ) → w < n → B w ≡ A w = λ w under. sym (before w under) in
-    let here : A n ≡ B n = ⊎_elim
-    (λ (in_A : A n ≡ true).
-    in_A ∙ sym (true_from_ne_false (B n) (λ off_B. greedy-clash g U A B n graph a b before in_A off_B)))
-    (λ (off_A : A n ≡ false).
-    off_A ∙ sym (false_from_ne_true (B n) (λ in_B. greedy-clash g U B A n graph b a back in_B off_A)))
-    (cases_Bool (A n)) in
-    ⊎_elim
-    (λ (same : v ≡ n). rw same here)
-    (λ (other : v ≡ n → ⊥). before v (omega arith))
-    (cases_eq v n)

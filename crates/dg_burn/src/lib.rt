@@ -6,4 +6,4 @@ mod fire;
 mod special;
 
 pub use burning::{BurnCounts, Burnt, amounts_to_burn, burn, burn_counted};
-pub use special::{determining_set, determining_sets_are_one};
+pub use special::determining_set;

@@ -1,13 +1,11 @@
 //! The vertices at which it is enough to try a rank test: a set that meets each special set.
 
-ghost use Rattle.std.specs.Prelude.{◌≡◌, ◌≢◌, ℕ, ◌<◌, true, MatchBool};
+ghost use Rattle.std.specs.Prelude.{◌≡◌, ◌≢◌, ℕ, ◌<◌, ⊤, true, MatchBool};
 ghost use Rattle.dg_theory.specs.Determining.{beside, Determines, HangsLoosely, IsConnectedSet, MeetsSpecialSets};
-ghost use Rattle.dg_theory.specs.Reduced.{IsReduced};
 ghost use Rattle.dg_graph.specs.Sets.{in_set};
-ghost use Rattle.dg_theory.specs.Sets.{IsVertexSet};
+ghost use Rattle.dg_theory.specs.Sets.{IsSubset, IsVertexSet};
 ghost use Rattle.dg_burn.specs.Fires.{dollars};
-ghost use Rattle.dg_burn.specs.Special.{never_burning_dollars, IsSearchedForSpecial};
-ghost use Rattle.dg_theory.specs.GreedyDetermining.{IsGreedyDeterminingSet, AllHang, IsSpecialFrom, GreedyDeterminingSetIsOne};
+ghost use Rattle.dg_burn.specs.Special.{never_burning_dollars, AllHang, IsSearchedForSpecial};
 
 use crate::burning::burn_counted;
 use dg_graph::{Graph, complement, contains, with_vertex, without_vertex};
@@ -17,7 +15,7 @@ use dg_graph::{Graph, complement, contains, with_vertex, without_vertex};
 /// meets each special set that the other meets.
 pub fn determining_set(graph: &Graph, within: u16) -> u16
     requires { IsVertexSet graph.now.size (in_set within) }
-    ensures greedy { IsGreedyDeterminingSet graph.now (in_set within) (in_set result) }
+    ensures part { IsSubset (in_set result) (in_set within) }
     ensures meets { MeetsSpecialSets graph.now (in_set result) (in_set within) }
     ensures determines { Determines graph.now (in_set result) (in_set within) }
 {
@@ -33,18 +31,13 @@ pub fn determining_set(graph: &Graph, within: u16) -> u16
     asked
 }
 
-/// The rule by which `determining_set` leaves vertices out leaves only one set.
-pub fn determining_sets_are_one()
-    ensures { GreedyDeterminingSetIsOne }
-{}
-
 /// Whether something hangs loosely on each connected set that has all vertices of one set, and none of another. Where
 /// something hangs on the one, only a larger set that takes a vertex of it can be special.
 fn determines_without(graph: &Graph, q: usize, set: u16, stop: u16) -> bool
     requires { IsSearchedForSpecial graph.now (in_set set) q (in_set stop) }
     ensures { MatchBool result
         (AllHang graph.now (in_set set) (in_set stop))
-        (IsSpecialFrom graph.now q (in_set set) (in_set stop)) }
+        ⊤ }
 {
     let loose = part_to_determine_by(graph, q, set, stop);
     if loose == 0 {
@@ -67,8 +60,7 @@ fn determines_without(graph: &Graph, q: usize, set: u16, stop: u16) -> bool
 fn part_to_determine_by(graph: &Graph, q: usize, set: u16, stop: u16) -> u16
     requires connected { IsConnectedSet graph.now (in_set set) }
     requires start { in_set set q ≡ true }
-    ensures hangs { result ≢ 0 → HangsLoosely graph.now (in_set set) (in_set result) }
-    ensures special { result ≡ 0 → IsReduced graph.now q (beside graph.now (in_set set)) }
+    ensures { result ≢ 0 → HangsLoosely graph.now (in_set set) (in_set result) }
 {
     let _size = graph.size();
     let loose = burn_counted(graph, q, &dollars_beside(graph, set))

@@ -159,7 +159,7 @@ first trial that does not is shown. The status is 0 for both answers.
 
 K may be at most 1000, and there may be at most 200000 trials; a test past that
 is refused with `too many trials`. The workers change no answer. With --lines,
-many of these tests have an answer too:
+these tests have an answer too:
 
     jq -c . FILE | dollar rank --lines /dev/stdin K
 
@@ -175,8 +175,8 @@ line is answered by the fault of such a file:
     rank below 0 at a=0 b=0
     refused shape of top
 
-There a test past the limits is answered if the degree or the dual decides it
-(`dollar rr --help`), without the first loss: `rank below 12 at ?`.
+There a test past the limits is answered too, without the first loss:
+`rank below 12 at ?`. On graphs of many edges it may take long.
 
 With --divisors, LINES has amounts for the table of FILE on each line, in the
 order of its vertices, with one space between two. Each is answered as the table
@@ -224,8 +224,8 @@ For the triangle:
 By Riemann-Roch, rank - dual = degree + 1 - genus.
 
 Both ranks must be within the limits of `dollar rank`. With 16 vertices each may
-be at most 6. Otherwise the fault is `too many trials`; with --lines many tables
-have an answer even then:
+be at most 6. Otherwise the fault is `too many trials`; with --lines every table
+has an answer:
 
     jq -c . FILE | dollar rr --lines /dev/stdin
 
@@ -241,8 +241,7 @@ line is answered by the fault of such a file:
     degree 0 genus 1 rank -1 dual -1
     refused shape of top
 
-There one rank follows from the other if possible. A rank is `?` only if both
-need a test past the limits.
+On graphs of many edges some ranks take long.
 
 With --divisors, LINES has amounts for the table of FILE on each line, in the
 order of its vertices, with one space between two. Each is answered as the table
@@ -261,8 +260,8 @@ The faults in their order are `shape of amounts` if a word is not a whole
 number, `number of amounts`, and `amount of vertex v`, the first out of range,
 from 0.
 
-With --numbers, an answer has the four numbers alone, with NA for `?`. A refused
-line keeps its words:
+With --numbers, an answer has the four numbers alone. A refused line keeps its
+words:
 
     $ dollar rr triangle.json --divisors amounts.txt --numbers
     0 1 0 0

@@ -1,8 +1,12 @@
 -- Sets of vertices as numbers: a number stands for the set of the places at which its bits are set.
 --   in_set m v       == v is in the set that the number m stands for: bit v of m is set
 --   IsLeastInSet S v == v is the least vertex of S
-use Rattle.std.specs.Prelude.{◌≡◌, ℕ, ◌<◌, ◌==◌, Bool, true, false}
+--   AreSetsOfTwins g l == for each vertex v of g, the list l has at v the set of the other vertices that are twins
+--                       of v
+use Rattle.std.specs.Prelude.{◌≡◌, ◌≢◌, ℕ, ◌<◌, ◌==◌, ◌↔◌, Bool, true, false, List, slice_index}
 use Rattle.std.specs.Int.{bit_at}
+use Rattle.dg_theory.specs.Multigraph.{Multigraph}
+use Rattle.dg_theory.specs.Twins.{AreTwins}
 use Rattle.dg_graph.specs.declared.limits.TheConstants.{MAX_VERTICES}
 
 unfoldable pub in_set : ℕ → ℕ → Bool
@@ -12,3 +16,7 @@ pub record IsLeastInSet (S : ℕ → Bool) (v : ℕ) : Type 0 where
   pub few : v < MAX_VERTICES
   pub here : S v ≡ true
   pub least : (u : ℕ) → u < v → S u ≡ false
+
+abbrev pub AreSetsOfTwins : Multigraph → List ℕ → Type 0
+AreSetsOfTwins g l = (v u : ℕ) → v < g.size →
+    (in_set (slice_index l v) u ≡ true ↔ ((u < g.size) × (u ≢ v) × AreTwins g v u))

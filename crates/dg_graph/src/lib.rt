@@ -9,6 +9,7 @@ mod graph;
 mod limits;
 mod sets;
 mod table;
+mod twins;
 
 pub use fault::{GraphFault, JoinFault};
 pub use graph::Graph;

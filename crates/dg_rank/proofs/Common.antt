@@ -5,16 +5,14 @@ pub use Rattle.dg_graph.proofs.SetLaws.{in_set-none}
 pub use Rattle.dg_graph.specs.Graph.{IsGraph}
 pub use Rattle.dg_theory.specs.Sets.{IsSubset}
 unfoldable pub use Rattle.dg_graph.specs.Sets.{in_set}
-pub use Rattle.dg_burn.proofs.Tried.{greedy-once}
-pub use Rattle.dg_theory.specs.GreedyDetermining.{IsGreedyDeterminingSet, others}
-pub use Rattle.dg_rank.specs.Asked.{AreSetsForTrials, DeterminesTrialsFrom, IsSetForTrials}
+pub use Rattle.dg_rank.specs.Asked.{IsMadeOf, DeterminesTrialsFrom}
 pub use Rattle.dg_rank.specs.Boxes.{BoxWins, IsBoxLoss, IsFirstTrialFrom, IsTrialFrom, IsInBox, IsTrialLossFrom, TrialsWinFrom}
 pub use Rattle.dg_rank.specs.Divisors.{HoldsTrial, amounts_of_trial}
 pub use Rattle.dg_rank.specs.Ladders.{AnswersRankTest, AreRankTestAnswers, FailsRankTestsAfter, MeetsTooManyTrials, PassesRankTestsBelow, RankByTrialLadder, RanksByTrialLadders}
 pub use Rattle.dg_rank.specs.Limits.{ArePastTrialLimits, AreTrialsWithinLimits}
 pub use Rattle.dg_rank.specs.Losses.{AllTrialsWin, IsFirstLossOfTrials, IsTrialLeftBeforeLast, WinsWithoutTrial}
 pub use Rattle.dg_rank.specs.Pieces.{start_of_trials}
-pub use Rattle.dg_rank.specs.Ranks.{BothArePast, FailsRankTestsFirstAt, IsSetAskedByTrials, IsPastAskedTrials, how_many_trial_places, IsRankInLimits, IsRankUntold, IsRankTestWithinLimits, NeedsPastTests, NeedsTooMany}
+pub use Rattle.dg_rank.specs.Ranks.{FailsRankTestsFirstAt, IsRankInLimits, IsRankTestWithinLimits, NeedsTooMany}
 pub use Rattle.dg_rank.specs.Trials.{AnyTrial, AreTrialsCounted, IsTrialBefore, IsTrialNumbering, IsTrial}
 pub use Rattle.dg_rank.specs.declared.counting.TheConstants.{MAX_TRIALS}
 pub use Rattle.dg_rank.specs.declared.pieces.Search.{Search}
@@ -23,8 +21,6 @@ pub use Rattle.dg_rank.specs.declared.rank_fault.RankFault.TheVariants.{TooMany}
 pub use Rattle.dg_reduce.specs.Effective.{IsEffectiveDivisor}
 pub use Rattle.dg_theory.proofs.Absolute.{abs_within, within_abs}
 pub use Rattle.dg_theory.proofs.Agreement.{agree-sym}
-pub use Rattle.dg_theory.proofs.Chains.{JoinedInMultigraph-end}
-pub use Rattle.dg_theory.proofs.Counting.{count_of-some, member_or_none}
 pub use Rattle.dg_theory.proofs.DualityLaws.{IsDual, dual_tests, high_rank, natural}
 pub use Rattle.dg_theory.proofs.Equivalence.{equivalent-degree, equivalent-refl, equivalent-trans}
 pub use Rattle.dg_theory.proofs.Giving.{degree-less, degree-only_at, degree-winnable, win_more}
@@ -38,21 +34,19 @@ pub use Rattle.dg_theory.proofs.ReducedLaws.{effective_from, reduced_decides}
 pub use Rattle.dg_theory.proofs.SumBounds.{sum_below-at_least}
 pub use Rattle.dg_theory.proofs.SumLaws.{sum_below-add, sum_below-cong, sum_below-zero}
 pub use Rattle.dg_theory.proofs.SumSwap.{sum_below-sub}
-pub use Rattle.dg_theory.proofs.TotalLaws.{total_below-cong}
 pub use Rattle.dg_theory.proofs.Winning.{equivalent-winnable}
-pub use Rattle.dg_theory.specs.Determining.{BearsLosses, Determines, IsConnectedSet, edges_within}
+pub use Rattle.dg_theory.specs.Determining.{BearsLosses, Determines}
 pub use Rattle.dg_theory.specs.Firing.{DivisorsAgreeOn, Amounts, AreEquivalent, HasNoDebtOff, IsEffective, degree, only_at}
-pub use Rattle.dg_theory.specs.Multigraph.{IsMultigraph, JoinedInMultigraph, along, here, Multigraph, edge_count, edges_between, genus, valence}
+pub use Rattle.dg_theory.specs.Multigraph.{IsMultigraph, Multigraph, edge_count, edges_between, genus, valence}
 pub use Rattle.dg_theory.specs.Play.{IsWinnable}
 pub use Rattle.dg_theory.specs.Rank.{HasRankAtLeast, IsDivisorBefore, IsFirstLoss, IsRank, canonical, less}
 pub use Rattle.dg_theory.specs.Sums.{sum_below, total_below}
 pub use Rattle.dg_verdict.specs.declared.rank_verdict.RankVerdict.{RankVerdict}
 pub use Rattle.dg_verdict.specs.declared.rank_verdict.RankVerdict.TheVariants.{AtLeast, Below}
 pub use Rattle.std.proofs.Common.{Bool, List, [], add-one, ap, arith, drop, false, get_or-set_other, get_or-set_same, inl, inr, length, length-append, length-set, mul-le-mul_right, of_z, refl, replicate, rules, set, subst, suc, suc-mul, sym, take, to_z, true, w32, w64, zero, ℕ, ⊎_elim, ◌*◌, ◌++◌, ◌+◌, ◌-◌, ◌/◌, ◌<◌, ◌∙◌, ◌∷◌, ◌≡◌, ◌≢◌, ◌≤◌, ◌⊎◌}
-pub use Rattle.std.proofs.Math.Path.{fun_ext}
 pub use Rattle.std.proofs.Math.IntN.{nat_abs, negsuc, pos, ℤ, ◌-ℤ◌}
 pub use Rattle.std.proofs.Math.Nat.{div-le_of_le-mul, div-mul-le_self, mul-div_cancel_left}
-pub use Rattle.std.proofs.lemmas.Bool.{both_ways, cases_Bool, cases_eq, cases_lt, cond_above, cond_below, eq-eqb, eqb-true, false_from_ne_true, le-ltb, lt-ltb, ltb-true, ne_eqb}
+pub use Rattle.std.proofs.lemmas.Bool.{both_ways, cases_Bool, cases_eq, cases_lt, cond_above, cond_below, false_from_ne_true}
 pub use Rattle.std.proofs.lemmas.Int.{by_lt_z, clamps, ints}
 pub use Rattle.std.proofs.lemmas.List.{get_or-replicate, get_or-append_right, get_or-drop, get_or-take, get_or_append_left, get_or_past, get_or_push, length-drop, length-take-le, take-append-drop, take_all, take_more_set}
 pub use Rattle.std.proofs.lemmas.List.Sums.{get_or-le-sum_by, sum_by-cons, sum_by-take-drop, sum_by_more}
@@ -60,4 +54,4 @@ pub use Rattle.std.proofs.lemmas.Nat.{le-div}
 pub use Rattle.std.specs.Int.{int_max}
 pub use Rattle.std.specs.Int.RustNames.{unsigned_abs}
 pub use Rattle.std.specs.List.{slice_index_or, sum}
-pub use Rattle.std.specs.Prelude.{if◌then◌else◌, nat_lt, Err, MatchBool, MatchOption, None, Ok, Option, Result, Some, is_some, min, not, slice_index, ⊤, ◌+ℤ◌, ◌<ℤ◌, ◌↔◌, ◌≤ℤ◌}
+pub use Rattle.std.specs.Prelude.{if◌then◌else◌, Err, MatchBool, MatchOption, None, Ok, Option, Result, Some, is_some, min, not, slice_index, ⊤, ◌+ℤ◌, ◌<ℤ◌, ◌↔◌, ◌≤ℤ◌}

@@ -5,14 +5,25 @@
 --   loss_beyond    a loss that takes more at a vertex
 --   nothing_lost   what can't be won is lost with no dollar taken
 --   box_told       what is told of amounts is told of equivalent ones
---   box_opened     what is told of a box that is closed at a vertex, once those that take more there win
+--   beyond_wins    those that take more at a vertex
+--   twin_wins      if they win, so do those that take more at one that is the same in the box
+--   box_closed     so the box may be closed at all of these
+--   one_closed     once more at a twin
+--   sum_closed     and then less may be lost in all
 --   none_held      a trial of no dollars
 --   class_small    what is equivalent to small amounts is small
 --   taken_small    what is left once dollars are taken
-use Rattle.dg_rank.proofs.Common.{◌≡◌, ℕ, ◌+◌, ◌-◌, ◌<◌, ◌≤◌, List, [], length, arith, ap, ◌∙◌, ⊎_elim, set, length-set, get_or-set_same, get_or-set_other, slice_index, ◌≤ℤ◌, ◌<ℤ◌, cases_eq, ints, by_lt_z, pos, Option, Some, None, MatchOption, Multigraph, Amounts, degree, only_at, AreEquivalent, IsWinnable, less, degree-less, degree-only_at, only_at-here, only_at-other, sum_below-one, sum_below-zero, equivalent-winnable, win_more, amounts_of_trial, BoxWins, IsBoxLoss, IsInBox, IsMultigraph, Vector, at, IsEffectiveDivisor}
+use Rattle.dg_rank.proofs.Common.{◌≡◌, ℕ, ◌+◌, ◌-◌, ◌<◌, ◌≤◌, inl, inr, sym, List, [], length, arith, ap, ◌∙◌, ⊎_elim, set, length-set, get_or-set_same, get_or-set_other, slice_index, ◌≤ℤ◌, ◌<ℤ◌, cases_eq, ints, by_lt_z, pos, Option, Some, None, MatchOption, Multigraph, Amounts, degree, only_at, AreEquivalent, IsWinnable, less, degree-less, degree-only_at, only_at-here, only_at-other, sum_below-one, sum_below-zero, equivalent-winnable, win_more, amounts_of_trial, BoxWins, IsBoxLoss, IsInBox, IsMultigraph, Vector, at, IsEffectiveDivisor}
 use Rattle.std.proofs.Common.{min}
 use Rattle.std.proofs.Math.IntN.{◌+ℤ◌, ◌-ℤ◌}
 use Rattle.dg_rank.proofs.Elsewhere.{degree-given, form_degree}
+use Rattle.std.proofs.lemmas.List.Sums.{sum_by-set}
+use Rattle.std.specs.List.{sum}
+use Rattle.dg_theory.proofs.Searching.{AllBelow, FirstOf, first_or_all}
+use Rattle.dg_rank.specs.Boxes.{IsClosedWithTwins, IsSameInBox}
+use Rattle.std.proofs.lemmas.Bool.Decides.{nat_tests}
+use Rattle.dg_theory.specs.Twins.{AreTwins, exchange, exchanged}
+use Rattle.dg_theory.proofs.Twins.{exchange-below, exchange-same, exchange-twice, sum_below-exchanged, win_exchanged}
 
 pub in_few : (n j v : ℕ) (r : List ℕ) (E : Amounts) → IsInBox n r j E → v < n → E v ≤ℤ pos j
 in_few n j v r E inside below =
@@ -120,39 +131,91 @@ box_told (Some E) g A B r j (s, leads) loss = record {
       (s, λ u below. omega (arith, ints, leads u below))).0 win);
 }
 
-pub box_opened : (o : Option (List ℕ)) (g : Multigraph) (A : Amounts) (r : List ℕ) (j v h : ℕ) → v < g.size →
-    v < length r → h ≤ slice_index r v →
+beyond_wins : (g : Multigraph) (A : Amounts) (r : List ℕ) (j v h : ℕ) → v < g.size → v < length r → h < slice_index r v →
     BoxWins g (less A (only_at v (pos (h + 1)))) (set r v (slice_index r v - (h + 1))) (j - (h + 1)) →
-    MatchOption o (BoxWins g A (set r v h) j) (IsBoxLoss g A (set r v h) j) →
-    MatchOption o (BoxWins g A r j) (IsBoxLoss g A r j)
-box_opened None g A r j v h below placed low beyond closed =
-    λ E inside. by_lt_z (pos h) (E v)
-    (λ (more : pos h <ℤ E v).
+    (E : Amounts) → IsInBox g.size r j E → pos h <ℤ E v → IsWinnable g (less A E)
+beyond_wins g A r j v h below placed low beyond E inside more =
     let X : Amounts = only_at v (pos (h + 1)) in
     win_more g (less (less A X) (less E X)) (less A E) (λ u low. omega (arith, ints))
-    (beyond (less E X) (box_without g.size j v (h + 1) r E inside below placed (omega (arith, ints)))))
-    (λ (few : E v ≤ℤ pos h). closed E (record {
-      effective = inside.effective;
-      few = inside.few;
-      within = λ u low. ⊎_elim
-          (λ (there : u ≡ v). rw there (omega (arith, ints, few, get_or-set_same r v h 0 placed)))
-          (λ (other : u ≡ v → ⊥). omega (arith, ints, inside.within u low, get_or-set_other r v u h 0 other))
-          (cases_eq u v);
-    }))
-box_opened (Some E) g A r j v h below placed low beyond loss = record {
+    (beyond (less E X) (box_without g.size j v (h + 1) r E inside below placed (omega (arith, ints))))
+
+box_exchanged : (n j u v : ℕ) (r : List ℕ) (E : Amounts) → u < n → v < n → slice_index r u ≡ slice_index r v →
+    IsInBox n r j E → IsInBox n r j (exchanged u v E)
+box_exchanged n j u v r E left right same inside = record {
+  effective = λ w low. inside.effective (exchange u v w) (exchange-below n u v w left right low);
+  few = omega (arith, ints, sum_below-exchanged n u v E left right, inside.few);
+  within = λ w low. omega (
+    arith,
+    ints,
+    inside.within (exchange u v w) (exchange-below n u v w left right low),
+    exchange-same (slice_index r) u v w same,
+  );
+}
+
+twin_wins : (g : Multigraph) (A : Amounts) (r : List ℕ) (j v h u : ℕ) → IsMultigraph g → v < g.size → u < g.size →
+    IsSameInBox g A r v u → ((E : Amounts) → IsInBox g.size r j E → pos h <ℤ E v → IsWinnable g (less A E)) →
+    (E : Amounts) → IsInBox g.size r j E → pos h <ℤ E u → IsWinnable g (less A E)
+twin_wins g A r j v h u graph below below' same beyond E inside more =
+    let F : Amounts = exchanged v u E in
+    let there : exchange v u v ≡ u = grind (arith, nat_tests) in
+    let held : E u ≡ F v = sym (ap E there) in
+    win_more g (exchanged v u (less A F)) (less A E)
+    (λ w low. omega (arith, ints, exchange-same A v u w (sym same.held), ap E (exchange-twice v u w)))
+    (win_exchanged g (less A F) v u graph below below' same.twins
+    (beyond F (box_exchanged g.size j v u r E below below' (sym same.room) inside) (omega (arith, ints))))
+
+pub box_closed : (o : Option (List ℕ)) (g : Multigraph) (A : Amounts) (r c : List ℕ) (j v h : ℕ) → IsMultigraph g →
+    v < g.size → v < length r → h < slice_index r v →
+    BoxWins g (less A (only_at v (pos (h + 1)))) (set r v (slice_index r v - (h + 1))) (j - (h + 1)) →
+    IsClosedWithTwins g A r v h c → MatchOption o (BoxWins g A c j) (IsBoxLoss g A c j) →
+    MatchOption o (BoxWins g A r j) (IsBoxLoss g A r j)
+box_closed None g A r c j v h graph below placed low beyond closed wins = λ E inside. ⊎_elim
+    (λ (all : AllBelow g.size (λ u. E u ≤ℤ pos (slice_index c u))).
+    wins E (record { effective = inside.effective; few = inside.few; within = all }))
+    (λ (first : FirstOf g.size (λ u. E u ≤ℤ pos (slice_index c u)) (λ u. pos (slice_index c u) <ℤ E u)).
+    let u = first.0 in ⊎_elim
+    (λ (same : slice_index c u ≡ slice_index r u). absurd (omega (arith, ints, first.2, inside.within u first.1)))
+    (λ (twin : (slice_index c u ≡ h) × IsSameInBox g A r v u).
+    twin_wins g A r j v h u graph below first.1 twin.1 (beyond_wins g A r j v h below placed low beyond) E inside
+    (omega (arith, ints, first.2, twin.0)))
+    (closed u first.1))
+    (first_or_all g.size (λ u. E u ≤ℤ pos (slice_index c u)) (λ u. pos (slice_index c u) <ℤ E u)
+    (λ u _. by_lt_z (pos (slice_index c u)) (E u) (λ (more : pos (slice_index c u) <ℤ E u). inr more)
+    (λ (few : E u ≤ℤ pos (slice_index c u)). inl few)))
+box_closed (Some E) g A r c j v h graph below placed low beyond closed loss = record {
   places = loss.places;
   inside = record {
     effective = loss.inside.effective;
     few = loss.inside.few;
     within = λ u inside. ⊎_elim
-        (λ (there : u ≡ v). rw there
-        (omega (arith, ints, loss.inside.within v below, get_or-set_same r v h 0 placed)))
-        (λ (other : u ≡ v → ⊥).
-        omega (arith, ints, loss.inside.within u inside, get_or-set_other r v u h 0 other))
-        (cases_eq u v);
+        (λ (same : slice_index c u ≡ slice_index r u). omega (arith, ints, loss.inside.within u inside))
+        (λ (twin : (slice_index c u ≡ h) × IsSameInBox g A r v u).
+        omega (arith, ints, loss.inside.within u inside, twin.0, twin.1.room))
+        (closed u inside);
   };
   loses = loss.loses;
 }
+
+pub one_closed : (g : Multigraph) (A : Amounts) (r c : List ℕ) (v h u : ℕ) → u < length c → u < g.size →
+    h < slice_index r v → AreTwins g v u → A u ≡ A v → slice_index c u ≡ slice_index r v → IsClosedWithTwins g A r v h c →
+    IsClosedWithTwins g A r v h (set c u h)
+one_closed g A r c v h u placed below low twins held room closed w inside = ⊎_elim
+    (λ (there : w ≡ u). rw there (inr (
+      get_or-set_same c u h 0 placed,
+      record {
+        twins = twins;
+        held = held;
+        room = ⊎_elim
+            (λ (same : slice_index c u ≡ slice_index r u). omega (arith))
+            (λ (twin : (slice_index c u ≡ h) × IsSameInBox g A r v u). twin.1.room)
+            (closed u below);
+      },
+    )))
+    (λ (apart : w ≡ u → ⊥). rw (get_or-set_other c u w h 0 apart) (closed w inside))
+    (cases_eq w u)
+
+pub sum_closed : (c : List ℕ) (u h : ℕ) → u < length c → h < slice_index c u → sum (set c u h) < sum c
+sum_closed c u h placed low = omega (arith, sum_by-set (λ (x : ℕ). x) c u h 0 placed)
 
 pub none_held : (n : ℕ) (E : List ℕ) → slice_index E (n - 1) ≡ 0 →
     ((u : ℕ) → u + 1 < n → slice_index E u ≡ 0) → (u : ℕ) → u < n → slice_index E u ≡ 0

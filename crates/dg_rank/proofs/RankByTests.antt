@@ -5,11 +5,8 @@
 --   not_all_pass      from the genus on, and where it is not rich, a divisor fails
 --   in_limits         the rank is told within the limits, where the next test is
 --   needs_too_many    where a test of the next degree after the rank is past the limits, too many tests are needed
---   past_tests       where tests that nothing tells are needed, too many are
---   tests_suffice     where all tests up to one that fails are told, none past the limits is needed
-use Rattle.dg_rank.proofs.Common.{◌≡◌, ℕ, zero, suc, ◌+◌, ◌<◌, ◌≤◌, inl, inr, arith, refl, sym, subst, unsigned_abs, ◌≤ℤ◌, ◌<ℤ◌, cases_eq, cases_lt, ints, by_lt_z, ℤ, pos, ◌-ℤ◌, Multigraph, IsMultigraph, genus, Amounts, degree, less, canonical, HasRankAtLeast, IsRank, poor_rank, rank_passes, rank_of_dual, IsDual, high_rank, AreTrialsWithinLimits, ArePastTrialLimits, IsRankInLimits, NeedsTooMany, IsRankUntold, NeedsPastTests, FailsRankTestsFirstAt}
+use Rattle.dg_rank.proofs.Common.{◌≡◌, ℕ, zero, suc, ◌+◌, ◌<◌, ◌≤◌, arith, refl, sym, subst, unsigned_abs, ◌≤ℤ◌, ◌<ℤ◌, ints, by_lt_z, ℤ, pos, ◌-ℤ◌, Multigraph, IsMultigraph, genus, Amounts, degree, less, canonical, HasRankAtLeast, IsRank, poor_rank, rank_passes, rank_of_dual, IsDual, high_rank, IsRankTestWithinLimits, ArePastTrialLimits, IsRankInLimits, NeedsTooMany, FailsRankTestsFirstAt}
 use Rattle.std.proofs.Math.IntN.{◌+ℤ◌}
-use Rattle.dg_rank.proofs.AskedVertices.{past_all}
 
 pub rank_before : (g : Multigraph) (D : Amounts) (k : ℕ) → FailsRankTestsFirstAt g D k → IsRank g D (pos k -ℤ pos 1)
 rank_before g D zero first = (refl, first.fails)
@@ -44,28 +41,11 @@ pub not_all_pass : (g : Multigraph) (D : Amounts) (k : ℕ) → IsMultigraph g �
 not_all_pass g D k graph some high poor rank =
     let none : ⊥ = omega (arith, ints, high_rank g D k graph some high rank) in none
 
-pub in_limits : (g : Multigraph) (D : Amounts) (k c : ℕ) (r : ℤ) → IsRank g D (pos k -ℤ pos 1) → r ≡ pos k -ℤ pos 1 →
-    AreTrialsWithinLimits g.size k c → IsRankInLimits g D r
-in_limits g D k c r rank same within = record {
+pub in_limits : (g : Multigraph) (D : Amounts) (k : ℕ) (r : ℤ) → IsRank g D (pos k -ℤ pos 1) → r ≡ pos k -ℤ pos 1 →
+    IsRankTestWithinLimits g.size k → IsRankInLimits g D r
+in_limits g D k r rank same within = record {
   is_rank = subst (IsRank g D) (sym same) rank;
   next = k;
   follows = omega (arith, ints);
-  within = (c, within);
-}
-
-pub tests_suffice : (g : Multigraph) (D : Amounts) (k : ℕ) → (¬ HasRankAtLeast g D k) → (¬ IsRankUntold g D k) →
-    ((j : ℕ) → j < k → ¬ IsRankUntold g D j) → ¬ NeedsPastTests g D
-tests_suffice g D k fails here before needs = elim (cases_lt k needs.degree) [
-  | inl less ↦ fails (needs.passed k less)
-  | inr most ↦ elim (cases_eq needs.degree k) [
-    | inl same ↦ here (subst (IsRankUntold g D) same needs.untold)
-    | inr other ↦ before needs.degree (omega (arith, most, other)) needs.untold
-  ]
-]
-
-pub past_tests : (g : Multigraph) (D : Amounts) → IsMultigraph g → 0 < g.size → NeedsPastTests g D → NeedsTooMany g D
-past_tests g D graph some needs = record {
-  degree = needs.degree;
-  past = past_all g needs.degree graph some needs.untold.past.past;
-  passed = needs.passed;
+  within = within;
 }

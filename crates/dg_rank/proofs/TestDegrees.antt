@@ -6,6 +6,7 @@
 --   through      what is at most b is at most what b is at most
 --   one_more     the number after the last is not cut off
 --   dual_degree  the degree of the dual's test, which passes where that of degree k does
+--   lesser_few   of a test that is at most half the degree and of its dual's, the lower degree is small
 --   last_tested  where none before that number is left, the last was tested
 use Rattle.dg_rank.proofs.Common.{◌≡◌, ℕ, ◌+◌, ◌<◌, ◌≤◌, arith, w32, w64, to_z, of_z, ◌≤ℤ◌, ◌<ℤ◌, int_max, unsigned_abs, ints, clamps, ℤ, pos, ◌-ℤ◌, nat_abs, natural}
 use Rattle.std.proofs.Math.IntN.{◌+ℤ◌}
@@ -60,3 +61,8 @@ dual_degree total genus apart whole k is small most least few poor same =
     let kept : to_z w64 (of_z w64 apart) ≡ apart = omega (arith, ints) in
     let kept_whole : to_z w64 (of_z w64 whole) ≡ pos k = omega (arith, ints) in
     (n, rw (kept, kept_whole) (omega (arith, ints)), omega (arith, ints), omega (arith, ints))
+
+pub lesser_few : (total genus : ℤ) (k l : ℕ) → genus ≤ℤ pos 1009 → (pos k +ℤ pos k) ≤ℤ total →
+    pos k -ℤ pos l ≡ (total +ℤ pos 1) -ℤ genus → (k ≤ l → k ≤ 1000) × (l < k → l ≤ 1000)
+lesser_few total genus k l most half apart =
+    (λ less. omega (arith, ints, most, half, apart, less), λ less. omega (arith, ints, most, half, apart, less))

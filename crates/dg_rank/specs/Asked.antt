@@ -2,24 +2,21 @@
 --   DeterminesTrialsFrom g d S == no vertex before place d is in S, and a divisor that can bear each loss of
 --                                 r dollars within S can bear each that holds nothing before place d, for
 --                                 every r
---   IsSetForTrials g d S       == S does so; and for place 0 it is the determining set of g
---   AreSetsForTrials g l       == for each place, the list l has the number of such a set, or 0
-use Rattle.std.specs.Prelude.{◌≡◌, ℕ, ◌<◌, ◌⊎◌, Bool, false, List, slice_index}
+--   IsMadeOf g m               == for each place, m has the number of such a set, or 0; and sets of twins, if
+--                                 they were looked for
+use Rattle.std.specs.Prelude.{◌≡◌, ℕ, ◌<◌, ◌⊎◌, Bool, false, ⊤, MatchOption, slice_index}
 use Rattle.dg_theory.specs.Firing.{Amounts}
 use Rattle.dg_theory.specs.Multigraph.{Multigraph}
 use Rattle.dg_theory.specs.Determining.{BearsLosses}
 use Rattle.dg_graph.specs.Sets.{in_set}
-use Rattle.dg_rank.specs.Boxes.{TrialsWinFrom}
-use Rattle.dg_rank.specs.Ranks.{IsSetAskedByTrials}
+use Rattle.dg_rank.specs.Boxes.{TrialsWinFrom, AreTwinsInSets}
+use Rattle.dg_rank.specs.declared.asked.Made.{Made}
 
 pub record DeterminesTrialsFrom (g : Multigraph) (d : ℕ) (S : ℕ → Bool) : Type 0 where
   pub part : (v : ℕ) → v < d → S v ≡ false
   pub wins : (A : Amounts) (r : ℕ) → BearsLosses g S A r → TrialsWinFrom g A r d
 
-pub record IsSetForTrials (g : Multigraph) (d : ℕ) (S : ℕ → Bool) : Type 0 where
-  pub determines : DeterminesTrialsFrom g d S
-  pub asked : d ≡ 0 → IsSetAskedByTrials g S
-
-abbrev pub AreSetsForTrials : Multigraph → List ℕ → Type 0
-AreSetsForTrials g l = (p : ℕ) → p < g.size →
-    (slice_index l p ≡ 0) ⊎ IsSetForTrials g p (in_set (slice_index l p))
+pub record IsMadeOf (g : Multigraph) (m : Made) : Type 0 where
+  pub sets : (p : ℕ) → p < g.size →
+      (slice_index m.sets p ≡ 0) ⊎ DeterminesTrialsFrom g p (in_set (slice_index m.sets p))
+  pub twins : MatchOption m.twins ⊤ (AreTwinsInSets g)

@@ -5,16 +5,23 @@
 --   BoxWins g A r j            == A less each of these is winnable
 --   IsBoxLoss g A r j E        == the trial E is one of these, and A less E is not winnable
 --   IsLackInBox n A r j o      == at o A holds less than may be lost there, or nowhere if there is no o
+--   AreTwinsInSets g l         == whoever is in the set that the list l has at a vertex of g is a twin of that
+--                                 vertex
+--   IsSameInBox g A r v u      == u is v or a twin of it, A holds as much at both, and as much may be lost at both
+--   IsClosedWithTwins g A r v h c == the list c is r, but for the number h at some vertices that are the same as
+--                                 v in the box
 --   IsTrialLossFrom g A r d E  == A less E is not winnable, where E is a trial of degree at most r that holds
 --                                 nothing before place d
 --   IsTrialFrom n r d F        == F is effective, of degree r, and holds nothing before place d
 --   TrialsWinFrom g A r d      == A less each of these is winnable
 --   IsFirstTrialFrom g A r d E == the trial E is the first of these without which A is not winnable
-use Rattle.std.specs.Prelude.{◌≡◌, ℕ, ◌<◌, pos, ◌<ℤ◌, ◌≤ℤ◌, List, Option, MatchOption, length, min, slice_index}
+use Rattle.std.specs.Prelude.{◌≡◌, ℕ, ◌<◌, ◌⊎◌, true, pos, ◌<ℤ◌, ◌≤ℤ◌, List, Option, MatchOption, length, min, slice_index}
 use Rattle.dg_theory.specs.Firing.{Amounts, degree, IsEffective}
 use Rattle.dg_theory.specs.Multigraph.{Multigraph}
 use Rattle.dg_theory.specs.Play.{IsWinnable}
 use Rattle.dg_theory.specs.Rank.{less, IsDivisorBefore}
+use Rattle.dg_theory.specs.Twins.{AreTwins}
+use Rattle.dg_graph.specs.Sets.{in_set}
 use Rattle.dg_rank.specs.Divisors.{amounts_of_trial}
 use Rattle.dg_rank.specs.Losses.{WinsWithoutTrial}
 
@@ -35,6 +42,18 @@ abbrev pub IsLackInBox : ℕ → Amounts → List ℕ → ℕ → Option ℕ →
 IsLackInBox n A r j o = MatchOption o
     ((v : ℕ) → v < n → pos (min (slice_index r v) j) ≤ℤ A v)
     (λ v. (v < n) × (A v <ℤ pos (min (slice_index r v) j)))
+
+abbrev pub AreTwinsInSets : Multigraph → List ℕ → Type 0
+AreTwinsInSets g l = (v u : ℕ) → v < g.size → in_set (slice_index l v) u ≡ true → AreTwins g v u
+
+pub record IsSameInBox (g : Multigraph) (A : Amounts) (r : List ℕ) (v u : ℕ) : Type 0 where
+  pub twins : AreTwins g v u
+  pub held : A u ≡ A v
+  pub room : slice_index r u ≡ slice_index r v
+
+abbrev pub IsClosedWithTwins : Multigraph → Amounts → List ℕ → ℕ → ℕ → List ℕ → Type 0
+IsClosedWithTwins g A r v h c = (u : ℕ) → u < g.size →
+    (slice_index c u ≡ slice_index r u) ⊎ ((slice_index c u ≡ h) × IsSameInBox g A r v u)
 
 pub record IsTrialLossFrom (g : Multigraph) (A : Amounts) (r d : ℕ) (E : List ℕ) : Type 0 where
   pub places : length E ≡ g.size

@@ -7,34 +7,17 @@
 --   EitherNeedsTooMany g D       == D or its residual needs too many rank tests
 --   RefusesBothRanks g D         == the residual of D is in range, and D or the residual needs too many rank
 --                                   tests
---   how_many_trial_places n S    == how many of n vertices are in the set S
---   IsSetAskedByTrials g A       == A is the determining set of g: what is left of all vertices if each, from
---                                   the first on, is left out where that can be
---   IsPastAskedTrials g k        == the trials of degree k that hold nothing outside this set are past the
---                                   limits
---   IsRankTestOpen g D k         == no law of the degree tells whether the rank of D is at least k: k is at
---                                   most half the degree, and D less k dollars holds less than the genus
---   BothArePast g D k            == the rank test of degree k is past the limits on this set, and so is that
---                                   of the residual which passes if it passes
---   IsRankUntold g D k           == nothing tells whether the rank of D is at least k: that is open, and both
---                                   tests are past the limits
---   DecidesRankTest g D k result == the result is whether the rank of D is at least k; or it is `TooMany`,
---                                   exactly if nothing tells that
---   NeedsPastTests g D           == D passes all rank tests before one that nothing tells
---   AreBothRanks g D r           == r is the ranks of D and of its residual, and nothing is untold that they
---                                   need
+--   AreBothRanks g D r           == r is the ranks of D and of its residual
 --   FailsRankTestsFirstAt g D k  == k is the least degree of the rank tests that D fails
 --   MayHaveRankWorkers w         == a rank test may have w workers
 --   IsRankTestFault n k w e      == a rank test with w workers is refused for this cause, and for no earlier
 --                                   one, and never for want of memory; whether a thread really did not start,
 --                                   no definition can say
-use Rattle.std.specs.Prelude.{if◌then◌else◌, nat_lt, ◌≡◌, ℕ, ◌<◌, ◌≤◌, ◌⊎◌, ℤ, pos, ◌+ℤ◌, ◌-ℤ◌, ◌≤ℤ◌, ◌<ℤ◌, Bool, MatchBool, Result, Ok, Err}
+use Rattle.std.specs.Prelude.{◌≡◌, ℕ, ◌<◌, ◌≤◌, ◌⊎◌, ℤ, pos, ◌+ℤ◌}
 use Rattle.dg_chips.specs.Vector.{IsInRange}
-use Rattle.dg_theory.specs.Firing.{Amounts, degree}
-use Rattle.dg_theory.specs.Multigraph.{Multigraph, genus}
-use Rattle.dg_theory.specs.Sums.{total_below}
+use Rattle.dg_theory.specs.Firing.{Amounts}
+use Rattle.dg_theory.specs.Multigraph.{Multigraph}
 use Rattle.dg_theory.specs.Rank.{less, canonical, HasRankAtLeast, IsRank}
-use Rattle.dg_theory.specs.GreedyDetermining.{IsGreedyDeterminingSet}
 use Rattle.dg_rank.specs.Limits.{AreTrialsWithinLimits, ArePastTrialLimits}
 use Rattle.dg_rank.specs.declared.rank_fault.RankFault.{RankFault}
 use Rattle.dg_rank.specs.declared.rank_fault.RankFault.TheVariants.{TooMany, Workers, OutOfMemory, Spawn}
@@ -65,43 +48,8 @@ pub record RefusesBothRanks (g : Multigraph) (D : Amounts) : Type 0 where
   pub in_range : IsInRange g.size (less (canonical g) D)
   pub either : EitherNeedsTooMany g D
 
-abbrev pub how_many_trial_places : ℕ → (ℕ → Bool) → ℕ
-how_many_trial_places n S = total_below n (λ v. if S v then 1 else 0)
-
-abbrev pub IsSetAskedByTrials : Multigraph → (ℕ → Bool) → Type 0
-IsSetAskedByTrials g A = IsGreedyDeterminingSet g (λ v. nat_lt v g.size) A
-
-pub record IsPastAskedTrials (g : Multigraph) (k : ℕ) : Type 0 where
-  pub set : ℕ → Bool
-  pub asked : IsSetAskedByTrials g set
-  pub past : ArePastTrialLimits (how_many_trial_places g.size set) k
-
-pub record IsRankTestOpen (g : Multigraph) (D : Amounts) (k : ℕ) : Type 0 where
-  pub half : (pos k +ℤ pos k) ≤ℤ degree g.size D
-  pub most : degree g.size D <ℤ (genus g +ℤ pos k)
-
-pub record BothArePast (g : Multigraph) (D : Amounts) (k : ℕ) : Type 0 where
-  pub other : ℕ
-  pub dual : pos k -ℤ pos other ≡ (degree g.size D +ℤ pos 1) -ℤ genus g
-  pub past : IsPastAskedTrials g k
-  pub dual_past : IsPastAskedTrials g other
-
-pub record IsRankUntold (g : Multigraph) (D : Amounts) (k : ℕ) : Type 0 where
-  pub is_open : IsRankTestOpen g D k
-  pub past : BothArePast g D k
-
-abbrev pub DecidesRankTest : Multigraph → Amounts → ℕ → Result Bool RankFault → Type 0
-DecidesRankTest g D k (Ok told) =
-    MatchBool told (HasRankAtLeast g D k) (¬ HasRankAtLeast g D k) × (¬ IsRankUntold g D k)
-DecidesRankTest g D k (Err fault) = (fault ≡ TooMany) × IsRankUntold g D k
-
-pub record NeedsPastTests (g : Multigraph) (D : Amounts) : Type 0 where
-  pub degree : ℕ
-  pub untold : IsRankUntold g D degree
-  pub passed : (k : ℕ) → k < degree → HasRankAtLeast g D k
-
 abbrev pub AreBothRanks : Multigraph → Amounts → ℤ × ℤ → Type 0
-AreBothRanks g D r = IsRank g D r.0 × IsRank g (less (canonical g) D) r.1 × (¬ NeedsPastTests g D)
+AreBothRanks g D r = IsRank g D r.0 × IsRank g (less (canonical g) D) r.1
 
 pub record FailsRankTestsFirstAt (g : Multigraph) (D : Amounts) (k : ℕ) : Type 0 where
   pub passed : (j : ℕ) → j < k → HasRankAtLeast g D j

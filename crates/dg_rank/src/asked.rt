@@ -1,16 +1,15 @@
 //! The vertices that rank tests ask: it is enough to lose dollars at these. A determining set of vertices takes as long to make
-//! as some dozens of boxes to search, so it is made once a search is longer than that.
-ghost use Rattle.std.specs.Prelude.{◌≡◌, ℕ, ◌<◌, ◌≤◌, ⊤, true, MatchBool, MatchOption, slice_index, if◌then◌else◌};
+//! as some dozens of boxes to search, so it is made once a search is longer than that, and twins are found with it.
+ghost use Rattle.std.specs.Prelude.{◌≡◌, ℕ, ◌<◌, ◌≤◌, true, MatchOption, slice_index, if◌then◌else◌};
 ghost use Rattle.dg_theory.specs.Firing.{IsEffective};
+ghost use Rattle.dg_theory.specs.Multigraph.{Multigraph};
 ghost use Rattle.dg_graph.specs.Sets.{in_set};
 ghost use Rattle.dg_chips.specs.Vector.{at};
-ghost use Rattle.dg_rank.specs.Asked.{AreSetsForTrials, IsSetForTrials};
-ghost use Rattle.dg_rank.specs.Boxes.{TrialsWinFrom, IsTrialLossFrom};
+ghost use Rattle.dg_rank.specs.Asked.{IsMadeOf, DeterminesTrialsFrom};
+ghost use Rattle.dg_rank.specs.Boxes.{AreTwinsInSets, TrialsWinFrom, IsTrialLossFrom};
 ghost use Rattle.dg_rank.specs.Losses.{AddUpToFewForTrials};
-ghost use Rattle.dg_rank.specs.Ranks.{IsPastAskedTrials, how_many_trial_places};
 
 use crate::boxes::{Stopped, find_in_box};
-use crate::counting::trials;
 use crate::enumeration::Trial;
 use dg_burn::determining_set;
 use dg_graph::{Graph, MAX_VERTICES, contains, with_vertex};
@@ -19,12 +18,63 @@ use dg_reduce::EffectiveDivisor;
 /// So many boxes are searched on all vertices, before a determining set is made.
 const FEW_BOXES: u32 = 32;
 
-/// A loss of at most so many dollars, of which none are lost before a place; `None` if each such loss can be borne. The sets
-/// that were made for the graph are kept: one for each place, and 0 until it is made.
+/// What is made of a graph once a search takes long, and kept for all searches of that graph: for each place the set of the
+/// vertices to ask, and 0 until it is made; and the twins of each vertex.
+#[derive(Clone, Copy)]
+pub(crate) struct Made {
+    sets: [u16; 16],
+    twins: Option<[u16; 16]>,
+}
+
+impl Made {
+    /// Nothing is made yet.
+    pub(crate) fn nothing() -> Made
+        ensures { (g : Multigraph) → g.size ≤ 16 → IsMadeOf g result }
+    {
+        Made {
+            sets: [0; 16],
+            twins: None,
+        }
+    }
+
+    /// The determining set for the losses that hold nothing before a place.
+    fn set_from(&mut self, graph: &Graph, place: usize) -> u16
+        requires place { place < graph.now.size }
+        requires made { IsMadeOf graph.now self.old }
+        ensures made { IsMadeOf graph.now self.new }
+        ensures determines { DeterminesTrialsFrom graph.now place (in_set result) }
+    {
+        let size = graph.size();
+        let sets = &mut self.sets;
+        let known = sets[place];
+        if known != 0 {
+            return known;
+        }
+        let set = determining_set(graph, trial_places_from(size, place));
+        sets[place] = set;
+        set
+    }
+
+    /// The twins of each vertex.
+    fn twins(&mut self, graph: &Graph) -> [u16; 16]
+        requires made { IsMadeOf graph.now self.old }
+        ensures made { IsMadeOf graph.now self.new }
+        ensures twins { AreTwinsInSets graph.now result }
+    {
+        if let Some(twins) = self.twins {
+            return twins;
+        }
+        let twins = graph.twins();
+        self.twins = Some(twins);
+        twins
+    }
+}
+
+/// A loss of at most so many dollars, of which none are lost before a place; `None` if each such loss can be borne.
 pub(crate) fn find_from(
     graph: &Graph,
     left: &EffectiveDivisor,
-    made: &mut [u16; 16],
+    made: &mut Made,
     dollars: u32,
     place: usize,
 ) -> Option<Trial>
@@ -33,61 +83,27 @@ pub(crate) fn find_from(
     requires small { AddUpToFewForTrials graph.now.size (at left.now) }
     requires few { dollars ≤ 1000 }
     requires place { place < graph.now.size }
-    requires made { AreSetsForTrials graph.now made.old }
-    ensures made { AreSetsForTrials graph.now made.new }
+    requires made { IsMadeOf graph.now made.old }
+    ensures made { IsMadeOf graph.now made.new }
     ensures told { MatchOption result
         (TrialsWinFrom graph.now (at left.now) dollars place)
         (IsTrialLossFrom graph.now (at left.now) dollars place) }
 {
     let size = graph.size();
     let mut boxes = FEW_BOXES;
-    if made[place] == 0 {
+    let sets = &made.sets;
+    if sets[place] == 0 {
         let room = box_room_at(trial_places_from(size, place), dollars);
-        if let Ok(found) = find_in_box(graph, left, &room, dollars, true, &mut boxes) {
+        if let Ok(found) = find_in_box(graph, left, &[0; 16], &room, dollars, true, &mut boxes) {
             return found;
         }
     }
-    let room = box_room_at(tried_set_from(graph, made, place), dollars);
-    match find_in_box(graph, left, &room, dollars, false, &mut boxes) {
+    let room = box_room_at(made.set_from(graph, place), dollars);
+    let twins = made.twins(graph);
+    match find_in_box(graph, left, &twins, &room, dollars, false, &mut boxes) {
         Ok(found) => found,
         Err(Stopped) => unreachable!(),
     }
-}
-
-/// Whether the trials of degree k are within the limits, if they are counted on the determining set of all vertices.
-pub(crate) fn may_make_trials(graph: &Graph, made: &mut [u16; 16], k: u32) -> bool
-    requires some { 0 < graph.now.size }
-    requires made { AreSetsForTrials graph.now made.old }
-    ensures made { AreSetsForTrials graph.now made.new }
-    ensures few { MatchBool result (k ≤ 1000) ⊤ }
-    ensures asked { MatchBool result (¬ IsPastAskedTrials graph.now k) (IsPastAskedTrials graph.now k) }
-{
-    let size = graph.size();
-    if let Some(_count) = trials(size, k) {
-        return true;
-    }
-    let set = tried_set_from(graph, made, 0);
-    match trials(count_tried_vertices(size, set), k) {
-        Some(_count) => true,
-        None => false,
-    }
-}
-
-/// The determining set for the losses that hold nothing before a place.
-fn tried_set_from(graph: &Graph, made: &mut [u16; 16], place: usize) -> u16
-    requires place { place < graph.now.size }
-    requires made { AreSetsForTrials graph.now made.old }
-    ensures made { AreSetsForTrials graph.now made.new }
-    ensures asked { IsSetForTrials graph.now place (in_set result) }
-{
-    let size = graph.size();
-    let known = made[place];
-    if known != 0 {
-        return known;
-    }
-    let set = determining_set(graph, trial_places_from(size, place));
-    made[place] = set;
-    set
 }
 
 /// Room for so many dollars at each vertex of a set, and for none elsewhere.
@@ -115,18 +131,4 @@ fn trial_places_from(size: usize, place: usize) -> u16
         set = with_vertex(set, v);
     }
     set
-}
-
-/// How many vertices are in a set.
-fn count_tried_vertices(size: usize, set: u16) -> usize
-    requires { size ≤ MAX_VERTICES }
-    ensures { result ≡ how_many_trial_places size (in_set set) }
-{
-    let mut count = 0;
-    for v in 0..size {
-        if contains(set, v) {
-            count += 1;
-        }
-    }
-    count
 }

@@ -3,10 +3,10 @@ ghost use Rattle.std.specs.Prelude.{◌≡◌, ◌<◌, ◌≤◌};
 ghost use Rattle.dg_theory.specs.Firing.{IsEffective};
 ghost use Rattle.dg_chips.specs.Vector.{at};
 ghost use Rattle.dg_rank.specs.Losses.{AddUpToFewForTrials};
-ghost use Rattle.dg_rank.specs.Asked.{AreSetsForTrials};
+ghost use Rattle.dg_rank.specs.Asked.{IsMadeOf};
 ghost use Rattle.dg_rank.specs.Boxes.{IsTrialLossFrom, IsFirstTrialFrom};
 
-use crate::asked::find_from;
+use crate::asked::{Made, find_from};
 use crate::boxes::left_in_box_after;
 use crate::enumeration::Trial;
 use dg_graph::Graph;
@@ -16,7 +16,7 @@ use dg_reduce::EffectiveDivisor;
 /// among these: the amounts are fixed from the first on, at each place the least with which there is a loss of the later ones.
 pub(crate) fn first_loss_from(
     graph: &Graph,
-    made: &mut [u16; 16],
+    made: &mut Made,
     left: &EffectiveDivisor,
     dollars: u32,
     place: usize,
@@ -27,9 +27,9 @@ pub(crate) fn first_loss_from(
     requires small { AddUpToFewForTrials graph.now.size (at left.now) }
     requires few { dollars ≤ 1000 }
     requires place { place < graph.now.size }
-    requires made { AreSetsForTrials graph.now made.old }
+    requires made { IsMadeOf graph.now made.old }
     requires known { IsTrialLossFrom graph.now (at left.now) dollars place known }
-    ensures made { AreSetsForTrials graph.now made.new }
+    ensures made { IsMadeOf graph.now made.new }
     ensures first { IsFirstTrialFrom graph.now (at left.now) dollars place result }
 {
     let size = graph.size();

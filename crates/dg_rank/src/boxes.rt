@@ -1,15 +1,18 @@
 //! A search for a loss by boxes: at each vertex so much may be taken, and in all so many dollars.
-ghost use Rattle.std.specs.Prelude.{◌≡◌, ℕ, ◌<◌, ◌≤◌, true, pos, ◌≤ℤ◌, MatchOption, MatchResult};
+ghost use Rattle.std.specs.Prelude.{◌≡◌, ℕ, ◌<◌, ◌≤◌, true, pos, ◌≤ℤ◌, MatchOption, MatchResult, slice_index};
+ghost use Rattle.std.specs.List.{sum};
 ghost use Rattle.dg_theory.specs.Firing.{only_at, IsEffective};
 ghost use Rattle.dg_theory.specs.Play.{IsWinnable};
 ghost use Rattle.dg_theory.specs.Rank.{less};
+ghost use Rattle.dg_theory.specs.Twins.{AreTwins};
+ghost use Rattle.dg_graph.specs.Sets.{in_set};
 ghost use Rattle.dg_chips.specs.Vector.{at};
 ghost use Rattle.dg_reduce.specs.Effective.{IsEffectiveDivisor};
 ghost use Rattle.dg_rank.specs.Losses.{AddUpToFewForTrials};
-ghost use Rattle.dg_rank.specs.Boxes.{BoxWins, IsBoxLoss, IsLackInBox};
+ghost use Rattle.dg_rank.specs.Boxes.{BoxWins, IsBoxLoss, IsLackInBox, AreTwinsInSets, IsClosedWithTwins};
 
 use crate::enumeration::Trial;
-use dg_graph::Graph;
+use dg_graph::{Graph, contains};
 use dg_reduce::EffectiveDivisor;
 use std::simd::prelude::*;
 
@@ -22,10 +25,14 @@ pub(crate) struct Stopped;
 /// can. At any other a loss takes more than is left, or no more: the former are searched, and then the box is closed there.
 /// Once a dollar more was taken and paid back, another divisor of the class is at hand: it is taken where it lacks less.
 ///
+/// Where the box is closed, it may be closed at twins as well: if such an exchange changes neither the graph nor what is
+/// left and may be taken, who loses more at a twin has a mirror image that was searched. Sets of twins may lack some.
+///
 /// A search that stops does so after so many more boxes; the number is counted down.
 pub(crate) fn find_in_box(
     graph: &Graph,
     left: &EffectiveDivisor,
+    twins: &[u16; 16],
     room: &[u32; 16],
     dollars: u32,
     stops: bool,
@@ -34,6 +41,7 @@ pub(crate) fn find_in_box(
     requires size { left.now.size ≡ graph.now.size }
     requires effective { IsEffective graph.now.size (at left.now) }
     requires small { AddUpToFewForTrials graph.now.size (at left.now) }
+    requires twins { AreTwinsInSets graph.now twins.now }
     requires few { dollars ≤ 1000 }
     ensures { MatchResult result
         (λ found. MatchOption found
@@ -67,15 +75,45 @@ pub(crate) fn find_in_box(
         } else {
             let mut beyond = open;
             beyond[v] -= taken;
-            match find_in_box(graph, &other, &beyond, dollars - taken, stops, boxes) {
+            match find_in_box(graph, &other, twins, &beyond, dollars - taken, stops, boxes) {
                 Ok(Some(trial)) => return Ok(Some(trial.with_more(v, taken))),
-                Ok(None) => open[v] = held,
+                Ok(None) => close_with_twins(graph, &best, twins[v], &mut open, v, held),
                 Err(stopped) => return Err(stopped),
             }
             lack = lack_in_box(&best, &open, dollars);
         }
     }
     Ok(None)
+}
+
+/// Closes a box at a vertex, for all but what that holds; and so at its twins that hold as much and have as much room.
+fn close_with_twins(
+    graph: &Graph,
+    left: &EffectiveDivisor,
+    twins: u16,
+    room: &mut [u32; 16],
+    v: usize,
+    held: u32,
+)
+    requires size { left.now.size ≡ graph.now.size }
+    requires effective { IsEffective graph.now.size (at left.now) }
+    requires vertex { v < graph.now.size }
+    requires held { pos held ≡ at left.now v }
+    requires more { held < slice_index room.old v }
+    requires twins { (u : ℕ) → in_set twins u ≡ true → AreTwins graph.now v u }
+    ensures closed { IsClosedWithTwins graph.now (at left.now) room.old v held room.new }
+    ensures fewer { sum room.new < sum room.old }
+{
+    let wide = room[v];
+    room[v] = held;
+    if twins == 0 {
+        return;
+    }
+    for u in 0..graph.size() {
+        if contains(twins, u) && room[u] == wide && held_in_box(left, u) == held {
+            room[u] = held;
+        }
+    }
 }
 
 /// What is lacking in a box: the vertex that has the most dollars less than may be taken there, if one has less, and the sum

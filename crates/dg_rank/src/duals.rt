@@ -7,32 +7,31 @@ ghost use Rattle.dg_theory.specs.Firing.{degree};
 ghost use Rattle.dg_theory.specs.Rank.{less, canonical, HasRankAtLeast};
 ghost use Rattle.dg_graph.specs.Graph.{IsGraph};
 ghost use Rattle.dg_chips.specs.Vector.{at};
-ghost use Rattle.dg_rank.specs.Asked.{AreSetsForTrials};
+ghost use Rattle.dg_rank.specs.Asked.{IsMadeOf};
 ghost use Rattle.dg_rank.specs.Losses.{AreSmallForTrials};
-ghost use Rattle.dg_rank.specs.Ranks.{DecidesRankTest};
-ghost use Rattle.dg_rank.specs.declared.rank_fault.RankFault.TheVariants.{TooMany};
 
-use crate::asked::{find_from, may_make_trials};
+use crate::asked::{Made, find_from};
 use crate::enumeration::Trial;
 use crate::first_loss::left_before_last;
-use crate::rank_fault::RankFault;
 use dg_chips::{Divisor, Wide};
 use dg_graph::Graph;
 use dg_reduce::InverseLaplacian;
 
 /// Whether the rank of a divisor is at least k: whether every effective divisor of degree k can be lost and the rest still
-/// won. The test is made of the divisor or of its residual, if that has fewer trials, and on a determining set of vertices.
-///
-/// Refused with `TooMany` alone: if both have too many trials on such a set, and no law tells what these would.
-pub fn has_rank(graph: &Graph, q: usize, divisor: &Divisor, k: u32) -> Result<bool, RankFault>
+/// won. The test is made of the divisor or of its residual, if that has fewer dollars to take, and on a determining set of
+/// vertices. It has no limit, and may take long on a graph of many edges.
+pub fn has_rank(graph: &Graph, divisor: &Divisor, k: u32) -> bool
     requires size { divisor.now.size ≡ graph.now.size }
-    requires vertex { q < graph.now.size }
-    ensures { DecidesRankTest graph.now (at divisor.now) k result }
+    requires some { 0 < graph.now.size }
+    ensures { MatchBool result
+        (HasRankAtLeast graph.now (at divisor.now) k)
+        (¬ HasRankAtLeast graph.now (at divisor.now) k) }
 {
+    let _size = graph.size();
     passes_rank_test(
         graph,
         &InverseLaplacian::new(graph, 0),
-        &mut [0; 16],
+        &mut Made::nothing(),
         divisor,
         k,
     )
@@ -42,34 +41,33 @@ pub fn has_rank(graph: &Graph, q: usize, divisor: &Divisor, k: u32) -> Result<bo
 pub(crate) fn passes_rank_test(
     graph: &Graph,
     inverse: &InverseLaplacian,
-    made: &mut [u16; 16],
+    made: &mut Made,
     divisor: &Divisor,
     k: u32,
-) -> Result<bool, RankFault>
+) -> bool
     requires size { divisor.now.size ≡ graph.now.size }
     requires some { 0 < graph.now.size }
-    requires made { AreSetsForTrials graph.now made.old }
-    ensures made { AreSetsForTrials graph.now made.new }
-    ensures tells { DecidesRankTest graph.now (at divisor.now) k result }
+    requires made { IsMadeOf graph.now made.old }
+    ensures made { IsMadeOf graph.now made.new }
+    ensures tells { MatchBool result
+        (HasRankAtLeast graph.now (at divisor.now) k)
+        (¬ HasRankAtLeast graph.now (at divisor.now) k) }
 {
     let _size = graph.size();
     // The clause of `size` says that the amounts are within their limit.
     let _amounts = divisor.size();
     let rest = degree_left(divisor, k);
     if rest >= i64::from(graph.genus()) {
-        return Ok(true);
+        return true;
     }
     if rest < i64::from(k) {
-        return Ok(false);
+        return false;
     }
     let other = rank_degree_of_dual(graph, divisor, k);
-    if !may_make_trials(graph, made, k.min(other)) {
-        return Err(RankFault::TooMany);
-    }
     if k <= other {
-        Ok(all_trials_win(graph, inverse, made, &Wide::of(divisor), k))
+        all_trials_win(graph, inverse, made, &Wide::of(divisor), k)
     } else {
-        Ok(all_trials_win(graph, inverse, made, &dual_for_rank(graph, divisor), other))
+        all_trials_win(graph, inverse, made, &dual_for_rank(graph, divisor), other)
     }
 }
 
@@ -86,15 +84,15 @@ pub(crate) fn degree_left(divisor: &Divisor, k: u32) -> i64
 pub(crate) fn dual_passes_rank_test(
     graph: &Graph,
     inverse: &InverseLaplacian,
-    made: &mut [u16; 16],
+    made: &mut Made,
     divisor: &Divisor,
     k: u32,
 ) -> bool
     requires size { divisor.now.size ≡ graph.now.size }
     requires some { 0 < graph.now.size }
     requires few { k ≤ 1000 }
-    requires made { AreSetsForTrials graph.now made.old }
-    ensures made { AreSetsForTrials graph.now made.new }
+    requires made { IsMadeOf graph.now made.old }
+    ensures made { IsMadeOf graph.now made.new }
     ensures told { MatchBool result (HasRankAtLeast graph.now (at divisor.now) k) ⊤ }
 {
     let _size = graph.size();
@@ -149,7 +147,7 @@ fn dual_for_rank(graph: &Graph, divisor: &Divisor) -> Wide
 fn all_trials_win(
     graph: &Graph,
     inverse: &InverseLaplacian,
-    made: &mut [u16; 16],
+    made: &mut Made,
     amounts: &Wide,
     k: u32,
 ) -> bool
@@ -158,8 +156,8 @@ fn all_trials_win(
     requires size { amounts.now.size ≡ graph.now.size }
     requires range { AreSmallForTrials graph.now.size (at amounts.now) }
     requires few { k ≤ 1000 }
-    requires made { AreSetsForTrials graph.now made.old }
-    ensures made { AreSetsForTrials graph.now made.new }
+    requires made { IsMadeOf graph.now made.old }
+    ensures made { IsMadeOf graph.now made.new }
     ensures told { MatchBool result
         (HasRankAtLeast graph.now (at amounts.now) k)
         (¬ HasRankAtLeast graph.now (at amounts.now) k) }

@@ -3,13 +3,13 @@ ghost use Rattle.std.specs.Prelude.{◌≡◌, ℕ, ◌+◌, ◌-◌, ◌<◌, �
 ghost use Rattle.std.specs.List.{sum};
 ghost use Rattle.dg_graph.specs.Graph.{IsGraph};
 ghost use Rattle.dg_chips.specs.Vector.{at};
-ghost use Rattle.dg_rank.specs.Asked.{AreSetsForTrials};
+ghost use Rattle.dg_rank.specs.Asked.{IsMadeOf};
 ghost use Rattle.dg_rank.specs.Limits.{AreTrialsWithinLimits};
 ghost use Rattle.dg_rank.specs.Numbering.{nth_trial, trial_count};
 ghost use Rattle.dg_rank.specs.Losses.{AreSmallForTrials, WinsWithoutTrial, AllTrialsWin, IsFirstLossOfTrials, IsTrialLeftBeforeLast};
 ghost use Rattle.dg_rank.specs.declared.counting.TheConstants.{MAX_TRIALS};
 
-use crate::asked::find_from;
+use crate::asked::{Made, find_from};
 use crate::beginnings::first_loss_from;
 use crate::counting::count;
 use crate::enumeration::Trial;
@@ -19,10 +19,10 @@ use dg_reduce::{EffectiveDivisor, InverseLaplacian, reduce_certified};
 
 /// The first trial of degree k, of those from one number up to another, whose loss leaves what can't be won; `None`
 /// if there is none. They are parted into blocks of trials that begin alike, as large as can be; each is a box.
-pub fn first_loss(
+pub(crate) fn first_loss(
     graph: &Graph,
     inverse: &InverseLaplacian,
-    made: &mut [u16; 16],
+    made: &mut Made,
     chips: &Wide,
     k: u32,
     from: u32,
@@ -31,8 +31,8 @@ pub fn first_loss(
     requires size { chips.now.size ≡ graph.now.size }
     requires range { AreSmallForTrials graph.now.size (at chips.now) }
     requires limits { (c : ℕ) × AreTrialsWithinLimits graph.now.size k c × (to ≤ c) }
-    requires made { AreSetsForTrials graph.now made.old }
-    ensures made { AreSetsForTrials graph.now made.new }
+    requires made { IsMadeOf graph.now made.old }
+    ensures made { IsMadeOf graph.now made.new }
     ensures first { MatchOption result
         (AllTrialsWin graph.now (at chips.now) k from to)
         (IsFirstLossOfTrials graph.now (at chips.now) k from to) }
@@ -77,7 +77,7 @@ fn trial_block_place(trial: &Trial, most: u32) -> usize
 pub(crate) fn first_trial_in_block(
     graph: &Graph,
     inverse: &InverseLaplacian,
-    made: &mut [u16; 16],
+    made: &mut Made,
     chips: &Wide,
     trial: Trial,
     place: usize,
@@ -86,11 +86,11 @@ pub(crate) fn first_trial_in_block(
     requires size { chips.now.size ≡ graph.now.size }
     requires range { AreSmallForTrials graph.now.size (at chips.now) }
     requires place { place < graph.now.size }
-    requires made { AreSetsForTrials graph.now made.old }
+    requires made { IsMadeOf graph.now made.old }
     requires trial { (k : ℕ) × (c : ℕ) × (i : ℕ) × AreTrialsWithinLimits graph.now.size k c × (i < c) ×
         (trial ≡ nth_trial graph.now.size k i) }
     requires empty { (u : ℕ) → place ≤ u → u + 1 < graph.now.size → slice_index trial u ≡ 0 }
-    ensures made { AreSetsForTrials graph.now made.new }
+    ensures made { IsMadeOf graph.now made.new }
     ensures first { (k c i : ℕ) → AreTrialsWithinLimits graph.now.size k c → i < c →
         trial ≡ nth_trial graph.now.size k i → MatchOption result
         (AllTrialsWin graph.now (at chips.now) k i (i + trial_count (graph.now.size - place)

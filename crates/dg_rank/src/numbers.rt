@@ -1,11 +1,12 @@
 //! The rank of a divisor and that of its residual, as numbers: the first test that fails tells the one, and by the theorem of
 //! Riemann and Roch the other.
-ghost use Rattle.std.specs.Prelude.{◌≡◌, ◌<◌, ◌≤◌, pos, ◌+ℤ◌, ◌-ℤ◌, MatchOption};
+ghost use Rattle.std.specs.Prelude.{◌≡◌, ◌<◌, true, MatchOption};
 ghost use Rattle.dg_theory.specs.Multigraph.{genus};
 ghost use Rattle.dg_theory.specs.Firing.{degree};
 ghost use Rattle.dg_chips.specs.Vector.{at};
-ghost use Rattle.dg_rank.specs.Ranks.{AreBothRanks, IsRankInLimits, AreRanksInLimits, NeedsTooMany, EitherNeedsTooMany, NeedsPastTests, FailsRankTestsFirstAt};
+ghost use Rattle.dg_rank.specs.Ranks.{AreBothRanks, IsRankInLimits, AreRanksInLimits, NeedsTooMany, EitherNeedsTooMany, FailsRankTestsFirstAt, IsRankTestWithinLimits};
 
+use crate::asked::Made;
 use crate::counting::trials;
 use crate::duals::{passes_rank_test, rank_degree_of_dual, ranks_apart};
 use dg_chips::Divisor;
@@ -21,20 +22,17 @@ pub fn rank(graph: &Graph, q: usize, divisor: &Divisor) -> Option<i64>
         (NeedsTooMany graph.now (at divisor.now))
         (IsRankInLimits graph.now (at divisor.now)) }
 {
-    let size = graph.size();
-    let fails = first_failing(graph, &InverseLaplacian::new(graph, 0), divisor)?;
-    trials(size, fails)?;
+    let _size = graph.size();
+    let fails = first_failing(graph, &InverseLaplacian::new(graph, 0), divisor, true)?;
     Some(i64::from(fails) - 1)
 }
 
-/// The rank of a divisor and that of its residual, which is the canonical divisor less it. `None` if tests of both are needed
-/// that are past the limits, and no law tells what they would.
-pub fn both_ranks(graph: &Graph, q: usize, divisor: &Divisor) -> Option<(i64, i64)>
+/// The rank of a divisor and that of its residual, which is the canonical divisor less it. The tests have no limit, and may
+/// take long on a graph of many edges.
+pub fn both_ranks(graph: &Graph, divisor: &Divisor) -> (i64, i64)
     requires size { divisor.now.size ≡ graph.now.size }
-    requires vertex { q < graph.now.size }
-    ensures { MatchOption result
-        (NeedsPastTests graph.now (at divisor.now))
-        (AreBothRanks graph.now (at divisor.now)) }
+    requires some { 0 < graph.now.size }
+    ensures { AreBothRanks graph.now (at divisor.now) result }
 {
     let _size = graph.size();
     both_ranks_by(graph, &InverseLaplacian::new(graph, 0), divisor)
@@ -42,21 +40,17 @@ pub fn both_ranks(graph: &Graph, q: usize, divisor: &Divisor) -> Option<(i64, i6
 
 /// Both ranks as `both_ranks` tells them, by an inverse of the graph's Laplacian that many calls share. The answer is the
 /// same whatever inverse it is; that of the graph for its first vertex is the quick one.
-pub fn both_ranks_by(
-    graph: &Graph,
-    inverse: &InverseLaplacian,
-    divisor: &Divisor,
-) -> Option<(i64, i64)>
+pub fn both_ranks_by(graph: &Graph, inverse: &InverseLaplacian, divisor: &Divisor) -> (i64, i64)
     requires size { divisor.now.size ≡ graph.now.size }
     requires some { 0 < graph.now.size }
-    ensures { MatchOption result
-        (NeedsPastTests graph.now (at divisor.now))
-        (AreBothRanks graph.now (at divisor.now)) }
+    ensures { AreBothRanks graph.now (at divisor.now) result }
 {
     let _size = graph.size();
-    let fails = first_failing(graph, inverse, divisor)?;
+    let Some(fails) = first_failing(graph, inverse, divisor, false) else {
+        unreachable!()
+    };
     let rank = i64::from(fails) - 1;
-    Some((rank, rank - ranks_apart(graph, divisor)))
+    (rank, rank - ranks_apart(graph, divisor))
 }
 
 /// The rank of a divisor and that of its residual, as `rank_at_least` tells them for the degrees 0, 1, 2 and so on. `None` if a
@@ -69,32 +63,38 @@ pub fn both_ranks_in_limits(graph: &Graph, q: usize, divisor: &Divisor) -> Optio
         (AreRanksInLimits graph.now (at divisor.now)) }
 {
     let size = graph.size();
-    let fails = first_failing(graph, &InverseLaplacian::new(graph, 0), divisor)?;
+    let fails = first_failing(graph, &InverseLaplacian::new(graph, 0), divisor, true)?;
     let dual_fails = rank_degree_of_dual(graph, divisor, fails);
-    trials(size, fails)?;
     trials(size, dual_fails)?;
     Some((i64::from(fails) - 1, i64::from(dual_fails) - 1))
 }
 
-/// The least degree at which the rank test of a divisor fails. `None` if a test is needed that is past the limits, as is
-/// that of the residual, and no law tells what it would.
-fn first_failing(graph: &Graph, inverse: &InverseLaplacian, divisor: &Divisor) -> Option<u32>
+/// The least degree at which the rank test of a divisor fails. If the tests are limited, that one is within the limits; `None` if
+/// all pass before one that is past them.
+fn first_failing(
+    graph: &Graph,
+    inverse: &InverseLaplacian,
+    divisor: &Divisor,
+    limited: bool,
+) -> Option<u32>
     requires size { divisor.now.size ≡ graph.now.size }
     requires some { 0 < graph.now.size }
     ensures { MatchOption result
-        (NeedsPastTests graph.now (at divisor.now))
-        (λ k. FailsRankTestsFirstAt graph.now (at divisor.now) k × (¬ NeedsPastTests graph.now (at divisor.now))) }
+        ((limited ≡ true) × NeedsTooMany graph.now (at divisor.now))
+        (λ k. FailsRankTestsFirstAt graph.now (at divisor.now) k
+        × (limited ≡ true → IsRankTestWithinLimits graph.now.size k)) }
 {
-    let _size = graph.size();
+    let size = graph.size();
     // A divisor passes all tests for which it is rich. It fails the first other one past half its degree, at the genus at last.
     let first = ranks_apart(graph, divisor).max(0);
     let end = first.max(i64::from(graph.genus())) + 1;
-    let mut made = [0; 16];
+    let mut made = Made::nothing();
     for k in first as u32..end as u32 {
-        match passes_rank_test(graph, inverse, &mut made, divisor, k) {
-            Ok(true) => {}
-            Ok(false) => return Some(k),
-            Err(_) => return None,
+        if limited {
+            trials(size, k)?;
+        }
+        if !passes_rank_test(graph, inverse, &mut made, divisor, k) {
+            return Some(k);
         }
     }
     unreachable!()

@@ -5,6 +5,7 @@ ghost use Rattle.dg_rank.specs.declared.pieces.Search.{Search};
 ghost use Rattle.dg_rank.specs.Ranks.{MayHaveRankWorkers};
 ghost use Rattle.dg_rank.specs.declared.rank_fault.RankFault.TheVariants.{Spawn};
 
+use crate::asked::Made;
 use crate::enumeration::Trial;
 use crate::first_loss::first_loss;
 use crate::rank_fault::RankFault;
@@ -95,7 +96,7 @@ fn first_loss_of<G: Gate>(search: &Search, gate: &G, piece: u32) -> Option<Trial
     first_loss(
         &search.graph,
         &InverseLaplacian::new(&search.graph, 0),
-        &mut [0; 16],
+        &mut Made::nothing(),
         &search.chips,
         search.k,
         first_trial_of_piece(search, piece),

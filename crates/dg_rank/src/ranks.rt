@@ -10,6 +10,7 @@ ghost use Rattle.dg_verdict.specs.RankTests.{IsRightRankVerdict};
 ghost use Rattle.dg_rank.specs.Ladders.{AnswersRankTest};
 ghost use Rattle.dg_rank.specs.Ranks.{IsRankTestWithinLimits};
 
+use crate::asked::Made;
 use crate::counting::trials;
 use crate::duals::{degree_left, dual_passes_rank_test};
 use crate::enumeration::Trial;
@@ -80,7 +81,7 @@ fn tested(graph: &Graph, inverse: &InverseLaplacian, divisor: &Divisor, k: u32) 
     let size = graph.size();
     // The clause of `size` says that the amounts are within their limit.
     let _amounts = divisor.size();
-    let mut made = [0; 16];
+    let mut made = Made::nothing();
     if dual_passes_rank_test(graph, inverse, &mut made, divisor, k) {
         return RankVerdict::AtLeast(k);
     }

@@ -70,12 +70,12 @@ static ANSWERS: [(Question, &str, &str); 7] = [
     (
         Question::Rank(12, Form::Words),
         LARGE,
-        "rank at least 12\nrank below 12 at ?\nrefused too many trials\n",
+        "rank at least 12\nrank below 12 at ?\nrank at least 12\n",
     ),
     (
         Question::RiemannRoch(Form::Words),
         LARGE,
-        "degree 20 genus 0 rank 20 dual -1\ndegree 11 genus 0 rank 11 dual -1\ndegree 480 genus 481 rank ? dual ?\n",
+        "degree 20 genus 0 rank 20 dual -1\ndegree 11 genus 0 rank 11 dual -1\ndegree 480 genus 481 rank 30 dual 30\n",
     ),
     (
         Question::Judge(VerdictForm::Words { ordered: false }),

@@ -24,10 +24,9 @@ unfoldable pub use Rattle.dg_lines.specs.Cuts.{after, before}
 pub use Rattle.dg_lines.specs.Judgements.{burning_text, judgement_text}
 pub use Rattle.dg_lines.specs.Streams.{BeginsWithLines, HasNoNewline, LinesOfTextHaveCome, last_line, with_newline}
 pub use Rattle.dg_lines.specs.Texts.{verdict_text}
-pub use Rattle.dg_rank.proofs.AskedVertices.{asked_within}
 pub use Rattle.dg_rank.proofs.Numbering.{past_within}
 pub use Rattle.dg_sweep.specs.AnswerLaws.{AmountsHaveOneAnswer, SweptAmountsHaveOneMeaning, TablesHaveOneAnswer}
-pub use Rattle.dg_sweep.specs.Answers.{AnswersLine, AnswersRankLine, AnswersTable, AnswersTableWithin, AreSweptRanks, AreSweptRanksUntested, IsSweptRankBelow, IsSweptLineRefused, IsSweptRankTested, sweep_rank_line, sweep_ranks_line, sweep_refusal_line}
+pub use Rattle.dg_sweep.specs.Answers.{AnswersLine, AnswersRankLine, AnswersTable, AnswersTableWithin, AreSweptRanks, IsSweptRankBelow, IsSweptLineRefused, IsSweptRankTested, sweep_rank_line, sweep_ranks_line, sweep_refusal_line}
 pub use Rattle.dg_sweep.specs.DivisorLaws.{with_swept_amounts}
 pub use Rattle.dg_sweep.specs.Divisors.{AnswersAmounts, HasSweptAmounts, RefusesSweptAmounts, SpellsSweptAmounts, SpellsNoSweptAmounts}
 pub use Rattle.dg_sweep.specs.FaultTexts.{sweep_file_fault_words}

@@ -2,7 +2,7 @@
 --   answer_once    a table has one answer
 --   table_once, amounts_once   so has a line of a table, and one of amounts
 --   tables_have_one_answer, amounts_have_one_answer   the laws of dg_sweep
-use Rattle.dg_sweep.proofs.Common.{◌≡◌, ℕ, ◌<◌, ◌⊎◌, inl, inr, List, ◌++◌, length, codes, sym, ap, ◌∙◌, arith, subst, Multigraph, IsMultigraph, less, canonical, rank_once, StartData, IsStart, at, IsRightRankVerdict, RankVerdict, AtLeast, Below, false, refl, signed_decimal, loss_bounds_rank, past_within, FilesHaveOneMeaning, RefusesTableFile, FileFault, Form, Words, Numbers, Question, Judge, Rank, RiemannRoch, TablesHaveOneAnswer, AmountsHaveOneAnswer, IsSweptRankTested, IsSweptRankBelow, AnswersRankLine, sweep_rank_line, sweep_ranks_line, AreSweptRanks, AreSweptRanksUntested, AnswersTable, sweep_refusal_line, IsSweptLineRefused, AnswersTableWithin, AnswersLine, RefusesSweptAmounts, AnswersAmounts, sweep_file_fault_words}
+use Rattle.dg_sweep.proofs.Common.{◌≡◌, ℕ, ◌<◌, inl, inr, List, ◌++◌, length, codes, sym, ap, ◌∙◌, arith, subst, Multigraph, IsMultigraph, less, canonical, rank_once, StartData, IsStart, at, IsRightRankVerdict, RankVerdict, AtLeast, Below, false, refl, loss_bounds_rank, past_within, FilesHaveOneMeaning, RefusesTableFile, FileFault, Form, Words, Numbers, Question, Judge, Rank, RiemannRoch, TablesHaveOneAnswer, AmountsHaveOneAnswer, IsSweptRankTested, IsSweptRankBelow, AnswersRankLine, sweep_rank_line, sweep_ranks_line, AreSweptRanks, AnswersTable, sweep_refusal_line, IsSweptLineRefused, AnswersTableWithin, AnswersLine, RefusesSweptAmounts, AnswersAmounts, sweep_file_fault_words}
 use Rattle.std.proofs.Math.IntN.{ℤ}
 use Rattle.dg_lines.proofs.Given.{vertex_named}
 use Rattle.dg_sweep.proofs.OneMeaning.{swept_amounts_have_one_meaning}
@@ -36,27 +36,18 @@ module _ (o : StartData) (names : List (List ℕ)) (graph : IsMultigraph o.graph
       → AnswersRankLine o k form names other → text ≡ other
   rank_once_more k form text other (inl a) (inl b) =
       a.printed ∙ line_same k form a.verdict b.verdict a.right b.right ∙ sym b.printed
-  rank_once_more k form text other (inl a) (inr (inl b)) = absurd (tested_below k form text other a b)
-  rank_once_more k form text other (inl a) (inr (inr b)) = absurd (a.told b.untold)
-  rank_once_more k form text other (inr (inl a)) (inl b) = absurd (tested_below k form other text b a)
-  rank_once_more k form text other (inr (inl a)) (inr (inl b)) = a.printed ∙ sym b.printed
-  rank_once_more k form text other (inr (inl a)) (inr (inr b)) = absurd (a.told b.untold)
-  rank_once_more k form text other (inr (inr a)) (inl b) = absurd (b.told a.untold)
-  rank_once_more k form text other (inr (inr a)) (inr (inl b)) = absurd (b.told a.untold)
-  rank_once_more k form text other (inr (inr a)) (inr (inr b)) = a.printed ∙ sym b.printed
+  rank_once_more k form text other (inl a) (inr b) = absurd (tested_below k form text other a b)
+  rank_once_more k form text other (inr a) (inl b) = absurd (tested_below k form other text b a)
+  rank_once_more k form text other (inr a) (inr b) = a.printed ∙ sym b.printed
 
-  ranks_once : (form : Form) (text other : List ℕ) → AreSweptRanks o form text ⊎ AreSweptRanksUntested o form text
-      → AreSweptRanks o form other ⊎ AreSweptRanksUntested o form other → text ≡ other
-  ranks_once form text other (inl a) (inl b) =
+  ranks_once : (form : Form) (text other : List ℕ) → AreSweptRanks o form text → AreSweptRanks o form other → text ≡ other
+  ranks_once form text other a b =
       a.printed
-      ∙ ap (λ (z : ℤ). sweep_ranks_line form o (signed_decimal z) (signed_decimal a.dual_rank))
+      ∙ ap (λ (z : ℤ). sweep_ranks_line form o z a.dual_rank)
       (rank_once o.graph (at o.divisor) a.rank b.rank a.of_divisor b.of_divisor)
-      ∙ ap (λ (z : ℤ). sweep_ranks_line form o (signed_decimal b.rank) (signed_decimal z))
+      ∙ ap (λ (z : ℤ). sweep_ranks_line form o b.rank z)
       (rank_once o.graph (less (canonical o.graph) (at o.divisor)) a.dual_rank b.dual_rank a.of_dual b.of_dual)
       ∙ sym b.printed
-  ranks_once form text other (inl a) (inr b) = absurd (a.told b.past)
-  ranks_once form text other (inr a) (inl b) = absurd (b.told a.past)
-  ranks_once form text other (inr a) (inr b) = a.printed ∙ sym b.printed
 
   answer_once : (question : Question) (text other : List ℕ) → AnswersTable question o names text
       → AnswersTable question o names other → text ≡ other

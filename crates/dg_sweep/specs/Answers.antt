@@ -5,23 +5,17 @@
 --   sweep_rank_line form names x          == the answer that is a rank verdict, and a newline
 --   swept_unnamed_line form n k           == the answer that the rank is below k, without the first loss
 --   IsSweptRankTested o k form names text == the text is that of a rank verdict of degree k which is right
---                                            for the amounts of o, and a newline; something tells it, and if
---                                            it names a loss, the test is within the limits
---   IsSweptRankBelow o k form text        == the rank of the amounts is below k, and that the text says;
---                                            something tells it, but there are too many trials to name the
---                                            first loss
---   IsSweptRankUntested o k text          == nothing tells whether the rank is at least k, and that the text
---                                            says
+--                                            for the amounts of o, and a newline; if it names a loss, the
+--                                            test is within the limits
+--   IsSweptRankBelow o k form text        == the rank of the amounts is below k, and that the text says; but
+--                                            there are too many trials to name the first loss
 --   AnswersRankLine o k form names text   == one of these
 --   label form words                      == the words, if the answer is in words
---   sweep_mark form                       == what stands for a number that nothing tells
 --   sweep_field form words z              == the label and the number, and a space
 --   swept_front form o                    == the degree of the amounts and the genus of the graph
---   sweep_ranks_line form o rank dual     == these, and two texts for the ranks
+--   sweep_ranks_line form o rank dual     == these, and two numbers for the ranks
 --   AreSweptRanks o form text             == the text is that of the rank of the amounts and that of their
---                                            residual; no test is needed that nothing tells
---   AreSweptRanksUntested o form text     == all rank tests are passed before one that nothing tells; the
---                                            text has marks in the place of the ranks
+--                                            residual
 --   AnswersTable question o names text    == the text answers the question for the start o with these names
 --   sweep_refusal_line words              == `refused`, the words and a newline
 --   IsSweptLineRefused refuses text       == there is a fault that refuses, and the text says which
@@ -35,7 +29,7 @@
 --   AnswersLines right ls text            == the text is the answers to the lines ls, one after another
 use Rattle.std.specs.Prelude.{◌≡◌, ◌≢◌, ℕ, ◌<◌, ◌≤◌, ◌⊎◌, ℤ, true, false, List, [], ◌∷◌, ◌++◌, None, Some, length, codes, decimal}
 use Rattle.std.specs.Fmt.{signed_decimal}
-use Rattle.dg_sweep.specs.Common.{genus, degree, less, canonical, HasRankAtLeast, IsRank, StartData, at, ArePastTrialLimits, IsRightRankVerdict, IsRankTestWithinLimits, IsRankUntold, NeedsPastTests, RankVerdict, AtLeast, Below, IsJudgementText, IsVerdictOn, Verdict, rank_row, verdict_row, text_of, IsTableFile, RefusesTableFile, FileFault, OutOfMemory, Form, Words, Numbers, Question, Judge, Rank, RiemannRoch}
+use Rattle.dg_sweep.specs.Common.{genus, degree, less, canonical, HasRankAtLeast, IsRank, StartData, at, ArePastTrialLimits, IsRightRankVerdict, IsRankTestWithinLimits, RankVerdict, AtLeast, Below, IsJudgementText, IsVerdictOn, Verdict, rank_row, verdict_row, text_of, IsTableFile, RefusesTableFile, FileFault, OutOfMemory, Form, Words, Numbers, Question, Judge, Rank, RiemannRoch}
 use Rattle.dg_invocation.specs.declared.question.VerdictForm.TheVariants as verdict
 use Rattle.dg_rules.specs.declared.entry.Reply.TheVariants.{Rank as Tested}
 use Rattle.dg_sweep.specs.FaultTexts.{sweep_file_fault_words}
@@ -59,31 +53,21 @@ pub record IsSweptRankTested (o : StartData) (k : ℕ) (form : Form) (names : Li
     : Type 0 where
   pub verdict : RankVerdict
   pub right : IsRightRankVerdict o.graph (at o.divisor) k verdict
-  pub told : ¬ IsRankUntold o.graph (at o.divisor) k
   pub named : IsRankTestWithinLimits o.graph.size k ⊎ (verdict ≡ AtLeast k)
   pub printed : text ≡ sweep_rank_line form names verdict
 
 pub record IsSweptRankBelow (o : StartData) (k : ℕ) (form : Form) (text : List ℕ) : Type 0 where
   pub past : ArePastTrialLimits o.graph.size k
-  pub told : ¬ IsRankUntold o.graph (at o.divisor) k
   pub below : ¬ HasRankAtLeast o.graph (at o.divisor) k
   pub printed : text ≡ swept_unnamed_line form o.graph.size k
 
-pub record IsSweptRankUntested (o : StartData) (k : ℕ) (text : List ℕ) : Type 0 where
-  pub untold : IsRankUntold o.graph (at o.divisor) k
-  pub printed : text ≡ codes "refused too many trials\n"
-
 abbrev pub AnswersRankLine : StartData → ℕ → Form → List (List ℕ) → List ℕ → Type 0
 AnswersRankLine o k form names text =
-    IsSweptRankTested o k form names text ⊎ IsSweptRankBelow o k form text ⊎ IsSweptRankUntested o k text
+    IsSweptRankTested o k form names text ⊎ IsSweptRankBelow o k form text
 
 abbrev pub label : Form → List ℕ → List ℕ
 label Words words = words
 label Numbers words = []
-
-abbrev pub sweep_mark : Form → List ℕ
-sweep_mark Words = codes "?"
-sweep_mark Numbers = codes "NA"
 
 abbrev pub sweep_field : Form → List ℕ → ℤ → List ℕ
 sweep_field form words z = label form words ++ signed_decimal z ++ codes " "
@@ -93,28 +77,23 @@ swept_front form o =
     sweep_field form (codes "degree ") (degree o.graph.size (at o.divisor))
     ++ sweep_field form (codes "genus ") (genus o.graph)
 
-abbrev pub sweep_ranks_line : Form → StartData → List ℕ → List ℕ → List ℕ
+abbrev pub sweep_ranks_line : Form → StartData → ℤ → ℤ → List ℕ
 sweep_ranks_line form o rank dual =
-    swept_front form o ++ label form (codes "rank ") ++ rank ++ codes " " ++ label form (codes "dual ")
-    ++ dual ++ codes "\n"
+    swept_front form o ++ sweep_field form (codes "rank ") rank
+    ++ (label form (codes "dual ") ++ signed_decimal dual ++ codes "\n")
 
 pub record AreSweptRanks (o : StartData) (form : Form) (text : List ℕ) : Type 0 where
-  pub told : ¬ NeedsPastTests o.graph (at o.divisor)
   pub rank : ℤ
   pub of_divisor : IsRank o.graph (at o.divisor) rank
   pub dual_rank : ℤ
   pub of_dual : IsRank o.graph (less (canonical o.graph) (at o.divisor)) dual_rank
-  pub printed : text ≡ sweep_ranks_line form o (signed_decimal rank) (signed_decimal dual_rank)
-
-pub record AreSweptRanksUntested (o : StartData) (form : Form) (text : List ℕ) : Type 0 where
-  pub past : NeedsPastTests o.graph (at o.divisor)
-  pub printed : text ≡ sweep_ranks_line form o (sweep_mark form) (sweep_mark form)
+  pub printed : text ≡ sweep_ranks_line form o rank dual_rank
 
 abbrev pub AnswersTable : Question → StartData → List (List ℕ) → List ℕ → Type 0
 AnswersTable (Judge (verdict.Words ordered)) o names text = IsJudgementText o names ordered text
 AnswersTable (Judge verdict.Numbers) o names text = IsSweptVerdictRow o text
 AnswersTable (Rank k form) o names text = AnswersRankLine o k form names text
-AnswersTable (RiemannRoch form) o names text = AreSweptRanks o form text ⊎ AreSweptRanksUntested o form text
+AnswersTable (RiemannRoch form) o names text = AreSweptRanks o form text
 
 abbrev pub sweep_refusal_line : List ℕ → List ℕ
 sweep_refusal_line words = codes "refused " ++ words ++ codes "\n"

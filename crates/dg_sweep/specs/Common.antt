@@ -22,7 +22,7 @@ pub use Rattle.dg_lines.specs.Judgements.{IsJudgementText}
 pub use Rattle.dg_lines.specs.Streams.{BeginsWithLines, HasNoNewline, LinesOfTextHaveCome, last_line}
 pub use Rattle.dg_lines.specs.Texts.{text_of}
 pub use Rattle.dg_rank.specs.Limits.{ArePastTrialLimits}
-pub use Rattle.dg_rank.specs.Ranks.{IsRankUntold, IsRankTestWithinLimits, NeedsPastTests}
+pub use Rattle.dg_rank.specs.Ranks.{IsRankTestWithinLimits}
 pub use Rattle.dg_system.specs.Growth.{AppendsFrontToStream}
 pub use Rattle.dg_theory.specs.Firing.{degree}
 pub use Rattle.dg_theory.specs.Multigraph.{genus}

@@ -1,11 +1,12 @@
-//! Rank tests, and the four numbers of Riemann-Roch: laws come before limits.
-ghost use Rattle.std.specs.Prelude.{◌≡◌, ◌<◌, ◌++◌, ◌⊎◌, [], length, codes, decimal, OnOk, MatchOption};
+//! Rank tests, and the four numbers of Riemann-Roch.
+ghost use Rattle.std.specs.Prelude.{◌≡◌, ◌<◌, ◌++◌, [], length, codes, decimal, OnOk};
+ghost use Rattle.std.specs.Fmt.{signed_decimal};
 ghost use Rattle.dg_chips.specs.Starts.{IsStart};
 ghost use Rattle.dg_chips.specs.Vector.{at};
 ghost use Rattle.dg_lines.specs.Texts.{TextHasNames};
 ghost use Rattle.dg_rank.specs.Ladders.{AnswersRankTest};
-ghost use Rattle.dg_rank.specs.Ranks.{AreBothRanks, NeedsPastTests};
-ghost use Rattle.dg_sweep.specs.Answers.{AnswersRankLine, AreSweptRanks, AreSweptRanksUntested, sweep_field, swept_front, label, sweep_mark, sweep_rank_line, sweep_ranks_line, swept_unnamed_line};
+ghost use Rattle.dg_rank.specs.Ranks.{AreBothRanks};
+ghost use Rattle.dg_sweep.specs.Answers.{AnswersRankLine, AreSweptRanks, swept_front, label, sweep_rank_line, sweep_ranks_line, swept_unnamed_line};
 ghost use Rattle.dg_sweep.specs.Subjects.{swept_start};
 ghost use Rattle.dg_rules.specs.declared.entry.Reply.TheVariants.{Rank};
 
@@ -20,7 +21,7 @@ use itoa::Buffer;
 use std::alloc::AllocError;
 
 /// Whether the rank of a subject's amounts is at least k, into an empty buffer. If there are too many trials to name the first
-/// loss, a law or the trials of the residual may still tell.
+/// loss, it is told without.
 pub(crate) fn push_rank(
     subject: &Subject<'_>,
     names: &Names,
@@ -37,10 +38,7 @@ pub(crate) fn push_rank(
     if let Ok(verdict) = swept_rank(subject, k) {
         return push_swept_test(answer, form, &verdict, names);
     }
-    let Ok(passes) = has_rank(subject.graph, subject.q, subject.divisor, k) else {
-        return answer.extend_from_slice(b"refused too many trials\n");
-    };
-    if passes {
+    if has_rank(subject.graph, subject.divisor, k) {
         return push_swept_test(answer, form, &RankVerdict::AtLeast(k), names);
     }
     push_swept_below(k, form, names.len(), answer)
@@ -90,15 +88,13 @@ fn swept_rank(subject: &Subject<'_>, k: u32) -> Result<RankVerdict, RankFault>
 }
 
 /// Both ranks of a subject.
-fn swept_ranks(subject: &Subject<'_>) -> Option<(i64, i64)>
+fn swept_ranks(subject: &Subject<'_>) -> (i64, i64)
     requires { IsStart (swept_start subject.now) }
-    ensures { MatchOption result
-        (NeedsPastTests subject.now.graph.now (at subject.now.divisor.now))
-        (AreBothRanks subject.now.graph.now (at subject.now.divisor.now)) }
+    ensures { AreBothRanks subject.now.graph.now (at subject.now.divisor.now) result }
 {
     match subject.inverse {
         Some(inverse) => both_ranks_by(subject.graph, inverse, subject.divisor),
-        None => both_ranks(subject.graph, subject.q, subject.divisor),
+        None => both_ranks(subject.graph, subject.divisor),
     }
 }
 
@@ -123,8 +119,7 @@ fn push_swept_below_words(k: u32, answer: &mut Vec<u8>) -> Result<(), AllocError
     answer.extend_from_slice(b" at ?\n")
 }
 
-/// The degree, the genus and the two ranks of a subject, into an empty buffer; with marks in place of ranks that no test
-/// within the limits tells.
+/// The degree, the genus and the two ranks of a subject, into an empty buffer.
 pub(crate) fn push_swept_ranks(
     subject: &Subject<'_>,
     form: Form,
@@ -132,43 +127,28 @@ pub(crate) fn push_swept_ranks(
 ) -> Result<(), AllocError>
     requires start { IsStart (swept_start subject.now) }
     requires empty { answer.old.items ≡ [] }
-    ensures { OnOk result (AreSweptRanks (swept_start subject.now) form answer.new.items
-        ⊎ AreSweptRanksUntested (swept_start subject.now) form answer.new.items) }
+    ensures { OnOk result (AreSweptRanks (swept_start subject.now) form answer.new.items) }
 {
-    let Some((rank, dual_rank)) = swept_ranks(subject) else {
-        return push_swept_line(subject, form, swept_mark(form), swept_mark(form), answer);
-    };
-    let (mut first, mut second) = (Buffer::new(), Buffer::new());
-    let (rank, dual_rank) = (first.format(rank), second.format(dual_rank));
+    let (rank, dual_rank) = swept_ranks(subject);
     push_swept_line(subject, form, rank, dual_rank, answer)
 }
 
-/// What stands in the place of a rank that is not told.
-fn swept_mark(form: Form) -> &'static str
-    ensures { result.now ≡ sweep_mark form }
-{
-    match form {
-        Form::Words => "?",
-        Form::Numbers => "NA",
-    }
-}
-
-/// The degree and the genus of a subject and two texts for its ranks, into an empty buffer.
+/// The degree and the genus of a subject and these two ranks, into an empty buffer.
 fn push_swept_line(
     subject: &Subject<'_>,
     form: Form,
-    rank: &str,
-    dual_rank: &str,
+    rank: i64,
+    dual_rank: i64,
     answer: &mut Vec<u8>,
 ) -> Result<(), AllocError>
     requires start { IsStart (swept_start subject.now) }
     requires empty { answer.old.items ≡ [] }
     ensures { OnOk result
-        (answer.new.items ≡ sweep_ranks_line form (swept_start subject.now) rank.now dual_rank.now) }
+        (answer.new.items ≡ sweep_ranks_line form (swept_start subject.now) rank dual_rank) }
 {
     push_swept_front(subject, form, answer)?;
-    push_swept_labelled(answer, form, "rank ", rank, b" ")?;
-    push_swept_labelled(answer, form, "dual ", dual_rank, b"\n")
+    push_number(answer, form, "rank ", rank, b" ")?;
+    push_number(answer, form, "dual ", dual_rank, b"\n")
 }
 
 /// The degree and the genus of a subject, with a space after each, into an empty buffer.
@@ -181,34 +161,33 @@ fn push_swept_front(
     requires empty { answer.old.items ≡ [] }
     ensures { OnOk result (answer.new.items ≡ swept_front form (swept_start subject.now)) }
 {
-    push_number(answer, form, "degree ", subject.divisor.degree())?;
-    push_number(answer, form, "genus ", i64::from(subject.graph.genus()))
+    push_number(answer, form, "degree ", subject.divisor.degree(), b" ")?;
+    push_number(
+        answer,
+        form,
+        "genus ",
+        i64::from(subject.graph.genus()),
+        b" ",
+    )
 }
 
-/// A number after its label, and a space.
-fn push_number(answer: &mut Vec<u8>, form: Form, words: &str, number: i64) -> Result<(), AllocError>
-    ensures { OnOk result (answer.new.items ≡ answer.old.items ++ sweep_field form words.now number) }
-{
-    push_swept_labelled(answer, form, words, Buffer::new().format(number), b" ")
-}
-
-/// A text after its label, which stands in words alone, and what follows it.
-fn push_swept_labelled(
+/// A number after its label, which stands in words alone, and what follows it.
+fn push_number(
     answer: &mut Vec<u8>,
     form: Form,
     words: &str,
-    text: &str,
+    number: i64,
     after: &[u8],
 ) -> Result<(), AllocError>
     ensures { OnOk result
-        (answer.new.items ≡ answer.old.items ++ (label form words.now ++ text.now ++ after.now)) }
+        (answer.new.items ≡ answer.old.items ++ (label form words.now ++ signed_decimal number ++ after.now)) }
 {
     push_swept_label(answer, form, words)?;
-    answer.extend_from_slice(text.as_bytes())?;
+    answer.extend_from_slice(Buffer::new().format(number).as_bytes())?;
     answer.extend_from_slice(after)
 }
 
-/// The label of a text, in words alone.
+/// The label of a number, in words alone.
 fn push_swept_label(answer: &mut Vec<u8>, form: Form, words: &str) -> Result<(), AllocError>
     ensures { OnOk result (answer.new.items ≡ answer.old.items ++ label form words.now) }
 {

@@ -54,6 +54,8 @@ pub mod Unburnt
 pub mod ExistenceLaws
 -- Rank tests and first losses.
 pub mod Giving
+-- The exchange of two vertices.
+pub mod Twins
 pub mod RankLaws
 pub mod LossLaws
 -- The theorem of Riemann and Roch.

@@ -9,6 +9,7 @@ pub mod Burning
 pub mod Rank
 pub mod Determining
 pub mod Joins
+pub mod Twins
 -- The laws, which are proved.
 pub mod FiringLaws
 pub mod EquivalenceLaws
@@ -21,5 +22,4 @@ pub mod JoinLaws
 pub mod DualityLaws
 pub mod DeterminingLaws
 -- For the proofs of other crates.
-pub mod GreedyDetermining
 pub mod Distances

@@ -9,6 +9,7 @@ ghost use Rattle.dg_theory.specs.ExistenceLaws.{ReducedExists, RichIsWinnable};
 ghost use Rattle.dg_theory.specs.JoinLaws.{JoinAddsEdge, JoinedIsMultigraph, ValenceGrows, EdgeKeepsSize};
 ghost use Rattle.dg_theory.specs.RankLaws.{EquivalentRank, EquivalentLoss, RankBelow, RankZero, RichRank, PoorRank, LossOnce, LossBoundsRank};
 ghost use Rattle.dg_theory.specs.DualityLaws.{RiemannRoch, RankOfDual, DualTests, LossOfDual, HighRank, RankExists, RankOnce, RankOfSum, Clifford, HalfOfDegree};
+ghost use Rattle.dg_theory.specs.Twins.{ExchangeOfTwinsKeepsWinnable};
 ghost use Rattle.dg_theory.specs.DeterminingLaws.{DeterminesLosses, DeterminesRank, SpecialIsReduced, ConnectedGrows};
 
 /// Firing by one script and then by another is firing by their sum, and keeps the degree. A constant script changes
@@ -31,11 +32,13 @@ pub fn laws_of_equivalence()
 {}
 
 /// A divisor is winnable exactly if some script clears all debts, and exactly if it is equivalent to an effective
-/// divisor. So of equivalent divisors either both are winnable or neither is.
+/// divisor. So of equivalent divisors either both are winnable or neither is. A winnable divisor stays so if the amounts of
+/// two twins are exchanged, vertices to which each other one has as many edges.
 pub fn laws_of_winning()
     ensures by_script { WinnableByScript }
     ensures by_class { WinnableByClass }
     ensures equivalent { EquivalentWinnable }
+    ensures twins { ExchangeOfTwinsKeepsWinnable }
 {}
 
 /// A divisor is equivalent to at most one that is reduced for q, and it is winnable exactly if that one is not in

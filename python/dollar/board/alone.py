@@ -17,6 +17,8 @@ from dollar.program import PATIENCE, Fault, call, fault_of
 from dollar.table import EXAMPLES, text_of
 
 MOST_BODY, AT_ONCE, MOST_GAMES = 1 << 24, 3, 8
+# How many seconds a rank may take, which on some tables is hours.
+FOR_A_RANK = 5.0
 # The most letters of each text of a question.
 MOST = {"command": 16, "table": 1 << 21, "places": 1 << 21, "steps": 1 << 22, "degree": 12, "name": 200, "graph": 40, "level": 20,
         "key": 64, "line": MOST_BODY}
@@ -186,7 +188,7 @@ async def question(text: Callable[[str], str]) -> dict[str, Any]:
     if command not in BY_LINE:
         raise Nothing
     line = table.replace("\n", " ").encode() + b"\n"
-    said = await run(command, "--lines", "--", line, *map(text, BY_LINE[command]))
+    said = await run(command, "--lines", "--", line, *map(text, BY_LINE[command]), patience=FOR_A_RANK)
     # What is refused in a line is a fault, as for one table.
     return {"status": 3, "out": "", "err": said["out"][len("refused "):].rstrip("\n")} if said["out"].startswith("refused ") else said
 
@@ -206,10 +208,12 @@ async def made(make: Callable[[], dict[str, Any]]) -> dict[str, Any]:
         raise Refused(409, str(error)) from None
 
 
-async def run(*words: str | bytes) -> dict[str, Any]:
-    """The program's status, its answer and its fault. A word as bytes stands for a file."""
+async def run(*words: str | bytes, patience: float = PATIENCE) -> dict[str, Any]:
+    """The program's status, its answer and its fault, or that it was too late. A word as bytes stands for a file."""
     try:
-        out, said, status = await asyncio.to_thread(call, words, None, PATIENCE)
+        out, said, status = await asyncio.to_thread(call, words, None, patience)
+    except TimeoutError as error:
+        return {"status": None, "out": "", "err": str(error), "late": True}
     except (OSError, ValueError) as error:
         return {"status": None, "out": "", "err": str(error)}
     return {"status": status, "out": out.decode(), "err": fault_of(said, status).text if status else ""}

@@ -118,7 +118,7 @@ fn passes(rt: &impl Abort, numbers: &mut Numbers, table: u32) -> Result<bool, Fa
     );
     let passes = wanted == RankVerdict::AtLeast(degree);
     assert!(rt;
-        has_rank(&graph, 0, &divisor, degree)? == passes,
+        has_rank(&graph, &divisor, degree) == passes,
         "table {table}"
     );
     Ok(passes)

@@ -42,7 +42,7 @@ export class Questions {
     const table = this.table, said = await this.ask({ table, ...question });
     if (this.table !== table || table !== this.now()) return null;
     if (said.status === 0) return said.out;
-    this.tell(faultWords(said.err), `dollar: ${said.err}\n`);
+    this.tell(said.late ? t("ask.late") : faultWords(said.err), `dollar: ${said.err}\n`);
     return null;
   }
 
@@ -71,7 +71,6 @@ export class Questions {
     const printed = await this.answer({ command: "rr" });
     if (printed === null) return;
     const { rank } = numbersOf(linesOf(printed)[0]);
-    if (rank === "?") return this.tell(rankWords(rank), printed);
     const tested = await this.answer({ command: "rank", degree: String(Number(rank) + 1) });
     if (tested === null) return;
     const { loss } = answerOf(linesOf(tested)[0]);

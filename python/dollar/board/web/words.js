@@ -213,7 +213,7 @@ export function lossWords(loss) {
   return losers(loss, "said.loss") || t("said.no-loss");
 }
 
-/* What the program says of a rank, by the line of a sweep: past the limits of one test a loss, or both ranks, may be `?`. */
+/* What the program says of a rank, by the line of a sweep: past the limits of one test a loss may be `?`. */
 export function numbersOf(line) {
   const words = line.split(" ");
   return Object.fromEntries(words.filter((_, i) => i % 2 === 0).map((name, i) => [name, words[2 * i + 1]]));
@@ -221,7 +221,6 @@ export function numbersOf(line) {
 
 /* The rank, with the loss that shows that it is no more, if there is one. */
 export function rankWords(rank, loss) {
-  if (rank === "?") return t("ask.rank-unknown");
   const degree = Number(rank) + 1, past = loss ? t("ask.rank-if", losers(loss, "ask.loses")) : t("ask.rank-some", dollars(degree));
   return joined(t("ask.rank-is", rank), degree === 0 ? t("play.no-help") : past);
 }

@@ -9,7 +9,7 @@ pub determines_without-requires : goal.determines_without-requires
 determines_without-requires t c =
     let below : c.loop-v.v < c.args.graph.now.size = omega (arith, c.loop-v-test.true, c.size-v-end.ensures.size) in
     let hangs : HangsLoosely c.args.graph.now (in_set c.args.set) (in_set c.part_to_determine_by-loose.result) =
-    c.part_to_determine_by-loose.ensures.hangs c.if-loose-eq0.false in
+    c.part_to_determine_by-loose.ensures c.if-loose-eq0.false in
     let off : in_set c.args.set c.loop-v.v ≡ false = hangs.apart c.loop-v.v (sym c.if-contains.ensures) in (
       omega (
         arith,
@@ -27,7 +27,7 @@ pub loop-v-preserved : goal.loop-v-preserved
 loop-v-preserved t c = elim c.if-contains.branch [
   | then-contains+then-not-contains+then-edges_into-gt0+else-not-determines_without w ↦
       let hangs : HangsLoosely c.args.graph.now (in_set c.args.set) (in_set c.part_to_determine_by-loose.result) =
-      c.part_to_determine_by-loose.ensures.hangs c.if-loose-eq0.false in
+      c.part_to_determine_by-loose.ensures c.if-loose-eq0.false in
       let off : in_set c.args.set c.loop-v.v ≡ false = hangs.apart c.loop-v.v (sym w.if-contains.ensures) in
       rw w.passed-is (passed-more c.args.graph.now (in_set c.args.set) (in_set w.with_vertex.result) (in_set c.args.stop)
       (in_set c.part_to_determine_by-loose.result) (in_set c.loop-v.passed) (in_set w.with_vertex-passed.result) c.loop-v.v
@@ -49,4 +49,4 @@ returns t c =
     omega (arith, c.loop-v-test.false, c.loop-v.auto.v-end, c.size-v-end.ensures.size) in
     passed-all c.args.graph.now (in_set c.args.set) (in_set c.args.stop) (in_set c.part_to_determine_by-loose.result)
     (in_set c.loop-v.passed) c.args.q c.loop-v.v c.size-v-end.ensures.graph.multigraph whole c.requires
-    (c.part_to_determine_by-loose.ensures.hangs c.if-loose-eq0.false) c.loop-v.invariant
+    (c.part_to_determine_by-loose.ensures c.if-loose-eq0.false) c.loop-v.invariant

@@ -1,5 +1,5 @@
 use Rattle.dg_rank.proofs.Common.{arith, at, in_set}
-use Rattle.dg_rank.proofs.AskedVertices.{all_determine, told_from}
+use Rattle.dg_rank.proofs.AskedVertices.{all_determine, no_twins, told_from}
 use Rattle.dg_rank.proofs.asked.find_from.Goals as goal
 
 pub returns-in-Ok-clause-told : goal.returns-in-Ok-clause-told
@@ -16,6 +16,9 @@ returns-in-Ok-clause-told c =
 pub returns-clause-told : goal.returns-clause-told
 returns-clause-told c =
     let g = c.args.graph.now in
-    told_from g (at c.args.left.now) c.args.place (in_set c.tried_set_from.result) c.box_room_at-room-2.result c.args.dollars
+    told_from g (at c.args.left.now) c.args.place (in_set c.set_from.result) c.box_room_at-room-2.result c.args.dollars
     c.in-Ok-find_in_box.found c.size-size.ensures.graph.few (omega (arith, c.requires.place))
-    c.tried_set_from.ensures.asked.determines c.box_room_at-room-2.ensures c.in-Ok-find_in_box.ensures
+    c.set_from.ensures.determines c.box_room_at-room-2.ensures c.in-Ok-find_in_box.ensures
+
+pub find_in_box-requires-clause-twins : goal.find_in_box-requires-clause-twins
+find_in_box-requires-clause-twins c = no_twins c.args.graph.now c.size-size.ensures.graph.few

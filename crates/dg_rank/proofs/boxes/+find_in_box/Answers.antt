@@ -1,6 +1,6 @@
-use Rattle.dg_rank.proofs.Common.{◌+◌, ◌-◌, ◌<◌, ◌≤◌, Some, None, length-set, set, slice_index, ◌∙◌, amounts_of_trial, arith, ints, unsigned_abs, pos, only_at, less, at}
+use Rattle.dg_rank.proofs.Common.{◌+◌, ◌-◌, ◌<◌, ◌≤◌, Some, None, set, slice_index, ◌∙◌, amounts_of_trial, arith, ints, unsigned_abs, pos, only_at, less, at}
 use Rattle.dg_rank.proofs.Elsewhere.{given_back, rich_small}
-use Rattle.dg_rank.proofs.LossBoxes.{in_few, rich_box, box_told, box_opened, loss_beyond, nothing_lost, none_held, class_small, taken_small}
+use Rattle.dg_rank.proofs.LossBoxes.{in_few, rich_box, box_told, box_closed, loss_beyond, nothing_lost, none_held, class_small, taken_small}
 use Rattle.dg_rank.proofs.boxes.+find_in_box.Goals as goal
 
 pub returns-then-dollars-eq0 : goal.returns-then-dollars-eq0
@@ -72,7 +72,7 @@ find_in_box-requires t c =
                 (c.held_in_box-held.result + 1) c.size-size.ensures.graph.multigraph
                 (omega (arith, (rw c.in-Some.is at c.lacking.invariant.lack).0, c.lacking.invariant.size))
                 c.lacking.invariant.small form,
-            omega (arith, c.requires.few),
+            (c.requires.twins, omega (arith, c.requires.few)),
           ),
         ),
       ),
@@ -113,12 +113,13 @@ lacking-preserved t c =
     let held = c.held_in_box-held.result in
     let open' = c.lacking.open in
     record {
-      places = length-set open' v held ∙ c.lacking.invariant.places;
+      places = omega (arith, c.lacking.invariant.places);
       size = c.lacking.invariant.size;
       effective = c.lacking.invariant.effective;
       small = c.lacking.invariant.small;
       lack = c.lack_in_box-lack-else-fewer-lack.ensures;
-      tells = λ o told. c.lacking.invariant.tells o (box_opened o g B open' c.args.dollars v held
+      tells = λ o told. c.lacking.invariant.tells o (box_closed o g B open' c.close_with_twins.new.room c.args.dollars v held
+          c.size-size.ensures.graph.multigraph
           (omega (arith, (rw c.in-Some.is at c.lacking.invariant.lack).0, c.lacking.invariant.size))
           (omega (
             arith,
@@ -130,7 +131,7 @@ lacking-preserved t c =
           (omega (arith, ints, (rw c.in-Some.is at c.lacking.invariant.lack).1, c.held_in_box-held.ensures))
           (box_told None g (less B (only_at v (pos (held + 1)))) (at c.in-Some-left_in_box_after.other)
           (set open' v (slice_index open' v - (held + 1))) (c.args.dollars - (held + 1)) c.in-Some-left_in_box_after.ensures.led
-          (rw c.in-Ok-None.field-0-is at c.in-Ok-None.ensures)) told);
+          (rw c.in-Ok-None.field-0-is at c.in-Ok-None.ensures)) c.close_with_twins.ensures.closed told);
     }
 
 pub returns : goal.returns

@@ -1,5 +1,5 @@
-use Rattle.dg_rank.proofs.Common.{arith, inl, inr, ints, less, canonical, not_rich, at}
-use Rattle.dg_rank.proofs.RankByTests.{fails_low, rank_before, rank_of_dual_before, in_limits, needs_too_many, past_tests}
+use Rattle.dg_rank.proofs.Common.{arith, inl, inr, ints, refl, less, canonical, not_rich, at}
+use Rattle.dg_rank.proofs.RankByTests.{fails_low, rank_before, rank_of_dual_before, in_limits, needs_too_many}
 use Rattle.dg_rank.proofs.numbers.both_ranks_in_limits.Goals as goal
 
 pub rank_degree_of_dual-dual_fails-requires-clause-low : goal.rank_degree_of_dual-dual_fails-requires-clause-low
@@ -12,40 +12,31 @@ rank_degree_of_dual-dual_fails-requires-clause-poor c =
     not_rich c.args.graph.now (at c.args.divisor.now) c.in_ok-fails.fails c.size-size.ensures.graph.multigraph
     (omega arith) c.in_ok-fails.ensures.0.fails
 
+pub returns-in_err-fails : goal.returns-in_err-fails
+returns-in_err-fails c =
+    rw c.from_residual.ensures (inl c.in_err-fails.ensures.1)
+
 pub returns-in_err-trials : goal.returns-in_err-trials
 returns-in_err-trials c =
-    rw c.from_residual-in_err-trials.ensures (inl (record {
-      degree = c.in_ok-fails.fails;
-      past = rw c.size-size.ensures.size at c.in_err-trials.ensures;
-      passed = c.in_ok-fails.ensures.0.passed;
-    }))
-
-pub returns-in_err-trials-2 : goal.returns-in_err-trials-2
-returns-in_err-trials-2 c =
     let g = c.args.graph.now in
     let D = at c.args.divisor.now in
-    rw c.from_residual-in_err-trials-2.ensures
+    rw c.from_residual-in_err-trials.ensures
     (inr (needs_too_many g (less (canonical g) D) c.rank_degree_of_dual-dual_fails.result
     (rank_of_dual_before g D c.in_ok-fails.fails c.rank_degree_of_dual-dual_fails.result
     c.size-size.ensures.graph.multigraph
     (omega arith) c.in_ok-fails.ensures.0 c.rank_degree_of_dual-dual_fails.ensures)
-    (rw c.size-size.ensures.size at c.in_err-trials-2.ensures)))
+    (rw c.size-size.ensures.size at c.in_err-trials.ensures)))
 
 pub returns : goal.returns
 returns c =
     let g = c.args.graph.now in
     let D = at c.args.divisor.now in (
-      in_limits g D c.in_ok-fails.fails c.in_ok-trials.field-0 _
-          (rank_before g D c.in_ok-fails.fails c.in_ok-fails.ensures.0)
-          (omega (arith, ints, c.from.ensures)) (rw c.size-size.ensures.size at c.in_ok-trials.ensures),
-      in_limits g (less (canonical g) D) c.rank_degree_of_dual-dual_fails.result c.in_ok-trials-2.field-0 _
+      in_limits g D c.in_ok-fails.fails _ (rank_before g D c.in_ok-fails.fails c.in_ok-fails.ensures.0)
+          (omega (arith, ints, c.from.ensures)) (c.in_ok-fails.ensures.1 refl),
+      in_limits g (less (canonical g) D) c.rank_degree_of_dual-dual_fails.result _
           (rank_of_dual_before g D c.in_ok-fails.fails c.rank_degree_of_dual-dual_fails.result
           c.size-size.ensures.graph.multigraph
           (omega arith) c.in_ok-fails.ensures.0 c.rank_degree_of_dual-dual_fails.ensures)
-          (omega (arith, ints, c.from-2.ensures)) (rw c.size-size.ensures.size at c.in_ok-trials-2.ensures),
+          (omega (arith, ints, c.from-2.ensures))
+          (c.in_ok-trials.field-0, rw c.size-size.ensures.size at c.in_ok-trials.ensures),
     )
-
-pub returns-in_err-fails : goal.returns-in_err-fails
-returns-in_err-fails c =
-    rw c.from_residual.ensures (inl (past_tests c.args.graph.now (at c.args.divisor.now)
-    c.size-size.ensures.graph.multigraph (omega arith) c.in_err-fails.ensures))

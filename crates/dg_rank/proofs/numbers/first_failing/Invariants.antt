@@ -1,8 +1,8 @@
-use Rattle.dg_rank.proofs.Common.{ℕ, ◌<◌, HasRankAtLeast, at, IsRankUntold, AreSetsForTrials}
+use Rattle.dg_rank.proofs.Common.{ℕ, ◌<◌, HasRankAtLeast, at, IsMadeOf}
 use Rattle.dg_rank.proofs.numbers.first_failing.Given as goal
 
 abbrev pub invariant-loop-k : goal.invariant-loop-k
 invariant-loop-k l = record {
-  told : (j : ℕ) → j < l.k → HasRankAtLeast l.graph (at l.divisor) j × (¬ IsRankUntold l.graph (at l.divisor) j);
-  made : AreSetsForTrials l.graph l.made;
+  passed : (j : ℕ) → j < l.k → HasRankAtLeast l.graph (at l.divisor) j;
+  made : IsMadeOf l.graph l.made;
 }

@@ -1,6 +1,5 @@
 use Rattle.dg_rank.proofs.Common.{◌≡◌, ℕ, ◌-◌, ◌<◌, slice_index, MatchOption, arith, ints, refl, ◌∙◌, equivalent-refl, at, AreTrialsWithinLimits, AllTrialsWin, IsFirstLossOfTrials}
 use Rattle.dg_rank.specs.Numbering.{nth_trial}
-use Rattle.dg_rank.proofs.AskedVertices.{none_made}
 use Rattle.dg_rank.proofs.FirstLosses.{some_number, found_all, found_trial}
 use Rattle.dg_rank.proofs.Leaps.{first_at}
 use Rattle.dg_rank.proofs.ranks.tested.Goals as goal
@@ -13,7 +12,7 @@ dual_passes_rank_test-requires c =
       size = c.requires.size;
       some = within.some;
       few = within.small;
-      made = none_made c.args.graph.now within.few;
+      made = c.nothing-made.ensures c.args.graph.now within.few;
     }
 
 pub first_trial_in_block-loss-requires-clause-range : goal.first_trial_in_block-loss-requires-clause-range

@@ -1,16 +1,20 @@
-use Rattle.dg_sweep.proofs.Common.{◌≡◌, inl, on_ok_weaker, arith, w64, to_z, of_z, ints}
+use Rattle.dg_sweep.proofs.Common.{◌≡◌, on_ok_weaker, arith, w64, to_z, of_z, ints, AreSweptRanks, sweep_ranks_line}
+use Rattle.dg_sweep.specs.Subjects.{swept_start}
 use Rattle.dg_sweep.proofs.ranking.push_swept_ranks.Goals as goal
 
 pub returns : goal.returns
 returns c =
-    let told = c.in-Some.ensures in
-    let rank : to_z w64 (of_z w64 c.in-Some.rank) ≡ c.in-Some.rank = omega (arith, ints) in
-    let dual_rank : to_z w64 (of_z w64 c.in-Some.dual_rank) ≡ c.in-Some.dual_rank = omega (arith, ints) in
-    on_ok_weaker _ (λ printed. inl (record {
-      told = told.2;
-      rank = c.in-Some.rank;
-      of_divisor = told.0;
-      dual_rank = c.in-Some.dual_rank;
-      of_dual = told.1;
+    let o = swept_start c.args.subject.now in
+    let ranks = c.swept_ranks-rank.result in
+    let told : c.push_swept_line.new.answer.items ≡ sweep_ranks_line c.args.form o ranks.0 ranks.1 →
+        AreSweptRanks o c.args.form c.push_swept_line.new.answer.items =
+    λ printed. record {
+      rank = ranks.0;
+      of_divisor = c.swept_ranks-rank.ensures.0;
+      dual_rank = ranks.1;
+      of_dual = c.swept_ranks-rank.ensures.1;
       printed = printed;
-    })) (rw (c.format-rank.ensures.text, c.format-dual_rank.ensures.text, rank, dual_rank) at c.push_swept_line-2.ensures)
+    } in
+    let rank : to_z w64 (of_z w64 ranks.0) ≡ ranks.0 = omega (arith, ints) in
+    let dual_rank : to_z w64 (of_z w64 ranks.1) ≡ ranks.1 = omega (arith, ints) in
+    on_ok_weaker _ told (rw (rank, dual_rank) at c.push_swept_line.ensures)
