@@ -65,7 +65,7 @@ class Answer:
         return NotImplemented
 
     def __hash__(self) -> int:
-        return hash(str(self))
+        return hash(tuple(frozenset(part.items()) if isinstance(part, dict) else part for part in self.parts()))
 
     def as_dict(self) -> Dict[str, object]:
         """The answer as a dict for `json.dumps`, amounts by the names of the vertices.

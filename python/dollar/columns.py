@@ -58,8 +58,9 @@ class Columns(Dict[str, Any]):
             columns = list(self._numpy.concatenate([none, *self._parts], axis=1))
         else:
             columns = [array("q", b"".join(parts)) for parts in zip([b""] * self._form.size, *self._parts)]
-        self._parts = []
         self._name(columns)
+        # They were for the reading; without them columns can be pickled, and so leave their process.
+        del self._form, self._numpy, self._parts
 
     def _name(self, columns: List[Any]) -> None:
         """Takes the columns, which have their names from here on."""

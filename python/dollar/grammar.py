@@ -4,10 +4,10 @@ reads them off the proved code; docs/formats.md says what the file holds."""
 from __future__ import annotations
 
 import json
-from pathlib import Path
+import pkgutil
 from typing import Any, Dict
 
-GRAMMAR: Dict[str, Any] = json.loads(Path(__file__).with_name("grammar.json").read_text(encoding="utf-8"))
+GRAMMAR: Dict[str, Any] = json.loads(pkgutil.get_data("dollar", "grammar.json") or b"")
 
 
 def limit(name: str) -> int:

@@ -11,9 +11,10 @@ import subprocess
 import sys
 import sysconfig
 import tempfile
+import weakref
 from contextlib import ExitStack, contextmanager
 from pathlib import Path
-from typing import Iterable, Iterator, List, Optional, Sequence, Tuple, Union
+from typing import IO, Iterable, Iterator, List, Optional, Sequence, Tuple, Union
 
 Place = Union[str, "os.PathLike[str]"]
 
@@ -26,6 +27,8 @@ IS_IN_CLONE = (HOME / "backend.py").is_file()
 PATIENCE = 120.0
 # Whether the program of a clone is built if it has to be.
 may_build = False
+# The runs of the program that are talked to through pipes.
+piped: weakref.WeakSet[subprocess.Popen[bytes]] = weakref.WeakSet()
 
 
 class Fault(Exception):
@@ -149,6 +152,29 @@ def command_line(words: Iterable[Union[str, bytes]], program: Optional[Place]) -
                 word = "/dev/fd/%d" % descriptors[-1]
             line.append(word)
         yield line, descriptors
+
+
+def talk(line: Sequence[str], descriptors: Sequence[int], said: Union[int, IO[bytes]], buffer: int = -1) -> subprocess.Popen[bytes]:
+    """A run of this command line with pipes to its input and from its output; what it says on standard error goes to `said`. An
+    interrupt at the terminal, or of a notebook, is for Python and not for the run."""
+    child = subprocess.Popen(line, bufsize=buffer, stdin=subprocess.PIPE, stdout=subprocess.PIPE, stderr=said, pass_fds=descriptors,
+                             start_new_session=True)
+    piped.add(child)
+    return child
+
+
+def let_go() -> None:
+    """Has a process that was forked off hold no end of a pipe to a run of its parent: the run would wait for the end of its input
+    until this process has ended too. Each descriptor stays taken, because the object that has it will close it."""
+    for child in piped:
+        for stream in (child.stdin, child.stdout, child.stderr):
+            if stream is not None and not stream.closed:
+                nothing = os.open(os.devnull, os.O_RDWR | os.O_CLOEXEC)
+                os.dup2(nothing, stream.fileno(), inheritable=False)
+                os.close(nothing)
+
+
+os.register_at_fork(after_in_child=let_go)
 
 
 def call(words: Sequence[Union[str, bytes]], program: Optional[Place] = None,

@@ -19,7 +19,7 @@ from typing import Any, Callable, List, NamedTuple, Optional, Tuple, Type, TypeV
 from dollar.answers import Entry, History, numbered, vertices_of
 from dollar.commands import more_of, option
 from dollar.grammar import limit
-from dollar.program import Fault, Place, command_line, ended_by, fault_of
+from dollar.program import Fault, Place, command_line, ended_by, fault_of, talk
 from dollar.table import Asked, file_and_table
 from dollar.vertices import whole
 
@@ -175,14 +175,14 @@ class Session:
                  patience: Optional[float] = 20.0, program: Optional[Place] = None, keep: Optional[Place] = None) -> None:
         self.patience, self.turn, self.table, self.answers, self.process = patience, threading.RLock(), table, 0, os.getpid()
         self.ended: Optional[End] = None
+        # Why this process has killed the program, if it has.
+        self.why: Optional[str] = None
         self.reads_seats = seats is not None
         words = words_of(seats, cap, workers, patience)
         file, kept = file_and_table(table)
         self.kept_table, self.vertices = kept, vertices_of(kept)
         with command_line(["serve", file, *words], program) as (line, descriptors):
-            # An interrupt at the terminal, or of a notebook, goes to Python, and does not end the game.
-            self.child = subprocess.Popen(line, stdin=subprocess.PIPE, stdout=subprocess.PIPE, stderr=subprocess.PIPE,
-                                          pass_fds=descriptors, start_new_session=True)
+            self.child = talk(line, descriptors, subprocess.PIPE)
         self.work: queue.SimpleQueue[Optional[Work]] = queue.SimpleQueue()
         threading.Thread(target=work_on, args=(self.work, self.child), daemon=True).start()
         weakref.finalize(self, self.work.put, None)
@@ -200,9 +200,10 @@ class Session:
         for at in range(0, len(keeping.pairs), AT_ONCE):
             pairs = keeping.pairs[at:at + AT_ONCE]
             found = self._in_time(functools.partial(self._exchange_all, [line for line, _ in pairs]))
-            if found != [answer + b"\n" for _, answer in pairs]:
-                raise ValueError("%s keeps a game that this program and table do not have" % os.fspath(keeping.place))
-            for line, text in pairs:
+            for number, ((line, text), answer) in enumerate(zip(pairs, found), at + 1):
+                if answer != text + b"\n":
+                    raise ValueError("%s keeps a game that this program and table do not have: its answer %d is %r, and the program's %r" % (
+                        os.fspath(keeping.place), number, text.decode(), answer.decode().rstrip("\n")))
                 self.answers += 1
                 self.kept.append(self._entry(line.decode(), text.decode()))
         self.keeping = keeping
@@ -265,8 +266,9 @@ class Session:
         if self.keeping is not None and answer[:1].isdigit() and answer.endswith(b"\n"):
             try:
                 self.keeping.add(line, answer)
-            except OSError:
+            except OSError as error:
                 # What is not kept is not told, and ends the game, so that it can be gone on with from what is kept.
+                self.why = "%s: %s" % (os.fspath(self.keeping.place), error.strerror or error)
                 self.child.kill()
                 return b""
         return answer
@@ -281,10 +283,10 @@ class Session:
             pass  # It has ended: there is no answer to be read, and standard error says why.
         return [self.child.stdout.readline() for _ in lines]
 
-    def _end(self, told: Optional[str] = None) -> End:
+    def _end(self) -> End:
         if self.ended is None:
             said = self.child.communicate()[1].decode(errors="replace").rstrip("\n")
-            self.ended = End(self.child.returncode, said if told is None else told)
+            self.ended = End(self.child.returncode, said if self.why is None else self.why)
             if self.keeping is not None:
                 self.keeping.close()
         return self.ended
@@ -296,9 +298,9 @@ class Session:
         try:
             return done.get(timeout=self.patience)
         except queue.Empty:
+            self.why = "nothing for %s seconds, after which it was killed" % self.patience
             self.child.kill()
-            told = "nothing for %s seconds, after which it was killed" % self.patience
-            self.work.put((lambda: self._end(told), done))
+            self.work.put((self._end, done))
             raise TimeoutError("the program said nothing for %s seconds, and was killed" % self.patience) from None
 
 

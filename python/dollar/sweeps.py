@@ -24,7 +24,7 @@ from dollar.answers import (
 from dollar.columns import (
     AnyInts, AnyTruths, ArrayInts, Columns, NumpyInts, NumpyTruths, RankTestColumns, RiemannRochColumns, VerdictColumns)
 from dollar.commands import MOST_DEGREE, beside, option
-from dollar.program import Fault, Place, command_line, ended_by, fault_of
+from dollar.program import Fault, Place, command_line, ended_by, fault_of, talk
 from dollar.readers import (
     Form, divisors_by_batches, divisors_one_by_one, lines_in, numpy_or_none, ordered, rank_test_form, riemann_roch_form, rows_of, verdict_form)
 from dollar.table import Graph, Table, one_line
@@ -53,18 +53,17 @@ class Sweep:
     def __init__(self, words: Sequence[Union[str, bytes]], tables: Iterator[Kept], program: Optional[Place], patience: Optional[float],
                  ahead: Optional[int] = None) -> None:
         self.said, self.patience = tempfile.TemporaryFile(), patience
-        with command_line(words, program) as (line, descriptors):
-            # An interrupt at the terminal is for Python, which ends the program when the sweep is left.
-            self.child = subprocess.Popen(line, bufsize=0, stdin=subprocess.PIPE, stdout=subprocess.PIPE, stderr=self.said,
-                                          pass_fds=descriptors, start_new_session=True)
-        assert self.child.stdin is not None and self.child.stdout is not None
-        self.input, self.output = self.child.stdin, self.child.stdout
-        os.set_blocking(self.input.fileno(), False)
-        self.tables, self.ahead, self.is_shared = tables, sys.maxsize if ahead is None else ahead, "--workers" in words
+        self.tables, self.ahead = tables, sys.maxsize if ahead is None else ahead
+        self.is_shared = any(isinstance(word, str) and word == "--workers" for word in words)
         self.waiting: Deque[Any] = deque()
         self.unsent, self.unread = b"", b""
         self.are_all_taken = self.is_slow = False
         self.broken: Optional[BaseException] = None
+        with command_line(words, program) as (line, descriptors):
+            self.child = talk(line, descriptors, self.said, 0)
+        assert self.child.stdin is not None and self.child.stdout is not None
+        self.input, self.output = self.child.stdin, self.child.stdout
+        os.set_blocking(self.input.fileno(), False)
 
     def widen(self) -> None:
         """Has both pipes hold more, so that the program and Python seldom wait for each other. The system may refuse it."""

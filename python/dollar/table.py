@@ -575,6 +575,9 @@ class Table(AbstractMapping[str, Any]):
 
     __rmul__ = __mul__
 
+    # numpy leaves sums and multiples of tables to tables, also from the left.
+    __array_ufunc__ = None
+
     def __neg__(self) -> Table:
         return self * -1
 

@@ -40,6 +40,8 @@ class OfAnswers(Test):
         self.assertNotEqual(read, parts + (1,))
         self.assertEqual(read, answer(text))
         self.assertEqual(hash(read), hash(answer(text)))
+        if not any(isinstance(part, dict) for part in parts):
+            self.assertIn(parts, {read})
         self.assertEqual(pickle.loads(pickle.dumps(read)), read)
 
     @each(GRAMMAR["replies"])

@@ -3,6 +3,7 @@ are gone on with."""
 import contextlib
 import itertools
 import os
+import pickle
 import random
 import signal
 import subprocess
@@ -96,6 +97,16 @@ class OfColumns(Test):
                         ask().columns("numpy")
                 with self.assertRaisesRegex(ValueError, "and not 'pandas'"):
                     ask().columns("pandas")
+
+    @each([with_numpy, without_numpy])
+    def test_they_leave_their_process(self, given):
+        rows = divisors(RING, 50, 1)
+        with given():
+            for found in (dollar.judge_all(RING, divisors=rows).columns(), dollar.rank_test_all(RING, 1, divisors=rows).columns(),
+                          dollar.rr_all(RING, divisors=rows).columns()):
+                again = pickle.loads(pickle.dumps(found))
+                self.assertEqual((type(again), repr(again), again.count), (type(found), repr(found), 50))
+                self.assertEqual({name: ints(column) for name, column in again.items()}, {name: ints(column) for name, column in found.items()})
 
     @each([with_numpy, without_numpy])
     def test_whatever_divisors_are(self, given):

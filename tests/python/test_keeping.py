@@ -75,7 +75,7 @@ class OfKeptGames(Test):
             session.ask("look")
             with self.assertRaisesRegex(ValueError, "keeps the game of a session that still runs"):
                 Session(TABLE, keep=place)
-        for table, text in ((dict(TABLE, q="b"), "keeps a game on another table"), (TABLE, "keeps a game that this program and table do not")):
+        for table, text in ((dict(TABLE, q="b"), "keeps a game on another table"), (TABLE, "keeps a game that this program and table do not have: its answer 1 is '0 looked 0 a=-3 b=6")):
             before = place.read_bytes()
             if table is TABLE:
                 place.write_bytes(before.replace(b"b=5", b"b=6"))
@@ -98,10 +98,10 @@ class OfKeptGames(Test):
             raise OSError("the disk is full")
 
         session.keeping.add = full
-        with self.assertRaises(Ended):
+        with self.assertRaisesRegex(Ended, "status -9: %s: the disk is full" % place):
             session.ask("lend b")
         self.assertEqual(place.read_bytes(), before)
-        session.close()
+        self.assertEqual(session.close(), (-signal.SIGKILL, "%s: the disk is full" % place))
         with Session(TABLE, keep=place) as session:
             self.assertEqual((len(session.kept), session.ask("lend b").number), (1, 1))
 

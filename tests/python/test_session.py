@@ -1,5 +1,6 @@
 """Sessions: never out of step, whatever is asked and whatever comes in between."""
 import gc
+import multiprocessing
 import os
 import pickle
 import random
@@ -7,6 +8,7 @@ import signal
 import subprocess
 import sys
 import threading
+import time
 
 from dollar import Ended, Session, Table
 from helpers import EXAMPLES, HUNG, PACKAGE, Test, each, wait_until
@@ -152,6 +154,17 @@ class OfSessions(Test):
         # To be killed may take longer than its patience.
         wait_until(lambda: session.ended is not None)
         self.assertEqual(session.close(), (-signal.SIGKILL, "nothing for 0.2 seconds, after which it was killed"))
+
+    def test_a_process_that_is_forked_off_does_not_keep_it_from_ending(self):
+        with Session(TABLE) as session:
+            worker = multiprocessing.get_context("fork").Process(target=time.sleep, args=(HUNG,))
+            worker.start()
+            try:
+                self.assertEqual(session.ask("claim").word, "not won")
+                self.assertEqual(session.close(), (0, ""))
+            finally:
+                worker.kill()
+                worker.join()
 
     def test_what_is_no_line(self):
         with Session(TABLE, seats=2) as session:

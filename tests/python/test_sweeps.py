@@ -5,6 +5,7 @@ import io
 import itertools
 import os
 import sqlite3
+import sys
 import threading
 import time
 from unittest import mock
@@ -12,7 +13,7 @@ from unittest import mock
 import dollar
 from dollar import Fault, Table
 from dollar.board import alone
-from helpers import HUNG, Test, each
+from helpers import HUNG, PACKAGE, Test, each
 
 PAIR = Table([[0, 2], [2, 0]])
 
@@ -56,6 +57,19 @@ class OfSweeps(Test):
         rows = base.execute("select first, second from tables")
         degrees = [numbers.degree for numbers in dollar.rr_all(Table(PAIR, row) for row in rows)]
         self.assertEqual(degrees, [place % 5 + -place % 3 for place in range(1000)])
+
+    def test_processes_may_make_what_is_swept(self):
+        words = ("import concurrent.futures as futures, multiprocessing, dollar\n"
+                 "def rows():\n"
+                 "    with futures.ProcessPoolExecutor(2, multiprocessing.get_context('fork')) as pool:\n"
+                 "        yield from pool.map(abs, range(3))\n"
+                 "print([each.rank for each in dollar.rr_all(dollar.Table([[0]]), divisors=([n] for n in rows()))])")
+        self.assertEqual(self.holds([sys.executable, "-c", words], timeout=HUNG, env=dict(os.environ, PYTHONPATH=str(PACKAGE))), "[0, 1, 2]\n")
+
+    def test_bytes_are_never_compared_with_texts(self):
+        words = "import dollar; print(next(dollar.judge_all(dollar.Table([[0]]), divisors=[[1]])))"
+        self.assertEqual(self.holds([sys.executable, "-bb", "-c", words], env=dict(os.environ, PYTHONPATH=str(PACKAGE))),
+                         "winnable by 0=0 to 0=1\n")
 
     def test_patience(self):
         silent = self.script("#!/bin/sh\nexec sleep %d\n" % HUNG)

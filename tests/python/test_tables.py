@@ -151,6 +151,11 @@ class OfTables(Test):
         row, = dollar.judge_all([dict(given, amounts=[numpy.float64(2.0), 0])])
         self.assertEqual(row.refused, "shape of amounts")
 
+    def test_numpy_stands_on_either_side(self):
+        numpy = needed("numpy")
+        table, more = Table([[0, 1], [1, 0]], [2, -1]), numpy.array([1, 2])
+        self.assertEqual((more + table, numpy.int64(3) * table), (table + [1, 2], table * 3))
+
     def test_pictures_stand_as_they_are_told(self):
         cube = dollar.example("cube")
         given = {name: (float(place), 0.0) for place, name in enumerate(cube.vertices)}
