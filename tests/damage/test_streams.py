@@ -117,8 +117,11 @@ def files(checks):
 
 
 def fifos(checks):
-    """A FIFO is read as it is written: in parts, with nothing in it, and with more than a file may have."""
+    """A FIFO is read as it is written: in parts, with nothing in it, and with more than a file may have. Each file is read once,
+    since a FIFO that is opened again has no writer; and none is opened before those that come first."""
     table, fifo = checks.put("triangle", TRIANGLE), os.path.join(checks.folder, "fifo")
+    lines, script = checks.put("lines", b"2 -1 -1\n"), checks.put("script", b"claim\n")
+    party = Run(0, b"0 1 not won\nentries 1\ngifts 0\nposition a=2 b=-1 c=-1\nseat 1 calls 1\n", b"")
     os.mkfifo(fifo)
     for what, words, parts, wanted in (
             ("in one part", ("judge", fifo), [TRIANGLE], Run(0, WON, b"")),
@@ -126,13 +129,26 @@ def fifos(checks):
             ("with nothing in it", ("judge", fifo), [], refused(b"not JSON", 3)),
             ("cut off", ("judge", fifo), [TRIANGLE[:50]], refused(b"not JSON", 3)),
             ("with too much", ("judge", fifo), [b" " * 65536] * 17, refused(b"file too long", 3)),
-            ("with steps", ("rehearse", table, fifo), [b"1 lend a\n"], Run(0, b"0 moved a=0 b=0 c=0\n", b""))):
+            ("with steps", ("rehearse", table, fifo), [b"1 lend a\n"], Run(0, b"0 moved a=0 b=0 c=0\n", b"")),
+            ("for a session", ("serve", fifo), [TRIANGLE], Run(0, b"", b"")),
+            ("for a party", ("party", fifo, script), [TRIANGLE], party),
+            ("with a script", ("party", table, fifo), [b"claim\n"], party),
+            ("for amounts", ("judge", fifo, "--divisors", lines), [TRIANGLE], Run(0, WON, b"")),
+            ("with amounts", ("judge", table, "--divisors", fifo), [b"2 -1 -1\n"], Run(0, WON, b"")),
+            ("with tables", ("judge", "--lines", fifo), [TRIANGLE, b"\n"], Run(0, WON, b""))):
         child = checks.start(*words)
         with contextlib.suppress(BrokenPipeError), open(fifo, "wb", buffering=0) as end:
             for part in parts:
                 end.write(part)
                 time.sleep(0.001)
         checks.same("a FIFO %s" % what, wanted, ended_run(child))
+    bad, missing = checks.put("bad", b"{"), os.path.join(checks.folder, "missing")
+    for what, wanted, words in (
+            ("STEPS, and FILE is refused", refused(b"not JSON", 3), ("rehearse", bad, fifo)),
+            ("LINES, and FILE is refused", refused(b"not JSON", 3), ("judge", bad, "--divisors", fifo)),
+            ("SCRIPT, and FILE is not read", READ, ("party", missing, fifo)),
+            ("FILE, and there are 65 scripts", refused(b"too many seats", 3), ("party", fifo, *[script] * 65))):
+        checks.ends("a FIFO without a writer as %s" % what, wanted, *words)
 
 
 def changing_files(checks):

@@ -5,7 +5,7 @@
 --                                            receipt r
 --   IsLookRankCommitted table found r x y == so it has the answer of a rank test found on its look
 --   RefusesLookCommit table x y fault     == the entry was refused with the fault; the seat knows what it
---                                            knew
+--                                            knew, and after `OutOfMemory` it has met nothing new
 --   StaleIsCommitted                      == the entry of a look that is stale, though nothing was computed,
 --                                            is that of each verdict on the look
 --   StaleTriedIsCommitted                 == and of each answer of the rank test that was asked for
@@ -15,8 +15,8 @@ use Rattle.dg_rules.specs.declared.entry.Entry.{Entry}
 use Rattle.dg_rules.specs.declared.finding.Finding.TheVariants.{Judged, Ranked}
 use Rattle.dg_rules.specs.declared.finding.Question.TheVariants.{Judge, Rank}
 use Rattle.dg_log.specs.Tables.{TableData}
-use Rattle.dg_table.specs.Faults.{RefusesCallAtTable}
-use Rattle.dg_table.specs.Seats.{SeatView, Keeps}
+use Rattle.dg_table.specs.Faults.{RefusesCallAtTable, KeepsAfterRefusal}
+use Rattle.dg_table.specs.Seats.{SeatView}
 use Rattle.dg_table.specs.Settled.{IsSettledAtTable, IsStaleAtTable}
 use Rattle.dg_table.specs.declared.fault.Fault.{Fault}
 use Rattle.dg_verdict.specs.declared.rank_verdict.RankVerdict.{RankVerdict}
@@ -37,7 +37,7 @@ IsLookRankCommitted table found r x y =
     IsSettledAtTable table found.look.receipt (Ranked found.verdict) r x y
 
 abbrev pub RefusesLookCommit : TableData → SeatView → SeatView → Fault → Type 0
-RefusesLookCommit table x y fault = Keeps x y × RefusesCallAtTable table y fault
+RefusesLookCommit table x y fault = KeepsAfterRefusal fault x y × RefusesCallAtTable table y fault
 
 abbrev pub StaleIsCommitted : Type 0
 StaleIsCommitted = (table : TableData) (found : LookWithFinding Verdict) (r : ℕ × Entry) (x y : SeatView) →

@@ -2,8 +2,7 @@
 ghost use Rattle.std.specs.Prelude.{◌≡◌, length, IfOk, IfErr};
 ghost use Rattle.dg_rules.specs.declared.entry.Request.TheVariants.{Look as LookRequest};
 ghost use Rattle.dg_table.specs.Answered.{IsAnswered};
-ghost use Rattle.dg_table.specs.Faults.{RefusesCallAtTable};
-ghost use Rattle.dg_table.specs.Seats.{Keeps};
+ghost use Rattle.dg_table.specs.Faults.{RefusesCallAtTable, KeepsAfterRefusal};
 
 use crate::looks::Look;
 use dg_log::Name;
@@ -24,7 +23,7 @@ pub fn look<N: Name>(
 ) -> Result<Look<N>, Fault>
     ensures answered { IfOk result
         (λ l. IsAnswered N.table LookRequest l.receipt seat.old seat.new) }
-    ensures fault { IfErr result (λ f. Keeps seat.old seat.new ×
+    ensures fault { IfErr result (λ f. KeepsAfterRefusal f seat.old seat.new ×
         RefusesCallAtTable N.table seat.new f) }
 {
     let receipt = table.call(rt, alloc, seat, Plain::Look)?;

@@ -63,9 +63,11 @@ module _ {x m : SeatView} (meets : Keeps x m) where
     mine = g.mine ∙ ap (λ ps. ps ++ made) meets.mine;
     heard = g.heard;
     told = g.told ∙ ap (λ ps. ps ++ g.heard) meets.told;
+    named = g.named;
+    stand = g.stand;
     prefix = subst (λ K. IsPrefixOf K y.prefix) meets.prefix g.prefix;
     order = comes_from x.met m.met y.met made meets.met g.order;
-    still = λ none. let kept = g.still none in (kept.0 ∙ meets.told, kept.1 ∙ meets.prefix);
+    still = λ none. g.still none ∙ meets.prefix;
   }
 
   pub command_met : (t : SessionSetup) (k : Option ℕ) (command : Command) (y : SeatView) (end : SessionEnd)

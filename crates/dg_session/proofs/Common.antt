@@ -10,7 +10,7 @@ pub use Rattle.dg_rules.specs.declared.entry.Entry.{Entry}
 pub use Rattle.dg_rules.specs.declared.entry.Plain.{Plain}
 pub use Rattle.dg_rules.specs.declared.entry.Request.{Request}
 pub use Rattle.dg_rules.specs.declared.finding.Finding.{Finding}
-pub use Rattle.dg_rules.specs.declared.finding.Finding.TheVariants.{Ranked}
+pub use Rattle.dg_rules.specs.declared.finding.Finding.TheVariants.{Judged, Ranked}
 pub use Rattle.dg_rules.specs.declared.finding.Question.{Question}
 pub use Rattle.dg_rules.specs.declared.finding.Question.TheVariants.{Judge as JudgeQuestion, Rank as RankQuestion}
 pub use Rattle.dg_rules.specs.declared.step.Command.{Command}
@@ -33,7 +33,7 @@ pub use Rattle.dg_session.specs.EntriesSoFar.{EntriesSoFarView}
 pub use Rattle.dg_session.specs.Ends.{AreSessionEntriesInOrder, SessionEndsBy, IsOver, IsSession, SessionReading, SessionStopsAt, WritesInSession, reading}
 pub use Rattle.dg_session.specs.Order.{AnswersAscendFrom, SessionComesAfter}
 pub use Rattle.dg_session.specs.Refusing.{SpeakerCallsTable, RefusesSpeakerCommand, RefusesSessionLine}
-pub use Rattle.dg_session.specs.Saying.{AnswersCommand, AnswersLine, SpeakerEnters, SessionGains, speakers_kept_after, speakers_look_after}
+pub use Rattle.dg_session.specs.Saying.{AnswersCommand, AnswersLine, SpeakerEnters, SessionGains, looks_named, speakers_kept_after, speakers_look_after}
 pub use Rattle.dg_session.specs.Setup.{SessionSetup, session_setup}
 pub use Rattle.dg_session.specs.SoFar.{SessionGoes, HaltsSession, HandlesSessionLine, HearsSpeaker, IsReady, IsWrittenInSession, ObeysSpeaker, SessionRefusesPart, SoFar, Speaker, SessionStaysAt, SessionStopsIn, TakesInSession, TakesSessionEnd, TellsSpeaker, answer_entries, speaker_answer_text, beginning_of_session, heard, keeping_speaker, round, so_far, speaker}
 pub use Rattle.dg_session.specs.Speakers.{AnswersLineOfSpeaker, GoesOn, IsForSpeaker, IsForNoSpeaker, RefusesLineOfSpeaker, ReplacesSpeaker, Speakers, kept_by_speaker, new_speakers, speakers}
@@ -52,7 +52,7 @@ pub use Rattle.dg_table.proofs.Numbered.{begins_length, begins_on, stand_longer}
 pub use Rattle.dg_table.proofs.Placed.{get_set}
 pub use Rattle.dg_table.specs.Answered.{IsAnswered, IsEnteredAfter, entering_at_table}
 pub use Rattle.dg_table.specs.Closing.{IsClosed, AreAuditTotals, IsCloseRefused}
-pub use Rattle.dg_table.specs.Faults.{RefusesCallAtTable}
+pub use Rattle.dg_table.specs.Faults.{RefusesCallAtTable, KeepsAfterRefusal}
 pub use Rattle.dg_table.specs.Histories.{SeatHasPrefix, IsHistoryOfTable}
 pub use Rattle.dg_table.specs.Opened.{AreFreshSeats}
 pub use Rattle.dg_table.specs.Seats.{Keeps, SeatMeetsHistory, SeatView, entries_of_seat}

@@ -2,6 +2,7 @@
 --   gains_none, gains_same   a seat that stays gains nothing
 --   Stands          the seat has gained the entry of a request
 --   entry_made      so it has by an entry that is made after a history
+--   call_names_none   a call is about no look
 --   call_made       so by that of a call
 --   settled_made    so by that of a finding on a look, and it is asked for on the look's number
 --   rank_made       so by that of a rank test
@@ -12,7 +13,7 @@
 --   obeys_after     a command that is obeyed to a seat after it met a longer history is obeyed to it
 --   unlooked, at_look   so it is with none, and with the look that is kept
 --   call_keeps      a call that is no look keeps the look
-use Rattle.dg_session.proofs.Common.{◌≡◌, ◌≢◌, ℕ, inl, inr, List, [], ◌∷◌, ◌++◌, length, Option, Some, None, slice_get, Result, Ok, Err, OnOk, refl, sym, ap, subst, ◌∙◌, append-nil, codes, arith, StartData, IsRankTestWithinLimits, ArePastTrialLimits, past_within, RankVerdict, AtLeast, Below, degree_of_finding, request_for_finding, request_for_question, asked, Entry, Plain, Request, Ranked, Finding, Question, Command, TakenLookView, IsTakenLook, IsTried, entry_text, IsReplyOfSize, legal_sized, slice_get-seam, begins_on, begins_length, SeatView, Keeps, RefusesCallAtTable, Fault, entering_at_table, IsEnteredAfter, IsAnswered, IsSettledAtTable, IsStaleAtTable, SessionGains, SpeakerEnters, speakers_kept_after, speakers_look_after, AnswersCommand, SessionEnd, Table, kept_by_speaker, SpeakerCallsTable, RefusesSpeakerCommand, SessionSetup, Speaker, speaker, keeping_speaker, answer_entries, speaker_answer_text, Answer, Made, NoLook, ObeysSpeaker, TableData}
+use Rattle.dg_session.proofs.Common.{◌≡◌, ◌≢◌, ℕ, inl, inr, List, [], ◌∷◌, ◌++◌, length, map, Option, Some, None, slice_get, Result, Ok, Err, OnOk, refl, sym, ap, subst, ◌∙◌, append-nil, codes, arith, StartData, IsRankTestWithinLimits, ArePastTrialLimits, past_within, RankVerdict, AtLeast, Below, degree_of_finding, request_for_finding, request_for_question, asked, Entry, Plain, Request, Judged, Ranked, Finding, Question, JudgeQuestion, RankQuestion, Command, TakenLookView, IsTakenLook, IsTried, entry_text, IsReplyOfSize, legal_sized, slice_get-seam, begins_on, begins_length, stand_longer, StandInLog, SeatView, Keeps, RefusesCallAtTable, KeepsAfterRefusal, Fault, entering_at_table, IsEnteredAfter, IsAnswered, IsSettledAtTable, IsStaleAtTable, SessionGains, looks_named, SpeakerEnters, speakers_kept_after, speakers_look_after, AnswersCommand, SessionEnd, Table, kept_by_speaker, SpeakerCallsTable, RefusesSpeakerCommand, SessionSetup, Speaker, speaker, keeping_speaker, answer_entries, speaker_answer_text, Answer, Made, NoLook, ObeysSpeaker, TableData}
 use Rattle.dg_rules.specs.declared.entry.Plain.TheVariants as plain
 use Rattle.dg_rules.specs.declared.entry.Request.TheVariants.{Rank as RankRequest}
 use Rattle.dg_session.proofs.Coming.{gained_met, command_met}
@@ -23,9 +24,11 @@ gains_none x y keeps = record {
   mine = keeps.mine ∙ sym (append-nil x.mine);
   heard = [];
   told = keeps.told ∙ sym (append-nil x.told);
+  named = refl;
+  stand = tt;
   prefix = ([], keeps.prefix ∙ sym (append-nil x.prefix));
   order = record { begins = keeps.met; stand = tt; after = tt };
-  still = λ none. (keeps.told, keeps.prefix);
+  still = λ none. keeps.prefix;
 }
 
 pub gains_same : (x : SeatView) → SessionGains x x []
@@ -58,8 +61,9 @@ pub record Stands (o : StartData) (request : Request) (r : ℕ × Entry) (x y : 
 
 pub entry_made : (table : TableData) (H : List Entry) (request : Request) (known heard : List (ℕ × Entry))
     (r : ℕ × Entry) (x y : SeatView)
-    → known ≡ x.told ++ heard → IsEnteredAfter table request known (entering_at_table H r x y) → Stands table.start request r x y
-entry_made table H request known heard r x y told e = record {
+    → known ≡ x.told ++ heard → map (λ p. p.0) heard ≡ looks_named request → StandInLog H heard
+    → IsEnteredAfter table request known (entering_at_table H r x y) → Stands table.start request r x y
+entry_made table H request known heard r x y told named stand e = record {
   asked' = e.request';
   sized = legal_sized table.start (H ++ r.1 ∷ []) (length H) r.1 e.history.legal (slice_get-seam H r.1 []);
   gained = record {
@@ -67,6 +71,8 @@ entry_made table H request known heard r x y told e = record {
     mine = e.mine;
     heard = heard;
     told = e.told ∙ told;
+    named = named ∙ ap looks_named (sym e.request') ∙ sym (append-nil (looks_named r.1.request));
+    stand = subst (λ K. StandInLog K heard) (sym e.met) (stand_longer H (r.1 ∷ []) heard stand);
     prefix = begins_on x.prefix H y.prefix e.before.prefix (r.1 ∷ [], e.prefix);
     order = record {
       begins = begins_on x.met H y.met e.before.met (r.1 ∷ [], e.met);
@@ -80,20 +86,37 @@ entry_made table H request known heard r x y told e = record {
   };
 }
 
-pub call_made : {table : TableData} {request : Request} {r : ℕ × Entry} {x y : SeatView}
-    → IsAnswered table request r x y → Stands table.start request r x y
-call_made {table} {request} {r} {x} {y} answered = entry_made table answered.0 request x.told [] r x y
-    (sym (append-nil x.told)) answered.1
+call_names_none : (call : Plain) → [] ≡ looks_named (asked call)
+call_names_none plain.Look = refl
+call_names_none (plain.Move m) = refl
+call_names_none (plain.Gift v x) = refl
+call_names_none (plain.Join u v) = refl
+call_names_none plain.Claim = refl
+
+pub call_made : {table : TableData} (call : Plain) {r : ℕ × Entry} {x y : SeatView}
+    → IsAnswered table (asked call) r x y → Stands table.start (asked call) r x y
+call_made {table} call {r} {x} {y} answered = entry_made table answered.0 (asked call) x.told [] r x y
+    (sym (append-nil x.told)) (call_names_none call) tt answered.1
 
 pub settled_made : {table : TableData} {look : ℕ × Entry} {f : Finding} {r : ℕ × Entry} {x y : SeatView}
     → IsSettledAtTable table look f r x y → Stands table.start (request_for_finding look.0 f) r x y
 settled_made {table} {look} {f} {r} {x} {y} settled =
-    entry_made table settled.0 (request_for_finding look.0 f) _ (look ∷ []) r x y refl settled.1.entered
+    entry_made table settled.0 (request_for_finding look.0 f) _ (look ∷ []) r x y refl (names f)
+    (settled.1.stands, tt) settled.1.entered
+  where
+    names : (f : Finding) → look.0 ∷ [] ≡ looks_named (request_for_finding look.0 f)
+    names (Judged v) = refl
+    names (Ranked v) = refl
 
 pub stale_made : {table : TableData} {look r : ℕ × Entry} {x y : SeatView} (asks : Question)
     → IsStaleAtTable table look asks r x y → Stands table.start (request_for_question look.0 asks) r x y
 stale_made {table} {look} {r} {x} {y} asks stale =
-    entry_made table stale.0 (request_for_question look.0 asks) _ (look ∷ []) r x y refl stale.1.entered
+    entry_made table stale.0 (request_for_question look.0 asks) _ (look ∷ []) r x y refl (names asks)
+    (stale.1.stands, tt) stale.1.entered
+  where
+    names : (asks : Question) → look.0 ∷ [] ≡ looks_named (request_for_question look.0 asks)
+    names JudgeQuestion = refl
+    names (RankQuestion k) = refl
 
 degree_kept : (look : TakenLookView) (k w : ℕ) (v : RankVerdict) → IsTried look k w v → degree_of_finding v ≡ k
 degree_kept look k w (AtLeast j) tried = tried.right.0
@@ -134,11 +157,11 @@ entered {t = t} {r = r} {old} size stands opens keeps = record {
 
 -- nothing is made, since the table refuses the call
 pub call_refused : {N : Type 0} {t : SessionSetup} {command : Command} {old new : Speaker} {fault : Fault}
-    → SpeakerCallsTable t.table.start.graph.size old.kept command → Keeps old.seat new.seat
+    → SpeakerCallsTable t.table.start.graph.size old.kept command → KeepsAfterRefusal fault old.seat new.seat
     → RefusesCallAtTable t.table new.seat fault
     → ObeysSpeaker {N = N} t command old new (Err (Table fault))
 call_refused {old = old} {new} calls keeps refused =
-    record { done = tt; refused = (calls, refused, gains_none old.seat new.seat keeps) }
+    record { done = tt; refused = (calls, refused, gains_none old.seat new.seat keeps.0) }
 
 -- a command that needs a look finds none
 pub unlooked : {N : Type 0} {t : SessionSetup} {command : Command} {x : SeatView} {kept after : Option TakenLookView} → kept

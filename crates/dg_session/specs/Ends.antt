@@ -16,7 +16,7 @@
 --                                              writer took no more
 --   AreSessionEntriesInOrder s              == the numbers of what the lines have entered ascend; the entries
 --                                              stand in the history as the last line left it; and that is the
---                                              one that a seat has met, or there was no line of a seat
+--                                              one that a seat has met, or has no entry
 --   WritesInSession result output said text == the writer took what was said and the text, or, if it took no
 --                                              more, all that was said and a front of the text
 --   IsOver t input output xs ys result      == the session of the seats xs is over, and they are ys. A stream

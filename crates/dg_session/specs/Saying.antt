@@ -12,14 +12,16 @@
 --                                                    leaves that look kept, and is answered with the text
 --   AnswersLine t kept line made after text       == so is the line: by what is wrong with it, or as its
 --                                                    command
+--   looks_named request                           == the number of the look that the request is about, if it
+--                                                    is about one
 --   SessionGains x y made                         == the seat is the same, has made these entries, and was
---                                                    told of what it was told, and perhaps more; the history
---                                                    that it has found begins with the one that it had; the
---                                                    one that it has met has these entries after the one that
---                                                    it had met; and where it made none, it was told of no
---                                                    entry, and found no history
-use Rattle.std.specs.Prelude.{◌≡◌, ℕ, ◌⊎◌, List, [], ◌∷◌, ◌++◌, Option, Some, None, codes}
-use Rattle.dg_session.specs.Common.{IsRankTestWithinLimits, asked, Entry, Request, Look, Judge, Command, Call, Commit, Rank, IsPrefixOf, SeatView, LineSpellsCommand, IsLineFault, line_fault_text, entry_text, LineFault}
+--                                                    told of what it was told, and then of the looks that
+--                                                    they are about; the history that it has found begins
+--                                                    with the one that it had; the one that it has met has
+--                                                    these entries after the one that it had met, and the
+--                                                    looks; and where it made none, it found no history
+use Rattle.std.specs.Prelude.{◌≡◌, ℕ, ◌⊎◌, List, [], ◌∷◌, ◌++◌, map, flat_map, Option, Some, None, codes}
+use Rattle.dg_session.specs.Common.{IsRankTestWithinLimits, asked, Entry, Request, Look, Judge, Command, Call, Commit, Rank, IsPrefixOf, SeatView, StandInLog, LineSpellsCommand, IsLineFault, line_fault_text, entry_text, LineFault}
 use Rattle.dg_rules.specs.declared.entry.Request.TheVariants.{Rank as RankRequest}
 use Rattle.dg_session.specs.Setup.{SessionSetup}
 use Rattle.dg_session.specs.Order.{SessionComesAfter}
@@ -61,11 +63,18 @@ AnswersLine t kept line made after text =
     ⊎ ((command : Command) × LineSpellsCommand t.names command line
     × AnswersCommand t kept command made after text)
 
+abbrev pub looks_named : Request → List ℕ
+looks_named (Judge i) = i ∷ []
+looks_named (RankRequest i k) = i ∷ []
+looks_named request = []
+
 pub record SessionGains (x y : SeatView) (made : List (ℕ × Entry)) : Type 0 where
   pub number : y.number ≡ x.number
   pub mine : y.mine ≡ x.mine ++ made
   pub heard : List (ℕ × Entry)
   pub told : y.told ≡ x.told ++ heard
+  pub named : map (λ p. p.0) heard ≡ flat_map (λ p. looks_named p.1.request) made
+  pub stand : StandInLog y.met heard
   pub prefix : IsPrefixOf x.prefix y.prefix
   pub order : SessionComesAfter x.met made y.met
-  pub still : made ≡ [] → (y.told ≡ x.told) × (y.prefix ≡ x.prefix)
+  pub still : made ≡ [] → y.prefix ≡ x.prefix

@@ -31,7 +31,7 @@ pub use Rattle.dg_strategy.specs.Plays.{AreStrategyMoves, Gains, IsClaimed, Choi
 pub use Rattle.dg_strategy.specs.declared.playing.Ended.{Ended}
 pub use Rattle.dg_strategy.specs.declared.playing.Ended.TheVariants.{Settled, Turns}
 pub use Rattle.dg_table.proofs.Entries.{entries_enumerated, enumerate_from-more, own_alone}
-pub use Rattle.dg_table.specs.Faults.{RefusesCallAtTable}
+pub use Rattle.dg_table.specs.Faults.{RefusesCallAtTable, KeepsAfterRefusal}
 pub use Rattle.dg_table.specs.Seats.{AreOfTableSeats, Keeps, SeatView, entries_of_seat}
 pub use Rattle.dg_rules.specs.Requests.{request_for}
 pub use Rattle.dg_table.specs.declared.fault.Fault.{Fault}

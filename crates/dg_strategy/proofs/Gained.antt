@@ -7,7 +7,7 @@
 --   stopped_by       a turn that is refused
 --   played_out       turns that were all moves
 --   gained_as, plays_as   turns that are each of another kind too
-use Rattle.dg_strategy.proofs.Common.{◌≡◌, ℕ, ◌+◌, ◌<◌, List, [], ◌∷◌, ◌++◌, length, length-append, Option, Some, None, append_assoc, append-nil, arith, refl, sym, ap, subst, ◌∙◌, FoldsTo-push, FoldsTo, Move, Entry, Claim, RefusesCallAtTable, request_for, SeatView, Keeps, Fault, Choosing, IsTurnByStrategy, IsChosenMove, AreStrategyMoves, Gains, IsPlayedOut, IsClaimed, IsStopped, Plays, Result, Ok, Err, Ended, Settled, Turns, TableData}
+use Rattle.dg_strategy.proofs.Common.{◌≡◌, ℕ, ◌+◌, ◌<◌, List, [], ◌∷◌, ◌++◌, length, length-append, Option, Some, None, append_assoc, append-nil, arith, refl, sym, ap, subst, ◌∙◌, FoldsTo-push, FoldsTo, Move, Entry, Claim, RefusesCallAtTable, KeepsAfterRefusal, request_for, SeatView, Keeps, Fault, Choosing, IsTurnByStrategy, IsChosenMove, AreStrategyMoves, Gains, IsPlayedOut, IsClaimed, IsStopped, Plays, Result, Ok, Err, Ended, Settled, Turns, TableData}
 
 -- the seat y is the seat x with the entries es
 pub record Left (x : SeatView) (es : List (ℕ × Entry)) (y : SeatView) : Type 0 where
@@ -81,13 +81,15 @@ module _ (A : Choosing) (table : TableData) where
     claim = claim;
   }
 
-  pub stopped_by : (i n : ℕ) (x y z : SeatView) (fault : Fault) → Moved x y i → i < n → Keeps y z →
+  pub stopped_by : (i n : ℕ) (x y z : SeatView) (fault : Fault) → Moved x y i → i < n → KeepsAfterRefusal fault y z →
       RefusesCallAtTable table z fault → IsStopped (IsTurnByStrategy A table) table n x z fault
+  unfolding gained_by
   stopped_by i n x y z fault (es, steps, moves, count) few kept refused = record {
     entries = es;
-    gained = gained_by A table x es y z steps kept;
+    gained = gained_by A table x es y z steps kept.0;
     moves = moves;
     few = omega (arith, count, few);
+    kept = kept;
     refused = refused;
   }
 
@@ -117,6 +119,7 @@ module _ (T S : SeatView → ℕ × Entry → SeatView → Type 0)
 
   pub plays_as : {N : Type 0} (table : TableData) (n : ℕ) (x y : SeatView) (result : Result (Ended N) Fault) →
       Plays T table n x y result → Plays S table n x y result
+  unfolding gained_as
   plays_as table n x y (Ok (Settled r)) played = record {
     entries = played.entries;
     gained = gained_as x (played.entries ++ r ∷ []) y played.gained;
@@ -135,5 +138,6 @@ module _ (T S : SeatView → ℕ × Entry → SeatView → Type 0)
     gained = gained_as x stopped.entries y stopped.gained;
     moves = stopped.moves;
     few = stopped.few;
+    kept = stopped.kept;
     refused = stopped.refused;
   }

@@ -16,11 +16,11 @@
 --   IsPlayed T n x y ended         == in n turns, all moves, the seat gained n entries; or in fewer, by moves
 --                                     and then by the claim of the receipt, those entries
 --   IsStopped T table n x y fault  == after fewer than n turns, all moves, the next one was refused with the
---                                     fault
+--                                     fault; after `OutOfMemory` the seat has met nothing since its last entry
 --   Plays T table n x y result     == the seat has so played, or was so stopped
 use Rattle.std.specs.Prelude.{◌≡◌, ℕ, ◌<◌, Bool, true, false, List, [], ◌∷◌, ◌++◌, length, Option, Some, None, ⊤, Result, Ok, Err}
 use Rattle.std.specs.List.{FoldsTo}
-use Rattle.dg_strategy.specs.Common.{Vector, Move, ShowsPosition, position_after, gifts_in, Entry, Range, Request, Reply, Moved, Refused, Won, entering_at_table, IsAnsweredAtTableAfter, RefusesCallAtTable, SeatView, Keeps, request_for, Fault, TableData}
+use Rattle.dg_strategy.specs.Common.{Vector, Move, ShowsPosition, position_after, gifts_in, Entry, Range, Request, Reply, Moved, Refused, Won, entering_at_table, IsAnsweredAtTableAfter, RefusesCallAtTable, KeepsAfterRefusal, SeatView, Keeps, request_for, Fault, TableData}
 use Rattle.dg_rules.specs.declared.entry.Request.TheVariants as request
 use Rattle.dg_strategy.specs.Choices.{Choosing, BorrowsInDebt}
 use Rattle.dg_strategy.specs.declared.playing.Ended.{Ended}
@@ -96,6 +96,7 @@ module _ (T : SeatView → ℕ × Entry → SeatView → Type 0) where
     pub gained : Gains x entries y
     pub moves : AreStrategyMoves entries
     pub few : length entries < n
+    pub kept : KeepsAfterRefusal fault gained.last y
     pub refused : RefusesCallAtTable table y fault
 
   abbrev pub Plays : {N : Type 0} → TableData → ℕ → SeatView → SeatView → Result (Ended N) Fault

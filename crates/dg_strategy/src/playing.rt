@@ -1,7 +1,6 @@
 //! Turns in a row.
 ghost use Rattle.std.specs.Prelude.{◌≡◌, length, IfOk, IfErr, true, IsTrue, ◌↔◌};
-ghost use Rattle.dg_table.specs.Faults.{RefusesCallAtTable};
-ghost use Rattle.dg_table.specs.Seats.{Keeps};
+ghost use Rattle.dg_table.specs.Faults.{RefusesCallAtTable, KeepsAfterRefusal};
 ghost use Rattle.dg_rules.specs.declared.entry.Request.TheVariants.{Claim as ClaimRequest};
 ghost use Rattle.dg_strategy.specs.Choices.{Chooses, MayChooseAnywhere, StrategyGivesPlayable, ChoosesBorrowings, StrategyGivesClaims};
 ghost use Rattle.dg_strategy.specs.Plays.{IsTurnByStrategy, IsStrategyTurn, IsSettlerTurn, Plays};
@@ -114,7 +113,7 @@ fn strategy_turn_by<N: Name, F: Fn(&Graph, &Divisor) -> Option<Move>>(
     ensures turn { IfOk result
         (λ r. IsTurnByStrategy (Chooses (F.post choice.now)) N.table seat.old r seat.new) }
     ensures fault { IfErr result
-        (λ f. Keeps seat.old seat.new × RefusesCallAtTable N.table seat.new f) }
+        (λ f. KeepsAfterRefusal f seat.old seat.new × RefusesCallAtTable N.table seat.new f) }
 {
     let mut choose = |graph: &Graph, position: &Divisor| -> Option<Move>
         requires { F.pre choice.now graph position }

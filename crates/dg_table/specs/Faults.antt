@@ -10,10 +10,12 @@
 --   RefusesCallAtTable table x f           == if the call of the seat x was refused with f, this is known:
 --                                             after `Full`, the history that it has met then fills the table;
 --                                             after `Log`, that has room
+--   KeepsAfterRefusal f x y                == after the refusal f the seat x, which is y then, knows what it
+--                                             knew; after `OutOfMemory` it has met nothing new
 use Rattle.std.specs.Prelude.{◌≡◌, ℕ, ◌<◌, ◌≤◌, List, true, length, ⊤, ◌⊎◌}
 use Rattle.dg_table.specs.Common.{Entry, StandInLog, IsPrefixOf, TableData, Written}
 use Rattle.dg_table.specs.Histories.{IsHistoryOfTable}
-use Rattle.dg_table.specs.Seats.{SeatView, IsAdmissibleSeat}
+use Rattle.dg_table.specs.Seats.{SeatView, IsAdmissibleSeat, Keeps}
 use Rattle.dg_table.specs.declared.fault.Fault.{Fault}
 use Rattle.dg_table.specs.declared.fault.Fault.TheVariants.{OutOfMemory, Full, Log}
 
@@ -46,3 +48,6 @@ abbrev pub RefusesCallAtTable : TableData → SeatView → Fault → Type 0
 RefusesCallAtTable table x OutOfMemory = ⊤
 RefusesCallAtTable table x Full = TableStandsFull table x.met x
 RefusesCallAtTable table x Log = length x.met < table.capacity
+
+abbrev pub KeepsAfterRefusal : Fault → SeatView → SeatView → Type 0
+KeepsAfterRefusal f x y = Keeps x y × (f ≡ OutOfMemory → y.met ≡ x.met)

@@ -6,7 +6,7 @@ ghost use Rattle.dg_rules.specs.declared.entry.Entry.{Entry as EntryData};
 ghost use Rattle.dg_log.specs.Tables.{table_data_of};
 ghost use Rattle.dg_table.specs.Answered.{IsAnswered};
 ghost use Rattle.dg_table.specs.Closing.{IsClosed, IsTableAttested, AreAuditTotals, IsCloseRefused};
-ghost use Rattle.dg_table.specs.Faults.{RefusesCallAtTable};
+ghost use Rattle.dg_table.specs.Faults.{RefusesCallAtTable, KeepsAfterRefusal};
 ghost use Rattle.dg_table.specs.Looks.{IsLookOfSeat};
 ghost use Rattle.dg_table.specs.Opened.{AreFreshSeats, RefusesOpening};
 ghost use Rattle.dg_table.specs.Seats.{Keeps};
@@ -117,7 +117,7 @@ impl<N: Name> Table<N> {
     /// It waits for the lock. Refused with `OutOfMemory`, before it waits; with `Full` if the history has as many
     /// entries as it may have, which the seat has met then; and with `Log`, if it has room, if the seat keeps more than the
     /// history holds, or less of its own, or the cell refuses the entry. A refused call is no entry, and the seat knows what it
-    /// knew, and what history it met.
+    /// knew, and what history it met; after `OutOfMemory` it has met nothing new.
     pub fn call(
         &self,
         rt: &impl Wait,
@@ -127,7 +127,7 @@ impl<N: Name> Table<N> {
     ) -> Result<Receipt<N>, Fault>
         ensures answered { IfOk result
             (λ r. IsAnswered N.table (asked plain) r seat.old seat.new) }
-        ensures fault { IfErr result (λ f. Keeps seat.old seat.new ×
+        ensures fault { IfErr result (λ f. KeepsAfterRefusal f seat.old seat.new ×
             RefusesCallAtTable N.table seat.new f) }
     {
         let slot = self.room(alloc, seat)?;
@@ -149,7 +149,7 @@ impl<N: Name> Table<N> {
         requires { MayBeAsked F.FnMut choose.old }
         ensures turned { IfOk result
             (λ r. IsTurn F.FnMut N.table (asking_at_table choose.old choose.new) r seat.old seat.new) }
-        ensures fault { IfErr result (λ f. Keeps seat.old seat.new ×
+        ensures fault { IfErr result (λ f. KeepsAfterRefusal f seat.old seat.new ×
             RefusesTurn F.FnMut N.table seat.new (asking_at_table choose.old choose.new) f) }
     {
         let slot = self.room(alloc, seat)?;
@@ -176,7 +176,7 @@ impl<N: Name> Table<N> {
         requires found { IsRightFinding N.table.start.q shown.now finding.now }
         ensures settled { IfOk result
             (λ r. IsSettledAtTable N.table look.now finding.now r seat.old seat.new) }
-        ensures fault { IfErr result (λ f. Keeps seat.old seat.new ×
+        ensures fault { IfErr result (λ f. KeepsAfterRefusal f seat.old seat.new ×
             RefusesCallAtTable N.table seat.new f) }
     {
         let slot = self.room(alloc, seat)?;
@@ -204,7 +204,7 @@ impl<N: Name> Table<N> {
         ensures settled { IfOk result (λ found. MatchOption found
             (IsNotStaleAtTable N.table look.now seat.old seat.new)
             (λ r. IsStaleAtTable N.table look.now asks.now r seat.old seat.new)) }
-        ensures fault { IfErr result (λ f. Keeps seat.old seat.new ×
+        ensures fault { IfErr result (λ f. KeepsAfterRefusal f seat.old seat.new ×
             RefusesCallAtTable N.table seat.new f) }
     {
         let slot = self.room(alloc, seat)?;

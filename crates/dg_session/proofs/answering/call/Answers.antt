@@ -4,7 +4,7 @@ use Rattle.dg_session.proofs.answering.call.Goals as goal
 
 pub returns-in-Ok : goal.returns-in-Ok
 returns-in-Ok g c = λ kept.
-    entered c.args.shared.now.named (call_made c.in-Ok.ensures.answered) (λ text enters. enters)
+    entered c.args.shared.now.named (call_made c.args.plain.now c.in-Ok.ensures.answered) (λ text enters. enters)
     (sym (call_keeps _ _ c.args.plain.now c.requires))
 
 pub returns-in-Err : goal.returns-in-Err
