@@ -50,16 +50,24 @@ def without_comments(path):
     return re.sub(r"//.*", "", read(path))
 
 
+def uses(crate):
+    """What a crate of the program exports, also by its public modules: the path of the crate or module, the name there, and the
+    path of what that stands for."""
+    root = f"crates/{crate}/src/lib.rt"
+    if is_of_tests(crate) or not os.path.exists(os.path.join(TOP, root)):
+        return
+    modules = {crate: root}
+    for name in re.findall(r"^pub mod (\w+);", without_comments(root), re.M):
+        modules[f"{crate}::{name}"] = f"crates/{crate}/src/{name}.rt"
+    for module, path in modules.items():
+        for source, several, one in re.findall(r"^pub use ([\w:]+)::(?:\{([^}]*)\}|([\w ]+));", without_comments(path), re.M):
+            for name, other in re.findall(r"(\w+)(?: as (\w+))?", several or one):
+                yield module, other or name, f"{source}::{name}"
+
+
 def exports():
     """Names that a crate of the program exports, also those of its public modules."""
-    for crate in crates():
-        root = f"crates/{crate}/src/lib.rt"
-        if not is_of_tests(crate) and os.path.exists(os.path.join(TOP, root)):
-            text = without_comments(root)
-            text += "".join(without_comments(f"crates/{crate}/src/{name}.rt") for name in re.findall(r"^pub mod (\w+);", text, re.M))
-            for several, one in re.findall(r"^pub use [a-z_:]+::(?:\{([^}]*)\}|(\w+));", text, re.M):
-                for name in re.findall(r"[A-Za-z_]\w*", several or one):
-                    yield crate, name
+    return ((crate, name) for crate in crates() for _, name, _ in uses(crate))
 
 
 def body(text):
@@ -79,3 +87,40 @@ def functions(text):
     for (begin, name, is_public), end in zip(starts, [start for start, _, _ in starts[1:]] + [len(text)]):
         owner = [own for start, own in types if start < begin] if text[begin] == " " else []
         yield name, is_public, owner[-1] if owner else "", begin, end
+
+
+# A public item: the word for it, its name, and what it has between braces on lines of their own.
+ITEM = re.compile(r"^pub (?:unsafe |const )*(struct|enum|trait|type|fn|const|static) (\w+)(?:[^;{]*\{\n(.*?)^\})?", re.M | re.S)
+KINDS = {"fn": "function", "const": "constant", "static": "constant"}
+# The public members of an item by the word for it: their kinds, and how they begin.
+MEMBERS = {"enum": {"variant": r"^    ([A-Z]\w*)"}, "struct": {"field": r"^    pub (\w+):"},
+           "trait": {"method": r"^    fn (\w+)", "type": r"^    type (\w+)"}}
+
+
+@functools.lru_cache(maxsize=None)
+def defined(crate):
+    """What a crate defines: for each public name its kind, and its members, each as a kind and a name."""
+    found = {}
+    for word, name, inside in ITEM.findall("".join(map(without_comments, code(crate)))):
+        found[name] = KINDS.get(word, "type"), {(kind, member) for kind, form in MEMBERS.get(word, {}).items()
+                                                for member in re.findall(form, inside, re.M)}
+    for path in code(crate):
+        for name, is_public, owner, _, _ in functions(without_comments(path)):
+            if is_public and owner in found:
+                found[owner][1].add(("method", name))
+    return found
+
+
+def public_names():
+    """The public names of the program's crates and of the members of their types, each as its kind and its path: a crate also has
+    those that it exports from a crate below."""
+    meant, found = {}, set()
+    for crate in crates():
+        for module, name, source in uses(crate):
+            own = source.split("::")
+            home = meant.get(source) or (own[0] if own[0] in crates() else crate, own[-1])
+            kind, members = defined(home[0]).get(home[1], ("type", set()))
+            meant[f"{module}::{name}"] = home
+            found.add((kind, f"{module}::{name}"))
+            found |= {(kind, f"{module}::{name}::{member}") for kind, member in members}
+    return found

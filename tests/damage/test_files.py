@@ -110,6 +110,12 @@ def damage(checks):
                     checks.brief("judge", checks.put("table", text)))
 
 
+def cut_off(checks):
+    """The triangle's text is no JSON if its end is missing."""
+    for length in range(len(TRIANGLE)):
+        checks.same("the first %d bytes" % length, refused(b"not JSON", 3), checks.brief("judge", checks.put("table", TRIANGLE[:length])))
+
+
 def member(name, text):
     """The triangle's text with another value of a member."""
     return re.sub(rb'("%s":)(\[\[.*\]\]|\[.*?\]|".")' % name.encode(), lambda found: found[1] + text, TRIANGLE, count=1)
@@ -154,4 +160,4 @@ def large_files(checks):
             "judge", checks.put("table", data), before=lambda: resource.setrlimit(resource.RLIMIT_AS, (room, room))))
 
 
-load_tests = checked(damage, large_files)
+load_tests = checked(damage, cut_off, large_files)

@@ -13,7 +13,7 @@ pub use Rattle.dg_file.specs.TableFiles.{IsTableInFile, IsTableFile, item_of_fil
 pub use Rattle.dg_file.specs.declared.fault.FileFault.{FileFault}
 pub use Rattle.dg_file.specs.declared.fault.FileFault.TheVariants.{Chip, Graph, Json, Name, NoQ, OutOfMemory, Twice}
 pub use Rattle.dg_file.specs.declared.fault.Shape.{Shape}
-pub use Rattle.dg_file.specs.declared.fault.Shape.TheVariants.{Amounts, FileEdge, Edges, Q, Top, Vertices}
+pub use Rattle.dg_file.specs.declared.fault.Shape.TheVariants.{Amounts, Edge, Edges, Q, Top, Vertices}
 pub use Rattle.dg_graph.proofs.Squares.{one_graph}
 pub use Rattle.dg_graph.specs.Faults.{IsEmptyGraphItem, IsFirstGraphFault, IsFirstHighValence, IsGraphLoop, IsPartedGraph, IsSize, JoinsNoVertex}
 pub use Rattle.dg_graph.specs.Items.{HasGraphItem, IsGiven, IsGraphItem, AreGraphItems, AreGraphItemsBefore, GraphItem, edges_listed, valence_listed}

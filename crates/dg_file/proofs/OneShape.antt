@@ -2,7 +2,7 @@
 --   each-none     an item that cannot be read leaves nothing
 --   shape-one     one shape at fault
 --   shape-none    no shape at fault where there is a content
-use Rattle.dg_file.proofs.Common.{◌≡◌, ℕ, zero, suc, ◌<◌, ◌⊎◌, inl, inr, Option, Some, None, refl, sym, ap, ◌∙◌, option_and_then, Data, Items, no_items, item, get_item, as_array, Content, JsonParts, HasJsonParts, IsContent, put_first_json, edge_in_json, edges_in_json, IsEdgeFault, IsShapeFaultOf, IsShapeFault, Shape, Top, Vertices, Edges, FileEdge, Amounts, Q}
+use Rattle.dg_file.proofs.Common.{◌≡◌, ℕ, zero, suc, ◌<◌, ◌⊎◌, inl, inr, Option, Some, None, refl, sym, ap, ◌∙◌, option_and_then, Data, Items, no_items, item, get_item, as_array, Content, JsonParts, HasJsonParts, IsContent, put_first_json, edge_in_json, edges_in_json, IsEdgeFault, IsShapeFaultOf, IsShapeFault, Shape, Top, Vertices, Edges, Edge, Amounts, Q}
 use Rattle.dg_file.specs.Content.{each}
 use Rattle.dg_file.proofs.OneContent.{found-once, first-once, none-or-some, none-found, same-parts}
 
@@ -42,27 +42,27 @@ of-one parts Top t a b = absurd a
 of-one parts s Top a b = absurd b
 of-one parts Vertices Vertices a b = refl
 of-one parts Vertices Edges a b = absurd (none-or-some _ b.0 a)
-of-one parts Vertices (FileEdge j) a b = absurd (none-or-some _ b.0 a)
+of-one parts Vertices (Edge j) a b = absurd (none-or-some _ b.0 a)
 of-one parts Vertices Amounts a b = absurd (none-or-some _ b.0 a)
 of-one parts Vertices Q a b = absurd (none-or-some _ b.0 a)
 of-one parts Edges Vertices a b = absurd (none-or-some _ a.0 b)
 of-one parts Edges Edges a b = refl
-of-one parts Edges (FileEdge j) a b = absurd (none-found _ b.1.items b.1.array a.1)
+of-one parts Edges (Edge j) a b = absurd (none-found _ b.1.items b.1.array a.1)
 of-one parts Edges Amounts a b = absurd (none-or-some _ b.1 (no-array parts.edges a.1))
 of-one parts Edges Q a b = absurd (none-or-some _ b.1 (no-array parts.edges a.1))
-of-one parts (FileEdge i) Vertices a b = absurd (none-or-some _ a.0 b)
-of-one parts (FileEdge i) Edges a b = absurd (none-found _ a.1.items a.1.array b.1)
-of-one parts (FileEdge i) (FileEdge j) a b = ap FileEdge (edge-one parts.edges i j a.1 b.1)
-of-one parts (FileEdge i) Amounts a b = absurd (none-or-some _ b.1 (no-edge parts.edges i a.1))
-of-one parts (FileEdge i) Q a b = absurd (none-or-some _ b.1 (no-edge parts.edges i a.1))
+of-one parts (Edge i) Vertices a b = absurd (none-or-some _ a.0 b)
+of-one parts (Edge i) Edges a b = absurd (none-found _ a.1.items a.1.array b.1)
+of-one parts (Edge i) (Edge j) a b = ap Edge (edge-one parts.edges i j a.1 b.1)
+of-one parts (Edge i) Amounts a b = absurd (none-or-some _ b.1 (no-edge parts.edges i a.1))
+of-one parts (Edge i) Q a b = absurd (none-or-some _ b.1 (no-edge parts.edges i a.1))
 of-one parts Amounts Vertices a b = absurd (none-or-some _ a.0 b)
 of-one parts Amounts Edges a b = absurd (none-or-some _ a.1 (no-array parts.edges b.1))
-of-one parts Amounts (FileEdge j) a b = absurd (none-or-some _ a.1 (no-edge parts.edges j b.1))
+of-one parts Amounts (Edge j) a b = absurd (none-or-some _ a.1 (no-edge parts.edges j b.1))
 of-one parts Amounts Amounts a b = refl
 of-one parts Amounts Q a b = absurd (none-or-some _ b.2 a.2)
 of-one parts Q Vertices a b = absurd (none-or-some _ a.0 b)
 of-one parts Q Edges a b = absurd (none-or-some _ a.1 (no-array parts.edges b.1))
-of-one parts Q (FileEdge j) a b = absurd (none-or-some _ a.1 (no-edge parts.edges j b.1))
+of-one parts Q (Edge j) a b = absurd (none-or-some _ a.1 (no-edge parts.edges j b.1))
 of-one parts Q Amounts a b = absurd (none-or-some _ a.2 b.2)
 of-one parts Q Q a b = refl
 
@@ -73,7 +73,7 @@ kinds : (value : Data) (s : Shape) → IsShapeFault value s → (s ≡ Top) ⊎ 
 kinds value Top fault = inl refl
 kinds value Vertices fault = inr fault
 kinds value Edges fault = inr fault
-kinds value (FileEdge i) fault = inr fault
+kinds value (Edge i) fault = inr fault
 kinds value Amounts fault = inr fault
 kinds value Q fault = inr fault
 
@@ -99,7 +99,7 @@ of-none : (value : Data) (content : Content) (says : IsContent value content) (s
 of-none value content says Top fault = fault
 of-none value content says Vertices fault = none-found _ content.vertices says.vertices fault
 of-none value content says Edges fault = none-found _ content.edges says.edges (no-array says.parts.edges fault.1)
-of-none value content says (FileEdge i) fault = none-found _ content.edges says.edges (no-edge says.parts.edges i fault.1)
+of-none value content says (Edge i) fault = none-found _ content.edges says.edges (no-edge says.parts.edges i fault.1)
 of-none value content says Amounts fault = none-found _ content.amounts says.amounts fault.2
 of-none value content says Q fault = none-found _ content.q says.q fault.3
 

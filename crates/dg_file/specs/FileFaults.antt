@@ -29,7 +29,7 @@ use Rattle.serde_json.specs.Find.{as_array, as_str, get_item}
 use Rattle.dg_file.specs.Content.{Content, JsonParts, ReadsJson, IsNotJson, HasJsonParts, texts_in_json, edge_in_json, edges_in_json, numbers_in_json, IsContent}
 use Rattle.dg_file.specs.TableFiles.{items_of_file_content}
 use Rattle.dg_file.specs.declared.fault.Shape.{Shape}
-use Rattle.dg_file.specs.declared.fault.Shape.TheVariants.{Top, Vertices, Edges, FileEdge, Amounts, Q}
+use Rattle.dg_file.specs.declared.fault.Shape.TheVariants.{Top, Vertices, Edges, Edge, Amounts, Q}
 use Rattle.dg_file.specs.declared.fault.FileFault.{FileFault}
 use Rattle.dg_file.specs.declared.fault.FileFault.TheVariants.{Json, Shape as OfShape, Graph, Name, Twice, Chip, NoQ, OutOfMemory}
 
@@ -45,7 +45,7 @@ abbrev pub IsShapeFaultOf : JsonParts → Shape → Type 0
 IsShapeFaultOf parts Top = ⊥
 IsShapeFaultOf parts Vertices = texts_in_json parts.vertices ≡ None
 IsShapeFaultOf parts Edges = IsSome (texts_in_json parts.vertices) × (as_array parts.edges ≡ None)
-IsShapeFaultOf parts (FileEdge i) = IsSome (texts_in_json parts.vertices) × IsEdgeFault parts.edges i
+IsShapeFaultOf parts (Edge i) = IsSome (texts_in_json parts.vertices) × IsEdgeFault parts.edges i
 IsShapeFaultOf parts Amounts =
     IsSome (texts_in_json parts.vertices) × IsSome (edges_in_json parts.edges)
     × (numbers_in_json parts.amounts ≡ None)

@@ -19,7 +19,7 @@ pub enum Shape {
     Edges,
     /// The edge is no array of two texts and a whole number from 0 to 255.
     #[error("shape of edge {0}")]
-    FileEdge(usize),
+    Edge(usize),
     /// The amounts are no array of whole numbers.
     #[error("shape of amounts")]
     Amounts,

@@ -120,7 +120,7 @@ pub fn content_from_json<'v>(alloc: Global, value: &'v Value) -> Result<Content<
     };
     let edges = match edges_from_json(alloc, items)? {
         Ok(edges) => edges,
-        Err(i) => return Err(ShapeFault::Shape(Shape::FileEdge(i))),
+        Err(i) => return Err(ShapeFault::Shape(Shape::Edge(i))),
     };
     let Some(amounts) = amounts_from_json(alloc, members.amounts)? else {
         return Err(ShapeFault::Shape(Shape::Amounts));

@@ -21,5 +21,7 @@ pub use judgement::push_judgement;
 pub use laws::{line_numerals_are_decimals, lines_have_one_meaning, steps_have_one_meaning};
 pub use line::{LineFault, parse_line, parse_step, split_seat_off_line};
 pub use lines::Lines;
+/// Memory was refused: the one fault of `reply_text`.
+pub use std::alloc::AllocError as OutOfMemory;
 pub use steps_file::{StepsFault, parse_steps};
 pub use text::{push_amounts, push_entry, push_reply, reply_text};

@@ -5,6 +5,7 @@ ghost use Rattle.dg_chips.specs.Vector.{at};
 ghost use Rattle.dg_lines.specs.Texts.{TextHasNames, pair, pairs, refusal_text, verdict_word, verdict_text, rank_text, text_of, entry_text};
 ghost use Rattle.dg_rules.specs.declared.entry.Reply.TheVariants.{Rank};
 
+use crate::OutOfMemory;
 use crate::amounts::Amounts;
 use crate::digits::MAX_DIGITS;
 use dg_chips::Divisor;
@@ -20,7 +21,7 @@ pub fn reply_text<A: Allocator + Drop>(
     alloc: A,
     reply: &Reply,
     names: &Names,
-) -> Result<Vec<u8, A>, AllocError>
+) -> Result<Vec<u8, A>, OutOfMemory>
     requires { TextHasNames names.now reply.now }
     ensures { IfOk result (λ text. text.items ≡ text_of names.now reply.now) }
 {

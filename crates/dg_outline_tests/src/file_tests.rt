@@ -31,7 +31,7 @@ static NO_TABLES: [(&str, FileFault); 20] = [
     ),
     (
         r#"{"vertices":["a"],"edges":[["a","a",0],["a","a"]],"amounts":[0],"q":"a"}"#,
-        FileFault::Shape(Shape::FileEdge(1)),
+        FileFault::Shape(Shape::Edge(1)),
     ),
     (
         r#"{"vertices":["a"],"edges":[],"amounts":[1.5],"q":"a"}"#,

@@ -15,9 +15,8 @@ use std::rt::Files;
 use std::sync::Wait;
 use std::thread::Threads;
 
-/// Does what the words of a command line ask for, the first of which is the program's name; and gives the exit status: 0 where
-/// it was done to the end, or that of the fault that ended the run, of which `faults` is told; with 0 it is told nothing. Only a
-/// session reads the input. The streams are used up: `run_streams` promises more of them.
+/// `run_streams` over streams that are used up: of these its contract says no more than that some rest of the input and some
+/// output fit.
 pub fn run<R, S, I, O, F>(
     rt: &R,
     words: &[String],
@@ -46,7 +45,9 @@ where
     run_streams(rt, words, sources, &mut input, &mut output, &mut faults)
 }
 
-/// The same, over streams that the caller keeps.
+/// Does what the words of a command line ask for, the first of which is the program's name; and gives the exit status: 0 where
+/// it was done to the end, or that of the fault that ended the run, of which `faults` is told; with 0 it is told nothing. Only a
+/// session reads the input. The program runs this.
 pub fn run_streams<R, S, I, O, F>(
     rt: &R,
     words: &[String],

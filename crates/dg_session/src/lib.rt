@@ -15,7 +15,7 @@ mod speaking;
 mod taking;
 mod threads;
 
-pub use dg_lines::{LineFault, parse_line, parse_step, reply_text};
+pub use dg_lines::{LineFault, OutOfMemory, parse_line, parse_step, reply_text};
 /// Why sessions are not held, or what they came to is not told.
 pub use dg_system::Shortage as PartyFault;
 pub use ends::{MAX_LINE, MAX_LINES, READ_SIZE, SessionEnd};

@@ -9,7 +9,7 @@ pub use Rattle.dg_file.specs.FileFaults.{RefusesTableFile, RefusesTableContent}
 pub use Rattle.dg_file.specs.TableFiles.{IsTableInFile, IsTableFile}
 pub use Rattle.dg_file.specs.declared.fault.FileFault.{FileFault}
 pub use Rattle.dg_file.specs.declared.fault.FileFault.TheVariants.{Chip, Graph, Json, Name, NoQ, OutOfMemory, Shape, Twice}
-pub use Rattle.dg_file.specs.declared.fault.Shape.TheVariants.{Amounts, FileEdge, Edges, Q, Top, Vertices}
+pub use Rattle.dg_file.specs.declared.fault.Shape.TheVariants.{Amounts, Edge, Edges, Q, Top, Vertices}
 pub use Rattle.dg_graph.specs.declared.fault.GraphFault.{GraphFault}
 pub use Rattle.dg_graph.specs.declared.fault.GraphFault.TheVariants.{Loop, Multiplicity, NoVertex, NotConnected, Size, Valence}
 pub use Rattle.dg_invocation.specs.declared.question.Form.{Form}

@@ -5,7 +5,7 @@
 --   sweep_chip_fault_words fault  == of amounts that are no divisor
 --   sweep_file_fault_words fault  == of any fault of a table
 use Rattle.std.specs.Prelude.{ℕ, List, ◌++◌, codes, decimal}
-use Rattle.dg_sweep.specs.Common.{GraphFault, Size, NoVertex, Loop, Multiplicity, Valence, NotConnected, ChipFault, Length, Range, Top, Vertices, Edges, FileEdge, Amounts, Q, FileFault, Json, Graph, Name, Twice, Chip, NoQ, OutOfMemory}
+use Rattle.dg_sweep.specs.Common.{GraphFault, Size, NoVertex, Loop, Multiplicity, Valence, NotConnected, ChipFault, Length, Range, Top, Vertices, Edges, Edge, Amounts, Q, FileFault, Json, Graph, Name, Twice, Chip, NoQ, OutOfMemory}
 use Rattle.dg_file.specs.declared.fault.Shape.{Shape}
 use Rattle.dg_file.specs.declared.fault.FileFault.TheVariants.{Shape as OfShape}
 use Rattle.dg_sweep.specs.declared.fault_words.FaultWords.{FaultWords}
@@ -20,7 +20,7 @@ abbrev pub sweep_shape_fault_words : Shape → List ℕ
 sweep_shape_fault_words Top = codes "shape of top"
 sweep_shape_fault_words Vertices = codes "shape of vertices"
 sweep_shape_fault_words Edges = codes "shape of edges"
-sweep_shape_fault_words (FileEdge i) = codes "shape of edge " ++ decimal i
+sweep_shape_fault_words (Edge i) = codes "shape of edge " ++ decimal i
 sweep_shape_fault_words Amounts = codes "shape of amounts"
 sweep_shape_fault_words Q = codes "shape of q"
 

@@ -51,7 +51,7 @@ fn words_of_shape_fault(shape: Shape) -> FaultWords
         Shape::Top => FaultWords::Alone("shape of top"),
         Shape::Vertices => FaultWords::Alone("shape of vertices"),
         Shape::Edges => FaultWords::Alone("shape of edges"),
-        Shape::FileEdge(i) => FaultWords::Before("shape of edge ", i),
+        Shape::Edge(i) => FaultWords::Before("shape of edge ", i),
         Shape::Amounts => FaultWords::Alone("shape of amounts"),
         Shape::Q => FaultWords::Alone("shape of q"),
     }

@@ -1,11 +1,12 @@
 //! What is left of a table that was closed.
 ghost use Rattle.std.specs.Prelude.{◌≡◌, ◌<◌, length, slice_get, Some, IfOk};
 
+use crate::OutOfMemory;
 use dg_chips::Divisor;
 use dg_graph::Graph;
 use dg_log::{Log, Name, Pen};
 use dg_rules::Entry;
-use std::alloc::{AllocError, Global};
+use std::alloc::Global;
 
 /// The history of a table that was closed, and what was counted in it.
 #[derive(Drop)]
@@ -42,7 +43,7 @@ impl<N: Name> Audit<N> {
     }
 
     /// The history: all entries, in order.
-    pub fn history(&self, alloc: Global) -> Result<Vec<Entry>, AllocError>
+    pub fn history(&self, alloc: Global) -> Result<Vec<Entry>, OutOfMemory>
         ensures { IfOk result (λ v. v.items ≡ self.now.pen.entries) }
     {
         let count = self.len();

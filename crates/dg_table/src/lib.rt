@@ -11,4 +11,6 @@ mod table;
 pub use audit::Audit;
 pub use fault::{Fault, TableFault};
 pub use seat::Seat;
+/// Memory was refused: the one fault of some calls.
+pub use std::alloc::AllocError as OutOfMemory;
 pub use table::{CloseFault, Table};

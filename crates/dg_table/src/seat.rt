@@ -13,9 +13,10 @@ ghost use Rattle.dg_table.specs.Looks.{KeptLookHasVertices, IsLastLookOfSeat};
 ghost use Rattle.dg_table.specs.Opened.{TableMayHaveSeats, AreFreshSeats};
 ghost use Rattle.dg_table.specs.Seats.{HoldsSeat, Keeps, SeatMeetsHistory};
 
+use crate::OutOfMemory;
 use dg_log::{Claim, Log, Name, Prefix, Receipt, ReceiptSet, Roll};
 use dg_rules::{BLANK, Entry, Game, LookData, Reply};
-use std::alloc::{AllocError, Global};
+use std::alloc::Global;
 use std::marker::{Model, PhantomData};
 
 /// A seat of the table N: the receipts of its own calls, and of the entries that it was told of, the history as it found it at
@@ -192,7 +193,7 @@ impl<N: Name> Seat<N> {
     /// Tells the seat of an entry; each later call then comes after it in the history.
     ///
     /// Refused if there is not enough memory, and then it knows what it knew.
-    pub fn learn(&mut self, receipt: &Receipt<N>) -> Result<(), AllocError>
+    pub fn learn(&mut self, receipt: &Receipt<N>) -> Result<(), OutOfMemory>
         ensures number { self.new.number ≡ self.old.number }
         ensures mine { self.new.mine ≡ self.old.mine }
         ensures told { MatchResult result
@@ -272,7 +273,7 @@ impl<N: Name> Seat<N> {
     /// Makes space for one more call, and a box for its entry; what is in the box means nothing.
     ///
     /// Refused if there is not enough memory.
-    pub fn room(&mut self, alloc: Global) -> Result<Box<Entry>, AllocError>
+    pub fn room(&mut self, alloc: Global) -> Result<Box<Entry>, OutOfMemory>
         ensures kept { Keeps self.old self.new }
         ensures met { self.new.met ≡ self.old.met }
         ensures space { IfOk result (λ _. self.new.space ≡ true) }
@@ -313,7 +314,7 @@ fn keep_look_at_table(look: &mut Option<LookData>, game: &Game, entry: &Entry)
 fn reserve_for_seat<N: Name>(
     mine: &mut Vec<Receipt<N>>,
     told: &mut Vec<Receipt<N>>,
-) -> Result<(), AllocError>
+) -> Result<(), OutOfMemory>
     ensures mine { mine.new.items ≡ mine.old.items }
     ensures told { told.new.items ≡ told.old.items }
     ensures space { IfOk result (λ _. (vec_len mine.new < vec_capacity mine.new) ×
@@ -324,6 +325,6 @@ fn reserve_for_seat<N: Name>(
 }
 
 /// A box for an entry; what is in it means nothing.
-fn blank_entry_at_table(alloc: Global) -> Result<Box<Entry>, AllocError> {
+fn blank_entry_at_table(alloc: Global) -> Result<Box<Entry>, OutOfMemory> {
     Ok(Box::new(alloc, BLANK)?)
 }
