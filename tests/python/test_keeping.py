@@ -75,7 +75,8 @@ class OfKeptGames(Test):
             session.ask("look")
             with self.assertRaisesRegex(ValueError, "keeps the game of a session that still runs"):
                 Session(TABLE, keep=place)
-        for table, text in ((dict(TABLE, q="b"), "keeps a game on another table"), (TABLE, "keeps a game that this program and table do not have: its answer 1 is '0 looked 0 a=-3 b=6")):
+        other = "keeps a game that this program and table do not have: its answer 1 is '0 looked 0 a=-3 b=6"
+        for table, text in ((dict(TABLE, q="b"), "keeps a game on another table"), (TABLE, other)):
             before = place.read_bytes()
             if table is TABLE:
                 place.write_bytes(before.replace(b"b=5", b"b=6"))
