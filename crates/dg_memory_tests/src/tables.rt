@@ -8,7 +8,7 @@ use dg_chips::{Divisor, Move, Script, Wide};
 use dg_file::{FileFault, Names, TableFile, read_table};
 use dg_graph::Graph;
 use dg_log::{Log, LogFault, Name, Row};
-use dg_observer::{Gifts, Observer, ObserverFault, count_gift};
+use dg_observer::{Observer, ObserverFault, Watch};
 use dg_rules::{Entry, Reply, Request};
 use dg_session::{SessionEnd, serve};
 use dg_strategy::{Settler, Strategy, greedy_choice, play, settle_out};
@@ -184,13 +184,24 @@ fn writes<N: Name, R: Abort + Print>(rt: &R, alloc: Global, row: Row) -> Result<
     Ok(Outcome::Done)
 }
 
-// An observer reads the seven entries, of which one is a gift. If memory was refused, it goes on from what it has read.
+// Counts entries, as far as 64 bits go.
+struct Entries;
+
+impl Watch for Entries {
+    ghost use Rattle.std.specs.Prelude.{◌≡◌, ◌+◌, ◌-◌, ◌^◌, min};
+
+    type State = u64;
+
+    ghost begins = { λ n. n ≡ 0 };
+
+    ghost goes_on = { λ n e m. m ≡ min (n + 1) (2 ^ 64 - 1) };
+}
+
+// An observer reads the seven entries. If memory was refused, it goes on from what it has read.
 fn watches<N: Name, R: Abort + Print>(rt: &R, alloc: Global, table: &Table<N>) -> Result<(), Fail> {
-    let mut observer = Observer::<N, Gifts, _>::new(
-        alloc,
-        0,
-        |count: &u64, entry: &Entry| count_gift(count, entry),
-    );
+    let mut observer = Observer::<N, Entries, _>::new(alloc, 0, |count: &u64, _: &Entry| {
+        Ok(count.saturating_add(1))
+    });
     match observer.catch_up(table.log()) {
         Ok(_) => tell(rt, "Observer::catch_up", Outcome::Done)?,
         Err(ObserverFault::OutOfMemory) => {
@@ -199,7 +210,7 @@ fn watches<N: Name, R: Abort + Print>(rt: &R, alloc: Global, table: &Table<N>) -
             assert!(rt; observer.catch_up(table.log())?.saturating_add(read) == 7);
         }
     }
-    assert!(rt; observer.count() == 7 && *observer.state() == 1);
+    assert!(rt; observer.count() == 7 && *observer.state() == 7);
     Ok(())
 }
 

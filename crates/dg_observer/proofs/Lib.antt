@@ -1,4 +1,2 @@
 pub mod Reading
-pub mod Shown
-pub mod Counted
 pub mod Common

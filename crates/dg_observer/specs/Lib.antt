@@ -1,3 +1,2 @@
 -- What observers keep.
 pub mod Folds
-pub mod Watched

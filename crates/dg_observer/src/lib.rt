@@ -3,11 +3,8 @@
 
 mod observer;
 mod watch;
-mod watches;
 
 pub use observer::{Observer, ObserverFault};
+/// Memory was refused: how a step says that it has none.
+pub use std::alloc::AllocError as OutOfMemory;
 pub use watch::Watch;
-pub use watches::{
-    Gifts, Positions, RefusedMoves, count_gift, count_watched_refusal, keep_position,
-    watch_counts_gifts, watch_shows_positions,
-};

@@ -3,10 +3,11 @@ ghost use Rattle.std.specs.Prelude.{◌≡◌, ◌<◌, ◌≤◌, ◌++◌, ℕ
 ghost use Rattle.dg_rules.specs.declared.entry.Entry.{Entry as EntryData};
 ghost use Rattle.dg_observer.specs.Folds.{Folds, GoesOn, IsAskedInEveryFold, Observed};
 
+use crate::OutOfMemory;
 use crate::watch::Watch;
 use dg_log::{Log, Name, Receipt};
 use dg_rules::{Entry, MAX_ENTRIES};
-use std::alloc::{AllocError, Global};
+use std::alloc::Global;
 use std::marker::{Model, PhantomData};
 use thiserror::Error;
 
@@ -46,7 +47,7 @@ impl<N, W, F> Observer<N, W, F>
 where
     N: Name,
     W: Watch,
-    F: Fn(&W::State, &Entry) -> Result<W::State, AllocError>,
+    F: Fn(&W::State, &Entry) -> Result<W::State, OutOfMemory>,
 {
     /// An observer that has read nothing, and goes on as the closure says. The conditions are that it may begin with `first`,
     /// that the closure may be called at every state and entry, and that it goes on as W says.
@@ -113,7 +114,7 @@ where
     }
 
     /// Goes on with one entry; if memory is refused, everything stays.
-    fn fold(&mut self, receipt: Receipt<N>, entry: &Entry) -> Result<(), AllocError>
+    fn fold(&mut self, receipt: Receipt<N>, entry: &Entry) -> Result<(), OutOfMemory>
         requires number { receipt.0 ≡ length self.old.entries }
         requires entry { receipt.1 ≡ entry.now }
         requires cell { length self.old.entries < length N.names.cells }

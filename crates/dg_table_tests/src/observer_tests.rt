@@ -14,14 +14,14 @@ use std::test::Fail;
 struct Gifts;
 
 impl Watch for Gifts {
-    ghost use Rattle.std.specs.Prelude.{◌≡◌};
-    ghost use Rattle.dg_observer.specs.Watched.{gifts_watched_after};
+    ghost use Rattle.std.specs.Prelude.{◌≡◌, ◌+◌, ◌-◌, ◌^◌, cond, min};
+    ghost use Rattle.dg_rules.specs.History.{is_change};
 
     type State = u64;
 
     ghost begins = { λ n. n ≡ 0 };
 
-    ghost goes_on = { λ n e m. m ≡ gifts_watched_after n e };
+    ghost goes_on = { λ n e m. m ≡ cond (is_change e.reply) (min (n + 1) (2 ^ 64 - 1)) n };
 }
 
 // The first seat lends at a, and tells the second, which gives b a dollar. An observer reads both entries.

@@ -1,17 +1,17 @@
 //! Observers of a triangle.
 ghost use Rattle.std.specs.Prelude.{◌≡◌, ◌+◌, IfOk};
+ghost use Rattle.dg_rules.specs.State.{position_amounts_after};
 
 use crate::table_tests::{TableTest, on_a_table};
 use crate::tables::{amounts, triangle};
 use dg_chips::{Divisor, Move};
 use dg_log::{Log, Name};
-use dg_observer::{
-    Observer, ObserverFault, Positions, RefusedMoves, Watch, count_watched_refusal, keep_position,
-};
-use dg_rules::{Entry, Plain};
+use dg_observer::{Observer, ObserverFault, OutOfMemory, Watch};
+use dg_rules::{Entry, Plain, Reply};
 use dg_table::{Seat, Table};
-use std::alloc::{AllocError, Global};
+use std::alloc::Global;
 use std::cell::Cell;
+use std::marker::PhantomData;
 use std::process::Abort;
 use std::sync::Wait;
 use std::test::Fail;
@@ -44,13 +44,13 @@ impl Watch for FirstTwo {
     ghost goes_on = { λ n e m. m ≡ n + 1 };
 }
 
-fn count_to_two(count: &u64, _entry: &Entry) -> Result<u64, AllocError>
+fn count_to_two(count: &u64, _entry: &Entry) -> Result<u64, OutOfMemory>
     ensures { IfOk result (λ next. next ≡ count.now + 1) }
 {
     if *count < 2 {
         Ok(*count + 1)
     } else {
-        Err(AllocError)
+        Err(OutOfMemory)
     }
 }
 
@@ -66,6 +66,33 @@ impl Watch for Any {
     ghost begins = { λ n. ⊤ };
 
     ghost goes_on = { λ n e m. ⊤ };
+}
+
+// Keeps the amounts of the table N after the entries that were read.
+#[derive(Clone, Copy)]
+pub(crate) struct Positions<N> {
+    of: PhantomData<N>,
+}
+
+impl<N: Name> Watch for Positions<N> {
+    ghost use Rattle.std.specs.Prelude.{◌≡◌};
+    ghost use Rattle.dg_rules.specs.State.{position_amounts_after};
+
+    type State = Divisor;
+
+    ghost begins = { λ d. d ≡ N.table.start.divisor };
+
+    ghost goes_on = { λ old e next. next ≡ position_amounts_after old e.reply };
+}
+
+// A move or a gift that was accepted shows the amounts after it, and nothing else changes them.
+pub(crate) fn keep_position(position: &Divisor, entry: &Entry) -> Result<Divisor, OutOfMemory>
+    ensures { IfOk result (λ next. next ≡ position_amounts_after position.now entry.now.reply) }
+{
+    match entry.reply {
+        Reply::Moved(divisor) | Reply::Given(_, divisor) => Ok(divisor),
+        _ => Ok(*position),
+    }
 }
 
 #[test]
@@ -94,7 +121,6 @@ pub(crate) fn watched<N: Name, R: Wait + Abort>(
     table.call(rt, alloc, second, Plain::Move(Move::Lend(3)))?;
     counts_entries(rt, alloc, log)?;
     is_asked_once_for_each(rt, alloc, log)?;
-    counts_refused_moves(rt, alloc, log)?;
     has_no_memory(rt, alloc, log);
     follows_the_position(rt, alloc, log, table.start().divisor())
 }
@@ -120,19 +146,6 @@ fn is_asked_once_for_each<N: Name>(
     });
     let read = asked.catch_up(log)?;
     assert!(rt; read == 3 && steps.get() == 3);
-    Ok(())
-}
-
-// The third entry is the only refused move, of seat 2.
-fn counts_refused_moves<N: Name>(rt: &impl Abort, alloc: Global, log: &Log<N>) -> Result<(), Fail> {
-    let mut refused = Observer::<N, RefusedMoves, _>::new(
-        alloc,
-        [0; 64],
-        |counts: &[u32; 64], entry: &Entry| count_watched_refusal(counts, entry),
-    );
-    let read = refused.catch_up(log)?;
-    assert!(rt; read == 3);
-    assert!(rt; refused.state()[0] == 0 && refused.state()[1] == 1);
     Ok(())
 }
 

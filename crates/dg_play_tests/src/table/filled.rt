@@ -1,12 +1,13 @@
 //! A table that is filled to its last cell, and what is refused once it is full.
 
+use crate::observer::watching::{Positions, keep_position};
 use crate::table_tests::{TableTest, on_a_table};
 use crate::tables::{amounts, triangle};
 use dg_analyst::{Reckoned, Tried, commit, commit_rank, look, reckon, try_rank};
 use dg_chips::{Divisor, Move};
 use dg_graph::Graph;
 use dg_log::{Log, Name};
-use dg_observer::{Observer, Positions, keep_position};
+use dg_observer::Observer;
 use dg_rank::OpenGate;
 use dg_rules::{Entry, Plain};
 use dg_strategy::{Strategy, play};

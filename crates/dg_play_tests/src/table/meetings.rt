@@ -1,13 +1,14 @@
 //! Many seats in threads of their own on one table, and an observer beside them.
 ghost use Rattle.std.specs.Prelude.{◌≡◌};
 
+use crate::observer::watching::{Positions, keep_position};
 use crate::table_tests::{TableTest, on_a_table};
 use crate::tables::{amounts, petersen, triangle};
 use dg_analyst::{commit, look, reckon};
 use dg_chips::{Divisor, Move, Start};
 use dg_graph::Graph;
 use dg_log::Name;
-use dg_observer::{Observer, ObserverFault, Positions, keep_position};
+use dg_observer::{Observer, ObserverFault};
 use dg_rules::{Entry, Game, Plain, Reply, Request};
 use dg_strategy::{Settler, Strategy, greedy_choice, play, settle_out};
 use dg_table::{Audit, Seat, Table};
