@@ -7,7 +7,7 @@ returns c =
     let o = swept_start c.args.subject.now in
     let ranks = c.swept_ranks-rank.result in
     let told : c.push_swept_line.new.answer.items ≡ sweep_ranks_line c.args.form o ranks.0 ranks.1 →
-        AreSweptRanks o c.args.form c.push_swept_line.new.answer.items =
+    AreSweptRanks o c.args.form c.push_swept_line.new.answer.items =
     λ printed. record {
       rank = ranks.0;
       of_divisor = c.swept_ranks-rank.ensures.0;
