@@ -476,7 +476,7 @@ def rr_all(tables: Tables, *, workers: Optional[int] = ..., errors: Errors = ...
 def rr_all(tables: Tables, *, workers: Optional[int] = None, errors: Errors = "row", divisors: Optional[Divisors] = None,
            ahead: Optional[int] = None, patience: Optional[float] = None, progress: bool = False,
            program: Optional[Place] = None) -> RiemannRochs[Any]:
-    """The four numbers of the tables, as `judge_all` has verdicts. On graphs of many edges some ranks take hours: with `patience` it is a
+    """The four numbers of the tables, as `judge_all` has verdicts. On graphs of many edges some ranks take minutes: with `patience` it is a
     TimeoutError if no answer comes for so many seconds, and with `ahead=1` the table is the one whose answer is next.
 
     >>> from dollar import Table

@@ -490,7 +490,7 @@ class Table(AbstractMapping[str, Any]):
         return None if any(reduced) else script
 
     def rank(self, *, patience: Optional[float] = None, program: Optional[Place] = None) -> int:
-        """The rank of the divisor; -1 if it can't be won. On graphs of many edges that may take hours: with `patience` it is a
+        """The rank of the divisor; -1 if it can't be won. On graphs of many edges that may take minutes: with `patience` it is a
         TimeoutError after so many seconds. For many divisors `rr_all` has their ranks at a hundredth of the cost.
 
         >>> Table([[0, 3], [3, 0]], [2, 2]).rank()

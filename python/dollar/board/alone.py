@@ -17,7 +17,7 @@ from dollar.program import PATIENCE, Fault, call, fault_of
 from dollar.table import EXAMPLES, text_of
 
 MOST_BODY, AT_ONCE, MOST_GAMES = 1 << 24, 3, 8
-# How many seconds a rank may take, which on some tables is hours.
+# How many seconds a rank may take, which on some tables is minutes.
 FOR_A_RANK = 5.0
 # The most letters of each text of a question.
 MOST = {"command": 16, "table": 1 << 21, "places": 1 << 21, "steps": 1 << 22, "degree": 12, "name": 200, "graph": 40, "level": 20,
