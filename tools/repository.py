@@ -4,6 +4,8 @@ import functools
 import glob
 import os
 import re
+import shutil
+import subprocess
 
 TOP = os.path.dirname(os.path.dirname(os.path.abspath(__file__)))
 
@@ -19,6 +21,13 @@ def files(*patterns):
              for path in glob.glob(os.path.join(TOP, pattern), recursive=True))
     return sorted(path for path in found if os.path.isfile(os.path.join(TOP, path))
                   and not {"out", "__pycache__"} & set(path.split("/")))
+
+
+def tracked():
+    """The files that git knows, or without git all that are here."""
+    words = ["git", "-C", TOP, "ls-files"]
+    done = subprocess.run(words, stdout=subprocess.PIPE, stderr=subprocess.DEVNULL, text=True) if shutil.which("git") else None
+    return done.stdout.splitlines() if done and done.returncode == 0 else files("**/*", ".*", ".ci/*")
 
 
 def crates():

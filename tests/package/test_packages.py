@@ -11,6 +11,7 @@ import sys
 import tarfile
 import tempfile
 import time
+import unittest
 import urllib.request
 from pathlib import Path
 
@@ -56,6 +57,8 @@ def listed(tree):
 class OfPackages(Test):
     @classmethod
     def setUpClass(cls):
+        if (ROOT / ".git").exists() and not shutil.which("git"):
+            raise unittest.SkipTest("all of it, for want of git")
         folder = tempfile.TemporaryDirectory()
         cls.addClassCleanup(folder.cleanup)
         cls.place = Path(folder.name)

@@ -5,6 +5,7 @@ wants a test to run."""
 import re
 import shutil
 import subprocess
+import unittest
 from pathlib import Path
 
 from helpers import ROOT, Test, each
@@ -17,6 +18,8 @@ class OfTypes(Test):
     @classmethod
     def setUpClass(cls):
         cls.copy = ROOT / "out" / "types"
+        if not shutil.which("rt"):
+            raise unittest.SkipTest("what must not compile, for want of rt")
         shutil.rmtree(cls.copy, ignore_errors=True)
         shutil.copytree(ROOT, cls.copy, ignore=shutil.ignore_patterns(".git", "out"))
         cls.addClassCleanup(shutil.rmtree, cls.copy)
