@@ -37,6 +37,21 @@ def wait():
     time.sleep(random.uniform(0, 2 * float(os.environ.get("PACE", 0))))
 
 
+def hold(file, is_deaf):
+    """Waits, with a process of its own as the toolchain has some, until the file is gone in which their numbers are. Who is deaf is
+    not ended by SIGTERM."""
+    signal.signal(signal.SIGTERM, signal.SIG_IGN if is_deaf else signal.SIG_DFL)
+    file.write_text(f"{os.getpid()}")
+    other = os.fork()
+    if other:
+        file.write_text(f"{os.getpid()} {other}")
+    while file.exists():
+        time.sleep(0.01)
+    if not other:
+        os._exit(0)
+    os.waitpid(other, 0)
+
+
 def rattle(words):
     """Makes a crate, in whose folder it runs."""
     name, out = (words[words.index(word) + 1] for word in ("--crate-name", "-o"))
@@ -44,10 +59,8 @@ def rattle(words):
     fault = os.environ.get("FAULT", "") if name == "dg_rank" else ""
     if fault == "killed":
         os.kill(os.getpid(), signal.SIGKILL)
-    if fault == "held":
-        (made / "held").touch()
-        while (made / "held").exists():
-            time.sleep(0.01)
+    if fault in ("held", "deaf"):
+        hold(made / "held", fault == "deaf")
     elif fault:
         sys.exit(fault)
     wait()

@@ -5,11 +5,13 @@ import importlib.machinery
 import importlib.util
 import os
 import random
+import re
 import shutil
 import signal
 import subprocess
 import sys
 import time
+import types
 from pathlib import Path
 
 from helpers import HUNG, ROOT, Test, each, wait_until
@@ -28,6 +30,14 @@ BUILT = 24  # The crates of the program.
 def crates():
     lines = (line.partition(":") for line in (ROOT / "crates.txt").read_text().splitlines() if ":" in line and line[0] != "#")
     return {name: rest.split() for name, _, rest in lines}
+
+
+def is_running(number):
+    """Whether a process has not ended yet."""
+    try:
+        return "\nState:\tZ" not in Path(f"/proc/{number}/status").read_text()
+    except OSError:
+        return False
 
 
 class OfBuilds(Test):
@@ -91,9 +101,9 @@ class OfBuilds(Test):
         file.write_text(f"{text}// {random.random()}\n")
         return lambda: file.write_text(text)
 
-    def held(self):
+    def held(self, fault="held"):
         """Starts a build, in which the process of the toolchain that makes dg_rank waits until the file is gone that this gives."""
-        child, file = self.begun(fault="held"), self.made / "held"
+        child, file = self.begun(fault=fault), self.made / "held"
         wait_until(lambda: file.exists() or child.poll() is not None)
         return child, file
 
@@ -128,11 +138,22 @@ class OfBuilds(Test):
         self.assertEqual((self.end(child, number)[-len(KEPT):], child.returncode), (KEPT, status))
         self.assertIn(f"its crates are proved: {len([*self.made.glob('*.sum')])} of {BUILT}, ", self.builds())
 
+    def test_a_build_that_is_killed_takes_its_processes_along(self):
+        """The process of the toolchain, which would wait for ever, and one that it has started."""
+        child, file = self.held()
+        wait_until(lambda: " " in file.read_text())
+        one, other = file.read_text().split()
+        os.killpg(child.pid, signal.SIGKILL)
+        child.communicate(timeout=HUNG)
+        wait_until(lambda: not is_running(one) and not is_running(other))
+        file.unlink()
+        self.assertNotIn("is waited for", self.builds())
+
     def test_an_edit_that_is_taken_back_after_a_kill(self):
-        """The process of the toolchain lives on, and makes the crate of the edited file. Then one far above is edited."""
+        """The process of the toolchain was told to end, and yet makes the crate of the edited file. Then one far above is edited."""
         self.builds()
         back = self.edit("dg_rank")
-        child, file = self.held()
+        child, file = self.held("deaf")
         os.killpg(child.pid, signal.SIGKILL)
         child.communicate()
         back()
@@ -155,7 +176,8 @@ class OfBuilds(Test):
     def test_one_that_another_build_is_waited_for(self):
         first, file = self.held()
         second = self.begun()
-        self.assertIn("another call is building the program here, and is waited for: ", second.stderr.readline())
+        self.assertRegex(second.stderr.readline(), "^dollar: a build that was begun here is still running, and is waited for: [0-9]+ of "
+                                                   f"{BUILT} are proved\n$")
         os.killpg(second.pid, signal.SIGINT)
         self.assertEqual((second.communicate()[1], second.returncode), (KEPT, -signal.SIGINT))
         file.unlink()
@@ -163,7 +185,7 @@ class OfBuilds(Test):
         self.assertEqual(self.builds(), "")
 
     def test_the_first_lines(self):
-        first, second, *more = self.builds().splitlines()
+        first, second, *more = (line for line in self.builds().splitlines() if " processors at a time" not in line)
         self.assertEqual(first, "dollar: for a first answer without any proof, in two minutes or more: ./dollar --unproved ..")
         self.assertRegex(second, f"^dollar: the program is missing, and its crates are proved: 0 of {BUILT}, some [0-9]+ minutes left$")
         self.assertEqual(more, sorted(more, key=lambda line: int(line.split()[1])))
@@ -184,6 +206,8 @@ class OfBuilds(Test):
         self.assertEqual(self.fails("'python3', which takes part in that, is not on the PATH", without="python3"), [])
 
     @each([("no proof", "dg_rank is not proved; what the toolchain says is in out/build/dg_rank.log"),
+           ("logic=proved\ncannot write the rlib: No space left on device (os error 28)", "the disk is full: there is no room for dg_rank;"),
+           ("cannot write the rlib: Disk quota exceeded (os error 122)", "the disk is full: there is no room for dg_rank;"),
            ("killed", "dg_rank is not proved: its process was killed, perhaps because memory was short")])
     def test_a_crate_that_is_not_proved(self, fault, text):
         self.edit("dg_rank")
@@ -231,19 +255,55 @@ class OfBuilds(Test):
         """The script as a module."""
         loader = importlib.machinery.SourceFileLoader("build", str(self.tree / "tools" / "build"))
         module = importlib.util.module_from_spec(importlib.util.spec_from_loader("build", loader))
+        sys.modules.pop("repository", None)
         self.addCleanup(sys.path.remove, str(self.tree / "tools"))
         sys.path.insert(0, str(self.tree / "tools"))
         loader.exec_module(module)
         return module
 
-    def test_a_line_comes_in_time(self):
-        """Also if no crate is done."""
-        script = self.script("import importlib.machinery, importlib.util, sys\nsys.path.insert(0, sys.argv[1])\n"
+    def begun_with(self, change, **options):
+        """Starts a build by the script as a module, in which something is changed."""
+        script = self.script("import importlib.machinery, importlib.util, pathlib, sys\nsys.path.insert(0, sys.argv[1])\n"
                              "loader = importlib.machinery.SourceFileLoader('build', sys.argv[1] + '/build')\n"
                              "build = importlib.util.module_from_spec(importlib.util.spec_from_loader('build', loader))\n"
-                             "loader.exec_module(build)\nbuild.PATIENCE = 0.1\nsys.exit(build.main())\n")
-        child = self.begun(sys.executable, "-B", script, self.tree / "tools", pace=1000)
-        lines = [child.stderr.readline() for _ in range(5)]
+                             f"loader.exec_module(build)\n{change}\nsys.exit(build.main())\n")
+        return self.begun(sys.executable, "-B", script, self.tree / "tools", **options)
+
+    @each([(5, 1), (8, 2), (1, 1)])
+    def test_little_memory(self, free, count):
+        """A build says first that it takes fewer processors than there are."""
+        file = self.top / "meminfo"
+        file.write_text(f"MemAvailable: {free * 10 ** 6} kB\n")
+        child = self.begun_with(f"build.MEMINFO = pathlib.Path({str(file)!r})\nbuild.GROUP = build.MEMINFO / 'none'\n"
+                                "build.os.sched_getaffinity = lambda number: range(4)", fault="no proof")
+        first = child.communicate()[1].splitlines()[0]
+        self.assertEqual(first, f"dollar: {count} of 4 processors at a time, since a proof may take 3 GB of memory, and "
+                                f"{free * 1.024:.1f} GB are free")
+
+    @each([1, 2, 4])
+    def test_the_minutes_that_are_left(self, slower):
+        """On one processor that takes so many times as long as tools/seconds says. If that is once, they fall, but for a minute. While the
+        last crate is late, they are no more than a third of the time that it has taken."""
+        module, now = self.module(), [0]
+        module.time, module.processors = types.SimpleNamespace(monotonic=lambda: now[0]), lambda: 1
+        clock, said = module.Clock(set()), []
+        for name in module.CRATES:
+            clock.starts[name], end = now[0], now[0] + clock.seconds[name] * slower + 3600 * (name == "dollar")
+            while now[0] < end:
+                now[0] = min(end, now[0] + 30)
+                said.append(int(re.search("some ([0-9]+) minutes left|$", str(clock))[1] or 1))
+                if slower == 1 and name != "dollar":
+                    self.assertLessEqual(said[-1], min(said) + 1)
+                if name == "dollar":
+                    passed = now[0] - clock.starts[name]
+                    self.assertLessEqual(said[-1], 2 + max(clock.seconds[name] * slower, passed / 3) / 60)
+            clock.done.add(name)
+        self.assertGreater(said[0], 20)
+
+    def test_a_line_comes_in_time(self):
+        """Also if no crate is done."""
+        child = self.begun_with("build.PATIENCE = 0.1", pace=1000)
+        lines = [line for line in (child.stderr.readline() for _ in range(6)) if " processors at a time" not in line][:5]
         os.killpg(child.pid, signal.SIGINT)
         child.communicate()
         self.assertEqual([line.split(",")[0] for line in lines[2:]], [f"dollar: 0 of {BUILT}"] * 3)
