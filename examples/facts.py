@@ -44,6 +44,12 @@ def multigraphs(count, most, seed):
         yield Table(near, [rng.randint(-2, 4) for _ in range(size)])
 
 
+def random_tree(size, seed):
+    """A random tree of 3 vertices or more."""
+    rng = random.Random(seed)
+    return networkx.from_prufer_sequence([rng.randrange(size) for _ in range(size - 2)])
+
+
 def classes(table, degree, rank):
     """The divisors, one of each class of a degree, that may have such a rank: they have as many dollars at q."""
     some = Table(table, {table.q: rank})
@@ -163,14 +169,14 @@ def maximal():
 
 @fact("Corry, Perkinson 2018", "on a tree the rank is the degree; a cycle of n vertices has n classes of each degree")
 def trees_and_cycles():
-    found = [Table(networkx.random_tree(9, seed=seed), {0: 3, 5: -1, 8: seed}) for seed in range(20)]
+    found = [Table(random_tree(9, seed), {0: 3, 5: -1, 8: seed}) for seed in range(20)]
     return all(table.rank() == table.degree for table in found) and all(
         Table(networkx.cycle_graph(n)).reduced_divisors(4).count == n for n in range(3, 17))
 
 
 @fact("Baker 2008", "gonality of trees 1, of cycles 2, of two vertices with 2 edges or more 2")
 def easy_gonalities():
-    return {gonality(networkx.random_tree(8, seed=seed)) for seed in range(5)} == {1} and {
+    return {gonality(random_tree(8, seed)) for seed in range(5)} == {1} and {
         gonality(networkx.cycle_graph(n)) for n in range(3, 17)} | {gonality(Table([[0, n], [n, 0]])) for n in range(2, 8)} == {2}
 
 

@@ -4,7 +4,7 @@ them may be lost.
 
     examples/gonality.py FILE
 
-prints the gonality of the graph of each line of FILE, a table each; what it holds does not matter.
+prints the gonality of the graph in FILE, a table; or, if each line is a table, of each. What the vertices hold does not matter.
 
 Equivalent divisors have one rank, so of each class only the reduced divisor is tried, if it has a dollar at q: otherwise none can be lost
 there. Nor can one be lost at a vertex without dollars from which all burns. Each degree takes one run of the program, over the tables of
@@ -21,6 +21,7 @@ all graphs that are left.
 
 Trees have 1, cycles 2, complete graphs one less than vertices, two vertices joined more than once 2, complete bipartite graphs the
 lesser part, and the cube and Petersen's graph 4."""
+import argparse
 import itertools
 import json
 import os
@@ -82,7 +83,27 @@ def gonality(table):
     return gonalities([table])[0]
 
 
+def tables_of(text):
+    """The table that a text is, or those on its lines."""
+    try:
+        return [dollar.Table(json.loads(text))]
+    except json.JSONDecodeError as fault:
+        if fault.msg != "Extra data":
+            raise
+    return [dollar.Table(json.loads(line)) for line in text.splitlines()]
+
+
+def main():
+    reader = argparse.ArgumentParser(description="Prints the gonality of graphs, each on a line.")
+    reader.add_argument("file", metavar="FILE", help="a table, or tables a line each")
+    try:
+        with open(reader.parse_args().file) as file:
+            tables = tables_of(file.read())
+    except (OSError, ValueError) as fault:
+        sys.exit("gonality.py: %s" % fault)
+    for number in gonalities(tables):
+        print(number)
+
+
 if __name__ == "__main__":
-    with open(sys.argv[1]) as file:
-        for number in gonalities([dollar.Table(json.loads(line)) for line in file]):
-            print(number)
+    main()

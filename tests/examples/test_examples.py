@@ -1,9 +1,11 @@
 """The examples: each line of runs.txt prints its file NAME.out, and README.md lists it; each other file is named there or in docs/."""
+import json
 import re
 import subprocess
 import sys
 
 from helpers import EXAMPLES, ROOT, Test, each, program
+from pages import shown
 
 RUNS = [tuple(line.split(" ", 3)) for line in (EXAMPLES / "runs.txt").read_text().splitlines()]
 PAGES = "".join(page.read_text() for page in [EXAMPLES / "README.md", *sorted((ROOT / "docs").glob("*.md"))])
@@ -38,3 +40,23 @@ class OfExamples(Test):
 
     def test_gonalities(self):
         self.holds([sys.executable, "-B", "-m", "doctest", EXAMPLES / "gonality.py"])
+        (command, wanted), = shown((ROOT / "docs" / "tools.md").read_text(), "python3 examples/gonality.py")
+        self.assertEqual(self.holds([sys.executable, "-B", *command.split()[1:]], cwd=ROOT), wanted)
+
+    def gonality_of(self, *words):
+        done = subprocess.run([sys.executable, "-B", EXAMPLES / "gonality.py", *words], stdout=subprocess.PIPE, stderr=subprocess.PIPE, text=True)
+        return done.stdout, done.stderr, done.returncode
+
+    def test_gonalities_of_lines(self):
+        lines = self.folder() / "lines"
+        lines.write_text("".join(json.dumps(json.loads((EXAMPLES / name).read_text())) + "\n" for name in ("cube.json", "triangle.json")))
+        self.assertEqual(self.gonality_of(lines), ("4\n2\n", "", 0))
+
+    def test_gonalities_of_nothing(self):
+        self.assertRegex(self.gonality_of()[1], "^usage: gonality.py ")
+        for name, text in ("missing", None), ("empty", ""), ("list", "[]"), ("cut off", '{"vertices": ["a"],\n'), ("half", "{}\n{"):
+            place = self.folder() / name
+            if text is not None:
+                place.write_text(text)
+            printed, said, status = self.gonality_of(place)
+            self.assertEqual((printed, said.count("\n"), status), ("", 1, 1), said)
