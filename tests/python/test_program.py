@@ -1,5 +1,6 @@
 """Which program runs: never one that only lies beside the package, and none is proved by a call. And what commands call themselves."""
 import os
+import re
 import shutil
 import subprocess
 import sys
@@ -124,6 +125,13 @@ class OfTheirNames(Test):
                                   env=dict(os.environ, PYTHONPATH=str(PACKAGE)))
             self.assertIn("%s %s: error: " % (name, command), done.stderr)
             self.assertEqual(done.returncode, 2)
+
+    @each([("play", "board/play"), ("dollar-board", "dollar-board"), ("dollar", "python3 /bin/dollar board")])
+    def test_the_help_of_the_board_shows_what_is_typed(self, name, shown):
+        code = f"import sys; sys.argv = ['/bin/{name}', '--help']; from dollar.__main__ import board; board()"
+        said = subprocess.run([sys.executable, "-B", "-c", code], stdout=subprocess.PIPE, text=True, env=dict(os.environ, PYTHONPATH=str(PACKAGE)))
+        self.assertIn(f"\n    {shown} [FILE]\n    {shown} FILE .. --class N ", said.stdout)
+        self.assertEqual(set(re.findall("board/play|dollar-board", said.stdout)), {shown} & {"board/play", "dollar-board"})
 
     def test_the_command_of_a_clone(self):
         done = subprocess.run(["board/play", "/nowhere/table.json"], cwd=PACKAGE.parent, stderr=subprocess.PIPE, text=True)

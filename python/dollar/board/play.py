@@ -3,13 +3,13 @@
     board/play [FILE]
     board/play FILE .. --class N [--rooms K] [--host ADDRESS] [--keep FOLDER]
 
-opens the table of FILE, or the first example: a click lends, shift-click borrows, and the program says whether it can be won.
-Ctrl-D or Ctrl-C ends it. Only this machine can reach the server, and only with the address that is printed.
+opens the table of FILE, or the triangle of the examples: a click lends, shift-click borrows, and the program says whether it can be
+won. Ctrl-D or Ctrl-C ends it. Unless --host is given, only this machine can reach the server, and only with the address that is
+printed.
 
 With --class N it is for a class of N pupils, at most 64: everybody who opens the pupils' address gets a seat. All share one table, or
 with --rooms K there is one for each K pupils. The teacher's page hands out the next table: one of the files, a graph, a puzzle. To
-resume a class that --keep has kept, run the same command again, even after a crash. In a clone the command is `board/play`, and once
-installed it is `dollar-board`."""
+resume a class that --keep has kept, run the same command again, even after a crash."""
 from __future__ import annotations
 
 import argparse
@@ -37,7 +37,7 @@ LOOPBACK = "127.0.0.1"
 
 def arguments(words: list[str]) -> argparse.Namespace:
     """The command line."""
-    usage, _, more = __doc__.partition("\n\n")
+    usage, _, more = __doc__.replace("board/play", typed("board")).partition("\n\n")
     parser = argparse.ArgumentParser(prog=typed("board"), description=usage, epilog=more, formatter_class=argparse.RawDescriptionHelpFormatter)
     parser.add_argument("files", nargs="*", metavar="FILE", default=[EXAMPLES / "triangle.json"], help="table files; a class may have several")
     parser.add_argument("--class", type=number_to(MOST_SEATS), dest="seats", metavar="N", help="serve a class of N pupils")
