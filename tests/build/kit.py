@@ -82,6 +82,9 @@ def link(words):
 
 
 def rt(words):
+    if words[0] == "try":
+        print("\n".join(words[words.index("--") + 1:]))
+        return
     print({"doc": Path(__file__).resolve().parents[1] / "guide.md", "version": "rattle-of-tests"}[words[0]])
 
 

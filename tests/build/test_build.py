@@ -196,6 +196,25 @@ class OfBuilds(Test):
         _, said, status = self.run_of(self.tree / "dollar", "--unproved", "judge", without="rt")
         self.assertEqual((said.count("\n"), status), (1, 1))
 
+    @each([("judge t.json --divisors=l.txt", "judge /t.json --divisors=/l.txt"),
+           ("judge t.json --divisors l.txt", "judge /t.json --divisors /l.txt"),
+           ("rank t.json 2", "rank /t.json 2"), ("rank --workers 2 t.json 3", "rank --workers 2 /t.json 3"), ("judge 2", "judge /2"),
+           ("judge missing --divisors=missing", "judge missing --divisors=missing"), ("t.json", "t.json")])
+    def test_the_files_of_a_run_without_proof(self, typed, wanted):
+        """The program runs elsewhere, and so is given their whole paths."""
+        here = Path(os.path.realpath(self.folder()))
+        for name in "t.json", "l.txt", "2":
+            (here / name).touch()
+        out, said, status = self.run_of(self.tree / "dollar", "--unproved", *typed.split(), cwd=here)
+        self.assertEqual((out.split(), status), (wanted.replace("/", f"{here}/").split(), 0))
+        self.assertIn("dollar: not proved", said)
+
+    @each(["--version", "-V"])
+    def test_no_version_without_proof(self, word):
+        out, said, status = self.run_of(self.tree / "dollar", "--unproved", word)
+        self.assertEqual((out, status), ("", 2))
+        self.assertRegex(said, "^dollar: with --unproved nothing is proved, .*\n$")
+
     def test_a_toolchain_that_does_not_run(self):
         (self.kit / "bin" / "rt").write_text("#!/bin/sh\nexit 3\n")
         self.assertEqual(self.fails("the toolchain can't be run: "), [])
