@@ -100,9 +100,10 @@ def with_focus(player):
     equal([name for name, is_shown in seen.items() if not is_shown], [], "where the focus can't be seen")
     controls = {"ann", "bob", "cyd", "dan", "ask-won", "claim", "line-in", "take-table"}
     equal(controls - set(seen), set(), "controls to which Tab does not come")
-    for wanted in "roads", "edges":
+    player.value("localStorage.removeItem('dollar taught')")
+    for one, many in ("house", "roads"), ("vertex", "edges"):
         player.click("#houses")
-        equal(player.text("#note"), f"Click cyd: it sends a dollar along each of its {wanted}.", "the words that are chosen")
+        equal(player.text("#note"), f"Click any {one}: it sends a dollar along each of its {many}.", "the words that are chosen")
 
 
 def in_sizes(player):

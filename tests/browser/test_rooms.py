@@ -116,7 +116,7 @@ def on_graphs(folder):
     for graph in [*GRAPHS, *["random"] * 10]:
         for level in LEVELS:
             name, (table,) = puzzles(graph, level, TRIANGLE)
-            equal(name, f"{'a random graph' if graph == 'random' else graph}, {level}", "the name of a puzzle")
+            equal(name, "a random graph" if graph == "random" else graph, "the name of a puzzle")
             confirmed(folder, table, level)
             if graph != "random":
                 equal([json.loads(table)[part] for part in ("vertices", "edges")],
@@ -185,9 +185,33 @@ def hints(folder):
         expect(len(ann.entries) < 30, "so many hints")
         bob.play("gift ann -20")
         equal(hint(bob)["hint"]["count"], None, "a hint where nothing can be won")
+        bob.until(lambda pupil: pupil.items == 2, "the hint that nothing can be won is not counted")
         equal(taken(desk, folder, 2)[0], ["2 gift ann -20"], "the steps after a hint")
         desk.post("may", {"hints": False})
         equal(hint(ann), "The teacher has switched off hints. Nothing was played.", "a hint that is not permitted")
+
+
+def wrong_answers(folder):
+    """Who says of a table that can be won that it can't makes three moves before saying so again, also after an accident."""
+    words = [EXAMPLES / "houses.json", "--class", "2", *EACH, "--keep", Path(folder, "kept")]
+    child = started(*words)
+    ann = Pupil(addresses(child)[0], "ann")
+
+    def cant():
+        return ann.place.post("cant", {"key": ann.key})[1]
+
+    equal(cant(), {"cant": False}, "a wrong answer")
+    for left in 3, 2, 1:
+        equal(cant(), f"It can be done. Moves to make before you say so again: {left}.", "an answer at once")
+        equal(ann.play("lend ann")[0], 200, "a move")
+        if left == 2:
+            child.kill()
+            child.communicate()
+            child = started(*words)
+            addresses(child)
+    equal(cant(), {"cant": False}, "an answer after three moves")
+    child.terminate()
+    equal(child.communicate()[1], "", "what board/play said")
 
 
 def a_puzzle_each(folder):
@@ -200,7 +224,8 @@ def a_puzzle_each(folder):
     for graph, level, size in ("random", "easy", 1), ("Cube", "hard", 2), ("Wheel of 5", "unwinnable", 1):
         equal(desk.post("table", {"graph": graph, "level": level, "size": size, "each": True})[0], 200, f"puzzles on {graph}")
         for pupil in room:
-            pupil.until(lambda pupil: pupil.tables[-1]["name"].endswith(level), "a puzzle of one's own does not come")
+            named = "a random graph" if graph == "random" else graph
+            pupil.until(lambda pupil: pupil.tables[-1]["name"] == named, "a puzzle of one's own, of an untold level, does not come")
         page = watcher(desk)
         page.until(lambda page: page.tables, "the puzzles do not come to the teacher")
         tables = page.tables[-1]["tables"]
@@ -316,5 +341,5 @@ def names(folder):
         anna.until(lambda pupil: "Cem" in str(pupil.states[-1:]), "the names are not told")
 
 
-load_tests = tests_of(apart, next_tables, in_the_middle, on_graphs, a_puzzle_each, taking_back, hints, permitted, by_a_short_code,
+load_tests = tests_of(apart, next_tables, in_the_middle, on_graphs, a_puzzle_each, taking_back, hints, wrong_answers, permitted, by_a_short_code,
                       many_seats, names, given=tempfile.TemporaryDirectory)

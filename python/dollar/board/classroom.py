@@ -13,7 +13,7 @@ from typing import Any, AsyncIterator, Awaitable, Callable
 from dollar.board.alone import question, with_value
 from dollar.board.game import MOST_LINE, MOST_SEATS, Table, tables_of
 from dollar.board.pages import asset, forward, page
-from dollar.board.puzzles import RISING, graphs, hint, puzzles
+from dollar.board.puzzles import graphs, hint, puzzles, rising
 from dollar.board.qr import code
 from dollar.board.replay import page as replay_page
 from dollar.board.room import Feed, Room, event
@@ -185,7 +185,7 @@ class Classroom:
             self.keep_tables(self.keeper)
 
     def keep_tables(self, keeper: Keeper) -> None:
-        keeper.hand_out(self.turn, [[tables[0].name, [table.text for table in tables]] for tables in self.handed])
+        keeper.hand_out(self.turn, [[tables[0].name, [table.text for table in tables], tables[0].level] for tables in self.handed])
 
     async def stop(self) -> None:
         for room in list(self.rooms.values()):
@@ -213,10 +213,12 @@ class Classroom:
     def room_of(self, seat: Seat) -> Room:
         return self.room(self.number_of(seat))
 
-    def told_first(self, feed: Feed) -> dict[str, Any]:
-        """What a page needs to draw the games of a feed from their beginning: the tables of the rooms, or that of its own."""
+    def told_first(self, feed: Feed, teaches: bool) -> dict[str, Any]:
+        """What a page needs to draw the games of a feed from their beginning: the tables of the rooms, or that of its own. The level of a
+        puzzle, which may say that it can't be won, is for the teacher alone."""
         stages = [[table] for table in self.tables_of(feed.room)] if feed.room else self.handed
-        told, *later = [{"name": tables[0].name, "tables": [table.text for table in tables], "layout": tables[0].layout} for tables in stages]
+        told, *later = [{"name": tables[0].title if teaches else tables[0].name, "tables": [table.text for table in tables],
+                         "layout": tables[0].layout} for tables in stages]
         return {"feed": feed.key, "room": feed.room, "turn": self.turn, **told, "later": later}
 
     @property
@@ -263,7 +265,7 @@ class Classroom:
                 "ends": {room.number: room.end for room in self.rooms.values() if room.end}})
         return self.told_state[1]
 
-    async def events(self, gone: asyncio.Future[Any], mark: tuple[str | None, int], seat: Seat | None) -> AsyncIterator[bytes]:
+    async def events(self, gone: asyncio.Future[Any], mark: tuple[str | None, int], seat: Seat | None, teaches: bool) -> AsyncIterator[bytes]:
         """The table, the state and the entries, from a mark on, as they come, until the page has gone, or its seat was freed or is open
         in a newer one. A mark is the key of a feed and a number; of another feed all is told."""
         follower, seen = Follower(gone), -1
@@ -279,7 +281,7 @@ class Classroom:
                 feed = self.room_of(seat).feed if seat else self.feed
                 if key != feed.key:
                     key, number = feed.key, 0
-                    yield event("table", self.told_first(feed), "%s.0" % key)
+                    yield event("table", self.told_first(feed, teaches), "%s.0" % key)
                 elif seen != self.changes:
                     seen = self.changes
                     yield self.state()
@@ -339,13 +341,13 @@ class Classroom:
             own = {"places": self.places(), "named": [table.name for table in self.tables], "graphs": graphs()} if teaches else {}
             return as_json({"role": "teacher" if teaches else "pupil", "address": self.address,
                             "short": self.short, "code": code("http://%s/%s" % (self.place, self.short)), "size": self.size,
-                            "kept": self.keeper is not None, **own, **self.told_first(self.feed)})
+                            "kept": self.keeper is not None, **own, **self.told_first(self.feed, teaches)})
         if asked == "events":
             mark, seat = begin_at(request), None
             if "key" in request.query and not teaches:
                 seat = self.seat_of(request.query["key"])
                 request.known()
-            return 200, "text/event-stream", lambda gone: self.events(gone, mark, seat)
+            return 200, "text/event-stream", lambda gone: self.events(gone, mark, seat, teaches)
         if teaches and asked in FILES:
             return 200, FILES[asked], self.file(asked, room_in(request.query.get("room", "1"))).encode()
         return asset(asked) if asked else page("class.html")
@@ -568,7 +570,7 @@ class Classroom:
         if "graph" in given:
             count = -(-self.seats // size) if given.get("each") is True and size else 1
             graph, level = text_in(given, "graph", 40), text_in(given, "level", 20)
-            return [tables_of(*puzzles(graph, each, self.handed[0][0].text, count)) for each in (RISING if level == "rising" else [level])]
+            return [tables_of(*puzzles(graph, each, self.handed[0][0].text, count), each) for each in (rising() if level == "rising" else [level])]
         if "table" in given:
             text = text_in(given, "table", MOST_TABLE)
             printed("judge", text.encode(), patience=PATIENCE)
@@ -585,7 +587,7 @@ class Classroom:
             table = self.table(number)
             lines = await asyncio.to_thread(printed, "rehearse", table.text.encode(), steps.encode(), patience=PATIENCE)
             names = [entry.name for entry in self.rooms[number].entries] if number in self.rooms else []
-            made = await asyncio.to_thread(replay_page, table.name, table.text, steps, lines, history, table.own, names)
+            made = await asyncio.to_thread(replay_page, table.title, table.text, steps, lines, history, table.own, names)
         except (Fault, TimeoutError) as fault:
             raise Refused(409, t("teacher.no-replay", fault)) from None
         return as_json({"page": made})

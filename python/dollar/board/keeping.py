@@ -101,7 +101,7 @@ class Keeper:
             print("%s: %s: %s" % (typed("board"), place, error.strerror), file=sys.stderr)
 
     def stages(self, turn: int) -> Any:
-        """What was handed out at a turn, one after another, each as its name and the texts of its tables."""
+        """What was handed out at a turn, one after another, each as its name, the texts of its tables, and its level."""
         stages = json.loads(read(self.place("table%d" % turn, TABLES)) or "[]")
         if stages and isinstance(stages[0], str):
             raise ValueError("%s keeps a class in an older form, which is not read any more" % self.folder)

@@ -4,11 +4,11 @@ import { Questions } from "./ask.js";
 import { Board, draw } from "./board.js";
 import { Editor } from "./edit.js";
 import { Hands } from "./hand.js";
-import { Link, post, save, startPage, store, stored, sure } from "./page.js";
+import { Link, post, save, startPage, store, stored, sure, wordsOnce } from "./page.js";
 import { fitted, layoutOf } from "./places.js";
 import { speak, t } from "./texts.js";
 import { Viewer, below, bind, button, choose, element, made, refuse, say } from "./viewer.js";
-import { Game, commandWords, debtWords, faultWords, firstWords, joined, linesOf, listed, movesWords, often, replyOf, stepOf } from "./words.js";
+import { Game, commandWords, debtWords, faultWords, joined, linesOf, listed, movesWords, often, replyOf, stepOf } from "./words.js";
 
 const SOON = 16, LETTERS = 24, GROUPS = [0, 1, 2, 3, 4, 5, 6];
 const CHANGES = ["moved", "given", "joined"];
@@ -252,7 +252,7 @@ const ITEMS = {
   },
   judged(room, { number, name }) {
     Object.assign(room, number ? { is_done: true, right: true } : { wrongs: room.wrongs + 1 });
-    return number ? null : t("class.wrong", name);
+    return number ? null : me && name === me.name ? t("play.can") : t("class.wrong", name);
   },
   onward(room, { number }) {
     Object.assign(room, roomOn(number, room.number, [...room.results, resultOf(room)]));
@@ -657,7 +657,7 @@ async function start() {
   viewer.afterShow = () => {
     // The words of a step are not said beside the picture of an answer.
     element("now").hidden = false;
-    hands.note(me ? firstWords(viewer.game, viewer.now) : "");
+    hands.note(me ? wordsOnce(viewer.game, viewer.now) : "");
   };
   element("title").textContent = document.title = titled(given.name);
   hands = new Hands(viewer, teaches() ? (line) => link.inTurn(() => demonstrate(line)) : play);

@@ -2,6 +2,7 @@
 
 import { t } from "./texts.js";
 import { element, made } from "./viewer.js";
+import { firstWords } from "./words.js";
 
 // In milliseconds: the program itself is given two minutes.
 const LONG = 150000, SILENT = 10000, LATE = 2000, RETRY = 250, LOOK = 1000, TOO_FAST = 429;
@@ -118,6 +119,14 @@ export async function startPage(start) {
     document.body.prepend(made("p", t("page.start"), { role: "alert" }));
     throw fault;
   }
+}
+
+/* The words of the first minute, until a second move is made in this browser. */
+const TAUGHT = "dollar taught";
+
+export function wordsOnce(game, now) {
+  if (now > 1) store("localStorage", TAUGHT, true);
+  return stored("localStorage", TAUGHT) ? "" : firstWords(game, now);
 }
 
 /* In how few moves a table was won in this browser, after it was won in so many; Infinity if it never was. */
