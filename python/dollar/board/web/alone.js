@@ -125,8 +125,8 @@ function goOn() {
 
 function showWays() {
   const { game, now } = viewer;
-  element("undo").disabled = now === 0;
-  element("redo").disabled = now === game.length;
+  hands.enable("undo", now > 0);
+  hands.enable("redo", now < game.length);
   element("next").hidden = !isDone();
 }
 

@@ -340,7 +340,7 @@ function showNames(names) {
 
 function rowOf(seat, { name, here, room }) {
   const row = made("li", "", { value: seat, class: here ? "" : "away" });
-  row.append(made("b", name), state.size > 1 ? ` ${t("seat.room", room)} ` : " ", here ? "" : `${t("seat.away")} `);
+  row.append(made("b", name, { translate: "no" }), state.size > 1 ? ` ${t("seat.room", room)} ` : " ", here ? "" : `${t("seat.away")} `);
   if (me && Number(seat) === me.seat) {
     const other = given.kept ? [" ", button(t("seat.other"), changeOver)] : [];
     row.append(t("seat.you"), " ", button(t("seat.new-name"), askName), " ", button(t("seat.leave"), leave), ...other);
@@ -356,8 +356,8 @@ function permit() {
   const parts = { "draw-hint": edges, look: questions, commit: questions, undo, redo: undo, hint: hints, next };
   for (const [id, permitted] of Object.entries(parts)) element(id).hidden = teaches() || !permitted;
   hands.joins = edges && !teaches();
-  element("undo").disabled = !game.replies.some(({ kind }) => CHANGES.includes(kind));
-  element("redo").disabled = undone.length === 0;
+  hands.enable("undo", game.replies.some(({ kind }) => CHANGES.includes(kind)));
+  hands.enable("redo", undone.length > 0);
 }
 
 function endWords({ status, text }) {
@@ -407,7 +407,8 @@ function showRoom(room, drawn) {
   const { game, number, stage, backs, is_done, best, right, hints } = room, state_ = game.states[game.length];
   if (!room.part) {
     room.part = button("", () => enlarge(number), { class: "room", "data-room": number });
-    room.part.append(draw("svg", { "aria-hidden": "true" }, room.part), made("span", "", { class: "who" }), made("span", "", { class: "how" }));
+    const who = made("span", "", { class: "who", translate: "no" }), how = made("span", "", { class: "how" });
+    room.part.append(draw("svg", { "aria-hidden": "true" }, room.part), who, how);
     room.board = new Board(room.part.querySelector("svg"));
   }
   const [who, how] = room.part.querySelectorAll("span"), names = playersOf(number).join(", ") || t("class.room", number);
