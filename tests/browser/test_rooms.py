@@ -1,4 +1,5 @@
 """A class in rooms, without a browser: each room has its game, and the teacher hands out tables and says what is permitted."""
+import asyncio
 import json
 import random
 import subprocess
@@ -7,6 +8,8 @@ import time
 from pathlib import Path
 
 from common import EXAMPLES, addresses, asked, played, refused, started, text_of, together, waited, written
+from dollar.board.classroom import Classroom
+from dollar.board.game import Table
 from dollar.board.puzzles import GRAPHS, LEVELS, puzzles, table_of
 from dollar.board.server import LETTERS
 from helpers import equal, expect, tests_of
@@ -57,6 +60,8 @@ def next_tables(folder):
         equal(desk.post("table", {"table": TRIANGLE, "name": "three", "size": 1})[0], 200, "a table that is given")
         bob.until(lambda pupil: len(pupil.tables) == 2, "the second table does not come")
         equal((bob.tables[-1]["tables"], bob.tables[-1]["name"], bob.tables[-1]["room"]), ([TRIANGLE], "three", 2), "the second table")
+        for stage in 0.0, "0", None, 1, True:
+            equal(ann.place.post("next", {"key": ann.key, "stage": stage})[0], 409, f"the stage {stage!r}")
         late = bob.place.post("line", {"key": bob.key, "line": "lend a", "feed": first})
         equal(late, (409, "There is a new table. This line was not played."), "a line for the table before")
         equal((ann.play("borrow b")[1], bob.play("claim")[1]), ("0 moved a=1 b=1 c=-2", "0 not won"), "lines on the second table")
@@ -310,6 +315,32 @@ def by_a_short_code(folder):
         expect(any("There is no such code." in said for _, said in heard), f"the right code after many wrong ones: {heard}")
         equal([place.get(f"/{short}"), place.get("/page.css")[0]], [leads, 200], "the right code from another address, and how the page looks")
         expect(waited(lambda: pest.get(f"/{short}") == leads), "the right code a while later")
+        pests = [Place(place.address) for _ in range(12)]
+        for number, each in enumerate(pests):
+            each.source = f"127.0.1.{number + 1}", 0
+        together(*[lambda each=each: [each.get(path) for path in wrongs[:25]] for each in pests])
+        equal(place.get(f"/{short}"), leads, "the right code, while many addresses try wrong ones")
+
+
+def two_of_a_name(folder):
+    """Two files of one name would be one table to choose from, so they are refused."""
+    words = [EXAMPLES / "houses.json", written(folder, "houses.json", TRIANGLE), "--class", "2"]
+    refused(["board", "--no-browser", *words], "several files are called houses.json", stdin=subprocess.DEVNULL)
+
+
+def in_another_network(_):
+    """Where this machine has another address, that is shown; and again the chosen one, once it is there again."""
+    async def shown(*places):
+        room.places = lambda: places
+        room.beat()
+        return room.place
+
+    async def shown_in_turn():
+        return [await shown(*places) for places in (["one:1", "two:1"], ["two:1", "three:1"], ["three:1"], [], ["two:1", "one:1"])]
+
+    room = Classroom([Table("triangle", TRIANGLE)], 2)
+    room.place = "one:1"
+    equal(asyncio.run(shown_in_turn()), ["one:1", "two:1", "three:1", "three:1", "one:1"], "the address that is shown")
 
 
 def many_seats(folder):
@@ -341,5 +372,5 @@ def names(folder):
         anna.until(lambda pupil: "Cem" in str(pupil.states[-1:]), "the names are not told")
 
 
-load_tests = tests_of(apart, next_tables, in_the_middle, on_graphs, a_puzzle_each, taking_back, hints, wrong_answers, permitted, by_a_short_code,
-                      many_seats, names, given=tempfile.TemporaryDirectory)
+load_tests = tests_of(apart, next_tables, in_the_middle, on_graphs, a_puzzle_each, taking_back, hints, wrong_answers, permitted,
+                      by_a_short_code, two_of_a_name, in_another_network, many_seats, names, given=tempfile.TemporaryDirectory)

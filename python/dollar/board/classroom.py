@@ -4,6 +4,7 @@ after another, and its pages see each entry as it comes. The pages of the teache
 from __future__ import annotations
 
 import asyncio
+import math
 import re
 import time
 import unicodedata
@@ -30,8 +31,9 @@ HEARTBEAT, UNUSED = 5.0, 60.0
 TOGETHER = 0.03
 # The letters of the short code, what is meant as one, and what is counted as a wrong one.
 SHORT, MEANT, COUNTED = 6, re.compile(r"[A-Za-z0-9-]{1,12}\Z"), re.compile("[%s]{6}\\Z" % LETTERS, re.I)
-# How many wrong codes and new seats one address, behind which a school may be, has at once, and then in a second; and how many all have.
-TRIES, SEATS = ((40, 2.0), (200, 10.0)), ((12, 0.5), (64, 8.0))
+# How many wrong codes and new seats one address, behind which a school may be, has at once, and then in a second; and how many seats all
+# have. Wrong codes of some addresses do not keep others out.
+TRIES, SEATS = ((40, 2.0),), ((12, 0.5), (64, 8.0))
 FILES = {"table.json": "application/json", "steps.txt": "text/plain", "history.txt": "text/plain"}
 BEAT, JOINER = event("beat", {}), "\u200d"
 # Letters that look like nothing, and a row of marks on a letter of which three are enough.
@@ -46,7 +48,7 @@ IN_ROOMS = "undo", "hints"
 class Bucket:
     """Permits so many acts at once, and then so many in a second."""
 
-    def __init__(self, most: int, each: float) -> None:
+    def __init__(self, most: float, each: float) -> None:
         self.most, self.each, self.left, self.filled = most, each, float(most), time.monotonic()
 
     def takes(self, count: int = 1) -> bool:
@@ -59,9 +61,9 @@ class Bucket:
 
 
 class Limit:
-    """A bucket for each address of the network, beside a wide one for all."""
+    """A bucket for each address of the network, beside a wide one for all, if there is one."""
 
-    def __init__(self, own: tuple[int, float], whole: tuple[int, float]) -> None:
+    def __init__(self, own: tuple[int, float], whole: tuple[float, float] = (math.inf, 0.0)) -> None:
         self.own, self.whole = own, Bucket(*whole)
         self.buckets: dict[str, Bucket] = {}
 
@@ -142,7 +144,7 @@ class Classroom:
         self.soon: asyncio.TimerHandle | None = None
         self.last, self.changes = 0.0, 0
         # Where others find this: by a place, and by more from which the teacher chooses.
-        self.place, self.port = "", 0
+        self.place, self.chosen, self.port = "", "", 0
         self.places: Callable[[], list[str]] = list
         self.set_tables([tables[:1]], kept.get("size", size), 1)
         self.may = {**dict.fromkeys(SWITCHES, False), "houses": True, **usual(self.size), **kept.get("may", {})}
@@ -248,8 +250,18 @@ class Classroom:
         for follower in self.followers:
             follower.woken.set()
 
+    def settle(self) -> None:
+        """If this machine is in another network now, goes on at an address that it has, and back at the chosen one when it has that again."""
+        places = self.places()
+        self.chosen = self.chosen or self.place
+        place = next((each for each in (self.chosen, self.place, *places) if each in places), self.place)
+        if place != self.place:
+            self.place = place
+            self.changed()
+
     def beat(self) -> None:
         """Has something be sent to all pages now and then, so that a connection that is gone is noticed."""
+        self.settle()
         for follower in self.followers:
             follower.is_due = True
             follower.woken.set()
@@ -338,6 +350,7 @@ class Classroom:
     def given(self, asked: str, request: Request, teaches: bool) -> Answer:
         """What a page gets that plays nothing."""
         if asked == "start":
+            self.settle()
             own = {"places": self.places(), "named": [table.name for table in self.tables], "graphs": graphs()} if teaches else {}
             return as_json({"role": "teacher" if teaches else "pupil", "address": self.address,
                             "short": self.short, "code": code("http://%s/%s" % (self.place, self.short)), "size": self.size,
@@ -375,7 +388,7 @@ class Classroom:
             return await self.teachers("free", {"seat": seat.number})
         room = self.room_of(seat)
         stage = given.get("stage", room.stage)
-        if given.get("feed", room.feed.key) != room.feed.key or stage != room.stage:
+        if given.get("feed", room.feed.key) != room.feed.key or type(stage) is not int or stage != room.stage:
             raise Refused(409, t("class.new-table"))
         if asked == "line":
             return await self.line(seat, room, text_in(given, "line", MOST_BODY), request)
@@ -503,7 +516,7 @@ class Classroom:
         elif asked == "place":
             if given.get("place") not in self.places():
                 raise Refused(409, t("teacher.no-address"))
-            self.place = given["place"]
+            self.place = self.chosen = given["place"]
         elif asked == "end":
             self.over = True
             await self.stop()

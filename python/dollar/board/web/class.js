@@ -537,9 +537,15 @@ function showWay() {
 
 /* The address that the teacher has chosen, which the page may have to be told again. */
 async function renewWay() {
-  const { address, code } = await (await fetch("start")).json();
-  Object.assign(given, { address, code });
+  const { address, code, places } = await (await fetch("start")).json();
+  Object.assign(given, { address, code, places });
+  if (teaches()) offerPlaces();
   showWay();
+}
+
+function offerPlaces() {
+  choose("which", given.places, given.places.indexOf(new URL(given.address).host));
+  element("which").parentElement.hidden = given.places.length < 2;
 }
 
 /* The next table: one of those that were named, a puzzle on a graph, or a file. */
@@ -624,8 +630,7 @@ function teach() {
     show: ({ target }) => command("show", { what: target.value }), which: ({ target }) => command("place", { place: target.value }),
     most: ({ target }) => command("seats", { count: Number(target.value) }),
   });
-  choose("which", given.places);
-  element("which").parentElement.hidden = given.places.length < 2;
+  offerPlaces();
   for (const { id } of document.querySelectorAll("[id^=may-]")) {
     bind({ [id]: ({ target }) => command("may", { [id.slice("may-".length)]: target.checked }) });
   }

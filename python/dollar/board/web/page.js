@@ -28,7 +28,8 @@ export class Link {
   /* How long an answer may take, what is done at each kind of event, and when the stream breaks, with whether the server refuses it. */
   constructor(patience = LONG, told = {}, lost = null) {
     Object.assign(this, { patience, told, lost, turn: Promise.resolve(), fails: 0, source: null, heard: 0, hears: false, drew: () => {} });
-    const look = () => Date.now() - this.heard > SILENT && this.breaks();
+    // The clock of the computer may be set meanwhile.
+    const look = () => performance.now() - this.heard > SILENT && this.breaks();
     setInterval(look, LOOK);
     document.addEventListener("visibilitychange", look);
   }
@@ -69,10 +70,10 @@ export class Link {
     const { hears } = this;
     this.close();
     const source = new EventSource(place());
-    Object.assign(this, { place, source, hears, heard: Date.now() });
+    Object.assign(this, { place, source, hears, heard: performance.now() });
     for (const [kind, act] of Object.entries(this.told)) {
       source.addEventListener(kind, (event) => {
-        Object.assign(this, { heard: Date.now(), hears: true });
+        Object.assign(this, { heard: performance.now(), hears: true });
         act(event.data && JSON.parse(event.data));
       });
     }
