@@ -107,8 +107,8 @@ function games() {
   equal([startWords(0), startWords(1), startWords(2)], ["Start. No moves yet.", "Start, before 1 step", "Start, before 2 steps"], "starts");
   odd.add("1 lend a", "1 moved b=2 a=-2 2=0");
   equal([firstWords(new Game(TABLE), 0), firstWords(odd, 1), firstWords(odd, 2), firstWords(rich, 1).split(".")[0], firstWords(rich, 3)],
-    ["Click b: it sends a dollar along each of its edges.", "a lends. Go on until nobody owes. To let one borrow, press it longer, or tick the "
-      + "box first.", "", "a lends", ""], "the first minute");
+    ["Click any vertex: it sends a dollar along each of its edges.", "a lends. Go on until nobody owes. To let one borrow, press it longer, "
+      + "or tick the box first.", "", "a lends", ""], "the first minute");
   equal([linesOf("a\nb\n"), linesOf("a\nb"), linesOf("")], [["a", "b"], ["a", "b"], []], "lines of texts");
 }
 

@@ -100,9 +100,34 @@ def with_focus(player):
     equal([name for name, is_shown in seen.items() if not is_shown], [], "where the focus can't be seen")
     controls = {"ann", "bob", "cyd", "dan", "ask-won", "claim", "line-in", "take-table"}
     equal(controls - set(seen), set(), "controls to which Tab does not come")
-    for wanted in "roads", "edges":
+    player.value("localStorage.removeItem('dollar taught')")
+    for one, many in ("house", "roads"), ("vertex", "edges"):
         player.click("#houses")
-        equal(player.text("#note"), f"Click cyd: it sends a dollar along each of its {wanted}.", "the words that are chosen")
+        equal(player.text("#note"), f"Click any {one}: it sends a dollar along each of its {many}.", "the words that are chosen")
+
+
+def with_buttons_that_go(player):
+    """A button that goes, since it was pressed, leaves the focus to the board; what is chosen is told as pressed. The houses are open."""
+    for name in "cyd", "bob":
+        player.focus(at(name))
+        player.press(" ")
+    equal(player.value("$$('#board .vertex').map((at) => at.getAttribute('aria-pressed'))"), ["false", "true", "true", "false"], "what is chosen")
+    player.focus("#fire")
+    player.does("1 fire bob,cyd", player.press, "Enter")
+    player.until("document.activeElement.dataset.name === 'cyd' && $('#fire').hidden")
+    equal(player.value("$$('#board [aria-pressed]').length"), 0, "what is chosen after it lent")
+    player.focus("#undo")
+    player.press("Enter")
+    player.until("$('#undo').disabled && document.activeElement.closest('#board') !== null")
+
+
+def made_larger(player):
+    """At 400 and at 300 % the board of a laptop is no stamp."""
+    for wide, high in (320, 256), (341, 192), (427, 256):
+        player.size(wide, high)
+        sides = player.value("(({ width, height }) => [width, height])($('#board svg').getBoundingClientRect())")
+        expect(min(sides) >= 190 and player.value("document.documentElement.scrollWidth <= innerWidth"), f"a board of {sides} on {wide} x {high}")
+    player.size()
 
 
 def in_sizes(player):
@@ -509,11 +534,12 @@ def with_a_long_game(player):
     equal(player.text("#said"), f"{LONG - 100} not won", "a claim on an earlier place")
 
 
-PARTS = (in_sizes, by_mouse, by_touch, by_keys, with_looks, with_refusals, with_questions, with_many_lines,
-         with_fire, with_tables, on_a_phone, with_an_end, with_editor, with_editor_by_keys, with_takings, with_a_long_game, with_focus)
+PARTS = (in_sizes, made_larger, by_mouse, by_touch, by_keys, with_looks, with_refusals, with_questions, with_many_lines,
+         with_fire, with_tables, on_a_phone, with_an_end, with_editor, with_editor_by_keys, with_takings, with_a_long_game, with_focus,
+         with_buttons_that_go)
 # The three windows of Firefox have one focus, and it comes and goes; and it may scroll once a shorter page was drawn, when the
 # board is in view already. So the focus and the editor, and what follows on its table, are looked at in Chromium.
-OF_CHROMIUM = with_editor, with_editor_by_keys, with_takings, with_a_long_game, with_focus
+OF_CHROMIUM = with_editor, with_editor_by_keys, with_takings, with_a_long_game, with_focus, with_buttons_that_go
 
 
 def one_player(folder, browsers):

@@ -14,6 +14,7 @@ from unittest.mock import patch
 
 from browser import browsers
 from common import EXAMPLES, PATIENCE, addresses, asked, is_modest, played, refused, started, swings, text_of, together, written
+from dollar.board.keeping import Keeper
 from dollar.board.server import addresses_of
 from helpers import equal, expect, tests_of
 from model import some_command
@@ -179,6 +180,7 @@ def keeping(folder):
     """A class that is kept outlasts board/play, with its addresses, its seats and their looks, also if it was killed while it wrote."""
     kept, table = Path(folder, "kept"), written(folder, "table.json", json.dumps(TABLE))
     record, command = kept / "table1" / "room1.jsonl", ["board", "--no-browser", table, "--class", "3", "--keep", kept]
+    kept.mkdir(0o755)
     child = started(*command[2:])
     pupils, teacher = addresses(child)
     Place(teacher).post("may", {"gifts": True})
@@ -186,7 +188,8 @@ def keeping(folder):
     statuses = [ann.play(line)[0] for line in ("look", "gift ann 1", "look", "lend zoe", "lend ann")]
     equal(statuses, [200] * 5, "lines that are kept")
     refused(command, "is in use by a command that still runs", stdin=subprocess.DEVNULL)
-    equal((kept / "class.json").stat().st_mode & 0o777, 0o600, "who can read the keys")
+    modes = {path.name: path.stat().st_mode & 0o777 for path in kept.rglob("*")}
+    equal(modes, {"table1": 0o700, **dict.fromkeys(("lock", "class.json", "tables.json", "room1.jsonl"), 0o600)}, "who can read what is kept")
     ann.leave()
     child.kill()
     child.communicate()
@@ -214,9 +217,26 @@ def keeping(folder):
         refused(command, word, stdin=subprocess.DEVNULL)
         equal(text_of(record), text, "a record of a game that is not gone on with")
     written(folder, record, before)
+    for name in "class.json", "table1/tables.json":
+        whole = text_of(kept / name)
+        for text in "", "{\x01", "7", whole[:-1]:
+            written(kept, name, text)
+            refused(command, f"{name} is damaged", stdin=subprocess.DEVNULL)
+            equal(text_of(kept / name), text, "a damaged file that is not gone on with")
+        written(kept, name, whole)
     for stage, word in (["cube", [text_of(EXAMPLES / "cube.json")]], "another table"), (text_of(EXAMPLES / "cube.json"), "an older form"):
         written(record.parent, "tables.json", json.dumps([stage]))
         refused(command, word, stdin=subprocess.DEVNULL)
+
+
+def on_the_disk(folder):
+    """What is kept is on the disk before it takes the place of what was, and the same is not written twice."""
+    acts, replace = [], os.replace
+    with patch("os.fsync", lambda _: acts.append("sync")), patch("os.replace", lambda *places: acts.append("replace") or replace(*places)):
+        keeper = Keeper(Path(folder, "kept"))
+        for number in 1, 1, 2:
+            keeper.save({"turn": number})
+    equal([acts, text_of(Path(folder, "kept", "class.json"))], [["sync", "replace"] * 2, '{"turn": 2}'], "what is done with class.json")
 
 
 def a_long_game(folder):
@@ -349,5 +369,5 @@ def other_names(folder):
             equal(place.post("join", {"name": "ann", "browser": "b" * 24}, headers=given)[0], status, f"{origin} at {host}")
 
 
-load_tests = tests_of(many_pupils, strangers, deaths, keeping, a_long_game, full_history, floods, clicks,
+load_tests = tests_of(many_pupils, strangers, deaths, keeping, on_the_disk, a_long_game, full_history, floods, clicks,
                       opening, other_names, hosts, given=tempfile.TemporaryDirectory)

@@ -21,6 +21,8 @@ def with_entries(lesson):
     ann, bob, desk, *_ = lesson
     equal(ann.value("texts('#names li b')"), ["Zo\u00eb", "<img src=x onerror=p()>"], "the names that are shown")
     equal(ann.value("$$('#names img').length"), 0, "a name that is a script")
+    kept = ann.value("$$('#board, #names li b').every((at) => at.getAttribute('translate') === 'no')")
+    equal(kept, True, "names that a translator leaves alone")
     ann.click(at("cyd"))
     for page in ann, bob:
         page.has(1)

@@ -93,7 +93,7 @@ def coming_in(folder, browsers, networks, pupils, teacher):
 
 def first_table(ann, others, desk, wall, networks):
     """The four houses: the first minute teaches, and what is played while connections die is played and drawn."""
-    equal(ann.text("#note"), "Click cyd: it sends a dollar along each of its roads.", "the first minute")
+    equal(ann.text("#note"), "Click any house: it sends a dollar along each of its roads.", "the first minute")
     for word in "edges", "roads":
         desk.value("$('#may-houses').click()")
         ann.until(f"$('#note').textContent.endsWith(' {word}.') && $('#legend').textContent.includes(' {word[:-1]} was')")
@@ -133,6 +133,7 @@ def kind_houses(ann, others, desk, wall):
     handed(desk, "named kind_houses.json")
     for page in ann, wall:
         page.until("given.name === 'kind_houses.json'")
+    equal(ann.text("#note"), "", "the first minute, on a second table")
     others[0].play("lend ann")
     ann.touch("#cant")
     ann.until("$('#won').textContent === \"Right: it can't be done.\"")
@@ -169,21 +170,27 @@ def shown_by_hand(ann, desk, wall):
 def at_own_speed(folder, ann, others, desk, wall):
     """Puzzles from easy to hard: each board goes on by itself, and the wall shows where it is."""
     handed(desk, "graph Wheel of 5", "rising")
-    ann.until("given.name === 'Wheel of 5, easy' && given.later.length === 5 && $('#next').hidden")
+    ann.until("given.name === 'Wheel of 5' && given.later.length === 5 && $('#next').hidden")
+    for page in ann, wall:
+        equal(page.value("/easy|medium|hard|unwinnable/.test(document.title + JSON.stringify(given) + $('#title').textContent)"), False,
+              "whether a page of pupils knows the level")
     tables = [[json.loads(text) for text in stage] for stage in desk.value("[given, ...given.later].map(({ tables }) => tables)")]
     ann.touch("#cant")
-    ann.until("$('#note').textContent === \"Ann: it can't be done. That is wrong: it can.\"")
+    ann.until("$('#note').textContent === 'It can be done. Try on!'")
+    ann.touch("#cant")
+    ann.until("$('#refused').textContent.includes('before you say so again: 3.')")
     ann.touch("#hint")
     ann.until("/^Let [a-e] (lend|borrow) once. In all \\d+ moves? will do.$/.test($('#note').textContent)")
     equal(ann.value(BELOW), [], "what can't be seen beside a hint")
     picture(ann, "phone-hint")
     wins = [lines_for(folder, json.dumps(stage[ann.seat - 1])) for stage in tables]
-    equal([bool(lines) for lines in wins], [True, True, True, False, True, True], "which puzzles can be won")
+    can = [bool(lines) for lines in wins]
+    equal([can[:2], sorted(can[2:5]), can[5:]], [[True, True], [False, True, True], [True]], "which puzzles can be won")
     for line in wins[0]:
         ann.value(f"play('{line}')")
     ann.until("$('#won').textContent.includes('With help, so it is no best.') && !$('#next').hidden")
     ann.touch("#next")
-    ann.until("rooms.get(me.seat).stage === 1 && viewer.game.length === 0 && $('#title').textContent.endsWith('2 of 6, Wheel of 5, easy')")
+    ann.until("rooms.get(me.seat).stage === 1 && viewer.game.length === 0 && $('#title').textContent.endsWith('2 of 6, Wheel of 5')")
     for pupil in others[:10]:
         for line in lines_for(folder, json.dumps(tables[0][pupil.seat - 1])):
             equal(pupil.play(line)[0], 200, "a move of another")

@@ -63,6 +63,9 @@ def dying_connections(folder, browsers):
         for name in "bob", "cyd", "dan":
             ann.click(at(name))
         ann.has(4)
+        # The computer's clock is set back an hour, and the connections die.
+        for page in ann, wall:
+            page.value("((real) => { Date.now = () => real() - 3600000; })(Date.now)")
         network.age += 1
         other.play("borrow cyd")
         for page in ann, wall:

@@ -1,4 +1,5 @@
 """A class in rooms, without a browser: each room has its game, and the teacher hands out tables and says what is permitted."""
+import asyncio
 import json
 import random
 import subprocess
@@ -7,6 +8,8 @@ import time
 from pathlib import Path
 
 from common import EXAMPLES, addresses, asked, played, refused, started, text_of, together, waited, written
+from dollar.board.classroom import Classroom
+from dollar.board.game import Table
 from dollar.board.puzzles import GRAPHS, LEVELS, puzzles, table_of
 from dollar.board.server import LETTERS
 from helpers import equal, expect, tests_of
@@ -57,6 +60,8 @@ def next_tables(folder):
         equal(desk.post("table", {"table": TRIANGLE, "name": "three", "size": 1})[0], 200, "a table that is given")
         bob.until(lambda pupil: len(pupil.tables) == 2, "the second table does not come")
         equal((bob.tables[-1]["tables"], bob.tables[-1]["name"], bob.tables[-1]["room"]), ([TRIANGLE], "three", 2), "the second table")
+        for stage in 0.0, "0", None, 1, True:
+            equal(ann.place.post("next", {"key": ann.key, "stage": stage})[0], 409, f"the stage {stage!r}")
         late = bob.place.post("line", {"key": bob.key, "line": "lend a", "feed": first})
         equal(late, (409, "There is a new table. This line was not played."), "a line for the table before")
         equal((ann.play("borrow b")[1], bob.play("claim")[1]), ("0 moved a=1 b=1 c=-2", "0 not won"), "lines on the second table")
@@ -116,7 +121,7 @@ def on_graphs(folder):
     for graph in [*GRAPHS, *["random"] * 10]:
         for level in LEVELS:
             name, (table,) = puzzles(graph, level, TRIANGLE)
-            equal(name, f"{'a random graph' if graph == 'random' else graph}, {level}", "the name of a puzzle")
+            equal(name, "a random graph" if graph == "random" else graph, "the name of a puzzle")
             confirmed(folder, table, level)
             if graph != "random":
                 equal([json.loads(table)[part] for part in ("vertices", "edges")],
@@ -185,9 +190,33 @@ def hints(folder):
         expect(len(ann.entries) < 30, "so many hints")
         bob.play("gift ann -20")
         equal(hint(bob)["hint"]["count"], None, "a hint where nothing can be won")
+        bob.until(lambda pupil: pupil.items == 2, "the hint that nothing can be won is not counted")
         equal(taken(desk, folder, 2)[0], ["2 gift ann -20"], "the steps after a hint")
         desk.post("may", {"hints": False})
         equal(hint(ann), "The teacher has switched off hints. Nothing was played.", "a hint that is not permitted")
+
+
+def wrong_answers(folder):
+    """Who says of a table that can be won that it can't makes three moves before saying so again, also after an accident."""
+    words = [EXAMPLES / "houses.json", "--class", "2", *EACH, "--keep", Path(folder, "kept")]
+    child = started(*words)
+    ann = Pupil(addresses(child)[0], "ann")
+
+    def cant():
+        return ann.place.post("cant", {"key": ann.key})[1]
+
+    equal(cant(), {"cant": False}, "a wrong answer")
+    for left in 3, 2, 1:
+        equal(cant(), f"It can be done. Moves to make before you say so again: {left}.", "an answer at once")
+        equal(ann.play("lend ann")[0], 200, "a move")
+        if left == 2:
+            child.kill()
+            child.communicate()
+            child = started(*words)
+            addresses(child)
+    equal(cant(), {"cant": False}, "an answer after three moves")
+    child.terminate()
+    equal(child.communicate()[1], "", "what board/play said")
 
 
 def a_puzzle_each(folder):
@@ -200,7 +229,8 @@ def a_puzzle_each(folder):
     for graph, level, size in ("random", "easy", 1), ("Cube", "hard", 2), ("Wheel of 5", "unwinnable", 1):
         equal(desk.post("table", {"graph": graph, "level": level, "size": size, "each": True})[0], 200, f"puzzles on {graph}")
         for pupil in room:
-            pupil.until(lambda pupil: pupil.tables[-1]["name"].endswith(level), "a puzzle of one's own does not come")
+            named = "a random graph" if graph == "random" else graph
+            pupil.until(lambda pupil: pupil.tables[-1]["name"] == named, "a puzzle of one's own, of an untold level, does not come")
         page = watcher(desk)
         page.until(lambda page: page.tables, "the puzzles do not come to the teacher")
         tables = page.tables[-1]["tables"]
@@ -285,6 +315,32 @@ def by_a_short_code(folder):
         expect(any("There is no such code." in said for _, said in heard), f"the right code after many wrong ones: {heard}")
         equal([place.get(f"/{short}"), place.get("/page.css")[0]], [leads, 200], "the right code from another address, and how the page looks")
         expect(waited(lambda: pest.get(f"/{short}") == leads), "the right code a while later")
+        pests = [Place(place.address) for _ in range(12)]
+        for number, each in enumerate(pests):
+            each.source = f"127.0.1.{number + 1}", 0
+        together(*[lambda each=each: [each.get(path) for path in wrongs[:25]] for each in pests])
+        equal(place.get(f"/{short}"), leads, "the right code, while many addresses try wrong ones")
+
+
+def two_of_a_name(folder):
+    """Two files of one name would be one table to choose from, so they are refused."""
+    words = [EXAMPLES / "houses.json", written(folder, "houses.json", TRIANGLE), "--class", "2"]
+    refused(["board", "--no-browser", *words], "several files are called houses.json", stdin=subprocess.DEVNULL)
+
+
+def in_another_network(_):
+    """Where this machine has another address, that is shown; and again the chosen one, once it is there again."""
+    async def shown(*places):
+        room.places = lambda: places
+        room.beat()
+        return room.place
+
+    async def shown_in_turn():
+        return [await shown(*places) for places in (["one:1", "two:1"], ["two:1", "three:1"], ["three:1"], [], ["two:1", "one:1"])]
+
+    room = Classroom([Table("triangle", TRIANGLE)], 2)
+    room.place = "one:1"
+    equal(asyncio.run(shown_in_turn()), ["one:1", "two:1", "three:1", "three:1", "one:1"], "the address that is shown")
 
 
 def many_seats(folder):
@@ -316,5 +372,5 @@ def names(folder):
         anna.until(lambda pupil: "Cem" in str(pupil.states[-1:]), "the names are not told")
 
 
-load_tests = tests_of(apart, next_tables, in_the_middle, on_graphs, a_puzzle_each, taking_back, hints, permitted, by_a_short_code,
-                      many_seats, names, given=tempfile.TemporaryDirectory)
+load_tests = tests_of(apart, next_tables, in_the_middle, on_graphs, a_puzzle_each, taking_back, hints, wrong_answers, permitted,
+                      by_a_short_code, two_of_a_name, in_another_network, many_seats, names, given=tempfile.TemporaryDirectory)

@@ -167,7 +167,7 @@ class Alone:
         """A puzzle, as its name and its table."""
         def make() -> dict[str, Any]:
             name, (table,) = puzzles(graph, level, now)
-            return {"name": name, "table": table}
+            return {"name": Table(name, table, level=level).title, "table": table}
 
         return await made(make)
 

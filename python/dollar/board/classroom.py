@@ -4,6 +4,7 @@ after another, and its pages see each entry as it comes. The pages of the teache
 from __future__ import annotations
 
 import asyncio
+import math
 import re
 import time
 import unicodedata
@@ -13,7 +14,7 @@ from typing import Any, AsyncIterator, Awaitable, Callable
 from dollar.board.alone import question, with_value
 from dollar.board.game import MOST_LINE, MOST_SEATS, Table, tables_of
 from dollar.board.pages import asset, forward, page
-from dollar.board.puzzles import RISING, graphs, hint, puzzles
+from dollar.board.puzzles import graphs, hint, puzzles, rising
 from dollar.board.qr import code
 from dollar.board.replay import page as replay_page
 from dollar.board.room import Feed, Room, event
@@ -30,8 +31,9 @@ HEARTBEAT, UNUSED = 5.0, 60.0
 TOGETHER = 0.03
 # The letters of the short code, what is meant as one, and what is counted as a wrong one.
 SHORT, MEANT, COUNTED = 6, re.compile(r"[A-Za-z0-9-]{1,12}\Z"), re.compile("[%s]{6}\\Z" % LETTERS, re.I)
-# How many wrong codes and new seats one address, behind which a school may be, has at once, and then in a second; and how many all have.
-TRIES, SEATS = ((40, 2.0), (200, 10.0)), ((12, 0.5), (64, 8.0))
+# How many wrong codes and new seats one address, behind which a school may be, has at once, and then in a second; and how many seats all
+# have. Wrong codes of some addresses do not keep others out.
+TRIES, SEATS = ((40, 2.0),), ((12, 0.5), (64, 8.0))
 FILES = {"table.json": "application/json", "steps.txt": "text/plain", "history.txt": "text/plain"}
 BEAT, JOINER = event("beat", {}), "\u200d"
 # Letters that look like nothing, and a row of marks on a letter of which three are enough.
@@ -46,7 +48,7 @@ IN_ROOMS = "undo", "hints"
 class Bucket:
     """Permits so many acts at once, and then so many in a second."""
 
-    def __init__(self, most: int, each: float) -> None:
+    def __init__(self, most: float, each: float) -> None:
         self.most, self.each, self.left, self.filled = most, each, float(most), time.monotonic()
 
     def takes(self, count: int = 1) -> bool:
@@ -59,9 +61,9 @@ class Bucket:
 
 
 class Limit:
-    """A bucket for each address of the network, beside a wide one for all."""
+    """A bucket for each address of the network, beside a wide one for all, if there is one."""
 
-    def __init__(self, own: tuple[int, float], whole: tuple[int, float]) -> None:
+    def __init__(self, own: tuple[int, float], whole: tuple[float, float] = (math.inf, 0.0)) -> None:
         self.own, self.whole = own, Bucket(*whole)
         self.buckets: dict[str, Bucket] = {}
 
@@ -142,7 +144,7 @@ class Classroom:
         self.soon: asyncio.TimerHandle | None = None
         self.last, self.changes = 0.0, 0
         # Where others find this: by a place, and by more from which the teacher chooses.
-        self.place, self.port = "", 0
+        self.place, self.chosen, self.port = "", "", 0
         self.places: Callable[[], list[str]] = list
         self.set_tables([tables[:1]], kept.get("size", size), 1)
         self.may = {**dict.fromkeys(SWITCHES, False), "houses": True, **usual(self.size), **kept.get("may", {})}
@@ -185,7 +187,7 @@ class Classroom:
             self.keep_tables(self.keeper)
 
     def keep_tables(self, keeper: Keeper) -> None:
-        keeper.hand_out(self.turn, [[tables[0].name, [table.text for table in tables]] for tables in self.handed])
+        keeper.hand_out(self.turn, [[tables[0].name, [table.text for table in tables], tables[0].level] for tables in self.handed])
 
     async def stop(self) -> None:
         for room in list(self.rooms.values()):
@@ -213,10 +215,12 @@ class Classroom:
     def room_of(self, seat: Seat) -> Room:
         return self.room(self.number_of(seat))
 
-    def told_first(self, feed: Feed) -> dict[str, Any]:
-        """What a page needs to draw the games of a feed from their beginning: the tables of the rooms, or that of its own."""
+    def told_first(self, feed: Feed, teaches: bool) -> dict[str, Any]:
+        """What a page needs to draw the games of a feed from their beginning: the tables of the rooms, or that of its own. The level of a
+        puzzle, which may say that it can't be won, is for the teacher alone."""
         stages = [[table] for table in self.tables_of(feed.room)] if feed.room else self.handed
-        told, *later = [{"name": tables[0].name, "tables": [table.text for table in tables], "layout": tables[0].layout} for tables in stages]
+        told, *later = [{"name": tables[0].title if teaches else tables[0].name, "tables": [table.text for table in tables],
+                         "layout": tables[0].layout} for tables in stages]
         return {"feed": feed.key, "room": feed.room, "turn": self.turn, **told, "later": later}
 
     @property
@@ -246,8 +250,18 @@ class Classroom:
         for follower in self.followers:
             follower.woken.set()
 
+    def settle(self) -> None:
+        """If this machine is in another network now, goes on at an address that it has, and back at the chosen one when it has that again."""
+        places = self.places()
+        self.chosen = self.chosen or self.place
+        place = next((each for each in (self.chosen, self.place, *places) if each in places), self.place)
+        if place != self.place:
+            self.place = place
+            self.changed()
+
     def beat(self) -> None:
         """Has something be sent to all pages now and then, so that a connection that is gone is noticed."""
+        self.settle()
         for follower in self.followers:
             follower.is_due = True
             follower.woken.set()
@@ -263,7 +277,7 @@ class Classroom:
                 "ends": {room.number: room.end for room in self.rooms.values() if room.end}})
         return self.told_state[1]
 
-    async def events(self, gone: asyncio.Future[Any], mark: tuple[str | None, int], seat: Seat | None) -> AsyncIterator[bytes]:
+    async def events(self, gone: asyncio.Future[Any], mark: tuple[str | None, int], seat: Seat | None, teaches: bool) -> AsyncIterator[bytes]:
         """The table, the state and the entries, from a mark on, as they come, until the page has gone, or its seat was freed or is open
         in a newer one. A mark is the key of a feed and a number; of another feed all is told."""
         follower, seen = Follower(gone), -1
@@ -279,7 +293,7 @@ class Classroom:
                 feed = self.room_of(seat).feed if seat else self.feed
                 if key != feed.key:
                     key, number = feed.key, 0
-                    yield event("table", self.told_first(feed), "%s.0" % key)
+                    yield event("table", self.told_first(feed, teaches), "%s.0" % key)
                 elif seen != self.changes:
                     seen = self.changes
                     yield self.state()
@@ -336,16 +350,17 @@ class Classroom:
     def given(self, asked: str, request: Request, teaches: bool) -> Answer:
         """What a page gets that plays nothing."""
         if asked == "start":
+            self.settle()
             own = {"places": self.places(), "named": [table.name for table in self.tables], "graphs": graphs()} if teaches else {}
             return as_json({"role": "teacher" if teaches else "pupil", "address": self.address,
                             "short": self.short, "code": code("http://%s/%s" % (self.place, self.short)), "size": self.size,
-                            "kept": self.keeper is not None, **own, **self.told_first(self.feed)})
+                            "kept": self.keeper is not None, **own, **self.told_first(self.feed, teaches)})
         if asked == "events":
             mark, seat = begin_at(request), None
             if "key" in request.query and not teaches:
                 seat = self.seat_of(request.query["key"])
                 request.known()
-            return 200, "text/event-stream", lambda gone: self.events(gone, mark, seat)
+            return 200, "text/event-stream", lambda gone: self.events(gone, mark, seat, teaches)
         if teaches and asked in FILES:
             return 200, FILES[asked], self.file(asked, room_in(request.query.get("room", "1"))).encode()
         return asset(asked) if asked else page("class.html")
@@ -373,7 +388,7 @@ class Classroom:
             return await self.teachers("free", {"seat": seat.number})
         room = self.room_of(seat)
         stage = given.get("stage", room.stage)
-        if given.get("feed", room.feed.key) != room.feed.key or stage != room.stage:
+        if given.get("feed", room.feed.key) != room.feed.key or type(stage) is not int or stage != room.stage:
             raise Refused(409, t("class.new-table"))
         if asked == "line":
             return await self.line(seat, room, text_in(given, "line", MOST_BODY), request)
@@ -501,7 +516,7 @@ class Classroom:
         elif asked == "place":
             if given.get("place") not in self.places():
                 raise Refused(409, t("teacher.no-address"))
-            self.place = given["place"]
+            self.place = self.chosen = given["place"]
         elif asked == "end":
             self.over = True
             await self.stop()
@@ -568,7 +583,7 @@ class Classroom:
         if "graph" in given:
             count = -(-self.seats // size) if given.get("each") is True and size else 1
             graph, level = text_in(given, "graph", 40), text_in(given, "level", 20)
-            return [tables_of(*puzzles(graph, each, self.handed[0][0].text, count)) for each in (RISING if level == "rising" else [level])]
+            return [tables_of(*puzzles(graph, each, self.handed[0][0].text, count), each) for each in (rising() if level == "rising" else [level])]
         if "table" in given:
             text = text_in(given, "table", MOST_TABLE)
             printed("judge", text.encode(), patience=PATIENCE)
@@ -585,7 +600,7 @@ class Classroom:
             table = self.table(number)
             lines = await asyncio.to_thread(printed, "rehearse", table.text.encode(), steps.encode(), patience=PATIENCE)
             names = [entry.name for entry in self.rooms[number].entries] if number in self.rooms else []
-            made = await asyncio.to_thread(replay_page, table.name, table.text, steps, lines, history, table.own, names)
+            made = await asyncio.to_thread(replay_page, table.title, table.text, steps, lines, history, table.own, names)
         except (Fault, TimeoutError) as fault:
             raise Refused(409, t("teacher.no-replay", fault)) from None
         return as_json({"page": made})

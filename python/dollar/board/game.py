@@ -6,6 +6,7 @@ import contextlib
 import json
 from typing import Any, Callable, Sequence
 
+from dollar.board.texts import t
 from dollar.drawing import USUAL, layout
 from dollar.grammar import limit
 from dollar.program import PATIENCE, command_line, fault_of
@@ -15,17 +16,23 @@ PIECE = 1 << 16
 
 
 class Table:
-    """A table to play on: its name, its text, and where its vertices stand."""
+    """A table to play on: its name, its text, and where its vertices stand; if it is a puzzle, also its level, which players are not told."""
 
-    def __init__(self, name: str, text: str, own: str | None = None, laid: Any = None) -> None:
+    def __init__(self, name: str, text: str, own: str | None = None, laid: Any = None, level: str = "") -> None:
         made = json.loads(text)
         self.name, self.text, self.own, self.layout = name, text, own, laid or layout(made, made["amounts"] + USUAL, own)
+        self.level = level
+
+    @property
+    def title(self) -> str:
+        """The name, with the level if there is one."""
+        return t("puzzles.name", self.name, t("puzzles." + self.level)) if self.level else self.name
 
 
-def tables_of(name: str, texts: list[str]) -> list[Table]:
+def tables_of(name: str, texts: list[str], level: str = "") -> list[Table]:
     """Tables of these texts, which are on the same graph."""
-    first = Table(name, texts[0])
-    return [first, *(Table(name, text, laid=first.layout) for text in texts[1:])]
+    first = Table(name, texts[0], level=level)
+    return [first, *(Table(name, text, laid=first.layout, level=level) for text in texts[1:])]
 
 
 class Game:

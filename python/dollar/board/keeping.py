@@ -1,6 +1,6 @@
 """Keeps a class in a folder while it goes on, so that it outlasts the end of the board's server: who sits where, and the games.
 
-A folder has `class.json`, which its owner alone can read, and for each turn, in which something was handed out, a folder with the tables
+Its owner alone can read the files. A folder has `class.json`, and for each turn, in which something was handed out, a folder with the tables
 of its rooms, and a record of each room."""
 from __future__ import annotations
 
@@ -24,6 +24,26 @@ def read(place: str) -> str:
     return text_of(place) if os.path.exists(place) else ""
 
 
+def thing_in(place: str, otherwise: Any) -> Any:
+    """The thing in a file of JSON, or another if there is no such file. Raises ValueError if it is not of the kind of the other."""
+    try:
+        thing = json.loads(text_of(place)) if os.path.exists(place) else otherwise
+    except ValueError:
+        thing = None
+    if type(thing) is not type(otherwise):
+        raise ValueError("%s is damaged, so the class can't go on: restore it, or keep a new class in another folder" % place)
+    return thing
+
+
+def own_file(place: str, flags: int) -> int:
+    """Opens a file to write, which its owner alone can read, as the folders that are made for it."""
+    os.makedirs(os.path.dirname(place), mode=0o700, exist_ok=True)
+    opened = os.open(place, flags | os.O_WRONLY | os.O_CREAT | os.O_CLOEXEC, 0o600)
+    # It may have been there.
+    os.fchmod(opened, 0o600)
+    return opened
+
+
 class Kept:
     """The record of a room: a line of JSON for each item of its feed, also for what was taken back and played again."""
 
@@ -40,8 +60,7 @@ class Kept:
             return
         try:
             if self.file is None:
-                os.makedirs(os.path.dirname(self.place), exist_ok=True)
-                self.file = open(self.place, "a", encoding="utf-8", newline="")
+                self.file = open(own_file(self.place, os.O_APPEND), "a", encoding="utf-8", newline="")
                 self.file.truncate(self.size)
             self.file.write(json.dumps(thing) + "\n")
             self.file.flush()
@@ -80,36 +99,43 @@ class Keeper:
             fcntl.flock(self.lock, fcntl.LOCK_EX | fcntl.LOCK_NB)
         except OSError:
             raise ValueError("%s is in use by a command that still runs" % folder) from None
-        self.found = json.loads(read(self.place(CLASS)) or "{}")
+        self.found = thing_in(self.place(CLASS), {})
+        self.saved = ""
 
     def place(self, *names: str) -> str:
         return os.path.join(self.folder, *names)
 
     def save(self, thing: Any) -> None:
-        """Keeps what is not a game."""
-        self.put(thing, 0o600, CLASS)
+        """Keeps what is not a game, unless it was kept last."""
+        text = json.dumps(thing)
+        if text != self.saved and self.put(text, CLASS):
+            self.saved = text
 
-    def put(self, thing: Any, mode: int, *names: str) -> None:
-        """Writes a file anew, so that whoever is interrupted leaves the old one. If the disk does not take it, this is told."""
+    def put(self, text: str, *names: str) -> bool:
+        """Writes a file anew, so that an interruption leaves the old one, also if the power fails. If the disk does not take it, this is
+        told, and it gives False."""
         place = self.place(*names)
         try:
-            os.makedirs(os.path.dirname(place), exist_ok=True)
-            with open(os.open(place + ".new", os.O_WRONLY | os.O_CREAT | os.O_TRUNC, mode), "w", encoding="utf-8") as file:
-                json.dump(thing, file)
+            with open(own_file(place + ".new", os.O_TRUNC), "w", encoding="utf-8") as file:
+                file.write(text)
+                file.flush()
+                os.fsync(file.fileno())
             os.replace(place + ".new", place)
         except OSError as error:
             print("%s: %s: %s" % (typed("board"), place, error.strerror), file=sys.stderr)
+            return False
+        return True
 
     def stages(self, turn: int) -> Any:
-        """What was handed out at a turn, one after another, each as its name and the texts of its tables."""
-        stages = json.loads(read(self.place("table%d" % turn, TABLES)) or "[]")
+        """What was handed out at a turn, one after another, each as its name, the texts of its tables, and its level."""
+        stages = thing_in(self.place("table%d" % turn, TABLES), [])
         if stages and isinstance(stages[0], str):
             raise ValueError("%s keeps a class in an older form, which is not read any more" % self.folder)
         return stages
 
     def hand_out(self, turn: int, stages: Any) -> None:
         """Keeps what was handed out at a turn."""
-        self.put(stages, 0o644, "table%d" % turn, TABLES)
+        self.put(json.dumps(stages), "table%d" % turn, TABLES)
 
     def room(self, turn: int, number: int, seats: int) -> Kept:
         return Kept(self.place("table%d" % turn, "room%d.jsonl" % number), seats)

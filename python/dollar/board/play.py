@@ -201,6 +201,10 @@ async def until_ended(given: argparse.Namespace, server: Server, host: str, secr
 def main(words: list[str]) -> int:
     given = arguments(words)
     own = None if given.places is None else text_of(given.places)
+    names = [shown_name(file) for file in given.files]
+    for name in names:
+        if names.count(name) > 1:
+            raise ValueError("several files are called %s, and the teacher could not tell them apart" % name)
     texts = {shown_name(file): text_of(file) for file in given.files}
     for name, text in texts.items():
         try:

@@ -23,8 +23,8 @@ Edges = List[Tuple[int, int]]
 TRIES, LETTERS = 40, "abcdefghijklmnop"
 # Of each level: how many dollars there are beside the genus, and how often a vertex lends or borrows at most.
 LEVELS = {"easy": (2, 1), "medium": (0, 2), "hard": (-1, 3), "unwinnable": (-1, 2)}
-# The levels of puzzles that are handed out one after another.
-RISING = ["easy", "easy", "medium", "unwinnable", "medium", "hard"]
+# The levels of puzzles that are handed out one after another: the first ones, some in any order, and the last.
+RISING = ["easy", "easy"], ["medium", "unwinnable", "medium"], ["hard"]
 # How many tables are looked at for a shortest way.
 SEARCHED = 20000
 # The fewest and the most vertices of a random graph, and edges that it has beside those of a tree.
@@ -202,8 +202,14 @@ def hint(text: str) -> dict[str, Any]:
     return {"name": name, "count": 1 if count > middle else -1, "left": 0}
 
 
+def rising() -> list[str]:
+    """Levels from easy to hard, of which nobody can tell by its place which one can't be won."""
+    first, middle, last = RISING
+    return [*first, *random.SystemRandom().sample(middle, len(middle)), *last]
+
+
 def puzzles(graph: str, level: str, now: str, count: int = 1) -> tuple[str, list[str]]:
-    """The name and the texts of puzzles: on a known graph, on a random one, or on that of the table now."""
+    """The name of a graph and the texts of puzzles on it: on a known graph, on a random one, or on that of the table now."""
     if level not in LEVELS or graph not in ("", "random", *GRAPHS):
         raise ValueError(t("puzzles.none"))
     draw = random.SystemRandom()
@@ -212,4 +218,4 @@ def puzzles(graph: str, level: str, now: str, count: int = 1) -> tuple[str, list
     while len(made) < count:
         # Once none is found that is new, they come again.
         made.append(puzzle(table, level, draw, made if len(set(made)) == len(made) else ()))
-    return t("puzzles.name", called, t("puzzles." + level)), made
+    return called, made

@@ -9,11 +9,13 @@ from typing import Any, Callable, NamedTuple, Sequence, Union
 from dollar.answers import numbered, verdict_of
 from dollar.board.game import Game
 from dollar.board.puzzles import hint
-from dollar.board.server import new_secret
+from dollar.board.server import Refused, new_secret
 from dollar.board.texts import t
 from dollar.program import PATIENCE, printed
 
 BATCH, LETTERS = 400, 9
+# How many moves a wrong answer costs.
+WRONG = 3
 # The replies to what has changed the board.
 CHANGES = "moved", "given", "joined"
 
@@ -80,6 +82,8 @@ class Room(Game):
     def __init__(self, number: int, texts: list[str], whole: Feed, told: Callable[[], None], changed: Callable[[], None], kept: Any = None) -> None:
         super().__init__(texts[0])
         self.texts, self.stage, self.is_done = texts, 0, False
+        # So many moves are to be made until somebody may say again that it can't be done.
+        self.due = 0
         self.number, self.feeds, self.told, self.changed, self.kept = number, [Feed(number), whole], told, changed, kept
         self.turn, self.saved, self.restarts = asyncio.Lock(), 0, False
         self.entries: list[Played] = []
@@ -99,11 +103,13 @@ class Room(Game):
         if isinstance(item, Played):
             self.entries.append(item)
             self.undone.clear()
+            self.due -= min(self.due, has_changed(item))
             self.is_done = self.is_done or is_won(self.text, item)
         elif isinstance(item, Noted):
             self.is_done = self.is_done or item == (1, "judged", item.name)
+            self.due = WRONG if item == (0, "judged", item.name) else self.due
             if item.kind == "onward":
-                self.stage, self.text, self.is_done = item.number, self.texts[item.number], False
+                self.due, self.stage, self.text, self.is_done = 0, item.number, self.texts[item.number], False
                 self.entries, self.undone = [], []
         elif item.left < len(self.entries):
             self.undone.append(self.entries[item.left:])
@@ -184,13 +190,16 @@ class Room(Game):
         """A move that helps."""
         async with self.turn:
             found = await asyncio.to_thread(hint, self.now())
-            if found["count"]:
+            # That no move helps is a hint too.
+            if found["count"] != 0:
                 self.comes(Noted(found["left"], "helped", name))
             return found
 
     async def judge(self, name: str) -> bool:
-        """Says whether it is right that it can't be done as it stands."""
+        """Says whether it is right that it can't be done as it stands. Who was wrong has to make some moves first."""
         async with self.turn:
+            if self.due:
+                raise Refused(409, t("class.try-first", self.due))
             said = await asyncio.to_thread(printed, "judge", self.now().encode(), patience=PATIENCE)
             self.comes(Noted(int(not verdict_of(said.rstrip("\n"))), "judged", name))
             return self.is_done

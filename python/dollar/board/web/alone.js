@@ -3,11 +3,11 @@
 import { Questions } from "./ask.js";
 import { Editor } from "./edit.js";
 import { Hands } from "./hand.js";
-import { Link, fewest, save, startPage, store, stored, sure } from "./page.js";
+import { Link, fewest, save, startPage, store, stored, sure, wordsOnce } from "./page.js";
 import { layoutOf, placesText } from "./places.js";
 import { speak, t } from "./texts.js";
 import { Viewer, bind, element } from "./viewer.js";
-import { Game, answerOf, firstWords, linesOf } from "./words.js";
+import { Game, answerOf, linesOf } from "./words.js";
 
 const SOON = 400;
 export let table, fileName, examples, viewer, hands, questions, editor;
@@ -125,15 +125,15 @@ function goOn() {
 
 function showWays() {
   const { game, now } = viewer;
-  element("undo").disabled = now === 0;
-  element("redo").disabled = now === game.length;
+  hands.enable("undo", now > 0);
+  hands.enable("redo", now < game.length);
   element("next").hidden = !isDone();
 }
 
 function shown() {
   undone = false;
   questions.clear();
-  hands.note(firstWords(viewer.game, viewer.now));
+  hands.note(wordsOnce(viewer.game, viewer.now));
   showWays();
 }
 

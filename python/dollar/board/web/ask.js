@@ -90,10 +90,10 @@ export class Questions {
       if (this.reply !== asked) return;
       const hot = edgesTo(next, burning.slice(0, count), edges), has = dollars(reduced.get(next));
       const why = count === 0 ? t("ask.owes") : t("ask.hot", hot, has);
-      this.show({ amounts: reduced, burnt: burning.slice(0, count + 1) });
       this.line(t("ask.burns", next, why));
+      if (count + 1 === burning.length) this.line(t("ask.all"));
+      this.show({ amounts: reduced, burnt: burning.slice(0, count + 1) });
     }
-    this.line(t("ask.all"));
   }
 
   line(words) {

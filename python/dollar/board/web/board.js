@@ -91,8 +91,10 @@ export class Board {
     const [x, y] = this.place(name), r = this.layout.radius, { q, burnt, says: all } = this.picture, isQ = name === q, says = all.get(name);
     const kinds = ["vertex", amount < 0 && "debt", this.chosen.has(name) && "chosen", burnt.includes(name) && "burnt"];
     const held = t(amount < 0 ? "said.owes" : "board.has", name, dollars(Math.abs(amount)));
-    const label = [held, isQ && "q", says, this.chosen.has(name) && t("board.chosen")].filter(Boolean).join(", ");
-    const hands = { tabindex: 0, role: "button", "aria-label": label };
+    const label = [held, isQ && "q", says].filter(Boolean).join(", ");
+    // While a set is chosen, each vertex is in it or not.
+    const pressed = this.chosen.size > 0 && { "aria-pressed": this.chosen.has(name) };
+    const hands = { tabindex: 0, role: "button", "aria-label": label, ...pressed };
     const given = { class: kinds.filter(Boolean).join(" "), "data-name": name, ...(this.hands && hands) };
     const group = draw("g", given, this.svg);
     if (this.hands) draw("circle", { class: "reach", cx: x, cy: y, r: r + 9 }, group);

@@ -4,17 +4,18 @@ import { Questions } from "./ask.js";
 import { Board, draw } from "./board.js";
 import { Editor } from "./edit.js";
 import { Hands } from "./hand.js";
-import { Link, post, save, startPage, store, stored, sure } from "./page.js";
+import { Link, post, save, startPage, store, stored, sure, wordsOnce } from "./page.js";
 import { fitted, layoutOf } from "./places.js";
 import { speak, t } from "./texts.js";
 import { Viewer, below, bind, button, choose, element, made, refuse, say } from "./viewer.js";
-import { Game, commandWords, debtWords, faultWords, firstWords, linesOf, listed, movesWords, often, replyOf, stepOf } from "./words.js";
+import { Game, commandWords, debtWords, faultWords, joined, linesOf, listed, movesWords, often, replyOf, stepOf } from "./words.js";
 
-const SOON = 16, LETTERS = 24, WORDS_HIGH = 85, TITLE_HIGH = 60, GROUPS = [0, 1, 2, 3, 4, 5, 6];
+const SOON = 16, LETTERS = 24, GROUPS = [0, 1, 2, 3, 4, 5, 6];
 const CHANGES = ["moved", "given", "joined"];
 const KEPT = `dollar ${location.pathname.replaceAll("-", "").toLowerCase()}`;
 export let given, viewer, hands, editor, questions = null, me = null, state = null, waiting = [], received = 0, shownRoom = 1;
-const MEANWHILE = 200, PATIENCE = 10000;
+// Of a fire the wall has so many reasons, the newest.
+const MEANWHILE = 200, PATIENCE = 10000, REASONS = 12;
 let known = [], preview = [140, 110], frame = null, took = 0, last = 0, stopped = false, missed = false, pictured_ = "null";
 export const rooms = new Map();
 
@@ -94,16 +95,15 @@ function enter(inside) {
 
 /* A page without a seat, which shows the way in as well. */
 function watch() {
-  enter(true);
   onlySees("watching");
+  enter(true);
   showWay();
+  window.addEventListener("resize", scheduleFlush);
   link.listen(() => place("events?"));
 }
 
-/* A page that plays nothing has the names beside the board. */
 function onlySees(kind) {
   element("tools").hidden = !teaches();
-  element("now").after(element("class"));
   document.body.classList.add(kind);
 }
 
@@ -252,7 +252,7 @@ const ITEMS = {
   },
   judged(room, { number, name }) {
     Object.assign(room, number ? { is_done: true, right: true } : { wrongs: room.wrongs + 1 });
-    return number ? null : t("class.wrong", name);
+    return number ? null : me && name === me.name ? t("play.can") : t("class.wrong", name);
   },
   onward(room, { number }) {
     Object.assign(room, roomOn(number, room.number, [...room.results, resultOf(room)]));
@@ -316,6 +316,7 @@ function showState() {
   document.body.classList.toggle("begun", given.turn > 1 || [...rooms.values()].some(({ game }) => game.length > 0));
   element("way").classList.toggle("full", !state.open || Object.keys(names).length >= state.seats);
   if (watches()) showRooms();
+  viewer.settle();
   if (watches() && !teaches()) showPicture(JSON.stringify(state.picture));
   viewer.showText();
 }
@@ -339,7 +340,7 @@ function showNames(names) {
 
 function rowOf(seat, { name, here, room }) {
   const row = made("li", "", { value: seat, class: here ? "" : "away" });
-  row.append(made("b", name), state.size > 1 ? ` ${t("seat.room", room)} ` : " ", here ? "" : `${t("seat.away")} `);
+  row.append(made("b", name, { translate: "no" }), state.size > 1 ? ` ${t("seat.room", room)} ` : " ", here ? "" : `${t("seat.away")} `);
   if (me && Number(seat) === me.seat) {
     const other = given.kept ? [" ", button(t("seat.other"), changeOver)] : [];
     row.append(t("seat.you"), " ", button(t("seat.new-name"), askName), " ", button(t("seat.leave"), leave), ...other);
@@ -355,8 +356,8 @@ function permit() {
   const parts = { "draw-hint": edges, look: questions, commit: questions, undo, redo: undo, hint: hints, next };
   for (const [id, permitted] of Object.entries(parts)) element(id).hidden = teaches() || !permitted;
   hands.joins = edges && !teaches();
-  element("undo").disabled = !game.replies.some(({ kind }) => CHANGES.includes(kind));
-  element("redo").disabled = undone.length === 0;
+  hands.enable("undo", game.replies.some(({ kind }) => CHANGES.includes(kind)));
+  hands.enable("redo", undone.length > 0);
 }
 
 function endWords({ status, text }) {
@@ -382,32 +383,32 @@ function showRooms() {
   element("done").textContent = t("class.done", done, numbers.length * stages().length);
   box.hidden = size === 0;
   element("done").hidden = size === 0 || Boolean(one);
+  document.body.classList.toggle("one-room", size > 0 && Boolean(one));
+  document.body.classList.toggle("all-rooms", size > 0 && !one && !teaches());
   if (size === 0) return;
   if (one && one !== shownRoom) enlarge(one);
-  document.body.classList.toggle("one-room", Boolean(one));
-  document.body.classList.toggle("all-rooms", !one && !teaches());
   box.classList.toggle("list", shown === "done");
-  if (!teaches()) spread(box, numbers.length);
-  const parts = numbers.map((number) => showRoom(roomOf(number), shown === "done"));
+  const drawn = shown === "all" || teaches(), show = () => numbers.map((number) => showRoom(roomOf(number), drawn)), parts = show();
   if (parts.length !== box.children.length || parts.some((part, i) => part !== box.children[i])) box.replaceChildren(...parts);
+  if (drawn && !teaches() && parts.length && spread(box, parts.length)) show();
 }
 
-/* On a projector all boards are to be seen at once, below what stands above them unless that is the way in as large as the page. */
+/* On a wall all boards are to be seen at once, and have the place that the style leaves. Says whether they have another size now. */
 function spread(box, count) {
-  const high = window.innerHeight - (2 * box.offsetTop < window.innerHeight ? box.offsetTop : TITLE_HIGH);
-  const across = Math.max(1, Math.round(Math.sqrt((count * box.clientWidth) / high)));
-  const size = [box.clientWidth / across, Math.max(60, high / Math.ceil(count / across) - WORDS_HIGH)];
-  box.style.setProperty("--across", across);
-  box.style.setProperty("--high", `${size[1]}px`);
-  if (String(size) !== String(preview)) rooms.forEach((room) => Object.assign(room, { is_new: true }));
-  preview = size;
+  box.style.setProperty("--across", Math.max(1, Math.round(Math.sqrt((count * box.clientWidth) / Math.max(1, box.clientHeight)))));
+  const { clientWidth, clientHeight } = box.querySelector("svg"), before = preview;
+  preview = [Math.max(1, clientWidth), Math.max(1, clientHeight)];
+  if (String(before) === String(preview)) return false;
+  rooms.forEach((room) => Object.assign(room, { is_new: true }));
+  return true;
 }
 
-function showRoom(room, listed) {
+function showRoom(room, drawn) {
   const { game, number, stage, backs, is_done, best, right, hints } = room, state_ = game.states[game.length];
   if (!room.part) {
     room.part = button("", () => enlarge(number), { class: "room", "data-room": number });
-    room.part.append(draw("svg", { "aria-hidden": "true" }, room.part), made("span", "", { class: "who" }), made("span", "", { class: "how" }));
+    const who = made("span", "", { class: "who", translate: "no" }), how = made("span", "", { class: "how" });
+    room.part.append(draw("svg", { "aria-hidden": "true" }, room.part), who, how);
     room.board = new Board(room.part.querySelector("svg"));
   }
   const [who, how] = room.part.querySelectorAll("span"), names = playersOf(number).join(", ") || t("class.room", number);
@@ -417,7 +418,7 @@ function showRoom(room, listed) {
     backs && t("class.backs", backs)].filter(Boolean).join(", ");
   room.part.classList.toggle("done", is_done);
   room.part.setAttribute("aria-current", number === shownRoom);
-  if (room.is_new && !listed) {
+  if (room.is_new && drawn) {
     room.board.layout = fitted(layoutOf(stages()[stage].layout), ...preview);
     room.board.show({ ...state_, q: game.table.q });
     room.is_new = false;
@@ -430,6 +431,7 @@ function enlarge(number) {
   shownRoom = number;
   begins();
   for (const at of document.querySelectorAll("#tables a")) /** @type {any} */ (at).search = `room=${number}`;
+  if (teaches()) element("board").scrollIntoView({ block: "nearest" });
   scheduleFlush();
 }
 
@@ -535,9 +537,15 @@ function showWay() {
 
 /* The address that the teacher has chosen, which the page may have to be told again. */
 async function renewWay() {
-  const { address, code } = await (await fetch("start")).json();
-  Object.assign(given, { address, code });
+  const { address, code, places } = await (await fetch("start")).json();
+  Object.assign(given, { address, code, places });
+  if (teaches()) offerPlaces();
   showWay();
+}
+
+function offerPlaces() {
+  choose("which", given.places, given.places.indexOf(new URL(given.address).host));
+  element("which").parentElement.hidden = given.places.length < 2;
 }
 
 /* The next table: one of those that were named, a puzzle on a graph, or a file. */
@@ -595,6 +603,7 @@ function handOutChosen() {
 
 function teach() {
   element("teacher").hidden = false;
+  document.querySelector("main").after(element("class"));
   onlySees("teaching");
   enter(true);
   showWay();
@@ -621,14 +630,14 @@ function teach() {
     show: ({ target }) => command("show", { what: target.value }), which: ({ target }) => command("place", { place: target.value }),
     most: ({ target }) => command("seats", { count: Number(target.value) }),
   });
-  choose("which", given.places);
-  element("which").parentElement.hidden = given.places.length < 2;
+  offerPlaces();
   for (const { id } of document.querySelectorAll("[id^=may-]")) {
     bind({ [id]: ({ target }) => command("may", { [id.slice("may-".length)]: target.checked }) });
   }
   questions = new Questions(viewer, ask, () => {}, ({ amounts, says, burnt, script }) => {
-    const words = element("told-words").textContent, picture = { room: shownRoom, amounts: [...amounts], says: [...says], burnt,
-      script: script && [...script], chosen: [...viewer.board.chosen], words };
+    const words = element("told-words").textContent, reasons = [...element("told-fire").children].map((at) => at.textContent);
+    const picture = { room: shownRoom, amounts: [...amounts], says: [...says], burnt, script: script && [...script],
+      chosen: [...viewer.board.chosen], words: joined(words, ...reasons.slice(-REASONS)) };
     element("now").hidden = true;
     hands.note(words);
     link.inTurn(() => command("picture", picture));
@@ -654,7 +663,7 @@ async function start() {
   viewer.afterShow = () => {
     // The words of a step are not said beside the picture of an answer.
     element("now").hidden = false;
-    hands.note(me ? firstWords(viewer.game, viewer.now) : "");
+    hands.note(me ? wordsOnce(viewer.game, viewer.now) : "");
   };
   element("title").textContent = document.title = titled(given.name);
   hands = new Hands(viewer, teaches() ? (line) => link.inTurn(() => demonstrate(line)) : play);

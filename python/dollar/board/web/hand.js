@@ -124,8 +124,16 @@ export class Hands {
   }
 
   unchoose() {
+    const [first] = this.board.chosen;
     this.board.chosen.clear();
+    if (document.activeElement === element("fire")) this.board.focus(first);
     element("fire").hidden = true;
+  }
+
+  /* Lets a button be used, or not. If it had the focus, the board has it then. */
+  enable(id, can) {
+    if (!can && document.activeElement === element(id)) this.board.focus(this.viewer.game.names[0]);
+    element(id).disabled = !can;
   }
 
   onKeys() {

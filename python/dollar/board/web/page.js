@@ -2,6 +2,7 @@
 
 import { t } from "./texts.js";
 import { element, made } from "./viewer.js";
+import { firstWords } from "./words.js";
 
 // In milliseconds: the program itself is given two minutes.
 const LONG = 150000, SILENT = 10000, LATE = 2000, RETRY = 250, LOOK = 1000, TOO_FAST = 429;
@@ -27,7 +28,8 @@ export class Link {
   /* How long an answer may take, what is done at each kind of event, and when the stream breaks, with whether the server refuses it. */
   constructor(patience = LONG, told = {}, lost = null) {
     Object.assign(this, { patience, told, lost, turn: Promise.resolve(), fails: 0, source: null, heard: 0, hears: false, drew: () => {} });
-    const look = () => Date.now() - this.heard > SILENT && this.breaks();
+    // The clock of the computer may be set meanwhile.
+    const look = () => performance.now() - this.heard > SILENT && this.breaks();
     setInterval(look, LOOK);
     document.addEventListener("visibilitychange", look);
   }
@@ -68,10 +70,10 @@ export class Link {
     const { hears } = this;
     this.close();
     const source = new EventSource(place());
-    Object.assign(this, { place, source, hears, heard: Date.now() });
+    Object.assign(this, { place, source, hears, heard: performance.now() });
     for (const [kind, act] of Object.entries(this.told)) {
       source.addEventListener(kind, (event) => {
-        Object.assign(this, { heard: Date.now(), hears: true });
+        Object.assign(this, { heard: performance.now(), hears: true });
         act(event.data && JSON.parse(event.data));
       });
     }
@@ -118,6 +120,14 @@ export async function startPage(start) {
     document.body.prepend(made("p", t("page.start"), { role: "alert" }));
     throw fault;
   }
+}
+
+/* The words of the first minute, until a second move is made in this browser. */
+const TAUGHT = "dollar taught";
+
+export function wordsOnce(game, now) {
+  if (now > 1) store("localStorage", TAUGHT, true);
+  return stored("localStorage", TAUGHT) ? "" : firstWords(game, now);
 }
 
 /* In how few moves a table was won in this browser, after it was won in so many; Infinity if it never was. */

@@ -67,7 +67,7 @@ export function below(counts, words) {
 export const lost = (count) => t("said.lost", count);
 
 export class Viewer {
-  board; game; flaws; who; speaks; reached; now; timer; listed; afterShow;
+  board; game; flaws; who; speaks; reached; now; timer; listed; afterShow; wide;
   /* `flaws` has what the program prints, for each step that has another line; `who` says of a step who played it, `speaks` whether a
      screen reader is to speak of it, and `reached` what is known of the table beside the game. */
   constructor(game, layout, /** @type {any} */ given = {}) {
@@ -99,13 +99,22 @@ export class Viewer {
     door.addEventListener("toggle", () => {
       document.body.classList.toggle("open", door.open);
       this.refit();
+      if (door.open && door.getBoundingClientRect().top > window.innerHeight / 2) door.scrollIntoView();
     });
   }
 
-  /* Has the board fill its place on the page, which the style limits. */
+  /* Has the board fill its place on the page, whose height the style limits or gives. */
   fit(layout) {
-    const { svg } = this.board, wide = svg.parentNode.clientWidth || window.innerWidth;
-    this.board.layout = fitted(layout, wide, parseFloat(getComputedStyle(svg).maxHeight) || window.innerHeight);
+    const { svg } = this.board, { clientWidth, clientHeight } = svg.parentNode;
+    this.wide = clientWidth;
+    this.board.layout = fitted(layout, clientWidth || window.innerWidth,
+      parseFloat(getComputedStyle(svg).maxHeight) || clientHeight || window.innerHeight);
+  }
+
+  /* Fits the board anew if its place is wider or narrower now. */
+  settle() {
+    const { clientWidth } = this.board.svg.parentNode;
+    if (clientWidth && clientWidth !== this.wide) this.refit();
   }
 
   /* The place has another size now. An editor's layout stays as it is. */

@@ -194,9 +194,8 @@ export function reachedWords({ won, moves, helped = false, best = Infinity, leas
 
 /* The first minute: what is to be done at the start, and after the first move. */
 export function firstWords({ states, steps }, now) {
-  const { amounts } = states[now], [[richest]] = [...amounts].sort(([, one], [, other]) => other - one);
-  if (now > 1 || owing(amounts).length === 0 || (now === 1 && !steps[0].script)) return "";
-  return now === 0 ? t("play.first", richest) : t("play.second", commandWords(steps[0]));
+  if (now > 1 || owing(states[now].amounts).length === 0 || (now === 1 && !steps[0].script)) return "";
+  return now === 0 ? t("play.first") : t("play.second", commandWords(steps[0]));
 }
 
 export function debtWords(amounts) {
