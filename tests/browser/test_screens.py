@@ -59,7 +59,8 @@ def shown(desk, wall, room):
     for selector in f".room[data-room='{room}']", "#ask-won", "#show-fire":
         desk.until(f"$({json.dumps(selector)}) && !$({json.dumps(selector)}).hidden")
         desk.click(selector)
-    wall.until("$$('#board .badge').length === 4 && $('#note').textContent.includes('All burn')")
+    # What was shown before may still be there, out of sight.
+    wall.until("!document.body.classList.contains('all-rooms') && $$('#board .badge').length === 4 && $('#note').textContent.includes('All burn')")
 
 
 def of_a_wall(folder, browsers):
