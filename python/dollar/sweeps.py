@@ -8,7 +8,6 @@ import itertools
 import json
 import os
 import select
-import subprocess
 import sys
 import tempfile
 import time
