@@ -52,6 +52,11 @@ def hold(file, is_deaf):
     os.waitpid(other, 0)
 
 
+def read(library):
+    """What a library, which is a folder, holds."""
+    return json.loads((library / "format").read_text())
+
+
 def rattle(words):
     """Makes a crate, in whose folder it runs."""
     name, out = (words[words.index(word) + 1] for word in ("--crate-name", "-o"))
@@ -66,11 +71,14 @@ def rattle(words):
     wait()
     for place in (Path(word.partition("=")[2]) for word in words if "=" in word and word.endswith(".rlib")):
         if place.parent == made:
-            library = json.loads(place.read_text())
+            library = read(place)
             for lower, sum_ in {**library["below"], place.stem: library["sum"]}.items():
-                if json.loads((made / f"{lower}.rlib").read_text())["sum"] != sum_:
+                if read(made / f"{lower}.rlib")["sum"] != sum_:
                     sys.exit(f"{place.name} holds statements that were proved over another build of {lower}")
                 below[lower] = sum_
+    if name != "dollar":
+        os.makedirs(out, exist_ok=True)
+        out += "/format"
     written(out, json.dumps({"sum": whole_sum(own, below), "below": below, "all the rest": "." * 4000}))
 
 

@@ -45,7 +45,7 @@ class OfBuilds(Test):
         self.top = self.folder()
         self.top.chmod(0o755)
         self.tree, self.kit, self.tools = (self.top / name for name in ("tree", "kit", "tools"))
-        for path in "crates.txt", "dollar", *("tools/" + name for name in ("build", "repository.py", "seconds", "unproved")):
+        for path in "crates.txt", "dollar", *("tools/" + name for name in ("build", "repository.py", "seconds", "store.py", "toolchain.py", "unproved")):
             (self.tree / path).parent.mkdir(parents=True, exist_ok=True)
             shutil.copy(ROOT / path, self.tree / path)
         for name in crates():
@@ -60,6 +60,8 @@ class OfBuilds(Test):
         for name in TOOLS:
             (self.tools / name).symlink_to(PYTHON if name == "python3" else shutil.which(name))
         self.made = self.tree / "out" / "build"
+        # A place where no store can be.
+        self.caches = Path("/dev/null")
 
     def begun(self, *words, without="", pace=0, fault="", **options):
         """Starts a command, the script if none is given, in a group of its own and without a tool."""
@@ -67,7 +69,7 @@ class OfBuilds(Test):
         path = f"{self.tools}:{self.kit / 'bin'}" if without != "rt" else str(self.tools)
         return subprocess.Popen(list(map(str, words or [self.tree / "dollar"])), stdin=subprocess.DEVNULL, stdout=subprocess.PIPE,
                                 stderr=subprocess.PIPE, text=True, start_new_session=True,
-                                env={"PATH": path, "PACE": str(pace), "FAULT": fault}, **options)
+                                env={"PATH": path, "PACE": str(pace), "FAULT": fault, "XDG_CACHE_HOME": str(self.caches)}, **options)
 
     def run_of(self, *words, **options):
         """What a command prints, what it says, and its status."""
@@ -101,6 +103,12 @@ class OfBuilds(Test):
         file.write_text(f"{text}// {random.random()}\n")
         return lambda: file.write_text(text)
 
+    def elsewhere(self):
+        """Goes on in another checkout of the files as they are."""
+        other = Path(self.folder()) / "tree"
+        shutil.copytree(self.tree, other, ignore=shutil.ignore_patterns("out"))
+        self.tree, self.made = other, other / "out" / "build"
+
     def held(self, fault="held"):
         """Starts a build, in which the process of the toolchain that makes dg_rank waits until the file is gone that this gives."""
         child, file = self.begun(fault=fault), self.made / "held"
@@ -116,7 +124,9 @@ class OfBuilds(Test):
         return first + child.communicate(timeout=HUNG)[1]
 
     def test_builds_that_are_ended_at_random_moments(self):
+        """Every other turn is in another checkout."""
         random.seed(SEED)
+        self.caches = self.top / "caches"
         names = [name for name in crates() if (self.tree / "crates" / name).exists() and "_tests" not in name]
         for turn in range(12):
             with self.subTest(f"SEED={SEED}", turn=turn):
@@ -125,10 +135,56 @@ class OfBuilds(Test):
                     number = random.choice([signal.SIGKILL, *ENDED])
                     said = self.end(self.begun(pace=0.03), number)
                     self.assertNotIn("Traceback", said)
-                    self.assertTrue(number == signal.SIGKILL or said.endswith((KEPT, " left\n", " done\n")) or not said, said)
+                    self.assertTrue(number == signal.SIGKILL or said.endswith((KEPT, " left\n", " done\n", "/dollar\n")) or not said, said)
                     if random.random() < 0.6:
                         back()
+                if turn % 2:
+                    self.elsewhere()
                 self.builds()
+
+    def test_another_checkout(self):
+        """It takes what is proved, also from a third, and what is edited there changes nothing for the first."""
+        self.caches, first = self.top / "caches", self.tree
+        self.builds()
+        taken = f"crates were proved in another checkout, and are taken from {self.caches}/dollar\n"
+        self.elsewhere()
+        self.assertEqual(self.builds(), f"dollar: {BUILT} of {BUILT} {taken}")
+        self.edit("dg_cli")
+        self.assertIn(f"its crates are proved: {BUILT - 3} of {BUILT}, ", self.builds())
+        self.elsewhere()
+        self.edit("dollar")
+        self.assertIn(f"dollar: {BUILT - 1} of {BUILT} {taken}", self.builds())
+        self.tree = first
+        self.assertEqual(self.builds(), "")
+        self.elsewhere()
+        self.assertIn(f"dollar: {BUILT - 1} of {BUILT} {taken}", self.builds())
+
+    def test_rt_takes_what_is_built(self):
+        """Each library lies where `rt` looks for it, with the sum by which it takes it, also once `rt` has put its own there."""
+        (self.kit / "bin" / "rtlib.py").write_text(
+            "class Crate:\n def __init__(self, folder, root, known):\n"
+            "  self.folder, self.rlib = folder, folder + '/out/rlib/' + folder.split('/')[-1] + '.rlib'\n"
+            " def stamp(self):\n  return 'of ' + self.folder.split('/')[-1]\n")
+        self.builds()
+        own = self.tree / "crates" / "dg_chips" / "out" / "rlib"
+        shutil.rmtree(own)
+        (own / "dg_chips.rlib").mkdir(parents=True)
+        self.edit("dg_rank")
+        self.builds()
+        for library in self.made.glob("*.rlib"):
+            lent = self.tree / "crates" / library.stem / "out" / "rlib"
+            self.assertEqual((lent / "stamp").read_text(), "of " + library.stem)
+            self.assertEqual((lent / library.name / "format").read_text(), (library / "format").read_text())
+
+    def test_the_last_two_states_are_kept(self):
+        self.caches = self.top / "caches"
+        for _ in range(4):
+            self.edit("dg_theory")
+            self.edit("dg_system")
+            self.builds()
+        kept = [len([*folder.iterdir()]) for folder in (self.caches / "dollar").iterdir()]
+        self.assertEqual(kept, [3] * BUILT, "two states and a lock")
+
 
     @each(list(ENDED.items()))
     def test_a_build_that_is_ended_says_what_is_kept(self, number, status):

@@ -38,6 +38,20 @@ class OfExamples(Test):
         # First b borrows, the earlier of two who owe a dollar, and then c, who owes two after that.
         self.assertEqual(said.split("\n"), ["borrow b     0 moved a=1 b=1 c=-2", "borrow c     1 moved a=0 b=0 c=0", "claim        2 won", ""])
 
+    def test_the_first_program_of_the_library(self):
+        """It is proved over what ./dollar has built here, and prints what the page says. With a vertex that is not there it is refused."""
+        page, file = (ROOT / "docs" / "library.md").read_text(), self.folder() / "first.rt"
+        if not (ROOT / "out" / "build" / "dg_verdict.rlib").exists():
+            self.skipTest("the first program of the library, for want of a build by ./dollar")
+        (code,), ((command, wanted),) = re.findall(r"(?s)```rust\n(#!.*?)```", page), shown(page, "tools/try")
+        file.write_text(code)
+        words = [ROOT / command.split()[0], file, *command.split()[2:]]
+        self.assertEqual(self.holds(words), wanted)
+        file.write_text(code.replace("judge(&triangle, 0,", "judge(&triangle, 3,"))
+        refused = subprocess.run(words, stdout=subprocess.PIPE, stderr=subprocess.PIPE, text=True)
+        self.assertEqual((refused.returncode, refused.stdout), (1, ""))
+        self.assertIn("is not proved:", refused.stderr)
+
     def test_gonalities(self):
         self.holds([sys.executable, "-B", "-m", "doctest", EXAMPLES / "gonality.py"])
         (command, wanted), = shown((ROOT / "docs" / "tools.md").read_text(), "python3 examples/gonality.py")

@@ -1,0 +1,45 @@
+"""The toolchain, and its commands that prove a crate over libraries that are proved, and make of it what is asked."""
+import os
+import subprocess
+from pathlib import Path
+
+import repository
+
+# Where the libraries of this checkout lie once they are proved.
+MADE = Path(repository.TOP) / "out" / "build"
+
+
+def found():
+    """The folder of the toolchain, and its version."""
+    try:
+        guide, version = (subprocess.run(["rt", word], stdin=subprocess.DEVNULL, stdout=subprocess.PIPE, stderr=subprocess.DEVNULL,
+                                         text=True, check=True).stdout.strip() for word in ("doc", "version"))
+    except FileNotFoundError:
+        raise ValueError("the program has to be built, and 'rt', the toolchain of Rattle, is not on the PATH; 'How to get it' in "
+                         "README.md explains it, and ways without it") from None
+    except (OSError, subprocess.CalledProcessError) as fault:
+        raise ValueError(f"the program has to be built, and the toolchain can't be run: {fault}") from None
+    return os.path.dirname(guide), version
+
+
+def prover(kit, name, libraries, jobs):
+    """What proves a crate on so many processors, up to the file of its root."""
+    own = repository.crates()
+    words = [f"{kit}/bin/rattle", "build", "--crate-name", name, "--extern", f"std={kit}/rlibs/std.rlib",
+             "-L", f"dependency={kit}/rlibs", "-L", f"dependency={MADE}"]
+    for library in libraries:
+        words += ["--extern", f"{library}={MADE if library in own else f'{kit}/rlibs'}/{library}.rlib"]
+    return [*words, "--antt-project", f"{kit}/rattle/logic/antt-project.json", "--logic-built", f"{kit}/logic_built",
+            "--links", f"{name}=", "--jobs", str(jobs)]
+
+
+def library(kit, name, libraries, jobs):
+    """What makes of a crate the statements that the crates above it load."""
+    return [[*prover(kit, name, libraries, jobs), "src/lib.rt", "--statements", "-o", f"{MADE}/{name}.rlib"]]
+
+
+def program(kit, name, libraries, jobs, place):
+    """What makes of a crate a program, with the object beside it."""
+    return [[*prover(kit, name, libraries, jobs), "src/main.rt", "--toolchain", f"{kit}/toolchain", "-o", f"{place}.o"],
+            [f"{kit}/bin/rattle-link", "--target", "x86_64-unknown-linux-gnu", "--toolchain", f"{kit}/toolchain",
+             "-o", place, f"{place}.o", f"{kit}/c/libos_c.a", f"{kit}/c/liblibc_c.a"]]
