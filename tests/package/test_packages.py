@@ -3,6 +3,7 @@ each Python that is here, and is the same, byte for byte. They are unpacked and 
 and they are removed again: the wheel in an environment of its own, and all three in a fresh tree of this Debian, if debootstrap can
 make one, which takes root and a mirror of Debian."""
 import gzip
+import json
 import os
 import re
 import shutil
@@ -151,6 +152,26 @@ class OfPackages(Test):
         for folder in self.of_debian() / "usr/share/doc/dollar", self.unpacked() / "share/doc/dollar":
             self.assertEqual(list(dead_links(folder)), [])
 
+    def test_what_is_inside_and_its_licences(self):
+        """Each package lists the libraries of the toolchain, and says under which licences they are. The object makes the program again."""
+        used = {name for line in (ROOT / "crates.txt").read_text().splitlines() if line[0] != "#" for name in line.partition(":")[2].split()}
+        wheel = self.folder()
+        self.out(sys.executable, "-m", "zipfile", "-e", self.wheel, wheel)
+        for top in self.of_debian() / "usr", self.unpacked(), next(wheel.glob("*.data/data")):
+            documents = top / "share/doc/dollar"
+            inside, said = json.loads((documents / "contents.json").read_text())["inside"], (documents / "copyright").read_text()
+            self.assertLessEqual({name for name in used if not (ROOT / "crates" / name).is_dir()}, {each["name"] for each in inside} | {"anyhow"})
+            for each in inside[1:]:
+                self.assertGreater(len(each["licences"]), 0)
+                for licence in each["licences"]:
+                    self.assertRegex(said, rf"(?m)^(.*, )?{each['name']}(, .*)?: {licence}$")
+            for place in re.findall(r"(?m)^The text is in (.*)\.$", said):
+                self.assertTrue(os.path.exists(place))
+            if (top / "lib").exists():
+                linked = self.folder() / "dollar"
+                self.out("gcc", "-static-pie", "-o", linked, top / "lib/dollar/dollar.o")
+                self.assertEqual(self.out(linked, "judge", EXAMPLES / "triangle.json"), VERDICT)
+
     def test_the_units(self):
         """Each path in the units is in the package, and systemd has nothing to say of them."""
         tree = self.folder()
@@ -213,7 +234,8 @@ class OfPackages(Test):
         local = self.place / "local"
         local.mkdir()
         remove = re.search(r"(?m)^ *(rm .*)$", (tree / "README").read_text())[1].replace("/usr/local", str(local))
-        self.out("sh", "-c", 'cp -r "$0/bin" "$0/share" "$1" && %s' % remove, tree, local)
+        copy = re.search(r"(?m)^ *(cp -r .*)$", (tree / "README").read_text())[1].replace("/usr/local", str(local))
+        self.out("sh", "-c", f"{copy} && {remove}", cwd=tree.parent)
         self.assertEqual([file for file in local.rglob("*") if not file.is_dir()], [])
 
     def try_board(self, words, env=None):
@@ -259,7 +281,7 @@ class OfPackages(Test):
         if not shutil.which("lintian"):
             self.skipTest("what lintian says, for want of it")
         said = subprocess.run(["lintian", self.deb], stdout=subprocess.PIPE, stderr=subprocess.DEVNULL, text=True).stdout
-        self.assertEqual(said.splitlines(), ["W: dollar: copyright-without-copyright-notice"])
+        self.assertEqual(said.splitlines(), [])
 
     def fresh_debian(self):
         """A fresh tree of this Debian, and the files that are in it."""
