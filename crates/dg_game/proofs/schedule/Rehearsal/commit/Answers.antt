@@ -1,4 +1,4 @@
-use Rattle.dg_game.proofs.Common.{refl, Commit, look_fits, look_vertices}
+use Rattle.dg_game.proofs.Common.{◌≡◌, refl, length, rules, Commit, look_fits, look_vertices}
 use Rattle.dg_game.proofs.RehearsalLaws.{aimed}
 use Rattle.dg_game.proofs.schedule.Rehearsal.commit.Goals as goal
 
@@ -38,3 +38,14 @@ returns-clause-plays c = λ o H steps playing there.
     c.enter_finding_in_rehearsal.ensures o H steps Commit (aimed o H steps c.args.self.now _ refl refl refl playing) keeps there
     tt tt
     (c.in-Some.look.number, keeps.0, c.finding_of_verdict-finding.ensures.asks c.in-Some.look.number)
+
+pub returns-in_default-clause-plays : goal.returns-in_default-clause-plays
+returns-in_default-clause-plays c = (
+  λ no. cc,
+  λ o H steps playing there.
+      let here : c.entries-i.result ≡ length H = search rules in (
+        search rules,
+        rw here playing.good,
+        (record { seat = c.args.seat; command = Commit }, rw here there, (c.requires.seat, λ has. search rules)),
+      ),
+)

@@ -1,4 +1,4 @@
-use Rattle.dg_game.proofs.Common.{◌≡◌, arith, rules, refl, ap, ◌∙◌, Multigraph, Rank, look_fits, look_vertices, vertices_stay}
+use Rattle.dg_game.proofs.Common.{◌≡◌, arith, rules, refl, ap, ◌∙◌, Multigraph, Rank, look_fits, look_vertices, vertices_stay, length}
 use Rattle.dg_game.proofs.RehearsalLaws.{past_limits}
 use Rattle.dg_game.proofs.schedule.Rehearsal.rank.Goals as goal
 
@@ -60,3 +60,14 @@ returns-2-clause-plays c = λ o H steps playing there.
     ∙ vertices_stay o H in
     c.enter_finding_in_rehearsal.ensures o H steps (Rank c.args.k) playing keeps there tt (rw size at within)
     (c.in-Some.look.number, keeps.0, asks c.in-Some.look.number)
+
+pub returns-in_default-clause-plays : goal.returns-in_default-clause-plays
+returns-in_default-clause-plays c = (
+  λ no. cc,
+  λ o H steps playing there.
+      let here : c.entries-i.result ≡ length H = search rules in (
+        search rules,
+        rw here playing.good,
+        (record { seat = c.args.seat; command = Rank c.args.k }, rw here there, (c.requires.seat, λ has. search rules)),
+      ),
+)
