@@ -1,5 +1,5 @@
 """What the built program has in it that others wrote: libraries of the toolchain, and the C library where it is linked with it. Their
-licences want their texts to go with each copy, and who has to account for what he runs wants a list."""
+licences want their texts to go with each copy, and operators have to list what they run."""
 import json
 import os
 import re

@@ -83,7 +83,7 @@ def table_faults():
             if variant in own and numbered(text) != own[variant]:
                 yield "%s: %s::%s says `%s`, not `%s`" % (part.place(), enum, variant, own[variant], text)
     of_files = set(words.table_faults()) - {"out of memory"}
-    part = Part(FORMATS, "The reader reports one fault, the first in this order.", "\n\nEach text of RFC 8259")
+    part = Part(FORMATS, "The reader reports one fault, the first in this order.", "\n\nEvery JSON text (RFC 8259)")
     found = [(numbered(text), place) for text, place in part.codes(0)]
     yield from part.compare("fault of a table file", found, of_files)
 
@@ -149,21 +149,21 @@ def grammar():
 
 
 def version():
-    """The version of the newest part of the changelog, which no other part has, is that of the program, of the package for
-    Python, and of what to cite."""
-    heads = list(Part("CHANGELOG.md").matches(r"^## (.*)$"))
-    numbers = [re.match(r"(\d+\.\d+\.\d+), \d+ \w+ \d+$", head) for head, _ in heads]
-    if not numbers[0]:
-        yield f"{heads[0][1]}: the newest part has no version and day, as `## 1.0.0, 27 November 2026`"
+    """The version of the newest part of the changelog that has one, which no other part has, is that of the program, of the package
+    for Python, and of what to cite, whose day it has too."""
+    heads = [(head, place) for head, place in Part("CHANGELOG.md").matches(r"^## (.*)$") if head != "Unreleased"]
+    parts = [re.match(r"(\d+\.\d+\.\d+), (\d{4}-\d\d-\d\d)$", head) for head, _ in heads]
+    if not parts[0]:
+        yield f"{heads[0][1]}: the newest part has no version and day, as `## 1.0.0, 2026-11-27`"
         return
-    for number, (_, place) in list(zip(numbers, heads))[1:]:
-        if number and number[1] == numbers[0][1]:
-            yield f"{place}: {number[1]} is the version of the newest part too, which wants one of its own"
-    for path, form in ((HELP, r'VERSION: &str = "([\d.]+)'), ("python/dollar/__init__.py", r'^__version__ = "(.*)"$'),
-                       ("CITATION.cff", "^version: (.*)$")):
+    for part, (_, place) in list(zip(parts, heads))[1:]:
+        if part and part[1] == parts[0][1]:
+            yield f"{place}: {part[1]} is the version of the newest part too, which wants one of its own"
+    for path, form, wanted in ((HELP, r'VERSION: &str = "([\d.]+)', 1), ("python/dollar/__init__.py", r'^__version__ = "(.*)"$', 1),
+                               ("CITATION.cff", "^version: (.*)$", 1), ("CITATION.cff", "^date-released: (.*)$", 2)):
         for text, place in Part(path).matches(form):
-            if text != numbers[0][1]:
-                yield f"{place}: the version is {text}, and the newest part of CHANGELOG.md is {numbers[0][1]}"
+            if text != parts[0][wanted]:
+                yield f"{place}: {text} is not what the newest part of CHANGELOG.md says, {parts[0][wanted]}"
 
 
 CHECKS = {"grammar": grammar, "version": version, "command words": commands, "played commands": played_commands,

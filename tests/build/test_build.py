@@ -45,7 +45,8 @@ class OfBuilds(Test):
         self.top = self.folder()
         self.top.chmod(0o755)
         self.tree, self.kit, self.tools = (self.top / name for name in ("tree", "kit", "tools"))
-        for path in "crates.txt", "dollar", *("tools/" + name for name in ("build", "repository.py", "seconds", "store.py", "toolchain.py", "unproved")):
+        tools = "build", "repository.py", "seconds", "store.py", "toolchain.py", "unproved"
+        for path in "crates.txt", "dollar", *("tools/" + name for name in tools):
             (self.tree / path).parent.mkdir(parents=True, exist_ok=True)
             shutil.copy(ROOT / path, self.tree / path)
         for name in crates():
