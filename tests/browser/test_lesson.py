@@ -176,11 +176,11 @@ def at_own_speed(folder, ann, others, desk, wall):
               "whether a page of pupils knows the level")
     tables = [[json.loads(text) for text in stage] for stage in desk.value("[given, ...given.later].map(({ tables }) => tables)")]
     ann.touch("#cant")
-    ann.until("$('#note').textContent === 'It can be done. Try on!'")
+    ann.until("$('#note').textContent === 'It can be done. Keep trying!'")
     ann.touch("#cant")
     ann.until("$('#refused').textContent.includes('before you say so again: 3.')")
     ann.touch("#hint")
-    ann.until("/^Let [a-e] (lend|borrow) once. In all \\d+ moves? will do.$/.test($('#note').textContent)")
+    ann.until("/^Let [a-e] (lend|borrow) once. It can be done in \\d+ moves? altogether.$/.test($('#note').textContent)")
     equal(ann.value(BELOW), [], "what can't be seen beside a hint")
     picture(ann, "phone-hint")
     wins = [lines_for(folder, json.dumps(stage[ann.seat - 1])) for stage in tables]
@@ -188,7 +188,7 @@ def at_own_speed(folder, ann, others, desk, wall):
     equal([can[:2], sorted(can[2:5]), can[5:]], [[True, True], [False, True, True], [True]], "which puzzles can be won")
     for line in wins[0]:
         ann.value(f"play('{line}')")
-    ann.until("$('#won').textContent.includes('With help, so it is no best.') && !$('#next').hidden")
+    ann.until("$('#won').textContent.includes('You had help, so this does not count as your best.') && !$('#next').hidden")
     ann.touch("#next")
     ann.until("rooms.get(me.seat).stage === 1 && viewer.game.length === 0 && $('#title').textContent.endsWith('2 of 6, Wheel of 5')")
     for pupil in others[:10]:

@@ -86,7 +86,7 @@ def dying_connections(folder, browsers):
             ann.click(at("cyd"))
             ann.until("$('#refused').textContent.includes('Later clicks were not.') && !$('#notice').hidden")
             ann.click(at("cyd"))
-            ann.until("$('#refused').textContent.includes('does not hear the game just now.')")
+            ann.until("$('#refused').textContent.includes('has lost touch with the game for a moment.')")
             network.to = real
         ann.until("$('#notice').hidden && link.hears")
         ann.click(at("cyd"))
