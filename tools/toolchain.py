@@ -5,8 +5,11 @@ from pathlib import Path
 
 import repository
 
-# Where the libraries of this checkout lie once they are proved.
+# Where the libraries of this checkout lie once they are proved, and those for C.
 MADE = Path(repository.TOP) / "out" / "build"
+ARCHIVE, SHARED = (MADE / "dg_abi" / name for name in ("libdollar.a", "libdollar.so.1"))
+# The version of the functions for C, which their symbols bear. A function more comes with the next number.
+SYMBOLS = "DOLLAR_1 { global: dollar_*; local: *; };\n"
 
 
 def found():
@@ -36,6 +39,19 @@ def prover(kit, name, libraries, jobs):
 def library(kit, name, libraries, jobs):
     """What makes of a crate the statements that the crates above it load."""
     return [[*prover(kit, name, libraries, jobs), "src/lib.rt", "--statements", "-o", f"{MADE}/{name}.rlib"]]
+
+
+def for_c(kit, name, libraries, jobs):
+    """What makes of a crate the libraries for C. They take `memcpy` and `memset` from the process that loads them, and nothing else
+    from anywhere, so they go with any C library."""
+    symbols = MADE / "dg_abi" / "symbols"
+    symbols.parent.mkdir(parents=True, exist_ok=True)
+    symbols.write_text(SYMBOLS)
+    return [[*prover(kit, name, libraries, jobs), "--crate-type", "staticlib", "src/lib.rt", "--toolchain", f"{kit}/toolchain",
+             "-o", f"{ARCHIVE}"],
+            [f"{kit}/toolchain/bin/ld.lld", "-shared", "-soname", SHARED.name, "--version-script", f"{symbols}", "-z", "now",
+             "--build-id=none", "--strip-all", "-o", f"{SHARED}", "--whole-archive", f"{ARCHIVE}", "--no-whole-archive",
+             f"{kit}/toolchain/lib/libgcc.a"]]
 
 
 def program(kit, name, libraries, jobs, place):

@@ -76,7 +76,7 @@ def rattle(words):
                 if read(made / f"{lower}.rlib")["sum"] != sum_:
                     sys.exit(f"{place.name} holds statements that were proved over another build of {lower}")
                 below[lower] = sum_
-    if name != "dollar":
+    if out.endswith(".rlib"):
         os.makedirs(out, exist_ok=True)
         out += "/format"
     written(out, json.dumps({"sum": whole_sum(own, below), "below": below, "all the rest": "." * 4000}))
@@ -86,6 +86,11 @@ def link(words):
     """Makes the program, which prints its sum."""
     *_, out, object_, _, _ = words
     written(out, "#!/bin/sh\necho %s\n" % json.loads(Path(object_).read_text())["sum"])
+
+
+def link_for_c(words):
+    """Makes the library for C, which is its sum."""
+    written(words[words.index("-o") + 1], json.loads(Path(words[words.index("--whole-archive") + 1]).read_text())["sum"])
     os.chmod(out, 0o755)
 
 
@@ -97,4 +102,4 @@ def rt(words):
 
 
 if __name__ == "__main__":
-    {"rattle": rattle, "rattle-link": link, "rt": rt}[os.path.basename(sys.argv[0])](sys.argv[1:])
+    {"rattle": rattle, "rattle-link": link, "ld.lld": link_for_c, "rt": rt}[os.path.basename(sys.argv[0])](sys.argv[1:])

@@ -24,12 +24,12 @@ NOBODY = 65534
 PYTHON = "/usr/bin/python3" if os.path.exists("/usr/bin/python3") else sys.executable
 KEPT = "dollar: interrupted; what is proved is kept, and the next call goes on from there\n"
 ENDED = {signal.SIGINT: 130, signal.SIGTERM: 143, signal.SIGHUP: 129}
-BUILT = 24  # The crates of the program.
+BUILT = 25  # The crates of the program and of the library for C.
 
 
 def crates():
     lines = (line.partition(":") for line in (ROOT / "crates.txt").read_text().splitlines() if ":" in line and line[0] != "#")
-    return {name: rest.split() for name, _, rest in lines}
+    return {name.split()[0]: rest.split() for name, _, rest in lines}
 
 
 def is_running(number):
@@ -53,10 +53,10 @@ class OfBuilds(Test):
             for part in "src", "specs", "proofs":
                 (self.tree / "crates" / name / part).mkdir(parents=True)
             (self.tree / "crates" / name / "src" / ("main.rt" if name == "dollar" else "lib.rt")).write_text(f"// {name}\n")
-        (self.kit / "bin").mkdir(parents=True)
-        for name in "rt", "rattle", "rattle-link":
-            (self.kit / "bin" / name).write_text(f"#!{PYTHON} -S\n" + Path(__file__).with_name("kit.py").read_text())
-            (self.kit / "bin" / name).chmod(0o755)
+        for name in "bin/rt", "bin/rattle", "bin/rattle-link", "toolchain/bin/ld.lld":
+            (self.kit / name).parent.mkdir(parents=True, exist_ok=True)
+            (self.kit / name).write_text(f"#!{PYTHON} -S\n" + Path(__file__).with_name("kit.py").read_text())
+            (self.kit / name).chmod(0o755)
         self.tools.mkdir()
         for name in TOOLS:
             (self.tools / name).symlink_to(PYTHON if name == "python3" else shutil.which(name))

@@ -1,0 +1,10 @@
+use Rattle.std.proofs.Common.{◌≡◌, ℕ, ◌+◌, ◌<◌, ◌≤◌, ◌⊎◌, length}
+use Rattle.std.specs.List.{slice_index_or}
+use Rattle.dg_abi.proofs.rows.put_order.Given as goal
+
+abbrev pub invariant-loop-v : goal.invariant-loop-v
+invariant-loop-v l = record {
+  length : length l.row ≡ length l.initial.row;
+  entries : (w : ℕ) → w < l.v → slice_index_or l.row (l.start + w) 0 ≡ slice_index_or l.order w 0;
+  elsewhere : (k : ℕ) → (k < l.start) ⊎ (l.start + l.v ≤ k) → slice_index_or l.row k 0 ≡ slice_index_or l.initial.row k 0;
+}

@@ -1,0 +1,3 @@
+-- What the functions for C answer: of rows of arrays, and to calls.
+pub mod Rows
+pub mod Calls
