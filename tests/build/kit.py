@@ -60,7 +60,8 @@ def read(library):
 def rattle(words):
     """Makes a crate, in whose folder it runs."""
     name, out = (words[words.index(word) + 1] for word in ("--crate-name", "-o"))
-    made, own, below = Path(out).parent, own_sum(Path.cwd()), {}
+    own, below = own_sum(Path.cwd()), {}
+    made = Path(next(word for word in words if word.endswith("/out/build")).partition("=")[2])
     fault = os.environ.get("FAULT", "") if name == "dg_rank" else ""
     if fault == "killed":
         os.kill(os.getpid(), signal.SIGKILL)
@@ -86,12 +87,12 @@ def link(words):
     """Makes the program, which prints its sum."""
     *_, out, object_, _, _ = words
     written(out, "#!/bin/sh\necho %s\n" % json.loads(Path(object_).read_text())["sum"])
+    os.chmod(out, 0o755)
 
 
 def link_for_c(words):
     """Makes the library for C, which is its sum."""
     written(words[words.index("-o") + 1], json.loads(Path(words[words.index("--whole-archive") + 1]).read_text())["sum"])
-    os.chmod(out, 0o755)
 
 
 def rt(words):

@@ -5,8 +5,8 @@
 --   RefusesGraph n es x    == x says why there is no graph of n vertices with these edges: the first fault, or that there are too
 --                             many items
 --   GivesRows n es P       == there is such a graph, and P is true of it
---   RefusesCall n es q x P == x says why there is none, or that there is no vertex q, or that the arrays have not the lengths that
---                             P asks of the graph
+--   RefusesCall n es q x P == x says why there is none, or that there is no vertex q, or that the arrays have not the lengths
+--                             that P asks of the graph
 --   IsAllOrNone all len    == len is all or 0
 --   FitJudge, FitRank, FitTest == the lengths of the arrays fit: `all` is the number of rows times the vertices
 use Rattle.std.specs.Prelude.{◌≡◌, ℕ, ℤ, ◌+◌, ◌*◌, ◌<◌, ◌≤◌, ◌⊎◌, List, length, map, min, pos, ◌-ℤ◌}

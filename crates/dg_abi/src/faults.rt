@@ -6,23 +6,23 @@ ghost use Rattle.dg_abi.specs.Calls.{number_of_fault, numbered_fault};
 use dg_graph::GraphFault;
 
 /// The version of what the functions take and give.
-pub const ABI: u32 = 1;
+pub(crate) const ABI: u32 = 1;
 
 /// As many edges as may be listed: one item for each two of 16 vertices.
-pub const MAX_ITEMS: usize = 120;
+pub(crate) const MAX_ITEMS: usize = 120;
 
 /// There is no vertex q.
-pub const NO_Q: i64 = -7;
+pub(crate) const NO_Q: i64 = -7;
 /// An array has not the length that goes with the others.
-pub const LENGTHS: i64 = -8;
+pub(crate) const LENGTHS: i64 = -8;
 /// There are more items than two vertices each.
-pub const TOO_MANY_ITEMS: i64 = -9;
+pub(crate) const TOO_MANY_ITEMS: i64 = -9;
 
 /// The code of a row that fails a test past the limits within which a first loss is named.
-pub const NO_LOSS_NAMED: i8 = 2;
+pub(crate) const NO_LOSS_NAMED: i8 = 2;
 
 /// The number of a fault of a graph: 16 times the item or vertex at fault, and its kind, less than 0.
-pub fn number_of(fault: &GraphFault) -> i64
+pub(crate) fn number_of(fault: &GraphFault) -> i64
     ensures { result ≡ number_of_fault fault.now }
 {
     match *fault {

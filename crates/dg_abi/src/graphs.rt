@@ -7,7 +7,7 @@ use crate::faults::{MAX_ITEMS, TOO_MANY_ITEMS, number_of};
 use dg_graph::Graph;
 
 /// The graph of so many vertices with these edges; or the number of what is wrong with them.
-pub fn graph_of(size: usize, edges: &[[u8; 3]]) -> Result<Graph, i64>
+pub(crate) fn graph_of(size: usize, edges: &[[u8; 3]]) -> Result<Graph, i64>
     ensures { MatchResult result (IsGiven size (items_of edges.now)) (RefusesGraph size edges.now) }
 {
     if edges.len() > MAX_ITEMS {

@@ -11,7 +11,7 @@ use dg_reduce::InverseLaplacian;
 use dg_verdict::judge_with_inverse;
 
 /// Verdicts on all rows.
-pub fn judge_rows(
+pub(crate) fn judge_rows(
     graph: &Graph,
     q: usize,
     amounts: &[i64],

@@ -6,7 +6,7 @@ ghost use Rattle.dg_abi.specs.Calls.{IsAllOrNone, FitJudge, FitRank, FitTest};
 use dg_graph::Graph;
 
 /// Whether the lengths of the arrays of `dollar_judge` fit.
-pub fn fit_judge(
+pub(crate) fn fit_judge(
     graph: &Graph,
     rows: usize,
     amounts: usize,
@@ -28,7 +28,13 @@ pub fn fit_judge(
 }
 
 /// Whether the lengths of the arrays of `dollar_rank` fit.
-pub fn fit_rank(graph: &Graph, rows: usize, amounts: usize, ranks: usize, duals: usize) -> bool
+pub(crate) fn fit_rank(
+    graph: &Graph,
+    rows: usize,
+    amounts: usize,
+    ranks: usize,
+    duals: usize,
+) -> bool
     ensures { MatchBool result
         (FitRank (rows * graph.now.size) rows amounts ranks duals)
         (¬ FitRank (rows * graph.now.size) rows amounts ranks duals) }
@@ -40,7 +46,7 @@ pub fn fit_rank(graph: &Graph, rows: usize, amounts: usize, ranks: usize, duals:
 }
 
 /// Whether the lengths of the arrays of `dollar_rank_test` fit.
-pub fn fit_test(graph: &Graph, rows: usize, amounts: usize, losses: usize) -> bool
+pub(crate) fn fit_test(graph: &Graph, rows: usize, amounts: usize, losses: usize) -> bool
     ensures { MatchBool result
         (FitTest (rows * graph.now.size) amounts losses)
         (¬ FitTest (rows * graph.now.size) amounts losses) }

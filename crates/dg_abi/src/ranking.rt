@@ -16,7 +16,7 @@ use dg_reduce::InverseLaplacian;
 use dg_verdict::RankVerdict;
 
 /// The ranks of all rows, and those of their residuals.
-pub fn rank_rows(
+pub(crate) fn rank_rows(
     graph: &Graph,
     amounts: &[i64],
     told: &mut [i8],
@@ -77,7 +77,13 @@ fn rank_row(
 }
 
 /// Whether the rank of each row is at least k.
-pub fn rank_test_rows(graph: &Graph, k: u32, amounts: &[i64], told: &mut [i8], losses: &mut [i64])
+pub(crate) fn rank_test_rows(
+    graph: &Graph,
+    k: u32,
+    amounts: &[i64],
+    told: &mut [i8],
+    losses: &mut [i64],
+)
     requires amounts { length amounts.now ≡ length told.old * graph.now.size }
     requires losses { IsAllOrNone (length told.old * graph.now.size) (length losses.old) }
     ensures told { length told.new ≡ length told.old }

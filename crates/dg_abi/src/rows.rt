@@ -9,7 +9,7 @@ use dg_chips::{ChipFault, Divisor, Script, Wide};
 use dg_graph::Graph;
 
 /// The divisor of a row; or the code of the first amount that is past the limit.
-pub fn divisor_at(graph: &Graph, amounts: &[i64], start: usize) -> Result<Divisor, i8>
+pub(crate) fn divisor_at(graph: &Graph, amounts: &[i64], start: usize) -> Result<Divisor, i8>
     requires { start + graph.now.size ≤ length amounts.now }
     ensures { MatchResult result
         (HoldsDivisor graph.now.size amounts.now start)
@@ -24,7 +24,7 @@ pub fn divisor_at(graph: &Graph, amounts: &[i64], start: usize) -> Result<Diviso
 }
 
 /// Writes a script into a row, if the array has any.
-pub fn put_script(row: &mut [i64], start: usize, script: &Script)
+pub(crate) fn put_script(row: &mut [i64], start: usize, script: &Script)
     requires room { (start + script.now.size ≤ length row.old) ⊎ (length row.old ≡ 0) }
     ensures length { length row.new ≡ length row.old }
     ensures entries { HoldsRow script.now.size row.new start (at script.now) }
@@ -39,7 +39,7 @@ pub fn put_script(row: &mut [i64], start: usize, script: &Script)
 }
 
 /// Writes reduced amounts into a row, if the array has any.
-pub fn put_wide(row: &mut [i64], start: usize, amounts: &Wide)
+pub(crate) fn put_wide(row: &mut [i64], start: usize, amounts: &Wide)
     requires room { (start + amounts.now.size ≤ length row.old) ⊎ (length row.old ≡ 0) }
     requires small { (v : ℕ) → v < amounts.now.size → unsigned_abs (at amounts.now v) ≤ 1000000000000000 }
     ensures length { length row.new ≡ length row.old }
@@ -55,7 +55,7 @@ pub fn put_wide(row: &mut [i64], start: usize, amounts: &Wide)
 }
 
 /// Writes the vertices of an order into a row, if the array has any.
-pub fn put_order(row: &mut [u8], start: usize, size: usize, order: &[u8; 16])
+pub(crate) fn put_order(row: &mut [u8], start: usize, size: usize, order: &[u8; 16])
     requires some { size ≤ 16 }
     requires room { (start + size ≤ length row.old) ⊎ (length row.old ≡ 0) }
     ensures length { length row.new ≡ length row.old }
@@ -71,7 +71,7 @@ pub fn put_order(row: &mut [u8], start: usize, size: usize, order: &[u8; 16])
 }
 
 /// Writes the amounts of a divisor into a row, if the array has any.
-pub fn put_divisor(row: &mut [i64], start: usize, divisor: &Divisor)
+pub(crate) fn put_divisor(row: &mut [i64], start: usize, divisor: &Divisor)
     requires room { (start + divisor.now.size ≤ length row.old) ⊎ (length row.old ≡ 0) }
     ensures length { length row.new ≡ length row.old }
     ensures entries { HoldsRow divisor.now.size row.new start (at divisor.now) }
