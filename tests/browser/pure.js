@@ -101,7 +101,8 @@ function games() {
   const reached = [{ won: true, moves: 5, best: 3, least: 3 }, { won: true, moves: 2, helped: true, least: 2 }, { moves: 0, best: 1 },
     { moves: 4 }, { won: true, moves: 4, best: 4, least: 3 }, { moves: 1, right: true }];
   equal(reached.map(reachedWords), ["Solved in 5 moves: nobody owes a dollar. Your best: 3. It can't be done in fewer.",
-    "Solved in 2 moves: nobody owes a dollar. You had help, so this does not count as your best. It can be done in 2.", "Solved before, in 1 move.", "",
+    "Solved in 2 moves: nobody owes a dollar. You had help, so this does not count as your best. It can be done in 2.",
+    "Solved before, in 1 move.", "",
     "Solved in 4 moves: nobody owes a dollar. It can be done in 3.", "Right: it can't be done."], "what was reached");
   equal([movesWords(1), movesWords(0), faultWords("?", "x")], ["1 move", "0 moves", "x"], "words of numbers and faults");
   equal([startWords(0), startWords(1), startWords(2)], ["Start. No moves yet.", "Start, before 1 step", "Start, before 2 steps"], "starts");
