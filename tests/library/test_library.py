@@ -13,6 +13,7 @@ from array import array
 
 import toolchain
 from helpers import ROOT, Test, each, program
+from pages import shown
 
 SEED, ROWS, CALLS = (int(os.environ.get(name) or other) for name, other in
                      (("SEED", random.randrange(10000)), ("ROWS", 20_000), ("CALLS", 50_000)))
@@ -98,6 +99,8 @@ class OfLibrary(Test):
         of a divisor of degree 1 on a graph of genus 1, which is 0."""
         made = self.compiled(compiler, *words, ROOT / "library" / "example.c")
         self.assertEqual(self.holds([made]), "winnable by 0 -1 -1, rank 0\nwinnable by 0 -1 -1, rank 0\n")
+        (command, wanted), = shown((ROOT / "docs" / "library.md").read_text(), "cc ")
+        self.assertEqual(self.holds(["sh", "-c", "mkdir -p out && " + command], cwd=ROOT), wanted)
 
     def test_ranks_for_r(self):
         """The rank of n dollars on the triangle is n - 1."""
