@@ -99,7 +99,7 @@ class OfLibrary(Test):
         of a divisor of degree 1 on a graph of genus 1, which is 0."""
         made = self.compiled(compiler, *words, ROOT / "library" / "example.c")
         self.assertEqual(self.holds([made]), "winnable by 0 -1 -1, rank 0\nwinnable by 0 -1 -1, rank 0\n")
-        (command, wanted), = shown((ROOT / "docs" / "library.md").read_text(), "cc ")
+        (command, wanted), = shown((ROOT / "docs" / "library.md").read_text(), "cc")
         self.assertEqual(self.holds(["sh", "-c", "mkdir -p out && " + command], cwd=ROOT), wanted)
 
     def test_ranks_for_r(self):
