@@ -1,212 +1,212 @@
--- Blocks of trials: those that hold the same before a place have successive numbers, and are a box with a fixed beginning.
---   base n r E       what E holds, but for r at its last place
---   IsBlockOf        E begins a block, and x is what is left of D without the base of E
+-- Blocks of trials: those that hold the same as one before a place, and so much at least there. They are a box with a fixed
+-- beginning.
+--   taken_more, taken_next, taken_last   what a trial holds before a place, and before the next
+--   IsTail n m S     == S holds nothing from place m on, but at its last place
+--   taken_tail       before its last place it holds what it does before its tail
+--   rest p a S F     what F holds but for what S does before place p, and a dollars there
+--   IsBlock          A is what is left of D without that beginning, and r dollars are left
+--   IsWith p a S L E == E has that beginning, and else holds what L does
+--   joined           a trial with more dollars, after what another holds, is one with that beginning
 --   block_wins       if all of the box win, so do all trials of the block
---   block_loses      the first loss of the box, after the base, is the first of the block
---   block_begun      if the first trial of a block loses, it is the first loss
-use Rattle.dg_rank.proofs.Common.{◌≡◌, ◌≢◌, ℕ, ◌+◌, ◌-◌, ◌<◌, ◌≤◌, List, ◌++◌, length, take, drop, arith, refl, sym, ap, subst, ◌∙◌, ⊎_elim, slice_index, sum, cases_eq, cases_lt, ints, get_or_append_left, get_or-append_right, get_or-take, get_or-drop, get_or_past, length-take-le, length-drop, sum_by-take-drop, pos, ◌-ℤ◌, Multigraph, Amounts, degree, only_at, AreEquivalent, less, degree-less, degree-only_at, only_at-here, only_at-other, sum_below-zero, equivalent-winnable, win_more, Vector, at, amounts_of_trial, IsTrial, IsTrialBefore, AreTrialsWithinLimits, WinsWithoutTrial, AllTrialsWin, IsFirstLossOfTrials, IsTrialFrom, TrialsWinFrom, IsFirstTrialFrom, get_or-le-sum_by, length-append}
+--   block_loses      the first loss of the box, with the beginning, is the first of the block
+use Rattle.dg_rank.proofs.Common.{◌≡◌, ◌≢◌, ℕ, ◌+◌, ◌-◌, ◌<◌, ◌≤◌, List, length, take, arith, refl, sym, ap, ◌∙◌, ⊎_elim, slice_index, sum, cases_eq, cases_lt, ints, get_or-take, get_or_past, set, get_or-set_same, get_or-set_other, length-take, take_all, pos, ◌-ℤ◌, Multigraph, Amounts, degree, only_at, AreEquivalent, less, degree-less, degree-only_at, only_at-here, only_at-other, sum_below-cong, equivalent-winnable, win_more, amounts_of_trial, IsTrial, IsTrialBefore, WinsWithoutTrial, TrialsWin, IsFirstLossAmong, IsInBlock, IsTrialFrom, TrialsWinFrom, IsFirstTrialFrom}
 use Rattle.std.proofs.Math.IntN.{◌+ℤ◌}
-use Rattle.dg_rank.specs.Numbering.{trial_count, nth_trial}
-use Rattle.dg_rank.proofs.Numbering.{numbered, some_trial, limits_trial, limits_count}
-use Rattle.dg_rank.proofs.TrialLists.{degree-trial, degree-take}
-use Rattle.std.proofs.lemmas.Grind.{same_number_lists}
-use Rattle.dg_rank.proofs.Leaps.{IsSplit, IsAmong, among}
+use Rattle.dg_rank.proofs.TrialLists.{degree-trial}
 
-abbrev pub base : ℕ → ℕ → List ℕ → Amounts
-base n r E v = amounts_of_trial E v -ℤ only_at (n - 1) (pos r) v
+pub taken_low : (E : List ℕ) (p v : ℕ) → v < p → amounts_of_trial (take p E) v ≡ amounts_of_trial E v
+taken_low E p v low = ap pos (get_or-take p E v 0 low)
 
-pub record IsBlockOf (g : Multigraph) (D : Amounts) (k c i d r : ℕ) (E : List ℕ) (x : Vector) : Type 0 where
-  pub split : IsSplit g.size k c i d r E
-  pub led : AreEquivalent g (λ v. less D (amounts_of_trial E) v +ℤ only_at (g.size - 1) (pos r) v) (at x)
+pub taken_past : (E : List ℕ) (p v : ℕ) → p ≤ v → amounts_of_trial (take p E) v ≡ pos 0
+taken_past E p v past = ap pos (get_or_past (take p E) v 0 (omega (arith, length-take p E)))
 
-split_trial : (n k c i d r : ℕ) (E : List ℕ) → IsSplit n k c i d r E → IsTrial n k E
-split_trial n k c i d r E split = rw split.trial (limits_trial n k c i split.limits split.number)
+pub taken_more : (E : List ℕ) (p v : ℕ) →
+    amounts_of_trial (take (p + 1) E) v ≡ amounts_of_trial (take p E) v +ℤ only_at p (pos (slice_index E p)) v
+taken_more E p v = ⊎_elim
+    (λ (there : v ≡ p). rw there (omega (
+      arith,
+      ints,
+      taken_low E (p + 1) p (omega arith),
+      taken_past E p p (omega arith),
+      only_at-here p (pos (slice_index E p)),
+    )))
+    (λ (other : v ≡ p → ⊥). ⊎_elim
+    (λ (low : v < p). omega (
+      arith,
+      ints,
+      taken_low E (p + 1) v (omega arith),
+      taken_low E p v low,
+      only_at-other p (pos (slice_index E p)) v other,
+    ))
+    (λ (past : p ≤ v). omega (
+      arith,
+      ints,
+      taken_past E (p + 1) v (omega arith),
+      taken_past E p v past,
+      only_at-other p (pos (slice_index E p)) v other,
+    ))
+    (cases_lt v p))
+    (cases_eq v p)
 
-base_before : (n k c i d r v : ℕ) (E : List ℕ) → IsSplit n k c i d r E → v < d → base n r E v ≡ amounts_of_trial E v
-base_before n k c i d r v E split low =
-    let other : v ≢ n - 1 = omega (arith, split.inside) in
-    omega (arith, ints, only_at-other (n - 1) (pos r) v other)
+-- the same with a dollar more
+pub taken_next : (E : List ℕ) (p v : ℕ) → amounts_of_trial (take p E) v +ℤ only_at p (pos (slice_index E p + 1)) v
+    ≡ amounts_of_trial (take (p + 1) E) v +ℤ only_at p (pos 1) v
+taken_next E p v = ⊎_elim
+    (λ (there : v ≡ p). rw there (omega (
+      arith,
+      ints,
+      taken_more E p p,
+      only_at-here p (pos (slice_index E p)),
+      only_at-here p (pos (slice_index E p + 1)),
+      only_at-here p (pos 1),
+    )))
+    (λ (other : v ≡ p → ⊥). omega (
+      arith,
+      ints,
+      taken_more E p v,
+      only_at-other p (pos (slice_index E p)) v other,
+      only_at-other p (pos (slice_index E p + 1)) v other,
+      only_at-other p (pos 1) v other,
+    ))
+    (cases_eq v p)
 
-base_after : (n k c i d r v : ℕ) (E : List ℕ) → IsSplit n k c i d r E → d ≤ v → v < n → base n r E v ≡ pos 0
-base_after n k c i d r v E split past inside = ⊎_elim
-    (λ (last : v ≡ n - 1).
-    let all : slice_index E v ≡ r = ap (slice_index E) last ∙ split.last in
-    let one : only_at (n - 1) (pos r) v ≡ pos r = ap (only_at (n - 1) (pos r)) last ∙ only_at-here (n - 1) (pos r) in
-    omega (arith, ints))
-    (λ (inner : v ≡ n - 1 → ⊥).
-    let none : slice_index E v ≡ 0 = split.empty v past (omega arith) in
-    omega (arith, ints, only_at-other (n - 1) (pos r) v inner))
-    (cases_eq v (n - 1))
+pub taken_last : (n : ℕ) (E : List ℕ) (v : ℕ) → 0 < n → length E ≡ n →
+    amounts_of_trial E v ≡ amounts_of_trial (take (n - 1) E) v +ℤ only_at (n - 1) (pos (slice_index E (n - 1))) v
+taken_last n E v some places =
+    let all : take (n - 1 + 1) E ≡ E = take_all (n - 1 + 1) E (omega arith) in
+    ap (λ (L : List ℕ). amounts_of_trial L v) (sym all) ∙ taken_more E (n - 1) v
 
-held_before : (n k c i d r j v : ℕ) (E : List ℕ) → IsSplit n k c i d r E → IsAmong n k c i d r j E → v < d →
-    slice_index (nth_trial n k (i + j)) v ≡ slice_index E v
-held_before n k c i d r j v E split here low =
-    let trial : IsTrial n k E = split_trial n k c i d r E split in
-    let front : length (take d E) ≡ d = length-take-le d E (omega (arith, trial.places, split.inside)) in
-    rw here.trial (get_or_append_left (take d E) (nth_trial (n - d) r j) 0 v (omega arith) ∙ get_or-take d E v 0 low)
+abbrev pub IsTail : ℕ → ℕ → List ℕ → Type 0
+IsTail n m S = (u : ℕ) → m ≤ u → u + 1 < n → slice_index S u ≡ 0
 
-block_from : (n k c i d r j : ℕ) (E : List ℕ) → IsSplit n k c i d r E → IsAmong n k c i d r j E →
-    IsTrialFrom n r d (less (amounts_of_trial (nth_trial n k (i + j))) (base n r E))
-block_from n k c i d r j E split here = record {
-  effective = λ v inside. ⊎_elim
-      (λ (low : v < d). omega (
-        arith,
-        ints,
-        held_before n k c i d r j v E split here low,
-        base_before n k c i d r v E split low,
-      ))
-      (λ (past : d ≤ v). omega (arith, ints, base_after n k c i d r v E split past inside))
-      (cases_lt v d);
-  of_degree = omega (
-    arith,
-    ints,
-    degree-less n (amounts_of_trial (nth_trial n k (i + j))) (base n r E),
-    degree-less n (amounts_of_trial E) (only_at (n - 1) (pos r)),
-    degree-only_at n (n - 1) (pos r) (omega (arith, split.inside)),
-    degree-trial n k E (split_trial n k c i d r E split),
-    degree-trial n k (nth_trial n k (i + j)) (limits_trial n k c (i + j) split.limits here.within),
-  );
-  empty = λ v low. omega (
-    arith,
-    ints,
-    held_before n k c i d r j v E split here low,
-    base_before n k c i d r v E split low,
-  );
+pub taken_tail : (n m : ℕ) (S : List ℕ) (v : ℕ) → m < n → IsTail n m S →
+    amounts_of_trial (take (n - 1) S) v ≡ amounts_of_trial (take m S) v
+taken_tail n m S v inside tail = ⊎_elim
+    (λ (low : v < m). omega (arith, ints, taken_low S (n - 1) v (omega arith), taken_low S m v low))
+    (λ (high : m ≤ v). ⊎_elim
+    (λ (inner : v < n - 1). omega
+    (arith, ints, taken_low S (n - 1) v inner, tail v high (omega arith), taken_past S m v high))
+    (λ (past : n - 1 ≤ v). omega (arith, ints, taken_past S (n - 1) v past, taken_past S m v high))
+    (cases_lt v (n - 1)))
+    (cases_lt v m)
+
+abbrev pub rest : ℕ → ℕ → List ℕ → Amounts → Amounts
+rest p a S F v = less (less F (amounts_of_trial (take p S))) (only_at p (pos a)) v
+
+pub record IsWith (p a : ℕ) (S L E : List ℕ) : Type 0 where
+  pub before : (v : ℕ) → v < p → slice_index E v ≡ slice_index S v
+  pub here : slice_index E p ≡ slice_index L p + a
+  pub after : (v : ℕ) → p < v → slice_index E v ≡ slice_index L v
+
+pub joined : (p a : ℕ) (S L W E : List ℕ) → p < length L → W ≡ set L p (slice_index L p + a) →
+    ((v : ℕ) → v < p → slice_index E v ≡ slice_index S v) → ((v : ℕ) → p ≤ v → slice_index E v ≡ slice_index W v) →
+    IsWith p a S L E
+joined p a S L W E inside is before after = record {
+  before = before;
+  here = after p (omega arith) ∙ ap (λ (T : List ℕ). slice_index T p) is ∙ get_or-set_same L p (slice_index L p + a) 0 inside;
+  after = λ v past.
+      let other : v ≢ p = omega arith in
+      after v (omega arith) ∙ ap (λ (T : List ℕ). slice_index T v) is ∙ get_or-set_other L p v (slice_index L p + a) 0 other;
 }
 
-based : (g : Multigraph) (D : Amounts) (k c i d r : ℕ) (E : List ℕ) (x : Vector) → IsBlockOf g D k c i d r E x →
-    (G : Amounts) → AreEquivalent g (less D G) (less (at x) (less G (base g.size r E)))
-based g D k c i d r E x block G =
-    let (s, leads) = block.led in
-    (s, λ v below. omega (arith, ints, leads v below))
+pub record IsBlock (g : Multigraph) (D : Amounts) (k p a r : ℕ) (S : List ℕ) (A : Amounts) : Type 0 where
+  pub inside : p < g.size
+  pub dollars : (degree g.size (amounts_of_trial (take p S)) +ℤ pos a) +ℤ pos r ≡ pos k
+  pub led : AreEquivalent g (less (less D (amounts_of_trial (take p S))) (only_at p (pos a))) A
 
-pub block_wins : (g : Multigraph) (D : Amounts) (k c i d r : ℕ) (E : List ℕ) (x : Vector) →
-    IsBlockOf g D k c i d r E x → TrialsWinFrom g (at x) r d → AllTrialsWin g D k i (i + trial_count (g.size - d) r)
-block_wins g D k c i d r E x block wins m from to =
-    let number : i + (m - i) ≡ m = omega arith in
-    let here : IsAmong g.size k c i d r (m - i) E = among g.size k c i d r E block.split (m - i) (omega arith) in
-    let F : List ℕ = nth_trial g.size k (i + (m - i)) in
-    let win : WinsWithoutTrial g D F =
-    (equivalent-winnable g (less D (amounts_of_trial F)) (less (at x) (less (amounts_of_trial F) (base g.size r E)))
-    (based g D k c i d r E x block (amounts_of_trial F))).1
-    (wins (less (amounts_of_trial F) (base g.size r E)) (block_from g.size k c i d r (m - i) E block.split here)) in
-    subst (λ (l : ℕ). WinsWithoutTrial g D (nth_trial g.size k l)) number win
+rest_low : (p a v : ℕ) (S F : List ℕ) → v < p → slice_index F v ≡ slice_index S v → rest p a S (amounts_of_trial F) v ≡ pos 0
+rest_low p a v S F low same = omega (arith, ints, taken_low S p v low, only_at-other p (pos a) v (omega arith))
 
-joined_at : (n k c i d r v : ℕ) (E F : List ℕ) → IsSplit n k c i d r E → IsTrialFrom n r d (amounts_of_trial F) → v < n →
-    amounts_of_trial F v ≡ amounts_of_trial (take d E ++ drop d F) v -ℤ base n r E v
-joined_at n k c i d r v E F split from inside =
-    let trial : IsTrial n k E = split_trial n k c i d r E split in
-    let front : length (take d E) ≡ d = length-take-le d E (omega (arith, trial.places, split.inside)) in
-    ⊎_elim
-    (λ (low : v < d).
-    let is : slice_index (take d E ++ drop d F) v ≡ slice_index E v =
-    get_or_append_left (take d E) (drop d F) 0 v (omega arith) ∙ get_or-take d E v 0 low in
-    omega (arith, ints, from.empty v low, base_before n k c i d r v E split low))
-    (λ (past : d ≤ v).
-    let there : d + (v - d) ≡ v = omega arith in
-    let is : slice_index (take d E ++ drop d F) v ≡ slice_index F v =
-    get_or-append_right (take d E) (drop d F) d v 0 front past ∙ get_or-drop d F (v - d) 0 ∙ ap (slice_index F) there in
-    omega (arith, ints, base_after n k c i d r v E split past inside))
-    (cases_lt v d)
+rest_here : (p a : ℕ) (S F : List ℕ) → rest p a S (amounts_of_trial F) p ≡ amounts_of_trial F p -ℤ pos a
+rest_here p a S F = omega (arith, ints, taken_past S p p (omega arith), only_at-here p (pos a))
 
-rest_trial : (n r d : ℕ) (F : List ℕ) → length F ≡ n → d < n → IsTrialFrom n r d (amounts_of_trial F) → IsTrial (n - d) r
-    (drop d F)
-rest_trial n r d F places inside from =
-    let whole : degree n (amounts_of_trial F) ≡ pos (sum F) =
-    degree-trial n (sum F) F (record { places = places; amount = refl }) in
-    let none : degree d (amounts_of_trial F) ≡ pos 0 = sum_below-zero d (amounts_of_trial F) from.empty in
-    let front : degree d (amounts_of_trial F) ≡ pos (sum (take d F)) = degree-take d F (omega arith) in
-    let both : sum (take d F) + sum (drop d F) ≡ sum F = sum_by-take-drop (λ (x : ℕ). x) F d in
-    record {
-      places = omega (arith, length-drop d F);
-      amount = omega (arith, ints, from.of_degree);
-    }
+rest_past : (p a v : ℕ) (S F : List ℕ) → p < v → rest p a S (amounts_of_trial F) v ≡ amounts_of_trial F v
+rest_past p a v S F past =
+    omega (arith, ints, taken_past S p v (omega arith), only_at-other p (pos a) v (omega arith))
 
-pub block_loses : (g : Multigraph) (D : Amounts) (k c i d r : ℕ) (E F E' : List ℕ) (x : Vector) →
-    IsBlockOf g D k c i d r E x → IsFirstTrialFrom g (at x) r d F → E' ≡ take d E ++ drop d F →
-    IsFirstLossOfTrials g D k i (i + trial_count (g.size - d) r) E'
-block_loses g D k c i d r E F E' x block loss is =
-    let n : ℕ = g.size in
-    let rest : IsTrial (n - d) r (drop d F) = rest_trial n r d F loss.places block.split.inside loss.from in
-    let (j, low, here) = (numbered (n - d) r).all (drop d F) rest tt in
-    let placed : IsAmong n k c i d r j E = among n k c i d r E block.split j low in
-    let trial : E' ≡ nth_trial n k (i + j) =
-    is ∙ ap (λ (T : List ℕ). take d E ++ T) (sym here) ∙ sym placed.trial in
-    let held : (v : ℕ) → v < n → amounts_of_trial F v ≡ amounts_of_trial E' v -ℤ base n r E v =
-    λ v inside. joined_at n k c i d r v E F block.split loss.from inside
-    ∙ ap (λ (L : List ℕ). amounts_of_trial L v -ℤ base n r E v) (sym is) in
-    record {
-      number = i + j;
-      from = omega arith;
-      to = omega arith;
-      trial = trial;
-      loses = λ win. loss.loses (win_more g (less (at x) (less (amounts_of_trial E') (base n r E))) (less (at x)
-          (amounts_of_trial F))
-          (λ v inside. omega (arith, ints, held v inside))
-          ((equivalent-winnable g (less D (amounts_of_trial E')) (less (at x) (less (amounts_of_trial E') (base n r E)))
-          (based g D k c i d r E x block (amounts_of_trial E'))).0 win));
-      first = λ m from to.
-          let number : i + (m - i) ≡ m = omega arith in
-          let among_m : IsAmong n k c i d r (m - i) E = among n k c i d r E block.split (m - i) (omega arith) in
-          let G : List ℕ = nth_trial n k (i + (m - i)) in
-          let before : IsTrialBefore G E' =
-          subst (λ (L : List ℕ). IsTrialBefore G L) (sym trial)
-          ((numbered n k).ascending (i + (m - i)) (i + j) (omega arith)
-          (omega (arith, placed.within, limits_count n k c block.split.limits))) in
-          let places : length E' ≡ n =
-          ap length trial ∙ (limits_trial n k c (i + j) block.split.limits placed.within).places in
-          let p : ℕ = before.place in
-          let inside : p < n = ⊎_elim
-          (λ (low : p < n). low)
-          (λ (high : n ≤ p). absurd (omega (arith, before.smaller, get_or_past E' p 0 (omega arith))))
-          (cases_lt p n) in
-          let win : WinsWithoutTrial g D G =
-          (equivalent-winnable g (less D (amounts_of_trial G)) (less (at x) (less (amounts_of_trial G) (base n r E)))
-          (based g D k c i d r E x block (amounts_of_trial G))).1
-          (loss.first (less (amounts_of_trial G) (base n r E)) (block_from n k c i d r (m - i) E block.split among_m) (record {
-            place = p;
-            inside = inside;
-            same = λ u below.
-                let alike : slice_index G u ≡ slice_index E' u = before.same u below in
-                omega (arith, ints, held u (omega arith));
-            smaller = omega (arith, ints, before.smaller, held p inside);
-          })) in
-          subst (λ (l : ℕ). WinsWithoutTrial g D (nth_trial n k l)) number win;
-    }
+degree-rest : (n p a : ℕ) (S : List ℕ) (F : Amounts) → p < n →
+    degree n (rest p a S F) ≡ (degree n F -ℤ degree n (amounts_of_trial (take p S))) -ℤ pos a
+degree-rest n p a S F inside = omega (
+  arith,
+  ints,
+  degree-less n (less F (amounts_of_trial (take p S))) (only_at p (pos a)),
+  degree-less n F (amounts_of_trial (take p S)),
+  degree-only_at n p (pos a) inside,
+)
 
-pub block_begun : (g : Multigraph) (D : Amounts) (k c i d r : ℕ) (E : List ℕ) → IsSplit g.size k c i d r E →
-    (¬ WinsWithoutTrial g D E) → IsFirstLossOfTrials g D k i (i + trial_count (g.size - d) r) E
-block_begun g D k c i d r E split loses =
-    let some : 0 < trial_count (g.size - d) r = some_trial (g.size - d) r (omega (arith, split.inside)) in
-    record {
-      number = i;
-      from = omega arith;
-      to = omega arith;
-      trial = split.trial;
-      loses = loses;
-      first = λ m from to. absurd (omega arith);
-    }
+module _ {g : Multigraph} {D A : Amounts} {k p a r : ℕ} {S : List ℕ} (block : IsBlock g D k p a r S A) where
+  in_box : (F : List ℕ) → IsTrial g.size k F → IsInBlock p a S F → IsTrialFrom g.size r p (rest p a S (amounts_of_trial F))
+  in_box F trial among = record {
+    effective = λ v inside. ⊎_elim
+        (λ (low : v < p). omega (arith, ints, rest_low p a v S F low (among.same v low)))
+        (λ (past : p ≤ v). ⊎_elim
+        (λ (there : v ≡ p). rw there (omega (arith, ints, rest_here p a S F, among.least)))
+        (λ (other : v ≡ p → ⊥). omega (arith, ints, rest_past p a v S F (omega arith)))
+        (cases_eq v p))
+        (cases_lt v p);
+    of_degree = omega (
+      arith,
+      ints,
+      degree-rest g.size p a S (amounts_of_trial F) block.inside,
+      degree-trial g.size k F trial,
+      block.dollars,
+    );
+    empty = λ v low. rest_low p a v S F low (among.same v low);
+  }
 
-pub joined : (d : ℕ) (E F E' : List ℕ) → d ≤ length E → length F ≡ length E → length E' ≡ length E →
-    ((v : ℕ) → v < d → slice_index E' v ≡ slice_index E v) →
-    ((v : ℕ) → d ≤ v → v < length E → slice_index E' v ≡ slice_index F v) → E' ≡ take d E ++ drop d F
-joined d E F E' inside sizes places before after =
-    let front : length (take d E) ≡ d = length-take-le d E inside in
-    same_number_lists E' (take d E ++ drop d F)
-    (omega (arith, length-append (take d E) (drop d F), length-drop d F))
-    (λ v below. ⊎_elim
-    (λ (low : v < d).
-    before v low ∙ sym (get_or_append_left (take d E) (drop d F) 0 v (omega arith) ∙ get_or-take d E v 0 low))
-    (λ (past : d ≤ v).
-    let there : d + (v - d) ≡ v = omega arith in
-    after v past (omega arith) ∙ sym (get_or-append_right (take d E) (drop d F) d v 0 front past
-    ∙ get_or-drop d F (v - d) 0 ∙ ap (slice_index F) there))
-    (cases_lt v d))
+  based : (F : Amounts) → AreEquivalent g (less D F) (less A (rest p a S F))
+  based F =
+      let (s, leads) = block.led in
+      (s, λ v below. omega (arith, ints, leads v below))
 
-pub last_few : (n k c i : ℕ) (E : List ℕ) → AreTrialsWithinLimits n k c → i < c → E ≡ nth_trial n k i →
-    (length E ≡ n) × (slice_index E (n - 1) ≤ 1000)
-last_few n k c i E limits low is =
-    let trial : IsTrial n k E = rw is (limits_trial n k c i limits low) in
-    let most : slice_index E (n - 1) ≤ sum E =
-    get_or-le-sum_by (λ (x : ℕ). x) E (n - 1) 0 (omega (arith, trial.places, limits.some)) in
-    (trial.places, omega (arith, trial.amount, limits.small))
+  pub block_wins : TrialsWinFrom g A r p → TrialsWin g D k (IsInBlock p a S)
+  block_wins wins F trial among =
+      (equivalent-winnable g (less D (amounts_of_trial F)) (less A (rest p a S (amounts_of_trial F)))
+      (based (amounts_of_trial F))).1 (wins (rest p a S (amounts_of_trial F)) (in_box F trial among))
+
+  held : (L E : List ℕ) → IsWith p a S L E → ((v : ℕ) → v < p → amounts_of_trial L v ≡ pos 0) → (v : ℕ) →
+      rest p a S (amounts_of_trial E) v ≡ amounts_of_trial L v
+  held L E joined empty v = ⊎_elim
+      (λ (low : v < p). omega (arith, ints, rest_low p a v S E low (joined.before v low), empty v low))
+      (λ (past : p ≤ v). ⊎_elim
+      (λ (there : v ≡ p). rw there (omega (arith, ints, rest_here p a S E, joined.here)))
+      (λ (other : v ≡ p → ⊥). omega (arith, ints, rest_past p a v S E (omega arith), joined.after v (omega arith)))
+      (cases_eq v p))
+      (cases_lt v p)
+
+  pub block_loses : (L E : List ℕ) → length E ≡ g.size → IsFirstTrialFrom g A r p L → IsWith p a S L E →
+      IsFirstLossAmong g D k (IsInBlock p a S) E
+  block_loses L E places loss joined = record {
+    trial = record {
+      places = places;
+      amount = omega (
+        arith,
+        ints,
+        degree-trial g.size (sum E) E (record { places = places; amount = refl }),
+        degree-rest g.size p a S (amounts_of_trial E) block.inside,
+        sum_below-cong g.size (rest p a S (amounts_of_trial E)) (amounts_of_trial L) (λ v inside. same v),
+        loss.from.of_degree,
+        block.dollars,
+      );
+    };
+    among = record { same = joined.before; least = omega (arith, joined.here) };
+    loses = λ win. loss.loses (win_more g (less A (rest p a S (amounts_of_trial E))) (less A (amounts_of_trial L))
+        (λ v inside. omega (arith, ints, same v))
+        ((equivalent-winnable g (less D (amounts_of_trial E)) (less A (rest p a S (amounts_of_trial E)))
+        (based (amounts_of_trial E))).0 win));
+    first = λ F trial both.
+        let (among, before) = both in
+        (equivalent-winnable g (less D (amounts_of_trial F)) (less A (rest p a S (amounts_of_trial F)))
+        (based (amounts_of_trial F))).1
+        (loss.first (rest p a S (amounts_of_trial F)) (in_box F trial among) (record {
+          place = before.place;
+          inside = ⊎_elim
+              (λ (low : before.place < g.size). low)
+              (λ (past : g.size ≤ before.place). absurd (omega
+              (arith, before.smaller, get_or_past E before.place 0 (omega (arith, places)))))
+              (cases_lt before.place g.size);
+          same = λ u low. omega (arith, ints, same u, before.same u low);
+          smaller = omega (arith, ints, same before.place, before.smaller);
+        }));
+  } where
+    same : (v : ℕ) → rest p a S (amounts_of_trial E) v ≡ amounts_of_trial L v
+    same = held L E joined loss.from.empty

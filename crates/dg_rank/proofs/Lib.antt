@@ -4,7 +4,6 @@ pub mod Numbering
 pub mod CountedOnce
 pub mod Pascal
 pub mod Unranking
-pub mod Leaps
 -- Trials and effective divisors.
 pub mod TrialLists
 -- What the search over all trials finds.
@@ -12,6 +11,7 @@ pub mod FirstLosses
 pub mod PieceLosses
 pub mod Elsewhere
 pub mod Blocks
+pub mod Starts
 -- Boxes of losses.
 pub mod LossBoxes
 pub mod FirstFrom

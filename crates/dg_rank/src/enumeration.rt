@@ -1,9 +1,10 @@
-//! Trials in their order: the one with a number, the next one, and each as a divisor.
-ghost use Rattle.std.specs.Prelude.{◌≡◌, ℕ, suc, ◌<◌, ◌≤◌, ◌+◌, ◌-◌, ◌∷◌, length, slice_index, slice_set};
+//! Trials in their order: the one with a number, which comes first, and each as a divisor.
+ghost use Rattle.std.specs.Prelude.{◌≡◌, ℕ, suc, ◌<◌, ◌≤◌, ◌+◌, ◌-◌, ◌∷◌, MatchBool, length, slice_index, slice_set};
 ghost use Rattle.std.specs.List.{sum};
 ghost use Rattle.dg_rank.specs.Limits.{AreTrialsWithinLimits};
 ghost use Rattle.dg_rank.specs.Numbering.{trial_count, nth_trial};
 ghost use Rattle.dg_rank.specs.Divisors.{HoldsTrial};
+ghost use Rattle.dg_rank.specs.Trials.{IsTrialBefore};
 
 use crate::counting::{MAX_DEGREE, MAX_TRIALS, count};
 use dg_chips::Divisor;
@@ -105,18 +106,47 @@ impl Trial {
         trial
     }
 
-    /// The trial that holds before a place what this one does, and from there on what another does.
-    pub(crate) fn then(self, place: usize, later: &Trial) -> Trial
-        requires sizes { length later.now ≡ length self }
+    /// The trial that holds before a place what another does, and from there on what this one does.
+    pub(crate) fn after(self, start: &Trial, place: usize) -> Trial
+        requires sizes { length start.now ≡ length self }
+        requires place { place ≤ length self }
         ensures places { length result ≡ length self }
-        ensures before { (v : ℕ) → v < place → slice_index result v ≡ slice_index self v }
-        ensures after { (v : ℕ) → place ≤ v → v < length self → slice_index result v ≡ slice_index later.now v }
+        ensures before { (v : ℕ) → v < place → slice_index result v ≡ slice_index start.now v }
+        ensures after { (v : ℕ) → place ≤ v → slice_index result v ≡ slice_index self v }
     {
         let mut whole = self;
-        for v in place..later.size() {
-            whole.set(v, later.get(v));
+        for v in 0..place {
+            whole.set(v, start.get(v));
         }
         whole
+    }
+
+    /// The least place from which on it holds nothing before its last place.
+    pub(crate) fn tail(&self) -> usize
+        requires { 0 < length self.now }
+        ensures within { result < length self.now }
+        ensures empty { (u : ℕ) → result ≤ u → u + 1 < length self.now → slice_index self.now u ≡ 0 }
+    {
+        let mut place = self.size() - 1;
+        'places: while place > 0 && self.get(place - 1) == 0 {
+            place -= 1;
+        }
+        place
+    }
+
+    /// Whether it comes before another trial: whether it holds less at the first place at which they differ.
+    pub(crate) fn is_before(&self, other: &Trial) -> bool
+        requires { length other.now ≡ length self.now }
+        ensures { MatchBool result
+            (IsTrialBefore self.now other.now)
+            (¬ IsTrialBefore self.now other.now) }
+    {
+        for v in 0..self.size() {
+            if self.get(v) != other.get(v) {
+                return self.get(v) < other.get(v);
+            }
+        }
+        false
     }
 
     /// A trial as a divisor.

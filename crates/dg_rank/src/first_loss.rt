@@ -1,112 +1,96 @@
 //! The first trial whose loss can't be borne.
-ghost use Rattle.std.specs.Prelude.{◌≡◌, ℕ, ◌+◌, ◌-◌, ◌<◌, ◌≤◌, min, length, slice_index, MatchOption};
+ghost use Rattle.std.specs.Prelude.{◌≡◌, ◌+◌, ◌-◌, ◌<◌, ◌≤◌, pos, ◌+ℤ◌, length, slice_index, take, MatchOption};
 ghost use Rattle.std.specs.List.{sum};
+ghost use Rattle.dg_theory.specs.Firing.{Amounts, AreEquivalent, IsEffective, degree};
+ghost use Rattle.dg_theory.specs.Rank.{less};
 ghost use Rattle.dg_graph.specs.Graph.{IsGraph};
 ghost use Rattle.dg_chips.specs.Vector.{at};
 ghost use Rattle.dg_rank.specs.Asked.{IsMadeOf};
-ghost use Rattle.dg_rank.specs.Limits.{AreTrialsWithinLimits};
-ghost use Rattle.dg_rank.specs.Numbering.{nth_trial, trial_count};
-ghost use Rattle.dg_rank.specs.Losses.{AreSmallForTrials, WinsWithoutTrial, AllTrialsWin, IsFirstLossOfTrials, IsTrialLeftBeforeLast};
-ghost use Rattle.dg_rank.specs.declared.counting.TheConstants.{MAX_TRIALS};
+ghost use Rattle.dg_rank.specs.Divisors.{amounts_of_trial};
+ghost use Rattle.dg_rank.specs.Losses.{AreSmallForTrials, AddUpToFewForTrials, WinsWithoutTrial, TellsFirstLoss, IsNotBefore, IsInBlock, IsLeftBefore};
 
-use crate::asked::{Made, find_from};
-use crate::beginnings::first_loss_from;
-use crate::counting::count;
+use crate::asked::Made;
+use crate::beginnings::find_first_from;
+use crate::boxes::left_in_box_after;
 use crate::enumeration::Trial;
 use dg_chips::Wide;
 use dg_graph::Graph;
 use dg_reduce::{EffectiveDivisor, InverseLaplacian, reduce_certified};
 
-/// The first trial of degree k, of those from one number up to another, whose loss leaves what can't be won; `None`
-/// if there is none. They are parted into blocks of trials that begin alike, as large as can be; each is a box.
+/// The first loss of the trials of a degree from one on; `None` if these all win. Those that begin as
+/// it does, up to where it holds nothing but at its last place, come first. Then come, from that place back, those that
+/// begin as it does before a place and hold more there.
 pub(crate) fn first_loss(
     graph: &Graph,
     inverse: &InverseLaplacian,
     made: &mut Made,
     chips: &Wide,
-    k: u32,
-    from: u32,
-    to: u32,
-) -> Option<Trial>
-    requires size { chips.now.size ≡ graph.now.size }
-    requires range { AreSmallForTrials graph.now.size (at chips.now) }
-    requires limits { (c : ℕ) × AreTrialsWithinLimits graph.now.size k c × (to ≤ c) }
-    requires made { IsMadeOf graph.now made.old }
-    ensures made { IsMadeOf graph.now made.new }
-    ensures first { MatchOption result
-        (AllTrialsWin graph.now (at chips.now) k from to)
-        (IsFirstLossOfTrials graph.now (at chips.now) k from to) }
-{
-    let size = graph.size();
-    let mut number = from;
-    'parts: while number < to {
-        let trial = Trial::trial_with_number(size, k, number);
-        let place = trial_block_place(&trial, to - number);
-        let more = count(size - place, trial.get(size - 1));
-        if let Some(loss) = first_trial_in_block(graph, inverse, made, chips, trial, place) {
-            return Some(loss);
-        }
-        number += more;
-    }
-    None
-}
-
-/// The least place from which on a trial holds nothing before its last place, and at most so many trials begin as it does.
-fn trial_block_place(trial: &Trial, most: u32) -> usize
-    requires some { 0 < length trial.now }
-    requires dollars { slice_index trial.now (length trial.now - 1) ≤ 1000 }
-    requires most { 1 ≤ most }
-    ensures within { result < length trial.now }
-    ensures empty { (u : ℕ) → result ≤ u → u + 1 < length trial.now → slice_index trial.now u ≡ 0 }
-    ensures few { min (MAX_TRIALS + 1) (trial_count (length trial.now - result)
-        (slice_index trial.now (length trial.now - 1))) ≤ most }
-{
-    let size = trial.size();
-    let dollars = trial.get(size - 1);
-    let mut place = size - 1;
-    'places: while place > 0
-        && trial.get(place - 1) == 0
-        && count(size + 1 - place, dollars) <= most
-    {
-        place -= 1;
-    }
-    place
-}
-
-/// The first loss of the trials that hold the same as one before a place, which is the first of these; `None` if all win.
-pub(crate) fn first_trial_in_block(
-    graph: &Graph,
-    inverse: &InverseLaplacian,
-    made: &mut Made,
-    chips: &Wide,
-    trial: Trial,
-    place: usize,
+    start: Trial,
 ) -> Option<Trial>
     requires graph { IsGraph graph.now }
     requires size { chips.now.size ≡ graph.now.size }
     requires range { AreSmallForTrials graph.now.size (at chips.now) }
+    requires made { IsMadeOf graph.now made.old }
+    requires places { length start ≡ graph.now.size }
+    requires few { sum start ≤ 1000 }
+    ensures made { IsMadeOf graph.now made.new }
+    ensures first { TellsFirstLoss graph.now (at chips.now) (sum start) (IsNotBefore start) result }
+{
+    let Some(before_last) = left_before_last(graph, inverse, chips, &start) else {
+        return Some(start);
+    };
+    let mut left = before_last;
+    let mut place = start.tail();
+    let mut dollars = start.get(graph.size() - 1);
+    if let Some(later) = find_first_from(graph, made, &left, dollars, place) {
+        return Some(later.after(&start, place));
+    }
+    'places: while place > 0 {
+        place -= 1;
+        if let Some(loss) = first_loss_above(graph, made, &left, &start, place, dollars) {
+            return Some(loss);
+        }
+        let held = start.get(place);
+        left.give(place, held);
+        dollars += held;
+    }
+    None
+}
+
+/// The first loss of the trials that hold before a place what one does, and more there than it; `None` if these all win.
+fn first_loss_above(
+    graph: &Graph,
+    made: &mut Made,
+    left: &EffectiveDivisor,
+    start: &Trial,
+    place: usize,
+    dollars: u32,
+) -> Option<Trial>
+    requires effective { IsEffective graph.now.size (at left.now) }
+    requires small { AddUpToFewForTrials graph.now.size (at left.now) }
+    requires size { left.now.size ≡ graph.now.size }
     requires place { place < graph.now.size }
     requires made { IsMadeOf graph.now made.old }
-    requires trial { (k : ℕ) × (c : ℕ) × (i : ℕ) × AreTrialsWithinLimits graph.now.size k c × (i < c) ×
-        (trial ≡ nth_trial graph.now.size k i) }
-    requires empty { (u : ℕ) → place ≤ u → u + 1 < graph.now.size → slice_index trial u ≡ 0 }
+    requires places { length start.now ≡ graph.now.size }
+    requires few { sum start.now ≤ 1000 }
+    requires dollars { degree graph.now.size (amounts_of_trial (take (place + 1) start.now)) +ℤ pos dollars ≡ pos (sum start.now) }
     ensures made { IsMadeOf graph.now made.new }
-    ensures first { (k c i : ℕ) → AreTrialsWithinLimits graph.now.size k c → i < c →
-        trial ≡ nth_trial graph.now.size k i → MatchOption result
-        (AllTrialsWin graph.now (at chips.now) k i (i + trial_count (graph.now.size - place)
-        (slice_index trial (graph.now.size - 1))))
-        (IsFirstLossOfTrials graph.now (at chips.now) k i (i + trial_count (graph.now.size - place)
-        (slice_index trial (graph.now.size - 1)))) }
+    ensures first { (D : Amounts) →
+        AreEquivalent graph.now (less D (amounts_of_trial (take (place + 1) start.now))) (at left.now) →
+        TellsFirstLoss graph.now D (sum start.now) (IsInBlock place (slice_index start.now place + 1) start.now)
+        result }
 {
-    let dollars = trial.get(graph.size() - 1);
-    let Some(left) = left_before_last(graph, inverse, chips, &trial) else {
-        return Some(trial);
+    let size = graph.size();
+    if dollars == 0 {
+        return None;
+    }
+    let held = start.get(place) + 1;
+    let Some(other) = left_in_box_after(graph, left, place, 1) else {
+        let first = Trial::trial_at_last(size, dollars - 1).with_more(place, held);
+        return Some(first.after(start, place));
     };
-    match find_from(graph, &left, made, dollars, place) {
-        Some(known) => {
-            let later = first_loss_from(graph, made, &left, dollars, place, known);
-            Some(trial.then(place, &later))
-        }
+    match find_first_from(graph, made, &other, dollars - 1, place) {
+        Some(later) => Some(later.with_more(place, held).after(start, place)),
         None => None,
     }
 }
@@ -126,7 +110,7 @@ pub(crate) fn left_before_last(
     requires few { sum trial.now ≤ 1000 }
     ensures { MatchOption result
         (¬ WinsWithoutTrial graph.now (at chips.now) trial.now)
-        (IsTrialLeftBeforeLast graph.now (at chips.now) trial.now) }
+        (IsLeftBefore graph.now (at chips.now) trial.now (graph.now.size - 1)) }
 {
     let last = graph.size() - 1;
     let lost = trial.trial_as_divisor();

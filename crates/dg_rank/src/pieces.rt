@@ -93,15 +93,25 @@ fn first_loss_of<G: Gate>(search: &Search, gate: &G, piece: u32) -> Option<Trial
         (start_of_trials search.now (piece + 1)) result }
 {
     let piece = enter(gate, piece);
-    first_loss(
+    let from = first_trial_of_piece(search, piece);
+    let to = first_trial_of_piece(search, piece + 1);
+    if from == to {
+        return None;
+    }
+    let size = search.graph.size();
+    let start = Trial::trial_with_number(size, search.k, from);
+    let inverse = InverseLaplacian::new(&search.graph, 0);
+    let loss = first_loss(
         &search.graph,
-        &InverseLaplacian::new(&search.graph, 0),
+        &inverse,
         &mut Made::nothing(),
         &search.chips,
-        search.k,
-        first_trial_of_piece(search, piece),
-        first_trial_of_piece(search, piece + 1),
-    )
+        start,
+    )?;
+    if to < search.count && !loss.is_before(&Trial::trial_with_number(size, search.k, to)) {
+        return None;
+    }
+    Some(loss)
 }
 
 /// Lets a piece through the gate, and says which one went through.

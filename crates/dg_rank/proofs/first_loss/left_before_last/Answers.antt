@@ -1,5 +1,6 @@
 use Rattle.dg_rank.proofs.Common.{◌≡◌, ◌-◌, slice_index, ◌≤◌, arith, refl, ◌∙◌, ◌≤ℤ◌, unsigned_abs, pos, ints, DivisorsAgreeOn, AreEquivalent, less, equivalent-refl, equivalent-trans, effective_from, reduced_decides, at, IsEffectiveDivisor, amounts_of_trial}
 use Rattle.dg_rank.proofs.Elsewhere.{degree-given, given_back, left_degree, left_small, form_kept, rich_small, trial_small}
+use Rattle.dg_rank.proofs.Blocks.{taken_last}
 use Rattle.dg_rank.proofs.first_loss.left_before_last.Goals as goal
 use Rattle.dg_rank.proofs.first_loss.left_before_last.Goals.{After-size-last, After-less, After-reduce_certified-reduced, After-of-left}
 
@@ -104,7 +105,8 @@ returns c =
     let given = rw (c.get-2.ensures, c.size-last.ensures.size) at c.give.ensures.amounts in
     record {
       left = given_back g (less (at c.args.chips.now) (amounts_of_trial E)) _ c.of-left.result c.give.new.self (g.size - 1)
-          (slice_index E (g.size - 1)) rich c.give.ensures.size (λ v. refl) given;
+          (slice_index E (g.size - 1)) rich c.give.ensures.size
+          (λ v. omega (arith, ints, taken_last g.size E v c.requires.graph.some c.requires.places)) given;
       few = omega (
         arith,
         ints,
