@@ -6,11 +6,11 @@ pub use Rattle.dg_graph.specs.Graph.{IsGraph}
 pub use Rattle.dg_theory.specs.Sets.{IsSubset}
 unfoldable pub use Rattle.dg_graph.specs.Sets.{in_set}
 pub use Rattle.dg_rank.specs.Asked.{IsMadeOf, DeterminesTrialsFrom}
-pub use Rattle.dg_rank.specs.Boxes.{BoxWins, IsBoxLoss, IsFirstTrialFrom, IsTrialFrom, IsInBox, IsTrialLossFrom, TrialsWinFrom}
+pub use Rattle.dg_rank.specs.Boxes.{BoxWins, HoldsAt, IsBoxLoss, IsFirstTrialFrom, IsFirstTrialIf, IsInBox, IsNotBefore, IsTrialFrom, IsTrialLossFrom, TellsFirstTrialIf, TrialsWinFrom, TrialsWinIf}
 pub use Rattle.dg_rank.specs.Divisors.{HoldsTrial, amounts_of_trial}
 pub use Rattle.dg_rank.specs.Ladders.{AnswersRankTest, AreRankTestAnswers, FailsRankTestsAfter, MeetsTooManyTrials, PassesRankTestsBelow, RankByTrialLadder, RanksByTrialLadders}
 pub use Rattle.dg_rank.specs.Limits.{ArePastTrialLimits, AreTrialsWithinLimits}
-pub use Rattle.dg_rank.specs.Losses.{AllTrialsWin, IsFirstLossAmong, IsFirstLossOfTrials, IsInBlock, IsLeftBefore, IsNotBefore, TellsFirstLoss, TrialsWin, WinsWithoutTrial}
+pub use Rattle.dg_rank.specs.Losses.{AllTrialsWin, IsFewDivisor, IsFirstLossOfTrials, WinsWithoutTrial}
 pub use Rattle.dg_rank.specs.Pieces.{start_of_trials}
 pub use Rattle.dg_rank.specs.Ranks.{FailsRankTestsFirstAt, IsRankInLimits, IsRankTestWithinLimits, NeedsTooMany}
 pub use Rattle.dg_rank.specs.Trials.{AnyTrial, AreTrialsCounted, IsTrialBefore, IsTrialNumbering, IsTrial}
@@ -26,7 +26,7 @@ pub use Rattle.dg_theory.proofs.Equivalence.{equivalent-degree, equivalent-refl,
 pub use Rattle.dg_theory.proofs.Giving.{degree-less, degree-only_at, degree-winnable, win_more}
 pub use Rattle.dg_theory.proofs.LossLaws.{equivalent-loss, loss_bounds_rank}
 pub use Rattle.dg_theory.proofs.Plays.{only_at-here, only_at-other}
-pub use Rattle.dg_theory.proofs.Range.{sum_below-at_most, sum_below-one}
+pub use Rattle.dg_theory.proofs.Range.{sum_below-at_most, sum_below-one, sum_below-two}
 pub use Rattle.dg_theory.proofs.RankLaws.{equivalent-rank, poor_rank, rich_rank}
 pub use Rattle.dg_theory.proofs.RankNumbers.{not_rich, rank_of_dual, rank_passes}
 pub use Rattle.dg_theory.proofs.RankSums.{half_of_degree}

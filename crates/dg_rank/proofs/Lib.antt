@@ -10,12 +10,12 @@ pub mod TrialLists
 pub mod FirstLosses
 pub mod PieceLosses
 pub mod Elsewhere
-pub mod Blocks
-pub mod Starts
 -- Boxes of losses.
 pub mod LossBoxes
 pub mod FirstFrom
 pub mod FixedBeginnings
+-- The trials from one on.
+pub mod Starts
 -- The vertices that are asked.
 pub mod AskedVertices
 -- Ranks and rank tests by the residual.

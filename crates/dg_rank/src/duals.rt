@@ -12,7 +12,7 @@ ghost use Rattle.dg_rank.specs.Losses.{AreSmallForTrials};
 
 use crate::asked::{Made, find_from};
 use crate::enumeration::Trial;
-use crate::first_loss::left_before_last;
+use crate::first_loss::effective_with;
 use dg_chips::{Divisor, Wide};
 use dg_graph::Graph;
 use dg_reduce::InverseLaplacian;
@@ -163,7 +163,7 @@ fn all_trials_win(
         (¬ HasRankAtLeast graph.now (at amounts.now) k) }
 {
     let first = Trial::trial_at_last(graph.size(), k);
-    match left_before_last(graph, inverse, amounts, &first) {
+    match effective_with(graph, inverse, amounts, &first) {
         Some(left) => find_from(graph, &left, made, k, 0).is_none(),
         None => false,
     }

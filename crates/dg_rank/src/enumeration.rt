@@ -106,34 +106,6 @@ impl Trial {
         trial
     }
 
-    /// The trial that holds before a place what another does, and from there on what this one does.
-    pub(crate) fn after(self, start: &Trial, place: usize) -> Trial
-        requires sizes { length start.now ≡ length self }
-        requires place { place ≤ length self }
-        ensures places { length result ≡ length self }
-        ensures before { (v : ℕ) → v < place → slice_index result v ≡ slice_index start.now v }
-        ensures after { (v : ℕ) → place ≤ v → slice_index result v ≡ slice_index self v }
-    {
-        let mut whole = self;
-        for v in 0..place {
-            whole.set(v, start.get(v));
-        }
-        whole
-    }
-
-    /// The least place from which on it holds nothing before its last place.
-    pub(crate) fn tail(&self) -> usize
-        requires { 0 < length self.now }
-        ensures within { result < length self.now }
-        ensures empty { (u : ℕ) → result ≤ u → u + 1 < length self.now → slice_index self.now u ≡ 0 }
-    {
-        let mut place = self.size() - 1;
-        'places: while place > 0 && self.get(place - 1) == 0 {
-            place -= 1;
-        }
-        place
-    }
-
     /// Whether it comes before another trial: whether it holds less at the first place at which they differ.
     pub(crate) fn is_before(&self, other: &Trial) -> bool
         requires { length other.now ≡ length self.now }

@@ -4,8 +4,7 @@ ghost use Rattle.std.specs.List.{sum};
 ghost use Rattle.dg_theory.specs.Multigraph.{Multigraph};
 ghost use Rattle.dg_theory.specs.Firing.{Amounts, AreEquivalent};
 ghost use Rattle.dg_chips.specs.Vector.{at};
-ghost use Rattle.dg_rank.specs.Trials.{AnyTrial};
-ghost use Rattle.dg_rank.specs.Losses.{TellsFirstLoss};
+ghost use Rattle.dg_rank.specs.Boxes.{TrialsWinFrom, IsFirstTrialFrom};
 ghost use Rattle.dg_verdict.specs.RankTests.{IsRightRankVerdict};
 ghost use Rattle.dg_rank.specs.Ladders.{AnswersRankTest};
 ghost use Rattle.dg_rank.specs.Ranks.{IsRankTestWithinLimits};
@@ -80,7 +79,7 @@ fn tested(graph: &Graph, inverse: &InverseLaplacian, divisor: &Divisor, k: u32) 
         return RankVerdict::AtLeast(k);
     }
     let first = Trial::trial_at_last(size, k);
-    let loss = first_loss(graph, inverse, &mut made, &Wide::of(divisor), first);
+    let loss = first_loss(graph, inverse, &mut made, &Wide::of(divisor), k, first);
     rank_verdict_of(k, loss)
 }
 
@@ -107,8 +106,8 @@ pub(crate) fn rank_by_degree(graph: &Graph, divisor: &Divisor, k: u32) -> Option
 /// The answer if this is the first loss of all trials, or if none was found.
 pub(crate) fn rank_verdict_of(k: u32, loss: Option<Trial>) -> RankVerdict
     requires { MatchOption loss ⊤ (λ E. sum E ≤ 1000) }
-    ensures { (g : Multigraph) (D x : Amounts) → AreEquivalent g D x → TellsFirstLoss g x k AnyTrial loss →
-        IsRightRankVerdict g D k result }
+    ensures { (g : Multigraph) (D x : Amounts) → AreEquivalent g D x →
+        MatchOption loss (TrialsWinFrom g x k 0) (IsFirstTrialFrom g x k 0) → IsRightRankVerdict g D k result }
 {
     match loss {
         Some(trial) => RankVerdict::Below(k, trial.trial_as_divisor()),

@@ -1,5 +1,6 @@
 use Rattle.dg_rank.proofs.Common.{refl, equivalent-loss, equivalent-rank, at}
-use Rattle.dg_rank.proofs.FirstLosses.{found_rank, found_loss}
+use Rattle.dg_rank.proofs.AskedVertices.{rank_from}
+use Rattle.dg_rank.proofs.FirstLosses.{found_loss}
 use Rattle.dg_rank.proofs.ranks.rank_verdict_of.Goals as goal
 
 pub returns-in-Some : goal.returns-in-Some
@@ -10,4 +11,4 @@ returns-in-Some c g D x same found =
 
 pub returns-in-None : goal.returns-in-None
 returns-in-None c g D x same found =
-    (refl, (equivalent-rank g D x c.args.k same).1 (found_rank g x c.args.k (rw c.in-None.is at found)))
+    (refl, (equivalent-rank g D x c.args.k same).1 (rank_from g x c.args.k (rw c.in-None.is at found)))

@@ -1,7 +1,7 @@
-use Rattle.dg_rank.proofs.Common.{◌<◌, ◌∙◌, arith, ints, refl, equivalent-refl, at, IsTrial, AnyTrial, TellsFirstLoss}
-use Rattle.dg_rank.proofs.Blocks.{IsTail}
+use Rattle.dg_rank.proofs.Common.{◌≡◌, ◌-◌, ◌<◌, ◌∙◌, arith, ints, refl, slice_index, MatchOption, equivalent-refl, at, amounts_of_trial, IsTrialFrom, TrialsWinFrom, IsFirstTrialFrom}
+use Rattle.dg_rank.proofs.FirstFrom.{at_last}
 use Rattle.dg_rank.proofs.FirstLosses.{found_trial}
-use Rattle.dg_rank.proofs.Starts.{first_trial, none_before, all_told}
+use Rattle.dg_rank.proofs.Starts.{all_told, on_all, trial_from}
 use Rattle.dg_rank.proofs.ranks.tested.Goals as goal
 use Rattle.dg_rank.proofs.ranks.tested.Goals.{After-trial_at_last-first, After-first_loss-loss}
 
@@ -14,12 +14,14 @@ passes_unasked-requires c =
       made = c.nothing-made.ensures c.args.graph.now within.few;
     }
 
-first : (c : After-trial_at_last-first) → IsTrial c.args.graph.now.size c.args.k c.trial_at_last-first.result ×
-    IsTail c.args.graph.now.size 0 c.trial_at_last-first.result
+held : (c : After-trial_at_last-first) → slice_index c.trial_at_last-first.result (c.args.graph.now.size - 1) ≡ c.args.k
+held c = rw c.size-size.ensures.size at c.trial_at_last-first.ensures.held
+
+first : (c : After-trial_at_last-first) →
+    IsTrialFrom c.args.graph.now.size c.args.k 0 (amounts_of_trial c.trial_at_last-first.result)
 first c =
-    first_trial c.args.graph.now.size c.size-size.result c.args.k c.trial_at_last-first.result c.size-size.ensures.size
-    c.size-size.ensures.graph.some c.trial_at_last-first.ensures.places c.trial_at_last-first.ensures.held
-    c.trial_at_last-first.ensures.empty
+    at_last c.args.graph.now.size c.args.k 0 c.trial_at_last-first.result c.size-size.ensures.graph.some (held c)
+    (rw c.size-size.ensures.size at c.trial_at_last-first.ensures.empty)
 
 pub first_loss-loss-requires-clause-range : goal.first_loss-loss-requires-clause-range
 first_loss-loss-requires-clause-range c v inside =
@@ -29,16 +31,22 @@ first_loss-loss-requires-clause-range c v inside =
 pub first_loss-loss-requires-clause-few : goal.first_loss-loss-requires-clause-few
 first_loss-loss-requires-clause-few c =
     let (count, within) = c.requires.limits in
-    omega (arith, (first (goal.at.first_loss-loss-requires-clause-few c).After-trial_at_last-first).0.amount, within.small)
+    within.small
 
-found : (c : After-first_loss-loss) →
-    TellsFirstLoss c.args.graph.now (at c.of.result) c.args.k AnyTrial c.first_loss-loss.result
+pub first_loss-loss-requires-clause-start : goal.first_loss-loss-requires-clause-start
+first_loss-loss-requires-clause-start c =
+    trial_from c.args.graph.now.size c.args.k 0 c.trial_at_last-first.result
+    (c.trial_at_last-first.ensures.places ∙ c.size-size.ensures.size)
+    (first (goal.at.first_loss-loss-requires-clause-start c).After-trial_at_last-first)
+
+found : (c : After-first_loss-loss) → MatchOption c.first_loss-loss.result
+    (TrialsWinFrom c.args.graph.now (at c.of.result) c.args.k 0) (IsFirstTrialFrom c.args.graph.now (at c.of.result) c.args.k 0)
 found c =
-    let (trial, tail) = first (goal.at.After-first_loss-loss c).After-trial_at_last-first in
+    let d = (goal.at.After-first_loss-loss c).After-trial_at_last-first in
     let g = c.args.graph.now in
     let S = c.trial_at_last-first.result in
-    all_told g (at c.of.result) c.args.k S c.first_loss-loss.result (λ F other. none_before g.size c.args.k S F trial tail other)
-    (rw trial.amount at c.first_loss-loss.ensures.first)
+    all_told g (at c.of.result) c.args.k 0 S c.first_loss-loss.result
+    (λ F from. on_all g.size c.args.k 0 S F (held d) (first d) from) c.first_loss-loss.ensures.first
 
 pub rank_verdict_of-requires : goal.rank_verdict_of-requires
 rank_verdict_of-requires c =

@@ -1,4 +1,4 @@
-use Rattle.dg_rank.proofs.Common.{◌≡◌, ℕ, ◌<◌, inl, inr, ⊎_elim, Option, List, subst, ◌∙◌, arith, ints, equivalent-refl, Vector, at, Multigraph, AnyTrial, TellsFirstLoss, AreTrialsWithinLimits, Search}
+use Rattle.dg_rank.proofs.Common.{◌≡◌, ℕ, ◌<◌, inl, inr, ⊎_elim, Option, List, subst, ◌∙◌, arith, ints, equivalent-refl, Vector, at, Multigraph, MatchOption, TrialsWinFrom, IsFirstTrialFrom, AreTrialsWithinLimits, Search}
 use Rattle.dg_rank.specs.Pieces.{start_of_trials, TellsFirstLossOfTrials}
 use Rattle.dg_rank.proofs.FirstLosses.{found_trial}
 use Rattle.dg_rank.proofs.PieceLosses.{piece_first, of_all}
@@ -23,13 +23,14 @@ search g x k count w = record { graph = g; chips = x; k = k; count = count; work
 -- the first piece starts with the first trial
 found : (g : Multigraph) (x : Vector) (k count w : ℕ) (loss : Option (List ℕ)) → AreTrialsWithinLimits g.size k count →
     TellsFirstLossOfTrials (search g x k count w) (start_of_trials (search g x k count w) 0) count loss →
-    TellsFirstLoss g (at x) k AnyTrial loss
+    MatchOption loss (TrialsWinFrom g (at x) k 0) (IsFirstTrialFrom g (at x) k 0)
 found g x k count w loss limits told =
     of_all g (at x) k count loss limits
     (subst (λ (m : ℕ). TellsFirstLossOfTrials (search g x k count w) m count loss) (piece_first (search g x k count w)) told)
 
 told : (g : Over) (c : In-None g) → AreTrialsWithinLimits c.args.graph.now.size c.args.k c.trials_to_make.result ×
-    TellsFirstLoss c.args.graph.now (at c.of.result) c.args.k AnyTrial c.in-Ok.loss
+    MatchOption c.in-Ok.loss (TrialsWinFrom c.args.graph.now (at c.of.result) c.args.k 0)
+    (IsFirstTrialFrom c.args.graph.now (at c.of.result) c.args.k 0)
 told g c =
     let all : c.trials_to_make.result ≡ c.in-Some.count = rw c.in-None.is at c.trials_to_make.ensures.all in
     let limits : AreTrialsWithinLimits c.args.graph.now.size c.args.k c.trials_to_make.result =
