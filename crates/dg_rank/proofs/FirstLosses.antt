@@ -2,7 +2,7 @@
 --   found_trial      what was found among all trials, if it is one, has at most 1,000 dollars
 --   found_loss       the first of all trials to lose is the first loss
 --   poor_loses       where there are fewer dollars than a trial has, it loses
-use Rattle.dg_rank.proofs.Common.{◌≡◌, ℕ, ◌+◌, ◌<◌, ◌≤◌, List, length, arith, subst, ◌∙◌, sum, Option, Some, None, ⊤, MatchOption, ints, ◌≤ℤ◌, ◌<ℤ◌, pos, Multigraph, IsMultigraph, Amounts, degree, less, IsFirstLoss, sum_below-cong, win_more, degree-less, degree-winnable, Vector, at, amounts_of_trial, HoldsTrial, WinsWithoutTrial, IsTrialFrom, TrialsWinFrom, IsFirstTrialFrom}
+use Rattle.dg_rank.proofs.Common.{◌≡◌, ℕ, ◌<◌, ◌≤◌, List, length, arith, subst, ◌∙◌, sum, Option, Some, None, ⊤, MatchOption, ints, ◌≤ℤ◌, ◌<ℤ◌, pos, Multigraph, IsMultigraph, Amounts, degree, less, IsFirstLoss, sum_below-cong, win_more, degree-less, degree-winnable, Vector, at, amounts_of_trial, HoldsTrial, WinsWithoutTrial, IsTrialFrom, TrialsWinFrom, IsFirstTrialFrom}
 use Rattle.dg_rank.proofs.Starts.{trial_from}
 
 pub found_trial : (g : Multigraph) (D : Amounts) (k : ℕ) (found : Option (List ℕ)) → k ≤ 1000 →

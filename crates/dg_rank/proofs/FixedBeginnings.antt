@@ -7,7 +7,7 @@
 --   loss_fails     where something can't be lost, a divisor fails its test
 --   all_told       what is told of all losses tells the test of equivalent amounts
 --   lost_at_last   where all can't be lost at the last vertex, a divisor fails its test
-use Rattle.dg_rank.proofs.Common.{◌≡◌, ◌≢◌, ℕ, ◌+◌, ◌-◌, ◌<◌, ◌≤◌, List, length, arith, refl, ap, ◌∙◌, ⊎_elim, set, length-set, get_or-set_same, get_or-set_other, slice_index, ◌≤ℤ◌, cases_eq, cases_lt, ints, pos, ◌-ℤ◌, Multigraph, Amounts, degree, only_at, AreEquivalent, IsWinnable, less, HasRankAtLeast, equivalent-refl, degree-less, degree-only_at, only_at-here, only_at-other, sum_below-one, sum_below-cong, equivalent-winnable, win_more, amounts_of_trial, TrialsWinFrom, IsFirstTrialFrom, IsTrialLossFrom, Vector, at, sum, natural, Bool, true, false, not, is_some, Option, Some, None, MatchOption, MatchBool, IsTrial, WinsWithoutTrial, equivalent-rank, both_ways}
+use Rattle.dg_rank.proofs.Common.{◌≡◌, ◌≢◌, ℕ, ◌+◌, ◌-◌, ◌<◌, ◌≤◌, List, length, arith, refl, ap, ◌∙◌, ⊎_elim, set, length-set, get_or-set_same, get_or-set_other, slice_index, ◌≤ℤ◌, cases_eq, cases_lt, ints, pos, ◌-ℤ◌, Multigraph, Amounts, degree, only_at, AreEquivalent, IsWinnable, less, HasRankAtLeast, equivalent-refl, degree-less, degree-only_at, only_at-here, only_at-other, sum_below-one, sum_below-cong, equivalent-winnable, win_more, amounts_of_trial, TrialsWinFrom, IsFirstTrialFrom, IsTrialLossFrom, natural, Bool, true, false, not, is_some, Option, Some, None, MatchOption, MatchBool, IsTrial, WinsWithoutTrial, equivalent-rank, both_ways}
 use Rattle.std.proofs.Math.IntN.{◌+ℤ◌}
 use Rattle.dg_rank.proofs.Elsewhere.{only_at-more, degree-given}
 use Rattle.dg_rank.proofs.TrialLists.{degree-trial}

@@ -10,7 +10,7 @@
 --   piece_loses    the first loss from one on is that of the piece, if it comes before the next piece
 --   piece_passed   if it does not, all trials of the piece win
 --   of_all         what is found in all trials by their numbers is found in all
-use Rattle.dg_rank.proofs.Common.{◌≡◌, ℕ, ◌+◌, ◌*◌, ◌/◌, ◌<◌, ◌≤◌, List, arith, sym, ⊎_elim, mul-le-mul_right, slice_index, ints, Option, Some, None, MatchOption, cases_lt, get_or_past, le-div, div-mul-le_self, div-le_of_le-mul, Multigraph, Amounts, IsDivisorBefore, IsEffective, less, win_more, IsWinnable, IsTrial, IsTrialBefore, AnyTrial, AreTrialsWithinLimits, amounts_of_trial, WinsWithoutTrial, IsTrialFrom, TrialsWinFrom, IsFirstTrialFrom, TrialsWinIf, IsFirstTrialIf, IsNotBefore, AllTrialsWin, IsFirstLossOfTrials, start_of_trials, Search}
+use Rattle.dg_rank.proofs.Common.{◌≡◌, ℕ, ◌+◌, ◌*◌, ◌/◌, ◌<◌, ◌≤◌, List, arith, sym, ⊎_elim, mul-le-mul_right, ints, Option, Some, None, MatchOption, cases_lt, get_or_past, le-div, div-mul-le_self, div-le_of_le-mul, Multigraph, Amounts, IsDivisorBefore, less, win_more, IsWinnable, IsTrial, IsTrialBefore, AnyTrial, AreTrialsWithinLimits, amounts_of_trial, WinsWithoutTrial, IsTrialFrom, TrialsWinFrom, IsFirstTrialFrom, TrialsWinIf, IsFirstTrialIf, IsNotBefore, AllTrialsWin, IsFirstLossOfTrials, start_of_trials, Search}
 use Rattle.dg_rank.specs.Numbering.{trial_count, nth_trial}
 use Rattle.dg_rank.proofs.Numbering.{numbered, limits_count, limits_trial}
 use Rattle.dg_rank.proofs.CountedOnce.{lower_number}

@@ -11,7 +11,7 @@
 --   stepped          what does not come before S holds more at p, or as much, and then the rest does not come before that of S
 --   loss_later, told_above   so the first loss is one of those that hold as much, or of those that hold more
 --   told_same        what is told of a divisor is told of those that are equivalent to it
-use Rattle.dg_rank.proofs.Common.{◌≡◌, ◌≢◌, ℕ, ◌+◌, ◌-◌, ◌<◌, ◌≤◌, List, Option, Some, None, MatchOption, length, arith, refl, sym, ap, ◌∙◌, ⊎_elim, set, length-set, get_or-set_same, get_or-set_other, slice_index, sum, cases_eq, cases_lt, ints, by_lt_z, pos, ◌-ℤ◌, ◌≤ℤ◌, ◌<ℤ◌, Multigraph, Amounts, degree, only_at, AreEquivalent, IsWinnable, IsDivisorBefore, less, degree-less, degree-only_at, only_at-here, only_at-other, sum_below-cong, sum_below-two, equivalent-winnable, win_more, amounts_of_trial, IsTrial, IsTrialFrom, TrialsWinFrom, IsFirstTrialFrom, TrialsWinIf, IsFirstTrialIf, TellsFirstTrialIf, IsNotBefore, HoldsAt}
+use Rattle.dg_rank.proofs.Common.{◌≡◌, ◌≢◌, ℕ, ◌+◌, ◌-◌, ◌<◌, ◌≤◌, List, Option, Some, None, MatchOption, length, arith, refl, sym, ap, ◌∙◌, ⊎_elim, set, length-set, get_or-set_same, get_or-set_other, slice_index, sum, cases_eq, cases_lt, ints, by_lt_z, pos, ◌-ℤ◌, ◌≤ℤ◌, ◌<ℤ◌, Multigraph, Amounts, only_at, AreEquivalent, IsWinnable, IsDivisorBefore, less, only_at-here, only_at-other, sum_below-cong, sum_below-two, equivalent-winnable, win_more, amounts_of_trial, IsTrial, IsTrialFrom, TrialsWinFrom, IsFirstTrialFrom, TrialsWinIf, IsFirstTrialIf, TellsFirstTrialIf, IsNotBefore, HoldsAt}
 use Rattle.std.proofs.Math.IntN.{◌+ℤ◌}
 use Rattle.dg_rank.proofs.TrialLists.{degree-trial}
 use Rattle.dg_rank.proofs.FirstFrom.{IsOther, all_last, from_few, from_more, none_before, some_less, some_more, wins_other}

@@ -1,4 +1,4 @@
-use Rattle.dg_rank.proofs.Common.{◌≡◌, ◌+◌, ◌-◌, ◌<◌, ◌≤◌, arith, ints, ◌∙◌, length-set, slice_index, at, amounts_of_trial}
+use Rattle.dg_rank.proofs.Common.{◌≡◌, ◌-◌, ◌≤◌, arith, ints, ◌∙◌, length-set, slice_index, at, amounts_of_trial}
 use Rattle.dg_rank.proofs.FirstFrom.{from_few}
 use Rattle.dg_rank.proofs.LossBoxes.{taken_small}
 use Rattle.dg_rank.proofs.Starts.{IsStep, loss_later, not_last, on_all, some_lost, start_later, start_lost, told_above, told_on}

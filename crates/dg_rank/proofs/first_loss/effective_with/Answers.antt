@@ -1,4 +1,4 @@
-use Rattle.dg_rank.proofs.Common.{◌≡◌, ◌≢◌, ℕ, ◌<◌, ◌≤◌, arith, refl, ◌∙◌, ⊎_elim, cases_eq, only_at-here, only_at-other, ◌≤ℤ◌, unsigned_abs, pos, ints, within_abs, DivisorsAgreeOn, AreEquivalent, less, equivalent-refl, equivalent-trans, effective_from, reduced_decides, sum_below-at_most, at, IsEffectiveDivisor, amounts_of_trial}
+use Rattle.dg_rank.proofs.Common.{◌≡◌, ◌≢◌, ℕ, ◌<◌, ◌≤◌, arith, ◌∙◌, ⊎_elim, cases_eq, only_at-here, only_at-other, ◌≤ℤ◌, unsigned_abs, pos, ints, within_abs, DivisorsAgreeOn, AreEquivalent, less, equivalent-refl, equivalent-trans, effective_from, reduced_decides, sum_below-at_most, at, IsEffectiveDivisor, amounts_of_trial}
 use Rattle.std.proofs.Math.IntN.{◌+ℤ◌}
 use Rattle.dg_rank.proofs.Elsewhere.{form_degree, left_degree, left_small, rich_small}
 use Rattle.dg_rank.proofs.first_loss.effective_with.Goals as goal

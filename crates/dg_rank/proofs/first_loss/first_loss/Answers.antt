@@ -1,4 +1,4 @@
-use Rattle.dg_rank.proofs.Common.{arith, at, IsNotBefore}
+use Rattle.dg_rank.proofs.Common.{at, IsNotBefore}
 use Rattle.dg_rank.proofs.Starts.{from_trial, start_lost, told_same}
 use Rattle.dg_rank.proofs.first_loss.first_loss.Goals as goal
 

@@ -1,4 +1,4 @@
-use Rattle.dg_rank.proofs.Common.{◌≡◌, ◌+◌, ◌-◌, ◌<◌, ◌≤◌, arith, refl, ◌∙◌, ints, pos, at, only_at, less, equivalent-refl, win_more, amounts_of_trial}
+use Rattle.dg_rank.proofs.Common.{◌-◌, arith, refl, ◌∙◌, ints, pos, at, only_at, less, equivalent-refl, win_more, amounts_of_trial}
 use Rattle.dg_rank.proofs.FirstFrom.{first_above, first_at_last, from_few, held_few, some_less, wins_other}
 use Rattle.dg_rank.proofs.LossBoxes.{taken_small}
 use Rattle.dg_rank.proofs.first_loss.first_loss_above.Goals as goal

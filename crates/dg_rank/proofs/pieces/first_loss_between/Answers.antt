@@ -1,4 +1,4 @@
-use Rattle.dg_rank.proofs.Common.{◌≡◌, ◌<◌, ◌≤◌, List, length, arith, ap, sym, ◌∙◌, ⊎_elim, at, IsTrial, IsTrialBefore, IsNotBefore, IsFirstTrialIf, AreTrialsWithinLimits}
+use Rattle.dg_rank.proofs.Common.{◌≡◌, ◌<◌, length, arith, ap, sym, ◌∙◌, ⊎_elim, at, IsTrialBefore, IsNotBefore, IsFirstTrialIf, AreTrialsWithinLimits}
 use Rattle.dg_rank.specs.Numbering.{nth_trial}
 use Rattle.dg_rank.proofs.Numbering.{limits_trial}
 use Rattle.dg_rank.proofs.PieceLosses.{piece_wins, piece_loses, piece_passed}

@@ -1,4 +1,4 @@
-use Rattle.dg_rank.proofs.Common.{◌+◌, ◌≤◌, arith, start_of_trials}
+use Rattle.dg_rank.proofs.Common.{◌+◌, arith}
 use Rattle.dg_rank.proofs.PieceLosses.{piece_ends, piece_within}
 use Rattle.dg_rank.proofs.pieces.first_loss_of.Goals as goal
 

@@ -1,4 +1,4 @@
-use Rattle.dg_rank.proofs.Common.{◌≡◌, ◌-◌, ◌<◌, ◌∙◌, arith, ints, refl, slice_index, MatchOption, equivalent-refl, at, amounts_of_trial, IsTrialFrom, TrialsWinFrom, IsFirstTrialFrom}
+use Rattle.dg_rank.proofs.Common.{◌≡◌, ◌-◌, ◌<◌, ◌∙◌, arith, ints, slice_index, MatchOption, equivalent-refl, at, amounts_of_trial, IsTrialFrom, TrialsWinFrom, IsFirstTrialFrom}
 use Rattle.dg_rank.proofs.FirstFrom.{at_last}
 use Rattle.dg_rank.proofs.FirstLosses.{found_trial}
 use Rattle.dg_rank.proofs.Starts.{all_told, on_all, trial_from}
