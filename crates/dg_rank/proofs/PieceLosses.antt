@@ -94,7 +94,8 @@ module _ {n k c : ℕ} (limits : AreTrialsWithinLimits n k c) where
       lower_number n k AnyTrial (trial_count n k) (nth_trial n k) i j (numbered n k) (omega (arith, limits_count n k c limits))
       before
 
-  earlier : (i j : ℕ) → i < j → j < c → IsDivisorBefore n (amounts_of_trial (nth_trial n k i)) (amounts_of_trial (nth_trial n k j))
+  earlier : (i j : ℕ) → i < j → j < c →
+      IsDivisorBefore n (amounts_of_trial (nth_trial n k i)) (amounts_of_trial (nth_trial n k j))
   earlier i j less low =
       before_amounts n k (nth_trial n k i) (nth_trial n k j) (limits_trial n k c j limits low)
       ((numbered n k).ascending i j less (omega (arith, limits_count n k c limits)))

@@ -109,7 +109,9 @@ returns c =
         arith,
         ints,
         form_degree g D c.loop-v.left c.requires.graph.multigraph back,
-        sum_below-at_most g.size 1999000 D (λ w below. omega (arith, ints, (within_abs (D w) 1999000 (c.requires.range w below)).1)),
+        sum_below-at_most g.size 1999000 D (λ w below.
+            let (low, high) = within_abs (D w) 1999000 (c.requires.range w below) in
+            omega (arith, ints)),
         c.requires.graph.few,
       );
     }

@@ -40,7 +40,8 @@ pub is_before-requires : goal.is_before-requires
 is_before-requires c =
     let d = goal.at.is_before-requires c in
     let next = rw c.size-size.ensures.size at c.trial_with_number.ensures in
-    ap length next ∙ (limits_trial _ _ _ c.args.to (limits d.After-trial_with_number-start) (omega (arith, c.if-to-search.true))).places
+    let low : c.args.to < c.args.search.now.count = omega (arith, c.if-to-search.true) in
+    ap length next ∙ (limits_trial _ _ _ c.args.to (limits d.After-trial_with_number-start) low).places
     ∙ sym (first d.In_ok-loss).places
 
 pub returns-then-not-is_before : goal.returns-then-not-is_before
