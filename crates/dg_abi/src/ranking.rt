@@ -11,7 +11,7 @@ use crate::faults::NO_LOSS_NAMED;
 use crate::rows::{divisor_at, put_divisor};
 use dg_chips::Divisor;
 use dg_graph::Graph;
-use dg_rank::{both_ranks_by, has_rank, rank_at_least_by};
+use dg_rank::{both_ranks, has_rank, rank_at_least_by};
 use dg_reduce::InverseLaplacian;
 use dg_verdict::RankVerdict;
 
@@ -68,7 +68,7 @@ fn rank_row(
         Err(told) => return told,
     };
     let _size = graph.size();
-    let both = both_ranks_by(graph, inverse, &divisor);
+    let both = both_ranks(graph, Some(inverse), &divisor);
     ranks[row] = both.0;
     if row < duals.len() {
         duals[row] = both.1;
@@ -133,7 +133,7 @@ fn tell_test(
     ensures elsewhere { KeepsElsewhere graph.now.size losses.old losses.new start }
 {
     let _size = graph.size();
-    if let Ok(verdict) = rank_at_least_by(graph, inverse, divisor, k) {
+    if let Ok(verdict) = rank_at_least_by(graph, Some(inverse), divisor, k) {
         return tell_verdict(graph, divisor, k, &verdict, start, losses);
     }
     if has_rank(graph, divisor, k) {

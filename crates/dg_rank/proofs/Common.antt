@@ -6,11 +6,11 @@ pub use Rattle.dg_graph.specs.Graph.{IsGraph}
 pub use Rattle.dg_theory.specs.Sets.{IsSubset}
 unfoldable pub use Rattle.dg_graph.specs.Sets.{in_set}
 pub use Rattle.dg_rank.specs.Asked.{IsMadeOf, DeterminesTrialsFrom}
-pub use Rattle.dg_rank.specs.Boxes.{BoxWins, IsBoxLoss, IsFirstTrialFrom, IsTrialFrom, IsInBox, IsTrialLossFrom, TrialsWinFrom}
+pub use Rattle.dg_rank.specs.Boxes.{BoxWins, HoldsAt, IsBoxLoss, IsFirstTrialFrom, IsFirstTrialIf, IsInBox, IsNotBefore, IsTrialFrom, IsTrialLossFrom, TellsFirstTrialIf, TrialsWinFrom, TrialsWinIf}
 pub use Rattle.dg_rank.specs.Divisors.{HoldsTrial, amounts_of_trial}
 pub use Rattle.dg_rank.specs.Ladders.{AnswersRankTest, AreRankTestAnswers, FailsRankTestsAfter, MeetsTooManyTrials, PassesRankTestsBelow, RankByTrialLadder, RanksByTrialLadders}
 pub use Rattle.dg_rank.specs.Limits.{ArePastTrialLimits, AreTrialsWithinLimits}
-pub use Rattle.dg_rank.specs.Losses.{AllTrialsWin, IsFirstLossOfTrials, IsTrialLeftBeforeLast, WinsWithoutTrial}
+pub use Rattle.dg_rank.specs.Losses.{AllTrialsWin, IsFirstLossOfTrials, WinsWithoutTrial}
 pub use Rattle.dg_rank.specs.Pieces.{start_of_trials}
 pub use Rattle.dg_rank.specs.Ranks.{FailsRankTestsFirstAt, IsRankInLimits, IsRankTestWithinLimits, NeedsTooMany}
 pub use Rattle.dg_rank.specs.Trials.{AnyTrial, AreTrialsCounted, IsTrialBefore, IsTrialNumbering, IsTrial}
@@ -26,7 +26,7 @@ pub use Rattle.dg_theory.proofs.Equivalence.{equivalent-degree, equivalent-refl,
 pub use Rattle.dg_theory.proofs.Giving.{degree-less, degree-only_at, degree-winnable, win_more}
 pub use Rattle.dg_theory.proofs.LossLaws.{equivalent-loss, loss_bounds_rank}
 pub use Rattle.dg_theory.proofs.Plays.{only_at-here, only_at-other}
-pub use Rattle.dg_theory.proofs.Range.{sum_below-at_most, sum_below-one}
+pub use Rattle.dg_theory.proofs.Range.{sum_below-at_most, sum_below-one, sum_below-two}
 pub use Rattle.dg_theory.proofs.RankLaws.{equivalent-rank, poor_rank, rich_rank}
 pub use Rattle.dg_theory.proofs.RankNumbers.{not_rich, rank_of_dual, rank_passes}
 pub use Rattle.dg_theory.proofs.RankSums.{half_of_degree}
@@ -43,15 +43,15 @@ pub use Rattle.dg_theory.specs.Rank.{HasRankAtLeast, IsDivisorBefore, IsFirstLos
 pub use Rattle.dg_theory.specs.Sums.{sum_below, total_below}
 pub use Rattle.dg_verdict.specs.declared.rank_verdict.RankVerdict.{RankVerdict}
 pub use Rattle.dg_verdict.specs.declared.rank_verdict.RankVerdict.TheVariants.{AtLeast, Below}
-pub use Rattle.std.proofs.Common.{Bool, List, [], add-one, ap, arith, drop, false, get_or-set_other, get_or-set_same, inl, inr, length, length-append, length-set, mul-le-mul_right, of_z, refl, replicate, rules, set, subst, suc, suc-mul, sym, take, to_z, true, w32, w64, zero, ℕ, ⊎_elim, ◌*◌, ◌++◌, ◌+◌, ◌-◌, ◌/◌, ◌<◌, ◌∙◌, ◌∷◌, ◌≡◌, ◌≢◌, ◌≤◌, ◌⊎◌}
+pub use Rattle.std.proofs.Common.{Bool, List, [], add-one, ap, arith, false, get_or-set_other, get_or-set_same, inl, inr, length, length-append, length-set, mul-le-mul_right, of_z, refl, replicate, rules, set, subst, suc, suc-mul, sym, take, to_z, true, w32, w64, zero, ℕ, ⊎_elim, ◌*◌, ◌++◌, ◌+◌, ◌-◌, ◌/◌, ◌<◌, ◌∙◌, ◌∷◌, ◌≡◌, ◌≢◌, ◌≤◌, ◌⊎◌}
 pub use Rattle.std.proofs.Math.IntN.{nat_abs, negsuc, pos, ℤ, ◌-ℤ◌}
 pub use Rattle.std.proofs.Math.Nat.{div-le_of_le-mul, div-mul-le_self, mul-div_cancel_left}
 pub use Rattle.std.proofs.lemmas.Bool.{both_ways, cases_Bool, cases_eq, cases_lt, cond_above, cond_below, false_from_ne_true}
 pub use Rattle.std.proofs.lemmas.Int.{by_lt_z, clamps, ints}
-pub use Rattle.std.proofs.lemmas.List.{get_or-replicate, get_or-append_right, get_or-drop, get_or-take, get_or_append_left, get_or_past, get_or_push, length-drop, length-take-le, take-append-drop, take_all, take_more_set}
-pub use Rattle.std.proofs.lemmas.List.Sums.{get_or-le-sum_by, sum_by-cons, sum_by-take-drop, sum_by_more}
+pub use Rattle.std.proofs.lemmas.List.{get_or-replicate, get_or-take, get_or_append_left, get_or_past, get_or_push, length-take-le, take_all, take_more_set}
+pub use Rattle.std.proofs.lemmas.List.Sums.{get_or-le-sum_by, sum_by-cons, sum_by_more}
 pub use Rattle.std.proofs.lemmas.Nat.{le-div}
 pub use Rattle.std.specs.Int.{int_max}
 pub use Rattle.std.specs.Int.RustNames.{unsigned_abs}
 pub use Rattle.std.specs.List.{slice_index_or, sum}
-pub use Rattle.std.specs.Prelude.{if◌then◌else◌, Err, MatchBool, MatchOption, None, Ok, Option, Result, Some, is_some, min, not, slice_index, ⊤, ◌+ℤ◌, ◌<ℤ◌, ◌↔◌, ◌≤ℤ◌}
+pub use Rattle.std.specs.Prelude.{if◌then◌else◌, Err, MatchBool, MatchOption, None, Ok, Option, Result, Some, is_some, not, slice_index, ⊤, ◌+ℤ◌, ◌<ℤ◌, ◌↔◌, ◌≤ℤ◌}

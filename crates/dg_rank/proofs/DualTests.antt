@@ -1,17 +1,12 @@
 -- Rank tests of a divisor by those of its residual.
 --   decided          a test that tells one of two facts which hold together tells the other
---   won_by           a test that tells a fact tells what follows from it
 --   dual_passes      what agrees with the residual passes its test exactly where the divisor passes its own
 --   fails_past_half  where it is not rich, a divisor fails a test of more than half of its degree
-use Rattle.dg_rank.proofs.Common.{ℕ, ◌<◌, Bool, true, false, arith, ◌↔◌, ◌≤ℤ◌, ◌<ℤ◌, ◌+ℤ◌, ⊤, MatchBool, ints, pos, Multigraph, IsMultigraph, genus, Amounts, degree, DivisorsAgreeOn, less, canonical, HasRankAtLeast, equivalent-refl, equivalent-rank, IsDual, dual_tests, ⊎_elim, half_of_degree}
+use Rattle.dg_rank.proofs.Common.{ℕ, ◌<◌, Bool, true, false, arith, ◌↔◌, ◌≤ℤ◌, ◌<ℤ◌, ◌+ℤ◌, MatchBool, ints, pos, Multigraph, IsMultigraph, genus, Amounts, degree, DivisorsAgreeOn, less, canonical, HasRankAtLeast, equivalent-refl, equivalent-rank, IsDual, dual_tests, ⊎_elim, half_of_degree}
 
 pub decided : {P Q : Type 0} (b : Bool) → P ↔ Q → MatchBool b P (¬ P) → MatchBool b Q (¬ Q)
 decided true same holds = same.0 holds
 decided false same fails = λ q. fails (same.1 q)
-
-pub won_by : {P Q : Type 0} (b : Bool) → (P → Q) → MatchBool b P (¬ P) → MatchBool b Q ⊤
-won_by true more won = more won
-won_by false more lost = tt
 
 pub dual_passes : (g : Multigraph) (D E : Amounts) (k l : ℕ) → IsMultigraph g → 0 < g.size → IsDual g D k l →
     DivisorsAgreeOn g.size E (less (canonical g) D) → HasRankAtLeast g E l ↔ HasRankAtLeast g D k

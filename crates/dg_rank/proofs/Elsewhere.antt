@@ -9,9 +9,8 @@
 --   told_by         what repaying tells of amounts it tells of all that are equivalent to them
 --   trial_small     a trial's amounts are at most 1,000
 --   left_small      small amounts less a trial's are small
---   form_kept       the same amounts are as good a form, of what is the same on the vertices
 --   left_degree     what is left without a trial adds up to no more than before
-use Rattle.dg_rank.proofs.Common.{◌≡◌, ℕ, ◌+◌, ◌*◌, ◌<◌, ◌≤◌, Bool, true, false, List, arith, sym, ap, ◌∙◌, ⊎_elim, slice_index, ◌≤ℤ◌, MatchBool, unsigned_abs, cases_eq, ints, sum, get_or-le-sum_by, ℤ, pos, ◌-ℤ◌, Multigraph, IsMultigraph, Amounts, degree, only_at, IsEffective, HasNoDebtOff, DivisorsAgreeOn, AreEquivalent, IsWinnable, less, within_abs, abs_within, equivalent-refl, equivalent-trans, equivalent-degree, degree-only_at, only_at-here, only_at-other, sum_below-one, sum_below-at_most, sum_below-cong, sum_below-add, equivalent-winnable, IsGraph, Vector, at, IsEffectiveDivisor, amounts_of_trial, length}
+use Rattle.dg_rank.proofs.Common.{◌≡◌, ℕ, ◌+◌, ◌*◌, ◌<◌, ◌≤◌, Bool, true, false, List, arith, sym, ap, ◌∙◌, ⊎_elim, slice_index, ◌≤ℤ◌, MatchBool, unsigned_abs, cases_eq, ints, sum, get_or-le-sum_by, ℤ, pos, ◌-ℤ◌, Multigraph, IsMultigraph, Amounts, degree, only_at, IsEffective, HasNoDebtOff, AreEquivalent, IsWinnable, less, within_abs, abs_within, equivalent-trans, equivalent-degree, degree-only_at, only_at-here, only_at-other, sum_below-one, sum_below-at_most, sum_below-cong, sum_below-add, equivalent-winnable, IsGraph, Vector, at, IsEffectiveDivisor, amounts_of_trial, length}
 use Rattle.std.proofs.Math.IntN.{◌+ℤ◌}
 
 pub only_at-more : (v k w : ℕ) → pos 0 ≤ℤ only_at v (pos k) w
@@ -95,14 +94,3 @@ left_small E B F v total inside small left =
     let few : slice_index E v ≤ 1000 = trial_small E v total inside in
     let (low, high) = within_abs (B v) 1999000 small in
     abs_within (F v) 2000000 (omega (arith, ints)) (omega (arith, ints))
-
-pub form_kept : (g : Multigraph) (A B : Amounts) (x y : Vector) → DivisorsAgreeOn g.size A B → IsEffectiveDivisor g B x →
-    y.size ≡ g.size →
-    ((v : ℕ) → v < g.size → at y v ≡ at x v) → IsEffectiveDivisor g A y
-form_kept g A B x y same form size kept = record {
-  size = size;
-  effective = λ v below. rw (kept v below) (form.effective v below);
-  led = equivalent-trans g A (at x) (at y)
-      (equivalent-trans g A B (at x) (equivalent-refl g A B same) form.led)
-      (equivalent-refl g (at x) (at y) (λ v below. sym (kept v below)));
-}

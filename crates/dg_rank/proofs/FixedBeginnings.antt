@@ -7,13 +7,12 @@
 --   loss_fails     where something can't be lost, a divisor fails its test
 --   all_told       what is told of all losses tells the test of equivalent amounts
 --   lost_at_last   where all can't be lost at the last vertex, a divisor fails its test
---   left_at_last   where that can be, what is left with all of it given back is equivalent to the divisor
-use Rattle.dg_rank.proofs.Common.{◌≡◌, ◌≢◌, ℕ, ◌+◌, ◌-◌, ◌<◌, ◌≤◌, List, length, arith, refl, ap, ◌∙◌, ⊎_elim, set, length-set, get_or-set_same, get_or-set_other, slice_index, ◌≤ℤ◌, cases_eq, cases_lt, ints, pos, ◌-ℤ◌, Multigraph, Amounts, degree, only_at, AreEquivalent, IsWinnable, less, HasRankAtLeast, equivalent-refl, degree-less, degree-only_at, only_at-here, only_at-other, sum_below-one, sum_below-cong, equivalent-winnable, win_more, amounts_of_trial, TrialsWinFrom, IsFirstTrialFrom, IsTrialLossFrom, Vector, at, sum, natural, Bool, true, false, not, is_some, Option, Some, None, MatchOption, MatchBool, WinsWithoutTrial, IsTrialLeftBeforeLast, equivalent-rank, both_ways}
+use Rattle.dg_rank.proofs.Common.{◌≡◌, ◌≢◌, ℕ, ◌+◌, ◌-◌, ◌<◌, ◌≤◌, List, length, arith, refl, ap, ◌∙◌, ⊎_elim, set, length-set, get_or-set_same, get_or-set_other, slice_index, ◌≤ℤ◌, cases_eq, cases_lt, ints, pos, ◌-ℤ◌, Multigraph, Amounts, degree, only_at, AreEquivalent, IsWinnable, less, HasRankAtLeast, equivalent-refl, degree-less, degree-only_at, only_at-here, only_at-other, sum_below-one, sum_below-cong, equivalent-winnable, win_more, amounts_of_trial, TrialsWinFrom, IsFirstTrialFrom, IsTrialLossFrom, natural, Bool, true, false, not, is_some, Option, Some, None, MatchOption, MatchBool, IsTrial, WinsWithoutTrial, equivalent-rank, both_ways}
 use Rattle.std.proofs.Math.IntN.{◌+ℤ◌}
 use Rattle.dg_rank.proofs.Elsewhere.{only_at-more, degree-given}
 use Rattle.dg_rank.proofs.TrialLists.{degree-trial}
 use Rattle.dg_rank.proofs.AskedVertices.{rank_from}
-use Rattle.dg_rank.proofs.FirstFrom.{first_at_last, first_with, held_at_last}
+use Rattle.dg_rank.proofs.FirstFrom.{first_at_last, first_with}
 
 pub loss_few : (g : Multigraph) (A : Amounts) (r d v : ℕ) (E : List ℕ) → IsTrialLossFrom g A r d E → v < g.size →
     slice_index E v ≤ r
@@ -63,7 +62,7 @@ pub first_unpaid : (g : Multigraph) (A : Amounts) (r p : ℕ) (E E' : List ℕ) 
     (¬ IsWinnable g (less A (only_at p (pos 1)))) → IsFirstTrialFrom g A r p E
 first_unpaid g A r p E E' inside some wins places held empty is lost =
     let B : Amounts = less A (only_at p (pos 1)) in
-    first_with g A B r p p E E' (omega arith) inside some (equivalent-refl g B B (λ v below. refl)) wins
+    first_with g A B r p E E' inside some (equivalent-refl g B B (λ v below. refl)) wins
     (first_at_last g B (r - 1) p E' inside places held empty
     (λ win. lost (win_more g (less B (amounts_of_trial E')) B (λ v below. omega (arith, ints)) win)))
     is
@@ -122,15 +121,7 @@ all_told false (Some E) g A B k some same is loss =
 all_told true (Some E) g A B k some same is loss = absurd (both_ways _ is refl)
 all_told false None g A B k some same is wins = absurd (both_ways _ refl is)
 
-pub lost_at_last : (g : Multigraph) (D : Amounts) (k : ℕ) (E : List ℕ) → length E ≡ g.size → sum E ≡ k →
-    (¬ WinsWithoutTrial g D E) → ¬ HasRankAtLeast g D k
-lost_at_last g D k E places all lost rank =
-    lost (rank (amounts_of_trial E) (λ v below. omega (arith, ints))
-    (degree-trial g.size k E (record { places = places; amount = all })))
-
-pub left_at_last : (g : Multigraph) (D : Amounts) (E : List ℕ) (x : Vector) →
-    ((u : ℕ) → u + 1 < g.size → slice_index E u ≡ 0) → IsTrialLeftBeforeLast g D E x → AreEquivalent g D (at x)
-left_at_last g D E x empty left =
-    let (s, leads) = left.left.led in
-    let held = held_at_last g.size (slice_index E (g.size - 1)) E refl empty in
-    (s, λ v below. omega (arith, ints, leads v below, held v below))
+pub lost_at_last : (g : Multigraph) (D : Amounts) (k : ℕ) (E : List ℕ) → IsTrial g.size k E → (¬ WinsWithoutTrial g D E) →
+    ¬ HasRankAtLeast g D k
+lost_at_last g D k E trial lost rank =
+    lost (rank (amounts_of_trial E) (λ v below. omega (arith, ints)) (degree-trial g.size k E trial))

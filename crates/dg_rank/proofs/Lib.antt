@@ -4,18 +4,18 @@ pub mod Numbering
 pub mod CountedOnce
 pub mod Pascal
 pub mod Unranking
-pub mod Leaps
 -- Trials and effective divisors.
 pub mod TrialLists
 -- What the search over all trials finds.
 pub mod FirstLosses
 pub mod PieceLosses
 pub mod Elsewhere
-pub mod Blocks
 -- Boxes of losses.
 pub mod LossBoxes
 pub mod FirstFrom
 pub mod FixedBeginnings
+-- The trials from one on.
+pub mod Starts
 -- The vertices that are asked.
 pub mod AskedVertices
 -- Ranks and rank tests by the residual.

@@ -5,12 +5,11 @@
 --   limits_trial     within the limits a number below that of all trials is the number of one
 --   past_above       past the limits of a degree are all above it
 --   past_within      no rank test is past the limits and within them
---   some_trial       on one place or more there is some trial of each degree
 use Rattle.dg_rank.proofs.Common.{◌≡◌, ℕ, zero, suc, ◌+◌, ◌-◌, ◌<◌, ◌≤◌, List, [], ◌∷◌, length, arith, refl, sym, ap, subst, ◌∙◌, ⊎_elim, ◌⊎◌, inl, inr, slice_index, sum, cases_lt, cond_below, cond_above, IsTrial, IsTrialNumbering, AreTrialsCounted, AnyTrial, IsTrialBefore, MAX_TRIALS, AreTrialsWithinLimits, ArePastTrialLimits, IsRankTestWithinLimits}
 use Rattle.dg_rank.specs.Numbering.{trials_with_one_place_more, trial_count, trial_raised, with_trial_place, nth_trial}
 use Rattle.dg_rank.proofs.Lists.{sum_cons, no_places, trial_cons, trial_tail, before_cons}
 use Rattle.dg_rank.proofs.CountedOnce.{lower_number, counted_once}
-use Rattle.dg_rank.proofs.Pascal.{one_place, count_grows, count_grows_by_degree}
+use Rattle.dg_rank.proofs.Pascal.{count_grows_by_degree}
 
 raised_trial : (n k : ℕ) (E : List ℕ) → IsTrial (suc n) k E → IsTrial (suc n) (suc k) (trial_raised E)
 unfolding trial_raised
@@ -179,10 +178,6 @@ pub limits_trial : (n k c i : ℕ) → AreTrialsWithinLimits n k c → i < c →
 limits_trial n k c i limits small =
     let all : c ≡ trial_count n k = limits_count n k c limits in
     ((numbered n k).each i (omega arith)).0
-
-pub some_trial : (n k : ℕ) → 0 < n → 0 < trial_count n k
-some_trial n k some = let more : trial_count 1 k ≤ trial_count n k =
-    count_grows 1 n k some in omega (arith, one_place k)
 
 more_trials : (n j k : ℕ) → 0 < n → j ≤ k → (c : ℕ) × (MAX_TRIALS < c) × AreTrialsCounted n j AnyTrial c →
     (c : ℕ) × (MAX_TRIALS < c) × AreTrialsCounted n k AnyTrial c

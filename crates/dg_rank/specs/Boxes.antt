@@ -15,6 +15,11 @@
 --   IsTrialFrom n r d F        == F is effective, of degree r, and holds nothing before place d
 --   TrialsWinFrom g A r d      == A less each of these is winnable
 --   IsFirstTrialFrom g A r d E == the trial E is the first of these without which A is not winnable
+--   TrialsWinIf g A r d P      == A less each of the F with the property P is winnable
+--   IsFirstTrialIf g A r d P E == the trial E is the first of these without which A is not winnable
+--   TellsFirstTrialIf g A r d P x == x is this first trial, or they all win
+--   IsNotBefore n S F          == F does not come before the trial S
+--   HoldsAt p a F              == F holds a at least at place p
 use Rattle.std.specs.Prelude.{◌≡◌, ℕ, ◌<◌, ◌⊎◌, true, pos, ◌<ℤ◌, ◌≤ℤ◌, List, Option, MatchOption, length, min, slice_index}
 use Rattle.dg_theory.specs.Firing.{Amounts, degree, IsEffective}
 use Rattle.dg_theory.specs.Multigraph.{Multigraph}
@@ -75,3 +80,23 @@ pub record IsFirstTrialFrom (g : Multigraph) (A : Amounts) (r d : ℕ) (E : List
   pub loses : ¬ WinsWithoutTrial g A E
   pub first : (F : Amounts) → IsTrialFrom g.size r d F → IsDivisorBefore g.size F (amounts_of_trial E) →
       IsWinnable g (less A F)
+
+abbrev pub TrialsWinIf : Multigraph → Amounts → ℕ → ℕ → (Amounts → Type 0) → Type 0
+TrialsWinIf g A r d P = (F : Amounts) → IsTrialFrom g.size r d F → P F → IsWinnable g (less A F)
+
+pub record IsFirstTrialIf (g : Multigraph) (A : Amounts) (r d : ℕ) (P : Amounts → Type 0) (E : List ℕ) : Type 0 where
+  pub places : length E ≡ g.size
+  pub from : IsTrialFrom g.size r d (amounts_of_trial E)
+  pub among : P (amounts_of_trial E)
+  pub loses : ¬ WinsWithoutTrial g A E
+  pub first : (F : Amounts) → IsTrialFrom g.size r d F → P F → IsDivisorBefore g.size F (amounts_of_trial E) →
+      IsWinnable g (less A F)
+
+abbrev pub TellsFirstTrialIf : Multigraph → Amounts → ℕ → ℕ → (Amounts → Type 0) → Option (List ℕ) → Type 0
+TellsFirstTrialIf g A r d P x = MatchOption x (TrialsWinIf g A r d P) (IsFirstTrialIf g A r d P)
+
+abbrev pub IsNotBefore : ℕ → List ℕ → Amounts → Type 0
+IsNotBefore n S F = ¬ IsDivisorBefore n F (amounts_of_trial S)
+
+abbrev pub HoldsAt : ℕ → ℕ → Amounts → Type 0
+HoldsAt p a F = pos a ≤ℤ F p

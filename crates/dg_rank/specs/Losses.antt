@@ -1,4 +1,4 @@
--- A piece of the trials, from one number up to another, for the divisor D.
+-- Losses: trials whose loss a divisor D can't bear.
 --   AreSmallForTrials n D           == each of n amounts is within 1,999,000
 --   AddUpToFewForTrials n D         == n amounts add up to at most 32,000,000
 --   WinsWithoutTrial g D E          == D less the trial E is winnable
@@ -6,13 +6,12 @@
 --                                      winnable
 --   IsFirstLossOfTrials g D k i j E == E is the first trial of the piece from i up to j whose loss leaves D
 --                                      unwinnable
---   IsTrialLeftBeforeLast g D E x   == x is effective, adds up to few, and D can be fired to it once all of
---                                      the trial E is lost but its amount at the last place
-use Rattle.std.specs.Prelude.{◌≡◌, ℕ, ◌-◌, ◌<◌, ◌≤◌, pos, ◌+ℤ◌, ◌≤ℤ◌, List, slice_index}
+--   IsFewDivisor g D x              == x is effective, adds up to few, and D can be fired to it
+use Rattle.std.specs.Prelude.{◌≡◌, ℕ, ◌<◌, ◌≤◌, pos, ◌≤ℤ◌, List}
 use Rattle.std.specs.Int.RustNames.{unsigned_abs}
 use Rattle.dg_chips.specs.Vector.{Vector, at}
 use Rattle.dg_reduce.specs.Effective.{IsEffectiveDivisor}
-use Rattle.dg_theory.specs.Firing.{Amounts, degree, only_at}
+use Rattle.dg_theory.specs.Firing.{Amounts, degree}
 use Rattle.dg_theory.specs.Multigraph.{Multigraph}
 use Rattle.dg_theory.specs.Play.{IsWinnable}
 use Rattle.dg_theory.specs.Rank.{less}
@@ -39,7 +38,6 @@ pub record IsFirstLossOfTrials (g : Multigraph) (D : Amounts) (k i j : ℕ) (E :
   pub loses : ¬ WinsWithoutTrial g D E
   pub first : AllTrialsWin g D k i number
 
-pub record IsTrialLeftBeforeLast (g : Multigraph) (D : Amounts) (E : List ℕ) (x : Vector) : Type 0 where
-  pub left : IsEffectiveDivisor g (λ v. less D (amounts_of_trial E) v +ℤ only_at (g.size - 1) (pos (slice_index E (g.size -
-      1))) v) x
+pub record IsFewDivisor (g : Multigraph) (D : Amounts) (x : Vector) : Type 0 where
+  pub form : IsEffectiveDivisor g D x
   pub few : AddUpToFewForTrials g.size (at x)

@@ -1,10 +1,10 @@
 -- Pieces of the trials of a rank test. A search is what all of them have in common.
 --   start_of_trials s j            == the number of the first trial of piece j; past the last piece it is the
 --                                     number of all trials
---   CanSearch s                    == the trials of the search and its amounts are within the limits
+--   CanSearch s                    == the amounts are within the limits, and the trials as well; or none are made
 --   TellsFirstLossOfTrials s i j x == x is the first loss of the trials from number i up to j, or they all
 --                                     win
-use Rattle.std.specs.Prelude.{◌≡◌, ℕ, ◌*◌, ◌/◌, ◌≤◌, List, Option, MatchOption}
+use Rattle.std.specs.Prelude.{◌≡◌, ℕ, ◌*◌, ◌/◌, ◌⊎◌, List, Option, MatchOption}
 use Rattle.dg_chips.specs.Vector.{at}
 use Rattle.dg_rank.specs.Limits.{AreTrialsWithinLimits}
 use Rattle.dg_rank.specs.Losses.{AreSmallForTrials, AllTrialsWin, IsFirstLossOfTrials}
@@ -16,7 +16,7 @@ start_of_trials s j = j * s.count / s.workers
 pub record CanSearch (s : Search) : Type 0 where
   pub size : s.chips.size ≡ s.graph.size
   pub range : AreSmallForTrials s.graph.size (at s.chips)
-  pub limits : (c : ℕ) × AreTrialsWithinLimits s.graph.size s.k c × (s.count ≤ c)
+  pub limits : (s.count ≡ 0) ⊎ AreTrialsWithinLimits s.graph.size s.k s.count
 
 abbrev pub TellsFirstLossOfTrials : Search → ℕ → ℕ → Option (List ℕ) → Type 0
 TellsFirstLossOfTrials s i j x = MatchOption x (AllTrialsWin s.graph (at s.chips) s.k i j)

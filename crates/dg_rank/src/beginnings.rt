@@ -1,10 +1,10 @@
-//! The first loss of all trials, by boxes with a fixed beginning.
-ghost use Rattle.std.specs.Prelude.{◌≡◌, ◌<◌, ◌≤◌};
+//! The first loss of the trials that hold nothing before a place, by boxes with a fixed beginning.
+ghost use Rattle.std.specs.Prelude.{◌≡◌, ◌<◌, ◌≤◌, MatchOption};
 ghost use Rattle.dg_theory.specs.Firing.{IsEffective};
 ghost use Rattle.dg_chips.specs.Vector.{at};
 ghost use Rattle.dg_rank.specs.Losses.{AddUpToFewForTrials};
 ghost use Rattle.dg_rank.specs.Asked.{IsMadeOf};
-ghost use Rattle.dg_rank.specs.Boxes.{IsTrialLossFrom, IsFirstTrialFrom};
+ghost use Rattle.dg_rank.specs.Boxes.{TrialsWinFrom, IsTrialLossFrom, IsFirstTrialFrom};
 
 use crate::asked::{Made, find_from};
 use crate::boxes::left_in_box_after;
@@ -12,9 +12,34 @@ use crate::enumeration::Trial;
 use dg_graph::Graph;
 use dg_reduce::EffectiveDivisor;
 
+/// The first loss of the trials of a degree that hold nothing before a place; `None` if all win.
+pub(crate) fn find_first_from(
+    graph: &Graph,
+    made: &mut Made,
+    left: &EffectiveDivisor,
+    dollars: u32,
+    place: usize,
+) -> Option<Trial>
+    requires size { left.now.size ≡ graph.now.size }
+    requires effective { IsEffective graph.now.size (at left.now) }
+    requires small { AddUpToFewForTrials graph.now.size (at left.now) }
+    requires few { dollars ≤ 1000 }
+    requires place { place < graph.now.size }
+    requires made { IsMadeOf graph.now made.old }
+    ensures made { IsMadeOf graph.now made.new }
+    ensures first { MatchOption result
+        (TrialsWinFrom graph.now (at left.now) dollars place)
+        (IsFirstTrialFrom graph.now (at left.now) dollars place) }
+{
+    let Some(known) = find_from(graph, left, made, dollars, place) else {
+        return None;
+    };
+    Some(first_loss_from(graph, made, left, dollars, place, known))
+}
+
 /// The first loss of the trials of a degree that hold nothing before a place, if a loss of at most that degree is known
 /// among these: the amounts are fixed from the first on, at each place the least with which there is a loss of the later ones.
-pub(crate) fn first_loss_from(
+fn first_loss_from(
     graph: &Graph,
     made: &mut Made,
     left: &EffectiveDivisor,

@@ -1,6 +1,6 @@
 //! Rank tests by the residual of a divisor, which is the canonical divisor less it. By the theorem of Riemann and Roch a divisor
 //! passes a test exactly if its residual passes another, and one of the two may have far fewer trials.
-ghost use Rattle.std.specs.Prelude.{◌≡◌, ℕ, ⊤, ◌+◌, ◌<◌, ◌≤◌, pos, ◌+ℤ◌, ◌-ℤ◌, ◌<ℤ◌, MatchBool};
+ghost use Rattle.std.specs.Prelude.{◌≡◌, ℕ, ◌+◌, ◌<◌, ◌≤◌, pos, ◌+ℤ◌, ◌-ℤ◌, ◌<ℤ◌, MatchBool, MatchOption};
 ghost use Rattle.std.specs.Int.RustNames.{unsigned_abs};
 ghost use Rattle.dg_theory.specs.Multigraph.{genus};
 ghost use Rattle.dg_theory.specs.Firing.{degree};
@@ -12,7 +12,7 @@ ghost use Rattle.dg_rank.specs.Losses.{AreSmallForTrials};
 
 use crate::asked::{Made, find_from};
 use crate::enumeration::Trial;
-use crate::first_loss::left_before_last;
+use crate::first_loss::effective_with;
 use dg_chips::{Divisor, Wide};
 use dg_graph::Graph;
 use dg_reduce::InverseLaplacian;
@@ -56,18 +56,9 @@ pub(crate) fn passes_rank_test(
     let _size = graph.size();
     // The clause of `size` says that the amounts are within their limit.
     let _amounts = divisor.size();
-    let rest = degree_left(divisor, k);
-    if rest >= i64::from(graph.genus()) {
-        return true;
-    }
-    if rest < i64::from(k) {
-        return false;
-    }
-    let other = rank_degree_of_dual(graph, divisor, k);
-    if k <= other {
-        all_trials_win(graph, inverse, made, &Wide::of(divisor), k)
-    } else {
-        all_trials_win(graph, inverse, made, &dual_for_rank(graph, divisor), other)
+    match passes_unasked(graph, inverse, made, divisor, k) {
+        Some(passes) => passes,
+        None => all_trials_win(graph, inverse, made, &Wide::of(divisor), k),
     }
 }
 
@@ -79,29 +70,38 @@ pub(crate) fn degree_left(divisor: &Divisor, k: u32) -> i64
     divisor.degree() - i64::from(k)
 }
 
-/// Whether the residual tells that a divisor passes a test: if no law of the degree tells it, and the residual's own test has
-/// fewer dollars to take, and passes.
-pub(crate) fn dual_passes_rank_test(
+/// Whether a divisor passes a test, by its degree, or by the test of its residual, if that has fewer dollars to take. `None` if
+/// the divisor has to be asked.
+pub(crate) fn passes_unasked(
     graph: &Graph,
     inverse: &InverseLaplacian,
     made: &mut Made,
     divisor: &Divisor,
     k: u32,
-) -> bool
+) -> Option<bool>
     requires size { divisor.now.size ≡ graph.now.size }
     requires some { 0 < graph.now.size }
-    requires few { k ≤ 1000 }
     requires made { IsMadeOf graph.now made.old }
     ensures made { IsMadeOf graph.now made.new }
-    ensures told { MatchBool result (HasRankAtLeast graph.now (at divisor.now) k) ⊤ }
+    ensures tells { MatchOption result
+        (k ≤ 1000)
+        (λ passes. MatchBool passes
+        (HasRankAtLeast graph.now (at divisor.now) k)
+        (¬ HasRankAtLeast graph.now (at divisor.now) k)) }
 {
     let _size = graph.size();
     let rest = degree_left(divisor, k);
-    if rest < i64::from(k) || rest >= i64::from(graph.genus()) {
-        return false;
+    if rest >= i64::from(graph.genus()) {
+        return Some(true);
+    }
+    if rest < i64::from(k) {
+        return Some(false);
     }
     let other = rank_degree_of_dual(graph, divisor, k);
-    other < k && all_trials_win(graph, inverse, made, &dual_for_rank(graph, divisor), other)
+    if k <= other {
+        return None;
+    }
+    Some(all_trials_win(graph, inverse, made, &dual_for_rank(graph, divisor), other))
 }
 
 /// The degree at which the residual passes its test exactly if the divisor passes the test of degree k.
@@ -163,7 +163,7 @@ fn all_trials_win(
         (¬ HasRankAtLeast graph.now (at amounts.now) k) }
 {
     let first = Trial::trial_at_last(graph.size(), k);
-    match left_before_last(graph, inverse, amounts, &first) {
+    match effective_with(graph, inverse, amounts, &first) {
         Some(left) => find_from(graph, &left, made, k, 0).is_none(),
         None => false,
     }

@@ -1,9 +1,10 @@
-//! Trials in their order: the one with a number, the next one, and each as a divisor.
-ghost use Rattle.std.specs.Prelude.{◌≡◌, ℕ, suc, ◌<◌, ◌≤◌, ◌+◌, ◌-◌, ◌∷◌, length, slice_index, slice_set};
+//! Trials in their order: the one with a number, which comes first, and each as a divisor.
+ghost use Rattle.std.specs.Prelude.{◌≡◌, ℕ, suc, ◌<◌, ◌≤◌, ◌+◌, ◌-◌, ◌∷◌, MatchBool, length, slice_index, slice_set};
 ghost use Rattle.std.specs.List.{sum};
 ghost use Rattle.dg_rank.specs.Limits.{AreTrialsWithinLimits};
 ghost use Rattle.dg_rank.specs.Numbering.{trial_count, nth_trial};
 ghost use Rattle.dg_rank.specs.Divisors.{HoldsTrial};
+ghost use Rattle.dg_rank.specs.Trials.{IsTrialBefore};
 
 use crate::counting::{MAX_DEGREE, MAX_TRIALS, count};
 use dg_chips::Divisor;
@@ -105,18 +106,19 @@ impl Trial {
         trial
     }
 
-    /// The trial that holds before a place what this one does, and from there on what another does.
-    pub(crate) fn then(self, place: usize, later: &Trial) -> Trial
-        requires sizes { length later.now ≡ length self }
-        ensures places { length result ≡ length self }
-        ensures before { (v : ℕ) → v < place → slice_index result v ≡ slice_index self v }
-        ensures after { (v : ℕ) → place ≤ v → v < length self → slice_index result v ≡ slice_index later.now v }
+    /// Whether it comes before another trial: whether it holds less at the first place at which they differ.
+    pub(crate) fn is_before(&self, other: &Trial) -> bool
+        requires { length other.now ≡ length self.now }
+        ensures { MatchBool result
+            (IsTrialBefore self.now other.now)
+            (¬ IsTrialBefore self.now other.now) }
     {
-        let mut whole = self;
-        for v in place..later.size() {
-            whole.set(v, later.get(v));
+        for v in 0..self.size() {
+            if self.get(v) != other.get(v) {
+                return self.get(v) < other.get(v);
+            }
         }
-        whole
+        false
     }
 
     /// A trial as a divisor.

@@ -1,119 +1,117 @@
-//! The first trial whose loss can't be borne.
-ghost use Rattle.std.specs.Prelude.{◌≡◌, ℕ, ◌+◌, ◌-◌, ◌<◌, ◌≤◌, min, length, slice_index, MatchOption};
+//! The first loss of the trials from one on.
+ghost use Rattle.std.specs.Prelude.{◌≡◌, ◌+◌, ◌<◌, ◌≤◌, length, MatchOption};
 ghost use Rattle.std.specs.List.{sum};
+ghost use Rattle.dg_theory.specs.Firing.{IsEffective};
 ghost use Rattle.dg_graph.specs.Graph.{IsGraph};
 ghost use Rattle.dg_chips.specs.Vector.{at};
 ghost use Rattle.dg_rank.specs.Asked.{IsMadeOf};
-ghost use Rattle.dg_rank.specs.Limits.{AreTrialsWithinLimits};
-ghost use Rattle.dg_rank.specs.Numbering.{nth_trial, trial_count};
-ghost use Rattle.dg_rank.specs.Losses.{AreSmallForTrials, WinsWithoutTrial, AllTrialsWin, IsFirstLossOfTrials, IsTrialLeftBeforeLast};
-ghost use Rattle.dg_rank.specs.declared.counting.TheConstants.{MAX_TRIALS};
+ghost use Rattle.dg_rank.specs.Boxes.{IsTrialFrom, TellsFirstTrialIf, IsNotBefore, HoldsAt};
+ghost use Rattle.dg_rank.specs.Divisors.{amounts_of_trial};
+ghost use Rattle.dg_rank.specs.Losses.{AreSmallForTrials, AddUpToFewForTrials, WinsWithoutTrial, IsFewDivisor};
+ghost use Rattle.dg_rank.specs.Trials.{IsTrial};
 
-use crate::asked::{Made, find_from};
-use crate::beginnings::first_loss_from;
-use crate::counting::count;
+use crate::asked::Made;
+use crate::beginnings::find_first_from;
+use crate::boxes::left_in_box_after;
 use crate::enumeration::Trial;
 use dg_chips::Wide;
 use dg_graph::Graph;
 use dg_reduce::{EffectiveDivisor, InverseLaplacian, reduce_certified};
 
-/// The first trial of degree k, of those from one number up to another, whose loss leaves what can't be won; `None`
-/// if there is none. They are parted into blocks of trials that begin alike, as large as can be; each is a box.
+/// The first loss of the trials of degree k from one on; `None` if these all win.
 pub(crate) fn first_loss(
     graph: &Graph,
     inverse: &InverseLaplacian,
     made: &mut Made,
     chips: &Wide,
     k: u32,
-    from: u32,
-    to: u32,
-) -> Option<Trial>
-    requires size { chips.now.size ≡ graph.now.size }
-    requires range { AreSmallForTrials graph.now.size (at chips.now) }
-    requires limits { (c : ℕ) × AreTrialsWithinLimits graph.now.size k c × (to ≤ c) }
-    requires made { IsMadeOf graph.now made.old }
-    ensures made { IsMadeOf graph.now made.new }
-    ensures first { MatchOption result
-        (AllTrialsWin graph.now (at chips.now) k from to)
-        (IsFirstLossOfTrials graph.now (at chips.now) k from to) }
-{
-    let size = graph.size();
-    let mut number = from;
-    'parts: while number < to {
-        let trial = Trial::trial_with_number(size, k, number);
-        let place = trial_block_place(&trial, to - number);
-        let more = count(size - place, trial.get(size - 1));
-        if let Some(loss) = first_trial_in_block(graph, inverse, made, chips, trial, place) {
-            return Some(loss);
-        }
-        number += more;
-    }
-    None
-}
-
-/// The least place from which on a trial holds nothing before its last place, and at most so many trials begin as it does.
-fn trial_block_place(trial: &Trial, most: u32) -> usize
-    requires some { 0 < length trial.now }
-    requires dollars { slice_index trial.now (length trial.now - 1) ≤ 1000 }
-    requires most { 1 ≤ most }
-    ensures within { result < length trial.now }
-    ensures empty { (u : ℕ) → result ≤ u → u + 1 < length trial.now → slice_index trial.now u ≡ 0 }
-    ensures few { min (MAX_TRIALS + 1) (trial_count (length trial.now - result)
-        (slice_index trial.now (length trial.now - 1))) ≤ most }
-{
-    let size = trial.size();
-    let dollars = trial.get(size - 1);
-    let mut place = size - 1;
-    'places: while place > 0
-        && trial.get(place - 1) == 0
-        && count(size + 1 - place, dollars) <= most
-    {
-        place -= 1;
-    }
-    place
-}
-
-/// The first loss of the trials that hold the same as one before a place, which is the first of these; `None` if all win.
-pub(crate) fn first_trial_in_block(
-    graph: &Graph,
-    inverse: &InverseLaplacian,
-    made: &mut Made,
-    chips: &Wide,
-    trial: Trial,
-    place: usize,
+    start: Trial,
 ) -> Option<Trial>
     requires graph { IsGraph graph.now }
     requires size { chips.now.size ≡ graph.now.size }
     requires range { AreSmallForTrials graph.now.size (at chips.now) }
+    requires few { k ≤ 1000 }
+    requires made { IsMadeOf graph.now made.old }
+    requires start { IsTrial graph.now.size k start }
+    ensures made { IsMadeOf graph.now made.new }
+    ensures first { TellsFirstTrialIf graph.now (at chips.now) k 0 (IsNotBefore graph.now.size start) result }
+{
+    match effective_with(graph, inverse, chips, &start) {
+        Some(left) => first_loss_on(graph, made, &left, k, 0, start),
+        None => Some(start),
+    }
+}
+
+/// The first loss of the trials that hold nothing before a place, from one on; `None` if these all win. Where it holds all at
+/// its last place, it is the first of these. Else those that hold as much at the place come first, and then those that hold more.
+fn first_loss_on(
+    graph: &Graph,
+    made: &mut Made,
+    left: &EffectiveDivisor,
+    dollars: u32,
+    place: usize,
+    start: Trial,
+) -> Option<Trial>
+    requires size { left.now.size ≡ graph.now.size }
+    requires effective { IsEffective graph.now.size (at left.now) }
+    requires small { AddUpToFewForTrials graph.now.size (at left.now) }
+    requires few { dollars ≤ 1000 }
     requires place { place < graph.now.size }
     requires made { IsMadeOf graph.now made.old }
-    requires trial { (k : ℕ) × (c : ℕ) × (i : ℕ) × AreTrialsWithinLimits graph.now.size k c × (i < c) ×
-        (trial ≡ nth_trial graph.now.size k i) }
-    requires empty { (u : ℕ) → place ≤ u → u + 1 < graph.now.size → slice_index trial u ≡ 0 }
+    requires places { length start ≡ graph.now.size }
+    requires start { IsTrialFrom graph.now.size dollars place (amounts_of_trial start) }
     ensures made { IsMadeOf graph.now made.new }
-    ensures first { (k c i : ℕ) → AreTrialsWithinLimits graph.now.size k c → i < c →
-        trial ≡ nth_trial graph.now.size k i → MatchOption result
-        (AllTrialsWin graph.now (at chips.now) k i (i + trial_count (graph.now.size - place)
-        (slice_index trial (graph.now.size - 1))))
-        (IsFirstLossOfTrials graph.now (at chips.now) k i (i + trial_count (graph.now.size - place)
-        (slice_index trial (graph.now.size - 1)))) }
+    ensures first { TellsFirstTrialIf graph.now (at left.now) dollars place (IsNotBefore graph.now.size start) result }
 {
-    let dollars = trial.get(graph.size() - 1);
-    let Some(left) = left_before_last(graph, inverse, chips, &trial) else {
-        return Some(trial);
+    let size = graph.size();
+    if start.get(size - 1) == dollars {
+        return find_first_from(graph, made, left, dollars, place);
+    }
+    let held = start.get(place);
+    let Some(rest) = left_in_box_after(graph, left, place, held) else {
+        return Some(start);
     };
-    match find_from(graph, &left, made, dollars, place) {
-        Some(known) => {
-            let later = first_loss_from(graph, made, &left, dollars, place, known);
-            Some(trial.then(place, &later))
-        }
+    let mut later = start;
+    later.set(place, 0);
+    match first_loss_on(graph, made, &rest, dollars - held, place + 1, later) {
+        Some(loss) => Some(loss.with_more(place, held)),
+        None => first_loss_above(graph, made, left, dollars, place, held + 1),
+    }
+}
+
+/// The first loss of the trials that hold nothing before a place and so much at least there; `None` if these all win.
+fn first_loss_above(
+    graph: &Graph,
+    made: &mut Made,
+    left: &EffectiveDivisor,
+    dollars: u32,
+    place: usize,
+    least: u32,
+) -> Option<Trial>
+    requires size { left.now.size ≡ graph.now.size }
+    requires effective { IsEffective graph.now.size (at left.now) }
+    requires small { AddUpToFewForTrials graph.now.size (at left.now) }
+    requires few { dollars ≤ 1000 }
+    requires place { place < graph.now.size }
+    requires made { IsMadeOf graph.now made.old }
+    ensures made { IsMadeOf graph.now made.new }
+    ensures first { TellsFirstTrialIf graph.now (at left.now) dollars place (HoldsAt place least) result }
+{
+    if least > dollars {
+        return None;
+    }
+    let size = graph.size();
+    let Some(other) = left_in_box_after(graph, left, place, least) else {
+        return Some(Trial::trial_at_last(size, dollars - least).with_more(place, least));
+    };
+    match find_first_from(graph, made, &other, dollars - least, place) {
+        Some(loss) => Some(loss.with_more(place, least)),
         None => None,
     }
 }
 
-/// Amounts without debts that amounts can be fired to once all of a trial is lost but its amount at the last place. `None` if
-/// the whole trial can't be lost.
-pub(crate) fn left_before_last(
+/// Amounts without debts that amounts can be fired to, once a trial is lost and given back. `None` if it can't be lost.
+pub(crate) fn effective_with(
     graph: &Graph,
     inverse: &InverseLaplacian,
     chips: &Wide,
@@ -126,9 +124,9 @@ pub(crate) fn left_before_last(
     requires few { sum trial.now ≤ 1000 }
     ensures { MatchOption result
         (¬ WinsWithoutTrial graph.now (at chips.now) trial.now)
-        (IsTrialLeftBeforeLast graph.now (at chips.now) trial.now) }
+        (IsFewDivisor graph.now (at chips.now)) }
 {
-    let last = graph.size() - 1;
+    let size = graph.size();
     let lost = trial.trial_as_divisor();
     let reduced = reduce_certified(graph, inverse, 0, &chips.less(&lost))
         .reduced
@@ -137,6 +135,8 @@ pub(crate) fn left_before_last(
         return None;
     }
     let mut left = EffectiveDivisor::of(&reduced);
-    left.give(last, trial.get(last));
+    for v in 0..size {
+        left.give(v, trial.get(v));
+    }
     Some(left)
 }

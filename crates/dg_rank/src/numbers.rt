@@ -15,9 +15,9 @@ use dg_reduce::InverseLaplacian;
 
 /// The rank of a divisor: the greatest k of which its rank is at least k, and -1 if it is not winnable. `None` if a
 /// test past the limits would be needed.
-pub fn rank(graph: &Graph, q: usize, divisor: &Divisor) -> Option<i64>
+pub fn rank(graph: &Graph, divisor: &Divisor) -> Option<i64>
     requires size { divisor.now.size ≡ graph.now.size }
-    requires vertex { q < graph.now.size }
+    requires some { 0 < graph.now.size }
     ensures { MatchOption result
         (NeedsTooMany graph.now (at divisor.now))
         (IsRankInLimits graph.now (at divisor.now)) }
@@ -28,36 +28,32 @@ pub fn rank(graph: &Graph, q: usize, divisor: &Divisor) -> Option<i64>
 }
 
 /// The rank of a divisor and that of its residual, which is the canonical divisor less it. The tests have no limit, and may
-/// take long on a graph of many edges.
-pub fn both_ranks(graph: &Graph, divisor: &Divisor) -> (i64, i64)
+/// take long on a graph of many edges. Many calls can share an inverse of the graph's Laplacian: that for its first vertex is
+/// the quick one, and the answer is that of any.
+pub fn both_ranks(
+    graph: &Graph,
+    inverse: Option<&InverseLaplacian>,
+    divisor: &Divisor,
+) -> (i64, i64)
     requires size { divisor.now.size ≡ graph.now.size }
     requires some { 0 < graph.now.size }
     ensures { AreBothRanks graph.now (at divisor.now) result }
 {
     let _size = graph.size();
-    both_ranks_by(graph, &InverseLaplacian::new(graph, 0), divisor)
-}
-
-/// Both ranks as `both_ranks` tells them, by an inverse of the graph's Laplacian that many calls share. The answer is the
-/// same whatever inverse it is; that of the graph for its first vertex is the quick one.
-pub fn both_ranks_by(graph: &Graph, inverse: &InverseLaplacian, divisor: &Divisor) -> (i64, i64)
-    requires size { divisor.now.size ≡ graph.now.size }
-    requires some { 0 < graph.now.size }
-    ensures { AreBothRanks graph.now (at divisor.now) result }
-{
-    let _size = graph.size();
-    let Some(fails) = first_failing(graph, inverse, divisor, false) else {
-        unreachable!()
+    let fails = match inverse {
+        Some(inverse) => first_failing(graph, inverse, divisor, false),
+        None => first_failing(graph, &InverseLaplacian::new(graph, 0), divisor, false),
     };
+    let Some(fails) = fails else { unreachable!() };
     let rank = i64::from(fails) - 1;
     (rank, rank - ranks_apart(graph, divisor))
 }
 
 /// The rank of a divisor and that of its residual, as `rank_at_least` tells them for the degrees 0, 1, 2 and so on. `None` if a
 /// test past the limits would be needed, of the one or of the other, were each found by tests of its own.
-pub fn both_ranks_in_limits(graph: &Graph, q: usize, divisor: &Divisor) -> Option<(i64, i64)>
+pub fn both_ranks_in_limits(graph: &Graph, divisor: &Divisor) -> Option<(i64, i64)>
     requires size { divisor.now.size ≡ graph.now.size }
-    requires vertex { q < graph.now.size }
+    requires some { 0 < graph.now.size }
     ensures { MatchOption result
         (EitherNeedsTooMany graph.now (at divisor.now))
         (AreRanksInLimits graph.now (at divisor.now)) }

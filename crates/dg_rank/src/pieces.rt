@@ -93,15 +93,40 @@ fn first_loss_of<G: Gate>(search: &Search, gate: &G, piece: u32) -> Option<Trial
         (start_of_trials search.now (piece + 1)) result }
 {
     let piece = enter(gate, piece);
-    first_loss(
-        &search.graph,
-        &InverseLaplacian::new(&search.graph, 0),
-        &mut Made::nothing(),
-        &search.chips,
-        search.k,
+    first_loss_between(
+        search,
         first_trial_of_piece(search, piece),
         first_trial_of_piece(search, piece + 1),
     )
+}
+
+/// The first loss of the trials from one number up to another: that of all from the first of these on, if it comes before the
+/// trial of the other number.
+fn first_loss_between(search: &Search, from: u32, to: u32) -> Option<Trial>
+    requires search { CanSearch search.now }
+    requires order { from ≤ to }
+    requires within { to ≤ search.now.count }
+    ensures { TellsFirstLossOfTrials search.now from to result }
+{
+    if from == to {
+        return None;
+    }
+    let (graph, k) = (&search.graph, search.k);
+    let size = graph.size();
+    let start = Trial::trial_with_number(size, k, from);
+    let inverse = InverseLaplacian::new(graph, 0);
+    let loss = first_loss(
+        graph,
+        &inverse,
+        &mut Made::nothing(),
+        &search.chips,
+        k,
+        start,
+    )?;
+    if to < search.count && !loss.is_before(&Trial::trial_with_number(size, k, to)) {
+        return None;
+    }
+    Some(loss)
 }
 
 /// Lets a piece through the gate, and says which one went through.

@@ -1,20 +1,19 @@
 //! Rank tests.
-ghost use Rattle.std.specs.Prelude.{◌≡◌, ℕ, ◌<◌, ◌≤◌, ⊤, MatchOption};
+ghost use Rattle.std.specs.Prelude.{◌≡◌, ◌<◌, ◌≤◌, ⊤, MatchOption};
 ghost use Rattle.std.specs.List.{sum};
 ghost use Rattle.dg_theory.specs.Multigraph.{Multigraph};
 ghost use Rattle.dg_theory.specs.Firing.{Amounts, AreEquivalent};
 ghost use Rattle.dg_chips.specs.Vector.{at};
-ghost use Rattle.dg_rank.specs.Limits.{AreTrialsWithinLimits};
-ghost use Rattle.dg_rank.specs.Losses.{AllTrialsWin, IsFirstLossOfTrials};
+ghost use Rattle.dg_rank.specs.Boxes.{TrialsWinFrom, IsFirstTrialFrom};
 ghost use Rattle.dg_verdict.specs.RankTests.{IsRightRankVerdict};
 ghost use Rattle.dg_rank.specs.Ladders.{AnswersRankTest};
 ghost use Rattle.dg_rank.specs.Ranks.{IsRankTestWithinLimits};
 
 use crate::asked::Made;
 use crate::counting::trials;
-use crate::duals::{degree_left, dual_passes_rank_test};
+use crate::duals::{degree_left, passes_unasked};
 use crate::enumeration::Trial;
-use crate::first_loss::first_trial_in_block;
+use crate::first_loss::first_loss;
 use crate::rank_fault::RankFault;
 use dg_chips::{Divisor, Wide};
 use dg_graph::Graph;
@@ -36,24 +35,16 @@ pub fn rank_at_least(
     requires vertex { q < graph.now.size }
     ensures { AnswersRankTest graph.now (at divisor.now) k result }
 {
-    let size = graph.size();
-    let Some(_count) = trials(size, k) else {
-        return Err(RankFault::TooMany);
-    };
-    if let Some(verdict) = rank_by_degree(graph, divisor, k) {
-        return Ok(verdict);
-    }
-    let inverse = InverseLaplacian::new(graph, 0);
-    Ok(tested(graph, &inverse, divisor, k))
+    rank_at_least_by(graph, None, divisor, k)
 }
 
-/// The rank test as `rank_at_least` makes it, by an inverse of the graph's Laplacian that many tests share. The answer is
-/// the same whatever inverse it is; that of the graph for its first vertex is the quick one.
+/// The rank test as `rank_at_least` makes it. Many tests can share an inverse of the graph's Laplacian: that for its first vertex
+/// is the quick one, and the answer is that of any.
 ///
 /// Refused as `rank_at_least`.
 pub fn rank_at_least_by(
     graph: &Graph,
-    inverse: &InverseLaplacian,
+    inverse: Option<&InverseLaplacian>,
     divisor: &Divisor,
     k: u32,
 ) -> Result<RankVerdict, RankFault>
@@ -68,11 +59,13 @@ pub fn rank_at_least_by(
     if let Some(verdict) = rank_by_degree(graph, divisor, k) {
         return Ok(verdict);
     }
-    Ok(tested(graph, inverse, divisor, k))
+    Ok(match inverse {
+        Some(inverse) => tested(graph, inverse, divisor, k),
+        None => tested(graph, &InverseLaplacian::new(graph, 0), divisor, k),
+    })
 }
 
-/// The answer of a rank test that the degree does not settle. The first trial, which holds all at the last place, begins a block
-/// that has all of them.
+/// The answer of a rank test that the degree does not settle.
 fn tested(graph: &Graph, inverse: &InverseLaplacian, divisor: &Divisor, k: u32) -> RankVerdict
     requires size { divisor.now.size ≡ graph.now.size }
     requires limits { IsRankTestWithinLimits graph.now.size k }
@@ -82,11 +75,11 @@ fn tested(graph: &Graph, inverse: &InverseLaplacian, divisor: &Divisor, k: u32) 
     // The clause of `size` says that the amounts are within their limit.
     let _amounts = divisor.size();
     let mut made = Made::nothing();
-    if dual_passes_rank_test(graph, inverse, &mut made, divisor, k) {
+    if let Some(true) = passes_unasked(graph, inverse, &mut made, divisor, k) {
         return RankVerdict::AtLeast(k);
     }
     let first = Trial::trial_at_last(size, k);
-    let loss = first_trial_in_block(graph, inverse, &mut made, &Wide::of(divisor), first, 0);
+    let loss = first_loss(graph, inverse, &mut made, &Wide::of(divisor), k, first);
     rank_verdict_of(k, loss)
 }
 
@@ -113,10 +106,8 @@ pub(crate) fn rank_by_degree(graph: &Graph, divisor: &Divisor, k: u32) -> Option
 /// The answer if this is the first loss of all trials, or if none was found.
 pub(crate) fn rank_verdict_of(k: u32, loss: Option<Trial>) -> RankVerdict
     requires { MatchOption loss ⊤ (λ E. sum E ≤ 1000) }
-    ensures { (g : Multigraph) (D x : Amounts) (c : ℕ) → AreTrialsWithinLimits g.size k c →
-        AreEquivalent g D x →
-        MatchOption loss (AllTrialsWin g x k 0 c) (IsFirstLossOfTrials g x k 0 c) →
-        IsRightRankVerdict g D k result }
+    ensures { (g : Multigraph) (D x : Amounts) → AreEquivalent g D x →
+        MatchOption loss (TrialsWinFrom g x k 0) (IsFirstTrialFrom g x k 0) → IsRightRankVerdict g D k result }
 {
     match loss {
         Some(trial) => RankVerdict::Below(k, trial.trial_as_divisor()),

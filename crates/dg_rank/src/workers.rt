@@ -1,5 +1,5 @@
 //! Rank tests among workers.
-ghost use Rattle.std.specs.Prelude.{◌≡◌, ◌<◌, ◌≤◌, ⊤, MatchOption, MatchResult};
+ghost use Rattle.std.specs.Prelude.{◌≡◌, ◌<◌, ◌⊎◌, ⊤, MatchOption, MatchResult};
 ghost use Rattle.dg_chips.specs.Vector.{at};
 ghost use Rattle.dg_verdict.specs.RankTests.{IsRightRankVerdict};
 ghost use Rattle.dg_rank.specs.Ranks.{IsRankTestWithinLimits, IsRankTestFault, MayHaveRankWorkers};
@@ -85,7 +85,7 @@ pub fn rank_with<R: Threads + Wait, G: Gate>(
 
 /// How many of so many trials are made: none if the verdict is known.
 fn trials_to_make(known: &Option<RankVerdict>, count: u32) -> u32
-    ensures few { result ≤ count }
+    ensures some { (result ≡ 0) ⊎ (result ≡ count) }
     ensures all { MatchOption known.now (result ≡ count) (λ _. ⊤) }
 {
     match *known {

@@ -13,7 +13,7 @@ ghost use Rattle.dg_rules.specs.declared.entry.Reply.TheVariants.{Rank};
 use crate::answering::{Subject, push_swept_verdict_line};
 use dg_invocation::Form;
 use dg_lines::push_rank_row;
-use dg_rank::{RankFault, both_ranks, both_ranks_by, has_rank, rank_at_least, rank_at_least_by};
+use dg_rank::{RankFault, both_ranks, has_rank, rank_at_least_by};
 use dg_rules::Reply;
 use dg_tokens::Names;
 use dg_verdict::RankVerdict;
@@ -81,10 +81,7 @@ fn swept_rank(subject: &Subject<'_>, k: u32) -> Result<RankVerdict, RankFault>
     requires { IsStart (swept_start subject.now) }
     ensures { AnswersRankTest subject.now.graph.now (at subject.now.divisor.now) k result }
 {
-    match subject.inverse {
-        Some(inverse) => rank_at_least_by(subject.graph, inverse, subject.divisor, k),
-        None => rank_at_least(subject.graph, subject.q, subject.divisor, k),
-    }
+    rank_at_least_by(subject.graph, subject.inverse, subject.divisor, k)
 }
 
 /// Both ranks of a subject.
@@ -92,10 +89,7 @@ fn swept_ranks(subject: &Subject<'_>) -> (i64, i64)
     requires { IsStart (swept_start subject.now) }
     ensures { AreBothRanks subject.now.graph.now (at subject.now.divisor.now) result }
 {
-    match subject.inverse {
-        Some(inverse) => both_ranks_by(subject.graph, inverse, subject.divisor),
-        None => both_ranks(subject.graph, subject.divisor),
-    }
+    both_ranks(subject.graph, subject.inverse, subject.divisor)
 }
 
 /// That the rank is below k, with marks in place of the first loss, into an empty buffer.

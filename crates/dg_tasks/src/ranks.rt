@@ -86,11 +86,10 @@ pub(crate) fn riemann_roch_answer(alloc: Global, table: &TableFile) -> Result<Ve
     let start = table.start();
     let graph = start.graph();
     let divisor = start.divisor();
-    let q = start.q();
     if let Err(fault) = dual(graph, divisor) {
         return Err(TaskFault::Chip(fault));
     }
-    let Some((rank, dual_rank)) = both_ranks_in_limits(graph, q, divisor) else {
+    let Some((rank, dual_rank)) = both_ranks_in_limits(graph, divisor) else {
         return Err(TaskFault::TooMany);
     };
     let mut text = Vec::new(alloc);

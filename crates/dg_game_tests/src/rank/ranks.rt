@@ -51,9 +51,9 @@ fn agree(graph: &Graph, least: i8, digits: u16, count: u16) -> Result<bool, Fail
         if left.checked_sub(dual_rank) != Some(right) {
             return Ok(false);
         }
-        if rank(graph, 0, &divisor) != Some(left)
-            || both_ranks(graph, &divisor) != (left, dual_rank)
-            || both_ranks_in_limits(graph, 0, &canonical_less) != Some((dual_rank, left))
+        if rank(graph, &divisor) != Some(left)
+            || both_ranks(graph, None, &divisor) != (left, dual_rank)
+            || both_ranks_in_limits(graph, &canonical_less) != Some((dual_rank, left))
         {
             return Ok(false);
         }
@@ -111,9 +111,9 @@ fn is_past_the_limits(
     dual_rank: i64,
 ) -> Result<(), Fail> {
     assert!(rt; graph.size() > 0 && divisor.size() == graph.size());
-    assert!(rt; both_ranks(graph, divisor) == (i64::from(left), dual_rank));
-    assert!(rt; rank(graph, 0, divisor) == None);
-    assert!(rt; both_ranks_in_limits(graph, 0, divisor) == None);
+    assert!(rt; both_ranks(graph, None, divisor) == (i64::from(left), dual_rank));
+    assert!(rt; rank(graph, divisor) == None);
+    assert!(rt; both_ranks_in_limits(graph, divisor) == None);
     assert!(rt; has_rank(graph, divisor, left));
     assert!(rt; !has_rank(graph, divisor, left.saturating_add(1)));
     Ok(())

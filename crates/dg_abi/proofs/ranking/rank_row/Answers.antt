@@ -6,8 +6,8 @@ returns-then-row-duals-clause-answered c = inl (record {
   divisor = c.in-Ok.divisor;
   holds = c.in-Ok.ensures;
   is_told = refl;
-  both = c.both_ranks_by-both.result;
-  right = c.both_ranks_by-both.ensures;
+  both = c.both_ranks-both.result;
+  right = c.both_ranks-both.ensures;
   has_rank = get_or-set_same c.args.ranks.now c.args.row _ (pos 0) c.requires.ranks ∙ search rules;
   has_dual = λ here. get_or-set_same c.args.duals.now c.args.row _ (pos 0) c.if-row-duals.true ∙ search rules;
 })
@@ -17,8 +17,8 @@ returns-else-row-duals-clause-answered c = inl (record {
   divisor = c.in-Ok.divisor;
   holds = c.in-Ok.ensures;
   is_told = refl;
-  both = c.both_ranks_by-both.result;
-  right = c.both_ranks_by-both.ensures;
+  both = c.both_ranks-both.result;
+  right = c.both_ranks-both.ensures;
   has_rank = get_or-set_same c.args.ranks.now c.args.row _ (pos 0) c.requires.ranks ∙ search rules;
   has_dual = λ here. absurd (omega (arith, c.if-row-duals.false));
 })

@@ -98,5 +98,5 @@ pub returns-clause-first : goal.returns-clause-first
 returns-clause-first t c =
     let d = goal.at.returns-clause-first t c in
     first_with c.args.graph.now (at c.args.left.now) (at c.in-Some-left_in_box_after.other) c.args.dollars c.args.place
-    c.args.place c.with_more-2.result c.first_loss_from-2.result (omega arith) c.requires.place (some t d.After-find_from)
+    c.with_more-2.result c.first_loss_from-2.result c.requires.place (some t d.After-find_from)
     c.in-Some-left_in_box_after.ensures.led (won t d.In_default) c.first_loss_from-2.ensures.first c.with_more-2.ensures

@@ -1,61 +1,17 @@
-use Rattle.dg_rank.proofs.Common.{◌≡◌, ◌<◌, ◌≤◌, arith, ints, pos, ◌-ℤ◌, genus, degree, equivalent-refl, rich_rank, equivalent-rank, at}
-use Rattle.dg_rank.proofs.DualTests.{decided, dual_passes, fails_past_half}
-use Rattle.dg_rank.proofs.SmallDegrees.{genus_small}
-use Rattle.dg_rank.proofs.TestDegrees.{lesser_few}
+use Rattle.dg_rank.proofs.Common.{◌<◌, arith, ints, equivalent-refl, equivalent-rank, at}
+use Rattle.dg_rank.proofs.DualTests.{decided}
 use Rattle.dg_rank.proofs.duals.passes_rank_test.Goals as goal
-use Rattle.dg_rank.proofs.duals.passes_rank_test.Goals.{After-rank_degree_of_dual-other}
-
-pub returns-then-rest-from-clause-tells : goal.returns-then-rest-from-clause-tells
-returns-then-rest-from-clause-tells c =
-    let g = c.args.graph.now in
-    let rest : c.degree_left-rest.result ≡ degree g.size (at c.args.divisor.now) -ℤ pos c.args.k =
-    rw c.requires.size at c.degree_left-rest.ensures in
-    rich_rank g (at c.args.divisor.now) c.args.k c.size-size.ensures.graph.multigraph (omega arith) (omega (arith, ints))
-
-pub returns-then-rest-from-2-clause-tells : goal.returns-then-rest-from-2-clause-tells
-returns-then-rest-from-2-clause-tells c =
-    let g = c.args.graph.now in
-    let rest : c.degree_left-rest.result ≡ degree g.size (at c.args.divisor.now) -ℤ pos c.args.k =
-    rw c.requires.size at c.degree_left-rest.ensures in
-    fails_past_half g (at c.args.divisor.now) c.args.k c.size-size.ensures.graph.multigraph c.requires.some
-    (omega (arith, ints)) (omega (arith, ints))
-
-few : (c : After-rank_degree_of_dual-other) → (c.args.k ≤ c.rank_degree_of_dual-other.result → c.args.k ≤ 1000) ×
-    (c.rank_degree_of_dual-other.result < c.args.k → c.rank_degree_of_dual-other.result ≤ 1000)
-few c =
-    let g = c.args.graph.now in
-    let rest : c.degree_left-rest.result ≡ degree g.size (at c.args.divisor.now) -ℤ pos c.args.k =
-    rw c.requires.size at c.degree_left-rest.ensures in
-    lesser_few (degree g.size (at c.args.divisor.now)) (genus g) c.args.k c.rank_degree_of_dual-other.result
-    (genus_small g c.size-size.ensures.graph) (omega (arith, ints, rest)) c.rank_degree_of_dual-other.ensures
 
 pub all_trials_win-requires-clause-range : goal.all_trials_win-requires-clause-range
 all_trials_win-requires-clause-range c v inside =
     let below : v < c.args.divisor.now.size = omega (arith, c.requires.size) in
     omega (arith, ints, c.of.ensures.amounts v below, c.size-amounts.ensures.divisor.within v below)
 
-pub all_trials_win-requires-clause-few : goal.all_trials_win-requires-clause-few
-all_trials_win-requires-clause-few c =
-    (few (goal.at.all_trials_win-requires-clause-few c).After-rank_degree_of_dual-other).0 (omega (arith, c.if-k-other.true))
-
-pub all_trials_win-requires-else-k-other-clause-few : goal.all_trials_win-requires-else-k-other-clause-few
-all_trials_win-requires-else-k-other-clause-few c =
-    (few (goal.at.all_trials_win-requires-else-k-other-clause-few c).After-rank_degree_of_dual-other).1
-    (omega (arith, c.if-k-other.false))
-
-pub returns-then-k-other-clause-tells : goal.returns-then-k-other-clause-tells
-returns-then-k-other-clause-tells c =
+pub returns-in-None-clause-tells : goal.returns-in-None-clause-tells
+returns-in-None-clause-tells c =
     let g = c.args.graph.now in
     decided c.all_trials_win.result
     (equivalent-rank g (at c.of.result) (at c.args.divisor.now) c.args.k
     (equivalent-refl g (at c.of.result) (at c.args.divisor.now)
     (λ v inside. c.of.ensures.amounts v (omega (arith, c.requires.size)))))
     c.all_trials_win.ensures.told
-
-pub returns-else-k-other-clause-tells : goal.returns-else-k-other-clause-tells
-returns-else-k-other-clause-tells c =
-    let g = c.args.graph.now in
-    decided c.all_trials_win-else-k-other.result
-    (dual_passes g (at c.args.divisor.now) (at c.dual_for_rank.result) c.args.k c.rank_degree_of_dual-other.result
-    c.size-size.ensures.graph.multigraph (omega arith) c.rank_degree_of_dual-other.ensures c.dual_for_rank.ensures.amounts)
-    c.all_trials_win-else-k-other.ensures.told

@@ -1,11 +1,14 @@
-use Rattle.dg_rank.proofs.Common.{◌+◌, ◌≤◌, arith, start_of_trials}
-use Rattle.dg_rank.proofs.PieceLosses.{piece_within}
+use Rattle.dg_rank.proofs.Common.{◌+◌, arith}
+use Rattle.dg_rank.proofs.PieceLosses.{piece_ends, piece_within}
 use Rattle.dg_rank.proofs.pieces.first_loss_of.Goals as goal
 
-pub first_loss-requires-clause-limits : goal.first_loss-requires-clause-limits
-first_loss-requires-clause-limits g c =
-    let (count, within, few) = c.requires.search.limits in
-    let s = c.args.search.now in
-    let inside : start_of_trials s (c.enter-piece.result + 1) ≤ s.count =
-    piece_within s (c.enter-piece.result + 1) (omega (arith, c.enter-piece.ensures)) in
-    (count, within, omega (arith, c.first_trial_of_piece-2.ensures))
+pub first_loss_between-requires-clause-order : goal.first_loss_between-requires-clause-order
+first_loss_between-requires-clause-order g c =
+    let ends = piece_ends c.args.search.now c.enter-piece.result (omega (arith, c.requires.workers)) in
+    omega (arith, c.first_trial_of_piece.ensures, c.first_trial_of_piece-2.ensures)
+
+pub first_loss_between-requires-clause-within : goal.first_loss_between-requires-clause-within
+first_loss_between-requires-clause-within g c =
+    let within = piece_within c.args.search.now (c.enter-piece.result + 1)
+    (omega (arith, c.enter-piece.ensures, c.requires.piece)) in
+    omega (arith, c.first_trial_of_piece-2.ensures)

@@ -1,69 +1,62 @@
-use Rattle.dg_rank.proofs.Common.{◌≡◌, ℕ, ◌-◌, ◌<◌, slice_index, MatchOption, arith, ints, refl, ◌∙◌, equivalent-refl, at, AreTrialsWithinLimits, AllTrialsWin, IsFirstLossOfTrials}
-use Rattle.dg_rank.specs.Numbering.{nth_trial}
-use Rattle.dg_rank.proofs.FirstLosses.{some_number, found_all, found_trial}
-use Rattle.dg_rank.proofs.Leaps.{first_at}
+use Rattle.dg_rank.proofs.Common.{◌≡◌, ◌-◌, ◌<◌, ◌∙◌, arith, ints, slice_index, MatchOption, equivalent-refl, at, amounts_of_trial, IsTrialFrom, TrialsWinFrom, IsFirstTrialFrom}
+use Rattle.dg_rank.proofs.FirstFrom.{at_last}
+use Rattle.dg_rank.proofs.FirstLosses.{found_trial}
+use Rattle.dg_rank.proofs.Starts.{all_told, on_all, trial_from}
 use Rattle.dg_rank.proofs.ranks.tested.Goals as goal
-use Rattle.dg_rank.proofs.ranks.tested.Goals.{After-trial_at_last-first, After-first_trial_in_block-loss}
+use Rattle.dg_rank.proofs.ranks.tested.Goals.{After-trial_at_last-first, After-first_loss-loss}
 
-pub dual_passes_rank_test-requires : goal.dual_passes_rank_test-requires
-dual_passes_rank_test-requires c =
+pub passes_unasked-requires : goal.passes_unasked-requires
+passes_unasked-requires c =
     let (count, within) = c.requires.limits in
     record {
       size = c.requires.size;
       some = within.some;
-      few = within.small;
       made = c.nothing-made.ensures c.args.graph.now within.few;
     }
-
-pub first_trial_in_block-loss-requires-clause-range : goal.first_trial_in_block-loss-requires-clause-range
-first_trial_in_block-loss-requires-clause-range c v inside =
-    let below : v < c.args.divisor.now.size = omega (arith, c.requires.size) in
-    omega (arith, ints, c.of.ensures.amounts v below, c.size-amounts.ensures.divisor.within v below)
 
 held : (c : After-trial_at_last-first) → slice_index c.trial_at_last-first.result (c.args.graph.now.size - 1) ≡ c.args.k
 held c = rw c.size-size.ensures.size at c.trial_at_last-first.ensures.held
 
-first : (c : After-trial_at_last-first) → (count : ℕ) → AreTrialsWithinLimits c.args.graph.now.size c.args.k count →
-    c.trial_at_last-first.result ≡ nth_trial c.args.graph.now.size c.args.k 0
-first c count within =
-    first_at c.args.graph.now.size c.args.k c.trial_at_last-first.result within.some
-    (c.trial_at_last-first.ensures.places ∙ c.size-size.ensures.size) (held c)
+first : (c : After-trial_at_last-first) →
+    IsTrialFrom c.args.graph.now.size c.args.k 0 (amounts_of_trial c.trial_at_last-first.result)
+first c =
+    at_last c.args.graph.now.size c.args.k 0 c.trial_at_last-first.result c.size-size.ensures.graph.some (held c)
     (rw c.size-size.ensures.size at c.trial_at_last-first.ensures.empty)
 
-pub first_trial_in_block-loss-requires-clause-trial : goal.first_trial_in_block-loss-requires-clause-trial
-first_trial_in_block-loss-requires-clause-trial c =
-    let (count, within) = c.requires.limits in (
-      c.args.k,
-      count,
-      0,
-      within,
-      some_number c.args.graph.now.size c.args.k count within,
-      first (goal.at.first_trial_in_block-loss-requires-clause-trial c).After-trial_at_last-first count within,
-    )
+pub first_loss-loss-requires-clause-range : goal.first_loss-loss-requires-clause-range
+first_loss-loss-requires-clause-range c v inside =
+    let below : v < c.args.divisor.now.size = omega (arith, c.requires.size) in
+    omega (arith, ints, c.of.ensures.amounts v below, c.size-amounts.ensures.divisor.within v below)
 
-found : (c : After-first_trial_in_block-loss) → (count : ℕ) → AreTrialsWithinLimits c.args.graph.now.size c.args.k count →
-    MatchOption c.first_trial_in_block-loss.result (AllTrialsWin c.args.graph.now (at c.of.result) c.args.k 0 count)
-    (IsFirstLossOfTrials c.args.graph.now (at c.of.result) c.args.k 0 count)
-found c count within =
-    let d = (goal.at.After-first_trial_in_block-loss c).After-trial_at_last-first in
-    found_all c.args.graph.now (at c.of.result) c.args.k count c.trial_at_last-first.result
-    c.first_trial_in_block-loss.result within
-    (held d) (c.first_trial_in_block-loss.ensures.first c.args.k count 0 within
-    (some_number c.args.graph.now.size c.args.k count within) (first d count within))
+pub first_loss-loss-requires-clause-few : goal.first_loss-loss-requires-clause-few
+first_loss-loss-requires-clause-few c =
+    let (count, within) = c.requires.limits in
+    within.small
+
+pub first_loss-loss-requires-clause-start : goal.first_loss-loss-requires-clause-start
+first_loss-loss-requires-clause-start c =
+    trial_from c.args.graph.now.size c.args.k 0 c.trial_at_last-first.result
+    (c.trial_at_last-first.ensures.places ∙ c.size-size.ensures.size)
+    (first (goal.at.first_loss-loss-requires-clause-start c).After-trial_at_last-first)
+
+found : (c : After-first_loss-loss) → MatchOption c.first_loss-loss.result
+    (TrialsWinFrom c.args.graph.now (at c.of.result) c.args.k 0) (IsFirstTrialFrom c.args.graph.now (at c.of.result) c.args.k 0)
+found c =
+    let d = (goal.at.After-first_loss-loss c).After-trial_at_last-first in
+    let g = c.args.graph.now in
+    let S = c.trial_at_last-first.result in
+    all_told g (at c.of.result) c.args.k 0 S c.first_loss-loss.result
+    (λ F from. on_all g.size c.args.k 0 S F (held d) (first d) from) c.first_loss-loss.ensures.first
 
 pub rank_verdict_of-requires : goal.rank_verdict_of-requires
 rank_verdict_of-requires c =
     let (count, within) = c.requires.limits in
-    found_trial c.args.graph.now (at c.of.result) c.args.k count c.first_trial_in_block-loss.result within
-    (found (goal.at.rank_verdict_of-requires c).After-first_trial_in_block-loss count within)
+    found_trial c.args.graph.now (at c.of.result) c.args.k c.first_loss-loss.result within.small
+    (found (goal.at.rank_verdict_of-requires c).After-first_loss-loss)
 
 pub returns : goal.returns
 returns c =
-    let (count, within) = c.requires.limits in
-    c.rank_verdict_of.ensures c.args.graph.now (at c.args.divisor.now) (at c.of.result) count within
+    c.rank_verdict_of.ensures c.args.graph.now (at c.args.divisor.now) (at c.of.result)
     (equivalent-refl c.args.graph.now (at c.args.divisor.now) (at c.of.result)
     (λ v inside. omega (arith, ints, c.of.ensures.amounts v (omega (arith, c.requires.size)))))
-    (found (goal.at.returns c).After-first_trial_in_block-loss count within)
-
-pub returns-then-dual_passes_rank_test : goal.returns-then-dual_passes_rank_test
-returns-then-dual_passes_rank_test c = (refl, c.if-dual_passes_rank_test.ensures.told)
+    (found (goal.at.returns c).After-first_loss-loss)

@@ -1,7 +1,8 @@
-use Rattle.dg_rank.proofs.Common.{◌≡◌, ◌-◌, slice_index, ◌≤◌, arith, refl, ◌∙◌, ◌≤ℤ◌, unsigned_abs, pos, ints, DivisorsAgreeOn, AreEquivalent, less, equivalent-refl, equivalent-trans, effective_from, reduced_decides, at, IsEffectiveDivisor, amounts_of_trial}
-use Rattle.dg_rank.proofs.Elsewhere.{degree-given, given_back, left_degree, left_small, form_kept, rich_small, trial_small}
-use Rattle.dg_rank.proofs.first_loss.left_before_last.Goals as goal
-use Rattle.dg_rank.proofs.first_loss.left_before_last.Goals.{After-size-last, After-less, After-reduce_certified-reduced, After-of-left}
+use Rattle.dg_rank.proofs.Common.{◌≡◌, ◌≢◌, ℕ, ◌<◌, ◌≤◌, arith, ◌∙◌, ⊎_elim, cases_eq, only_at-here, only_at-other, ◌≤ℤ◌, unsigned_abs, pos, ints, within_abs, DivisorsAgreeOn, AreEquivalent, less, equivalent-refl, equivalent-trans, effective_from, reduced_decides, sum_below-at_most, at, IsEffectiveDivisor, amounts_of_trial}
+use Rattle.std.proofs.Math.IntN.{◌+ℤ◌}
+use Rattle.dg_rank.proofs.Elsewhere.{form_degree, left_degree, left_small, rich_small}
+use Rattle.dg_rank.proofs.first_loss.effective_with.Goals as goal
+use Rattle.dg_rank.proofs.first_loss.effective_with.Goals.{After-less, After-reduce_certified-reduced}
 
 -- the amounts without the trial's
 left : (c : After-less) →
@@ -67,50 +68,85 @@ of-left-requires c = record {
       omega arith;
 }
 
-good : (c : After-of-left) → pos 0 ≤ℤ at c.reduce_certified-reduced.result.reduced.divisor 0 →
-    IsEffectiveDivisor c.args.graph.now (less (at c.args.chips.now) (amounts_of_trial c.args.trial.now)) c.of-left.result
-good c paid = form_kept c.args.graph.now _ _ c.reduce_certified-reduced.result.reduced.divisor c.of-left.result
-    (λ v inside. refl)
-    (form (goal.at.After-of-left c).After-reduce_certified-reduced (left (goal.at.After-of-left c).After-less) paid)
-    (c.of-left.ensures.size ∙ c.reduce_certified-reduced.ensures.reduction.sizes.0)
-    (λ v inside. c.of-left.ensures.amounts v (omega (arith, c.reduce_certified-reduced.ensures.reduction.sizes.0)))
-
-last : (c : After-size-last) → slice_index c.args.trial.now (c.args.graph.now.size - 1) ≤ 1000
-last c = trial_small c.args.trial.now (c.args.graph.now.size - 1) c.requires.few
-    (omega (arith, c.requires.places, c.requires.graph.some))
-
 pub give-requires-clause-range : goal.give-requires-clause-range
 give-requires-clause-range c =
-    let rich = good (goal.at.give-requires-clause-range c).After-of-left (omega (arith, ints)) in
-    let small : unsigned_abs (at c.of-left.result (c.size-last.result - 1)) ≤ 31984000 =
-    rich_small c.args.graph.now.size (at c.of-left.result) 31984000 (c.size-last.result - 1) rich.effective
-    (left_degree c.args.graph.now (at c.args.chips.now) c.args.trial.now c.of-left.result c.requires.graph c.requires.range
-    rich)
-    (omega (arith, c.size-last.ensures.size, c.requires.graph.some)) in
-    omega arith
-
-pub give-requires-clause-dollars : goal.give-requires-clause-dollars
-give-requires-clause-dollars c =
-    let few = last (goal.at.give-requires-clause-dollars c).After-size-last in
-    let is : c.get-2.result ≡ slice_index c.args.trial.now (c.args.graph.now.size - 1) =
-    rw c.size-last.ensures.size at c.get-2.ensures in
-    omega arith
+    let g = c.args.graph.now in
+    let x = c.reduce_certified-reduced.result.reduced.divisor in
+    let d = goal.at.give-requires-clause-range c in
+    let rich = form d.After-reduce_certified-reduced (left d.After-less) (omega (arith, ints)) in
+    let inside : c.loop-v.v < g.size = omega (arith, c.loop-v-test.true, c.size-size.ensures.size) in
+    let small : unsigned_abs (at x c.loop-v.v) ≤ 31984000 =
+    rich_small g.size (at x) 31984000 c.loop-v.v rich.effective
+    (left_degree g (at c.args.chips.now) c.args.trial.now x c.requires.graph c.requires.range rich) inside in
+    rw (
+      c.loop-v.invariant.after c.loop-v.v (omega arith) inside,
+      c.of-left.ensures.amounts c.loop-v.v (omega (arith, c.reduce_certified-reduced.ensures.reduction.sizes.0)),
+    ) (omega arith)
 
 pub returns : goal.returns
 returns c =
     let g = c.args.graph.now in
-    let E = c.args.trial.now in
-    let rich = good (goal.at.returns c).After-of-left (omega (arith, ints)) in
-    let given = rw (c.get-2.ensures, c.size-last.ensures.size) at c.give.ensures.amounts in
+    let D = at c.args.chips.now in
+    let d = goal.at.returns c in
+    let rich = form d.After-reduce_certified-reduced (left d.After-less) (omega (arith, ints)) in
+    let (s, leads) = rich.led in
+    let given : (v : ℕ) → v < g.size →
+    at c.loop-v.left v ≡ at c.reduce_certified-reduced.result.reduced.divisor v +ℤ amounts_of_trial c.args.trial.now v =
+    λ v below. omega (
+      arith,
+      ints,
+      c.loop-v.invariant.before v (omega (arith, c.loop-v-test.false, c.loop-v.auto.v-end, c.size-size.ensures.size)),
+      c.of-left.ensures.amounts v (omega (arith, c.reduce_certified-reduced.ensures.reduction.sizes.0)),
+    ) in
+    let back : IsEffectiveDivisor g D c.loop-v.left = record {
+      size = c.loop-v.invariant.size;
+      effective = λ v below. omega (arith, ints, rich.effective v below, given v below);
+      led = (s, λ v below. omega (arith, ints, leads v below, given v below));
+    } in
     record {
-      left = given_back g (less (at c.args.chips.now) (amounts_of_trial E)) _ c.of-left.result c.give.new.self (g.size - 1)
-          (slice_index E (g.size - 1)) rich c.give.ensures.size (λ v. refl) given;
+      form = back;
       few = omega (
         arith,
         ints,
-        degree-given g.size (at c.of-left.result) (at c.give.new.self) (g.size - 1) (slice_index E (g.size - 1))
-            (omega (arith, c.requires.graph.some)) given,
-        left_degree g (at c.args.chips.now) E c.of-left.result c.requires.graph c.requires.range rich,
-        last (goal.at.returns c).After-size-last,
+        form_degree g D c.loop-v.left c.requires.graph.multigraph back,
+        sum_below-at_most g.size 1999000 D (λ w below.
+            let (low, high) = within_abs (D w) 1999000 (c.requires.range w below) in
+            omega (arith, ints)),
+        c.requires.graph.few,
       );
+    }
+
+pub loop-v-preserved : goal.loop-v-preserved
+loop-v-preserved c =
+    let v = c.loop-v.v in
+    let d = c.get-in-loop-v.result in
+    let inside : v < c.args.graph.now.size = omega (arith, c.loop-v-test.true, c.size-size.ensures.size) in
+    record {
+      size = c.give.ensures.size ∙ c.loop-v.invariant.size;
+      before = λ u low. ⊎_elim
+          (λ (there : u ≡ v). rw there (omega (
+            arith,
+            ints,
+            c.give.ensures.amounts v,
+            c.loop-v.invariant.after v (omega arith) inside,
+            only_at-here v (pos d),
+            c.get-in-loop-v.ensures,
+          )))
+          (λ (other : u ≡ v → ⊥). omega (
+            arith,
+            ints,
+            c.give.ensures.amounts u,
+            c.loop-v.invariant.before u (omega arith),
+            only_at-other v (pos d) u other,
+          ))
+          (cases_eq u v);
+      after = λ u past below.
+          let other : u ≢ v = omega arith in
+          omega (
+            arith,
+            ints,
+            c.give.ensures.amounts u,
+            c.loop-v.invariant.after u (omega arith) below,
+            only_at-other v (pos d) u other,
+          );
     }
