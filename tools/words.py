@@ -16,7 +16,7 @@ from repository import TOP, code, files, read, without_comments
 LINES, SESSION, SWEEP = "crates/dg_lines/specs/", "crates/dg_session/specs/", "crates/dg_sweep/specs/"
 COMMANDS, KINDS_OF, REPLIES = LINES + "Commands.antt", LINES + "CommandWords.antt", LINES + "Texts.antt"
 JUDGEMENTS = LINES + "Judgements.antt"
-LOOKS, FILE_FAULTS, STATUS = SESSION + "Saying.antt", SWEEP + "FaultTexts.antt", "crates/dg_run/specs/Status.antt"
+LOOKS, FILE_FAULTS, STATUS = SESSION + "Commands.antt", SWEEP + "FaultTexts.antt", "crates/dg_run/specs/Status.antt"
 FAULT, LINE_FAULT = "crates/dg_run/src/fault.rt", "crates/dg_lines/src/line.rt"
 GRAMMAR = "python/dollar/grammar.json"
 # How a page shows a word after a command, by its kind.

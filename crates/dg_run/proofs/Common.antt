@@ -5,15 +5,14 @@ pub use Rattle.dg_rules.specs.declared.entry.TheConstants.{MAX_SEATS}
 pub use Rattle.dg_invocation.specs.declared.invocation.PartyTask.{PartyTask}
 pub use Rattle.dg_log.specs.Tables.{table_data_of}
 pub use Rattle.dg_session.proofs.Whole.{contents_count, seats_back}
-pub use Rattle.dg_session.specs.Parties.{IsParty, IsPartyRefused}
-pub use Rattle.dg_session.specs.PartySessions.{script_contents}
+pub use Rattle.dg_session.specs.Parties.{IsParty, IsPartyRefused, script_contents}
 pub use Rattle.dg_session.specs.declared.played.PartyRefusal.{PartyRefusal}
 pub use Rattle.dg_session.specs.declared.played.PartyRefusal.TheVariants.{Log, Shortage}
 pub use Rattle.dg_run.specs.Parties.{IsPartyInRun, IsRunRefusedOn, early, script_names_of_run}
 pub use Rattle.dg_run.specs.Sessions.{IsHeardInRun, IsServedInRun, IsUnclosedInRun}
 pub use Rattle.dg_run.specs.declared.fault.Fault.TheVariants.{Words}
 pub use Rattle.dg_session.proofs.Entered.{entered_all, full_at_close}
-pub use Rattle.dg_session.specs.Setup.{SessionSetup}
+pub use Rattle.dg_session.specs.Commands.{Setup}
 pub use Rattle.dg_session.specs.Streams.{Passage}
 pub use Rattle.dg_session.specs.declared.ends.SessionEnd.{SessionEnd}
 pub use Rattle.dg_system.specs.AllHeld.{MayHoldAllSourceBytes}

@@ -9,7 +9,7 @@
 --   reader_anew, writer_anew   a reader, and a writer, to which nothing has happened
 use Rattle.dg_system.specs.Growth.{StreamReading, StreamWriting, reading_anew, writing_anew}
 use Rattle.std.specs.Prelude.{false}
-use Rattle.dg_run.proofs.Common.{◌≡◌, ℕ, suc, ◌≤◌, List, [], ◌∷◌, length, map, Option, None, Some, refl, sym, ap, subst, ◌∙◌, Bor, Vec, Global, length-map, MAX_SEATS, TableMayHaveSeats, SeatView, Held, StartData, Entry, IsClosed, IsCloseRefused, all_there, none_missing, entered_all, full_at_close, SessionSetup, Passage, IsHeardInRun, IsServedInRun, IsUnclosedInRun, SessionEnd, script_contents, IsParty, IsPartyRefused, contents_count, PartyRefusal, PartyTask, DescribesTaskTable, MayHoldAllSourceBytes, Keeps, script_names_of_run, IsPartyInRun, IsRunRefusedOn, table_data_of, Result}
+use Rattle.dg_run.proofs.Common.{◌≡◌, ℕ, suc, ◌≤◌, List, [], ◌∷◌, length, map, Option, None, Some, refl, sym, ap, subst, ◌∙◌, Bor, Vec, Global, length-map, MAX_SEATS, TableMayHaveSeats, SeatView, Held, StartData, Entry, IsClosed, IsCloseRefused, all_there, none_missing, entered_all, full_at_close, Setup, Passage, IsHeardInRun, IsServedInRun, IsUnclosedInRun, SessionEnd, script_contents, IsParty, IsPartyRefused, contents_count, PartyRefusal, PartyTask, DescribesTaskTable, MayHoldAllSourceBytes, Keeps, script_names_of_run, IsPartyInRun, IsRunRefusedOn, table_data_of, Result}
 
 pub held_count : (held : List ℕ → Held) (names all : List (List ℕ)) → MayHoldAllSourceBytes held names all
     → length all ≡ length names
@@ -33,7 +33,7 @@ may_play held n names all known count least most =
     let total : length all ≡ n = sym scripts ∙ same ∙ given ∙ sym count in
     rw total (least, most)
 
-pub served : {t : SessionSetup} {input output : Passage} {end : Result ℕ SessionEnd}
+pub served : {t : Setup} {input output : Passage} {end : Result ℕ SessionEnd}
     (heard : IsHeardInRun t input output end) (H : List Entry)
     → map (λ (x : SeatView). x.number) heard.after ≡ map (λ (x : SeatView). x.number) heard.seats
     → IsClosed t.table heard.after H → IsServedInRun t input output end
@@ -45,7 +45,7 @@ served heard H same closed = record {
   whole = entered_all heard.session.over heard.fresh same closed;
 }
 
-pub unclosed : {t : SessionSetup} {input output : Passage} {end : Result ℕ SessionEnd}
+pub unclosed : {t : Setup} {input output : Passage} {end : Result ℕ SessionEnd}
     (heard : IsHeardInRun t input output end) (zs : List SeatView) (s : ℕ)
     → map (λ (x : SeatView). x.number) heard.after ≡ map (λ (x : SeatView). x.number) heard.seats
     → IsCloseRefused t.table heard.after zs s → IsUnclosedInRun t input output

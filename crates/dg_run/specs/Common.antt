@@ -15,7 +15,7 @@ pub use Rattle.dg_log.specs.Tables.{table_data_of}
 pub use Rattle.dg_session.specs.Parties.{IsParty, IsPartyRefused}
 pub use Rattle.dg_session.specs.declared.played.PartyRefusal.{PartyRefusal}
 pub use Rattle.dg_session.specs.Ends.{IsSession}
-pub use Rattle.dg_session.specs.Setup.{SessionSetup, session_setup}
+pub use Rattle.dg_session.specs.Commands.{Setup, setup_of}
 pub use Rattle.dg_session.specs.Streams.{Passage, passage}
 pub use Rattle.dg_session.specs.declared.ends.SessionEnd.{SessionEnd}
 pub use Rattle.dg_session.specs.declared.ends.SessionEnd.TheVariants.{Table}

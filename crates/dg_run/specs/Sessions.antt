@@ -25,7 +25,7 @@
 use Rattle.std.specs.Prelude.{◌≡◌, ℕ, List, length, Option, None, Some, Result, Ok, Err, ◌⊎◌}
 use Rattle.std.specs.Io.KnownBytes.{Keeps}
 use Rattle.std.specs.List.{enumerate_from}
-use Rattle.dg_run.specs.Common.{Entry, AreFreshSeats, IsClosed, IsCloseRefused, SeatView, SessionSetup, session_setup, Passage, passage, IsSession, LineFormat, OneSeat, BySeat, SessionEnd, Table, Full, Held, IsOnTaskTable, RefusesTaskTable, seats_of_invocation, ServeTask, OutOfMemory, StartData, table_data_of}
+use Rattle.dg_run.specs.Common.{Entry, AreFreshSeats, IsClosed, IsCloseRefused, SeatView, Setup, setup_of, Passage, passage, IsSession, LineFormat, OneSeat, BySeat, SessionEnd, Table, Full, Held, IsOnTaskTable, RefusesTaskTable, seats_of_invocation, ServeTask, OutOfMemory, StartData, table_data_of}
 use Rattle.dg_run.specs.OfTasks.{IsRunOfTask}
 use Rattle.dg_run.specs.declared.fault.Fault.{Fault}
 use Rattle.dg_run.specs.declared.fault.Fault.TheVariants.{Session, Shortage, History}
@@ -34,18 +34,18 @@ abbrev pub line_format_of_run : Option ℕ → LineFormat
 line_format_of_run None = OneSeat
 line_format_of_run (Some n) = BySeat
 
-abbrev pub session_of_run : ServeTask → StartData → List (List ℕ) → SessionSetup
+abbrev pub session_of_run : ServeTask → StartData → List (List ℕ) → Setup
 session_of_run task o names =
-    session_setup (line_format_of_run task.seats) (table_data_of o (seats_of_invocation task.seats) task.capacity) names
+    setup_of (line_format_of_run task.seats) (table_data_of o (seats_of_invocation task.seats) task.capacity) names
     task.workers
 
-pub record IsHeardInRun (t : SessionSetup) (input output : Passage) (end : Result ℕ SessionEnd) : Type 0 where
+pub record IsHeardInRun (t : Setup) (input output : Passage) (end : Result ℕ SessionEnd) : Type 0 where
   pub seats : List SeatView
   pub fresh : AreFreshSeats t.table.seats seats
   pub after : List SeatView
   pub session : IsSession t input output seats after end
 
-pub record IsServedInRun (t : SessionSetup) (input output : Passage) (end : Result ℕ SessionEnd)
+pub record IsServedInRun (t : Setup) (input output : Passage) (end : Result ℕ SessionEnd)
     : Type 0 where
   pub heard : IsHeardInRun t input output end
   pub history : List Entry
@@ -58,13 +58,13 @@ abbrev pub RunServes : (List ℕ → Held) → Passage → ServeTask → Option 
 RunServes held input task old new = IsOnTaskTable (held task.file.now) (λ o names.
     (count : ℕ) × IsServedInRun (session_of_run task o names) input (passage old new) (Ok count))
 
-pub record IsUnclosedInRun (t : SessionSetup) (input output : Passage) : Type 0 where
+pub record IsUnclosedInRun (t : Setup) (input output : Passage) : Type 0 where
   pub end : Result ℕ SessionEnd
   pub heard : IsHeardInRun t input output end
   pub met : List SeatView
   pub refused : IsCloseRefused t.table heard.after met 0
 
-abbrev pub RunEndsEarly : SessionSetup → Passage → Fault → Passage → Type 0
+abbrev pub RunEndsEarly : Setup → Passage → Fault → Passage → Type 0
 RunEndsEarly t input (Session end) output = IsServedInRun t input output (Err end)
 RunEndsEarly t input History output = IsUnclosedInRun t input output
 RunEndsEarly t input fault output =

@@ -2,7 +2,7 @@
 ghost use Rattle.std.specs.Prelude.{◌≡◌, ℕ, length, Ok, true, IfErr, OnOk};
 ghost use Rattle.dg_invocation.specs.Seats.{seats_of_invocation};
 ghost use Rattle.dg_log.specs.Tables.{table_data_of};
-ghost use Rattle.dg_session.specs.Setup.{session_setup};
+ghost use Rattle.dg_session.specs.Commands.{setup_of};
 ghost use Rattle.dg_session.specs.Streams.{passage};
 ghost use Rattle.dg_rank.specs.Ranks.{MayHaveRankWorkers};
 ghost use Rattle.dg_table.specs.Opened.{TableMayHaveSeats};
@@ -115,12 +115,12 @@ where
     requires some { TableMayHaveSeats seats }
     requires workers { MayHaveRankWorkers workers }
     ensures done { OnOk result ((count : ℕ)
-        × IsServedInRun (session_setup how (table_data_of table.now.start seats (length row.cells)) table.now.names workers)
+        × IsServedInRun (setup_of how (table_data_of table.now.start seats (length row.cells)) table.now.names workers)
         (passage input.old.remaining input.new.remaining) (passage output.old.contents output.new.contents) (Ok count)) }
     ensures read { IfErr result (λ fault. IsRunInput fault → input.new.has_failed ≡ true) }
     ensures write { IfErr result (λ fault. IsRunOutput fault → output.new.has_failed ≡ true) }
     ensures early { IfErr result (λ fault.
-        RunEndsEarly (session_setup how (table_data_of table.now.start seats (length row.cells)) table.now.names workers)
+        RunEndsEarly (setup_of how (table_data_of table.now.start seats (length row.cells)) table.now.names workers)
         (passage input.old.remaining input.new.remaining) fault (passage output.old.contents output.new.contents)) }
 {
     let alloc = rt.alloc();

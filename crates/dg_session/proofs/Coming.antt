@@ -8,22 +8,21 @@
 --   comes_from     what comes after a history comes after its beginning
 --   met_keeps      a seat that met a history knows what it knew
 --   gained_met     what a seat gained after it met a history, it gained
---   command_met, line_met   a command or a line that was refused to it then, was
 --   line_one       a line makes at most one entry
---   refused_made   so does one that is refused
+--   hears_one      whatever its outcome
 --   last_made      what was made is the last entry, where there is one more
-use Rattle.dg_session.proofs.Common.{◌≡◌, ℕ, ◌+◌, ◌-◌, ◌<◌, ◌≤◌, inl, inr, List, [], ◌∷◌, ◌++◌, length, length-append, Option, Some, None, slice_get, refl, sym, ap, subst, ◌∙◌, arith, slice_get_within, same_Some, legal_none, Entry, IsHistoryOfTable, Command, Call, Commit, Rank, ReceiptsAreBelow, StandInLog, IsPrefixOf, SeatView, Keeps, SeatMeetsHistory, begins_on, begins_length, stand_longer, AnswersAscendFrom, SessionComesAfter, SessionSetup, SessionGains, AnswersCommand, AnswersLine, RefusesSpeakerCommand, RefusesSessionLine, SessionEnd, Table, Memory, Spawn, TableData}
+use Rattle.dg_session.proofs.Common.{◌≡◌, ℕ, ◌+◌, ◌-◌, ◌<◌, ◌≤◌, inl, inr, List, [], ◌∷◌, ◌++◌, length, length-append, Option, Some, None, slice_get, refl, sym, ap, subst, ◌∙◌, arith, slice_get_within, same_Some, legal_none, Entry, IsHistoryOfTable, Command, Call, Commit, Rank, ReceiptsAreBelow, StandInLog, IsPrefixOf, SeatView, Keeps, SeatMeetsHistory, begins_on, begins_length, stand_longer, Ascend, ComesAfter, Setup, Gains, AnswersCommand, AnswersLine, OfLine, Result, Ok, Err, SessionEnd, Memory, TableData}
 
 pub history_none : (table : TableData) → IsHistoryOfTable table []
 history_none table = record { legal = legal_none table.start; few = omega arith; seated = λ k e at. absurd (cc) }
 
-pub ascend_from : (a b : ℕ) (ps : List (ℕ × Entry)) → a ≤ b → AnswersAscendFrom b ps → AnswersAscendFrom a ps
+pub ascend_from : (a b : ℕ) (ps : List (ℕ × Entry)) → a ≤ b → Ascend b ps → Ascend a ps
 ascend_from a b [] few up = tt
 ascend_from a b (p ∷ ps) few up = (omega (arith, few, up.0), up.1)
 
-pub ascend_more : (a n : ℕ) (ps qs : List (ℕ × Entry)) → a ≤ n → AnswersAscendFrom a ps → ReceiptsAreBelow n ps →
-    AnswersAscendFrom n qs
-    → AnswersAscendFrom a (ps ++ qs)
+pub ascend_more : (a n : ℕ) (ps qs : List (ℕ × Entry)) → a ≤ n → Ascend a ps → ReceiptsAreBelow n ps →
+    Ascend n qs
+    → Ascend a (ps ++ qs)
 ascend_more a n [] qs few up below more = ascend_from a n qs few more
 ascend_more a n (p ∷ ps) qs few up below more =
     (up.0, ascend_more (p.0 + 1) n ps qs (omega (arith, below.0)) up.1 below.1 more)
@@ -39,8 +38,8 @@ pub stand_both : (H : List Entry) (ps qs : List (ℕ × Entry)) → StandInLog H
 stand_both H [] qs first second = second
 stand_both H (p ∷ ps) qs first second = (first.0, stand_both H ps qs first.1 second)
 
-pub comes_from : (K M H : List Entry) (made : List (ℕ × Entry)) → IsPrefixOf K M → SessionComesAfter M made H
-    → SessionComesAfter K made H
+pub comes_from : (K M H : List Entry) (made : List (ℕ × Entry)) → IsPrefixOf K M → ComesAfter M made H
+    → ComesAfter K made H
 comes_from K M H made begins comes = record {
   begins = begins_on K M H begins comes.begins;
   stand = comes.stand;
@@ -57,7 +56,7 @@ met_keeps meets = record {
 }
 
 module _ {x m : SeatView} (meets : Keeps x m) where
-  pub gained_met : (y : SeatView) (made : List (ℕ × Entry)) → SessionGains m y made → SessionGains x y made
+  pub gained_met : (y : SeatView) (made : List (ℕ × Entry)) → Gains m y made → Gains x y made
   gained_met y made g = record {
     number = g.number ∙ meets.number;
     mine = g.mine ∙ ap (λ ps. ps ++ made) meets.mine;
@@ -70,23 +69,7 @@ module _ {x m : SeatView} (meets : Keeps x m) where
     still = λ none. g.still none ∙ meets.prefix;
   }
 
-  pub command_met : (t : SessionSetup) (k : Option ℕ) (command : Command) (y : SeatView) (end : SessionEnd)
-      → RefusesSpeakerCommand t k command m y end → RefusesSpeakerCommand t k command x y end
-  command_met t k command y (Table fault) h = (h.0, h.1, gained_met y [] h.2)
-  command_met t k command y Spawn h = (h.0, h.1, gained_met y [] h.2)
-  command_met t k command y Memory h =
-      record { more = h.more; next = h.next; gained = gained_met y h.more h.gained }
-  command_met t k command y end h = absurd h
-
-  pub line_met : (t : SessionSetup) (k : Option ℕ) (line : List ℕ) (y : SeatView) (end : SessionEnd)
-      → RefusesSessionLine t k line m y end → RefusesSessionLine t k line x y end
-  line_met t k line y (Table fault) h = (h.0, h.1, command_met t k h.0 y (Table fault) h.2)
-  line_met t k line y Spawn h = (h.0, h.1, command_met t k h.0 y Spawn h.2)
-  line_met t k line y Memory h =
-      record { more = h.more; next = h.next; gained = gained_met y h.more h.gained }
-  line_met t k line y end h = absurd h.2
-
-command_one : (t : SessionSetup) (k : Option ℕ) (command : Command) (made : List (ℕ × Entry)) (after : Option ℕ)
+command_one : (t : Setup) (k : Option ℕ) (command : Command) (made : List (ℕ × Entry)) (after : Option ℕ)
     (said : List ℕ) → AnswersCommand t k command made after said → length made ≤ 1
 command_one t k (Call plain) made after said a = omega (arith, ap length a.2)
 command_one t None Commit made after said a = omega (arith, ap length a.0)
@@ -97,26 +80,21 @@ command_one t (Some i) (Rank n) made after said a = elim a [
   | inr within ↦ omega (arith, ap length within.1.2)
 ]
 
-pub line_one : (t : SessionSetup) (k : Option ℕ) (line : List ℕ) (made : List (ℕ × Entry)) (after : Option ℕ) (said : List ℕ)
+line_one : (t : Setup) (k : Option ℕ) (line : List ℕ) (made : List (ℕ × Entry)) (after : Option ℕ) (said : List ℕ)
     → AnswersLine t k line made after said → length made ≤ 1
 line_one t k line made after said a = elim a [
   | inl bad ↦ omega (arith, ap length bad.2.0)
   | inr good ↦ command_one t k good.0 made after said good.2
 ]
 
-pub refused_made : (t : SessionSetup) (k : Option ℕ) (line : List ℕ) (x y : SeatView) (end : SessionEnd)
-    → RefusesSessionLine t k line x y end → (made : List (ℕ × Entry)) × SessionGains x y made × (length made ≤ 1)
-refused_made t k line x y (Table fault) h = ([], h.2.2, omega arith)
-refused_made t k line x y Spawn h = ([], h.2.2, omega arith)
-refused_made t k line x y Memory h = (
-  h.more,
-  h.gained,
-  elim h.next [
-    | inl none ↦ omega (arith, ap length none)
-    | inr a ↦ line_one t k line h.more a.0 a.1 a.2
-  ],
-)
-refused_made t k line x y end h = absurd h.2
+pub hears_one : (t : Setup) (line : List ℕ) (y : SeatView) (look : Option ℕ) (made : List (ℕ × Entry)) (after : Option ℕ)
+    (o : Result (List ℕ) SessionEnd) → OfLine t line y look made after o → length made ≤ 1
+hears_one t line y look made after (Ok text) h = line_one t look line made after text h
+hears_one t line y look made after (Err Memory) h = elim h [
+  | inl none ↦ omega (arith, ap length none)
+  | inr a ↦ line_one t look line made a.0 a.1 a.2
+]
+hears_one t line y look made after (Err end) h = omega (arith, ap length h.0)
 
 pub last_made : (before made all : List (ℕ × Entry)) (r : ℕ × Entry) → all ≡ before ++ made
     → length before < length all → length made ≤ 1 → slice_get all (length all - 1) ≡ Some r → made ≡ r ∷ []

@@ -20,7 +20,7 @@ pub use Rattle.dg_lines.proofs.Streams.{begins_more, begins_none, begins_one, be
 pub use Rattle.dg_lines.specs.Commands.{LineSpellsCommand}
 pub use Rattle.dg_lines.specs.LineFaults.{IsLineFault, line_fault_text}
 pub use Rattle.dg_lines.specs.Steps.{IsSeatedLine}
-pub use Rattle.dg_lines.specs.Streams.{BeginsWithLines, HasNoNewline, LinesOfTextHaveCome, last_line, with_newline}
+pub use Rattle.dg_lines.specs.Streams.{BeginsWithLines, HasNoNewline, last_line, with_newline}
 pub use Rattle.dg_lines.specs.Texts.{TextHasNames, entry_text, pairs}
 pub use Rattle.dg_lines.specs.declared.line.LineFault.{LineFault}
 pub use Rattle.dg_log.specs.Numbered.{ReceiptsAreBelow, IsPrefixOf, StandInLog}
@@ -28,16 +28,12 @@ pub use Rattle.dg_log.specs.Tables.{TableData, table_data_of}
 pub use Rattle.dg_rank.proofs.Numbering.{past_within}
 pub use Rattle.dg_rank.specs.Limits.{ArePastTrialLimits}
 pub use Rattle.dg_rank.specs.Ranks.{IsRankTestFault, IsRankTestWithinLimits}
-unfoldable pub use Rattle.dg_session.specs.Ends.{AnswersSpeakers}
-pub use Rattle.dg_session.specs.EntriesSoFar.{EntriesSoFarView}
-pub use Rattle.dg_session.specs.Ends.{AreSessionEntriesInOrder, SessionEndsBy, IsOver, IsSession, SessionReading, SessionStopsAt, WritesInSession, reading}
-pub use Rattle.dg_session.specs.Order.{AnswersAscendFrom, SessionComesAfter}
-pub use Rattle.dg_session.specs.Refusing.{SpeakerCallsTable, RefusesSpeakerCommand, RefusesSessionLine}
-pub use Rattle.dg_session.specs.Saying.{AnswersCommand, AnswersLine, SpeakerEnters, SessionGains, looks_named, speakers_kept_after, speakers_look_after}
-pub use Rattle.dg_session.specs.Setup.{SessionSetup, session_setup}
-pub use Rattle.dg_session.specs.SoFar.{SessionGoes, HaltsSession, HandlesSessionLine, HearsSpeaker, IsReady, IsWrittenInSession, ObeysSpeaker, SessionRefusesPart, SoFar, Speaker, SessionStaysAt, SessionStopsIn, TakesInSession, TakesSessionEnd, TellsSpeaker, answer_entries, speaker_answer_text, beginning_of_session, heard, keeping_speaker, round, so_far, speaker}
-pub use Rattle.dg_session.specs.Speakers.{AnswersLineOfSpeaker, GoesOn, IsForSpeaker, IsForNoSpeaker, RefusesLineOfSpeaker, ReplacesSpeaker, Speakers, kept_by_speaker, new_speakers, speakers}
-pub use Rattle.dg_session.specs.Streams.{AreSessionLines, IsSessionLine, Passage, passage}
+unfoldable pub use Rattle.dg_session.specs.State.{Answers}
+pub use Rattle.dg_session.specs.Ends.{WritesFront, Ends, HasEnded, IsOver, IsSession, Stops, Writes}
+pub use Rattle.dg_session.specs.Commands.{AnswersCommand, AnswersLine, Ascend, CallsTable, ComesAfter, Enters, Gains, OfCommand, OfLine, RefusesCommand, Setup, kept_after, look_after, looks_named, setup_of}
+pub use Rattle.dg_session.specs.SoFar.{Goes, Halts, Handles, Hears, Obeys, IsReady, IsWritten, RefusesPart, Says, Seated, SoFar, Takes, Tells, answer_entries, answer_text, beginning, heard, look_of, made_by, said_by, seated, so_far, state_of}
+pub use Rattle.dg_session.specs.State.{AreInOrder, Does, EntriesSoFarView, IsFor, IsForNobody, ReplacesAt, State, Turn, begun}
+pub use Rattle.dg_session.specs.Streams.{Cuts, IsLine, IsTooLong, Passage, passage}
 pub use Rattle.dg_session.specs.declared.answering.Answer.{Answer}
 pub use Rattle.dg_session.specs.declared.answering.Answer.TheVariants.{BadLine, Made, NoLook}
 pub use Rattle.dg_session.specs.declared.ends.SessionEnd.{SessionEnd}
@@ -45,7 +41,7 @@ pub use Rattle.dg_session.specs.declared.ends.SessionEnd.TheVariants.{LongLine, 
 pub use Rattle.dg_session.specs.declared.ends.TheConstants.{MAX_LINE, MAX_LINES, READ_SIZE}
 pub use Rattle.dg_session.specs.declared.line_format.LineFormat.TheVariants.{BySeat}
 pub use Rattle.dg_system.proofs.Growing.{appends_more, appends_none}
-pub use Rattle.dg_system.proofs.InputReads.{chunk_size, consumes_kept, consumes_more, consumes_none, read_chunk, read_nothing}
+pub use Rattle.dg_system.proofs.InputReads.{chunk_size, consumes_kept, consumes_more, consumes_none, read_chunk}
 pub use Rattle.dg_system.specs.Growth.{AppendsFrontToStream, StreamWriting}
 pub use Rattle.dg_table.proofs.Counts.{seats_counted}
 pub use Rattle.dg_table.proofs.Numbered.{begins_length, begins_on, stand_longer}
@@ -67,20 +63,20 @@ pub use Rattle.dg_rules.specs.History.{gifts_in, position_after}
 pub use Rattle.dg_rules.specs.Position.{ShowsPosition}
 pub use Rattle.dg_lines.proofs.Printing.{legal_named}
 pub use Rattle.dg_log.specs.declared.name.Name.{Ghosts}
-pub use Rattle.dg_session.specs.Parties.{IsParty, IsPartyRefused}
-pub use Rattle.dg_session.specs.PartySessions.{IsPartySessionOver, RefusesPartySessions, script_contents}
+pub use Rattle.dg_session.specs.Parties.{IsParty, IsPartyRefused, IsScriptOver, IsSessionsFault, script_contents}
 pub use Rattle.dg_session.specs.declared.played.PartyRefusal.TheVariants.{Log}
 pub use Rattle.dg_system.specs.declared.shortage.Shortage.{Shortage}
 pub use Rattle.dg_system.specs.declared.shortage.Shortage.TheVariants.{OutOfMemory, Spawn as NoThread}
 pub use Rattle.dg_table.proofs.Complete.{all_there, none_missing}
 pub use Rattle.dg_table.specs.declared.audit.Audit.{Audit}
 pub use Rattle.dg_session.specs.Printed.{party_entries_text, party_seat_text, totals_text}
-pub use Rattle.std.proofs.Common.{All, Err, IfErr, List, None, Ok, OnOk, Option, Result, Some, [], ap, append-nil, append_assoc, arith, codes, drop, flat_map, get_or, inl, inr, length, length-append, length-set, map, refl, rules, slice_get, subst, suc, sum, sym, take, take-append-drop, tests, true, zero, ℕ, ◌*◌, ◌++◌, ◌+◌, ◌-◌, ◌<◌, ◌∙◌, ◌∷◌, ◌≡◌, ◌≢◌, ◌≤◌, decimal, unwrap_or}
+pub use Rattle.std.proofs.Common.{All, Err, IfErr, List, None, Ok, OnOk, Option, Result, Some, [], ap, append-nil, append_assoc, arith, codes, drop, false, flat_map, get_or, inl, inr, length, length-append, length-set, map, refl, rules, slice_get, subst, suc, sum, sym, take, take-append-drop, tests, true, zero, ℕ, ◌*◌, ◌++◌, ◌+◌, ◌-◌, ◌<◌, ◌∙◌, ◌∷◌, ◌≡◌, ◌≢◌, ◌≤◌, decimal, unwrap_or}
 pub use Rattle.std.proofs.lemmas.List.{length-map, length-take-le, map-set, nil_from_length, take_all}
-pub use Rattle.std.proofs.lemmas.List.Elements.{All-append, All-head, All-nil, All-push, All-tail, All-take}
+pub use Rattle.std.proofs.lemmas.List.Elements.{All-append, All-cons, All-head, All-more, All-nil, All-tail, All-take}
 pub use Rattle.std.proofs.lemmas.List.Sums.{sum_by-cons}
-pub use Rattle.std.proofs.lemmas.Option.{same_Some, slice_get_within, none-some}
-pub use Rattle.std.specs.Io.KnownBytes.{Appends, Consumes, IsAtEnd, append_known}
+pub use Rattle.std.proofs.lemmas.Option.{same_Some, slice_get-get_or, slice_get-map, slice_get_within, none-some}
+pub use Rattle.std.specs.Io.KnownBytes.{Appends, Consumes, IsAtEnd}
+pub use Rattle.std.specs.Option.{option_map}
 pub use Rattle.std.specs.List.{enumerate_from, slice_index_or, slice_set, slice_index}
 pub use Rattle.std.specs.Prelude.{⊤}
 pub use Rattle.std.proofs.Math.Seq.{take-append_seam}

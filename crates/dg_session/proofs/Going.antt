@@ -1,31 +1,38 @@
 -- Lines that are answered one after another, and bytes that are taken part by part.
 --   answers_none, answers_more   no line, and some after others
---   goes_none     no byte is taken
---   goes_part     the last part is taken, which is pending now
---   goes_line     a part that ends a line, which is answered
+--   line_with     a part may be of the line that is pending
+--   begins_of     lines of what goes on have their newlines
+--   goes_none, says_none   no byte is taken
 --   goes_more     some bytes after others
---   halts_part, halts_line       the session ends at a part that is not taken, and at a line that is refused
---   last_none, last_one, last_halts   what is pending as the last line: none, one that is answered, and one that is
---       refused
-use Rattle.dg_session.proofs.Common.{◌≡◌, ◌≢◌, ℕ, ◌+◌, ◌<◌, ◌≤◌, inl, inr, List, [], ◌∷◌, ◌++◌, length, take, drop, refl, sym, ap, subst, ◌∙◌, arith, append_assoc, append-nil, length-append, take-append-drop, All-append, All-nil, All-take, length-take-le, HasNoNewline, BeginsWithLines, last_line, begins_none, begins_one, begins_then, begins_more, one_line, SessionSetup, IsSessionLine, AreSessionLines, Speakers, AnswersLineOfSpeaker, RefusesLineOfSpeaker, SoFar, IsReady, SessionGoes, round, HaltsSession, SessionRefusesPart, SessionStaysAt, MAX_LINE, MAX_LINES, SessionEnd, LongLine, Turns, AnswersSpeakers}
-use Rattle.dg_session.proofs.Cutting.{lines_end}
-use Rattle.dg_session.proofs.Seated.{sizes_kept}
+--   says_still    what is said is as it was
+--   says_over     what is over here is over there
+--   says_all      bytes that are taken are all answered
+--   says_part     the last part is taken, which is pending now
+--   says_line     one more line is answered
+--   ends_over     what is over here is over there
+--   halts_part, halts_line       the session halts at a part that is not taken, and at a line
+--   more_fits     where something is pending, one more line may be answered
+--   takes_all, takes_halts       bytes are taken, or the session halts in them
+--   takes_over    so they are where what is over here is over there
+--   taken_all     what was taken whole
+use Rattle.dg_session.proofs.Common.{◌≡◌, ◌≢◌, ℕ, ◌+◌, ◌<◌, ◌≤◌, inl, inr, List, [], ◌∷◌, ◌++◌, length, take, drop, Option, Result, Ok, Err, OnOk, refl, sym, ap, subst, ◌∙◌, arith, append_assoc, append-nil, length-append, take-append-drop, All-append, All-take, length-take-le, Appends, appends_none, appends_more, HasNoNewline, BeginsWithLines, begins_none, begins_more, Setup, IsLine, Cuts, Passage, passage, State, Does, Answers, SoFar, IsReady, Goes, Says, Takes, Halts, Stops, Ends, RefusesPart, MAX_LINE, MAX_LINES, SessionEnd, Read, Write, LongLine, Turns, Table, Memory, Spawn}
+use Rattle.dg_session.proofs.Cutting.{line_is, cuts_more, cuts_over}
+use Rattle.dg_session.proofs.Seated.{sizes_kept, halts_by}
 
-pub answers_none : (t : SessionSetup) (s : Speakers) → AnswersSpeakers t s [] s []
-unfolding AnswersSpeakers
+pub answers_none : (t : Setup) (s : State) → Answers t s [] s []
+unfolding Answers
 answers_none t s = (refl, refl)
 
-pub answers_one : (t : SessionSetup) (s z : Speakers) (line text : List ℕ) → AnswersLineOfSpeaker t s line z text
-    → AnswersSpeakers t s (line ∷ []) z text
-unfolding AnswersSpeakers
+answers_one : (t : Setup) (s z : State) (line text : List ℕ) → Does t s line z (Ok text) → Answers t s (line ∷ []) z text
+unfolding Answers
 answers_one t s z line text p = (z, text, [], p, (refl, refl), sym (append-nil text))
 
-pub answers_more : (t : SessionSetup) (s m z : Speakers) (ls ls' : List (List ℕ)) (text text' : List ℕ)
-    → AnswersSpeakers t s ls m text → AnswersSpeakers t m ls' z text' → AnswersSpeakers t s (ls ++ ls') z (text ++ text')
-unfolding AnswersSpeakers
+pub answers_more : (t : Setup) (s m z : State) (ls ls' : List (List ℕ)) (text text' : List ℕ) → Answers t s ls m text
+    → Answers t m ls' z text' → Answers t s (ls ++ ls') z (text ++ text')
+unfolding Answers
 answers_more t s m z [] ls' text text' p q =
-    subst (λ k. AnswersSpeakers t k ls' z (text ++ text')) p.0
-    (subst (AnswersSpeakers t m ls' z) (sym (ap (λ l. l ++ text') p.1)) q)
+    subst (λ k. Answers t k ls' z (text ++ text')) p.0
+    (subst (Answers t m ls' z) (sym (ap (λ l. l ++ text') p.1)) q)
 answers_more t s m z (line ∷ ls) ls' text text' p q =
     let (first, front, back, answer, more, whole) = p in (
       first,
@@ -37,87 +44,120 @@ answers_more t s m z (line ∷ ls) ls' text text' p q =
     )
 
 pub line_with : {at : SoFar} (part : List ℕ) → IsReady at → HasNoNewline part
-    → length at.pending + length part ≤ MAX_LINE
-    → IsSessionLine (at.pending ++ part)
+    → length at.pending + length part ≤ MAX_LINE → IsLine (at.pending ++ part)
 line_with {at} part ready plain short = record {
   no_newline = All-append (λ byte. byte ≢ 10) at.pending part ready.line.no_newline plain;
   short = let size = length-append at.pending part in omega (arith, size, short);
 }
 
-pub empty_line : (p : List ℕ) → p ≡ [] → IsSessionLine p
-empty_line p none = subst IsSessionLine (sym none) (record { no_newline = All-nil (λ byte. byte ≢ 10); short = omega arith })
+pub begins_of : {stream rest : List ℕ} {ls : List (List ℕ)} → Cuts ⊥ stream ls rest → BeginsWithLines IsLine stream ls rest
+begins_of cut = elim cut [ inl begins ↦ begins | inr all ↦ absurd all.0 ]
 
-pub goes_none : {t : SessionSetup} {at : SoFar} {bytes text : List ℕ} → text ≡ [] → IsReady at
-    → SessionGoes t at bytes bytes at text
-goes_none {t} {at} {bytes} {text} none ready = record {
+pub goes_none : {t : Setup} {over : Type 0} {at : SoFar} {bytes : List ℕ} → IsReady at → Goes t over at bytes bytes at []
+goes_none {t} {over} {at} {bytes} ready = record {
   ls = [];
-  came = begins_none (at.pending ++ bytes);
+  came = inl (begins_none (at.pending ++ bytes));
   counted = omega arith;
-  answered = subst (AnswersSpeakers t at.who [] at.who) (sym none) (answers_none t at.who);
+  answers = answers_none t at.state;
   ready = ready;
 }
 
-pub goes_more : {t : SessionSetup} {old mid new : SoFar} {b c rest text more : List ℕ} → SessionGoes t old b [] mid text
-    → SessionGoes t mid c rest new more
-    → SessionGoes t old (b ++ c) rest new (text ++ more)
-goes_more {t} {old} {mid} {new} {b} {c} {rest} {text} {more} g h = record {
+pub says_none : {t : Setup} {over : Type 0} {at : SoFar} {bytes : List ℕ} {a : Option (List ℕ)} → IsReady at
+    → Says t over at bytes bytes at (passage a a)
+says_none {a = a} ready = record { text = []; grown = appends_none a; goes = goes_none ready }
+
+abbrev pub goes_more : {t : Setup} {over : Type 0} {old mid new : SoFar} {b c rest text more : List ℕ}
+    → Goes t ⊥ old b [] mid text → Goes t over mid c rest new more → Goes t over old (b ++ c) rest new (text ++ more)
+goes_more {t} {over} {old} {mid} {new} {b} {c} {rest} {text} {more} g h = record {
   ls = g.ls ++ h.ls;
-  came = subst (λ l. BeginsWithLines IsSessionLine l (g.ls ++ h.ls) (new.pending ++ rest)) (append_assoc old.pending b c)
-      (begins_then (begins_more c (subst (BeginsWithLines IsSessionLine (old.pending ++ b) g.ls) (append-nil mid.pending) g.came))
-      h.came);
+  came = subst (λ l. Cuts over l (g.ls ++ h.ls) (new.pending ++ rest)) (append_assoc old.pending b c)
+      (cuts_more (begins_more c (subst (BeginsWithLines IsLine (old.pending ++ b) g.ls) (append-nil mid.pending)
+      (begins_of g.came))) h.came);
   counted = let size = length-append g.ls h.ls in omega (arith, size, g.counted, h.counted);
-  answered = answers_more t old.who mid.who new.who g.ls h.ls text more g.answered h.answered;
+  answers = answers_more t old.state mid.state new.state g.ls h.ls text more g.answers h.answers;
   ready = h.ready;
 }
 
-module _ {t : SessionSetup} {old at : SoFar} {bytes rest text : List ℕ} (g : SessionGoes t old bytes rest at text) where
-  pub goes_part : (part p : List ℕ) → rest ≡ part → p ≡ at.pending ++ part → HasNoNewline part
+module _ {t : Setup} {old at : SoFar} {bytes rest : List ℕ} {a b : Option (List ℕ)}
+    (says : Says t ⊥ old bytes rest at (passage a b)) where
+  abbrev g : Goes t ⊥ old bytes rest at says.text
+  g = says.goes
+
+  pub says_still : {c : Option (List ℕ)} → c ≡ b → Says t ⊥ old bytes rest at (passage a c)
+  says_still same = subst (λ o. Says t ⊥ old bytes rest at (passage a o)) (sym same) says
+
+  pub says_part : (part p : List ℕ) → rest ≡ part → p ≡ at.pending ++ part → HasNoNewline part
       → length at.pending + length part ≤ MAX_LINE → at.count ≢ MAX_LINES
-      → SessionGoes t old bytes [] (record at { pending = p }) text
-  goes_part part p cut grown plain short other = record {
-    ls = g.ls;
-    came = subst (BeginsWithLines IsSessionLine (old.pending ++ bytes) g.ls)
-        (ap (λ l. at.pending ++ l) cut ∙ sym (append-nil p ∙ grown))
-        g.came;
-    counted = g.counted;
-    answered = g.answered;
-    ready = record {
-      line = subst IsSessionLine (sym grown) (line_with part g.ready plain short);
-      few = g.ready.few;
-      full = λ full. absurd (other full);
-      some = g.ready.some;
-      each = g.ready.each;
+      → Says t ⊥ old bytes [] (record at { pending = p }) (passage a b)
+  says_part part p cut grown plain short other = record {
+    text = says.text;
+    grown = says.grown;
+    goes = record {
+      ls = g.ls;
+      came = subst (Cuts ⊥ (old.pending ++ bytes) g.ls) (ap (λ l. at.pending ++ l) cut ∙ sym (append-nil p ∙ grown)) g.came;
+      counted = g.counted;
+      answers = g.answers;
+      ready = record {
+        line = subst IsLine (sym grown) (line_with part g.ready plain short);
+        few = g.ready.few;
+        full = λ full. absurd (other full);
+        some = g.ready.some;
+        each = g.ready.each;
+      };
     };
   }
 
-  pub goes_line : {new : SoFar} {more told : List ℕ} (part : List ℕ) → rest ≡ part ++ 10 ∷ more
-      → IsSessionLine (at.pending ++ part)
-      → at.count < MAX_LINES → AnswersLineOfSpeaker t at.who (at.pending ++ part) new.who told
-      → new.pending ≡ [] → new.count ≡ at.count + 1 → SessionGoes t old bytes more new (text ++ told)
-  goes_line {new} {more} {told} part cut is few holds none next =
-      let line = at.pending ++ part in
-      let sizes = sizes_kept t at.who new.who line told holds in record {
-        ls = g.ls ++ line ∷ [];
-        came = subst (λ p. BeginsWithLines IsSessionLine (old.pending ++ bytes) (g.ls ++ line ∷ []) (p ++ more)) (sym none)
-            (begins_then g.came (subst (λ l. BeginsWithLines IsSessionLine l (line ∷ []) more)
-            (append_assoc at.pending part (10 ∷ more) ∙ ap (λ l. at.pending ++ l) (sym cut)) (begins_one more is)));
-        counted = let size = length-append g.ls (line ∷ []) in omega (arith, size, g.counted, next);
-        answered = answers_more t old.who at.who new.who g.ls (line ∷ []) text told g.answered
-            (answers_one t at.who new.who line told holds);
-        ready = record {
-          line = empty_line new.pending none;
-          few = omega (arith, few, next);
-          full = λ full. none;
-          some = omega (arith, sizes.0, g.ready.some);
-          each = sizes.1 ∙ g.ready.each ∙ sym sizes.0;
+  pub says_line : {over : Type 0} {new : SoFar} {line more told : List ℕ} {c : Option (List ℕ)}
+      → Cuts over (at.pending ++ rest) (line ∷ []) more → at.count < MAX_LINES
+      → Does t at.state line new.state (Ok told) → Appends b c told → new.pending ≡ [] → new.count ≡ at.count + 1
+      → Says t over old bytes more new (passage a c)
+  says_line {over} {new} {line} {more} {told} {c} cut few does said none next =
+      let sizes = sizes_kept t at.state new.state line (Ok told) does in record {
+        text = says.text ++ told;
+        grown = appends_more a b c says.text told says.grown said;
+        goes = record {
+          ls = g.ls ++ line ∷ [];
+          came = subst (λ p. Cuts over (old.pending ++ bytes) (g.ls ++ line ∷ []) (p ++ more)) (sym none)
+              (cuts_more (begins_of g.came) cut);
+          counted = let size = length-append g.ls (line ∷ []) in omega (arith, size, g.counted, next);
+          answers = answers_more t old.state at.state new.state g.ls (line ∷ []) says.text told g.answers
+              (answers_one t at.state new.state line told does);
+          ready = record {
+            line = line_is new.pending none;
+            few = omega (arith, few, next);
+            full = λ full. none;
+            some = omega (arith, sizes.0, g.ready.some);
+            each = sizes.1 ∙ g.ready.each ∙ sym sizes.0;
+          };
         };
       }
 
-  stays : (part more : List ℕ) (end : SessionEnd) → rest ≡ part ++ more → HasNoNewline part → 1 ≤ length rest
-      → SessionRefusesPart at.pending at.count part end → SessionStaysAt at rest end
-  stays part more Turns cut plain some h = (h, some)
-  stays part more LongLine cut plain some h = (
-    omega (arith, g.ready.few, h.0),
+-- what is over here is over there
+module _ (t : Setup) {E over : Type 0} (f : E → over) (n : ℕ) (rest : List ℕ) (s z : State) where
+  stops_over : (end : SessionEnd) → Stops t E n rest s z end → Stops t over n rest s z end
+  stops_over end (line, more, cut, few, does) = (line, more, cuts_over f cut, few, does)
+
+  pub ends_over : (result : Result ℕ SessionEnd) → Ends t E n rest s z result → Ends t over n rest s z result
+  ends_over (Ok count) h = (h.0, f h.1, h.2, h.3)
+  ends_over (Err Read) h = h
+  ends_over (Err Write) h = elim h [ inl same ↦ inl same | inr stop ↦ inr (stop.0, stops_over stop.0 stop.1) ]
+  ends_over (Err LongLine) h = h
+  ends_over (Err Turns) h = h
+  ends_over (Err Memory) h = elim h [ inl same ↦ inl same | inr stop ↦ inr (stops_over Memory stop) ]
+  ends_over (Err (Table fault)) h = stops_over (Table fault) h
+  ends_over (Err Spawn) h = stops_over Spawn h
+
+pub halts_part : (t : Setup) (over : Type 0) {at : SoFar} {rest : List ℕ} (part more : List ℕ) (end : SessionEnd) → IsReady at
+    → rest ≡ part ++ more → HasNoNewline part → 1 ≤ length rest → RefusesPart at.pending at.count part end
+    → Halts t over at.count (at.pending ++ rest) at.state at.state end
+halts_part t over {at} {rest} part more Turns ready cut plain some h =
+    (λ is. absurd cc, λ is. absurd cc, (refl, h, omega (arith, length-append at.pending rest, some)))
+halts_part t over {at} part more LongLine ready cut plain some h = (
+  λ is. absurd cc,
+  λ is. absurd cc,
+  (
+    refl,
+    omega (arith, ready.few, h.0),
     let p = at.pending ++ part in record {
       front = take (MAX_LINE + 1) p;
       back = drop (MAX_LINE + 1) p ++ more;
@@ -125,66 +165,74 @@ module _ {t : SessionSetup} {old at : SoFar} {bytes rest text : List ℕ} (g : S
           ∙ ap (λ l. l ++ more) (sym (take-append-drop (MAX_LINE + 1) p))
           ∙ append_assoc (take (MAX_LINE + 1) p) (drop (MAX_LINE + 1) p) more;
       no_newline = All-take (λ byte. byte ≢ 10) (MAX_LINE + 1) p
-          (All-append (λ byte. byte ≢ 10) at.pending part g.ready.line.no_newline plain);
+          (All-append (λ byte. byte ≢ 10) at.pending part ready.line.no_newline plain);
       long = let size = length-append at.pending part in length-take-le (MAX_LINE + 1) p (omega (arith, size, h.1));
     },
-  )
-  stays part more end cut plain some h = absurd h
+  ),
+)
+halts_part t over part more end ready cut plain some h = absurd h
 
-  pub halts_part : {E : Type 0} {end : SessionEnd} (part more : List ℕ) → rest ≡ part ++ more → HasNoNewline part
-      → 1 ≤ length rest → SessionRefusesPart at.pending at.count part end → HaltsSession t E old bytes (round at.who text) end
-  halts_part {E} {end} part more cut plain some h =
-      record { rest = rest; at = at; goes = g; fails = inl (stays part more end cut plain some h, refl) }
+pub halts_line : {t : Setup} {over : Type 0} {n : ℕ} {rest line more : List ℕ} {s z : State} (end : SessionEnd)
+    → Cuts over rest (line ∷ []) more → n < MAX_LINES → Does t s line z (Err end) → Halts t over n rest s z end
+halts_line {line = line} {more} (Table fault) cut few does =
+    (λ is. absurd cc, λ is. absurd cc, (line, more, cut, few, does))
+halts_line {line = line} {more} Spawn cut few does = (λ is. absurd cc, λ is. absurd cc, (line, more, cut, few, does))
+halts_line {line = line} {more} Memory cut few does = (λ is. absurd cc, λ is. absurd cc, inr (line, more, cut, few, does))
+halts_line {t} {line = line} {s = s} {z} end cut few does = absurd (halts_by t s z line end does)
 
-  pub halts_line : {E : Type 0} {z : Speakers} {end : SessionEnd} (part more : List ℕ)
-      → rest ≡ part ++ 10 ∷ more
-      → IsSessionLine (at.pending ++ part) → at.count < MAX_LINES → RefusesLineOfSpeaker t at.who (at.pending ++ part) z end
-      → HaltsSession t E old bytes (round z text) end
-  halts_line {E} {z} {end} part more cut is few refused = record {
-    rest = rest;
-    at = at;
-    goes = g;
-    fails = inr (record {
-      line = at.pending ++ part;
-      came = (
-        omega arith,
-        inl (
-          more,
-          subst (λ l. BeginsWithLines IsSessionLine l ((at.pending ++ part) ∷ []) more)
-              (append_assoc at.pending part (10 ∷ more) ∙ ap (λ l. at.pending ++ l) (sym cut)) (begins_one more is),
-        ),
-      );
-      few = few;
-      stops = refused;
-    });
+pub more_fits : {at : SoFar} → IsReady at → 1 ≤ length at.pending → at.count < MAX_LINES
+more_fits {at} ready some =
+    let other : at.count ≢ MAX_LINES = λ all. omega (arith, some, ap length (ready.full all)) in
+    omega (arith, other, ready.few)
+
+pub takes_all : {B : Type 0} {b : B} {t : Setup} {over : Type 0} {old new : SoFar} {bytes : List ℕ} {said : Passage}
+    → Says t over old bytes [] new said → Takes t over old bytes new said (Ok b)
+takes_all {new = new} says = record { at = new; rest = []; says = says; done = (refl, refl); halted = tt }
+
+pub says_all : {B : Type 0} {b : B} {t : Setup} {over : Type 0} {old new : SoFar} {bytes : List ℕ} {said : Passage}
+    → Takes t over old bytes new said (Ok b) → Says t over old bytes [] new said
+says_all {t = t} {over} {old} {new} {bytes} {said} takes =
+    subst (λ z. Says t over old bytes [] z said) takes.done.1
+    (subst (λ r. Says t over old bytes r takes.at said) takes.done.0 takes.says)
+
+pub takes_halts : {B : Type 0} {t : Setup} {over : Type 0} {old at new : SoFar} {bytes rest : List ℕ} {said : Passage}
+    {end : SessionEnd} → Says t over old bytes rest at said
+    → Halts t over at.count (at.pending ++ rest) at.state new.state end → Takes {B = B} t over old bytes new said (Err end)
+takes_halts {at = at} {rest = rest} says halted = record { at = at; rest = rest; says = says; done = tt; halted = halted }
+
+goes_over : {t : Setup} {E over : Type 0} {old at : SoFar} {bytes rest text : List ℕ} → (E → over)
+    → Goes t E old bytes rest at text → Goes t over old bytes rest at text
+goes_over f goes = record {
+  ls = goes.ls;
+  came = cuts_over f goes.came;
+  counted = goes.counted;
+  answers = goes.answers;
+  ready = goes.ready;
+}
+
+pub says_over : {t : Setup} {E over : Type 0} {old at : SoFar} {bytes rest : List ℕ} {said : Passage} → (E → over)
+    → Says t E old bytes rest at said → Says t over old bytes rest at said
+says_over f says = record { text = says.text; grown = says.grown; goes = goes_over f says.goes }
+
+module _ {B : Type 0} {t : Setup} {E over : Type 0} {old new : SoFar} {bytes : List ℕ} {said : Passage} (f : E → over) where
+  pub takes_over : (result : Result B SessionEnd) → Takes t E old bytes new said result → Takes t over old bytes new said result
+  takes_over (Ok b) takes =
+      record { at = takes.at; rest = takes.rest; says = says_over f takes.says; done = takes.done; halted = tt }
+  takes_over (Err end) takes = let h = takes.halted in record {
+    at = takes.at;
+    rest = takes.rest;
+    says = says_over f takes.says;
+    done = tt;
+    halted = (
+      h.0,
+      h.1,
+      ends_over t f takes.at.count (takes.at.pending ++ takes.rest) takes.at.state new.state (Err end) h.2,
+    );
   }
 
--- what is pending is the last line
-pub last_none : (t : SessionSetup) (s : Speakers) (p : List ℕ) → length p ≡ 0 → AnswersSpeakers t s (last_line p) s []
-last_none t s [] none = answers_none t s
-last_none t s (b ∷ bs) none = absurd (omega (arith, none))
-
-pub last_counted : (p : List ℕ) (c : ℕ) → length p ≡ 0 → c ≡ c + length (last_line p)
-last_counted [] c none = omega arith
-last_counted (b ∷ bs) c none = absurd (omega (arith, none))
-
-pub last_one : {t : SessionSetup} {s z : Speakers} {text : List ℕ} (p : List ℕ) → 1 ≤ length p
-    → AnswersLineOfSpeaker t s (p ++ []) z text → AnswersSpeakers t s (last_line p) z text
-last_one [] some holds = absurd (omega (arith, some))
-last_one {t} {s} {z} {text} (b ∷ bs) some holds =
-    answers_one t s z (b ∷ bs) text (subst (λ l. AnswersLineOfSpeaker t s l z text) (append-nil (b ∷ bs)) holds)
-
-pub last_halts : {t : SessionSetup} {E : Type 0} {at : SoFar} {z : Speakers} {end : SessionEnd} → E → IsReady at
-    → 1 ≤ length at.pending → RefusesLineOfSpeaker t at.who (at.pending ++ []) z end → HaltsSession t E at [] (round z []) end
-last_halts {t} {E} {at} {z} {end} over ready some refused = record {
-  rest = [];
-  at = at;
-  goes = goes_none refl ready;
-  fails = inr (record {
-    line = at.pending;
-    came = subst (AreSessionLines E (at.pending ++ [])) (one_line at.pending some) (lines_end at.pending over ready.line);
-    few = let other : at.count ≢ MAX_LINES = λ all. omega (arith, some, ap length (ready.full all)) in
-        omega (arith, other, ready.few);
-    stops = subst (λ l. RefusesLineOfSpeaker t at.who l z end) (append-nil at.pending) refused;
-  });
-}
+  pub taken_all : {b : B} (taken : Result B SessionEnd) (takes : Takes t E old bytes new said taken) → taken ≡ Ok b
+      → Goes t over old bytes [] new takes.says.text
+  taken_all taken takes is =
+      let (none, same) = subst (λ r. OnOk r ((takes.rest ≡ []) × (takes.at ≡ new))) is takes.done in
+      subst (λ z. Goes t over old bytes [] z takes.says.text) same
+      (subst (λ r. Goes t over old bytes r takes.at takes.says.text) none (goes_over f takes.says.goes))

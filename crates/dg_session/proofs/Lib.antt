@@ -7,7 +7,6 @@ pub mod Made
 pub mod Lines
 pub mod Seated
 pub mod Going
-pub mod Spoken
 pub mod SessionLaws
 mod Begun
 mod Printing

@@ -13,12 +13,12 @@
 --   obeys_after     a command that is obeyed to a seat after it met a longer history is obeyed to it
 --   unlooked, at_look   so it is with none, and with the look that is kept
 --   call_keeps      a call that is no look keeps the look
-use Rattle.dg_session.proofs.Common.{◌≡◌, ◌≢◌, ℕ, inl, inr, List, [], ◌∷◌, ◌++◌, length, map, Option, Some, None, slice_get, Result, Ok, Err, OnOk, refl, sym, ap, subst, ◌∙◌, append-nil, codes, arith, StartData, IsRankTestWithinLimits, ArePastTrialLimits, past_within, RankVerdict, AtLeast, Below, degree_of_finding, request_for_finding, request_for_question, asked, Entry, Plain, Request, Judged, Ranked, Finding, Question, JudgeQuestion, RankQuestion, Command, TakenLookView, IsTakenLook, IsTried, entry_text, IsReplyOfSize, legal_sized, slice_get-seam, begins_on, begins_length, stand_longer, StandInLog, SeatView, Keeps, RefusesCallAtTable, KeepsAfterRefusal, Fault, entering_at_table, IsEnteredAfter, IsAnswered, IsSettledAtTable, IsStaleAtTable, SessionGains, looks_named, SpeakerEnters, speakers_kept_after, speakers_look_after, AnswersCommand, SessionEnd, Table, kept_by_speaker, SpeakerCallsTable, RefusesSpeakerCommand, SessionSetup, Speaker, speaker, keeping_speaker, answer_entries, speaker_answer_text, Answer, Made, NoLook, ObeysSpeaker, TableData}
+use Rattle.dg_session.proofs.Common.{◌≡◌, ◌≢◌, ℕ, List, [], ◌∷◌, ◌++◌, length, map, Option, None, slice_get, Result, Ok, Err, refl, sym, ap, subst, ◌∙◌, append-nil, arith, StartData, IsRankTestWithinLimits, ArePastTrialLimits, past_within, RankVerdict, AtLeast, Below, degree_of_finding, request_for_finding, request_for_question, asked, Entry, Plain, Request, Judged, Ranked, Finding, Question, JudgeQuestion, RankQuestion, Command, TakenLookView, IsTakenLook, IsTried, entry_text, IsReplyOfSize, legal_sized, slice_get-seam, begins_on, begins_length, stand_longer, StandInLog, SeatView, Keeps, RefusesCallAtTable, KeepsAfterRefusal, Fault, entering_at_table, IsEnteredAfter, IsAnswered, IsSettledAtTable, IsStaleAtTable, Gains, looks_named, Enters, look_after, AnswersCommand, SessionEnd, Table, look_of, CallsTable, Setup, Seated, seated, made_by, Obeys, answer_text, Answer, Made, NoLook, TableData}
 use Rattle.dg_rules.specs.declared.entry.Plain.TheVariants as plain
 use Rattle.dg_rules.specs.declared.entry.Request.TheVariants.{Rank as RankRequest}
-use Rattle.dg_session.proofs.Coming.{gained_met, command_met}
+use Rattle.dg_session.proofs.Coming.{gained_met}
 
-pub gains_none : (x y : SeatView) → Keeps x y → SessionGains x y []
+pub gains_none : (x y : SeatView) → Keeps x y → Gains x y []
 gains_none x y keeps = record {
   number = keeps.number;
   mine = keeps.mine ∙ sym (append-nil x.mine);
@@ -31,7 +31,7 @@ gains_none x y keeps = record {
   still = λ none. keeps.prefix;
 }
 
-pub gains_same : (x : SeatView) → SessionGains x x []
+pub gains_same : (x : SeatView) → Gains x x []
 gains_same x = gains_none x x (record {
   number = refl;
   mine = refl;
@@ -40,24 +40,19 @@ gains_same x = gains_none x x (record {
   met = ([], sym (append-nil x.met));
 })
 
-pub obeys_after : {N : Type 0} {t : SessionSetup} {command : Command} {x y : SeatView} {kept : Option ℕ} {new : Speaker}
-    {result : Result (Answer N) SessionEnd} → Keeps x y → ObeysSpeaker t command (keeping_speaker kept y) new result
-    → ObeysSpeaker t command (keeping_speaker kept x) new result
-obeys_after {new = new} {result = Ok answer} keeps obeys = record {
-  done = record {
-    answers = obeys.done.answers;
-    gained = gained_met keeps new.seat (answer_entries answer) obeys.done.gained;
-    named = obeys.done.named;
-  };
-  refused = tt;
+pub obeys_after : {N : Type 0} {t : Setup} {command : Command} {x y : SeatView} {look : Option ℕ} {new : Seated}
+    {result : Result (Answer N) SessionEnd} → Keeps x y → Obeys t command (seated look y) new result
+    → Obeys t command (seated look x) new result
+obeys_after {new = new} {result} keeps obeys = record {
+  does = obeys.does;
+  gained = gained_met keeps new.seat (made_by result) obeys.gained;
+  named = obeys.named;
 }
-obeys_after {t = t} {command} {kept = kept} {new = new} {result = Err end} keeps obeys =
-    record { done = tt; refused = command_met keeps t kept command new.seat end obeys.refused }
 
 pub record Stands (o : StartData) (request : Request) (r : ℕ × Entry) (x y : SeatView) : Type 0 where
   pub asked' : r.1.request ≡ request
   pub sized : IsReplyOfSize o.graph.size r.1.reply
-  pub gained : SessionGains x y (r ∷ [])
+  pub gained : Gains x y (r ∷ [])
 
 pub entry_made : (table : TableData) (H : List Entry) (request : Request) (known heard : List (ℕ × Entry))
     (r : ℕ × Entry) (x y : SeatView)
@@ -139,56 +134,45 @@ pub rank_past : {o : StartData} {look : TakenLookView} {k : ℕ} → IsTakenLook
 rank_past {o} {k = k} taken prefix = past_within o.graph.size k (subst (λ n. ArePastTrialLimits n k) taken.vertices.0 prefix)
 
 -- the entry stands, and its line is to be said
-pub entered : {N : Type 0} {t : SessionSetup} {command : Command} {request : Request} {r : ℕ × Entry} {old new : Speaker}
+pub entered : {N : Type 0} {t : Setup} {command : Command} {request : Request} {r : ℕ × Entry} {old new : Seated}
     → length t.names ≡ t.table.start.graph.size → Stands t.table.start request r old.seat new.seat
-    → ((text : List ℕ) → SpeakerEnters t.names old.kept request (r ∷ []) new.kept text
-    → AnswersCommand t old.kept command (r ∷ []) new.kept text)
-    → new.kept ≡ speakers_look_after old.kept r.0 request
-    → ObeysSpeaker {N = N} t command old new (Ok (Made r))
+    → ((text : List ℕ) → Enters t.names old.look request (r ∷ []) new.look text
+    → AnswersCommand t old.look command (r ∷ []) new.look text)
+    → new.look ≡ look_after old.look r.0 request → Obeys {N = N} t command old new (Ok (Made r))
 entered {t = t} {r = r} {old} size stands opens keeps = record {
-  done = record {
-    answers = opens (entry_text t.names r.0 r.1.reply)
-        (r, stands.asked', refl, keeps ∙ sym (ap (speakers_look_after old.kept r.0) stands.asked'), refl);
-    gained = stands.gained;
-    named = subst (λ n. IsReplyOfSize n r.1.reply) (sym size) stands.sized;
-  };
-  refused = tt;
+  does = opens (entry_text t.names r.0 r.1.reply)
+      (r, stands.asked', refl, keeps ∙ sym (ap (look_after old.look r.0) stands.asked'), refl);
+  gained = stands.gained;
+  named = subst (λ n. IsReplyOfSize n r.1.reply) (sym size) stands.sized;
 }
 
 -- nothing is made, since the table refuses the call
-pub call_refused : {N : Type 0} {t : SessionSetup} {command : Command} {old new : Speaker} {fault : Fault}
-    → SpeakerCallsTable t.table.start.graph.size old.kept command → KeepsAfterRefusal fault old.seat new.seat
-    → RefusesCallAtTable t.table new.seat fault
-    → ObeysSpeaker {N = N} t command old new (Err (Table fault))
+pub call_refused : {N : Type 0} {t : Setup} {command : Command} {old new : Seated} {fault : Fault}
+    → CallsTable t.table.start.graph.size old.look command → KeepsAfterRefusal fault old.seat new.seat
+    → RefusesCallAtTable t.table new.seat fault → Obeys {N = N} t command old new (Err (Table fault))
 call_refused {old = old} {new} calls keeps refused =
-    record { done = tt; refused = (calls, refused, gains_none old.seat new.seat keeps.0) }
+    record { does = (refl, (calls, refused)); gained = gains_none old.seat new.seat keeps.0; named = tt }
 
 -- a command that needs a look finds none
-pub unlooked : {N : Type 0} {t : SessionSetup} {command : Command} {x : SeatView} {kept after : Option TakenLookView} → kept
-    ≡ None
-    → after ≡ None → AnswersCommand t None command [] None (speaker_answer_text {N = N} t.names NoLook)
-    → ObeysSpeaker {N = N} t command (speaker x kept) (speaker x after) (Ok NoLook)
-unlooked {N} {t} {command} {x} p q answers = rw (p, q) (record {
-  done = record { answers = answers; gained = gains_same x; named = tt };
-  refused = tt;
-})
+pub unlooked : {N : Type 0} {t : Setup} {command : Command} {x : SeatView} {kept after : Option TakenLookView} → kept ≡ None
+    → after ≡ None → AnswersCommand t None command [] None (answer_text {N = N} t.names NoLook)
+    → Obeys {N = N} t command (seated (look_of kept) x) (seated (look_of after) x) (Ok NoLook)
+unlooked {x = x} p q answers = rw (p, q) (record { does = answers; gained = gains_same x; named = tt })
 
 -- the look that is kept, if one is
-pub at_look : {N : Type 0} {t : SessionSetup} {command : Command} {x : SeatView} {kept look : Option TakenLookView}
-    {new : Speaker}
-    {result : Result (Answer N) SessionEnd} → kept ≡ look → ObeysSpeaker t command (speaker x look) new result
-    → ObeysSpeaker t command (speaker x kept) new result
+pub at_look : {N : Type 0} {t : Setup} {command : Command} {x : SeatView} {kept look : Option TakenLookView} {new : Seated}
+    {result : Result (Answer N) SessionEnd} → kept ≡ look → Obeys t command (seated (look_of look) x) new result
+    → Obeys t command (seated (look_of kept) x) new result
 at_look {t = t} {command} {x} {new = new} {result} is obeys =
-    subst (λ (k : Option TakenLookView). ObeysSpeaker t command (speaker x k) new result) (sym is) obeys
+    subst (λ (k : Option TakenLookView). Obeys t command (seated (look_of k) x) new result) (sym is) obeys
 
-pub call_keeps : (kept : Option ℕ) (n : ℕ) (call : Plain) → call ≢ plain.Look → speakers_look_after kept n (asked call) ≡ kept
+pub call_keeps : (kept : Option ℕ) (n : ℕ) (call : Plain) → call ≢ plain.Look → look_after kept n (asked call) ≡ kept
 call_keeps kept n plain.Look other = absurd (other refl)
 call_keeps kept n (plain.Move m) other = refl
 call_keeps kept n (plain.Gift v x) other = refl
 call_keeps kept n (plain.Join u v) other = refl
 call_keeps kept n plain.Claim other = refl
 
-pub at_command : {N : Type 0} {t : SessionSetup} {command other : Command} {old new : Speaker}
-    {result : Result (Answer N) SessionEnd}
-    → command ≡ other → ObeysSpeaker t other old new result → ObeysSpeaker t command old new result
-at_command {t = t} {old = old} {new} {result} is obeys = subst (λ c. ObeysSpeaker t c old new result) (sym is) obeys
+pub at_command : {N : Type 0} {t : Setup} {command other : Command} {old new : Seated} {result : Result (Answer N) SessionEnd}
+    → command ≡ other → Obeys t other old new result → Obeys t command old new result
+at_command {t = t} {old = old} {new} {result} is obeys = subst (λ c. Obeys t c old new result) (sym is) obeys

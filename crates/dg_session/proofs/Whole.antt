@@ -9,13 +9,13 @@
 --   whole            sessions of fresh seats, which a table was closed with, are a party
 --   whole_lent       so are they where the seats were lent as the front of a list
 --   party_unclosed   where the table was not closed with them, there is no party for that
-use Rattle.dg_session.proofs.Common.{◌≡◌, ℕ, zero, suc, ◌+◌, ◌<◌, ◌≤◌, List, [], ◌∷◌, ◌++◌, length, map, take, slice_get, Some, arith, refl, sym, ap, subst, ◌∙◌, Result, codes, decimal, unwrap_or, slice_index, Vec, none-some, take-append_seam, length-map, StartData, Vector, at, ShowsPosition, position_after, gifts_in, pairs, Entry, vertices_stay, SeatView, entries_of_seat, AreFreshSeats, IsClosed, AreAuditTotals, IsCloseRefused, all_there, none_missing, Ghosts, Audit, SessionEnd, IsPartySessionOver, script_contents, party_entries_text, party_seat_text, totals_text, IsParty, IsPartyRefused, Log, TableData}
-use Rattle.dg_session.specs.PartySessions.{AreSessions}
+use Rattle.dg_session.proofs.Common.{◌≡◌, ℕ, zero, suc, ◌+◌, ◌<◌, ◌≤◌, List, [], ◌∷◌, ◌++◌, length, map, take, slice_get, Some, arith, refl, sym, ap, subst, ◌∙◌, Result, codes, decimal, unwrap_or, slice_index, Vec, none-some, take-append_seam, length-map, StartData, Vector, at, ShowsPosition, position_after, gifts_in, pairs, Entry, vertices_stay, SeatView, entries_of_seat, AreFreshSeats, IsClosed, AreAuditTotals, IsCloseRefused, all_there, none_missing, Ghosts, Audit, SessionEnd, IsScriptOver, script_contents, party_entries_text, party_seat_text, totals_text, IsParty, IsPartyRefused, Log, TableData}
+use Rattle.dg_session.specs.Parties.{AreSessions}
 use Rattle.dg_session.specs.Printed.{seats_text, calls_text}
 
 number_kept : {table : TableData} {names : List (List ℕ)} {script : List ℕ} {x y : SeatView}
     {end : Result ℕ SessionEnd}
-    → IsPartySessionOver table names script x y end → y.number ≡ x.number
+    → IsScriptOver table names script x y end → y.number ≡ x.number
 number_kept h = ap (λ numbers. slice_index numbers 0) h.session.numbers
 
 record IsSessionAt (table : TableData) (names : List (List ℕ)) (xs ys : List SeatView) (i : ℕ)
@@ -25,7 +25,7 @@ record IsSessionAt (table : TableData) (names : List (List ℕ)) (xs ys : List S
   after : SeatView
   first : slice_get xs i ≡ Some before
   last : slice_get ys i ≡ Some after
-  session : IsPartySessionOver table names script before after end
+  session : IsScriptOver table names script before after end
 
 -- what sessions side by side come to
 record AreAlong (table : TableData) (names scripts : List (List ℕ)) (xs ys : List SeatView)

@@ -13,7 +13,7 @@ pub use Rattle.dg_lines.specs.Commands.{LineSpellsCommand}
 pub use Rattle.dg_lines.specs.Cuts.{lines}
 pub use Rattle.dg_lines.specs.LineFaults.{IsLineFault, line_fault_text}
 pub use Rattle.dg_lines.specs.Steps.{IsSeatedLine}
-pub use Rattle.dg_lines.specs.Streams.{BeginsWithLines, HasNoNewline, LinesOfTextHaveCome, last_line, with_newline}
+pub use Rattle.dg_lines.specs.Streams.{BeginsWithLines, HasNoNewline, last_line, with_newline}
 pub use Rattle.dg_lines.specs.Texts.{TextHasNames, entry_text, pairs, text_of}
 pub use Rattle.dg_lines.specs.declared.line.LineFault.{LineFault}
 pub use Rattle.dg_lines.specs.declared.line.LineFault.TheVariants.{Seat}

@@ -1,113 +1,90 @@
--- How a session ends; s are the seats before, and z after.
---   AnswersSpeakers t s ls z text           == the lines ls are answered one after another with the text
---   IsTooLongForSession rest                == the rest begins with one byte more than a line may have, and
---                                              no newline
---   SessionReading                          == what was read, the lines in it that are answered, and what the
---                                              reader has left, if that is known
---   reading stream ls left                  == that of these
---   SessionLeaves r P                       == what stands after the answered lines is a rest of which P
---                                              holds
---   SessionStopsAt t r s z end              == after the answered lines one more came, at which the session
---                                              ends so
---   SessionEndsBy t r s z result            == what each end says, if just those lines are answered: they are
---                                              all, and counted; reading failed after all whole lines; a line
---                                              is too long, or one too many; it stops at a line for what the
---                                              table or a thread refused; or for memory, or before; or the
---                                              writer took no more
---   AreSessionEntriesInOrder s              == the numbers of what the lines have entered ascend; the entries
---                                              stand in the history as the last line left it; and that is the
---                                              one that a seat has met, or has no entry
---   WritesInSession result output said text == the writer took what was said and the text, or, if it took no
---                                              more, all that was said and a front of the text
---   IsOver t input output xs ys result      == the session of the seats xs is over, and they are ys. A stream
---                                              was read, by which the reader's bytes, if known, have become
---                                              what is left. The lines of `told` are answered with what was
---                                              said, and then those of `last` with the text; these have no
---                                              more bytes than one read and one line. What they enter comes
---                                              in their order
---   IsSession t input output xs ys result   == so is one after which each seat has found a history of the
---                                              table, and has its number
-use Rattle.std.specs.Prelude.{◌≡◌, ℕ, ◌+◌, ◌<◌, ◌≤◌, ◌⊎◌, List, [], ◌∷◌, ◌++◌, length, slice_get, Option, Some, All, map, flat_map, Result, Ok, Err}
+-- How a session ends. s is the state after the n lines that are answered, the rest what follows them in the
+-- stream, `over` says that no more is to come, and z is the state at the end.
+--   Stops t over n rest s z end            == the next line has this end as its outcome
+--   Ends t over n rest s z result          == what each end says: nothing is left, and the lines are counted;
+--                                             reading failed after all whole lines; the writer took no more,
+--                                             there or before; a line is too long, or one too many; memory was
+--                                             refused, there or before; or the session stops at the next line
+--                                             for what the table or a thread refused
+--   HasEnded result left                   == nothing is left to read, and no read failed: all lines have come
+--   WritesFront t s ls z output text       == the writer took no more: of the lines those of `told` are answered
+--                                             with all that they say, and those of `last` with a front of it;
+--                                             these have no more bytes than one read and one line
+--   Writes t s ls z output text result     == the writer took the text, which answers the lines ls from s to z;
+--                                             or it took no more
+--   IsOver t input output xs ys result     == the session of the seats xs is over, and they are ys. A stream was
+--                                             read, by which the reader's bytes, if known, have become what is
+--                                             left. Its first lines are answered, one after another, and what
+--                                             was written are the answers. Then it ended so
+--   IsSession t input output xs ys result  == so is one after which each seat has its number, and has found a
+--                                             history of the table; what the lines entered comes in their order;
+--                                             and a seat that is alone has made just that
+use Rattle.std.specs.Prelude.{◌≡◌, ℕ, ◌+◌, ◌<◌, ◌≤◌, ◌⊎◌, List, [], ◌∷◌, ◌++◌, length, All, map, flat_map, Option, Result, Ok, Err, OnOk}
 use Rattle.std.specs.Io.KnownBytes.{Appends, Consumes, IsAtEnd}
-use Rattle.dg_session.specs.Common.{StandInLog, SeatHasPrefix, SeatView, lines, HasNoNewline, BeginsWithLines, with_newline, AppendsFrontToStream}
-use Rattle.dg_session.specs.Setup.{SessionSetup}
-use Rattle.dg_session.specs.Streams.{IsSessionLine, AreSessionLines, Passage}
-use Rattle.dg_session.specs.Order.{AnswersAscendFrom}
-use Rattle.dg_session.specs.Speakers.{Speakers, new_speakers, AnswersLineOfSpeaker, RefusesLineOfSpeaker}
+use Rattle.dg_session.specs.Common.{SeatHasPrefix, SeatView, lines, with_newline, AppendsFrontToStream}
+use Rattle.dg_session.specs.Streams.{IsLine, IsTooLong, Cuts, Passage}
+use Rattle.dg_session.specs.Commands.{Setup}
+use Rattle.dg_session.specs.State.{State, begun, Does, Answers, AreInOrder}
 use Rattle.dg_session.specs.declared.ends.TheConstants.{MAX_LINE, MAX_LINES, READ_SIZE}
 use Rattle.dg_session.specs.declared.ends.SessionEnd.{SessionEnd}
 use Rattle.dg_session.specs.declared.ends.SessionEnd.TheVariants.{Read, Write, LongLine, Turns, Memory}
 
-unfoldable pub AnswersSpeakers : SessionSetup → Speakers → List (List ℕ) → Speakers → List ℕ → Type 0
-AnswersSpeakers t s [] z text = (z ≡ s) × (text ≡ [])
-AnswersSpeakers t s (line ∷ ls) z text = (m : Speakers) × (front back : List ℕ) ×
-    AnswersLineOfSpeaker t s line m front × AnswersSpeakers t m ls z back × (text ≡ front ++ back)
+abbrev pub Stops : Setup → Type 0 → ℕ → List ℕ → State → State → SessionEnd → Type 0
+Stops t over n rest s z end =
+    (line more : List ℕ) × Cuts over rest (line ∷ []) more × (n < MAX_LINES) × Does t s line z (Err end)
 
-pub record IsTooLongForSession (rest : List ℕ) : Type 0 where
-  pub front : List ℕ
-  pub back : List ℕ
-  pub whole : rest ≡ front ++ back
-  pub no_newline : HasNoNewline front
-  pub long : length front ≡ MAX_LINE + 1
+abbrev pub Ends : Setup → Type 0 → ℕ → List ℕ → State → State → Result ℕ SessionEnd → Type 0
+Ends t over n rest s z (Ok count) = (z ≡ s) × over × (rest ≡ []) × (count ≡ n)
+Ends t over n rest s z (Err Read) = (z ≡ s) × IsLine rest
+Ends t over n rest s z (Err Write) = (z ≡ s) ⊎ ((end : SessionEnd) × Stops t over n rest s z end)
+Ends t over n rest s z (Err LongLine) = (z ≡ s) × (n < MAX_LINES) × IsTooLong rest
+Ends t over n rest s z (Err Turns) = (z ≡ s) × (n ≡ MAX_LINES) × (1 ≤ length rest)
+Ends t over n rest s z (Err Memory) = (z ≡ s) ⊎ Stops t over n rest s z Memory
+Ends t over n rest s z (Err end) = Stops t over n rest s z end
 
-pub record SessionReading : Type 0 where
-  pub stream : List ℕ
-  pub answered : List (List ℕ)
-  pub left : Option (List ℕ)
+abbrev pub HasEnded : Result ℕ SessionEnd → Option (List ℕ) → Type 0
+HasEnded (Err Read) left = ⊥
+HasEnded result left = IsAtEnd left
 
-abbrev pub reading : List ℕ → List (List ℕ) → Option (List ℕ) → SessionReading
-reading stream ls left = record { stream = stream; answered = ls; left = left }
-
-abbrev pub SessionLeaves : SessionReading → (List ℕ → Type 0) → Type 0
-SessionLeaves r P = (rest : List ℕ) × BeginsWithLines IsSessionLine r.stream r.answered rest × P rest
-
-abbrev pub SessionStopsAt : SessionSetup → SessionReading → Speakers → Speakers → SessionEnd → Type 0
-SessionStopsAt t r s z end = (line : List ℕ) × AreSessionLines (IsAtEnd r.left) r.stream (r.answered ++ line ∷ [])
-    × RefusesLineOfSpeaker t s line z end
-
-abbrev pub SessionEndsBy : SessionSetup → SessionReading → Speakers → Speakers → Result ℕ SessionEnd → Type 0
-SessionEndsBy t r s z (Ok count) =
-    (z ≡ s) × IsAtEnd r.left × (r.answered ≡ lines r.stream) × (count ≡ length r.answered)
-SessionEndsBy t r s z (Err Read) = (z ≡ s) × SessionLeaves r IsSessionLine
-SessionEndsBy t r s z (Err LongLine) = (z ≡ s) × (length r.answered < MAX_LINES) × SessionLeaves r IsTooLongForSession
-SessionEndsBy t r s z (Err Turns) =
-    (z ≡ s) × (length r.answered ≡ MAX_LINES) × SessionLeaves r (λ rest. 1 ≤ length rest)
-SessionEndsBy t r s z (Err Write) = (z ≡ s) ⊎ ((end : SessionEnd) × SessionStopsAt t r s z end)
-SessionEndsBy t r s z (Err Memory) = (z ≡ s) ⊎ SessionStopsAt t r s z Memory
-SessionEndsBy t r s z (Err end) = SessionStopsAt t r s z end
-
-pub record AreSessionEntriesInOrder (s : Speakers) : Type 0 where
-  pub ascend : AnswersAscendFrom 0 s.entered
-  pub stand : StandInLog s.latest s.entered
-  pub met : (s.latest ≡ [])
-      ⊎ ((i : ℕ) × (x : SeatView) × (slice_get s.seats i ≡ Some x) × (s.latest ≡ x.met))
-
-abbrev pub WritesInSession : Result ℕ SessionEnd → Passage → List ℕ → List ℕ → Type 0
-WritesInSession (Err Write) output said text = AppendsFrontToStream output.before output.after said text
-WritesInSession result output said text = Appends output.before output.after (said ++ text)
-
-pub record IsOver (t : SessionSetup) (input output : Passage) (xs ys : List SeatView)
-    (result : Result ℕ SessionEnd) : Type 0 where
-  pub stream : List ℕ
-  pub read : Consumes input.before input.after stream
+pub record WritesFront (t : Setup) (s : State) (ls : List (List ℕ)) (z : State) (output : Passage) (text : List ℕ)
+    : Type 0 where
   pub told : List (List ℕ)
   pub last : List (List ℕ)
-  pub came : AreSessionLines (IsAtEnd input.after) stream (told ++ last)
+  pub whole : ls ≡ told ++ last
   pub few : length (flat_map with_newline last) ≤ READ_SIZE + MAX_LINE + 1
-  pub middle : Speakers
-  pub after : Speakers
-  pub end : Speakers
+  pub middle : State
   pub said : List ℕ
-  pub text : List ℕ
-  pub first : AnswersSpeakers t (new_speakers xs) told middle said
-  pub second : AnswersSpeakers t middle last after text
-  pub written : WritesInSession result output said text
-  pub ends : SessionEndsBy t (reading stream (told ++ last) input.after) after end result
-  pub seats : end.seats ≡ ys
-  pub order : AreSessionEntriesInOrder end
+  pub more : List ℕ
+  pub all : text ≡ said ++ more
+  pub first : Answers t s told middle said
+  pub second : Answers t middle last z more
+  pub written : AppendsFrontToStream output.before output.after said more
 
-pub record IsSession (t : SessionSetup) (input output : Passage) (xs ys : List SeatView)
+abbrev pub Writes : Setup → State → List (List ℕ) → State → Passage → List ℕ → Result ℕ SessionEnd → Type 0
+Writes t s ls z output text (Err Write) = WritesFront t s ls z output text
+Writes t s ls z output text result = Appends output.before output.after text
+
+pub record IsOver (t : Setup) (input output : Passage) (xs ys : List SeatView) (result : Result ℕ SessionEnd)
+    : Type 0 where
+  pub stream : List ℕ
+  pub read : Consumes input.before input.after stream
+  pub answered : List (List ℕ)
+  pub rest : List ℕ
+  pub cut : Cuts (HasEnded result input.after) stream answered rest
+  pub whole : OnOk result (answered ≡ lines stream)
+  pub few : length answered ≤ MAX_LINES
+  pub after : State
+  pub text : List ℕ
+  pub answers : Answers t (begun xs) answered after text
+  pub written : Writes t (begun xs) answered after output text result
+  pub end : State
+  pub ends : Ends t (HasEnded result input.after) (length answered) rest after end result
+  pub seats : end.seats ≡ ys
+
+pub record IsSession (t : Setup) (input output : Passage) (xs ys : List SeatView)
     (result : Result ℕ SessionEnd) : Type 0 where
   pub over : IsOver t input output xs ys result
-  pub found : All (SeatHasPrefix t.table) ys
   pub numbers : map (λ (y : SeatView). y.number) ys ≡ map (λ (x : SeatView). x.number) xs
+  pub found : All (SeatHasPrefix t.table) ys
+  pub order : AreInOrder over.end
+  pub own : (x : SeatView) → xs ≡ x ∷ [] → All (λ (y : SeatView). y.mine ≡ x.mine ++ over.end.entered) ys

@@ -1,16 +1,11 @@
--- Sessions: how a stream is cut into lines, how the lines of a seat are answered or end a session,
--- whom lines are for, and how a session ends. Parties: sessions side by side on one table.
+-- Sessions: how a stream is cut into lines, what a command and a line of a seat come to, whom lines are for, how
+-- they are answered one after another, and how a session ends. Parties: sessions side by side on one table.
 pub mod Streams
-pub mod Setup
-pub mod Order
-pub mod Saying
-pub mod Refusing
-pub mod Speakers
+pub mod Commands
+pub mod State
 pub mod Ends
-pub mod PartySessions
 pub mod Parties
 pub mod Printed
 -- What serves the steps of a session alone.
-pub mod EntriesSoFar
 pub mod SoFar
 pub mod Common

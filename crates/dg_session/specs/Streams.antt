@@ -1,23 +1,39 @@
 -- Lines of a session, and the streams that they come and go by.
---   IsSessionLine line              == the line has no newline, and at most as many bytes as a line may have
---   AreSessionLines ended stream ls == the lines ls are no more than a session answers; and the stream begins
---                                      with them, or it has ended, and they are all its lines
---   Passage                         == what a stream has yet to give, or holds, before and after, if it is
---                                      known
---   passage old new                 == that of these
---   SessionsCutOneWay               == a stream is cut into lines in one way: where it begins with lines, and
---                                      the rest has no newline, its lines are those lines, and the rest as a
---                                      last line if it has a byte
-use Rattle.std.specs.Prelude.{◌≡◌, ℕ, ◌≤◌, List, ◌++◌, length, Option}
-use Rattle.dg_session.specs.Common.{lines, HasNoNewline, BeginsWithLines, LinesOfTextHaveCome, last_line}
-use Rattle.dg_session.specs.declared.ends.TheConstants.{MAX_LINE, MAX_LINES}
+--   IsLine line              == the line has no newline, and at most as many bytes as a line may have
+--   EndsInLine stream ls     == the stream is the lines ls, and the last of them has a byte, and no newline
+--   Cuts over stream ls rest == the stream is the lines ls, each with its newline, and then the rest; or it is
+--                               over, and is these lines, of which the last has no newline
+--   IsTooLong rest           == the rest begins with one byte more than a line may have, and no newline
+--   Passage                  == what a stream has yet to give, or holds, before and after, if it is known
+--   passage old new          == that of these
+--   CutOneWay                == a stream is cut into lines in one way: where it begins with lines, and the
+--                               rest has no newline, its lines are those lines, and the rest as a last line if
+--                               it has a byte
+use Rattle.std.specs.Prelude.{◌≡◌, ℕ, ◌+◌, ◌≤◌, ◌⊎◌, List, [], ◌∷◌, ◌++◌, length, Option}
+use Rattle.dg_session.specs.Common.{lines, HasNoNewline, BeginsWithLines, last_line}
+use Rattle.dg_session.specs.declared.ends.TheConstants.{MAX_LINE}
 
-pub record IsSessionLine (line : List ℕ) : Type 0 where
+pub record IsLine (line : List ℕ) : Type 0 where
   pub no_newline : HasNoNewline line
   pub short : length line ≤ MAX_LINE
 
-abbrev pub AreSessionLines : Type 0 → List ℕ → List (List ℕ) → Type 0
-AreSessionLines ended stream ls = (length ls ≤ MAX_LINES) × LinesOfTextHaveCome IsSessionLine ended stream ls
+pub record EndsInLine (stream : List ℕ) (ls : List (List ℕ)) : Type 0 where
+  pub front : List (List ℕ)
+  pub last : List ℕ
+  pub lines : ls ≡ front ++ last ∷ []
+  pub begins : BeginsWithLines IsLine stream front last
+  pub is : IsLine last
+  pub some : 1 ≤ length last
+
+abbrev pub Cuts : Type 0 → List ℕ → List (List ℕ) → List ℕ → Type 0
+Cuts over stream ls rest = BeginsWithLines IsLine stream ls rest ⊎ (over × (rest ≡ []) × EndsInLine stream ls)
+
+pub record IsTooLong (rest : List ℕ) : Type 0 where
+  pub front : List ℕ
+  pub back : List ℕ
+  pub whole : rest ≡ front ++ back
+  pub no_newline : HasNoNewline front
+  pub long : length front ≡ MAX_LINE + 1
 
 pub record Passage : Type 0 where
   pub before : Option (List ℕ)
@@ -26,6 +42,6 @@ pub record Passage : Type 0 where
 abbrev pub passage : Option (List ℕ) → Option (List ℕ) → Passage
 passage old new = record { before = old; after = new }
 
-abbrev pub SessionsCutOneWay : Type 0
-SessionsCutOneWay = (stream rest : List ℕ) (ls : List (List ℕ)) → BeginsWithLines IsSessionLine stream ls rest →
+abbrev pub CutOneWay : Type 0
+CutOneWay = (stream rest : List ℕ) (ls : List (List ℕ)) → BeginsWithLines IsLine stream ls rest →
     HasNoNewline rest → lines stream ≡ ls ++ last_line rest

@@ -3,8 +3,9 @@ ghost use Rattle.std.specs.Prelude.{◌≡◌, ◌≢◌, ℕ, List, length, Opt
 ghost use Rattle.dg_rank.specs.Ranks.{MayHaveRankWorkers};
 ghost use Rattle.dg_rules.specs.declared.step.Command.TheVariants.{Call, Commit, Rank};
 ghost use Rattle.dg_lines.specs.Texts.{TextHasNames, entry_text};
-ghost use Rattle.dg_session.specs.Setup.{session_setup};
-ghost use Rattle.dg_session.specs.SoFar.{speaker_answer_text, heard, keeping_speaker, speaker, SpeakerAnswerHasNames, TellsSpeaker, HearsSpeaker, ObeysSpeaker};
+ghost use Rattle.dg_session.specs.Commands.{setup_of};
+ghost use Rattle.dg_session.specs.Streams.{passage};
+ghost use Rattle.dg_session.specs.SoFar.{answer_text, heard, look_of, seated, AnswerHasNames, Hears, Obeys, Tells};
 
 use crate::ends::SessionEnd;
 use crate::line_format::LineFormat;
@@ -65,21 +66,21 @@ impl AnswerBuffer {
         names: &Names,
         answer: &Answer<N>,
     ) -> Result<(), SessionEnd>
-        requires { SpeakerAnswerHasNames names.now answer.now }
-        ensures { TellsSpeaker (speaker_answer_text names.now answer.now)
-            (heard self.old.text) (heard self.new.text) result }
+        requires { AnswerHasNames names.now answer.now }
+        ensures { Tells (answer_text names.now answer.now)
+            (passage (heard self.old.text) (heard self.new.text)) result }
     {
         match answer {
             Answer::Made(receipt) => self.say_entry(table, names, receipt),
-            Answer::NoLook => self.say_words_to_speaker(b"bad look\n"),
-            Answer::TooMany => self.say_words_to_speaker(b"bad trials\n"),
-            Answer::BadLine(fault) => self.say_words_to_speaker(fault.line().as_bytes()),
+            Answer::NoLook => self.say_words(b"bad look\n"),
+            Answer::TooMany => self.say_words(b"bad trials\n"),
+            Answer::BadLine(fault) => self.say_words(fault.line().as_bytes()),
         }
     }
 
     /// Says the words. If memory is refused, nothing more is said.
-    fn say_words_to_speaker(&mut self, words: &[u8]) -> Result<(), SessionEnd>
-        ensures { TellsSpeaker words.now (heard self.old.text) (heard self.new.text) result }
+    fn say_words(&mut self, words: &[u8]) -> Result<(), SessionEnd>
+        ensures { Tells words.now (passage (heard self.old.text) (heard self.new.text)) result }
     {
         let Some(text) = &mut self.text else {
             return Ok(());
@@ -98,8 +99,8 @@ impl AnswerBuffer {
         receipt: &Receipt<N>,
     ) -> Result<(), SessionEnd>
         requires { TextHasNames names.now receipt.now.1.reply }
-        ensures { TellsSpeaker (entry_text names.now receipt.now.0 receipt.now.1.reply)
-            (heard self.old.text) (heard self.new.text) result }
+        ensures { Tells (entry_text names.now receipt.now.0 receipt.now.1.reply)
+            (passage (heard self.old.text) (heard self.new.text)) result }
     {
         let Some(text) = &mut self.text else {
             return Ok(());
@@ -130,47 +131,50 @@ pub(crate) fn answer_seat<N: Name, R: Threads + Wait>(
     seat: &mut Seat<N>,
     line: &[u8],
 ) -> Result<Answer<N>, SessionEnd>
-    ensures { HearsSpeaker (session_setup shared.now.how N.table shared.now.names.now shared.now.workers)
-        line.now (speaker seat.old kept.old) (speaker seat.new kept.new) result }
+    ensures { Hears (setup_of shared.now.how N.table shared.now.names.now shared.now.workers)
+        line.now
+        (seated (look_of kept.old) seat.old) (seated (look_of kept.new) seat.new) result }
 {
     match parse_line(line, shared.names) {
-        Ok(command) => obey_in_session(shared, kept, inverse, seat, &command),
+        Ok(command) => obey(shared, kept, inverse, seat, &command),
         Err(fault) => Ok(Answer::BadLine(fault)),
     }
 }
 
 /// Carries out a command.
 #[inline(never)]
-fn obey_in_session<N: Name, R: Threads + Wait>(
+fn obey<N: Name, R: Threads + Wait>(
     shared: &Shared<N, R>,
     kept: &mut Option<Look<N>>,
     inverse: &mut InverseLaplacian,
     seat: &mut Seat<N>,
     command: &Command,
 ) -> Result<Answer<N>, SessionEnd>
-    ensures { ObeysSpeaker (session_setup shared.now.how N.table shared.now.names.now shared.now.workers)
-        command.now (speaker seat.old kept.old) (speaker seat.new kept.new) result }
+    ensures { Obeys (setup_of shared.now.how N.table shared.now.names.now shared.now.workers)
+        command.now
+        (seated (look_of kept.old) seat.old) (seated (look_of kept.new) seat.new) result }
 {
     match command {
         Command::Call(plain) => match plain {
-            Plain::Look => take_look_of_speaker(shared, kept, seat),
+            Plain::Look => take_look(shared, kept, seat),
             Plain::Move(_) | Plain::Gift(..) | Plain::Join(..) | Plain::Claim => {
                 call(shared, seat, plain)
             }
         },
-        Command::Commit => enter_verdict_of_speaker(shared, kept, inverse, seat),
-        Command::Rank(k) => enter_rank_of_speaker(shared, kept, seat, *k),
+        Command::Commit => enter_verdict(shared, kept, inverse, seat),
+        Command::Rank(k) => enter_rank(shared, kept, seat, *k),
     }
 }
 
 /// Takes a look, and keeps it in place of an older one.
-fn take_look_of_speaker<N: Name, R: Threads + Wait>(
+fn take_look<N: Name, R: Threads + Wait>(
     shared: &Shared<N, R>,
     kept: &mut Option<Look<N>>,
     seat: &mut Seat<N>,
 ) -> Result<Answer<N>, SessionEnd>
-    ensures { ObeysSpeaker (session_setup shared.now.how N.table shared.now.names.now shared.now.workers)
-        (Call Plain.Look) (speaker seat.old kept.old) (speaker seat.new kept.new) result }
+    ensures { Obeys (setup_of shared.now.how N.table shared.now.names.now shared.now.workers)
+        (Call Plain.Look)
+        (seated (look_of kept.old) seat.old) (seated (look_of kept.new) seat.new) result }
 {
     match look(shared.table, shared.rt, shared.alloc, seat) {
         Ok(look) => {
@@ -190,8 +194,9 @@ fn call<N: Name, R: Threads + Wait>(
 ) -> Result<Answer<N>, SessionEnd>
     requires { plain.now ≢ Plain.Look }
     ensures { (kept : Option ℕ) →
-        ObeysSpeaker (session_setup shared.now.how N.table shared.now.names.now shared.now.workers)
-        (Call plain.now) (keeping_speaker kept seat.old) (keeping_speaker kept seat.new) result }
+        Obeys (setup_of shared.now.how N.table shared.now.names.now shared.now.workers)
+        (Call plain.now)
+        (seated kept seat.old) (seated kept seat.new) result }
 {
     match shared.table.call(shared.rt, shared.alloc, seat, *plain) {
         Ok(receipt) => Ok(Answer::Made(receipt)),
@@ -200,14 +205,15 @@ fn call<N: Name, R: Threads + Wait>(
 }
 
 /// Enters the verdict on the look that is kept, and uses the look up. If the look is stale, nothing is computed.
-fn enter_verdict_of_speaker<N: Name, R: Threads + Wait>(
+fn enter_verdict<N: Name, R: Threads + Wait>(
     shared: &Shared<N, R>,
     kept: &mut Option<Look<N>>,
     inverse: &mut InverseLaplacian,
     seat: &mut Seat<N>,
 ) -> Result<Answer<N>, SessionEnd>
-    ensures { ObeysSpeaker (session_setup shared.now.how N.table shared.now.names.now shared.now.workers)
-        Commit (speaker seat.old kept.old) (speaker seat.new kept.new) result }
+    ensures { Obeys (setup_of shared.now.how N.table shared.now.names.now shared.now.workers)
+        Commit
+        (seated (look_of kept.old) seat.old) (seated (look_of kept.new) seat.new) result }
 {
     let Some(look) = kept else {
         return Ok(Answer::NoLook);
@@ -231,14 +237,15 @@ fn enter_verdict_of_speaker<N: Name, R: Threads + Wait>(
 
 /// Enters the rank test of degree k on the look that is kept, and uses the look up. If the look is stale, nothing is tried. If
 /// there would be too many trials, the look stays.
-fn enter_rank_of_speaker<N: Name, R: Threads + Wait>(
+fn enter_rank<N: Name, R: Threads + Wait>(
     shared: &Shared<N, R>,
     kept: &mut Option<Look<N>>,
     seat: &mut Seat<N>,
     k: u32,
 ) -> Result<Answer<N>, SessionEnd>
-    ensures { ObeysSpeaker (session_setup shared.now.how N.table shared.now.names.now shared.now.workers)
-        (Rank k) (speaker seat.old kept.old) (speaker seat.new kept.new) result }
+    ensures { Obeys (setup_of shared.now.how N.table shared.now.names.now shared.now.workers)
+        (Rank k)
+        (seated (look_of kept.old) seat.old) (seated (look_of kept.new) seat.new) result }
 {
     if let Some(look) = kept
         && let Some(_) = trials(look.graph().size(), k)
@@ -250,22 +257,23 @@ fn enter_rank_of_speaker<N: Name, R: Threads + Wait>(
                 *kept = None;
                 return Ok(Answer::Made(receipt));
             }
-            Ok(None) => return try_rank_of_speaker(shared, kept, seat, k),
+            Ok(None) => return enter_tried_rank(shared, kept, seat, k),
             Err(fault) => return Err(SessionEnd::Table(fault)),
         }
     }
-    try_rank_of_speaker(shared, kept, seat, k)
+    enter_tried_rank(shared, kept, seat, k)
 }
 
 /// Tries a rank on the look that is kept, enters the answer, and uses the look up. If there would be too many trials, it stays.
-fn try_rank_of_speaker<N: Name, R: Threads + Wait>(
+fn enter_tried_rank<N: Name, R: Threads + Wait>(
     shared: &Shared<N, R>,
     kept: &mut Option<Look<N>>,
     seat: &mut Seat<N>,
     k: u32,
 ) -> Result<Answer<N>, SessionEnd>
-    ensures { ObeysSpeaker (session_setup shared.now.how N.table shared.now.names.now shared.now.workers)
-        (Rank k) (speaker seat.old kept.old) (speaker seat.new kept.new) result }
+    ensures { Obeys (setup_of shared.now.how N.table shared.now.names.now shared.now.workers)
+        (Rank k)
+        (seated (look_of kept.old) seat.old) (seated (look_of kept.new) seat.new) result }
 {
     let Some(look) = kept.take() else {
         return Ok(Answer::NoLook);

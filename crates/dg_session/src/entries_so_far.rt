@@ -17,7 +17,7 @@ pub(crate) struct EntriesSoFar<N: Name> {
 impl<N: Name> Model for EntriesSoFar<N> {
     ghost use Rattle.std.specs.Prelude.{length};
     ghost use Rattle.dg_table.specs.Histories.{IsHistoryOfTable};
-    ghost use Rattle.dg_session.specs.EntriesSoFar.{EntriesSoFarView};
+    ghost use Rattle.dg_session.specs.State.{EntriesSoFarView};
 
     ghost Value = { EntriesSoFarView };
 

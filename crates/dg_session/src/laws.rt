@@ -1,7 +1,7 @@
 //! Laws of streams, each the contract of a function that does nothing.
-ghost use Rattle.dg_session.specs.Streams.{SessionsCutOneWay};
+ghost use Rattle.dg_session.specs.Streams.{CutOneWay};
 
 /// A stream is cut into lines in one way.
 pub fn sessions_cut_one_way()
-    ensures { SessionsCutOneWay }
+    ensures { CutOneWay }
 {}

@@ -1,6 +1,6 @@
 //! Which seat a line belongs to.
 ghost use Rattle.std.specs.Prelude.{◌≡◌, ◌<◌, ◌≤◌, None, IfSome};
-ghost use Rattle.dg_session.specs.Speakers.{IsForSpeaker, IsForNoSpeaker};
+ghost use Rattle.dg_session.specs.State.{IsFor, IsForNobody};
 
 use dg_lines::split_seat_off_line;
 
@@ -14,26 +14,22 @@ pub enum LineFormat {
 }
 
 /// The place of the seat that a line is for, from 0, and the command line for it. `None` if the line is for no seat.
-pub(crate) fn addressed_speaker(
-    how: LineFormat,
-    count: usize,
-    line: &[u8],
-) -> Option<(usize, &[u8])>
+pub(crate) fn addressed_seat(how: LineFormat, count: usize, line: &[u8]) -> Option<(usize, &[u8])>
     requires { 1 ≤ count }
-    ensures one { IfSome result (λ p. IsForSpeaker how count line.now p.0 p.1.now) }
+    ensures one { IfSome result (λ p. IsFor how count line.now p.0 p.1.now) }
     ensures there { IfSome result (λ p. p.0 < count) }
-    ensures none { result ≡ None → IsForNoSpeaker how count line.now }
+    ensures none { result ≡ None → IsForNobody how count line.now }
 {
     match how {
         LineFormat::OneSeat => Some((0, line)),
-        LineFormat::BySeat => speaker_of_line(count, line),
+        LineFormat::BySeat => seat_of_line(count, line),
     }
 }
 
-fn speaker_of_line(count: usize, line: &[u8]) -> Option<(usize, &[u8])>
-    ensures one { IfSome result (λ p. IsForSpeaker LineFormat.BySeat count line.now p.0 p.1.now) }
+fn seat_of_line(count: usize, line: &[u8]) -> Option<(usize, &[u8])>
+    ensures one { IfSome result (λ p. IsFor LineFormat.BySeat count line.now p.0 p.1.now) }
     ensures there { IfSome result (λ p. p.0 < count) }
-    ensures none { result ≡ None → IsForNoSpeaker LineFormat.BySeat count line.now }
+    ensures none { result ≡ None → IsForNobody LineFormat.BySeat count line.now }
 {
     let Some((seat, text)) = split_seat_off_line(line) else {
         return None;

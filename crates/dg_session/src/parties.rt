@@ -3,8 +3,7 @@ ghost use Rattle.std.specs.Prelude.{◌≡◌, length, IfOk, IfErr};
 ghost use Rattle.dg_log.specs.Rows.{IsLogCapacity};
 ghost use Rattle.dg_log.specs.Tables.{table_data_of};
 ghost use Rattle.dg_table.specs.Opened.{TableMayHaveSeats};
-ghost use Rattle.dg_session.specs.PartySessions.{script_contents};
-ghost use Rattle.dg_session.specs.Parties.{IsParty, IsPartyRefused};
+ghost use Rattle.dg_session.specs.Parties.{script_contents, IsParty, IsPartyRefused};
 
 use crate::closing::closed_party_text;
 use crate::played::{PartyRefusal, Played};

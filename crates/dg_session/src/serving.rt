@@ -3,16 +3,16 @@ ghost use Rattle.std.specs.Prelude.{◌≡◌, ◌≢◌, ◌≤◌, List, ℕ, 
 ghost use Rattle.dg_rank.specs.Ranks.{MayHaveRankWorkers};
 ghost use Rattle.dg_table.specs.Histories.{SeatHasPrefix};
 ghost use Rattle.dg_session.specs.Ends.{IsOver, IsSession};
-ghost use Rattle.dg_session.specs.Setup.{session_setup};
+ghost use Rattle.dg_session.specs.Commands.{setup_of};
 ghost use Rattle.dg_session.specs.Streams.{passage};
 ghost use Rattle.dg_session.specs.declared.ends.TheConstants.{READ_SIZE};
 ghost use Rattle.dg_session.specs.declared.line_format.LineFormat.TheVariants.{OneSeat};
-ghost use Rattle.dg_session.specs.SoFar.{IsWrittenInSession, beginning_of_session, heard, so_far};
+ghost use Rattle.dg_session.specs.SoFar.{IsWritten, beginning, heard, so_far};
 
 use crate::answering::{AnswerBuffer, Shared};
 use crate::ends::{READ_SIZE, SessionEnd};
 use crate::line_format::LineFormat;
-use crate::taking::{SessionProgress, take_session_bytes, take_session_end};
+use crate::taking::{SessionProgress, take};
 use dg_log::Name;
 use dg_system::{Input, Output};
 use dg_table::{Seat, Table};
@@ -43,7 +43,7 @@ pub fn serve<N: Name, R: Threads + Wait, I: Read + Drop, O: Write + Drop>(
 ) -> Result<u32, SessionEnd>
     requires names { length names.now ≡ N.table.start.graph.size }
     requires workers { MayHaveRankWorkers workers }
-    ensures session { (left said : Option (List ℕ)) × IsSession (session_setup OneSeat N.table names.now workers)
+    ensures session { (left said : Option (List ℕ)) × IsSession (setup_of OneSeat N.table names.now workers)
         (passage (I.remaining reader) left) (passage (O.contents writer) said)
         (seat.old ∷ []) (seat.new ∷ []) result }
 {
@@ -79,7 +79,7 @@ pub fn serve_seats<N: Name, R: Threads + Wait, I: Read, O: Write>(
     requires names { length names.now ≡ N.table.start.graph.size }
     requires workers { MayHaveRankWorkers workers }
     requires some { 1 ≤ length seats.old }
-    ensures session { IsSession (session_setup how N.table names.now workers)
+    ensures session { IsSession (setup_of how N.table names.now workers)
         (passage reader.old.remaining reader.new.remaining)
         (passage writer.old.contents writer.new.contents) seats.old seats.new result }
     ensures read { result ≡ Err SessionEnd.Read → reader.new.has_failed ≡ true }
@@ -94,7 +94,7 @@ pub fn serve_seats<N: Name, R: Threads + Wait, I: Read, O: Write>(
         how,
     };
     let ended = serve_lines(&shared, seats, reader, writer);
-    speakers_have_prefixes(seats);
+    seats_have_prefixes(seats);
     ended
 }
 
@@ -111,7 +111,7 @@ pub(crate) fn serve_unheard<N: Name, R: Threads + Wait>(
 ) -> Result<u32, SessionEnd>
     requires names { length names.now ≡ N.table.start.graph.size }
     requires workers { MayHaveRankWorkers workers }
-    ensures session { IsSession (session_setup OneSeat N.table names.now workers)
+    ensures session { IsSession (setup_of OneSeat N.table names.now workers)
         (passage (Some script.now) (Some [])) (passage None None)
         (seat.old ∷ []) (seat.new ∷ []) result }
     ensures read { result ≢ Err SessionEnd.Read }
@@ -126,44 +126,24 @@ pub(crate) fn serve_unheard<N: Name, R: Threads + Wait>(
         how: LineFormat::OneSeat,
     };
     let seats = slice::from_mut(seat);
-    let ended = serve_unheard_lines(&shared, seats, script);
-    speakers_have_prefixes(seats);
-    ended
+    let Some(mut progress) = SessionProgress::new(alloc, seats, None, table.inverse()) else {
+        seats_have_prefixes(seats);
+        return Err(SessionEnd::Memory);
+    };
+    let taken = take(&shared, &mut progress, seats, script, true);
+    seats_have_prefixes(seats);
+    match taken {
+        Ok(()) => Ok(progress.count),
+        Err(end) => Err(end),
+    }
 }
 
 /// Each seat has found a history of its table. Nothing is done.
-fn speakers_have_prefixes<N: Name>(seats: &[Seat<N>])
+fn seats_have_prefixes<N: Name>(seats: &[Seat<N>])
     ensures { All (SeatHasPrefix N.table) seats.now }
 {
     for seat in seats {
         let _prefix = seat.prefix();
-    }
-}
-
-/// Answers the lines of a script, and makes no text of the answers. As in `serve_lines`, the clauses do not say that the
-/// histories which the seats find are those of the table.
-fn serve_unheard_lines<N: Name, R: Threads + Wait>(
-    shared: &Shared<N, R>,
-    seats: &mut [Seat<N>],
-    script: &[u8],
-) -> Result<u32, SessionEnd>
-    requires some { 1 ≤ length seats.old }
-    ensures session { IsOver (session_setup shared.now.how N.table shared.now.names.now shared.now.workers)
-        (passage (Some script.now) (Some [])) (passage None None) seats.old seats.new result }
-    ensures read { result ≢ Err SessionEnd.Read }
-    ensures write { result ≢ Err SessionEnd.Write }
-{
-    let Some(mut progress) = SessionProgress::new(shared.alloc, seats, None, shared.table.inverse())
-    else {
-        return Err(SessionEnd::Memory);
-    };
-    match take_session_bytes(shared, &mut progress, seats, script) {
-        Ok(()) => {}
-        Err(end) => return Err(end),
-    }
-    match take_session_end(shared, &mut progress, seats) {
-        Ok(()) => Ok(progress.count),
-        Err(end) => Err(end),
     }
 }
 
@@ -175,7 +155,7 @@ fn serve_lines<N: Name, R: Threads + Wait, I: Read, O: Write>(
     writer: &mut Output<O>,
 ) -> Result<u32, SessionEnd>
     requires some { 1 ≤ length seats.old }
-    ensures session { IsOver (session_setup shared.now.how N.table shared.now.names.now shared.now.workers)
+    ensures session { IsOver (setup_of shared.now.how N.table shared.now.names.now shared.now.workers)
         (passage reader.old.remaining reader.new.remaining)
         (passage writer.old.contents writer.new.contents) seats.old seats.new result }
     ensures read { result ≡ Err SessionEnd.Read → reader.new.has_failed ≡ true }
@@ -202,10 +182,10 @@ fn serve_reads<N: Name, R: Threads + Wait, I: Read, O: Write>(
     buffer: &mut Vec<u8>,
 ) -> Result<u32, SessionEnd>
     requires some { 1 ≤ length seats.old }
-    requires begins { so_far progress.old seats.old ≡ beginning_of_session seats.old }
+    requires begins { so_far progress.old seats.old ≡ beginning seats.old }
     requires heard { heard progress.old.said.text ≡ Some [] }
     requires buffer { length buffer.old.items ≡ READ_SIZE }
-    ensures session { IsOver (session_setup shared.now.how N.table shared.now.names.now shared.now.workers)
+    ensures session { IsOver (setup_of shared.now.how N.table shared.now.names.now shared.now.workers)
         (passage reader.old.remaining reader.new.remaining)
         (passage writer.old.contents writer.new.contents) seats.old seats.new result }
     ensures read { result ≡ Err SessionEnd.Read → reader.new.has_failed ≡ true }
@@ -215,17 +195,13 @@ fn serve_reads<N: Name, R: Threads + Wait, I: Read, O: Write>(
         let Some(size) = reader.read_some(buffer) else {
             return Err(SessionEnd::Read);
         };
-        if size == 0 {
-            let taken = take_session_end(shared, progress, seats);
-            return match write_said(writer, &mut progress.said, taken) {
-                Ok(()) => Ok(progress.count),
-                Err(end) => Err(end),
-            };
-        }
-        let taken = take_session_bytes(shared, progress, seats, &buffer[..size]);
+        let taken = take(shared, progress, seats, &buffer[..size], size == 0);
         match write_said(writer, &mut progress.said, taken) {
             Ok(()) => {}
             Err(end) => return Err(end),
+        }
+        if size == 0 {
+            return Ok(progress.count);
         }
     }
 }
@@ -240,7 +216,7 @@ fn write_said<O: Write>(
     requires not_read { taken ≢ Err SessionEnd.Read }
     requires not_written { taken ≢ Err SessionEnd.Write }
     ensures written { (text : List ℕ) → heard said.old.text ≡ Some text →
-        IsWrittenInSession taken text writer.old writer.new result }
+        IsWritten taken text writer.old writer.new result }
     ensures cleared { OnOk result (heard said.new.text ≡ Some []) }
     ensures read { result ≢ Err SessionEnd.Read }
     ensures write { result ≡ Err SessionEnd.Write → writer.new.has_failed ≡ true }

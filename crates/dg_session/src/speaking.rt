@@ -1,12 +1,13 @@
 //! Answering one line of any seat.
 ghost use Rattle.std.specs.Prelude.{◌≡◌, ◌≤◌, length};
-ghost use Rattle.dg_session.specs.Setup.{session_setup};
-ghost use Rattle.dg_session.specs.SoFar.{talk, HandlesSessionLine};
+ghost use Rattle.dg_session.specs.Commands.{setup_of};
+ghost use Rattle.dg_session.specs.Streams.{passage};
+ghost use Rattle.dg_session.specs.SoFar.{heard, state_of, Handles};
 
 use crate::answering::{Answer, AnswerBuffer, Shared, answer_seat};
 use crate::ends::SessionEnd;
 use crate::entries_so_far::EntriesSoFar;
-use crate::line_format::addressed_speaker;
+use crate::line_format::addressed_seat;
 use dg_analyst::Look;
 use dg_lines::LineFault;
 use dg_log::Name;
@@ -27,11 +28,11 @@ pub(crate) fn answer_line<N: Name, R: Threads + Wait>(
 ) -> Result<(), SessionEnd>
     requires some { 1 ≤ length seats.old }
     requires each { length kept.old ≡ length seats.old }
-    ensures { HandlesSessionLine (session_setup shared.now.how N.table shared.now.names.now shared.now.workers)
-        line.now (talk seats.old kept.old entries_so_far.old said.old)
-        (talk seats.new kept.new entries_so_far.new said.new) result }
+    ensures { Handles (setup_of shared.now.how N.table shared.now.names.now shared.now.workers)
+        line.now (state_of seats.old kept.old entries_so_far.old) (state_of seats.new kept.new entries_so_far.new)
+        (passage (heard said.old.text) (heard said.new.text)) result }
 {
-    let Some((place, text)) = addressed_speaker(shared.how, seats.len(), line) else {
+    let Some((place, text)) = addressed_seat(shared.how, seats.len(), line) else {
         return said.say(
             shared.table,
             shared.names,

@@ -1,10 +1,9 @@
 //! Taking what was read: bytes that are cut into lines, and the end.
-ghost use Rattle.std.specs.Prelude.{◌≡◌, ◌≢◌, ◌+◌, ◌++◌, ◌<◌, ◌≤◌, [], length, map, None, OnOk, IfErr, IfSome, MatchResult};
-ghost use Rattle.dg_session.specs.Speakers.{kept_by_speaker};
-ghost use Rattle.dg_session.specs.Setup.{session_setup};
+ghost use Rattle.std.specs.Prelude.{◌≡◌, ◌≢◌, ◌+◌, ◌++◌, ◌<◌, ◌≤◌, [], length, map, true, None, OnOk, IfErr, IfSome, MatchResult};
+ghost use Rattle.dg_session.specs.Commands.{setup_of};
 ghost use Rattle.dg_session.specs.Streams.{passage};
 ghost use Rattle.dg_session.specs.declared.ends.SessionEnd.TheVariants.{Memory};
-ghost use Rattle.dg_session.specs.SoFar.{beginning_of_session, heard, talk, so_far, HandlesSessionLine, IsReady, SessionRefusesPart, TakesInSession, TakesSessionEnd};
+ghost use Rattle.dg_session.specs.SoFar.{beginning, heard, look_of, so_far, state_of, Handles, IsReady, RefusesPart, Takes};
 
 use crate::answering::{AnswerBuffer, Shared};
 use crate::ends::{MAX_LINE, MAX_LINES, SessionEnd};
@@ -42,10 +41,10 @@ impl<N: Name> SessionProgress<N> {
         text: Option<Vec<u8>>,
         inverse: &InverseLaplacian,
     ) -> Option<SessionProgress<N>>
-        ensures begins { IfSome result (λ p. so_far p seats.now ≡ beginning_of_session seats.now) }
+        ensures begins { IfSome result (λ p. so_far p seats.now ≡ beginning seats.now) }
         ensures said { IfSome result (λ p. p.said.text ≡ text) }
     {
-        let kept = match no_looks_of_speakers(alloc, seats) {
+        let kept = match no_looks(alloc, seats) {
             Some(kept) => kept,
             None => return None,
         };
@@ -64,8 +63,8 @@ impl<N: Name> SessionProgress<N> {
 }
 
 /// A place for the look of each seat, all empty. `None` if memory is refused.
-fn no_looks_of_speakers<N: Name>(alloc: Global, seats: &[Seat<N>]) -> Option<Vec<Option<Look<N>>>>
-    ensures { IfSome result (λ looks. map kept_by_speaker looks.items ≡ map (λ x. None) seats.now) }
+fn no_looks<N: Name>(alloc: Global, seats: &[Seat<N>]) -> Option<Vec<Option<Look<N>>>>
+    ensures { IfSome result (λ looks. map look_of looks.items ≡ map (λ x. None) seats.now) }
 {
     let mut looks = Vec::new(alloc);
     for _ in seats {
@@ -78,11 +77,11 @@ fn no_looks_of_speakers<N: Name>(alloc: Global, seats: &[Seat<N>]) -> Option<Vec
 }
 
 /// Whether a part of a line may be taken after what is pending.
-fn session_may_take(pending: &[u8], count: u32, part: &[u8]) -> Result<(), SessionEnd>
+fn check_part(pending: &[u8], count: u32, part: &[u8]) -> Result<(), SessionEnd>
     requires { length pending.now ≤ MAX_LINE }
     ensures short { OnOk result (length pending.now + length part.now ≤ MAX_LINE) }
     ensures more { OnOk result (count ≢ MAX_LINES) }
-    ensures refused { IfErr result (SessionRefusesPart pending.now count part.now) }
+    ensures refused { IfErr result (RefusesPart pending.now count part.now) }
 {
     if count == MAX_LINES {
         return Err(SessionEnd::Turns);
@@ -95,7 +94,7 @@ fn session_may_take(pending: &[u8], count: u32, part: &[u8]) -> Result<(), Sessi
 
 /// The line that is pending, with the part that ends it. If nothing is pending, that is the part, without a copy.
 #[inline(always)]
-fn whole_session_line<'a>(pending: &'a mut Vec<u8>, part: &'a [u8]) -> Result<&'a [u8], SessionEnd>
+fn whole_line<'a>(pending: &'a mut Vec<u8>, part: &'a [u8]) -> Result<&'a [u8], SessionEnd>
     ensures { MatchResult result (λ line. line.now ≡ pending.old.items ++ part.now) (λ end. end ≡ Memory) }
 {
     if pending.is_empty() {
@@ -109,7 +108,7 @@ fn whole_session_line<'a>(pending: &'a mut Vec<u8>, part: &'a [u8]) -> Result<&'
 
 /// Answers the line that is pending, with the part that ends it. The line is then counted, and no longer pending.
 #[inline(always)]
-fn end_session_line<N: Name, R: Threads + Wait>(
+fn end_line<N: Name, R: Threads + Wait>(
     shared: &Shared<N, R>,
     progress: &mut SessionProgress<N>,
     seats: &mut [Seat<N>],
@@ -117,15 +116,14 @@ fn end_session_line<N: Name, R: Threads + Wait>(
 ) -> Result<(), SessionEnd>
     requires ready { IsReady (so_far progress.old seats.old) }
     requires more { progress.old.count < MAX_LINES }
-    ensures handled { HandlesSessionLine
-        (session_setup shared.now.how N.table shared.now.names.now shared.now.workers)
-        (progress.old.pending.items ++ part.now)
-        (talk seats.old progress.old.kept.items progress.old.entries_so_far progress.old.said)
-        (talk seats.new progress.new.kept.items progress.new.entries_so_far progress.new.said) result }
+    ensures handled { Handles (setup_of shared.now.how N.table shared.now.names.now shared.now.workers)
+        (progress.old.pending.items ++ part.now) (so_far progress.old seats.old).state
+        (so_far progress.new seats.new).state
+        (passage (heard progress.old.said.text) (heard progress.new.said.text)) result }
     ensures pending { OnOk result (progress.new.pending.items ≡ []) }
     ensures count { OnOk result (progress.new.count ≡ progress.old.count + 1) }
 {
-    let line = match whole_session_line(&mut progress.pending, part) {
+    let line = match whole_line(&mut progress.pending, part) {
         Ok(line) => line,
         Err(end) => return Err(end),
     };
@@ -147,21 +145,21 @@ fn end_session_line<N: Name, R: Threads + Wait>(
 }
 
 /// Takes bytes that were read, and answers the lines that end in them.
-pub(crate) fn take_session_bytes<N: Name, R: Threads + Wait>(
+fn take_bytes<N: Name, R: Threads + Wait>(
     shared: &Shared<N, R>,
     progress: &mut SessionProgress<N>,
     seats: &mut [Seat<N>],
     bytes: &[u8],
 ) -> Result<(), SessionEnd>
     requires { IsReady (so_far progress.old seats.old) }
-    ensures { TakesInSession (session_setup shared.now.how N.table shared.now.names.now shared.now.workers)
+    ensures { Takes (setup_of shared.now.how N.table shared.now.names.now shared.now.workers) ⊥
         (so_far progress.old seats.old) bytes.now (so_far progress.new seats.new)
         (passage (heard progress.old.said.text) (heard progress.new.said.text)) result }
 {
     let mut rest = bytes;
     'parts: while !rest.is_empty() {
         let (part, after) = cut(rest, b'\n');
-        match session_may_take(&progress.pending, progress.count, part) {
+        match check_part(&progress.pending, progress.count, part) {
             Ok(()) => {}
             Err(end) => return Err(end),
         }
@@ -171,7 +169,7 @@ pub(crate) fn take_session_bytes<N: Name, R: Threads + Wait>(
                 Err(_) => Err(SessionEnd::Memory),
             };
         };
-        match end_session_line(shared, progress, seats, part) {
+        match end_line(shared, progress, seats, part) {
             Ok(()) => {}
             Err(end) => return Err(end),
         }
@@ -180,21 +178,29 @@ pub(crate) fn take_session_bytes<N: Name, R: Threads + Wait>(
     Ok(())
 }
 
-/// Takes the end: answers what is pending as the last line, if it has a byte.
-pub(crate) fn take_session_end<N: Name, R: Threads + Wait>(
+/// Takes bytes that were read, and answers the lines that end in them. If no more is to come, what is pending then is the last
+/// line, if it has a byte.
+pub(crate) fn take<N: Name, R: Threads + Wait>(
     shared: &Shared<N, R>,
     progress: &mut SessionProgress<N>,
     seats: &mut [Seat<N>],
+    bytes: &[u8],
+    is_over: bool,
 ) -> Result<(), SessionEnd>
     requires { IsReady (so_far progress.old seats.old) }
-    ensures { TakesSessionEnd (session_setup shared.now.how N.table shared.now.names.now shared.now.workers)
-        (so_far progress.old seats.old) (so_far progress.new seats.new)
+    ensures taken { Takes (setup_of shared.now.how N.table shared.now.names.now shared.now.workers) (is_over ≡ true)
+        (so_far progress.old seats.old) bytes.now (so_far progress.new seats.new)
         (passage (heard progress.old.said.text) (heard progress.new.said.text)) result }
+    ensures pending { OnOk result (is_over ≡ true → progress.new.pending.items ≡ []) }
 {
-    if progress.pending.is_empty() {
+    match take_bytes(shared, progress, seats, bytes) {
+        Ok(()) => {}
+        Err(end) => return Err(end),
+    }
+    if !is_over || progress.pending.is_empty() {
         return Ok(());
     }
-    match end_session_line(shared, progress, seats, &[]) {
+    match end_line(shared, progress, seats, &[]) {
         Ok(()) => Ok(()),
         Err(end) => Err(end),
     }

@@ -1,6 +1,6 @@
 //! Sessions side by side, each with a seat and a thread of its own.
 ghost use Rattle.std.specs.Prelude.{◌≡◌, ◌≤◌, length, IfErr, IfOk, OnOk};
-ghost use Rattle.dg_session.specs.PartySessions.{AreSessions, HaveSomePartySessionsBegun, IsPartySessionOver, RefusesPartySessions, script_contents};
+ghost use Rattle.dg_session.specs.Parties.{AreSessions, IsScriptOver, IsSessionsFault, script_contents};
 
 use crate::ends::SessionEnd;
 use crate::serving::serve_unheard;
@@ -25,8 +25,8 @@ struct PartyContext<'a, N: Name, R, G> {
 }
 
 /// Sessions of the seats of a table, all at once, each over the script at its place: a thread for each seat enters the gate with
-/// the seat's number, and then answers the lines of its script. The one session of one script is held by the thread that calls.
-/// What they came to is told in the order of the scripts. The conditions are as many scripts as seats, and one name per vertex.
+/// the seat's number, and then answers the lines of its script. The thread that calls holds the session of the last script. What
+/// they came to is told in the order of the scripts. The conditions are as many scripts as seats, and one name per vertex.
 ///
 /// Refused with `OutOfMemory`, before the first session, and with `Spawn` if a thread could not be started, which only two
 /// scripts or more ask for: then some first seats had their sessions, not all, and the others know what they knew.
@@ -45,9 +45,8 @@ pub fn sessions<N: Name + Send + Sync, R: Threads + Wait + Sync, G: Gate>(
         (λ v. AreSessions N.table names.now (script_contents scripts.now)
         seats.old seats.new v.items) }
     ensures fault { IfErr result
-        (RefusesPartySessions N.table names.now (script_contents scripts.now) seats.old
+        (IsSessionsFault N.table names.now (script_contents scripts.now) seats.old
         seats.new) }
-    ensures spawn { IfErr result (λ shortage. shortage ≡ Shortage.Spawn → 2 ≤ length scripts.now) }
 {
     let context = PartyContext {
         rt,
@@ -59,34 +58,14 @@ pub fn sessions<N: Name + Send + Sync, R: Threads + Wait + Sync, G: Gate>(
     let Ok(mut ends) = vec![in alloc; Ok(0); scripts.len()] else {
         return Err(Shortage::OutOfMemory);
     };
-    if scripts.len() == 1 {
-        play_one_session(&context, scripts, seats, &mut ends);
-        return Ok(ends);
-    }
-    match play_in_parallel(&context, scripts, seats, &mut ends) {
+    match run_scripts(&context, scripts, seats, &mut ends) {
         Ok(()) => Ok(ends),
         Err(shortage) => Err(shortage),
     }
 }
 
-// The one session of one script, in the thread that calls.
-fn play_one_session<'a, N: Name, R: Threads + Wait, G: Gate>(
-    context: &PartyContext<'a, N, R, G>,
-    scripts: &[Vec<u8>],
-    seats: &mut [Seat<N>],
-    ends: &mut [Result<u32, SessionEnd>],
-)
-    requires one { length scripts.now ≡ 1 }
-    requires seats { length seats.old ≡ 1 }
-    requires ends { length ends.old ≡ 1 }
-    ensures { AreSessions N.table context.now.names.now (script_contents scripts.now) seats.old seats.new ends.new }
-{
-    let script = scripts[0].as_slice();
-    ends[0] = run_script(context, script, &mut seats[0]);
-}
-
-// A thread for the first seat, and beside it this call again for the others.
-fn play_in_parallel<'a, N: Name + Send + Sync, R: Threads + Wait + Sync, G: Gate>(
+// A thread for the first seat, and beside it this call again for the others. The last seat needs none.
+fn run_scripts<'a, N: Name + Send + Sync, R: Threads + Wait + Sync, G: Gate>(
     context: &PartyContext<'a, N, R, G>,
     scripts: &[Vec<u8>],
     seats: &mut [Seat<N>],
@@ -97,7 +76,7 @@ fn play_in_parallel<'a, N: Name + Send + Sync, R: Threads + Wait + Sync, G: Gate
     ensures ok { OnOk result (AreSessions N.table context.now.names.now (script_contents scripts.now)
         seats.old seats.new ends.new) }
     ensures fault { IfErr result (λ shortage. (shortage ≡ Shortage.Spawn)
-        × HaveSomePartySessionsBegun N.table context.now.names.now (script_contents scripts.now) seats.old seats.new) }
+        × IsSessionsFault N.table context.now.names.now (script_contents scripts.now) seats.old seats.new Shortage.Spawn) }
 {
     let Some((seat, rest)) = seats.split_first_mut() else {
         return Ok(());
@@ -109,8 +88,12 @@ fn play_in_parallel<'a, N: Name + Send + Sync, R: Threads + Wait + Sync, G: Gate
         unreachable!()
     };
     let script = script.as_slice();
+    if rest.is_empty() {
+        *end = run_script(context, script, seat);
+        return Ok(());
+    }
     let mut first = || -> Result<u32, SessionEnd>
-        ensures { IsPartySessionOver N.table context.entry.now.names.now
+        ensures { IsScriptOver N.table context.entry.now.names.now
             script.entry.now seat.entry.now seat.exit.now result }
     { run_script(context, script, seat) };
     let mut others = || -> Result<(), Shortage>
@@ -118,9 +101,9 @@ fn play_in_parallel<'a, N: Name + Send + Sync, R: Threads + Wait + Sync, G: Gate
         ensures { OnOk result (AreSessions N.table context.entry.now.names.now
             (script_contents left.entry.now) rest.entry.now rest.exit.now later.exit.now)
             × IfErr result (λ shortage. (shortage ≡ Shortage.Spawn)
-            × HaveSomePartySessionsBegun N.table context.entry.now.names.now (script_contents left.entry.now)
-            rest.entry.now rest.exit.now) }
-    { play_in_parallel(context, left, rest, later) };
+            × IsSessionsFault N.table context.entry.now.names.now (script_contents left.entry.now)
+            rest.entry.now rest.exit.now Shortage.Spawn) }
+    { run_scripts(context, left, rest, later) };
     match in_parallel(context.rt, &mut first, &mut others) {
         Ok((ended, told)) => {
             *end = ended;
@@ -136,7 +119,7 @@ fn run_script<'a, N: Name, R: Threads + Wait, G: Gate>(
     script: &[u8],
     seat: &mut Seat<N>,
 ) -> Result<u32, SessionEnd>
-    ensures { IsPartySessionOver N.table context.now.names.now script.now seat.old
+    ensures { IsScriptOver N.table context.now.names.now script.now seat.old
         seat.new result }
 {
     context.gate.enter(u32::from(seat.number()));

@@ -28,8 +28,7 @@ pub returns-in-Err-clause-refused : goal.returns-in-Err-clause-refused
 returns-in-Err-clause-refused g c =
     party_lacks g.N.Name.table (length c.args.scripts.now) c.args.names.now
     (script_contents c.args.scripts.now) c.in-Ok.opened.1.items c.deref_mut.result.now c.sessions.new.seats c.in-Err.shortage
-    (ap (λ t. t.seats) (sym c.requires.table)) c.in-Ok.ensures (search rules)
-    (λ spawn. rw (contents_count c.args.scripts.now) (c.in-Err.ensures.spawn spawn)) c.in-Err.ensures.fault
+    (ap (λ t. t.seats) (sym c.requires.table)) c.in-Ok.ensures (search rules) c.in-Err.ensures.fault
 
 pub returns-in_default-clause-refused : goal.returns-in_default-clause-refused
 returns-in_default-clause-refused g c =

@@ -1,12 +1,12 @@
 -- All that was read is handled but what is pending, and all that there was to say is written.
-use Rattle.dg_session.proofs.Common.{◌≡◌, length, [], Some, session_setup, heard, so_far, READ_SIZE}
+use Rattle.dg_session.proofs.Common.{◌≡◌, length, [], Some, passage, setup_of, heard, so_far, READ_SIZE}
 use Rattle.dg_session.proofs.SessionLaws.{IsSoFar, bytes_left}
 use Rattle.dg_session.proofs.serving.serve_reads.Given as goal
 
 abbrev pub invariant-reads : goal.invariant-reads
 invariant-reads g l =
-    IsSoFar (session_setup l.shared.how g.N.Name.table l.shared.names.now l.shared.workers)
-    l.fn.reader.remaining l.reader.remaining l.fn.writer.contents l.writer.contents l.fn.seats
+    IsSoFar (setup_of l.shared.how g.N.Name.table l.shared.names.now l.shared.workers)
+    (passage l.fn.reader.remaining l.reader.remaining) (passage l.fn.writer.contents l.writer.contents) l.fn.seats
     (so_far l.progress l.seats)
     × (heard l.progress.said.text ≡ Some [])
     × (length l.buffer.items ≡ READ_SIZE)

@@ -1,9 +1,5 @@
-use Rattle.dg_session.proofs.SessionLaws.{numbers_of}
+use Rattle.dg_session.proofs.InOrder.{session_of}
 use Rattle.dg_session.proofs.serving.serve_seats.Goals as goal
 
 pub returns-clause-session : goal.returns-clause-session
-returns-clause-session g c = record {
-  over = c.serve_lines-ended.ensures.session;
-  found = c.speakers_have_prefixes.ensures;
-  numbers = numbers_of c.serve_lines-ended.ensures.session;
-}
+returns-clause-session g c = session_of c.serve_lines-ended.ensures.session c.seats_have_prefixes.ensures

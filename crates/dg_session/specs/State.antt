@@ -1,0 +1,86 @@
+-- The state of a session: its seats, in order, and for each the number of the look that it keeps, if it
+-- keeps one. A seat that is not spoken for stays as it is.
+--   State                       == the seats, and the looks that they keep; the history as the last line left
+--                                  it; and what all lines have entered, in their order
+--   EntriesSoFarView            == of a state the history and what was entered
+--   begun xs                    == the seats, and no look is kept; there was no line
+--   IsFor how n line i text     == of n seats, the line is for that at the place i, from 0, and the text is
+--                                  its command line: the line begins with the number i + 1 and a space; or it
+--                                  names no seat, and is for the first
+--   IsForNobody how n line      == the line is for none of n seats
+--   ReplacesAt i xs ys x y      == the list xs has x at the place i, and ys is the same with y there
+--   Turn t i text s z outcome   == the command line of the seat at the place i has this outcome, and what it
+--                                  has entered comes after all that the lines before it left: the history as
+--                                  it leaves it is that which the seat has met
+--   Does t s line z outcome     == the line, in the state s, has this outcome, and the state is z then: it is
+--                                  for nobody, and answered by `bad seat`; or memory is refused to it; or it
+--                                  is a turn of the seat that it is for
+--   Answers t s ls z text       == the lines ls are answered one after another, from the state s to the state
+--                                  z, with the text
+--   AreInOrder s                == the numbers of what the lines have entered ascend; the entries stand in the
+--                                  history as the last line left it; and that is the one that a seat has met,
+--                                  or has no entry
+use Rattle.std.specs.Prelude.{◌≡◌, ℕ, ◌+◌, ◌<◌, ◌⊎◌, List, [], ◌∷◌, ◌++◌, length, map, Option, None, Some, slice_get, Result, Ok, Err}
+use Rattle.std.specs.List.{slice_set}
+use Rattle.dg_session.specs.Common.{Entry, SeatView, IsSeatedLine, line_fault_text, Seat, StandInLog}
+use Rattle.dg_session.specs.Commands.{Setup, Ascend, ComesAfter, Gains, OfLine}
+use Rattle.dg_session.specs.declared.line_format.LineFormat.{LineFormat}
+use Rattle.dg_session.specs.declared.line_format.LineFormat.TheVariants.{OneSeat, BySeat}
+use Rattle.dg_session.specs.declared.ends.SessionEnd.{SessionEnd}
+use Rattle.dg_session.specs.declared.ends.SessionEnd.TheVariants.{Memory}
+
+pub record State : Type 0 where
+  pub seats : List SeatView
+  pub looks : List (Option ℕ)
+  pub latest : List Entry
+  pub entered : List (ℕ × Entry)
+
+pub record EntriesSoFarView : Type 0 where
+  pub latest : List Entry
+  pub entered : List (ℕ × Entry)
+
+abbrev pub begun : List SeatView → State
+begun xs = record { seats = xs; looks = map (λ x. None) xs; latest = []; entered = [] }
+
+abbrev pub IsFor : LineFormat → ℕ → List ℕ → ℕ → List ℕ → Type 0
+IsFor OneSeat n line i text = (i ≡ 0) × (text ≡ line)
+IsFor BySeat n line i text = IsSeatedLine (i + 1) text line × (i < n)
+
+abbrev pub IsForNobody : LineFormat → ℕ → List ℕ → Type 0
+IsForNobody how n line = (i : ℕ) (text : List ℕ) → ¬ IsFor how n line i text
+
+pub record ReplacesAt {A : Type 0} (i : ℕ) (xs ys : List A) (x y : A) : Type 0 where
+  pub old : slice_get xs i ≡ Some x
+  pub new : ys ≡ slice_set xs i y
+
+pub record Turn (t : Setup) (i : ℕ) (text : List ℕ) (s z : State) (outcome : Result (List ℕ) SessionEnd)
+    : Type 0 where
+  pub x : SeatView
+  pub y : SeatView
+  pub look : Option ℕ
+  pub after : Option ℕ
+  pub seat : ReplacesAt i s.seats z.seats x y
+  pub kept : ReplacesAt i s.looks z.looks look after
+  pub made : List (ℕ × Entry)
+  pub hears : OfLine t text y look made after outcome
+  pub gained : Gains x y made
+  pub order : ComesAfter s.latest made y.met
+  pub latest : z.latest ≡ y.met
+  pub entered : z.entered ≡ s.entered ++ made
+
+abbrev pub Does : Setup → State → List ℕ → State → Result (List ℕ) SessionEnd → Type 0
+Does t s line z outcome =
+    (IsForNobody t.how (length s.seats) line × (z ≡ s) × (outcome ≡ Ok (line_fault_text Seat)))
+    ⊎ ((outcome ≡ Err Memory) × (z ≡ s))
+    ⊎ ((i : ℕ) × (text : List ℕ) × IsFor t.how (length s.seats) line i text × Turn t i text s z outcome)
+
+unfoldable pub Answers : Setup → State → List (List ℕ) → State → List ℕ → Type 0
+Answers t s [] z text = (z ≡ s) × (text ≡ [])
+Answers t s (line ∷ ls) z text = (m : State) × (front back : List ℕ) ×
+    Does t s line m (Ok front) × Answers t m ls z back × (text ≡ front ++ back)
+
+pub record AreInOrder (s : State) : Type 0 where
+  pub ascend : Ascend 0 s.entered
+  pub stand : StandInLog s.latest s.entered
+  pub met : (s.latest ≡ [])
+      ⊎ ((i : ℕ) × (x : SeatView) × (slice_get s.seats i ≡ Some x) × (s.latest ≡ x.met))
