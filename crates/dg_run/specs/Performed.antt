@@ -1,8 +1,6 @@
 -- What is asked for, done or refused. `held` tells what is known of the file of each name; input
 -- stands for the bytes that the reader had to give and has left, and old and new for what the output
 -- held and holds, if those are known.
---   PrintsAnswer held task old new                  == the output has grown by the answer to the task
---   RefusesToPrintAnswer held task fault old new    == the task is refused so, or the output failed at its answer
 --   Performs held input asked old new               == what is asked for is done: the output has grown by the
 --                                                      answer to the task, by the text of a call for help, by
 --                                                      what a session said, by the history and the totals of
@@ -22,16 +20,9 @@ use Rattle.dg_run.specs.Parties.{RunPlaysParty, RunRefusesParty}
 use Rattle.dg_run.specs.Sweeping.{RunSweeps, RunRefusesSweeping}
 use Rattle.dg_run.specs.declared.fault.Fault.{Fault}
 
-abbrev pub PrintsAnswer : (List ℕ → Held) → asked.Task → Option (List ℕ) → Option (List ℕ) → Type 0
-PrintsAnswer held task old new = (text : List ℕ) × IsAnswer held task text × Appends old new text
-
-abbrev pub RefusesToPrintAnswer : (List ℕ → Held) → asked.Task → Fault → Option (List ℕ) → Option (List ℕ) → Type 0
-RefusesToPrintAnswer held task fault old new = (IsRunOfTask (RefusesTask held task) fault × Keeps old new)
-    ⊎ ((text : List ℕ) × IsAnswer held task text × BreaksOffRun fault old new text)
-
 abbrev pub Performs : (List ℕ → Held) → Passage → Invocation → Option (List ℕ) → Option (List ℕ)
     → Type 0
-Performs held input (Task task) old new = PrintsAnswer held task old new
+Performs held input (Task task) old new = (text : List ℕ) × IsAnswer held task text × Appends old new text
 Performs held input (Serve task) old new = RunServes held input task old new
 Performs held input (Party task) old new = RunPlaysParty held task old new
 Performs held input (Sweep task) old new = RunSweeps held task old new
@@ -43,7 +34,9 @@ LeavesInputOfRun asked input rest = rest ≡ input
 
 abbrev pub RefusesToPerform : (List ℕ → Held) → Passage → Invocation → Fault → Option (List ℕ)
     → Option (List ℕ) → Type 0
-RefusesToPerform held input (Task task) fault old new = RefusesToPrintAnswer held task fault old new
+RefusesToPerform held input (Task task) fault old new =
+    (IsRunOfTask (RefusesTask held task) fault × Keeps old new)
+    ⊎ ((text : List ℕ) × IsAnswer held task text × BreaksOffRun fault old new text)
 RefusesToPerform held input (Serve task) fault old new = RunRefusesServing held input task fault old new
 RefusesToPerform held input (Party task) fault old new = RunRefusesParty held task fault old new
 RefusesToPerform held input (Sweep task) fault old new = RunRefusesSweeping held task fault old new

@@ -7,15 +7,16 @@
 --   IsSweptInRun old new result h right           == bytes that the file h may have were swept, with that
 --                                                    result, where `right` says what answers a line
 --   RunSweeps held task old new                   == all its lines were answered
---   RunRefusesSweptFile h fault                   == the file h of lines can't be opened
---   RefusesFilesAsked held file divisors fault    == the file of lines can't be opened; or the table file is
---                                                    refused, which comes first if the lines are amounts
---   RunRefusesSweeping held task fault old new    == the files are refused so, and the output is as it was;
---                                                    or the sweep ended early
+--   RunRefusesLines old new fault h right         == the file h can't be opened, and the output is as it was; or
+--                                                    the sweep of its bytes ended early
+--   RefusesTableOfLines held file divisors fault  == the lines are amounts, and the table file is refused
+--   RunRefusesSweeping held task fault old new    == the table file is refused so, and the output is as it was;
+--                                                    or the lines are refused so, or ended so
 use Rattle.std.specs.Borrow.{Bor}
 use Rattle.std.specs.Io.KnownBytes.{Keeps}
-use Rattle.dg_run.specs.Common.{Question, SweepTask, Held, MayGiveAsStream, RefusesSourceStream, AnswersTableWithin, AnswersAmounts, IsSweep, SweepEnd, IsOnTaskTable, RefusesTaskTable, TaskFault, Source}
+use Rattle.dg_run.specs.Common.{Question, SweepTask, Held, MayGiveAsStream, RefusesSourceStream, AnswersTableWithin, AnswersAmounts, IsSweep, SweepEnd, IsOnTaskTable, RefusesTaskTable, Source}
 use Rattle.std.specs.Prelude.{◌⊎◌, ℕ, List, Option, None, Some, Result, Ok, Err}
+use Rattle.dg_run.specs.OfTasks.{IsRunOfTask}
 use Rattle.dg_run.specs.declared.fault.Fault.{Fault}
 use Rattle.dg_run.specs.declared.fault.Fault.TheVariants.{Task, Sweep}
 
@@ -39,19 +40,18 @@ pub record IsSweptInRun (old new : Option (List ℕ)) (result : Result (Unit {0}
 abbrev pub RunSweeps : (List ℕ → Held) → SweepTask → Option (List ℕ) → Option (List ℕ) → Type 0
 RunSweeps held task old new = RunHasSweptFileLines held task (IsSweptInRun old new (Ok tt))
 
-abbrev pub RunRefusesSweptFile : Held → TaskFault → Type 0
-RunRefusesSweptFile h (Source fault) = RefusesSourceStream h fault
-RunRefusesSweptFile h fault = ⊥
+abbrev pub RunRefusesLines : Option (List ℕ) → Option (List ℕ) → Fault → Held
+    → (List ℕ → List ℕ → Type 0) → Type 0
+RunRefusesLines old new (Task (Source fault)) h right = RefusesSourceStream h fault × Keeps old new
+RunRefusesLines old new (Sweep end) h right = IsSweptInRun old new (Err end) h right
+RunRefusesLines old new fault h right = ⊥
 
-abbrev pub RefusesFilesAsked : (List ℕ → Held) → List ℕ → Option (Bor (List ℕ)) → TaskFault → Type 0
-RefusesFilesAsked held file None fault = RunRefusesSweptFile (held file) fault
-RefusesFilesAsked held file (Some lines) fault =
-    RefusesTaskTable (held file) fault
-    ⊎ IsOnTaskTable (held file) (λ o names. RunRefusesSweptFile (held lines.now) fault)
+abbrev pub RefusesTableOfLines : (List ℕ → Held) → List ℕ → Option (Bor (List ℕ)) → Fault → Type 0
+RefusesTableOfLines held file None fault = ⊥
+RefusesTableOfLines held file (Some lines) fault = IsRunOfTask (RefusesTaskTable (held file)) fault
 
 abbrev pub RunRefusesSweeping : (List ℕ → Held) → SweepTask → Fault → Option (List ℕ) → Option (List ℕ)
     → Type 0
-RunRefusesSweeping held task (Task fault) old new =
-    RefusesFilesAsked held task.file.now task.divisors fault × Keeps old new
-RunRefusesSweeping held task (Sweep end) old new = RunHasSweptFileLines held task (IsSweptInRun old new (Err end))
-RunRefusesSweeping held task fault old new = ⊥
+RunRefusesSweeping held task fault old new =
+    (RefusesTableOfLines held task.file.now task.divisors fault × Keeps old new)
+    ⊎ RunHasSweptFileLines held task (RunRefusesLines old new fault)

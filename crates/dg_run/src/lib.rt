@@ -7,7 +7,6 @@ mod program;
 mod running;
 mod serve;
 mod sweeps;
-mod tables;
 
 pub use fault::{Fault, report, status_of};
 pub use program::perform;

@@ -1,14 +1,14 @@
 //! What is asked for is done.
 ghost use Rattle.std.specs.Prelude.{◌≡◌, true, IfErr, OnOk};
 ghost use Rattle.dg_session.specs.Streams.{passage};
-ghost use Rattle.dg_run.specs.Performed.{LeavesInputOfRun, Performs, PrintsAnswer, RefusesToPerform, RefusesToPrintAnswer};
+ghost use Rattle.dg_run.specs.Performed.{LeavesInputOfRun, Performs, RefusesToPerform};
 ghost use Rattle.dg_run.specs.Streams.{IsRunInput, IsRunOutput};
 
 use crate::fault::Fault;
 use crate::parties::run_party;
 use crate::serve::serve_run_input;
 use crate::sweeps::sweep_file;
-use dg_invocation::{Invocation, Task};
+use dg_invocation::Invocation;
 use dg_system::{Input, Output, Sources};
 use dg_tasks::answer;
 use std::io::{Read, Write};
@@ -43,32 +43,12 @@ where
 {
     match asked {
         Invocation::Text(text) => output.write_whole(text.as_bytes()).map_err(Fault::from),
-        Invocation::Task(task) => print_answer(rt, &task, sources, output),
+        Invocation::Task(task) => match answer(rt, &task, sources) {
+            Ok(text) => output.write_whole(text.as_slice()).map_err(Fault::from),
+            Err(fault) => Err(Fault::Task(fault)),
+        },
         Invocation::Serve(task) => serve_run_input(rt, &task, sources, input, output),
         Invocation::Sweep(task) => sweep_file(rt, &task, sources, output),
         Invocation::Party(task) => run_party(rt, &task, sources, output),
-    }
-}
-
-/// Prints the answer to a task, whose text is made first.
-fn print_answer<R, S, O>(
-    rt: &R,
-    task: &Task<'_>,
-    sources: &S,
-    output: &mut Output<O>,
-) -> Result<(), Fault>
-where
-    R: Files + AllocGlobal + Threads + Wait,
-    S: Sources,
-    O: Write,
-    ensures done { OnOk result (PrintsAnswer (S.held sources.now) task.now output.old.contents output.new.contents) }
-    ensures refused { IfErr result (λ fault. RefusesToPrintAnswer (S.held sources.now) task.now fault
-        output.old.contents output.new.contents) }
-    ensures read { IfErr result (λ fault. ¬ IsRunInput fault) }
-    ensures write { IfErr result (λ fault. IsRunOutput fault → output.new.has_failed ≡ true) }
-{
-    match answer(rt, task, sources) {
-        Ok(text) => output.write_whole(text.as_slice()).map_err(Fault::from),
-        Err(fault) => Err(Fault::Task(fault)),
     }
 }

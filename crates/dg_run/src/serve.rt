@@ -10,13 +10,13 @@ ghost use Rattle.dg_run.specs.Sessions.{line_format_of_run, session_of_run, RunS
 ghost use Rattle.dg_run.specs.Streams.{IsRunInput, IsRunOutput};
 
 use crate::fault::Fault;
-use crate::tables::table_of_run;
 use dg_file::TableFile;
 use dg_invocation::ServeTask;
 use dg_log::{LogFault, Name, Row};
 use dg_session::{LineFormat, serve_seats};
 use dg_system::{Input, Output, Shortage, Sources};
 use dg_table::Table;
+use dg_tasks::load_table;
 use std::io::{Read, Write};
 use std::marker::Brand;
 use std::mem::forget;
@@ -47,9 +47,9 @@ where
         (passage input.old.remaining input.new.remaining) task.now fault output.old.contents
         output.new.contents) }
 {
-    let table = match table_of_run(rt, sources, task.file) {
+    let table = match load_table(rt, sources, task.file) {
         Ok(table) => table,
-        Err(fault) => return Err(fault),
+        Err(fault) => return Err(Fault::Task(fault)),
     };
     serve_table(rt, task, &table, input, output)
 }

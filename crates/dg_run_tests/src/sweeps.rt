@@ -1,7 +1,7 @@
 //! Sweeps over lines: what stands in no clause, that they end well, and laws before limits on tables computed by hand.
 
 use dg_invocation::{Form, Question, VerdictForm};
-use dg_sweep::{SweepEnd, sweep};
+use dg_sweep::{LineKind, SweepEnd, sweep};
 use dg_system::{Input, Output};
 use std::alloc::Global;
 use std::io;
@@ -132,7 +132,8 @@ fn is_answered<R: Threads + Wait + Abort + Sync>(
         fails: false,
     });
     let mut output = Output::new(Vec::new(alloc));
-    let end = sweep(rt, alloc, question, workers, &mut input, &mut output);
+    let kind = LineKind::Tables(question);
+    let end = sweep(rt, alloc, &kind, workers, &mut input, &mut output);
     assert!(rt; end.is_ok() && output.into_inner().as_slice() == answers);
 }
 
@@ -168,7 +169,7 @@ fn a_stream_may_fail(rt: HostRuntime) -> Result<(), Fail> {
     let end = sweep(
         &rt,
         rt.alloc(),
-        Question::Judge(VerdictForm::Words { ordered: false }),
+        &LineKind::Tables(Question::Judge(VerdictForm::Words { ordered: false })),
         1,
         &mut input,
         &mut output,

@@ -10,7 +10,7 @@ use dg_log::LogFault;
 use dg_observer::ObserverFault;
 use dg_rank::RankFault;
 use dg_session::PartyRefusal;
-use dg_sweep::{SweepEnd, answer_line};
+use dg_sweep::{LineKind, SweepEnd, answer_line};
 use dg_system::{Shortage, SourceFault, WriteFailed};
 use dg_table::TableFault;
 use std::alloc::Global;
@@ -182,7 +182,7 @@ fn a_sweep_answers_what_is_said_of_a_file(rt: HostRuntime) -> Result<(), Fail> {
         };
         answer_line(
             rt.alloc(),
-            Question::Judge(VerdictForm::Words { ordered: false }),
+            &LineKind::Tables(Question::Judge(VerdictForm::Words { ordered: false })),
             text.as_bytes(),
             &mut answer,
         )?;
@@ -199,7 +199,7 @@ fn a_sweep_answers_what_is_said_of_a_long_file(rt: HostRuntime) -> Result<(), Fa
     let mut answer = Vec::new(rt.alloc());
     answer_line(
         rt.alloc(),
-        Question::Judge(VerdictForm::Words { ordered: false }),
+        &LineKind::Tables(Question::Judge(VerdictForm::Words { ordered: false })),
         line.as_slice(),
         &mut answer,
     )?;

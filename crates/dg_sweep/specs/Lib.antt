@@ -2,6 +2,7 @@
 pub mod FaultTexts
 pub mod Answers
 pub mod Divisors
+pub mod Kinds
 pub mod Sweeps
 pub mod DivisorLaws
 pub mod AnswerLaws

@@ -1,5 +1,5 @@
 //! Answering one line.
-ghost use Rattle.std.specs.Prelude.{◌≡◌, ◌≢◌, ◌++◌, ℕ, List, [], length, codes, OnOk};
+ghost use Rattle.std.specs.Prelude.{◌≡◌, ◌≢◌, ◌++◌, [], length, codes, OnOk};
 ghost use Rattle.dg_chips.specs.Starts.{IsStart};
 ghost use Rattle.dg_chips.specs.Vector.{at};
 ghost use Rattle.dg_verdict.specs.Right.{IsVerdictOn};
@@ -7,12 +7,13 @@ ghost use Rattle.dg_lines.specs.Judgements.{IsJudgementText};
 ghost use Rattle.dg_lines.specs.Texts.{TextHasNames, text_of};
 ghost use Rattle.dg_sweep.specs.FaultTexts.{sweep_file_fault_words};
 ghost use Rattle.dg_sweep.specs.Subjects.{swept_start};
-ghost use Rattle.dg_sweep.specs.Answers.{AnswersLine, AnswersTableLine, AnswersTable, IsSweptVerdictRow, sweep_refusal_line};
+ghost use Rattle.dg_sweep.specs.Answers.{AnswersLine, AnswersTable, IsSweptVerdictRow, sweep_refusal_line};
+ghost use Rattle.dg_sweep.specs.Kinds.{answers_of};
 
 use crate::ends::MAX_LINE;
 use crate::fault_words::push_swept_fault;
+use crate::kinds::LineKind;
 use crate::ranking::{push_rank, push_swept_ranks};
-use crate::tables::Tables;
 use dg_chips::Divisor;
 use dg_file::FileFault;
 use dg_graph::Graph;
@@ -24,43 +25,18 @@ use dg_tokens::Names;
 use dg_verdict::{Verdict, judge, judge_with_inverse};
 use std::alloc::{AllocError, Global};
 
-/// What the lines of a sweep are, and how each is answered.
-pub(crate) trait LineKind {
-    /// Which texts answer a line that is no longer than a line may be.
-    ghost answers: { Self → List ℕ → List ℕ → Type 0 };
-
-    /// The answer to such a line, with its newline, into an empty buffer.
-    ///
-    /// Refused if a growth is refused; nothing is said of what the buffer then holds.
-    fn answer(&self, alloc: Global, line: &[u8], answer: &mut Vec<u8>) -> Result<(), AllocError>
-        requires { answer.old.items ≡ [] }
-        ensures { OnOk result (answers self.now line.now answer.new.items) };
-}
-
-/// The answer to the line of a table, with its newline, in place of what the buffer holds: the answer to the question for the
-/// table that the line describes, on one line; or `refused` and the text of the fault that the line would have as a table file.
-/// A line of more than 1,048,576 bytes has such a fault too.
+/// The answer to a line, with its newline, in place of what the buffer holds: for a table, or a table with these amounts, the
+/// answer to the question on one line; or `refused` and the text of the fault that it would have as a table file. A line of more
+/// than 1,048,576 bytes has such a fault too.
 ///
 /// Refused if a growth is refused; nothing is said of what the buffer then holds.
 pub fn answer_line(
     alloc: Global,
-    question: Question,
+    kind: &LineKind<'_>,
     line: &[u8],
     answer: &mut Vec<u8>,
 ) -> Result<(), AllocError>
-    ensures { OnOk result (AnswersTableLine question line.now answer.new.items) }
-{
-    answer_of_kind(alloc, &Tables { question }, line, answer)
-}
-
-/// The answer to a line of a kind, with its newline, in place of what the buffer holds.
-pub(crate) fn answer_of_kind<K: LineKind>(
-    alloc: Global,
-    kind: &K,
-    line: &[u8],
-    answer: &mut Vec<u8>,
-) -> Result<(), AllocError>
-    ensures { OnOk result (AnswersLine (K.answers kind.now) line.now answer.new.items) }
+    ensures { OnOk result (AnswersLine (answers_of kind.now) line.now answer.new.items) }
 {
     answer.clear();
     if line.len() > MAX_LINE {

@@ -5,6 +5,7 @@ ghost use Rattle.dg_sweep.specs.Answers.{AnswersTableLine};
 ghost use Rattle.dg_sweep.specs.DivisorLaws.{LinesStandForTables};
 
 use crate::answering::answer_line;
+use crate::kinds::LineKind;
 use dg_file::files_have_one_meaning;
 use dg_invocation::Question;
 use std::alloc::{AllocError, Global};
@@ -23,7 +24,7 @@ pub fn swept_lines_have_one_answer(
 {
     files_have_one_meaning(alloc, line)?;
     let mut answer = Vec::new(alloc);
-    answer_line(alloc, question, line, &mut answer)?;
+    answer_line(alloc, &LineKind::Tables(question), line, &mut answer)?;
     Ok(())
 }
 

@@ -5,17 +5,18 @@ mod answering;
 mod divisors;
 mod ends;
 mod fault_words;
+mod kinds;
 mod laws;
 mod ranking;
 mod sweeping;
-mod tables;
 mod taking;
 mod workers;
 
 pub use answering::answer_line;
 pub use ends::{MAX_LINE, READ_SIZE, SweepEnd};
+pub use kinds::LineKind;
 pub use laws::{
     amounts_have_one_answer, lines_stand_for_tables, swept_amounts_have_one_meaning,
     swept_lines_have_one_answer,
 };
-pub use sweeping::{sweep, sweep_divisors};
+pub use sweeping::sweep;

@@ -1,27 +1,22 @@
-//! Sweeping a stream of tables.
+//! Sweeping a stream of lines.
 ghost use Rattle.std.specs.Prelude.{◌≡◌, ◌≤◌, [], length, Err, true};
-ghost use Rattle.dg_sweep.specs.Answers.{AnswersTableWithin};
-ghost use Rattle.dg_sweep.specs.Divisors.{AnswersAmounts};
+ghost use Rattle.dg_sweep.specs.Kinds.{answers_of};
 ghost use Rattle.dg_sweep.specs.Sweeps.{IsSweep};
 ghost use Rattle.dg_sweep.specs.declared.ends.TheConstants.{READ_SIZE};
 ghost use Rattle.dg_system.specs.declared.shortage.Shortage.TheVariants.{Spawn};
 
-use crate::answering::LineKind;
-use crate::divisors::Divisors;
 use crate::ends::{READ_SIZE, SweepEnd};
-use crate::tables::Tables;
+use crate::kinds::LineKind;
 use crate::taking::SweepProgress;
 use crate::workers::SweepContext;
-use dg_file::TableFile;
-use dg_invocation::Question;
 use dg_system::{Input, Output, Shortage};
 use std::alloc::Global;
 use std::io::{Read, Write};
 use std::sync::Wait;
 use std::thread::Threads;
 
-/// Answers the lines that the reader gives, each as `answer_line` does, in order, until there are no more; there may be any
-/// number of lines. At most so many workers share the lines of a read; their number changes no answer.
+/// Answers the lines that the reader gives, which are of this kind, each as `answer_line` does, in order, until there are no
+/// more; there may be any number of lines. At most so many workers share the lines of a read; their number changes no answer.
 ///
 /// It ends before the input does with `Read` if the reader fails; then all whole lines that were read are answered. It ends
 /// with `Write` if the writer fails or takes no byte, and with `Shortage` if memory is refused or, from two workers on, a
@@ -29,52 +24,12 @@ use std::thread::Threads;
 pub fn sweep<R: Threads + Wait + Sync, I: Read, O: Write>(
     rt: &R,
     alloc: Global,
-    question: Question,
+    kind: &LineKind<'_>,
     workers: u32,
     reader: &mut Input<I>,
     writer: &mut Output<O>,
 ) -> Result<(), SweepEnd>
-    ensures swept { IsSweep (AnswersTableWithin question) reader.old.remaining reader.new.remaining writer.old.contents
-        writer.new.contents result }
-    ensures read { result ≡ Err SweepEnd.Read → reader.new.has_failed ≡ true }
-    ensures write { result ≡ Err SweepEnd.Write → writer.new.has_failed ≡ true }
-    ensures spawn { result ≡ Err (SweepEnd.Shortage Spawn) → 2 ≤ workers }
-{
-    sweep_lines_of_kind(rt, alloc, &Tables { question }, workers, reader, writer)
-}
-
-/// Answers the lines that the reader gives, each of which has amounts for the vertices of a table, as numbers with one space
-/// between two, in the order of its vertices. The answer to a line is that for the table with these amounts; a line that has none
-/// is answered with the fault that such amounts have in a table file. All else is as in `sweep`.
-pub fn sweep_divisors<R: Threads + Wait + Sync, I: Read, O: Write>(
-    rt: &R,
-    alloc: Global,
-    question: Question,
-    table: &TableFile,
-    workers: u32,
-    reader: &mut Input<I>,
-    writer: &mut Output<O>,
-) -> Result<(), SweepEnd>
-    ensures swept { IsSweep (AnswersAmounts question table.now.start table.now.names)
-        reader.old.remaining reader.new.remaining writer.old.contents writer.new.contents result }
-    ensures read { result ≡ Err SweepEnd.Read → reader.new.has_failed ≡ true }
-    ensures write { result ≡ Err SweepEnd.Write → writer.new.has_failed ≡ true }
-    ensures spawn { result ≡ Err (SweepEnd.Shortage Spawn) → 2 ≤ workers }
-{
-    let kind = Divisors::new(question, table);
-    sweep_lines_of_kind(rt, alloc, &kind, workers, reader, writer)
-}
-
-/// The same for lines of any kind.
-fn sweep_lines_of_kind<R: Threads + Wait + Sync, K: LineKind + Sync, I: Read, O: Write>(
-    rt: &R,
-    alloc: Global,
-    kind: &K,
-    workers: u32,
-    reader: &mut Input<I>,
-    writer: &mut Output<O>,
-) -> Result<(), SweepEnd>
-    ensures swept { IsSweep (K.answers kind.now) reader.old.remaining reader.new.remaining
+    ensures swept { IsSweep (answers_of kind.now) reader.old.remaining reader.new.remaining
         writer.old.contents writer.new.contents result }
     ensures read { result ≡ Err SweepEnd.Read → reader.new.has_failed ≡ true }
     ensures write { result ≡ Err SweepEnd.Write → writer.new.has_failed ≡ true }
@@ -93,9 +48,9 @@ fn sweep_lines_of_kind<R: Threads + Wait + Sync, K: LineKind + Sync, I: Read, O:
     sweep_reads(&context, &mut buffer, &mut progress, reader, writer)
 }
 
-/// The same with a buffer for what is read, by the progress of a sweep that has read nothing.
-fn sweep_reads<R: Threads + Wait + Sync, K: LineKind + Sync, I: Read, O: Write>(
-    context: &SweepContext<'_, R, K>,
+/// Reads into the buffer, answers and writes until the input ends, by the progress of a sweep that has read nothing.
+fn sweep_reads<R: Threads + Wait + Sync, I: Read, O: Write>(
+    context: &SweepContext<'_, R>,
     buffer: &mut Vec<u8>,
     progress: &mut SweepProgress,
     reader: &mut Input<I>,
@@ -103,7 +58,7 @@ fn sweep_reads<R: Threads + Wait + Sync, K: LineKind + Sync, I: Read, O: Write>(
 ) -> Result<(), SweepEnd>
     requires size { length buffer.old.items ≡ READ_SIZE }
     requires pending { progress.old.pending.items ≡ [] }
-    ensures swept { IsSweep (K.answers context.now.kind.now) reader.old.remaining reader.new.remaining
+    ensures swept { IsSweep (answers_of context.now.kind.now) reader.old.remaining reader.new.remaining
         writer.old.contents writer.new.contents result }
     ensures read { result ≡ Err SweepEnd.Read → reader.new.has_failed ≡ true }
     ensures write { result ≡ Err SweepEnd.Write → writer.new.has_failed ≡ true }

@@ -1,11 +1,13 @@
 //! Taking what was read: bytes that are cut into lines, and the end.
 ghost use Rattle.std.specs.Prelude.{◌≡◌, ◌≢◌, ◌≤◌, ◌++◌, ℕ, List, [], true, IfOk, IfErr, OnOk, Err};
+ghost use Rattle.dg_sweep.specs.Kinds.{answers_of};
 ghost use Rattle.dg_sweep.specs.Steps.{AnswersSweptFront, KeepsPartOfPiece, PassesSweptAnswers, TakesSweptBytes, AnswersLastSweptLine};
 ghost use Rattle.dg_sweep.specs.declared.ends.SweepEnd.TheVariants.{Write as WriteEnd, Shortage as ShortageEnd};
 ghost use Rattle.dg_system.specs.declared.shortage.Shortage.TheVariants.{OutOfMemory, Spawn};
 
-use crate::answering::{LineKind, answer_of_kind};
+use crate::answering::answer_line;
 use crate::ends::{MAX_LINE, SweepEnd};
+use crate::kinds::LineKind;
 use crate::workers::{SweepContext, answer_swept_batch};
 use dg_lines::cut;
 use dg_system::{Output, Shortage};
@@ -38,14 +40,14 @@ impl SweepProgress {
     }
 
     /// Takes bytes that were read, and writes the answers to the lines that end in them.
-    pub(crate) fn sweep_bytes<R: Threads + Wait + Sync, K: LineKind + Sync, O: Write>(
+    pub(crate) fn sweep_bytes<R: Threads + Wait + Sync, O: Write>(
         &mut self,
-        context: &SweepContext<'_, R, K>,
+        context: &SweepContext<'_, R>,
         writer: &mut Output<O>,
         bytes: &[u8],
     ) -> Result<(), SweepEnd>
         ensures passed { PassesSweptAnswers
-            (TakesSweptBytes (K.answers context.now.kind.now) self.old.pending.items bytes.now self.new.pending.items)
+            (TakesSweptBytes (answers_of context.now.kind.now) self.old.pending.items bytes.now self.new.pending.items)
             writer.old.contents writer.new.contents result }
         ensures write { result ≡ Err WriteEnd → writer.new.has_failed ≡ true }
         ensures spawn { result ≡ Err (ShortageEnd Spawn) → 2 ≤ context.now.workers }
@@ -60,13 +62,13 @@ impl SweepProgress {
     }
 
     /// Takes the end, and writes the answer to the last line, if there is one.
-    pub(crate) fn sweep_end<K: LineKind, O: Write>(
+    pub(crate) fn sweep_end<O: Write>(
         &mut self,
         alloc: Global,
-        kind: &K,
+        kind: &LineKind<'_>,
         writer: &mut Output<O>,
     ) -> Result<(), SweepEnd>
-        ensures passed { PassesSweptAnswers (AnswersLastSweptLine (K.answers kind.now) self.old.pending.items)
+        ensures passed { PassesSweptAnswers (AnswersLastSweptLine (answers_of kind.now) self.old.pending.items)
             writer.old.contents writer.new.contents result }
         ensures write { result ≡ Err WriteEnd → writer.new.has_failed ≡ true }
         ensures spawn { result ≢ Err (ShortageEnd Spawn) }
@@ -81,12 +83,12 @@ impl SweepProgress {
     }
 
     /// Takes bytes that were read: answers the lines that end in them, and keeps the part of a line that follows.
-    fn take_swept_bytes<R: Threads + Wait + Sync, K: LineKind + Sync>(
+    fn take_swept_bytes<R: Threads + Wait + Sync>(
         &mut self,
-        context: &SweepContext<'_, R, K>,
+        context: &SweepContext<'_, R>,
         bytes: &[u8],
     ) -> Result<(), Shortage>
-        ensures taken { OnOk result (TakesSweptBytes (K.answers context.now.kind.now)
+        ensures taken { OnOk result (TakesSweptBytes (answers_of context.now.kind.now)
             self.old.pending.items bytes.now self.new.pending.items self.new.text.items) }
         ensures spawn { result ≡ Err Spawn → 2 ≤ context.now.workers }
     {
@@ -96,21 +98,21 @@ impl SweepProgress {
         let Some(after) = after else {
             return Ok(());
         };
-        answer_of_kind(context.alloc, context.kind, &self.pending, &mut self.text)?;
+        answer_line(context.alloc, context.kind, &self.pending, &mut self.text)?;
         self.pending.clear();
         let part = answer_swept_batch(context, after, &mut self.text, &mut self.answer)?;
         keep_part_of_piece(&mut self.pending, part)
     }
 
     /// Takes the end: answers what is pending as the last line, if it has a byte.
-    fn take_swept_end<K: LineKind>(&mut self, alloc: Global, kind: &K) -> Result<(), AllocError>
-        ensures { OnOk result (AnswersLastSweptLine (K.answers kind.now) self.old.pending.items self.new.text.items) }
+    fn take_swept_end(&mut self, alloc: Global, kind: &LineKind<'_>) -> Result<(), AllocError>
+        ensures { OnOk result (AnswersLastSweptLine (answers_of kind.now) self.old.pending.items self.new.text.items) }
     {
         self.text.clear();
         if self.pending.is_empty() {
             return Ok(());
         }
-        answer_of_kind(alloc, kind, &self.pending, &mut self.text)
+        answer_line(alloc, kind, &self.pending, &mut self.text)
     }
 }
 
@@ -126,15 +128,15 @@ fn keep_part_of_piece(pending: &mut Vec<u8>, part: &[u8]) -> Result<(), Shortage
 }
 
 /// Puts the answers to the lines of the bytes after the text, and gives what follows the last newline.
-pub(crate) fn answer_swept_lines<'a, K: LineKind>(
+pub(crate) fn answer_swept_lines<'a>(
     alloc: Global,
-    kind: &K,
+    kind: &LineKind<'_>,
     bytes: &'a [u8],
     text: &mut Vec<u8>,
     answer: &mut Vec<u8>,
 ) -> Result<&'a [u8], Shortage>
     ensures answered { IfOk result (λ rest. (said : List ℕ)
-        × AnswersSweptFront (K.answers kind.now) bytes.now rest.now said
+        × AnswersSweptFront (answers_of kind.now) bytes.now rest.now said
         × (text.new.items ≡ text.old.items ++ said)) }
     ensures memory { IfErr result (λ shortage. shortage ≡ OutOfMemory) }
 {
@@ -144,7 +146,7 @@ pub(crate) fn answer_swept_lines<'a, K: LineKind>(
         let Some(after) = after else {
             return Ok(line);
         };
-        answer_of_kind(alloc, kind, line, answer)?;
+        answer_line(alloc, kind, line, answer)?;
         text.extend_from_slice(answer)?;
         rest = after;
     }

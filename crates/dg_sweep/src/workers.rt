@@ -1,10 +1,11 @@
 //! Lines answered among workers, each with a thread of its own.
 ghost use Rattle.std.specs.Prelude.{◌≡◌, ◌<◌, ◌≤◌, ◌++◌, ℕ, List, [], length, get_or, map, flat_map, All, Contains, IfOk, IfSome, IsOkAnd, OnOk, Err};
+ghost use Rattle.dg_sweep.specs.Kinds.{answers_of};
 ghost use Rattle.dg_sweep.specs.Steps.{AnswersSweptFront, EndsSweptPiece};
 ghost use Rattle.dg_sweep.specs.Pieces.{AnswersPiece, IsAnswered, LeadsSweptPiece};
 ghost use Rattle.dg_system.specs.declared.shortage.Shortage.TheVariants.{Spawn};
 
-use crate::answering::LineKind;
+use crate::kinds::LineKind;
 use crate::taking::answer_swept_lines;
 use dg_lines::cut;
 use dg_system::{Shortage, in_parallel};
@@ -21,15 +22,15 @@ const SHARE_SIZE: usize = 1_024;
 const PIECE_SIZE: usize = 128;
 
 /// What all workers of a sweep share.
-pub(crate) struct SweepContext<'a, R, K> {
+pub(crate) struct SweepContext<'a, R> {
     pub(crate) rt: &'a R,
     pub(crate) alloc: Global,
-    pub(crate) kind: &'a K,
+    pub(crate) kind: &'a LineKind<'a>,
     /// How many workers there may be.
     pub(crate) workers: usize,
 }
 
-impl<'a, R, K> Drop for SweepContext<'a, R, K> {
+impl<'a, R> Drop for SweepContext<'a, R> {
     fn drop(self) {
         let Self {
             rt: _,
@@ -49,14 +50,14 @@ struct Answered {
 
 /// Puts the answers to the lines of the bytes after the text, and gives what follows the last newline. The lines are shared
 /// among the workers, if there are enough lines.
-pub(crate) fn answer_swept_batch<'a, R: Threads + Wait + Sync, K: LineKind + Sync>(
-    context: &SweepContext<'_, R, K>,
+pub(crate) fn answer_swept_batch<'a, R: Threads + Wait + Sync>(
+    context: &SweepContext<'_, R>,
     bytes: &'a [u8],
     text: &mut Vec<u8>,
     answer: &mut Vec<u8>,
 ) -> Result<&'a [u8], Shortage>
     ensures answered { IfOk result (λ rest. (said : List ℕ)
-        × AnswersSweptFront (K.answers context.now.kind.now) bytes.now rest.now said
+        × AnswersSweptFront (answers_of context.now.kind.now) bytes.now rest.now said
         × (text.new.items ≡ text.old.items ++ said)) }
     ensures spawn { result ≡ Err Spawn → 2 ≤ context.now.workers }
 {
@@ -73,25 +74,25 @@ pub(crate) fn answer_swept_batch<'a, R: Threads + Wait + Sync, K: LineKind + Syn
 
 /// The answers to pieces that so many workers take, each the next that none has taken. The first has a thread of its own, and
 /// the others work beside it.
-fn sweep_among_workers<R: Threads + Wait + Sync, K: LineKind + Sync>(
-    context: &SweepContext<'_, R, K>,
+fn sweep_among_workers<R: Threads + Wait + Sync>(
+    context: &SweepContext<'_, R>,
     workers: usize,
     pieces: &[&[u8]],
     next: &AtomicUsize,
 ) -> Result<Vec<Answered>, Shortage>
     ensures { IfOk result (λ done.
-        All (IsAnswered (K.answers context.now.kind.now) (map (λ piece. piece.now) pieces.now)) done.items) }
+        All (IsAnswered (answers_of context.now.kind.now) (map (λ piece. piece.now) pieces.now)) done.items) }
 {
     if workers < 2 {
         return answer_next_piece(context, pieces, next);
     }
     let mut first = || -> Result<Vec<Answered>, Shortage>
-        ensures { IfOk result (λ done. All (IsAnswered (K.answers context.entry.now.kind.now)
+        ensures { IfOk result (λ done. All (IsAnswered (answers_of context.entry.now.kind.now)
             (map (λ piece. piece.now) pieces.entry.now)) done.items) }
     { answer_next_piece(context, pieces, next) };
     let mut others = || -> Result<Vec<Answered>, Shortage>
         requires { 2 ≤ workers }
-        ensures { IfOk result (λ done. All (IsAnswered (K.answers context.entry.now.kind.now)
+        ensures { IfOk result (λ done. All (IsAnswered (answers_of context.entry.now.kind.now)
             (map (λ piece. piece.now) pieces.entry.now)) done.items) }
     { sweep_among_workers(context, workers - 1, pieces, next) };
     match in_parallel(context.rt, &mut first, &mut others) {
@@ -114,13 +115,13 @@ fn joined_answers(
 }
 
 /// The answers to the pieces that one worker takes.
-fn answer_next_piece<R, K: LineKind>(
-    context: &SweepContext<'_, R, K>,
+fn answer_next_piece<R>(
+    context: &SweepContext<'_, R>,
     pieces: &[&[u8]],
     next: &AtomicUsize,
 ) -> Result<Vec<Answered>, Shortage>
     ensures { IfOk result (λ done.
-        All (IsAnswered (K.answers context.now.kind.now) (map (λ piece. piece.now) pieces.now)) done.items) }
+        All (IsAnswered (answers_of context.now.kind.now) (map (λ piece. piece.now) pieces.now)) done.items) }
 {
     let mut done = Vec::new(context.alloc);
     for _ in 0..pieces.len() {
@@ -137,13 +138,13 @@ fn answer_next_piece<R, K: LineKind>(
 }
 
 /// The answers to the piece at a place.
-fn answer_piece<R, K: LineKind>(
-    context: &SweepContext<'_, R, K>,
+fn answer_piece<R>(
+    context: &SweepContext<'_, R>,
     piece: &[u8],
     place: usize,
 ) -> Result<Answered, Shortage>
     ensures text { IfOk result (λ answered.
-        AnswersPiece (K.answers context.now.kind.now) piece.now answered.text.items) }
+        AnswersPiece (answers_of context.now.kind.now) piece.now answered.text.items) }
     ensures place { IfOk result (λ answered. answered.place ≡ place) }
 {
     let mut text = Vec::new(context.alloc);
@@ -155,16 +156,16 @@ fn answer_piece<R, K: LineKind>(
 }
 
 /// Puts the answers to all pieces after the text, in the order of the pieces.
-fn put_swept_answers<R, K: LineKind>(
-    context: &SweepContext<'_, R, K>,
+fn put_swept_answers<R>(
+    context: &SweepContext<'_, R>,
     pieces: &[&[u8]],
     done: &[Answered],
     text: &mut Vec<u8>,
 ) -> Result<(), Shortage>
     requires lines { All (λ piece. EndsSweptPiece piece.now) pieces.now }
-    requires done { All (IsAnswered (K.answers context.now.kind.now) (map (λ piece. piece.now) pieces.now)) done.now }
+    requires done { All (IsAnswered (answers_of context.now.kind.now) (map (λ piece. piece.now) pieces.now)) done.now }
     ensures { OnOk result ((said : List ℕ) ×
-        LeadsSweptPiece (K.answers context.now.kind.now) (flat_map (λ piece. piece.now) pieces.now) said
+        LeadsSweptPiece (answers_of context.now.kind.now) (flat_map (λ piece. piece.now) pieces.now) said
         × (text.new.items ≡ text.old.items ++ said)) }
 {
     let found = indices_of_swept_pieces(context.alloc, done, pieces.len())?;
@@ -190,8 +191,8 @@ fn indices_of_swept_pieces(
 }
 
 /// Puts the answers to the piece at the place after the text. A piece that is not found among those done is answered here.
-fn put_swept_answer<R, K: LineKind>(
-    context: &SweepContext<'_, R, K>,
+fn put_swept_answer<R>(
+    context: &SweepContext<'_, R>,
     pieces: &[&[u8]],
     place: usize,
     done: &[Answered],
@@ -199,9 +200,9 @@ fn put_swept_answer<R, K: LineKind>(
     text: &mut Vec<u8>,
 ) -> Result<(), Shortage>
     requires place { place < length pieces.now }
-    requires done { All (IsAnswered (K.answers context.now.kind.now) (map (λ piece. piece.now) pieces.now)) done.now }
+    requires done { All (IsAnswered (answers_of context.now.kind.now) (map (λ piece. piece.now) pieces.now)) done.now }
     ensures { OnOk result ((said : List ℕ)
-        × AnswersPiece (K.answers context.now.kind.now) (get_or (map (λ piece. piece.now) pieces.now) place []) said
+        × AnswersPiece (answers_of context.now.kind.now) (get_or (map (λ piece. piece.now) pieces.now) place []) said
         × (text.new.items ≡ text.old.items ++ said)) }
 {
     if let Some(answers) = text_of_piece(done, found, place) {

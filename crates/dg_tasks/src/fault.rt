@@ -6,6 +6,7 @@ use dg_game::RehearseFault;
 use dg_lines::{LineFault, StepsFault};
 use dg_rank::RankFault;
 use dg_system::{Shortage, SourceFault};
+use std::alloc::AllocError;
 use thiserror::Error;
 
 /// Why a task is not done, or a file or a table that it needs is not there. Its text is what the fault line says.
@@ -43,4 +44,16 @@ pub enum TaskFault {
     /// There is not enough memory, or a thread could not be started.
     #[error(transparent)]
     Shortage(Shortage),
+}
+
+impl From<AllocError> for TaskFault {
+    ghost use Rattle.std.specs.Prelude.{◌≡◌};
+    ghost use Rattle.dg_system.specs.declared.shortage.Shortage.TheVariants.{OutOfMemory};
+    ghost use Rattle.dg_tasks.specs.declared.fault.TaskFault.TheVariants.{Shortage};
+
+    ghost from_gives = { λ _ fault. fault ≡ Shortage OutOfMemory };
+
+    fn from(_error: AllocError) -> TaskFault {
+        TaskFault::Shortage(Shortage::OutOfMemory)
+    }
 }

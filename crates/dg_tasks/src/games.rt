@@ -8,8 +8,7 @@ use dg_file::TableFile;
 use dg_lines::push_entry;
 use dg_rules::{BLANK, Game};
 use dg_strategy::greedy_turn;
-use dg_system::Shortage;
-use std::alloc::{AllocError, Global};
+use std::alloc::Global;
 
 /// The room for text at first, in bytes. The system makes more room than this by whole pages, and copies no byte.
 const FIRST_ROOM: usize = 131_072;
@@ -23,18 +22,6 @@ pub fn greedy_answer(alloc: Global, table: &TableFile, turns: u32) -> Result<Vec
     ensures printed { IfOk result
         (λ text. IsGreedyAnswer table.now.start turns table.now.names text.items) }
     ensures refused { IfErr result RefusesGreedyTask }
-{
-    match greedy_lines(alloc, table, turns) {
-        Ok(text) => Ok(text),
-        Err(_) => Err(TaskFault::Shortage(Shortage::OutOfMemory)),
-    }
-}
-
-/// The lines of the game, and of how it ended.
-fn greedy_lines(alloc: Global, table: &TableFile, turns: u32) -> Result<Vec<u8>, AllocError>
-    requires { turns ≤ MAX_ENTRIES }
-    ensures { IfOk result
-        (λ text. IsGreedyAnswer table.now.start turns table.now.names text.items) }
 {
     let names = table.names();
     let mut game = Game::new(table.start());

@@ -12,4 +12,5 @@ mod tasks;
 
 pub use fault::TaskFault;
 pub use laws::rehearsal_tasks_have_one_text;
+pub use table_source::load_table;
 pub use tasks::{answer, answer_task_alone};

@@ -1,16 +1,13 @@
-//! Tables that are judged, and replies that are printed.
-ghost use Rattle.std.specs.Prelude.{IfOk, IfErr, ◌≡◌, ◌++◌, codes};
-ghost use Rattle.dg_lines.specs.Judgements.{IsJudgementText, judgement_text};
-ghost use Rattle.dg_lines.specs.Texts.{TextHasNames, text_of};
+//! Tables that are judged.
+ghost use Rattle.std.specs.Prelude.{IfOk, IfErr, ◌≡◌};
+ghost use Rattle.dg_lines.specs.Judgements.{IsJudgementText};
 
 use crate::fault::TaskFault;
 use dg_file::TableFile;
-use dg_lines::{push_judgement, reply_text};
-use dg_rules::Reply;
+use dg_lines::push_judgement;
 use dg_system::Shortage;
-use dg_tokens::Names;
 use dg_verdict::judge;
-use std::alloc::{AllocError, Global};
+use std::alloc::Global;
 
 /// The verdict on a table's amounts as text, computed from its vertex q: the text of a reply; if it is `ordered`, the order in
 /// which the vertices burn; and a newline.
@@ -26,22 +23,6 @@ pub(crate) fn verdict_answer(
     let start = table.start();
     let verdict = judge(start.graph(), start.q(), start.divisor());
     let mut text = Vec::new(alloc);
-    match push_judgement(&mut text, table.names(), &verdict, ordered) {
-        Ok(()) => Ok(text),
-        Err(_) => Err(TaskFault::Shortage(Shortage::OutOfMemory)),
-    }
-}
-
-/// The text of a reply, and a newline.
-pub(crate) fn reply_line_of_task(
-    alloc: Global,
-    reply: &Reply,
-    names: &Names,
-) -> Result<Vec<u8>, AllocError>
-    requires { TextHasNames names.now reply.now }
-    ensures { IfOk result (λ line. line.items ≡ text_of names.now reply.now ++ codes "\n") }
-{
-    let mut line = reply_text(alloc, reply, names)?;
-    line.extend_from_slice(b"\n")?;
-    Ok(line)
+    push_judgement(&mut text, table.names(), &verdict, ordered)?;
+    Ok(text)
 }

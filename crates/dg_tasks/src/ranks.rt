@@ -1,14 +1,14 @@
 //! Rank tests that are printed, and both sides of Riemann-Roch.
-ghost use Rattle.std.specs.Prelude.{◌≡◌, ℤ, [], ◌++◌, codes, IfOk, IfErr, OnOk};
+ghost use Rattle.std.specs.Prelude.{◌≡◌, ◌≤◌, ℤ, [], ◌++◌, codes, IfOk, IfErr, OnOk};
 ghost use Rattle.dg_rank.specs.Ranks.{MayHaveRankWorkers};
 ghost use Rattle.dg_lines.specs.Texts.{TextHasNames, text_of};
 ghost use Rattle.dg_rules.specs.declared.entry.Reply.TheVariants.{Rank};
 ghost use Rattle.dg_tasks.specs.RankTests.{IsRankTaskAnswer, RefusesRankTask, task_answer_line, riemann_roch_text, IsRiemannRochTask, RefusesRiemannRoch};
 
 use crate::fault::TaskFault;
-use crate::printed::reply_line_of_task;
 use dg_chips::{Start, dual};
 use dg_file::TableFile;
+use dg_lines::reply_text;
 use dg_rank::{OpenGate, RankFault, RankVerdict, both_ranks_in_limits, rank_at_least, rank_with};
 use dg_rules::Reply;
 use dg_system::Shortage;
@@ -18,8 +18,8 @@ use std::alloc::{AllocError, Global};
 use std::sync::Wait;
 use std::thread::Threads;
 
-/// Whether the rank of a table's amounts is at least k, as text: the text of a reply, and a newline.
-/// The trials are shared among so many workers, 1 to 16; one is the thread that calls.
+/// Whether the rank of a table's amounts is at least k, as text: the text of a reply, and a newline. The trials are shared
+/// among so many workers, 2 to 16.
 pub(crate) fn rank_answer<R: Threads + Wait>(
     rt: &R,
     alloc: Global,
@@ -27,14 +27,12 @@ pub(crate) fn rank_answer<R: Threads + Wait>(
     k: u32,
     workers: u32,
 ) -> Result<Vec<u8>, TaskFault>
-    requires { MayHaveRankWorkers workers }
+    requires some { 2 ≤ workers }
+    requires workers { MayHaveRankWorkers workers }
     ensures ranked { IfOk result
         (λ text. IsRankTaskAnswer table.now.start k table.now.names text.items) }
     ensures refused { IfErr result (RefusesRankTask table.now.start.graph.size k workers) }
 {
-    if workers == 1 {
-        return rank_task_alone(alloc, table, k);
-    }
     let start = table.start();
     let (graph, q, divisor) = (start.graph(), start.q(), start.divisor());
     match rank_with(rt, graph, q, divisor, k, workers, &OpenGate) {
@@ -46,7 +44,7 @@ pub(crate) fn rank_answer<R: Threads + Wait>(
     }
 }
 
-/// The same by the thread that calls alone.
+/// The rank test of `rank_answer` by the thread that calls alone.
 pub(crate) fn rank_task_alone(
     alloc: Global,
     table: &TableFile,
@@ -71,10 +69,9 @@ fn rank_task_line(alloc: Global, verdict: RankVerdict, names: &Names) -> Result<
         (λ text. text.items ≡ text_of names.now (Rank verdict) ++ codes "\n") }
     ensures refused { IfErr result (λ fault. fault ≡ TaskFault.Shortage Shortage.OutOfMemory) }
 {
-    match reply_line_of_task(alloc, &Reply::Rank(verdict), names) {
-        Ok(text) => Ok(text),
-        Err(_) => Err(TaskFault::Shortage(Shortage::OutOfMemory)),
-    }
+    let mut line = reply_text(alloc, &Reply::Rank(verdict), names)?;
+    line.extend_from_slice(b"\n")?;
+    Ok(line)
 }
 
 /// Both sides of Riemann-Roch for a table's amounts, as text: the degree, the genus of the graph, the rank, and the rank
@@ -93,10 +90,8 @@ pub(crate) fn riemann_roch_answer(alloc: Global, table: &TableFile) -> Result<Ve
         return Err(TaskFault::TooMany);
     };
     let mut text = Vec::new(alloc);
-    match push_riemann_roch(&mut text, start, rank, dual_rank) {
-        Ok(()) => Ok(text),
-        Err(_) => Err(TaskFault::Shortage(Shortage::OutOfMemory)),
-    }
+    push_riemann_roch(&mut text, start, rank, dual_rank)?;
+    Ok(text)
 }
 
 /// The four lines of a start with these two ranks, into an empty text.

@@ -1,14 +1,13 @@
 //! Tasks, done on the tables that they name.
 ghost use Rattle.std.specs.Prelude.{IfOk, IfErr, ◌≢◌};
-ghost use Rattle.dg_tasks.specs.Tasks.{IsAnswer, AnswersTask, RefusesTaskOn, RefusesTask};
+ghost use Rattle.dg_tasks.specs.Tasks.{IsAnswer, RefusesTask};
 
 use crate::fault::TaskFault;
 use crate::games::greedy_answer;
 use crate::printed::verdict_answer;
 use crate::ranks::{rank_answer, rank_task_alone, riemann_roch_answer};
 use crate::rehearsing::rehearsal;
-use crate::table_source::table_of_task;
-use dg_file::TableFile;
+use crate::table_source::load_table;
 use dg_invocation::Task;
 use dg_system::{Shortage, Sources};
 use std::rt::Files;
@@ -31,7 +30,7 @@ where
     ensures refused { IfErr result (RefusesTask (S.held sources.now) task.now) }
 {
     match task {
-        Task::Rank(test) => match table_of_task(rt, sources, test.file) {
+        Task::Rank(test) if test.workers > 1 => match load_table(rt, sources, test.file) {
             Ok(table) => rank_answer(rt, rt.alloc(), &table, test.degree, test.workers),
             Err(fault) => Err(fault),
         },
@@ -49,36 +48,18 @@ where
     ensures refused { IfErr result (RefusesTask (S.held sources.now) task.now) }
     ensures alone { IfErr result (λ fault. fault ≢ TaskFault.Shortage Shortage.Spawn) }
 {
-    match table_of_task(rt, sources, task.file()) {
-        Ok(table) => answer_task_on(rt, &table, task, sources),
-        Err(fault) => Err(fault),
-    }
-}
-
-/// The answer to a task on its table.
-fn answer_task_on<R, S>(
-    rt: &R,
-    table: &TableFile,
-    task: &Task<'_>,
-    sources: &S,
-) -> Result<Vec<u8>, TaskFault>
-where
-    R: Files + AllocGlobal,
-    S: Sources,
-    ensures done { IfOk result (λ text.
-        AnswersTask (S.held sources.now) table.now.start table.now.names task.now text.items) }
-    ensures refused { IfErr result
-        (RefusesTaskOn (S.held sources.now) table.now.start table.now.names task.now) }
-    ensures alone { IfErr result (λ fault. fault ≢ TaskFault.Shortage Shortage.Spawn) }
-{
+    let table = match load_table(rt, sources, task.file()) {
+        Ok(table) => table,
+        Err(fault) => return Err(fault),
+    };
     match task {
         Task::Rehearse { file: _, steps } => match sources.bytes(rt, steps) {
-            Ok(steps) => rehearsal(rt.alloc(), table, steps.as_slice()),
+            Ok(steps) => rehearsal(rt.alloc(), &table, steps.as_slice()),
             Err(fault) => Err(TaskFault::Source(fault)),
         },
-        Task::Judge { file: _, ordered } => verdict_answer(rt.alloc(), table, *ordered),
-        Task::Rank(test) => rank_task_alone(rt.alloc(), table, test.degree),
-        Task::RiemannRoch { file: _ } => riemann_roch_answer(rt.alloc(), table),
-        Task::Greedy(play) => greedy_answer(rt.alloc(), table, play.turns),
+        Task::Judge { file: _, ordered } => verdict_answer(rt.alloc(), &table, *ordered),
+        Task::Rank(test) => rank_task_alone(rt.alloc(), &table, test.degree),
+        Task::RiemannRoch { file: _ } => riemann_roch_answer(rt.alloc(), &table),
+        Task::Greedy(play) => greedy_answer(rt.alloc(), &table, play.turns),
     }
 }

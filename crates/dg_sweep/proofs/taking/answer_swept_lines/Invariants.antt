@@ -1,10 +1,11 @@
 -- All lines but those of the rest are answered; each turn reads a shorter rest.
 use Rattle.dg_sweep.proofs.Common.{length}
 use Rattle.dg_sweep.proofs.Taken.{IsSoFar}
+use Rattle.dg_sweep.specs.Kinds.{answers_of}
 use Rattle.dg_sweep.proofs.taking.answer_swept_lines.Given as goal
 
 abbrev pub invariant-lines : goal.invariant-lines
-invariant-lines g l = IsSoFar (g.K.LineKind.answers l.kind) l.bytes l.rest l.fn.text.items l.text.items
+invariant-lines l = IsSoFar (answers_of l.kind) l.bytes l.rest l.fn.text.items l.text.items
 
 abbrev pub decreases-lines : goal.decreases-lines
-decreases-lines g l = length l.rest
+decreases-lines l = length l.rest

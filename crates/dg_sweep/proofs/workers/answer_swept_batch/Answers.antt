@@ -1,5 +1,6 @@
 use Rattle.dg_sweep.proofs.Common.{All, map, flat_map, ◌++◌, sym, ap, subst, ◌∙◌, IfOk-weaker, EndsSweptPiece, IsAnswered}
 use Rattle.dg_sweep.proofs.Pieces.{leads_rest}
+use Rattle.dg_sweep.specs.Kinds.{answers_of}
 use Rattle.dg_sweep.proofs.workers.answer_swept_batch.Goals as goal
 
 pub put_swept_answers-requires-clause-lines : goal.put_swept_answers-requires-clause-lines
@@ -8,7 +9,7 @@ put_swept_answers-requires-clause-lines g c =
 
 pub put_swept_answers-requires-clause-done : goal.put_swept_answers-requires-clause-done
 put_swept_answers-requires-clause-done g c =
-    let right = g.K.LineKind.answers c.args.context.now.kind.now in
+    let right = answers_of c.args.context.now.kind.now in
     subst (All (IsAnswered right (map (λ piece. piece.now) c.deref-2.result.now))) (sym c.deref-3.ensures.value)
     (subst (λ l. All (IsAnswered right (map (λ piece. piece.now) l)) c.in_ok-done.done.items)
     (c.deref.ensures.value ∙ sym c.deref-2.ensures.value) c.in_ok-done.ensures)

@@ -1,10 +1,11 @@
 use Rattle.dg_sweep.proofs.Common.{[], ◌++◌, refl, map, get_or, ap, subst, ◌∙◌, All-contains, AnswersPiece, IsAnswered}
 use Rattle.dg_sweep.proofs.Pieces.{piece_at}
+use Rattle.dg_sweep.specs.Kinds.{answers_of}
 use Rattle.dg_sweep.proofs.workers.put_swept_answer.Goals as goal
 
 pub returns-in-Some : goal.returns-in-Some
 returns-in-Some g c =
-    let right = g.K.LineKind.answers c.args.context.now.kind.now in
+    let right = answers_of c.args.context.now.kind.now in
     let pieces = map (λ piece. piece.now) c.args.pieces.now in
     let (answered, done, here, text) = c.in-Some.ensures in (
       answered.text.items,

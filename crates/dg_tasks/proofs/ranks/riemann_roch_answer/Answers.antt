@@ -10,8 +10,8 @@ returns-in_default-both_ranks_in_limits-clause-refused c =
     } in
     rw (← c.start-start.ensures, ← c.graph-graph.ensures.graph, ← c.divisor-divisor.ensures) needs
 
-pub returns-in-Ok-clause-told : goal.returns-in-Ok-clause-told
-returns-in-Ok-clause-told c =
+pub returns-clause-told : goal.returns-clause-told
+returns-clause-told c =
     let o = c.start-start.result.now in
     let start = c.graph-graph.ensures.start in
     let (rank, dual_rank) = c.in-Some.ensures in
@@ -23,7 +23,7 @@ returns-in-Ok-clause-told c =
     let dual_fits : FitsSigned w64 c.in-Some.dual_rank = search rules in
     let text : c.push_riemann_roch.new.text.items
     ≡ riemann_roch_text o (to_z w64 (of_z w64 c.in-Some.rank)) (to_z w64 (of_z w64 c.in-Some.dual_rank)) =
-    c.in-Ok.ensures in
+    c.in_ok-push_riemann_roch.ensures in
     let (size, is_dual, in_range) = c.in_default.ensures in
     let inside : IsInRange c.graph-graph.result.now.size
     (less (canonical c.graph-graph.result.now) (at c.divisor-divisor.result.now)) =

@@ -16,12 +16,12 @@ returns-clause-taken g c =
     on_ok_weaker c.keep_part_of_piece-2.result
     (takes_lines _ c.args.self.now.pending.items c.args.bytes.now c.cut.result.0.now
     c.in-Some.after.now
-    c.keep_part_of_piece.new.pending.items c.answer_of_kind.new.answer.items c.answer_swept_batch.new.text.items
+    c.keep_part_of_piece.new.pending.items c.answer_line.new.answer.items c.answer_swept_batch.new.text.items
     c.in_ok-part.part.now
     c.keep_part_of_piece-2.new.pending.items (part_plain c.args.bytes.now c.cut.result.0.now c.cut.ensures.before)
     (part_line c.args.bytes.now c.cut.result.0.now c.cut.result.1 c.in-Some.after c.cut.ensures.before
     c.cut.ensures.after c.in-Some.is)
-    c.in_ok-keep_part_of_piece.ensures.kept c.deref.result.now c.deref.ensures.value c.in_ok-answer_of_kind.ensures
+    c.in_ok-keep_part_of_piece.ensures.kept c.deref.result.now c.deref.ensures.value c.in_ok-answer_line.ensures
     c.in_ok-part.ensures.answered
     c.clear-2.new.self.items c.clear-2.ensures.items)
     c.keep_part_of_piece-2.ensures.kept

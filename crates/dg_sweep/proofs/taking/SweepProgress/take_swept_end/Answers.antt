@@ -3,14 +3,14 @@ use Rattle.dg_sweep.proofs.Taken.{nothing, takes_no_end, takes_end}
 use Rattle.dg_sweep.proofs.taking.SweepProgress.take_swept_end.Goals as goal
 
 pub returns-then-is_empty : goal.returns-then-is_empty
-returns-then-is_empty g c =
+returns-then-is_empty c =
     let none : c.args.self.now.pending.items ≡ [] =
     nothing c.args.self.now.pending.items (grind (arith, common_steps)) in
     takes_no_end _ c.args.self.now.pending.items c.clear.new.self.items c.clear.ensures.items none
 
 pub returns : goal.returns
-returns g c =
+returns c =
     let some : c.args.self.now.pending.items ≢ [] = search (rules, tests) in
-    on_ok_weaker c.answer_of_kind.result
-    (takes_end _ c.args.self.now.pending.items c.answer_of_kind.new.answer.items c.deref.result.now some
-    c.deref.ensures.value) c.answer_of_kind.ensures
+    on_ok_weaker c.answer_line.result
+    (takes_end _ c.args.self.now.pending.items c.answer_line.new.answer.items c.deref.result.now some
+    c.deref.ensures.value) c.answer_line.ensures

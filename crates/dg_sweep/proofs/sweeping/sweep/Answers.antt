@@ -1,6 +1,6 @@
 use Rattle.dg_sweep.proofs.Common.{[], refl}
 use Rattle.dg_sweep.proofs.Swept.{swept_none, sweep_unsaid}
-use Rattle.dg_sweep.proofs.sweeping.sweep_lines_of_kind.Goals as goal
+use Rattle.dg_sweep.proofs.sweeping.sweep.Goals as goal
 
 pub returns-in_default-clause-swept : goal.returns-in_default-clause-swept
 returns-in_default-clause-swept g c =

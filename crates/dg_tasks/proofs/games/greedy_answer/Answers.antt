@@ -1,6 +1,6 @@
 use Rattle.dg_tasks.proofs.Common.{◌≡◌, arith}
 use Rattle.dg_tasks.proofs.GreedyTurns.{none_played, turn_named, one_played, all_settled, all_used_up}
-use Rattle.dg_tasks.proofs.games.greedy_lines.Goals as goal
+use Rattle.dg_tasks.proofs.games.greedy_answer.Goals as goal
 
 pub turns-init : goal.turns-init
 turns-init c =
@@ -21,15 +21,15 @@ turns-preserved c =
     c.greedy_turn-settled.new.game _ c.if-settled.false c.greedy_turn-settled.ensures.leads
     c.in_ok-push_entry.ensures
 
-pub returns-then-settled : goal.returns-then-settled
-returns-then-settled c =
+pub returns-then-settled-clause-printed : goal.returns-then-settled-clause-printed
+returns-then-settled-clause-printed c =
     rw c.names-names.ensures.value at
     (all_settled c.args.table.now.start c.names-names.result.now c.turns.game c.turns.number c.turns.text.items
     c.greedy_turn-settled.new.entry c.greedy_turn-settled.result c.greedy_turn-settled.ensures.turn c.turns.invariant
     c.args.turns c.push_entry.new.text.items c.if-settled.true c.turns-test.true c.in_ok-push_entry.ensures)
 
-pub returns : goal.returns
-returns c =
+pub returns-clause-printed : goal.returns-clause-printed
+returns-clause-printed c =
     let all : c.turns.number ≡ c.args.turns = omega (arith, c.turns-test.false, c.turns.auto.number-end) in
     rw (all, c.names-names.ensures.value) at
     (all_used_up c.args.table.now.start c.names-names.result.now c.turns.game c.turns.number c.turns.text.items
