@@ -34,7 +34,7 @@ function replies() {
   equal([moved.kind, moved.amounts], ["moved", AMOUNTS], "the amounts of a move");
   equal([verdict.script, verdict.reduced], [new Map([["a", 0], ["b", 1]]), new Map([["a", -3], ["b", 0]])], "the two lists of a verdict");
   equal([loss.kind, loss.degree, loss.loss], ["rank", 1, new Map([["a", 0], ["b", 1]])], "the loss of a rank test");
-  equal(replyWords(loss, AMOUNTS, "a"), "The rank is below 1: without 1 dollar at b it can't be won.", "the words of a loss");
+  equal(replyWords(loss, AMOUNTS, "a"), "The rank is below 1: if 1 dollar at b is taken away, it can't be won.", "the words of a loss");
   for (const text of ["", "moved", "moved a", "won ", "refused", "stale x", "lent a"]) {
     equal(answerOf(text).kind, "unread", `what is no reply: ${text}`);
   }

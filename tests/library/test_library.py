@@ -5,8 +5,6 @@ import os
 import random
 import re
 import shutil
-import subprocess
-import sys
 import threading
 import unittest
 from array import array
@@ -57,15 +55,15 @@ class OfLibrary(Test):
         held, told = array("q", amounts), array("b", [77] * (len(amounts) // max(size, 1) if rows is None else rows))
         made = [array(kind, [77] * count) for kind, count in arrays]
         given = [ctypes.c_size_t(size), ctypes.c_void_p(edges.buffer_info()[0]), ctypes.c_size_t(len(items)), *words]
-        for each in (held, told, *made):
-            given += [ctypes.c_void_p(each.buffer_info()[0] or 8), ctypes.c_size_t(len(each))]
+        for lent in (held, told, *made):
+            given += [ctypes.c_void_p(lent.buffer_info()[0] or 8), ctypes.c_size_t(len(lent))]
         return getattr(self.library, name)(*given), told, made
 
     def lines(self, command, size, items, rows, *words):
         """The lines that the program prints for these divisors of one table."""
         folder = self.folder()
         names = ["v%d" % v for v in range(size)]
-        table = {"vertices": names, "edges": edges_between(items), "amounts": dict.fromkeys(names, 0), "q": "v%d" % self.q}
+        table = {"vertices": names, "edges": edges_between(items), "amounts": [0] * size, "q": "v%d" % self.q}
         (folder / "t").write_text(repr(table).replace("'", '"'))
         (folder / "l").write_text("".join(" ".join(map(str, row)) + "\n" for row in rows))
         said = self.holds([program(), command, folder / "t", *words, f"--divisors={folder / 'l'}", "--numbers"])
@@ -160,7 +158,7 @@ class OfLibrary(Test):
                       "dollar_rank_test": [("q", size)]}[name]
             given, told, made = self.asked(name, size, items, *words, amounts=[0] * size, arrays=arrays, rows=1)
             self.assertEqual((-given & 15, -given >> 4), (kind, place))
-            self.assertEqual({77}, {*told, *(part for each in made for part in each), 77})
+            self.assertEqual({77}, {*told, *(part for lent in made for part in lent), 77})
 
     def test_lengths_and_vertices_that_do_not_fit(self):
         for q, amounts, arrays, kind in [(3, 3, (3, 3, 3), NO_Q), (0, 4, (3, 3, 3), LENGTHS), (0, 3, (2, 3, 3), LENGTHS),
