@@ -292,7 +292,7 @@ class OfPackages(Test):
         tree = self.place / "debian"
         self.addCleanup(lambda: [subprocess.run(["umount", tree / each], stderr=subprocess.DEVNULL)
                                  for each in ("proc", "sys")])
-        words = ["timeout", "280", "debootstrap", "--variant=minbase", "--include=python3,python3-venv", suite[1], tree]
+        words = ["timeout", "280", "debootstrap", "--variant=minbase", "--include=python3,python3-venv,sse4.2-support", suite[1], tree]
         done = subprocess.run(words, stdout=subprocess.PIPE, stderr=subprocess.STDOUT, text=True)
         if done.returncode:
             self.skipTest("the install in a fresh Debian, which debootstrap could not make: %s" % done.stdout.splitlines()[-1:])
