@@ -167,7 +167,7 @@ class OfPackages(Test):
                     self.assertRegex(said, rf"(?m)^(.*, )?{each['name']}(, .*)?: {licence}$")
             for place in re.findall(r"(?m)^The text is in (.*)\.$", said):
                 self.assertTrue(os.path.exists(place))
-            if (top / "lib").exists():
+            if (top / "lib/dollar/dollar.o").exists():
                 linked = self.folder() / "dollar"
                 self.out("gcc", "-static-pie", "-o", linked, top / "lib/dollar/dollar.o")
                 self.assertEqual(self.out(linked, "judge", EXAMPLES / "triangle.json"), VERDICT)
