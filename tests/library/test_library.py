@@ -181,6 +181,26 @@ class OfLibrary(Test):
         given, told, (losses,) = self.asked("dollar_rank_test", *TRIANGLE, ctypes.c_uint32(631), amounts=[631, 0, 0], arrays=[("q", 3)])
         self.assertEqual((given, list(told), list(losses)), (0, [2], [77] * 3))
 
+    def test_a_thread_with_the_stack_of_the_header(self):
+        """Ranks and tests of many dollars, on heavy edges, in a thread of 1 MB: by Riemann-Roch 61 on two vertices, since the divisor has
+        degree 122 and genus 62."""
+        found, before = [], threading.stack_size(1 << 20)
+        self.addCleanup(threading.stack_size, before)
+
+        def ask(size, items, amounts, degree):
+            _, _, (ranks, duals) = self.asked("dollar_rank", size, items, amounts=amounts, arrays=[("q", 1), ("q", 1)])
+            _, told, _ = self.asked("dollar_rank_test", size, items, ctypes.c_uint32(degree), amounts=amounts, arrays=[("q", size)])
+            genus = sum(count for _, _, count in items) - size + 1
+            found.append((ranks[0] - duals[0] == sum(amounts) + 1 - genus, told[0] == (ranks[0] >= degree), ranks[0]))
+
+        for case in [(2, [(0, 1, 63)], [61, 61], 60), (3, [(0, 1, 31), (1, 2, 31), (0, 2, 31)], [60, 60, 61], 45),
+                     (16, [(v, v + 1, 31) for v in range(15)], [28] * 16, 10)]:
+            thread = threading.Thread(target=ask, args=case)
+            thread.start()
+            thread.join()
+        self.assertEqual([each[:2] for each in found], [(True, True)] * 3)
+        self.assertEqual(found[0][2], 61)
+
     def test_threads(self):
         wrong = []
 
