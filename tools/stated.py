@@ -19,10 +19,6 @@ def commands():
     part = Part(HELP, "one of these commands:\n", "\nThere is")
     found = [(text, place) for text, place in part.matches(column) if not text.startswith(("one of", "exactly"))]
     yield from part.compare("command", found, forms)
-    part = Part(HELP, "A line of the input is a command: ", ", as `")
-    text = re.sub(r"\s+", " ", part.text.split(": ", 1)[-1])
-    found = [(form, part.place()) for form in re.split(r", (?=[a-z])| or ", text)]
-    yield from part.compare("command", found, [form.replace("V=x,V=x,..", "V=x,..") for form in forms])
 
 
 def played_commands():

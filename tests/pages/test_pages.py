@@ -3,8 +3,7 @@
 A command is an indented line `$ ./dollar WORD ..`, or another line of bash that has `./dollar` in it. What it prints are the lines below
 it that are indented as far; where the first of these is `..`, as many of its last lines as stand below that. What stands below `>>>` is
 compared with what Python prints, and what stands below 'From `FILE`:' with that file. In the help a command is `$ dollar WORD ..`, and
-is run in a folder which has the files that this help shows: the table that every help has to show, and what stands below a line `$ cat
-FILE`."""
+is run in a folder which has the table that `dollar --help` shows, and the files that this help shows below a line `$ cat FILE`."""
 import doctest
 import json
 import re
@@ -58,10 +57,12 @@ class OfPages(Test):
     @each([(), *((name,) for name in re.findall(r"(?m)^  ([a-z]+) ", help_of().partition("Commands:")[2].partition("\n\n")[0]) if name != "help")])
     def test_a_help(self, *words):
         text, folder = help_of(*words), self.folder()
-        table = re.search(r"(?m)^( *)\{\n(?:.*\n)*?\1\}\n", text)
+        table = re.search(r"(?m)^( *)\{\n(?:.*\n)*?\1\}\n", help_of())
         (folder / "triangle.json").write_text(textwrap.dedent(table[0]))
         self.assertEqual(textwrap.dedent(table[0]), (EXAMPLES / "triangle.json").read_text())
         self.assertLessEqual(max(map(len, text.splitlines())), 80)
+        if words:
+            self.assertLessEqual(len(text.splitlines()), 50)
         commands = list(shown(text, "(?:dollar|cat)"))
         self.assertTrue(commands)
         for command, wanted in commands:

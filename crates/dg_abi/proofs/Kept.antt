@@ -3,7 +3,6 @@
 --   row_before    a row ends before a later one begins
 --   row_kept      a row that holds some numbers holds them still
 --   row_left      one that keeps what it had keeps what it had at the beginning
---   order_kept, order_left    so of vertices
 --   judged_kept, judged_begun    of the answer of a verdict: after later rows; and since the beginning
 --   ranked_kept, ranked_begun    of a rank
 --   tested_kept, tested_begun    of a rank test
@@ -13,20 +12,14 @@ use Rattle.std.proofs.Math.Nat.{mul-le-mul}
 use Rattle.std.specs.List.{slice_index_or}
 use Rattle.dg_theory.specs.Firing.{Amounts}
 use Rattle.dg_theory.specs.Multigraph.{Multigraph}
-use Rattle.dg_abi.specs.Rows.{HoldsRow, HoldsOrder, KeepsRow, KeepsOrder, AnswersJudge, AnswersRank, AnswersTest, IsTestTold, told_of}
+use Rattle.dg_abi.specs.Rows.{Holds, Keeps, AnswersJudge, AnswersRank, AnswersTest, IsTestTold, told_of}
 use mir.Val.{bool_byte}
 
-abbrev pub SameBelow : ℕ → List ℤ → List ℤ → Type 0
-SameBelow e xs ys = (k : ℕ) → k < e → slice_index_or ys k (pos 0) ≡ slice_index_or xs k (pos 0)
+abbrev pub SameBelow : {X : Type 0} → X → ℕ → List X → List X → Type 0
+SameBelow z e xs ys = (k : ℕ) → k < e → slice_index_or ys k z ≡ slice_index_or xs k z
 
-abbrev pub SameFrom : ℕ → List ℤ → List ℤ → Type 0
-SameFrom e xs ys = (k : ℕ) → e ≤ k → slice_index_or ys k (pos 0) ≡ slice_index_or xs k (pos 0)
-
-abbrev pub SameOrderBelow : ℕ → List ℕ → List ℕ → Type 0
-SameOrderBelow e xs ys = (k : ℕ) → k < e → slice_index_or ys k 0 ≡ slice_index_or xs k 0
-
-abbrev pub SameOrderFrom : ℕ → List ℕ → List ℕ → Type 0
-SameOrderFrom e xs ys = (k : ℕ) → e ≤ k → slice_index_or ys k 0 ≡ slice_index_or xs k 0
+abbrev pub SameFrom : {X : Type 0} → X → ℕ → List X → List X → Type 0
+SameFrom z e xs ys = (k : ℕ) → e ≤ k → slice_index_or ys k z ≡ slice_index_or xs k z
 
 pub rows_more : (P : ℕ → ℤ → Type 0) (told : List ℤ) (row : ℕ) (x y : ℤ) → row < length told → x ≡ y → P row y →
     ((r : ℕ) → r < row → P r (slice_index_or told r (pos 0))) →
@@ -41,29 +34,19 @@ rows_more P told row x y within same now before =
 pub row_before : (r row n : ℕ) → r < row → r * n + n ≤ row * n
 row_before r row n below = let most : (r + 1) * n ≤ row * n = mul-le-mul (omega arith) (omega arith) in omega (arith, most)
 
-pub row_kept : (n : ℕ) (xs ys : List ℤ) (s e : ℕ) (D : Amounts) → s + n ≤ e → length ys ≡ length xs → SameBelow e xs ys →
-    HoldsRow n xs s D → HoldsRow n ys s D
-row_kept n xs ys s e D past size before holds = λ v below here.
+pub row_kept : {X : Type 0} (z : X) (n : ℕ) (xs ys : List X) (s e : ℕ) (f : ℕ → X) → s + n ≤ e → length ys ≡ length xs →
+    SameBelow z e xs ys → Holds z n xs s f → Holds z n ys s f
+row_kept z n xs ys s e f past size before holds = λ v below here.
     before (s + v) (omega arith) ∙ holds v below (omega arith)
 
-pub row_left : (n : ℕ) (xs xs' ys ys' : List ℤ) (s e : ℕ) → s + n ≤ e → SameFrom s xs xs' → SameBelow e ys ys' →
-    KeepsRow n xs' ys s → KeepsRow n xs ys' s
-row_left n xs xs' ys ys' s e past from before keeps = λ v below.
-    before (s + v) (omega arith) ∙ keeps v below ∙ from (s + v) (omega arith)
-
-pub order_kept : (n : ℕ) (xs ys : List ℕ) (s e : ℕ) (l : List ℕ) → s + n ≤ e → length ys ≡ length xs → SameOrderBelow e xs ys →
-    HoldsOrder n xs s l → HoldsOrder n ys s l
-order_kept n xs ys s e l past size before holds = λ v below here.
-    before (s + v) (omega arith) ∙ holds v below (omega arith)
-
-pub order_left : (n : ℕ) (xs xs' ys ys' : List ℕ) (s e : ℕ) → s + n ≤ e → SameOrderFrom s xs xs' → SameOrderBelow e ys ys' →
-    KeepsOrder n xs' ys s → KeepsOrder n xs ys' s
-order_left n xs xs' ys ys' s e past from before keeps = λ v below.
+pub row_left : {X : Type 0} (z : X) (n : ℕ) (xs xs' ys ys' : List X) (s e : ℕ) → s + n ≤ e → SameFrom z s xs xs' →
+    SameBelow z e ys ys' → Keeps z n xs' ys s → Keeps z n xs ys' s
+row_left z n xs xs' ys ys' s e past from before keeps = λ v below.
     before (s + v) (omega arith) ∙ keeps v below ∙ from (s + v) (omega arith)
 
 pub judged_kept : (g : Multigraph) (q : ℕ) (amounts : List ℤ) (s e : ℕ) (told : ℤ) (x a a' y b b' : List ℤ) (z c c' : List ℕ) →
     s + g.size ≤ e → length a' ≡ length a → length b' ≡ length b → length c' ≡ length c →
-    SameBelow e a a' → SameBelow e b b' → SameOrderBelow e c c' →
+    SameBelow (pos 0) e a a' → SameBelow (pos 0) e b b' → SameBelow 0 e c c' →
     AnswersJudge g q amounts s told x a y b z c → AnswersJudge g q amounts s told x a' y b' z c'
 judged_kept g q amounts s e told x a a' y b b' z c c' past k l m f h i (inl j) = inl (record {
   divisor = j.divisor;
@@ -71,30 +54,30 @@ judged_kept g q amounts s e told x a a' y b b' z c c' past k l m f h i (inl j) =
   verdict = j.verdict;
   right = j.right;
   is_told = j.is_told;
-  has_script = row_kept g.size a a' s e _ past k f j.has_script;
-  has_reduced = row_kept g.size b b' s e _ past l h j.has_reduced;
-  has_order = order_kept g.size c c' s e _ past m i j.has_order;
+  has_script = row_kept (pos 0) g.size a a' s e _ past k f j.has_script;
+  has_reduced = row_kept (pos 0) g.size b b' s e _ past l h j.has_reduced;
+  has_order = row_kept 0 g.size c c' s e _ past m i j.has_order;
 })
 judged_kept g q amounts s e told x a a' y b b' z c c' past k l m f h i (inr j) = inr (record {
   refused = j.refused;
-  keeps_script = row_left g.size x x a a' s e past (λ _ _. refl) f j.keeps_script;
-  keeps_reduced = row_left g.size y y b b' s e past (λ _ _. refl) h j.keeps_reduced;
-  keeps_order = order_left g.size z z c c' s e past (λ _ _. refl) i j.keeps_order;
+  keeps_script = row_left (pos 0) g.size x x a a' s e past (λ _ _. refl) f j.keeps_script;
+  keeps_reduced = row_left (pos 0) g.size y y b b' s e past (λ _ _. refl) h j.keeps_reduced;
+  keeps_order = row_left 0 g.size z z c c' s e past (λ _ _. refl) i j.keeps_order;
 })
 
 pub judged_begun : (g : Multigraph) (q : ℕ) (amounts : List ℤ) (s : ℕ) (told : ℤ) (x x' a y y' b : List ℤ) (z z' c : List ℕ) →
-    SameFrom s x x' → SameFrom s y y' → SameOrderFrom s z z' →
+    SameFrom (pos 0) s x x' → SameFrom (pos 0) s y y' → SameFrom 0 s z z' →
     AnswersJudge g q amounts s told x' a y' b z' c → AnswersJudge g q amounts s told x a y b z c
 judged_begun g q amounts s told x x' a y y' b z z' c f h i (inl j) = inl j
 judged_begun g q amounts s told x x' a y y' b z z' c f h i (inr j) = inr (record {
   refused = j.refused;
-  keeps_script = row_left g.size x x' a a s (s + g.size) (omega arith) f (λ _ _. refl) j.keeps_script;
-  keeps_reduced = row_left g.size y y' b b s (s + g.size) (omega arith) h (λ _ _. refl) j.keeps_reduced;
-  keeps_order = order_left g.size z z' c c s (s + g.size) (omega arith) i (λ _ _. refl) j.keeps_order;
+  keeps_script = row_left (pos 0) g.size x x' a a s (s + g.size) (omega arith) f (λ _ _. refl) j.keeps_script;
+  keeps_reduced = row_left (pos 0) g.size y y' b b s (s + g.size) (omega arith) h (λ _ _. refl) j.keeps_reduced;
+  keeps_order = row_left 0 g.size z z' c c s (s + g.size) (omega arith) i (λ _ _. refl) j.keeps_order;
 })
 
 pub ranked_kept : (g : Multigraph) (amounts : List ℤ) (s r e : ℕ) (told : ℤ) (x a a' y b b' : List ℤ) → r < e →
-    length b' ≡ length b → SameBelow e a a' → SameBelow e b b' →
+    length b' ≡ length b → SameBelow (pos 0) e a a' → SameBelow (pos 0) e b b' →
     AnswersRank g amounts s r told x a y b → AnswersRank g amounts s r told x a' y b'
 ranked_kept g amounts s r e told x a a' y b b' past l f h (inl j) = inl (record {
   divisor = j.divisor;
@@ -112,7 +95,7 @@ ranked_kept g amounts s r e told x a a' y b b' past l f h (inr j) = inr (record 
 })
 
 pub ranked_begun : (g : Multigraph) (amounts : List ℤ) (s r : ℕ) (told : ℤ) (x x' a y y' b : List ℤ) →
-    SameFrom r x x' → SameFrom r y y' →
+    SameFrom (pos 0) r x x' → SameFrom (pos 0) r y y' →
     AnswersRank g amounts s r told x' a y' b → AnswersRank g amounts s r told x a y b
 ranked_begun g amounts s r told x x' a y y' b f h (inl j) = inl j
 ranked_begun g amounts s r told x x' a y y' b f h (inr j) = inr (record {
@@ -122,30 +105,30 @@ ranked_begun g amounts s r told x x' a y y' b f h (inr j) = inr (record {
 })
 
 told_kept : (g : Multigraph) (D : Amounts) (k s e : ℕ) (told : ℤ) (x a a' : List ℤ) → s + g.size ≤ e → length a' ≡ length a →
-    SameBelow e a a' → IsTestTold g D k s told x a → IsTestTold g D k s told x a'
+    SameBelow (pos 0) e a a' → IsTestTold g D k s told x a → IsTestTold g D k s told x a'
 told_kept g D k s e told x a a' past l f (inl (one, passes, keeps)) =
-    inl (one, passes, row_left g.size x x a a' s e past (λ _ _. refl) f keeps)
+    inl (one, passes, row_left (pos 0) g.size x x a a' s e past (λ _ _. refl) f keeps)
 told_kept g D k s e told x a a' past l f (inr (inl j)) = inr (inl (
   j.0,
   record {
     loss = j.1.loss;
     first = j.1.first;
-    has_loss = row_kept g.size a a' s e _ past l f j.1.has_loss;
+    has_loss = row_kept (pos 0) g.size a a' s e _ past l f j.1.has_loss;
   },
 ))
 told_kept g D k s e told x a a' past l f (inr (inr (two, fails, far, keeps))) =
-    inr (inr (two, fails, far, row_left g.size x x a a' s e past (λ _ _. refl) f keeps))
+    inr (inr (two, fails, far, row_left (pos 0) g.size x x a a' s e past (λ _ _. refl) f keeps))
 
-told_begun : (g : Multigraph) (D : Amounts) (k s : ℕ) (told : ℤ) (x x' a : List ℤ) → SameFrom s x x' →
+told_begun : (g : Multigraph) (D : Amounts) (k s : ℕ) (told : ℤ) (x x' a : List ℤ) → SameFrom (pos 0) s x x' →
     IsTestTold g D k s told x' a → IsTestTold g D k s told x a
 told_begun g D k s told x x' a f (inl (one, passes, keeps)) =
-    inl (one, passes, row_left g.size x x' a a s (s + g.size) (omega arith) f (λ _ _. refl) keeps)
+    inl (one, passes, row_left (pos 0) g.size x x' a a s (s + g.size) (omega arith) f (λ _ _. refl) keeps)
 told_begun g D k s told x x' a f (inr (inl j)) = inr (inl j)
 told_begun g D k s told x x' a f (inr (inr (two, fails, far, keeps))) =
-    inr (inr (two, fails, far, row_left g.size x x' a a s (s + g.size) (omega arith) f (λ _ _. refl) keeps))
+    inr (inr (two, fails, far, row_left (pos 0) g.size x x' a a s (s + g.size) (omega arith) f (λ _ _. refl) keeps))
 
 pub tested_kept : (g : Multigraph) (amounts : List ℤ) (k s e : ℕ) (told : ℤ) (x a a' : List ℤ) → s + g.size ≤ e →
-    length a' ≡ length a → SameBelow e a a' →
+    length a' ≡ length a → SameBelow (pos 0) e a a' →
     AnswersTest g amounts k s told x a → AnswersTest g amounts k s told x a'
 tested_kept g amounts k s e told x a a' past l f (inl j) = inl (record {
   divisor = j.divisor;
@@ -153,9 +136,9 @@ tested_kept g amounts k s e told x a a' past l f (inl j) = inl (record {
   right = told_kept g _ k s e told x a a' past l f j.right;
 })
 tested_kept g amounts k s e told x a a' past l f (inr (refused, keeps)) =
-    inr (refused, row_left g.size x x a a' s e past (λ _ _. refl) f keeps)
+    inr (refused, row_left (pos 0) g.size x x a a' s e past (λ _ _. refl) f keeps)
 
-pub tested_begun : (g : Multigraph) (amounts : List ℤ) (k s : ℕ) (told : ℤ) (x x' a : List ℤ) → SameFrom s x x' →
+pub tested_begun : (g : Multigraph) (amounts : List ℤ) (k s : ℕ) (told : ℤ) (x x' a : List ℤ) → SameFrom (pos 0) s x x' →
     AnswersTest g amounts k s told x' a → AnswersTest g amounts k s told x a
 tested_begun g amounts k s told x x' a f (inl j) = inl (record {
   divisor = j.divisor;
@@ -163,7 +146,7 @@ tested_begun g amounts k s told x x' a f (inl j) = inl (record {
   right = told_begun g _ k s told x x' a f j.right;
 })
 tested_begun g amounts k s told x x' a f (inr (refused, keeps)) =
-    inr (refused, row_left g.size x x' a a s (s + g.size) (omega arith) f (λ _ _. refl) keeps)
+    inr (refused, row_left (pos 0) g.size x x' a a s (s + g.size) (omega arith) f (λ _ _. refl) keeps)
 
 pub told_byte : (b : Bool) → pos (bool_byte b) ≡ told_of b
 told_byte true = refl

@@ -1,13 +1,10 @@
 -- What becomes of a row. An array has one for each divisor, with n places from place s on.
 --   row_at xs s               == the numbers from place s on
---   HoldsRow n xs s D         == n places from s on hold D, of those that the array xs has
---   HoldsOrder n xs s l       == so they hold the vertices of the list l
+--   Holds z n xs s f          == n places from s on hold f, of those that the array xs has
 --   HoldsDivisor n xs s d     == the divisor d has just the n amounts from place s on
 --   RefusesRow n xs s told    == an amount of the row is past the limit of a divisor; told is -1 less the first such vertex
---   KeepsRow n xs ys s        == the n places from place s on hold in ys what they held in xs
---   KeepsOrder n xs ys s      == so do those of an array of vertices
---   KeepsElsewhere n xs ys s  == all other places do
---   KeepsOrderElsewhere       == so do those of an array of vertices
+--   Keeps z n xs ys s         == the n places from place s on hold in ys what they held in xs
+--   KeepsElsewhere z n xs ys s   == all other places do; here and above z is what is read past the end of an array
 --   told_of b                 == 1 for yes and 0 for no
 --   IsJudged                  == the row is a divisor; told says whether that is winnable, by the verdict that `judge` gives; and
 --                                what is there of the arrays for scripts, reduced divisors and orders holds those of the verdict
@@ -36,11 +33,8 @@ use Rattle.dg_verdict.specs.declared.verdict.Verdict.{Verdict}
 abbrev pub row_at : List ℤ → ℕ → Amounts
 row_at xs s v = slice_index_or xs (s + v) (pos 0)
 
-abbrev pub HoldsRow : ℕ → List ℤ → ℕ → Amounts → Type 0
-HoldsRow n xs s D = (v : ℕ) → v < n → s + v < length xs → row_at xs s v ≡ D v
-
-abbrev pub HoldsOrder : ℕ → List ℕ → ℕ → List ℕ → Type 0
-HoldsOrder n xs s l = (v : ℕ) → v < n → s + v < length xs → slice_index_or xs (s + v) 0 ≡ slice_index_or l v 0
+abbrev pub Holds : {X : Type 0} → X → ℕ → List X → ℕ → (ℕ → X) → Type 0
+Holds z n xs s f = (v : ℕ) → v < n → s + v < length xs → slice_index_or xs (s + v) z ≡ f v
 
 pub record HoldsDivisor (n : ℕ) (xs : List ℤ) (s : ℕ) (d : Vector) : Type 0 where
   pub size : d.size ≡ n
@@ -52,17 +46,11 @@ pub record RefusesRow (n : ℕ) (xs : List ℤ) (s : ℕ) (told : ℤ) : Type 0 
   pub past : IsFirstBeyond MAX_AMOUNT n (row_at xs s) vertex
   pub is_told : told ≡ (pos 0 -ℤ pos 1) -ℤ pos vertex
 
-abbrev pub KeepsRow : ℕ → List ℤ → List ℤ → ℕ → Type 0
-KeepsRow n xs ys s = (v : ℕ) → v < n → row_at ys s v ≡ row_at xs s v
+abbrev pub Keeps : {X : Type 0} → X → ℕ → List X → List X → ℕ → Type 0
+Keeps z n xs ys s = (v : ℕ) → v < n → slice_index_or ys (s + v) z ≡ slice_index_or xs (s + v) z
 
-abbrev pub KeepsOrder : ℕ → List ℕ → List ℕ → ℕ → Type 0
-KeepsOrder n xs ys s = (v : ℕ) → v < n → slice_index_or ys (s + v) 0 ≡ slice_index_or xs (s + v) 0
-
-abbrev pub KeepsElsewhere : ℕ → List ℤ → List ℤ → ℕ → Type 0
-KeepsElsewhere n xs ys s = (k : ℕ) → (k < s) ⊎ (s + n ≤ k) → slice_index_or ys k (pos 0) ≡ slice_index_or xs k (pos 0)
-
-abbrev pub KeepsOrderElsewhere : ℕ → List ℕ → List ℕ → ℕ → Type 0
-KeepsOrderElsewhere n xs ys s = (k : ℕ) → (k < s) ⊎ (s + n ≤ k) → slice_index_or ys k 0 ≡ slice_index_or xs k 0
+abbrev pub KeepsElsewhere : {X : Type 0} → X → ℕ → List X → List X → ℕ → Type 0
+KeepsElsewhere z n xs ys s = (k : ℕ) → (k < s) ⊎ (s + n ≤ k) → slice_index_or ys k z ≡ slice_index_or xs k z
 
 abbrev pub told_of : Bool → ℤ
 told_of b = if b then pos 1 else pos 0
@@ -74,16 +62,16 @@ pub record IsJudged (g : Multigraph) (q : ℕ) (xs : List ℤ) (s : ℕ) (told :
   pub verdict : Verdict
   pub right : IsVerdictOn g q (at divisor) verdict
   pub is_told : told ≡ told_of verdict.winnable
-  pub has_script : HoldsRow g.size scripts s (at verdict.script)
-  pub has_reduced : HoldsRow g.size reduced s (at verdict.reduced)
-  pub has_order : HoldsOrder g.size orders s verdict.order
+  pub has_script : Holds (pos 0) g.size scripts s (at verdict.script)
+  pub has_reduced : Holds (pos 0) g.size reduced s (at verdict.reduced)
+  pub has_order : Holds 0 g.size orders s (λ v. slice_index_or verdict.order v 0)
 
 pub record LeavesJudged (g : Multigraph) (xs : List ℤ) (s : ℕ) (told : ℤ) (scripts scripts' reduced reduced' : List ℤ)
     (orders orders' : List ℕ) : Type 0 where
   pub refused : RefusesRow g.size xs s told
-  pub keeps_script : KeepsRow g.size scripts scripts' s
-  pub keeps_reduced : KeepsRow g.size reduced reduced' s
-  pub keeps_order : KeepsOrder g.size orders orders' s
+  pub keeps_script : Keeps (pos 0) g.size scripts scripts' s
+  pub keeps_reduced : Keeps (pos 0) g.size reduced reduced' s
+  pub keeps_order : Keeps 0 g.size orders orders' s
 
 abbrev pub AnswersJudge : Multigraph → ℕ → List ℤ → ℕ → ℤ → List ℤ → List ℤ → List ℤ → List ℤ → List ℕ → List ℕ → Type 0
 AnswersJudge g q xs s told scripts scripts' reduced reduced' orders orders' =
@@ -110,12 +98,12 @@ AnswersRank g xs s r told ranks ranks' duals duals' =
 pub record FailsTest (g : Multigraph) (D : Amounts) (k s : ℕ) (losses : List ℤ) : Type 0 where
   pub loss : Vector
   pub first : IsFirstLoss g D k (at loss)
-  pub has_loss : HoldsRow g.size losses s (at loss)
+  pub has_loss : Holds (pos 0) g.size losses s (at loss)
 
 abbrev pub IsTestTold : Multigraph → Amounts → ℕ → ℕ → ℤ → List ℤ → List ℤ → Type 0
 IsTestTold g D k s told losses losses' =
-    ((told ≡ pos 1) × HasRankAtLeast g D k × KeepsRow g.size losses losses' s) ⊎ ((told ≡ pos 0) × FailsTest g D k s losses')
-    ⊎ ((told ≡ pos 2) × (¬ HasRankAtLeast g D k) × ArePastTrialLimits g.size k × KeepsRow g.size losses losses' s)
+    ((told ≡ pos 1) × HasRankAtLeast g D k × Keeps (pos 0) g.size losses losses' s) ⊎ ((told ≡ pos 0) × FailsTest g D k s losses')
+    ⊎ ((told ≡ pos 2) × (¬ HasRankAtLeast g D k) × ArePastTrialLimits g.size k × Keeps (pos 0) g.size losses losses' s)
 
 pub record IsTested (g : Multigraph) (xs : List ℤ) (k s : ℕ) (told : ℤ) (losses losses' : List ℤ) : Type 0 where
   pub divisor : Vector
@@ -124,4 +112,4 @@ pub record IsTested (g : Multigraph) (xs : List ℤ) (k s : ℕ) (told : ℤ) (l
 
 abbrev pub AnswersTest : Multigraph → List ℤ → ℕ → ℕ → ℤ → List ℤ → List ℤ → Type 0
 AnswersTest g xs k s told losses losses' =
-    IsTested g xs k s told losses losses' ⊎ (RefusesRow g.size xs s told × KeepsRow g.size losses losses' s)
+    IsTested g xs k s told losses losses' ⊎ (RefusesRow g.size xs s told × Keeps (pos 0) g.size losses losses' s)

@@ -3,9 +3,9 @@
 ghost use Rattle.std.specs.Prelude.{◌≡◌, ℕ, ◌<◌, ◌≤◌, ◌+◌, ◌*◌, ◌⊎◌, pos, length};
 ghost use Rattle.std.specs.List.{slice_index_or};
 ghost use Rattle.dg_abi.specs.Calls.{IsAllOrNone};
-ghost use Rattle.dg_abi.specs.Rows.{AnswersJudge, KeepsElsewhere, KeepsOrderElsewhere};
+ghost use Rattle.dg_abi.specs.Rows.{AnswersJudge, KeepsElsewhere};
 
-use crate::rows::{divisor_at, put_order, put_script, put_wide};
+use crate::rows::{divisor_at, in_64_bits, put};
 use dg_graph::Graph;
 use dg_reduce::InverseLaplacian;
 use dg_verdict::judge_with_inverse;
@@ -65,21 +65,21 @@ fn judge_row(
     ensures scripts { length scripts.new ≡ length scripts.old }
     ensures reduced { length reduced.new ≡ length reduced.old }
     ensures orders { length orders.new ≡ length orders.old }
-    ensures scripts_elsewhere { KeepsElsewhere graph.now.size scripts.old scripts.new start }
-    ensures reduced_elsewhere { KeepsElsewhere graph.now.size reduced.old reduced.new start }
-    ensures orders_elsewhere { KeepsOrderElsewhere graph.now.size orders.old orders.new start }
+    ensures scripts_elsewhere { KeepsElsewhere (pos 0) graph.now.size scripts.old scripts.new start }
+    ensures reduced_elsewhere { KeepsElsewhere (pos 0) graph.now.size reduced.old reduced.new start }
+    ensures orders_elsewhere { KeepsElsewhere 0 graph.now.size orders.old orders.new start }
 {
     let divisor = match divisor_at(graph, amounts, start) {
         Ok(divisor) => divisor,
         Err(told) => return told,
     };
-    let verdict = judge_with_inverse(graph, inverse, q, &divisor);
+    let verdict = judge_with_inverse(graph, Some(inverse), q, &divisor);
     // The clauses of `size` say that the graph, the amounts and the script are within their limits.
     let size = graph.size();
     let _amounts = divisor.size();
     let _script = verdict.script.size();
-    put_script(scripts, start, &verdict.script);
-    put_wide(reduced, start, &verdict.reduced);
-    put_order(orders, start, size, &verdict.order);
+    put(scripts, start, size, &verdict.script.entries());
+    put(reduced, start, size, &in_64_bits(&verdict.reduced));
+    put(orders, start, size, &verdict.order);
     i8::from(verdict.winnable)
 }

@@ -8,8 +8,8 @@ ghost use Rattle.dg_abi.specs.Calls.{IsAllOrNone};
 ghost use Rattle.dg_abi.specs.Rows.{AnswersRank, AnswersTest, IsTestTold, KeepsElsewhere};
 
 use crate::faults::NO_LOSS_NAMED;
-use crate::rows::{divisor_at, put_divisor};
-use dg_chips::Divisor;
+use crate::rows::{divisor_at, put};
+use dg_chips::{Divisor, widened};
 use dg_graph::Graph;
 use dg_rank::{both_ranks, has_rank, rank_at_least_by};
 use dg_reduce::InverseLaplacian;
@@ -60,8 +60,8 @@ fn rank_row(
     ensures answered { AnswersRank graph.now amounts.now start row result ranks.old ranks.new duals.old duals.new }
     ensures ranks { length ranks.new ≡ length ranks.old }
     ensures duals { length duals.new ≡ length duals.old }
-    ensures ranks_elsewhere { KeepsElsewhere 1 ranks.old ranks.new row }
-    ensures duals_elsewhere { KeepsElsewhere 1 duals.old duals.new row }
+    ensures ranks_elsewhere { KeepsElsewhere (pos 0) 1 ranks.old ranks.new row }
+    ensures duals_elsewhere { KeepsElsewhere (pos 0) 1 duals.old duals.new row }
 {
     let divisor = match divisor_at(graph, amounts, start) {
         Ok(divisor) => divisor,
@@ -109,7 +109,7 @@ fn rank_test_row(
     requires losses { (start + graph.now.size ≤ length losses.old) ⊎ (length losses.old ≡ 0) }
     ensures answered { AnswersTest graph.now amounts.now k start result losses.old losses.new }
     ensures losses { length losses.new ≡ length losses.old }
-    ensures elsewhere { KeepsElsewhere graph.now.size losses.old losses.new start }
+    ensures elsewhere { KeepsElsewhere (pos 0) graph.now.size losses.old losses.new start }
 {
     match divisor_at(graph, amounts, start) {
         Ok(divisor) => tell_test(graph, inverse, k, &divisor, start, losses),
@@ -130,7 +130,7 @@ fn tell_test(
     requires losses { (start + graph.now.size ≤ length losses.old) ⊎ (length losses.old ≡ 0) }
     ensures right { IsTestTold graph.now (at divisor.now) k start result losses.old losses.new }
     ensures losses { length losses.new ≡ length losses.old }
-    ensures elsewhere { KeepsElsewhere graph.now.size losses.old losses.new start }
+    ensures elsewhere { KeepsElsewhere (pos 0) graph.now.size losses.old losses.new start }
 {
     let _size = graph.size();
     if let Ok(verdict) = rank_at_least_by(graph, Some(inverse), divisor, k) {
@@ -156,12 +156,12 @@ fn tell_verdict(
     requires losses { (start + graph.now.size ≤ length losses.old) ⊎ (length losses.old ≡ 0) }
     ensures right { IsTestTold graph.now (at _divisor.now) _k start result losses.old losses.new }
     ensures losses { length losses.new ≡ length losses.old }
-    ensures elsewhere { KeepsElsewhere graph.now.size losses.old losses.new start }
+    ensures elsewhere { KeepsElsewhere (pos 0) graph.now.size losses.old losses.new start }
 {
     match verdict {
         RankVerdict::AtLeast(_) => 1,
         RankVerdict::Below(_, loss) => {
-            put_divisor(losses, start, loss);
+            put(losses, start, graph.size(), &widened(loss.amounts()));
             0
         }
     }

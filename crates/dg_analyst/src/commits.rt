@@ -83,7 +83,7 @@ pub fn commit_look<N: Name>(
     let shown = &look.shown;
     let q = look.q;
     renew_game_inverse(inverse, q, shown);
-    let verdict = judge_with_inverse(&shown.graph, inverse, q, &shown.position);
+    let verdict = judge_with_inverse(&shown.graph, Some(inverse), q, &shown.position);
     let finding = Finding::Judged(verdict);
     table.settle(rt, alloc, seat, &look.receipt, shown, &finding)
 }

@@ -135,6 +135,14 @@ impl Divisor {
         usize::from(self.size)
     }
 
+    /// The amounts in vertex order, with zeros past the last.
+    pub fn amounts(&self) -> &[i32; 16]
+        ensures amounts { result.now ≡ self.now.numbers }
+        ensures divisor { IsDivisorVector self.now }
+    {
+        &self.amounts
+    }
+
     /// The sum of all amounts.
     pub fn degree(&self) -> i64
         ensures { result ≡ degree self.now.size (at self.now) }

@@ -177,7 +177,7 @@ impl Script {
     }
 
     /// How often each vertex lends, and 0 past the last one.
-    pub(crate) fn entries(&self) -> [i64; 16]
+    pub fn entries(&self) -> [i64; 16]
         ensures entries { result ≡ self.now.numbers }
         ensures script { IsScriptVector self.now }
     {

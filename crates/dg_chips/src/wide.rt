@@ -76,6 +76,19 @@ impl Wide {
         }
     }
 
+    /// The amounts in 32 bits, with zeros past the last.
+    pub fn in_32_bits(&self) -> [i32; 16]
+        requires { (v : ℕ) → v < self.now.size → unsigned_abs (at self.now v) ≤ 2 ^ 30 }
+        ensures amounts { result ≡ self.now.numbers }
+        ensures wide { IsWide self.now }
+    {
+        let mut amounts = [0; 16];
+        for v in 0..self.size() {
+            amounts[v] = self.get(v) as i32;
+        }
+        amounts
+    }
+
     /// The amounts after each vertex of a set has lent so often.
     pub fn fired(&self, graph: &Graph, set: u16, times: i128) -> Wide
         requires size { self.now.size ≡ graph.now.size }

@@ -5,16 +5,7 @@
 /// hand.
 pub(crate) const VERSION: &str = "1.1.0\nproved with rattle-kit-13f, logic dac8208d650f15bf";
 
-pub(crate) const FILE_HELP: &str = r#"The table: a JSON file, such as triangle.json:
-{
-  "vertices": ["a", "b", "c"],
-  "edges": [["a", "b", 1], ["b", "c", 1], ["a", "c", 1]],
-  "amounts": [2, -1, -1],
-  "q": "a"
-}
-It has 1 to 16 vertices, with names of 1 to 16 letters, digits
-or `_`; a connected graph, with at most 63 edges at each vertex;
-whole amounts from -1000000 to 1000000, one for each vertex"#;
+pub(crate) const FILE_HELP: &str = "The table: a JSON file; `dollar --help` shows one";
 
 pub(crate) const STEPS_HELP: &str =
     "A text file with a step on each line: a seat, 1 to 64, and a command";
@@ -26,7 +17,7 @@ pub(crate) const TURNS_HELP: &str = "How many turns there may be: a whole number
 
 pub(crate) const SCRIPT_HELP: &str = "Text files with the lines of a session each, up to 64 files";
 
-pub(crate) const WORKERS_HELP: &str = "How many threads share the trials, 1 to 16; default 1";
+pub(crate) const WORKERS_HELP: &str = "Threads for a rank test, 1 to 16; default 1";
 
 pub(crate) const RANK_WORKERS_HELP: &str = "Threads that share trials or lines, 1 to 16; default 1";
 
@@ -59,7 +50,9 @@ can clear all debts. This is the table triangle.json:
 
 An edge is two names and the number of edges between them. The amounts are in
 the order of the vertices, and a negative one is a debt. Verdicts are computed
-from the vertex q, which may be any.
+from the vertex q, which may be any. A table has 1 to 16 vertices, with names of
+1 to 16 letters, digits or `_`; a connected graph, with at most 63 edges at each
+vertex; and whole amounts from -1000000 to 1000000.
 
     $ dollar judge triangle.json
     winnable by a=0 b=-1 c=-1 to a=0 b=0 c=0
@@ -71,80 +64,56 @@ such as `dollar judge --help`, explains its answers and its limits.
 from 0, lines and steps from 1: `edge 0 is empty` is about the first edge, and
 `line 1: bad seat` about the first line.
 
-A run that fails prints one line that says why, on standard error, and nothing
-else. But `serve`, `--lines` and `--divisors` have answered the lines before,
-and `party` prints the history even if a session ended early. If a line of these
-is refused, `refused ..` or `bad ..` is its answer, and the run goes on.
+A run that fails says why on standard error, and prints nothing. But `serve`,
+`--lines` and `--divisors` have answered the lines before, and `party` prints
+the history even if a session ended early. If a line of these is refused,
+`refused ..` or `bad ..` is its answer, and the run goes on.
 
 The status is
 
     0  if there is an answer, also `unwinnable` and `rank below ..`
     2  if the command line is refused
     3  if a table or a steps file is refused, or a limit is passed
-    4  if memory, a thread or a cell of the history is refused
+    4  if the system refuses memory or a thread
     5  if a file can't be read or the output can't be written
 "#;
 
 pub(crate) const JUDGE_MORE: &str = "\
 The verdict comes with a proof that you can check:
 
-    $ dollar judge triangle.json
-    winnable by a=0 b=-1 c=-1 to a=0 b=0 c=0
-
-The first numbers say how often each vertex lends, or borrows if the number is
-negative; q does neither. The second numbers are the dollars after that. Then
-only q may be in debt, and no vertices other than q could lend together without
-one of them falling into debt. So the table is winnable exactly if q is not in
-debt. Otherwise the answer is `unwinnable by .. to ..`, also with the status 0.
-
-With --order, the verdict ends with what shows that no such vertices could lend
-together. Set a fire to q, and let a vertex burn as soon as it has more edges to
-burnt vertices than dollars: all burn, here in this order.
-
     $ dollar judge --order triangle.json
     winnable by a=0 b=-1 c=-1 to a=0 b=0 c=0 burning a b c
 
-With --lines, FILE has a table on each line, and is read as it comes. Any other
-line is answered by the fault of such a file:
+After `by` stands how often each vertex lends, or borrows if the number is
+negative; q does neither. After `to` stand the dollars that this leads to. Then
+only q may be in debt, and no vertices other than q could lend together without
+one of them falling into debt. What shows that is printed with --order: set a
+fire to q, and let a vertex burn as soon as it has more edges to burnt vertices
+than dollars, and all burn, here in this order. So the table is winnable if and
+only if q is not in debt. Otherwise the answer is `unwinnable by .. to ..`.
 
-    $ cat tables.txt
-    {\"vertices\":[\"a\",\"b\"],\"edges\":[[\"a\",\"b\",2]],\"amounts\":[2,-2],\"q\":\"a\"}
-    {\"vertices\":[\"a\",\"b\"],\"edges\":[[\"a\",\"b\",2]],\"amounts\":[1,-1],\"q\":\"a\"}
-    {\"vertices\":[\"a\",\"b\"]}
-    $ dollar judge --lines tables.txt
-    winnable by a=0 b=-1 to a=0 b=0
-    unwinnable by a=0 b=-1 to a=-1 b=1
-    refused shape of top
-
-With --divisors, LINES has amounts for the table of FILE on each line, in the
-order of its vertices, with one space between two. Each is answered as the table
-with these amounts, or with the fault that they would have in a table file:
+With --lines, FILE has a table on each line. With --divisors, each line of LINES
+has amounts for the table of FILE, with one space between two. They are read as
+they come; one that is refused has the fault that a table file would have:
 
     $ cat amounts.txt
-    2 -1 -1
     4 -1 -1
     1 -1
     $ dollar judge triangle.json --divisors amounts.txt
-    winnable by a=0 b=-1 c=-1 to a=0 b=0 c=0
     winnable by a=0 b=-1 c=-1 to a=2 b=0 c=0
     refused number of amounts
 
-The faults in their order are `shape of amounts` if a word is not a whole
-number, `number of amounts`, and `amount of vertex v`, the first out of range,
-from 0.
-
 With --numbers, an answer is 1 or 0 for winnable or not, the script, and the
-dollars after that. A refused line keeps its words:
+dollars after it, but a refused line keeps its words:
 
     $ dollar judge triangle.json --divisors amounts.txt --numbers
-    1 0 -1 -1 0 0 0
     1 0 -1 -1 2 0 0
     refused number of amounts
 ";
 
 pub(crate) const RANK_MORE: &str = "\
 A trial takes K dollars from the vertices, in one of the ways to do so. They are
-tried in this order, here for two dollars and three vertices:
+tried in lexicographic order, here for two dollars and three vertices:
 
     0 0 2, 0 1 1, 0 2 0, 1 0 1, 1 1 0, 2 0 0
 
@@ -158,51 +127,24 @@ first trial that does not is shown. The status is 0 for both answers.
     rank below 1 at a=0 b=0 c=1
 
 K may be at most 1000, and there may be at most 200000 trials; a test past that
-is refused with `too many trials`. The workers change no answer. With --lines,
-these tests have an answer too:
+is refused with `too many trials`. The workers change no answer.
+
+Tables on lines and amounts on lines are read as `dollar judge --help` explains.
+There a test past the limits is answered too, without the first loss, as in
+`rank below 12 at ?`, though on graphs of many edges it may take long. To ask so
+about one table, make a line of it:
 
     jq -c . FILE | dollar rank --lines /dev/stdin K
 
-With --lines, FILE has a table on each line, and is read as it comes. Any other
-line is answered by the fault of such a file:
-
-    $ cat tables.txt
-    {\"vertices\":[\"a\",\"b\"],\"edges\":[[\"a\",\"b\",2]],\"amounts\":[2,-2],\"q\":\"a\"}
-    {\"vertices\":[\"a\",\"b\"],\"edges\":[[\"a\",\"b\",2]],\"amounts\":[1,-1],\"q\":\"a\"}
-    {\"vertices\":[\"a\",\"b\"]}
-    $ dollar rank --lines tables.txt 0
-    rank at least 0
-    rank below 0 at a=0 b=0
-    refused shape of top
-
-There a test past the limits is answered too, without the first loss:
-`rank below 12 at ?`. On graphs of many edges it may take long.
-
-With --divisors, LINES has amounts for the table of FILE on each line, in the
-order of its vertices, with one space between two. Each is answered as the table
-with these amounts, or with the fault that they would have in a table file:
+With --numbers, an answer is 1 or 0 for the rank being at least K or not, and
+the first loss, with NA at each vertex if none is named:
 
     $ cat amounts.txt
     2 -1 -1
     4 -1 -1
-    1 -1
-    $ dollar rank triangle.json 1 --divisors amounts.txt
-    rank below 1 at a=0 b=0 c=1
-    rank at least 1
-    refused number of amounts
-
-The faults in their order are `shape of amounts` if a word is not a whole
-number, `number of amounts`, and `amount of vertex v`, the first out of range,
-from 0.
-
-With --numbers, an answer is 1 or 0 for the rank being at least K or not, and
-the first loss, with NA at each vertex if none is named. A refused line keeps
-its words:
-
     $ dollar rank triangle.json 1 --divisors amounts.txt --numbers
     0 0 0 1
     1 NA NA NA
-    refused number of amounts
 ";
 
 pub(crate) const RIEMANN_ROCH_MORE: &str = "\
@@ -216,8 +158,8 @@ For the triangle:
 
     degree  the sum of the dollars
     genus   edges minus vertices, plus 1
-    rank    the most dollars that can be taken, no matter where, so that the
-            rest can still be won; -1 if the table can't be won
+    rank    the most dollars that can be taken, wherever they are taken, without
+            making the table unwinnable; -1 if it can't be won
     dual    the rank of another table: each vertex holds two dollars less than
             it has edges, minus its dollars here
 
@@ -225,48 +167,22 @@ By Riemann-Roch, rank - dual = degree + 1 - genus.
 
 Both ranks must be within the limits of `dollar rank`. With 16 vertices each may
 be at most 6. Otherwise the fault is `too many trials`; with --lines every table
-has an answer:
+has an answer, but on graphs of many edges some ranks take long:
 
     jq -c . FILE | dollar rr --lines /dev/stdin
 
-With --lines, FILE has a table on each line, and is read as it comes. Any other
-line is answered by the fault of such a file:
-
-    $ cat tables.txt
-    {\"vertices\":[\"a\",\"b\"],\"edges\":[[\"a\",\"b\",2]],\"amounts\":[2,-2],\"q\":\"a\"}
-    {\"vertices\":[\"a\",\"b\"],\"edges\":[[\"a\",\"b\",2]],\"amounts\":[1,-1],\"q\":\"a\"}
-    {\"vertices\":[\"a\",\"b\"]}
-    $ dollar rr --lines tables.txt
-    degree 0 genus 1 rank 0 dual 0
-    degree 0 genus 1 rank -1 dual -1
-    refused shape of top
-
-On graphs of many edges some ranks take long.
-
-With --divisors, LINES has amounts for the table of FILE on each line, in the
-order of its vertices, with one space between two. Each is answered as the table
-with these amounts, or with the fault that they would have in a table file:
+Tables on lines and amounts on lines are read as `dollar judge --help` explains.
+With --numbers, an answer has the four numbers alone:
 
     $ cat amounts.txt
     2 -1 -1
     4 -1 -1
-    1 -1
     $ dollar rr triangle.json --divisors amounts.txt
     degree 0 genus 1 rank 0 dual 0
     degree 2 genus 1 rank 1 dual -1
-    refused number of amounts
-
-The faults in their order are `shape of amounts` if a word is not a whole
-number, `number of amounts`, and `amount of vertex v`, the first out of range,
-from 0.
-
-With --numbers, an answer has the four numbers alone. A refused line keeps its
-words:
-
     $ dollar rr triangle.json --divisors amounts.txt --numbers
     0 1 0 0
     2 1 1 -1
-    refused number of amounts
 ";
 
 pub(crate) const GREEDY_MORE: &str = "\
@@ -302,9 +218,8 @@ STEPS has up to 65536 lines, each with a seat and one of these commands:
     commit              the verdict on the look that it keeps is entered
     rank k              the rank test of degree k on that look is entered
 
-There is exactly one space between two words, and none at the end. Tabs, empty
-lines, comments and carriage returns are refused, and the fault counts lines
-from 1, as in `line 1: bad seat`.
+There is exactly one space between two words, and none at the end. Empty lines,
+comments, tabs and carriage returns are refused, as in `line 1: bad seat`.
 
     $ cat steps.txt
     1 look
@@ -313,7 +228,6 @@ from 1, as in `line 1: bad seat`.
     1 look
     2 gift b 1
     1 rank 1
-    2 claim
     $ dollar rehearse triangle.json steps.txt
     0 looked 0 a=2 b=-1 c=-1
     1 moved a=0 b=0 c=0
@@ -321,7 +235,6 @@ from 1, as in `line 1: bad seat`.
     3 looked 0 a=0 b=0 c=0
     4 given 1 a=0 b=1 c=0
     5 stale 1
-    6 won
 
 Each step has a line with its number, from 0, and its result. A levy takes
 dollars from V. A join changes no amount, but from then on dollars go along the
@@ -333,10 +246,8 @@ step.
 ";
 
 pub(crate) const SERVE_MORE: &str = "\
-A line of the input is a command: lend V, borrow V, fire V,V,.., script V=x,..,
-gift V x, join V V, claim, look, commit or rank k, as `dollar rehearse --help`
-explains them, but without a seat. Each line is answered before the program
-waits for the next.
+A line of the input is a command, such as `lend a`: `dollar rehearse --help` has
+them all. Each line is answered before the program waits for the next.
 
     $ cat lines.txt
     look
@@ -357,20 +268,16 @@ answer to any other line says what is wrong: `bad word`, `bad form`, `bad name`,
 `bad trials` if a rank test is past the limits of `dollar rank`. After that the
 session goes on.
 
-With `--seats N` the table has N seats, numbered from 1, and each line is a
-seat, one space and a command. Each seat keeps a look of its own, and all make
-one history. The answer to a line for any other seat is `bad seat`.
+With `--seats N`, each line is a seat from 1 to N, one space and a command. Each
+seat keeps a look of its own, and all make one history. The answer to a line for
+any other seat is `bad seat`.
 
     $ cat two.txt
     1 look
-    2 lend a
-    1 commit
     2 commit
     3 look
     $ dollar serve triangle.json --seats 2 < two.txt
     0 looked 0 a=2 b=-1 c=-1
-    1 moved a=0 b=0 c=0
-    2 winnable by a=0 b=0 c=0 to a=0 b=0 c=0
     bad look
     bad seat
 

@@ -114,7 +114,7 @@ pub(crate) enum Refusal<'a> {
     #[error("invalid value '{1}' for {0}")]
     Number(NumberArgument, &'a str),
     /// There are workers or numbers, but no lines.
-    #[error("the following required arguments were not provided:\n  --lines")]
+    #[error("the following required arguments were not provided:\n  <--lines|--divisors <LINES>>")]
     Lines,
     /// Lines are both tables and amounts.
     #[error("the argument '--lines' cannot be used with '--divisors <LINES>'")]

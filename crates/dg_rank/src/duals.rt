@@ -28,19 +28,13 @@ pub fn has_rank(graph: &Graph, divisor: &Divisor, k: u32) -> bool
         (¬ HasRankAtLeast graph.now (at divisor.now) k) }
 {
     let _size = graph.size();
-    passes_rank_test(
-        graph,
-        &InverseLaplacian::new(graph, 0),
-        &mut Made::nothing(),
-        divisor,
-        k,
-    )
+    passes_rank_test(graph, None, &mut Made::nothing(), divisor, k)
 }
 
-/// What `has_rank` answers, with any inverse. The determining sets that were made for the graph are kept.
+/// What `has_rank` answers, with any inverse or none. The determining sets that were made for the graph are kept.
 pub(crate) fn passes_rank_test(
     graph: &Graph,
-    inverse: &InverseLaplacian,
+    inverse: Option<&InverseLaplacian>,
     made: &mut Made,
     divisor: &Divisor,
     k: u32,
@@ -74,7 +68,7 @@ pub(crate) fn degree_left(divisor: &Divisor, k: u32) -> i64
 /// the divisor has to be asked.
 pub(crate) fn passes_unasked(
     graph: &Graph,
-    inverse: &InverseLaplacian,
+    inverse: Option<&InverseLaplacian>,
     made: &mut Made,
     divisor: &Divisor,
     k: u32,
@@ -146,7 +140,7 @@ fn dual_for_rank(graph: &Graph, divisor: &Divisor) -> Wide
 /// Whether all trials of degree k win.
 fn all_trials_win(
     graph: &Graph,
-    inverse: &InverseLaplacian,
+    inverse: Option<&InverseLaplacian>,
     made: &mut Made,
     amounts: &Wide,
     k: u32,

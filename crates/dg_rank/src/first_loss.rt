@@ -21,7 +21,7 @@ use dg_reduce::{EffectiveDivisor, InverseLaplacian, reduce_certified};
 /// The first loss of the trials of degree k from one on; `None` if these all win.
 pub(crate) fn first_loss(
     graph: &Graph,
-    inverse: &InverseLaplacian,
+    inverse: Option<&InverseLaplacian>,
     made: &mut Made,
     chips: &Wide,
     k: u32,
@@ -113,7 +113,7 @@ fn first_loss_above(
 /// Amounts without debts that amounts can be fired to, once a trial is lost and given back. `None` if it can't be lost.
 pub(crate) fn effective_with(
     graph: &Graph,
-    inverse: &InverseLaplacian,
+    inverse: Option<&InverseLaplacian>,
     chips: &Wide,
     trial: &Trial,
 ) -> Option<EffectiveDivisor>

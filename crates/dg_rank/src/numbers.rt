@@ -23,7 +23,7 @@ pub fn rank(graph: &Graph, divisor: &Divisor) -> Option<i64>
         (IsRankInLimits graph.now (at divisor.now)) }
 {
     let _size = graph.size();
-    let fails = first_failing(graph, &InverseLaplacian::new(graph, 0), divisor, true)?;
+    let fails = first_failing_alone(graph, divisor, true)?;
     Some(i64::from(fails) - 1)
 }
 
@@ -42,7 +42,7 @@ pub fn both_ranks(
     let _size = graph.size();
     let fails = match inverse {
         Some(inverse) => first_failing(graph, inverse, divisor, false),
-        None => first_failing(graph, &InverseLaplacian::new(graph, 0), divisor, false),
+        None => first_failing_alone(graph, divisor, false),
     };
     let Some(fails) = fails else { unreachable!() };
     let rank = i64::from(fails) - 1;
@@ -59,10 +59,24 @@ pub fn both_ranks_in_limits(graph: &Graph, divisor: &Divisor) -> Option<(i64, i6
         (AreRanksInLimits graph.now (at divisor.now)) }
 {
     let size = graph.size();
-    let fails = first_failing(graph, &InverseLaplacian::new(graph, 0), divisor, true)?;
+    let fails = first_failing_alone(graph, divisor, true)?;
     let dual_fails = rank_degree_of_dual(graph, divisor, fails);
     trials(size, dual_fails)?;
     Some((i64::from(fails) - 1, i64::from(dual_fails) - 1))
+}
+
+/// What `first_failing` tells, with an inverse of its own. It stands apart, so that no room is cleared for one where one is
+/// shared.
+#[inline(never)]
+fn first_failing_alone(graph: &Graph, divisor: &Divisor, limited: bool) -> Option<u32>
+    requires size { divisor.now.size ≡ graph.now.size }
+    requires some { 0 < graph.now.size }
+    ensures { MatchOption result
+        ((limited ≡ true) × NeedsTooMany graph.now (at divisor.now))
+        (λ k. FailsRankTestsFirstAt graph.now (at divisor.now) k
+        × (limited ≡ true → IsRankTestWithinLimits graph.now.size k)) }
+{
+    first_failing(graph, &InverseLaplacian::new(graph, 0), divisor, limited)
 }
 
 /// The least degree at which the rank test of a divisor fails. If the tests are limited, that one is within the limits; `None` if
@@ -89,7 +103,7 @@ fn first_failing(
         if limited {
             trials(size, k)?;
         }
-        if !passes_rank_test(graph, inverse, &mut made, divisor, k) {
+        if !passes_rank_test(graph, Some(inverse), &mut made, divisor, k) {
             return Some(k);
         }
     }

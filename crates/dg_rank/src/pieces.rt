@@ -12,7 +12,6 @@ use crate::rank_fault::RankFault;
 use crate::workers::Gate;
 use dg_chips::Wide;
 use dg_graph::Graph;
-use dg_reduce::InverseLaplacian;
 use dg_system::in_parallel;
 use std::sync::Wait;
 use std::thread::Threads;
@@ -114,15 +113,7 @@ fn first_loss_between(search: &Search, from: u32, to: u32) -> Option<Trial>
     let (graph, k) = (&search.graph, search.k);
     let size = graph.size();
     let start = Trial::trial_with_number(size, k, from);
-    let inverse = InverseLaplacian::new(graph, 0);
-    let loss = first_loss(
-        graph,
-        &inverse,
-        &mut Made::nothing(),
-        &search.chips,
-        k,
-        start,
-    )?;
+    let loss = first_loss(graph, None, &mut Made::nothing(), &search.chips, k, start)?;
     if to < search.count && !loss.is_before(&Trial::trial_with_number(size, k, to)) {
         return None;
     }

@@ -59,14 +59,16 @@ pub fn rank_at_least_by(
     if let Some(verdict) = rank_by_degree(graph, divisor, k) {
         return Ok(verdict);
     }
-    Ok(match inverse {
-        Some(inverse) => tested(graph, inverse, divisor, k),
-        None => tested(graph, &InverseLaplacian::new(graph, 0), divisor, k),
-    })
+    Ok(tested(graph, inverse, divisor, k))
 }
 
 /// The answer of a rank test that the degree does not settle.
-fn tested(graph: &Graph, inverse: &InverseLaplacian, divisor: &Divisor, k: u32) -> RankVerdict
+fn tested(
+    graph: &Graph,
+    inverse: Option<&InverseLaplacian>,
+    divisor: &Divisor,
+    k: u32,
+) -> RankVerdict
     requires size { divisor.now.size ≡ graph.now.size }
     requires limits { IsRankTestWithinLimits graph.now.size k }
     ensures { IsRightRankVerdict graph.now (at divisor.now) k result }

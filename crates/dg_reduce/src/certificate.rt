@@ -22,7 +22,7 @@ pub struct Burning {
 }
 
 /// What `reduced_order` answers, if a burning is at hand: one of the same amounts serves for another.
-pub fn reduced_order_by(
+pub(crate) fn reduced_order_by(
     graph: &Graph,
     q: usize,
     chips: &Wide,

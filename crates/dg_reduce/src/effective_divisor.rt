@@ -49,12 +49,10 @@ impl EffectiveDivisor {
         ensures size { result.size ≡ chips.now.size }
         ensures amounts { (v : ℕ) → v < chips.now.size → at result v ≡ at chips.now v }
     {
-        let size = chips.size();
-        let mut amounts = [0; 16];
-        for v in 0..size {
-            amounts[v] = chips.get(v) as i32;
+        EffectiveDivisor {
+            size: chips.size(),
+            amounts: chips.in_32_bits(),
         }
-        EffectiveDivisor { size, amounts }
     }
 
     /// The number of vertices.

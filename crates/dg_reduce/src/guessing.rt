@@ -8,14 +8,13 @@ ghost use Rattle.std.specs.List.{slice_index_or};
 ghost use Rattle.std.specs.Int.RustNames.{unsigned_abs};
 ghost use Rattle.dg_chips.specs.Vector.{at};
 ghost use Rattle.dg_chips.specs.declared.limits.TheConstants.{MAX_ENTRY};
-ghost use Rattle.dg_reduce.specs.declared.limits.TheConstants.{MAX_START};
 ghost use Rattle.dg_reduce.specs.Burnings.{CertifiesReduced};
 
 use crate::certificate::Burning;
 use crate::effective_divisor::seen_by_reduction;
 use crate::inverse_laplacian::{InverseLaplacian, Lending, guessed_lendings_once};
 use dg_burn::burn_counted;
-use dg_chips::{Script, Wide};
+use dg_chips::Script;
 use dg_graph::{Graph, MAX_VERTICES, contains};
 use std::num::f64_to_bits_with_nan;
 use std::simd::prelude::*;
@@ -53,41 +52,42 @@ pub struct Guessed {
     pub burning: Option<Burning>,
 }
 
-/// A script that is 0 at q and that may lead from the amounts, which are within 2,000,000, to those that are reduced for q:
-/// each entry is at most a thousand million, lendings or borrowings. The inverse makes the guess good or bad.
-pub fn guess(graph: &Graph, inverse: &InverseLaplacian, q: usize, chips: &Wide) -> Guessed
-    requires size { chips.now.size ≡ graph.now.size }
-    requires vertex { q < graph.now.size }
-    requires range { (v : ℕ) → v < graph.now.size → unsigned_abs (at chips.now v) ≤ MAX_START }
+/// A script that is 0 at q and that may lead from amounts, given in vertex order, to those that are reduced for q: each entry is
+/// at most a thousand million, lendings or borrowings. How good the guess is depends on the inverse, and on how small the
+/// amounts are.
+///
+/// An inverse serves many guesses. Where none is given, what is made for one guess alone costs less than an inverse.
+pub fn guess(
+    graph: &Graph,
+    inverse: Option<&InverseLaplacian>,
+    q: usize,
+    amounts: &[i32; 16],
+) -> Guessed
+    requires { q < graph.now.size }
     ensures size { result.script.size ≡ graph.now.size }
     ensures at_q { at result.script q ≡ pos 0 }
     ensures burning { IfSome result.burning (λ x. CertifiesReduced graph.now q x) }
 {
     let _size = graph.size();
-    let amounts = guess_amounts_off(q, chips);
-    guess_near(
-        graph,
-        &inverse.lending,
-        q,
-        &amounts,
-        &inverse.lendings(&amounts),
-    )
+    let mut off = *amounts;
+    off[q] = 0;
+    match inverse {
+        Some(inverse) => guess_near(graph, &inverse.lending, q, &off, &inverse.lendings(&off)),
+        None => guess_alone(graph, q, &off),
+    }
 }
 
-/// The same if no other reduction on the graph is asked for: what is made for one alone costs less than an inverse.
-pub fn guess_once(graph: &Graph, q: usize, chips: &Wide) -> Guessed
-    requires size { chips.now.size ≡ graph.now.size }
-    requires vertex { q < graph.now.size }
-    requires range { (v : ℕ) → v < graph.now.size → unsigned_abs (at chips.now v) ≤ MAX_START }
+/// The guess without an inverse. It stands apart, so that no room is cleared for what an inverse has already.
+#[inline(never)]
+fn guess_alone(graph: &Graph, q: usize, amounts: &[i32; 16]) -> Guessed
+    requires { q < graph.now.size }
     ensures size { result.script.size ≡ graph.now.size }
     ensures at_q { at result.script q ≡ pos 0 }
     ensures burning { IfSome result.burning (λ x. CertifiesReduced graph.now q x) }
 {
-    let _size = graph.size();
-    let amounts = guess_amounts_off(q, chips);
     let lending = Lending::new(graph, q);
-    let lendings = guessed_lendings_once(graph, q, &amounts);
-    guess_near(graph, &lending, q, &amounts, &lendings)
+    let lendings = guessed_lendings_once(graph, q, amounts);
+    guess_near(graph, &lending, q, amounts, &lendings)
 }
 
 /// The guess that begins with so many lendings.
@@ -113,19 +113,6 @@ fn guess_near(
         script: guessed_script_of(graph, q, &near.script),
         burning,
     }
-}
-
-/// The amounts, but 0 at q.
-fn guess_amounts_off(q: usize, chips: &Wide) -> [i32; 16]
-    requires vertex { q < chips.now.size }
-    requires range { (v : ℕ) → v < chips.now.size → unsigned_abs (at chips.now v) ≤ MAX_START }
-{
-    let mut amounts = [0; 16];
-    for v in 0..chips.size() {
-        amounts[v] = chips.get(v) as i32;
-    }
-    amounts[q] = 0;
-    amounts
 }
 
 /// The amounts after all have lent so often.

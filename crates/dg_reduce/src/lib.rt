@@ -19,9 +19,9 @@ mod reducing;
 mod walk;
 
 pub use by_levels::{is_within_reduction_limit, reduce_after, reduce_by_levels};
-pub use certificate::{Burning, is_solvent_off, reduced_order, reduced_order_by};
+pub use certificate::{Burning, is_solvent_off, reduced_order};
 pub use effective_divisor::EffectiveDivisor;
-pub use guessing::{Guessed, guess, guess_once};
+pub use guessing::guess;
 pub use inverse_laplacian::InverseLaplacian;
 pub use limits::MAX_START;
 pub use reduced::Reduced;

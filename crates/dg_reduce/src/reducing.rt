@@ -46,14 +46,14 @@ pub fn reduce_wide(graph: &Graph, q: usize, chips: &Wide) -> Reduced
     requires range { (v : ℕ) → v < graph.now.size → unsigned_abs (at chips.now v) ≤ MAX_START }
     ensures { IsReduction graph.now q (at chips.now) 451000000 result }
 {
-    reduce_certified(graph, &InverseLaplacian::new(graph, q), q, chips).reduced
+    reduce_certified(graph, None, q, chips).reduced
 }
 
 /// The amounts, within 2,000,000 before, that are reduced for q and can be reached by firing, with the script that leads to
-/// them and the order in which all vertices burn. The inverse changes how long that takes, and no answer.
+/// them and the order in which all vertices burn. An inverse changes how long that takes, and no answer.
 pub fn reduce_certified(
     graph: &Graph,
-    inverse: &InverseLaplacian,
+    inverse: Option<&InverseLaplacian>,
     q: usize,
     chips: &Wide,
 ) -> Certified
@@ -62,7 +62,8 @@ pub fn reduce_certified(
     requires range { (v : ℕ) → v < graph.now.size → unsigned_abs (at chips.now v) ≤ MAX_START }
     ensures { IsCertified graph.now q (at chips.now) 451000000 result }
 {
-    let guess = guess(graph, inverse, q, chips);
+    let _size = graph.size();
+    let guess = guess(graph, inverse, q, &chips.in_32_bits());
     certified_by(graph, q, chips, &guess.script, &guess.burning)
 }
 

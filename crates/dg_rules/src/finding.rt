@@ -61,7 +61,7 @@ pub fn finding_of_verdict(inverse: &InverseLaplacian, q: usize, look: &LookData)
     ensures found { IsRightFinding q look.now result }
     ensures asks { (i : ℕ) → request_for_finding i result ≡ JudgeRequest i }
 {
-    Finding::Judged(judge_with_inverse(&look.graph, inverse, q, &look.position))
+    Finding::Judged(judge_with_inverse(&look.graph, Some(inverse), q, &look.position))
 }
 
 /// Makes an inverse anew, unless it may serve the verdict on a look, computed from the vertex q. Nothing is promised of it.

@@ -22,7 +22,7 @@ use dg_lines::{push_judgement, push_reply, push_verdict_row};
 use dg_reduce::InverseLaplacian;
 use dg_rules::Reply;
 use dg_tokens::Names;
-use dg_verdict::{Verdict, judge, judge_with_inverse};
+use dg_verdict::{Verdict, judge_with_inverse};
 use std::alloc::{AllocError, Global};
 
 /// The answer to a line, with its newline, in place of what the buffer holds: for a table, or a table with these amounts, the
@@ -122,11 +122,7 @@ fn swept_verdict(subject: &Subject<'_>) -> Verdict
     requires { IsStart (swept_start subject.now) }
     ensures { IsVerdictOn subject.now.graph.now subject.now.q (at subject.now.divisor.now) result }
 {
-    let q = subject.q;
-    match subject.inverse {
-        Some(inverse) => judge_with_inverse(subject.graph, inverse, q, subject.divisor),
-        None => judge(subject.graph, q, subject.divisor),
-    }
+    judge_with_inverse(subject.graph, subject.inverse, subject.q, subject.divisor)
 }
 
 /// The text of a reply and a newline, into an empty buffer.

@@ -46,7 +46,7 @@ fn has_order(rt: &impl Abort, case: &Case) -> Result<(), Fail> {
     let verdict = judge(&graph, *q, &divisor);
     assert!(rt; verdict.order.starts_with(order), "{order:?}");
     let inverse = InverseLaplacian::new(&graph, 0);
-    assert!(rt; judge_with_inverse(&graph, &inverse, *q, &divisor) == verdict);
+    assert!(rt; judge_with_inverse(&graph, Some(&inverse), *q, &divisor) == verdict);
     Ok(())
 }
 

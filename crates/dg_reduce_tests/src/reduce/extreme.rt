@@ -95,7 +95,7 @@ fn agrees(graph: &Graph, q: usize, chips: &Wide) -> bool
     if !is_within_reduction_limit(chips) {
         return false;
     }
-    let found = reduce_certified(graph, &InverseLaplacian::new(graph, q), q, chips);
+    let found = reduce_certified(graph, Some(&InverseLaplacian::new(graph, q)), q, chips);
     let after = certified_by(
         graph,
         q,

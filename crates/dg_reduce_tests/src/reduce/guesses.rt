@@ -169,7 +169,8 @@ fn certified_beside(
     if !is_within_reduction_limit(other) {
         return None;
     }
-    let known = guess(graph, &InverseLaplacian::new(graph, q), q, other).burning;
+    let inverse = InverseLaplacian::new(graph, q);
+    let known = guess(graph, Some(&inverse), q, &other.in_32_bits()).burning;
     if known.is_none() {
         return None;
     }
@@ -291,7 +292,8 @@ fn guesses_are_right(rt: HostRuntime) -> Result<(), Fail> {
 fn is_guessed(rt: &impl Abort, path: &Graph, q: usize, chips: &Wide) {
     assert!(rt; q < path.size() && chips.size() == path.size());
     assert!(rt; is_within_reduction_limit(chips));
-    let script = guess(path, &InverseLaplacian::new(path, q), q, chips).script;
+    let inverse = InverseLaplacian::new(path, q);
+    let script = guess(path, Some(&inverse), q, &chips.in_32_bits()).script;
     let left = chips.fired_by(path, &script);
     assert!(rt; reduced_order(path, q, &left).is_some(), "for {q}");
     is_alone(rt, path, q, &left);
@@ -322,7 +324,7 @@ fn serves(rt: &impl Abort, square: &Graph, inverse: &InverseLaplacian) -> Result
     assert!(rt; is_within_reduction_limit(&chips));
     let wanted = reduce_wide(square, 0, &chips);
     assert!(rt; Wide::new(square, &[-30, 0, 0, 0]) == Ok(wanted.divisor));
-    let found = reduce_certified(square, inverse, 0, &chips);
+    let found = reduce_certified(square, Some(inverse), 0, &chips);
     assert!(rt; found.reduced == wanted);
     assert!(rt; found.order.starts_with(&[0, 1, 2, 3]));
     Ok(())

@@ -235,8 +235,8 @@ fn agrees(
         return None;
     }
     let inverse = InverseLaplacian::new(graph, q);
-    let found = reduce_certified(graph, &inverse, q, &chips);
-    let guessed = guess(graph, &inverse, q, &chips);
+    let found = reduce_certified(graph, Some(&inverse), q, &chips);
+    let guessed = guess(graph, Some(&inverse), q, &chips.in_32_bits());
     let wanted = if has_levels {
         by_levels(graph, q, &chips, most, &guessed.script)?
     } else {

@@ -1,7 +1,7 @@
-use Rattle.std.proofs.Common.{rules, FitsSigned, ◌≡◌, ℕ, ◌*◌, length-set, arith, ap, subst, ◌∙◌, w8, inl, inr}
+use Rattle.std.proofs.Common.{rules, FitsSigned, ◌≡◌, ℕ, ◌*◌, length-set, arith, ap, pos, subst, ◌∙◌, w8, inl, inr}
 use Rattle.std.proofs.lemmas.Int.{to_z-of_z}
 use Rattle.dg_abi.specs.Rows.{AnswersJudge}
-use Rattle.dg_abi.proofs.Kept.{rows_more, row_before, judged_kept, judged_begun, SameBelow, SameOrderBelow}
+use Rattle.dg_abi.proofs.Kept.{rows_more, row_before, judged_kept, judged_begun, SameBelow}
 use Rattle.dg_abi.proofs.judging.judge_rows.Goals as goal
 
 pub loop-row-preserved : goal.loop-row-preserved
@@ -11,11 +11,11 @@ loop-row-preserved c =
     let at_row = c.loop-row.row * n in
     let size : c.size.result ≡ n = c.size.ensures.size in
     let start : c.loop-row.row * c.size.result ≡ at_row = ap (λ (m : ℕ). c.loop-row.row * m) size in
-    let scripts : SameBelow at_row c.loop-row.scripts c.judge_row.new.scripts =
+    let scripts : SameBelow (pos 0) at_row c.loop-row.scripts c.judge_row.new.scripts =
     λ k before. c.judge_row.ensures.scripts_elsewhere k (inl (omega (arith, start))) in
-    let reduced : SameBelow at_row c.loop-row.reduced c.judge_row.new.reduced =
+    let reduced : SameBelow (pos 0) at_row c.loop-row.reduced c.judge_row.new.reduced =
     λ k before. c.judge_row.ensures.reduced_elsewhere k (inl (omega (arith, start))) in
-    let orders : SameOrderBelow at_row c.loop-row.orders c.judge_row.new.orders =
+    let orders : SameBelow 0 at_row c.loop-row.orders c.judge_row.new.orders =
     λ k before. c.judge_row.ensures.orders_elsewhere k (inl (omega (arith, start))) in
     record {
       told = length-set _ _ _ ∙ c.loop-row.invariant.told;

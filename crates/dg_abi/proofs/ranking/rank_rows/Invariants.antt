@@ -9,8 +9,8 @@ invariant-loop-row l = record {
   told : length l.told ≡ length l.initial.told;
   ranks : length l.ranks ≡ length l.initial.ranks;
   duals : length l.duals ≡ length l.initial.duals;
-  ranks_left : SameFrom l.row l.initial.ranks l.ranks;
-  duals_left : SameFrom l.row l.initial.duals l.duals;
+  ranks_left : SameFrom (pos 0) l.row l.initial.ranks l.ranks;
+  duals_left : SameFrom (pos 0) l.row l.initial.duals l.duals;
   answered : (r : ℕ) → r < l.row → AnswersRank l.graph l.amounts (r * l.graph.size) r
       (slice_index_or l.told r (pos 0)) l.initial.ranks l.ranks l.initial.duals l.duals;
 }

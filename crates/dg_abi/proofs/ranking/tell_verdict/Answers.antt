@@ -1,4 +1,5 @@
-use Rattle.std.proofs.Common.{arith, refl, subst, inl, inr}
+use Rattle.std.proofs.Common.{List, ℤ, pos, ap, arith, refl, subst, ◌∙◌, inl, inr}
+use Rattle.std.specs.List.{slice_index_or}
 use Rattle.dg_chips.specs.Vector.{at}
 use Rattle.dg_verdict.specs.RankTests.{IsRightRankVerdict}
 use Rattle.dg_abi.proofs.ranking.tell_verdict.Goals as goal
@@ -12,6 +13,7 @@ returns-in-Below-clause-right c =
       record {
         loss = c.in-Below.loss;
         first = first;
-        has_loss = λ v below here. c.put_divisor.ensures.entries v (omega (arith, size)) here;
+        has_loss = λ v below here. c.put.ensures.holds (pos 0) v (omega (arith, c.size.ensures.size)) here
+            ∙ ap (λ (xs : List ℤ). slice_index_or xs v (pos 0)) (c.widened.ensures ∙ c.amounts.ensures.amounts);
       },
     ))

@@ -8,7 +8,7 @@ use Rattle.dg_rank.proofs.numbers.both_ranks.Goals.{After-ranks_apart, in-Some, 
 first : (c : After-ranks_apart) → FailsRankTestsFirstAt c.args.graph.now (at c.args.divisor.now) c.in-Some-fails.fails
 first c = elim c.match-inverse.branch [
   | in-Some w ↦ (rw (sym w.fails-is ∙ c.in-Some-fails.is) at w.first_failing-fails.ensures).0
-  | in-None w ↦ (rw (sym w.fails-is ∙ c.in-Some-fails.is) at w.first_failing-fails-in-None.ensures).0
+  | in-None w ↦ (rw (sym w.fails-is ∙ c.in-Some-fails.is) at w.first_failing_alone-fails.ensures).0
 ]
 
 pub returns : goal.returns

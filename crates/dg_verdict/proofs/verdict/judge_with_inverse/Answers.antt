@@ -1,6 +1,6 @@
 use Rattle.dg_verdict.proofs.Common.{arith, sym, ap, ◌∙◌, ◌≤ℤ◌, ints, ℤ, pos, ◌+ℤ◌, gain, at}
 use Rattle.dg_verdict.proofs.Verdicts.{is_right}
-use Rattle.dg_verdict.proofs.verdict.judge_after.Goals as goal
+use Rattle.dg_verdict.proofs.verdict.judge_with_inverse.Goals as goal
 
 -- the script leads from the amounts of the divisor themselves
 pub returns : goal.returns
