@@ -58,15 +58,15 @@ def bad_texts():
 
 
 # The definitions of what is said of a table in answer to a line, and the enums whose #[error] says the same.
-SAID = {"sweep_shape_fault_words": ("Shape", "crates/dg_file/src/fault.rt"),
-        "sweep_graph_fault_words": ("GraphFault", "crates/dg_graph/src/fault.rt"),
-        "sweep_chip_fault_words": ("ChipFault", "crates/dg_chips/src/divisor.rt"),
-        "sweep_file_fault_words": ("FileFault", "crates/dg_file/src/fault.rt")}
+SAID = {"shape_fault_words": ("Shape", "crates/dg_file/src/fault.rt"),
+        "graph_fault_words": ("GraphFault", "crates/dg_graph/src/fault.rt"),
+        "chip_fault_words": ("ChipFault", "crates/dg_chips/src/divisor.rt"),
+        "file_fault_words": ("FileFault", "crates/dg_file/src/fault.rt")}
 
 
 def told_twice():
     """Texts that stand in two places of the code and are compared here."""
-    return set(words.texts(words.FILE_FAULTS, "sweep_file_fault_words")) - {"out of memory"}
+    return set(words.texts(words.FILE_FAULTS, "file_fault_words")) - {"out of memory"}
 
 
 def table_faults():

@@ -89,10 +89,10 @@ def commands():
 def kinds():
     """The kinds of words: how a page shows one, and the least and the most number that may stand in it."""
     ranges = {}
-    for given, body in equations(KINDS_OF)["IsNumeralForWord"]:
+    for given, body in equations(KINDS_OF)["IsWordNumeral"]:
         bounds = re.fullmatch(r"IsNumeralWithin \((.*)\) \((.*)\) text", body)
         if not bounds:
-            raise unread(KINDS_OF, "IsNumeralForWord")
+            raise unread(KINDS_OF, "IsWordNumeral")
         ranges[given.split(" ")[0]] = [value_of(bound) for bound in bounds.groups()]
     found = {}
     for kind in dict.fromkeys(kind for given in commands().values() for kind in given):
@@ -131,7 +131,7 @@ def numbered(text):
 
 def table_faults():
     """What is said of bytes that are no table."""
-    return [numbered(text) for text in texts(FILE_FAULTS, "sweep_file_fault_words")]
+    return [numbered(text) for text in texts(FILE_FAULTS, "file_fault_words")]
 
 
 def home_of(what, path):

@@ -3,10 +3,10 @@
 use Rattle.std.proofs.Common.{◌≡◌, ℕ, ◌<◌, ◌≤◌, List, [], length, take, arith, sym, ◌∙◌, ext_get_or}
 use Rattle.std.proofs.lemmas.List.{length-take, length-map, get_or-take, get_or-map}
 use Rattle.std.specs.List.{slice_index_or}
-use Rattle.dg_graph.specs.Items.{GraphItem}
+use Rattle.dg_graph.specs.Items.{EdgeItem}
 use Rattle.dg_abi.specs.Calls.{item_of, items_of}
 
-pub same_items : (xs : List GraphItem) (es : List (List ℕ)) (n : ℕ) → length xs ≡ 120 → length es ≤ 120 → length es ≤ n →
+pub same_items : (xs : List EdgeItem) (es : List (List ℕ)) (n : ℕ) → length xs ≡ 120 → length es ≤ 120 → length es ≤ n →
     ((j : ℕ) → j < n → slice_index_or xs j (0, 0, 0) ≡ item_of (slice_index_or es j [])) →
     take (length es) xs ≡ items_of es
 same_items xs es n size few all same =

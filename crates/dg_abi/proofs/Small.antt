@@ -2,7 +2,7 @@
 --   sum_small     a sum of at most 16 small numbers is small
 --   gain_small    what a vertex gets by a script
 --   reduced_small so what a script leads to is small, if it was
-use Rattle.dg_chips.proofs.Common.{ℕ, zero, suc, ◌*◌, ◌<◌, ◌≤◌, arith, ints, ℤ, pos, ◌-ℤ◌, ◌*ℤ◌, unsigned_abs, sum_below, total_below-term, Multigraph, edges_between, Amounts, gain, IsGraph, abs-add, abs_within, within_abs, valence-few}
+use Rattle.dg_chips.proofs.Common.{ℕ, zero, suc, ◌*◌, ◌<◌, ◌≤◌, arith, ints, ℤ, pos, ◌-ℤ◌, ◌*ℤ◌, unsigned_abs, sum_below, nat_sum_below-term, Multigraph, edges_between, Amounts, gain, IsGraph, abs-add, abs_within, within_abs, valence-few}
 use Rattle.dg_chips.proofs.FlowLaws.{product_limit}
 use Rattle.dg_theory.specs.Firing.{FiresTo}
 
@@ -26,7 +26,7 @@ gain_small g s v graph small inside =
     let apart : unsigned_abs (s w -ℤ s v) ≤ 2000000000 =
     abs_within (s w -ℤ s v) 2000000000 (omega (arith, ints)) (omega (arith, ints)) in
     let few : edges_between g v w ≤ 63 =
-    omega (arith, total_below-term g.size (edges_between g v) w below, valence-few g v graph) in
+    omega (arith, nat_sum_below-term g.size (edges_between g v) w below, valence-few g v graph) in
     omega (arith, product_limit (edges_between g v w) 63 (s w -ℤ s v) 2000000000 few apart)) in
     omega (arith, graph.few)
 

@@ -25,7 +25,7 @@ use Rattle.dg_chips.specs.declared.limits.TheConstants.{MAX_AMOUNT}
 use Rattle.dg_theory.specs.Firing.{Amounts}
 use Rattle.dg_theory.specs.Multigraph.{Multigraph}
 use Rattle.dg_theory.specs.Rank.{HasRankAtLeast, IsFirstLoss}
-use Rattle.dg_rank.specs.Limits.{ArePastTrialLimits}
+use Rattle.dg_rank.specs.Limits.{IsPastLimits}
 use Rattle.dg_rank.specs.Ranks.{AreBothRanks}
 use Rattle.dg_verdict.specs.Right.{IsVerdictOn}
 use Rattle.dg_verdict.specs.declared.verdict.Verdict.{Verdict}
@@ -103,7 +103,7 @@ pub record FailsTest (g : Multigraph) (D : Amounts) (k s : ℕ) (losses : List �
 abbrev pub IsTestTold : Multigraph → Amounts → ℕ → ℕ → ℤ → List ℤ → List ℤ → Type 0
 IsTestTold g D k s told losses losses' =
     ((told ≡ pos 1) × HasRankAtLeast g D k × Keeps (pos 0) g.size losses losses' s) ⊎ ((told ≡ pos 0) × FailsTest g D k s losses')
-    ⊎ ((told ≡ pos 2) × (¬ HasRankAtLeast g D k) × ArePastTrialLimits g.size k × Keeps (pos 0) g.size losses losses' s)
+    ⊎ ((told ≡ pos 2) × (¬ HasRankAtLeast g D k) × IsPastLimits g.size k × Keeps (pos 0) g.size losses losses' s)
 
 pub record IsTested (g : Multigraph) (xs : List ℤ) (k s : ℕ) (told : ℤ) (losses losses' : List ℤ) : Type 0 where
   pub divisor : Vector

@@ -4,7 +4,7 @@
 ghost use Rattle.std.specs.Prelude.{◌≡◌, ℕ, ◌≢◌, ◌<◌, ◌*◌, pos, length};
 ghost use Rattle.std.specs.List.{slice_index_or};
 ghost use Rattle.dg_graph.specs.Graph.{IsGraph};
-ghost use Rattle.dg_abi.specs.Calls.{RefusesGraph, RefusesCall, GivesRows, FitJudge, FitRank, FitTest};
+ghost use Rattle.dg_abi.specs.Calls.{RefusesGraph, RefusesCall, HasGraphWith, FitJudge, FitRank, FitTest};
 ghost use Rattle.dg_abi.specs.Rows.{AnswersJudge, AnswersRank, AnswersTest};
 
 use crate::faults::{ABI, LENGTHS, NO_Q};
@@ -24,7 +24,7 @@ pub extern "C" fn dollar_abi() -> u32
 /// 0 if there is a graph of so many vertices with these edges; or the number of what is wrong with them.
 #[unsafe(no_mangle)]
 pub extern "C" fn dollar_graph(size: usize, edges: &[[u8; 3]]) -> i64
-    ensures answered { result ≡ pos 0 → GivesRows size edges.now (λ g. IsGraph g) }
+    ensures answered { result ≡ pos 0 → HasGraphWith size edges.now (λ g. IsGraph g) }
     ensures refused { result ≢ pos 0 → RefusesGraph size edges.now result }
 {
     match graph_of(size, edges) {
@@ -45,7 +45,7 @@ pub extern "C" fn dollar_judge(
     reduced: &mut [i64],
     orders: &mut [u8],
 ) -> i64
-    ensures answered { result ≡ pos 0 → GivesRows size edges.now (λ g.
+    ensures answered { result ≡ pos 0 → HasGraphWith size edges.now (λ g.
         FitJudge (length told.old * g.size) (length amounts.now) (length scripts.old) (length reduced.old) (length orders.old)
         × ((r : ℕ) → r < length told.old → AnswersJudge g q amounts.now (r * g.size) (slice_index_or told.new r (pos 0))
         scripts.old scripts.new reduced.old reduced.new orders.old orders.new)) }
@@ -85,7 +85,7 @@ pub extern "C" fn dollar_rank(
     ranks: &mut [i64],
     duals: &mut [i64],
 ) -> i64
-    ensures answered { result ≡ pos 0 → GivesRows size edges.now (λ g.
+    ensures answered { result ≡ pos 0 → HasGraphWith size edges.now (λ g.
         FitRank (length told.old * g.size) (length told.old) (length amounts.now) (length ranks.old) (length duals.old)
         × ((r : ℕ) → r < length told.old → AnswersRank g amounts.now (r * g.size) r (slice_index_or told.new r (pos 0))
         ranks.old ranks.new duals.old duals.new)) }
@@ -114,7 +114,7 @@ pub extern "C" fn dollar_rank_test(
     told: &mut [i8],
     losses: &mut [i64],
 ) -> i64
-    ensures answered { result ≡ pos 0 → GivesRows size edges.now (λ g.
+    ensures answered { result ≡ pos 0 → HasGraphWith size edges.now (λ g.
         FitTest (length told.old * g.size) (length amounts.now) (length losses.old)
         × ((r : ℕ) → r < length told.old → AnswersTest g amounts.now k (r * g.size) (slice_index_or told.new r (pos 0))
         losses.old losses.new)) }

@@ -1,7 +1,7 @@
 //! What a call answers that is refused.
 
 ghost use Rattle.std.specs.Prelude.{◌≡◌};
-ghost use Rattle.dg_abi.specs.Calls.{number_of_fault, numbered_fault};
+ghost use Rattle.dg_abi.specs.Calls.{fault_number, number_at};
 
 use dg_graph::GraphFault;
 
@@ -22,22 +22,22 @@ pub(crate) const TOO_MANY_ITEMS: i64 = -9;
 pub(crate) const NO_LOSS_NAMED: i8 = 2;
 
 /// The number of a fault of a graph: 16 times the item or vertex at fault, and its kind, less than 0.
-pub(crate) fn number_of(fault: &GraphFault) -> i64
-    ensures { result ≡ number_of_fault fault.now }
+pub(crate) fn fault_number(fault: &GraphFault) -> i64
+    ensures { result ≡ fault_number fault.now }
 {
     match *fault {
         GraphFault::Size => -1,
-        GraphFault::NoVertex(i) => numbered(2, i),
-        GraphFault::Loop(i) => numbered(3, i),
-        GraphFault::Multiplicity(i) => numbered(4, i),
-        GraphFault::Valence(v) => numbered(5, v),
+        GraphFault::NoVertex(i) => number_at(2, i),
+        GraphFault::Loop(i) => number_at(3, i),
+        GraphFault::Multiplicity(i) => number_at(4, i),
+        GraphFault::Valence(v) => number_at(5, v),
         GraphFault::NotConnected => -6,
     }
 }
 
 /// The number of a fault of this kind at a place.
-fn numbered(kind: u8, place: usize) -> i64
-    ensures { result ≡ numbered_fault kind place }
+fn number_at(kind: u8, place: usize) -> i64
+    ensures { result ≡ number_at kind place }
 {
     -(i64::from(kind) + 16 * place.min(MAX_ITEMS) as i64)
 }

@@ -1,14 +1,14 @@
 //! The graph of a list of edges.
 ghost use Rattle.std.specs.Prelude.{MatchResult};
-ghost use Rattle.dg_graph.specs.Items.{IsGiven};
+ghost use Rattle.dg_graph.specs.Items.{IsGraphOf};
 ghost use Rattle.dg_abi.specs.Calls.{RefusesGraph, items_of};
 
-use crate::faults::{MAX_ITEMS, TOO_MANY_ITEMS, number_of};
+use crate::faults::{MAX_ITEMS, TOO_MANY_ITEMS, fault_number};
 use dg_graph::Graph;
 
 /// The graph of so many vertices with these edges; or the number of what is wrong with them.
 pub(crate) fn graph_of(size: usize, edges: &[[u8; 3]]) -> Result<Graph, i64>
-    ensures { MatchResult result (IsGiven size (items_of edges.now)) (RefusesGraph size edges.now) }
+    ensures { MatchResult result (IsGraphOf size (items_of edges.now)) (RefusesGraph size edges.now) }
 {
     if edges.len() > MAX_ITEMS {
         return Err(TOO_MANY_ITEMS);
@@ -20,6 +20,6 @@ pub(crate) fn graph_of(size: usize, edges: &[[u8; 3]]) -> Result<Graph, i64>
     }
     match Graph::new(size, &items[..edges.len()]) {
         Ok(graph) => Ok(graph),
-        Err(fault) => Err(number_of(&fault)),
+        Err(fault) => Err(fault_number(&fault)),
     }
 }

@@ -3,15 +3,15 @@
 ghost use Rattle.std.specs.Prelude.{◌≡◌, ℕ, ◌<◌, ◌≤◌, ◌+◌, ◌*◌, ◌⊎◌, pos, length};
 ghost use Rattle.std.specs.List.{slice_index_or};
 ghost use Rattle.dg_chips.specs.Vector.{at};
-ghost use Rattle.dg_verdict.specs.RankTests.{IsRightRankVerdict};
+ghost use Rattle.dg_verdict.specs.RankTests.{IsRightRank};
 ghost use Rattle.dg_abi.specs.Calls.{IsAllOrNone};
 ghost use Rattle.dg_abi.specs.Rows.{AnswersRank, AnswersTest, IsTestTold, KeepsElsewhere};
 
 use crate::faults::NO_LOSS_NAMED;
 use crate::rows::{divisor_at, put};
-use dg_chips::{Divisor, widened};
+use dg_chips::{Divisor, to_i64s};
 use dg_graph::Graph;
-use dg_rank::{both_ranks, has_rank, rank_at_least_by};
+use dg_rank::{both_ranks, has_rank_at_least, rank_at_least_by};
 use dg_reduce::InverseLaplacian;
 use dg_verdict::RankVerdict;
 
@@ -136,7 +136,7 @@ fn tell_test(
     if let Ok(verdict) = rank_at_least_by(graph, Some(inverse), divisor, k) {
         return tell_verdict(graph, divisor, k, &verdict, start, losses);
     }
-    if has_rank(graph, divisor, k) {
+    if has_rank_at_least(graph, divisor, k) {
         1
     } else {
         NO_LOSS_NAMED
@@ -152,7 +152,7 @@ fn tell_verdict(
     start: usize,
     losses: &mut [i64],
 ) -> i8
-    requires right { IsRightRankVerdict graph.now (at _divisor.now) _k verdict.now }
+    requires right { IsRightRank graph.now (at _divisor.now) _k verdict.now }
     requires losses { (start + graph.now.size ≤ length losses.old) ⊎ (length losses.old ≡ 0) }
     ensures right { IsTestTold graph.now (at _divisor.now) _k start result losses.old losses.new }
     ensures losses { length losses.new ≡ length losses.old }
@@ -161,7 +161,7 @@ fn tell_verdict(
     match verdict {
         RankVerdict::AtLeast(_) => 1,
         RankVerdict::Below(_, loss) => {
-            put(losses, start, graph.size(), &widened(loss.amounts()));
+            put(losses, start, graph.size(), &to_i64s(loss.amounts()));
             0
         }
     }

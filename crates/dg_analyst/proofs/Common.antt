@@ -1,8 +1,8 @@
 -- The names that the proofs of this crate cite, passed on from one place. Declares nothing.
-pub use Rattle.dg_analyst.specs.Commits.{StaleIsCommitted, StaleTriedIsCommitted}
-pub use Rattle.dg_analyst.specs.Views.{TakenLookView}
+pub use Rattle.dg_analyst.specs.Commits.{StaleIsCommitted, TriedIsCommitted}
+pub use Rattle.dg_analyst.specs.Views.{LookView}
 pub use Rattle.dg_rules.specs.History.{gifts_in}
-pub use Rattle.dg_rules.specs.Look.{ReplyKeepsFinding, request_for_finding, request_for_question, degree_of_finding}
+pub use Rattle.dg_rules.specs.Look.{KeepsFinding, request_for_finding, request_for_question, finding_degree}
 pub use Rattle.dg_rules.specs.declared.entry.Entry.{Entry}
 pub use Rattle.dg_rules.specs.declared.entry.Reply.TheVariants.{Stale}
 pub use Rattle.dg_rules.specs.declared.entry.Request.{Request}
@@ -14,8 +14,8 @@ pub use Rattle.dg_rules.specs.declared.finding.Question.TheVariants.{Judge, Rank
 pub use Rattle.dg_rules.specs.declared.look.LookData.{LookData}
 pub use Rattle.dg_log.specs.Tables.{TableData}
 pub use Rattle.dg_table.proofs.Findings.{last_after}
-pub use Rattle.dg_table.specs.Answered.{IsEnteredAfter, entering_at_table}
-pub use Rattle.dg_table.specs.Looks.{IsLastLookOfSeat, IsLookOfSeat, last_look_of_seat}
+pub use Rattle.dg_table.specs.Answered.{IsEnteredAfter, entering}
+pub use Rattle.dg_table.specs.Looks.{IsLastLook, IsLookOf, last_look}
 pub use Rattle.dg_table.specs.Seats.{SeatView}
-pub use Rattle.dg_table.specs.Settled.{IsSettledAtTable, IsStaleAtTable}
+pub use Rattle.dg_table.specs.Settled.{IsSettled, IsStale}
 pub use Rattle.std.proofs.Common.{List, MatchOption, None, Option, Some, [], ap, refl, rules, subst, sym, ℕ, ◌++◌, ◌<◌, ◌∙◌, ◌∷◌, ◌≡◌}

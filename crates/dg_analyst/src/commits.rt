@@ -1,15 +1,15 @@
 //! Entering what was computed on a look.
 ghost use Rattle.std.specs.Prelude.{◌≡◌, length, IfOk, IfErr, MatchOption};
 ghost use Rattle.dg_verdict.specs.declared.verdict.Verdict.{Verdict as VerdictData};
-ghost use Rattle.dg_analyst.specs.Commits.{IsReckoned, IsLookCommitted, IsLookRankCommitted, RefusesLookCommit};
+ghost use Rattle.dg_analyst.specs.Commits.{IsReckoned, IsCommitted, IsRankCommitted, RefusesCommit};
 ghost use Rattle.dg_analyst.specs.Views.{LookWithFinding};
-ghost use Rattle.dg_table.specs.Settled.{IsStaleAtTable, IsNotStaleAtTable};
+ghost use Rattle.dg_table.specs.Settled.{IsStale, IsNotStale};
 
 use crate::looks::Look;
 use crate::reckoning::{Reckoned, Tried};
 use dg_log::{Name, Receipt};
 use dg_reduce::InverseLaplacian;
-use dg_rules::{Finding, Question, renew_game_inverse};
+use dg_rules::{Finding, Question, renew_inverse};
 use dg_table::{Fault, Seat, Table};
 use dg_verdict::judge_with_inverse;
 use std::alloc::Global;
@@ -29,9 +29,9 @@ pub fn commit<N: Name>(
     reckoned: Reckoned<N>,
 ) -> Result<Receipt<N>, (Reckoned<N>, Fault)>
     ensures settled { IfOk result
-        (λ r. IsLookCommitted N.table reckoned r seat.old seat.new) }
+        (λ r. IsCommitted N.table reckoned r seat.old seat.new) }
     ensures fault { IfErr result
-        (λ e. (e.0 ≡ reckoned) × RefusesLookCommit N.table seat.old seat.new e.1) }
+        (λ e. (e.0 ≡ reckoned) × RefusesCommit N.table seat.old seat.new e.1) }
 {
     let finding = Finding::Judged(reckoned.verdict);
     let look = &reckoned.look;
@@ -57,9 +57,9 @@ pub fn commit_stale<N: Name>(
     asks: &Question,
 ) -> Result<Option<Receipt<N>>, Fault>
     ensures settled { IfOk result (λ found. MatchOption found
-        (IsNotStaleAtTable N.table look.now.receipt seat.old seat.new)
-        (λ r. IsStaleAtTable N.table look.now.receipt asks.now r seat.old seat.new)) }
-    ensures fault { IfErr result (RefusesLookCommit N.table seat.old seat.new) }
+        (IsNotStale N.table look.now.receipt seat.old seat.new)
+        (λ r. IsStale N.table look.now.receipt asks.now r seat.old seat.new)) }
+    ensures fault { IfErr result (RefusesCommit N.table seat.old seat.new) }
 {
     table.settle_stale(rt, alloc, seat, &look.receipt, &look.shown, asks)
 }
@@ -77,12 +77,12 @@ pub fn commit_look<N: Name>(
     inverse: &mut InverseLaplacian,
 ) -> Result<Receipt<N>, Fault>
     ensures settled { (found : LookWithFinding VerdictData) × IsReckoned N.table.start.q look.now found ×
-        IfOk result (λ r. IsLookCommitted N.table found r seat.old seat.new) }
-    ensures fault { IfErr result (RefusesLookCommit N.table seat.old seat.new) }
+        IfOk result (λ r. IsCommitted N.table found r seat.old seat.new) }
+    ensures fault { IfErr result (RefusesCommit N.table seat.old seat.new) }
 {
     let shown = &look.shown;
     let q = look.q;
-    renew_game_inverse(inverse, q, shown);
+    renew_inverse(inverse, q, shown);
     let verdict = judge_with_inverse(&shown.graph, Some(inverse), q, &shown.position);
     let finding = Finding::Judged(verdict);
     table.settle(rt, alloc, seat, &look.receipt, shown, &finding)
@@ -101,9 +101,9 @@ pub fn commit_rank<N: Name>(
     tried: Tried<N>,
 ) -> Result<Receipt<N>, (Tried<N>, Fault)>
     ensures settled { IfOk result
-        (λ r. IsLookRankCommitted N.table tried r seat.old seat.new) }
+        (λ r. IsRankCommitted N.table tried r seat.old seat.new) }
     ensures fault { IfErr result
-        (λ e. (e.0 ≡ tried) × RefusesLookCommit N.table seat.old seat.new e.1) }
+        (λ e. (e.0 ≡ tried) × RefusesCommit N.table seat.old seat.new e.1) }
 {
     let finding = Finding::Ranked(tried.verdict);
     let look = &tried.look;

@@ -8,7 +8,7 @@ mod looks;
 mod reckoning;
 
 pub use commits::{commit, commit_look, commit_rank, commit_stale};
-pub use laws::stale_looks_are_committed;
+pub use laws::stale_is_committed;
 pub use looking::look;
 pub use looks::Look;
-pub use reckoning::{Reckoned, Tried, reckon, try_rank, try_rank_by};
+pub use reckoning::{Reckoned, Tried, reckon, try_rank, try_rank_ungated};

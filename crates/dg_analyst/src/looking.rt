@@ -2,7 +2,7 @@
 ghost use Rattle.std.specs.Prelude.{◌≡◌, length, IfOk, IfErr};
 ghost use Rattle.dg_rules.specs.declared.entry.Request.TheVariants.{Look as LookRequest};
 ghost use Rattle.dg_table.specs.Answered.{IsAnswered};
-ghost use Rattle.dg_table.specs.Faults.{RefusesCallAtTable, KeepsAfterRefusal};
+ghost use Rattle.dg_table.specs.Faults.{RefusesCall, KeepsAfterRefusal};
 
 use crate::looks::Look;
 use dg_log::Name;
@@ -24,10 +24,10 @@ pub fn look<N: Name>(
     ensures answered { IfOk result
         (λ l. IsAnswered N.table LookRequest l.receipt seat.old seat.new) }
     ensures fault { IfErr result (λ f. KeepsAfterRefusal f seat.old seat.new ×
-        RefusesCallAtTable N.table seat.new f) }
+        RefusesCall N.table seat.new f) }
 {
     let receipt = table.call(rt, alloc, seat, Plain::Look)?;
-    let Some(shown) = seat.last_look_of_seat() else {
+    let Some(shown) = seat.last_look() else {
         unreachable!()
     };
     let start = table.start();

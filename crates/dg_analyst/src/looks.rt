@@ -19,9 +19,9 @@ pub struct Look<N: Name> {
 
 impl<N: Name> Model for Look<N> {
     ghost use Rattle.std.specs.Prelude.{◌≡◌, ◌<◌};
-    ghost use Rattle.dg_analyst.specs.Views.{TakenLookView, IsTakenLook};
+    ghost use Rattle.dg_analyst.specs.Views.{LookView, IsTakenLook};
 
-    ghost Value = { TakenLookView };
+    ghost Value = { LookView };
 
     ghost view = { λ l. record { receipt = l.receipt; shown = l.shown } };
 

@@ -2,7 +2,7 @@
 ghost use Rattle.std.specs.Prelude.{◌≡◌, ◌≤◌, MatchResult, IfErr};
 ghost use Rattle.dg_analyst.specs.Commits.{IsReckoned};
 ghost use Rattle.dg_analyst.specs.Views.{IsTried};
-ghost use Rattle.dg_rank.specs.Ranks.{IsRankTestFault};
+ghost use Rattle.dg_rank.specs.Ranks.{IsRankFault};
 ghost use Rattle.dg_rules.specs.Look.{IsRightFinding};
 
 use crate::looks::Look;
@@ -111,7 +111,7 @@ pub fn try_rank<N: Name, R: Threads + Wait, G: Gate>(
 ) -> Result<Tried<N>, (Look<N>, RankFault)>
     ensures { MatchResult result
         (λ t. (t.look ≡ look) × IsTried look k workers t.verdict)
-        (λ e. (e.0 ≡ look) × IsRankTestFault look.shown.graph.size k workers e.1) }
+        (λ e. (e.0 ≡ look) × IsRankFault look.shown.graph.size k workers e.1) }
 {
     let position = &look.shown.position;
     match rank_with(rt, &look.shown.graph, look.q, position, k, workers, gate) {
@@ -124,7 +124,7 @@ pub fn try_rank<N: Name, R: Threads + Wait, G: Gate>(
 /// waits for nothing, and needs no memory.
 ///
 /// Refused as `try_rank`, but by one worker with `TooMany` alone. The look comes back.
-pub fn try_rank_by<N: Name, R: Threads + Wait>(
+pub fn try_rank_ungated<N: Name, R: Threads + Wait>(
     rt: &R,
     look: Look<N>,
     k: u32,
@@ -132,7 +132,7 @@ pub fn try_rank_by<N: Name, R: Threads + Wait>(
 ) -> Result<Tried<N>, (Look<N>, RankFault)>
     ensures tried { MatchResult result
         (λ t. (t.look ≡ look) × IsTried look k workers t.verdict)
-        (λ e. (e.0 ≡ look) × IsRankTestFault look.shown.graph.size k workers e.1) }
+        (λ e. (e.0 ≡ look) × IsRankFault look.shown.graph.size k workers e.1) }
     ensures alone { workers ≡ 1 → IfErr result (λ e. e.1 ≡ RankFault.TooMany) }
     ensures spawn { IfErr result (λ e. e.1 ≡ RankFault.Spawn → 2 ≤ workers) }
 {

@@ -1,6 +1,6 @@
 -- The names that the proofs of this crate cite, passed on from one place. Declares nothing.
-pub use Rattle.dg_burn.specs.Fires.{IsFire, IsHeldForFire, IsNextInFire, IsFireOut, IsUnlit, burns, capped_for_fire, dollars, heat}
-pub use Rattle.dg_burn.specs.SoFar.{IsFireBurning, count_unburnt}
+pub use Rattle.dg_burn.specs.Fires.{IsFire, AreCapped, IsNextBurnt, IsBurntOut, IsUnlit, burns, capped, list_amounts, heat}
+pub use Rattle.dg_burn.specs.SoFar.{IsPartialBurning, count_unburnt}
 pub use Rattle.dg_burn.specs.declared.fire.Fire.{Fire}
 pub use Rattle.dg_chips.specs.Vector.{at}
 pub use Rattle.dg_graph.proofs.SetLaws.{in_set-none, no_set}
@@ -11,13 +11,13 @@ unfoldable pub use Rattle.dg_graph.specs.Sets.{in_set}
 pub use Rattle.dg_theory.proofs.BurningLaws.{burnt_reduced, reduced_burnt, rest-out, rest_fires, unburnt_by-below, unburnt_fires}
 pub use Rattle.dg_theory.proofs.Counting.{member_or_none}
 pub use Rattle.dg_theory.proofs.Debts.{into-le-valence}
-pub use Rattle.dg_theory.proofs.TotalLaws.{total_below-cong, total_below-differ_at, total_below-term}
-pub use Rattle.dg_theory.specs.Burning.{BurnsInOrder, BurnsNext, BurnsSoFar, IsGreatestFree, MayBurn, among, edges_into}
+pub use Rattle.dg_theory.proofs.TotalLaws.{nat_sum_below-cong, nat_sum_below-differ_at, nat_sum_below-term}
+pub use Rattle.dg_theory.specs.Burning.{IsLeastBurningOrder, BurnsNext, IsBurningPrefix, IsGreatestLegal, MayBurn, list_contains, edges_into}
 pub use Rattle.dg_theory.specs.BurningLaws.{unburnt_by}
-pub use Rattle.dg_theory.specs.Firing.{Amounts, HasNoDebtOff}
+pub use Rattle.dg_theory.specs.Firing.{Amounts, IsEffectiveOff}
 pub use Rattle.dg_theory.specs.Multigraph.{IsMultigraph, Multigraph, edges_between, valence}
 pub use Rattle.dg_theory.specs.Reduced.{IsReduced, edges_out}
-pub use Rattle.dg_theory.specs.Sums.{total_below}
+pub use Rattle.dg_theory.specs.Sums.{nat_sum_below}
 pub use Rattle.std.proofs.Common.{Bool, Fits, List, [], ap, ap₂, arith, bit_and, cond, false, get_or, get_or-set_other, inl, inr, length, length-append, length-set, ltb, map, min, nat_eq, not, refl, replicate, subst, suc, sym, take, true, w16, w8, zero, ℕ, ⊎_elim, ◌%◌, ◌&&◌, ◌*◌, ◌++◌, ◌+◌, ◌-◌, ◌<◌, ◌^◌, ◌∙◌, ◌∷◌, ◌≡◌, ◌≢◌, ◌≤◌, ◌⊎◌}
 pub use Rattle.std.proofs.Math.IntN.{pos}
 pub use Rattle.std.proofs.lemmas.Bool.{and_left, and_parts, and_right, both_ways, cases_Bool, cases_eq, cases_lt, eq-eqb, eqb-true, le-ltb, lt-ltb, ltb-true, ne_eqb, not-false, not_from_true, or_right, true_from_ne_false}

@@ -12,19 +12,19 @@
 --   left-less      where one is left less, one burns more
 --   burnt_out      in a fire, nobody may burn where each has burnt whose heat is above 127
 --   least_burns    in a fire, the least vertex that has not and whose heat is burns next
-use Rattle.dg_burn.proofs.Common.{if◌then◌else◌, ◌≡◌, ℕ, zero, suc, ◌+◌, ◌-◌, ◌<◌, ◌≤◌, Bool, true, false, not, ◌&&◌, List, arith, refl, sym, ap, ap₂, ◌∙◌, ⊎_elim, nat_lt, slice_index, ◌<ℤ◌, pos, cases_Bool, cases_eq, cases_lt, lt-ltb, both_ways, not-false, ints, total_below, Multigraph, IsMultigraph, edges_between, valence, edges_into, MayBurn, BurnsNext, total_below-cong, total_below-term, total_below-differ_at, into-le-valence, IsGraph, IsVertexSet, IsSetWith, valence-few, valence-outside, Fire, dollars, heat, burns, IsUnlit, IsFireOut, IsNextInFire, IsSetWithout, IsFire, in_set}
+use Rattle.dg_burn.proofs.Common.{if◌then◌else◌, ◌≡◌, ℕ, zero, suc, ◌+◌, ◌-◌, ◌<◌, ◌≤◌, Bool, true, false, not, ◌&&◌, List, arith, refl, sym, ap, ap₂, ◌∙◌, ⊎_elim, nat_lt, slice_index, ◌<ℤ◌, pos, cases_Bool, cases_eq, cases_lt, lt-ltb, both_ways, not-false, ints, nat_sum_below, Multigraph, IsMultigraph, edges_between, valence, edges_into, MayBurn, BurnsNext, nat_sum_below-cong, nat_sum_below-term, nat_sum_below-differ_at, into-le-valence, IsGraph, IsVertexSet, IsSetWith, valence-few, valence-outside, Fire, list_amounts, heat, burns, IsUnlit, IsBurntOut, IsNextBurnt, IsSetWithout, IsFire, in_set}
 
-total-zero : (n : ℕ) → total_below n (λ _. 0) ≡ 0
+total-zero : (n : ℕ) → nat_sum_below n (λ _. 0) ≡ 0
 total-zero zero = refl
-total-zero (suc n) = let before : total_below n (λ _. 0) ≡ 0 = total-zero n in omega arith
+total-zero (suc n) = let before : nat_sum_below n (λ _. 0) ≡ 0 = total-zero n in omega arith
 
 abbrev counted : Bool → ℕ → ℕ
 counted b e = if b then e else 0
 
 pub into-none : (g : Multigraph) (B : ℕ → Bool) (v : ℕ) → ((w : ℕ) → B w ≡ false) → edges_into g B v ≡ 0
 into-none g B v none =
-    let all : edges_into g B v ≡ total_below g.size (λ _. 0) =
-    total_below-cong g.size (λ w. counted (B w) (edges_between g v w)) (λ _. 0)
+    let all : edges_into g B v ≡ nat_sum_below g.size (λ _. 0) =
+    nat_sum_below-cong g.size (λ w. counted (B w) (edges_between g v w)) (λ _. 0)
     (λ w below. ap (λ b. counted b (edges_between g v w)) (none w)) in
     omega (arith, total-zero g.size)
 
@@ -33,7 +33,7 @@ pub into-more : (g : Multigraph) (S T : ℕ → Bool) (v w : ℕ) → IsMultigra
 into-more g S T v w graph below new more =
     let differ : edges_into g T w + counted (S v) (edges_between g w v)
     ≡ edges_into g S w + counted (T v) (edges_between g w v) =
-    total_below-differ_at g.size (λ u. counted (T u) (edges_between g w u))
+    nat_sum_below-differ_at g.size (λ u. counted (T u) (edges_between g w u))
     (λ u. counted (S u) (edges_between g w u)) v below
     (λ u _ other. ap (λ b. counted b (edges_between g w u)) (more.others u other)) in
     let before : counted (S v) (edges_between g w v) ≡ 0 = ap (λ b. counted b (edges_between g w v)) new in
@@ -47,7 +47,7 @@ into-few g B v graph = omega (arith, into-le-valence g B v, valence-few g v grap
 edge-few : (g : Multigraph) (v w : ℕ) → IsGraph g → edges_between g v w ≤ 63
 edge-few g v w graph = ⊎_elim
     (λ (inside : w < g.size).
-    let term : edges_between g v w ≤ valence g v = total_below-term g.size (edges_between g v) w inside in
+    let term : edges_between g v w ≤ valence g v = nat_sum_below-term g.size (edges_between g v) w inside in
     omega (arith, valence-few g v graph))
     (λ (outside : g.size ≤ w). omega (arith, graph.multigraph.inside v w outside))
     (cases_lt w g.size)
@@ -130,8 +130,8 @@ fire-counts g held x y counts v graph unlit fire gained past = ⊎_elim
     ))
     (cases_lt v 16)
 
-pub burnt_out : (g : Multigraph) (held : List ℕ) (x : Fire) → IsGraph g → IsFire g held x → IsFireOut x →
-    (v : ℕ) → ¬ MayBurn g (dollars held) (burns g.size x) v
+pub burnt_out : (g : Multigraph) (held : List ℕ) (x : Fire) → IsGraph g → IsFire g held x → IsBurntOut x →
+    (v : ℕ) → ¬ MayBurn g (list_amounts held) (burns g.size x) v
 burnt_out g held x graph fire none v may =
     let below : v < g.size = may.vertex in
     let less : pos (slice_index held v) <ℤ pos (edges_into g (burns g.size x) v) = may.reached in
@@ -144,7 +144,7 @@ burnt_out g held x graph fire none v may =
     )
 
 pub least_burns : (g : Multigraph) (held : List ℕ) (x : Fire) (v : ℕ) → IsGraph g → IsFire g held x →
-    IsNextInFire x v → BurnsNext g (dollars held) (burns g.size x) v
+    IsNextBurnt x v → BurnsNext g (list_amounts held) (burns g.size x) v
 least_burns g held x v graph fire next = record {
   may = record {
     vertex = fire.inside v next.new;

@@ -5,7 +5,7 @@
 --   so_far-first   q alone
 --   so_far-more    one vertex more, which is the least that may burn
 --   so_far-done    the list is the whole order where none may burn
-use Rattle.dg_burn.proofs.Common.{◌≡◌, ℕ, zero, suc, ◌<◌, ◌⊎◌, Bool, List, [], ◌∷◌, ◌++◌, length, take, arith, refl, inl, inr, ⊎_elim, slice_get, Some, take-append-le, take_all, Multigraph, Amounts, among, MayBurn, BurnsNext, BurnsSoFar, BurnsInOrder}
+use Rattle.dg_burn.proofs.Common.{◌≡◌, ℕ, zero, suc, ◌<◌, ◌⊎◌, Bool, List, [], ◌∷◌, ◌++◌, length, take, arith, refl, inl, inr, ⊎_elim, slice_get, Some, take-append-le, take_all, Multigraph, Amounts, list_contains, MayBurn, BurnsNext, IsBurningPrefix, IsLeastBurningOrder}
 
 pub get-push : (l : List ℕ) (v i w : ℕ) → slice_get (l ++ v ∷ []) i ≡ Some w →
     ((i < length l) × (slice_get l i ≡ Some w)) ⊎ ((i ≡ length l) × (v ≡ w))
@@ -22,8 +22,8 @@ get-first [] v q first = let clash : ⊥ = cc in absurd clash
 get-first (x ∷ l) v q first = first
 
 pub next-more : (P : (ℕ → Bool) → ℕ → Type 0) (l : List ℕ) (v : ℕ) →
-    ((i w : ℕ) → slice_get l (suc i) ≡ Some w → P (among (take (suc i) l)) w) → P (among l) v →
-    (i w : ℕ) → slice_get (l ++ v ∷ []) (suc i) ≡ Some w → P (among (take (suc i) (l ++ v ∷ []))) w
+    ((i w : ℕ) → slice_get l (suc i) ≡ Some w → P (list_contains (take (suc i) l)) w) → P (list_contains l) v →
+    (i w : ℕ) → slice_get (l ++ v ∷ []) (suc i) ≡ Some w → P (list_contains (take (suc i) (l ++ v ∷ []))) w
 next-more P l v before last i w place = ⊎_elim
     (λ (old : (suc i < length l) × (slice_get l (suc i) ≡ Some w)).
     rw (take-append-le (suc i) l (v ∷ []) (omega arith)) (before i w old.1))
@@ -31,16 +31,16 @@ next-more P l v before last i w place = ⊎_elim
     rw (take-append-le (suc i) l (v ∷ []) (omega arith), take_all (suc i) l (omega arith), ← new.1) last)
     (get-push l v (suc i) w place)
 
-pub so_far-first : (g : Multigraph) (q : ℕ) (D : Amounts) → BurnsSoFar g q D (q ∷ [])
+pub so_far-first : (g : Multigraph) (q : ℕ) (D : Amounts) → IsBurningPrefix g q D (q ∷ [])
 so_far-first g q D = record { first = refl; next = λ i v place. let clash : ⊥ = cc in absurd clash }
 
-pub so_far-more : (g : Multigraph) (q : ℕ) (D : Amounts) (l : List ℕ) (v : ℕ) → BurnsSoFar g q D l →
-    BurnsNext g D (among l) v → BurnsSoFar g q D (l ++ v ∷ [])
+pub so_far-more : (g : Multigraph) (q : ℕ) (D : Amounts) (l : List ℕ) (v : ℕ) → IsBurningPrefix g q D l →
+    BurnsNext g D (list_contains l) v → IsBurningPrefix g q D (l ++ v ∷ [])
 so_far-more g q D l v so_far burns = record {
   first = get-first l v q so_far.first;
   next = next-more (BurnsNext g D) l v so_far.next burns;
 }
 
-pub so_far-done : (g : Multigraph) (q : ℕ) (D : Amounts) (l : List ℕ) → BurnsSoFar g q D l →
-    ((v : ℕ) → ¬ MayBurn g D (among l) v) → BurnsInOrder g q D l
+pub so_far-done : (g : Multigraph) (q : ℕ) (D : Amounts) (l : List ℕ) → IsBurningPrefix g q D l →
+    ((v : ℕ) → ¬ MayBurn g D (list_contains l) v) → IsLeastBurningOrder g q D l
 so_far-done g q D l so_far none = record { begun = so_far; last = none }

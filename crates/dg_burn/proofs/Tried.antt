@@ -13,29 +13,29 @@
 --   meets-all        each set meets the special sets that it meets
 --   meets-fewer      so does one without a vertex, where something hangs on all that has it and none of the others
 --   part-fewer       and it is a part
-use Rattle.dg_burn.proofs.Common.{if◌then◌else◌, ◌≡◌, ◌≢◌, ℕ, ◌+◌, ◌<◌, ◌≤◌, ◌&&◌, ◌⊎◌, inl, inr, ⊎_elim, Bool, true, false, not, nat_lt, List, arith, refl, sym, ap, subst, ◌∙◌, pos, ◌≤ℤ◌, cases_Bool, cases_eq, cases_lt, both_ways, and_parts, ints, lt-ltb, ltb-true, true_from_ne_false, Multigraph, IsMultigraph, IsGraph, edges_between, edges_into, edges_out, total_below-term, member_or_none, IsGreatestFree, AreDisjoint, IsSetWith, IsSetWithout, IsSubset, dollars}
+use Rattle.dg_burn.proofs.Common.{if◌then◌else◌, ◌≡◌, ◌≢◌, ℕ, ◌+◌, ◌<◌, ◌≤◌, ◌&&◌, ◌⊎◌, inl, inr, ⊎_elim, Bool, true, false, not, nat_lt, List, arith, refl, sym, ap, subst, ◌∙◌, pos, ◌≤ℤ◌, cases_Bool, cases_eq, cases_lt, both_ways, and_parts, ints, lt-ltb, ltb-true, true_from_ne_false, Multigraph, IsMultigraph, IsGraph, edges_between, edges_into, edges_out, nat_sum_below-term, member_or_none, IsGreatestLegal, AreDisjoint, IsSetWith, IsSetWithout, IsSubset, list_amounts}
 use Rattle.std.proofs.lemmas.Bool.{and_from, false_from_ne_true, not-true, not_from_false}
-use Rattle.dg_theory.specs.Burning.{FiresFreely}
-use Rattle.dg_theory.specs.Determining.{HangsLoosely, IsConnectedSet, MeetsSpecialSets, beside}
+use Rattle.dg_theory.specs.Burning.{IsLegalSetFiring}
+use Rattle.dg_theory.specs.Determining.{HangsLoosely, IsConnectedSet, MeetsSpecialSets, boundary_divisor}
 use Rattle.dg_theory.proofs.Components.{connected-alone, connected-more, connected_grows}
 use Rattle.dg_theory.proofs.Debts.{out-le-valence}
 use Rattle.dg_theory.proofs.SetFiring.{fired-inside, inside-fired, outside-fired}
 use Rattle.dg_theory.proofs.Special.{edge_into, fires_hangs, total_some}
-use Rattle.dg_theory.proofs.TotalLaws.{total_below-le}
-use Rattle.dg_burn.specs.Special.{AllHang, Hangs, IsSearchedForSpecial, never_burning_dollars}
+use Rattle.dg_theory.proofs.TotalLaws.{nat_sum_below-le}
+use Rattle.dg_burn.specs.Special.{NoSpecialBetween, HasHanging, IsConnectedBetween, fireproof_divisor}
 
 joined_by : (g : Multigraph) (S : ℕ → Bool) (v w : ℕ) → w < g.size → S w ≡ true → 0 < edges_between g v w →
     0 < edges_into g S v
 joined_by g S v w below member edge =
     let term : (if S w then edges_between g v w else 0) ≤ edges_into g S v =
-    total_below-term g.size (λ u. if S u then edges_between g v u else 0) w below in
+    nat_sum_below-term g.size (λ u. if S u then edges_between g v u else 0) w below in
     let counted : edges_between g v w ≤ edges_into g S v = rw member at term in
     omega arith
 
 -- what burning leaves of the dollars beside a connected set
 pub rest_hangs : (g : Multigraph) (S : ℕ → Bool) (q : ℕ) (held : List ℕ) (R : ℕ → Bool) → IsMultigraph g →
-    IsConnectedSet g S → S q ≡ true → ((v : ℕ) → v < g.size → dollars held v ≡ beside g S v) →
-    IsGreatestFree g q (dollars held) R → (w : ℕ) → R w ≡ true → HangsLoosely g S R
+    IsConnectedSet g S → S q ≡ true → ((v : ℕ) → v < g.size → list_amounts held v ≡ boundary_divisor g S v) →
+    IsGreatestLegal g q (list_amounts held) R → (w : ℕ) → R w ≡ true → HangsLoosely g S R
 rest_hangs g S q held R graph connected start same rest w member =
     fires_hangs g S R q graph connected start
     (record {
@@ -45,10 +45,10 @@ rest_hangs g S q held R graph connected start same rest w member =
     })
     (w, member)
 
-wall-inside : (S : ℕ → Bool) (v : ℕ) → S v ≡ true → never_burning_dollars S v ≡ pos 64
+wall-inside : (S : ℕ → Bool) (v : ℕ) → S v ≡ true → fireproof_divisor S v ≡ pos 64
 wall-inside S v inside = rw inside refl
 
-wall-outside : (S : ℕ → Bool) (v : ℕ) → S v ≡ false → never_burning_dollars S v ≡ pos 0
+wall-outside : (S : ℕ → Bool) (v : ℕ) → S v ≡ false → fireproof_divisor S v ≡ pos 0
 wall-outside S v outside = rw outside refl
 
 -- all vertices but those of X
@@ -82,14 +82,15 @@ out-none g R v none =
 
 -- behind a wall at S only what hangs together with w burns
 beyond_wall : (g : Multigraph) (S X : ℕ → Bool) (held : List ℕ) (w : ℕ) → IsGraph g → HangsLoosely g S X →
-    X w ≡ true → ((v : ℕ) → v < g.size → dollars held v ≡ never_burning_dollars S v) → FiresFreely g w (dollars held) (but g X)
+    X w ≡ true → ((v : ℕ) → v < g.size → list_amounts held v ≡ fireproof_divisor S v) →
+    IsLegalSetFiring g w (list_amounts held) (but g X)
 beyond_wall g S X held w graph hangs member same = record {
   vertices = λ v in_v. (but-below g X v in_v).0;
   without = false_from_ne_true (but g X w) (λ in_w. both_ways _ (but-below g X w in_w).1 member);
   no_debt = λ v below other. ⊎_elim
       (λ (inside : but g X v ≡ true).
       let (_, off_X) = but-below g X v inside in
-      inside-fired g (dollars held) (but g X) v inside
+      inside-fired g (list_amounts held) (but g X) v inside
       (⊎_elim
       (λ (in_S : S v ≡ true).
       omega (arith, ints, same v below, wall-inside S v in_S, out-few g (but g X) v graph below))
@@ -99,12 +100,13 @@ beyond_wall g S X held w graph hangs member same = record {
       graph.multigraph.symmetric v u ∙ hangs.closed u v in_X off_X off_S) in
       omega (arith, ints))
       (cases_Bool (S v))))
-      (λ (outside : but g X v ≡ false). outside-fired g (dollars held) (but g X) v outside (omega (arith, ints)))
+      (λ (outside : but g X v ≡ false). outside-fired g (list_amounts held) (but g X) v outside (omega (arith, ints)))
       (cases_Bool (but g X v));
 }
 
 pub part_hangs : (g : Multigraph) (S X R : ℕ → Bool) (held : List ℕ) (w : ℕ) → IsGraph g → HangsLoosely g S X →
-    X w ≡ true → ((v : ℕ) → v < g.size → dollars held v ≡ never_burning_dollars S v) → IsGreatestFree g w (dollars held) R →
+    X w ≡ true → ((v : ℕ) → v < g.size → list_amounts held v ≡ fireproof_divisor S v) →
+    IsGreatestLegal g w (list_amounts held) R →
     HangsLoosely g S (but g R)
 part_hangs g S X R held w graph hangs member same rest =
     let part : (v : ℕ) → but g R v ≡ true → X v ≡ true = λ v in_v.
@@ -121,10 +123,10 @@ part_hangs g S X R held w graph hangs member same rest =
           (λ (inside : u < g.size).
           let in_R : R u ≡ true = true_from_ne_false (R u) (λ out. both_ways _ off_u (but-from g R u inside out)) in
           let other : u ≢ w = λ at. both_ways _ rest.free.without (ap R (sym at) ∙ in_R) in
-          let stands : pos (edges_out g R u) ≤ℤ dollars held u =
-          fired-inside g (dollars held) R u in_R (rest.free.no_debt u inside other) in
+          let stands : pos (edges_out g R u) ≤ℤ list_amounts held u =
+          fired-inside g (list_amounts held) R u in_R (rest.free.no_debt u inside other) in
           let term : (if R v then 0 else edges_between g u v) ≤ edges_out g R u =
-          total_below-term g.size (λ x. if R x then 0 else edges_between g u x) v below in
+          nat_sum_below-term g.size (λ x. if R x then 0 else edges_between g u x) v below in
           let counted : edges_between g u v ≤ edges_out g R u = rw off_R at term in
           omega (arith, ints, same u inside, wall-outside S u off_S, graph.multigraph.symmetric u v))
           (λ (past : g.size ≤ u). graph.multigraph.inside v u past)
@@ -137,7 +139,7 @@ pub record Passed (g : Multigraph) (S E X P : ℕ → Bool) (v : ℕ) : Type 0 w
   pub off : AreDisjoint S P
   pub reached : (w : ℕ) → w < v → X w ≡ true → 0 < edges_into g S w → P w ≡ true
   pub hang : (T : ℕ → Bool) → IsConnectedSet g T → IsSubset S T → AreDisjoint T E →
-      (w : ℕ) → T w ≡ true → P w ≡ true → Hangs g T
+      (w : ℕ) → T w ≡ true → P w ≡ true → HasHanging g T
 
 pub passed-skip : (g : Multigraph) (S E X P : ℕ → Bool) (v : ℕ) → Passed g S E X P v →
     (X v ≡ true → 0 < edges_into g S v → P v ≡ true) → Passed g S E X P (v + 1)
@@ -171,7 +173,7 @@ with-part S T v is w member =
     (cases_eq w v)
 
 pub passed-more : (g : Multigraph) (S S' E X P P' : ℕ → Bool) (v : ℕ) → Passed g S E X P v → S v ≡ false →
-    IsSetWith S v S' → IsSetWith P v P' → AllHang g S' P → Passed g S E X P' (v + 1)
+    IsSetWith S v S' → IsSetWith P v P' → NoSpecialBetween g S' P → Passed g S E X P' (v + 1)
 passed-more g S S' E X P P' v passed out with_v passed_v all =
     let more : IsSubset P P' = with-part P P' v passed_v in
     record {
@@ -214,13 +216,13 @@ hangs-larger g S T X hangs part off = record {
   closed = λ v w member off_X off_T.
       hangs.closed v w member off_X (false_from_ne_true (S w) (λ in_S. both_ways _ off_T (part w in_S)));
   loose = λ v member.
-      let fewer : edges_into g T v ≤ edges_into g S v = total_below-le g.size _ _ (λ w below.
+      let fewer : edges_into g T v ≤ edges_into g S v = nat_sum_below-le g.size _ _ (λ w below.
       into-le-once (T w) (S w) (edges_between g v w) (λ in_T off_S. hangs.closed v w member (off w in_T) off_S)) in
       omega (arith, hangs.loose v member);
 }
 
-pub passed-all : (g : Multigraph) (S E X P : ℕ → Bool) (q n : ℕ) → IsMultigraph g → n ≡ g.size → IsSearchedForSpecial g S q E →
-    HangsLoosely g S X → Passed g S E X P n → AllHang g S E
+pub passed-all : (g : Multigraph) (S E X P : ℕ → Bool) (q n : ℕ) → IsMultigraph g → n ≡ g.size → IsConnectedBetween g S q E →
+    HangsLoosely g S X → Passed g S E X P n → NoSpecialBetween g S E
 passed-all g S E X P q n graph size growing hangs passed T connected part apart =
     ⊎_elim
     (λ (met : (u : ℕ) × (T u ≡ true) × (P u ≡ true)). passed.hang T connected part apart met.0 met.1 met.2)
@@ -247,8 +249,8 @@ passed-all g S E X P q n graph size growing hangs passed T connected part apart 
     (meets_or_off g T P connected)
 
 pub growing-more : (g : Multigraph) (S S' E X P : ℕ → Bool) (q v : ℕ) → IsMultigraph g → v < g.size →
-    IsSearchedForSpecial g S q E → Passed g S E X P v → S v ≡ false → P v ≡ false → 0 < edges_into g S v → IsSetWith S v S' →
-    IsSearchedForSpecial g S' q P
+    IsConnectedBetween g S q E → Passed g S E X P v → S v ≡ false → P v ≡ false → 0 < edges_into g S v → IsSetWith S v S' →
+    IsConnectedBetween g S' q P
 growing-more g S S' E X P q v graph inside growing passed out free next with_v =
     let (a, below, in_a, edge) = edge_into g S v next in
     record {
@@ -263,7 +265,7 @@ growing-more g S S' E X P q v graph inside growing passed out free next with_v =
 
 -- a vertex alone
 pub growing-alone : (g : Multigraph) (S T E : ℕ → Bool) (v : ℕ) → v < g.size → ((w : ℕ) → S w ≡ false) →
-    IsSetWith S v T → E v ≡ false → IsSearchedForSpecial g T v E
+    IsSetWith S v T → E v ≡ false → IsConnectedBetween g T v E
 growing-alone g S T E v inside none with_v free =
     let only : (w : ℕ) → T w ≡ true → w ≡ v = λ w member. ⊎_elim
     (λ (same : w ≡ v). same)
@@ -279,7 +281,7 @@ pub meets-all : (g : Multigraph) (U : ℕ → Bool) → MeetsSpecialSets g U U
 meets-all g U S u connected in_S in_U off = absurd (both_ways _ (off u in_S) in_U)
 
 pub meets-fewer : (g : Multigraph) (A B U S T : ℕ → Bool) (v : ℕ) → MeetsSpecialSets g A U → IsSetWithout A v B →
-    ((w : ℕ) → S w ≡ false) → IsSetWith S v T → AllHang g T B → MeetsSpecialSets g B U
+    ((w : ℕ) → S w ≡ false) → IsSetWith S v T → NoSpecialBetween g T B → MeetsSpecialSets g B U
 meets-fewer g A B U S T v meets without none with_v all R u connected in_R in_U off =
     ⊎_elim
     (λ (here : R v ≡ true). all R connected

@@ -2,15 +2,15 @@
 
 ghost use Rattle.std.specs.Prelude.{◌≡◌, ℕ, ◌<◌, ◌≤◌, ◌↔◌, take, slice_index};
 ghost use Rattle.std.specs.List.{slice_index_or};
-ghost use Rattle.dg_theory.specs.Firing.{HasNoDebtOff};
-ghost use Rattle.dg_theory.specs.Burning.{BurnsInOrder, IsGreatestFree};
+ghost use Rattle.dg_theory.specs.Firing.{IsEffectiveOff};
+ghost use Rattle.dg_theory.specs.Burning.{IsLeastBurningOrder, IsGreatestLegal};
 ghost use Rattle.dg_theory.specs.BurningLaws.{unburnt_by};
 ghost use Rattle.dg_theory.specs.Reduced.{edges_out, IsReduced};
 ghost use Rattle.dg_graph.specs.Sets.{in_set};
 ghost use Rattle.dg_chips.specs.Vector.{at};
-ghost use Rattle.dg_burn.specs.Fires.{dollars, IsHeldForFire};
+ghost use Rattle.dg_burn.specs.Fires.{list_amounts, AreCapped};
 
-use crate::fire::{Fire, gained};
+use crate::fire::{Fire, heat_gain};
 use dg_chips::Wide;
 use dg_graph::{Graph, MAX_VERTICES};
 
@@ -40,18 +40,18 @@ pub struct BurnCounts {
 pub fn burn(graph: &Graph, q: usize, chips: &Wide) -> Burnt
     requires size { chips.now.size ≡ graph.now.size }
     requires vertex { q < graph.now.size }
-    requires no_debt { HasNoDebtOff graph.now q (at chips.now) }
-    ensures order { BurnsInOrder graph.now q (at chips.now) (take result.burnt result.order) }
+    requires no_debt { IsEffectiveOff graph.now q (at chips.now) }
+    ensures order { IsLeastBurningOrder graph.now q (at chips.now) (take result.burnt result.order) }
     ensures rest { (i : ℕ) → result.burnt ≤ i → i < MAX_VERTICES →
         slice_index_or result.order i 0 ≡ 0 }
     ensures some { 1 ≤ result.burnt }
     ensures burnt { result.burnt ≤ graph.now.size }
-    ensures unburnt { IsGreatestFree graph.now q (at chips.now) (in_set result.unburnt) }
+    ensures unburnt { IsGreatestLegal graph.now q (at chips.now) (in_set result.unburnt) }
     ensures reduced { (result.unburnt ≡ 0) ↔ IsReduced graph.now q (at chips.now) }
     ensures whole { (result.unburnt ≡ 0) ↔ (result.burnt ≡ graph.now.size) }
 {
     let _size = graph.size();
-    burn_counted(graph, q, &amounts_to_burn(chips)).burnt
+    burn_counted(graph, q, &capped_amounts(chips)).burnt
 }
 
 /// Burns the graph from q, if each vertex holds so many dollars: as `burn` does, and with the counts kept. Amounts above
@@ -59,7 +59,7 @@ pub fn burn(graph: &Graph, q: usize, chips: &Wide) -> Burnt
 #[inline(always)]
 pub fn burn_counted(graph: &Graph, q: usize, held: &[u8; 16]) -> BurnCounts
     requires { q < graph.now.size }
-    ensures order { BurnsInOrder graph.now q (dollars held.now)
+    ensures order { IsLeastBurningOrder graph.now q (list_amounts held.now)
         (take result.burnt.burnt result.burnt.order) }
     ensures rest { (i : ℕ) → result.burnt.burnt ≤ i → i < MAX_VERTICES →
         slice_index_or result.burnt.order i 0 ≡ 0 }
@@ -67,7 +67,7 @@ pub fn burn_counted(graph: &Graph, q: usize, held: &[u8; 16]) -> BurnCounts
     ensures burnt { result.burnt.burnt ≤ graph.now.size }
     ensures left { (v : ℕ) → in_set result.burnt.unburnt v
         ≡ unburnt_by graph.now (take result.burnt.burnt result.burnt.order) v }
-    ensures unburnt { IsGreatestFree graph.now q (dollars held.now) (in_set result.burnt.unburnt) }
+    ensures unburnt { IsGreatestLegal graph.now q (list_amounts held.now) (in_set result.burnt.unburnt) }
     ensures joined { (v : ℕ) →
         slice_index result.joined v ≡ edges_out graph.now (in_set result.burnt.unburnt) v }
     ensures whole { (result.burnt.unburnt ≡ 0) ↔ (result.burnt.burnt ≡ graph.now.size) }
@@ -79,7 +79,7 @@ pub fn burn_counted(graph: &Graph, q: usize, held: &[u8; 16]) -> BurnCounts
     let mut order = [0; 16];
     order[0] = q as u8;
     let mut count = 1;
-    'burning: while let Some(v) = fire.next_vertex_to_burn() {
+    'burning: while let Some(v) = fire.next_vertex() {
         order[count] = v as u8;
         count += 1;
         fire.burn_vertex(graph, v);
@@ -90,13 +90,13 @@ pub fn burn_counted(graph: &Graph, q: usize, held: &[u8; 16]) -> BurnCounts
             burnt: count as u8,
             unburnt: fire.left,
         },
-        joined: gained(fire.heat, unlit.heat),
+        joined: heat_gain(fire.heat, unlit.heat),
     }
 }
 
 /// The amounts as far as burning looks at them: 0 for a debt, and 64 for more than 64.
-pub fn amounts_to_burn(chips: &Wide) -> [u8; 16]
-    ensures { IsHeldForFire chips.now.size (at chips.now) result }
+pub fn capped_amounts(chips: &Wide) -> [u8; 16]
+    ensures { AreCapped chips.now.size (at chips.now) result }
 {
     let mut held = [0; 16];
     for v in 0..chips.size() {

@@ -5,7 +5,7 @@ ghost use Rattle.dg_theory.specs.Multigraph.{edges_between};
 ghost use Rattle.dg_graph.specs.declared.limits.TheConstants.{MAX_VERTICES};
 ghost use Rattle.dg_graph.specs.Sets.{in_set};
 ghost use Rattle.dg_theory.specs.Sets.{IsSetWithout};
-ghost use Rattle.dg_burn.specs.Fires.{heat, IsUnlit, IsFireOut, IsNextInFire};
+ghost use Rattle.dg_burn.specs.Fires.{heat, IsUnlit, IsBurntOut, IsNextBurnt};
 
 use dg_graph::{Graph, complement, intersection, least_vertex, without_vertex};
 use std::simd::prelude::*;
@@ -30,13 +30,13 @@ impl Fire {
     {
         Fire {
             left: complement(graph.size(), 0),
-            heat: lack_of_heat(u8x16::from_array(*held)),
+            heat: initial_heat(u8x16::from_array(*held)),
         }
     }
 
     /// The least vertex that does not burn with more edges to burning ones than it holds dollars.
-    pub fn next_vertex_to_burn(&self) -> Option<usize>
-        ensures { MatchOption result (IsFireOut self.now) (IsNextInFire self.now) }
+    pub fn next_vertex(&self) -> Option<usize>
+        ensures { MatchOption result (IsBurntOut self.now) (IsNextBurnt self.now) }
     {
         least_vertex(intersection(hot(self.heat), self.left))
     }
@@ -53,19 +53,19 @@ impl Fire {
     {
         let _size = graph.size();
         self.left = without_vertex(self.left, v);
-        self.heat = with_heat_of_row(self.heat, u8x16::from_array(*graph.row(v)));
+        self.heat = with_row(self.heat, u8x16::from_array(*graph.row(v)));
     }
 }
 
 /// What each holds less than enough, 0 if that is more.
-fn lack_of_heat(held: u8x16) -> u8x16
+fn initial_heat(held: u8x16) -> u8x16
     ensures { (v : ℕ) → v < MAX_VERTICES → slice_index result v ≡ 127 - slice_index held v }
 {
     held.simd_max(u8x16::splat(ENOUGH)) - held
 }
 
 /// The heat with the edges of a row more.
-fn with_heat_of_row(heat: u8x16, row: u8x16) -> u8x16
+fn with_row(heat: u8x16, row: u8x16) -> u8x16
     requires { (v : ℕ) → v < MAX_VERTICES → slice_index heat v + slice_index row v ≤ 255 }
     ensures { (v : ℕ) → v < MAX_VERTICES →
         slice_index result v ≡ slice_index heat v + slice_index row v }
@@ -74,7 +74,7 @@ fn with_heat_of_row(heat: u8x16, row: u8x16) -> u8x16
 }
 
 /// How much more heat each vertex has than before.
-pub fn gained(heat: u8x16, before: u8x16) -> [u8; 16]
+pub fn heat_gain(heat: u8x16, before: u8x16) -> [u8; 16]
     requires { (v : ℕ) → v < MAX_VERTICES → slice_index before v ≤ slice_index heat v }
     ensures gained { (v : ℕ) → v < MAX_VERTICES →
         slice_index result v ≡ slice_index heat v - slice_index before v }

@@ -5,5 +5,5 @@ mod burning;
 mod fire;
 mod special;
 
-pub use burning::{BurnCounts, Burnt, amounts_to_burn, burn, burn_counted};
+pub use burning::{BurnCounts, Burnt, burn, burn_counted, capped_amounts};
 pub use special::determining_set;

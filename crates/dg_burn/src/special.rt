@@ -1,11 +1,11 @@
 //! The vertices at which it is enough to try a rank test: a set that meets each special set.
 
 ghost use Rattle.std.specs.Prelude.{◌≡◌, ◌≢◌, ℕ, ◌<◌, ⊤, true, MatchBool};
-ghost use Rattle.dg_theory.specs.Determining.{beside, Determines, HangsLoosely, IsConnectedSet, MeetsSpecialSets};
+ghost use Rattle.dg_theory.specs.Determining.{boundary_divisor, Determines, HangsLoosely, IsConnectedSet, MeetsSpecialSets};
 ghost use Rattle.dg_graph.specs.Sets.{in_set};
 ghost use Rattle.dg_theory.specs.Sets.{IsSubset, IsVertexSet};
-ghost use Rattle.dg_burn.specs.Fires.{dollars};
-ghost use Rattle.dg_burn.specs.Special.{never_burning_dollars, AllHang, IsSearchedForSpecial};
+ghost use Rattle.dg_burn.specs.Fires.{list_amounts};
+ghost use Rattle.dg_burn.specs.Special.{fireproof_divisor, NoSpecialBetween, IsConnectedBetween};
 
 use crate::burning::burn_counted;
 use dg_graph::{Graph, complement, contains, with_vertex, without_vertex};
@@ -23,7 +23,7 @@ pub fn determining_set(graph: &Graph, within: u16) -> u16
     for v in 0..graph.size() {
         if contains(asked, v) {
             let fewer = without_vertex(asked, v);
-            if determines_without(graph, v, with_vertex(0, v), fewer) {
+            if has_no_special_set(graph, v, with_vertex(0, v), fewer) {
                 asked = fewer;
             }
         }
@@ -33,20 +33,20 @@ pub fn determining_set(graph: &Graph, within: u16) -> u16
 
 /// Whether something hangs loosely on each connected set that has all vertices of one set, and none of another. Where
 /// something hangs on the one, only a larger set that takes a vertex of it can be special.
-fn determines_without(graph: &Graph, q: usize, set: u16, stop: u16) -> bool
-    requires { IsSearchedForSpecial graph.now (in_set set) q (in_set stop) }
+fn has_no_special_set(graph: &Graph, q: usize, set: u16, stop: u16) -> bool
+    requires { IsConnectedBetween graph.now (in_set set) q (in_set stop) }
     ensures { MatchBool result
-        (AllHang graph.now (in_set set) (in_set stop))
+        (NoSpecialBetween graph.now (in_set set) (in_set stop))
         ⊤ }
 {
-    let loose = part_to_determine_by(graph, q, set, stop);
+    let loose = smallest_loose_part(graph, q, set, stop);
     if loose == 0 {
         return false;
     }
     let mut passed = stop;
     for v in 0..graph.size() {
         if contains(loose, v) && !contains(passed, v) && graph.edges_into(set, v) > 0 {
-            if !determines_without(graph, q, with_vertex(set, v), passed) {
+            if !has_no_special_set(graph, q, with_vertex(set, v), passed) {
                 return false;
             }
             passed = with_vertex(passed, v);
@@ -57,13 +57,13 @@ fn determines_without(graph: &Graph, q: usize, set: u16, stop: u16) -> bool
 
 /// Of the components of what hangs loosely on a connected set that has the vertex q, one that has the fewest vertices next
 /// to the set that are not in `stop`: none, if nothing hangs on it.
-fn part_to_determine_by(graph: &Graph, q: usize, set: u16, stop: u16) -> u16
+fn smallest_loose_part(graph: &Graph, q: usize, set: u16, stop: u16) -> u16
     requires connected { IsConnectedSet graph.now (in_set set) }
     requires start { in_set set q ≡ true }
     ensures { result ≢ 0 → HangsLoosely graph.now (in_set set) (in_set result) }
 {
     let _size = graph.size();
-    let loose = burn_counted(graph, q, &dollars_beside(graph, set))
+    let loose = burn_counted(graph, q, &boundary_dollars(graph, set))
         .burnt
         .unburnt;
     let mut best = 0;
@@ -71,8 +71,8 @@ fn part_to_determine_by(graph: &Graph, q: usize, set: u16, stop: u16) -> u16
     let mut seen = 0;
     for w in 0..graph.size() {
         if contains(loose, w) && !contains(seen, w) {
-            let part = burnt_component(graph, set, loose, w);
-            let entries = count_ways_into(graph, set, part, stop);
+            let part = component_of(graph, set, loose, w);
+            let entries = count_adjacent(graph, set, part, stop);
             if best == 0 || entries < least {
                 best = part;
                 least = entries;
@@ -84,21 +84,21 @@ fn part_to_determine_by(graph: &Graph, q: usize, set: u16, stop: u16) -> u16
 }
 
 /// The component of a vertex in what hangs loosely on a set.
-fn burnt_component(graph: &Graph, set: u16, loose: u16, w: usize) -> u16
+fn component_of(graph: &Graph, set: u16, loose: u16, w: usize) -> u16
     requires hangs { HangsLoosely graph.now (in_set set) (in_set loose) }
     requires member { in_set loose w ≡ true }
     ensures some { result ≢ 0 }
     ensures hangs { HangsLoosely graph.now (in_set set) (in_set result) }
 {
     let size = graph.size();
-    let beyond = burn_counted(graph, w, &walled_against_fire(graph, set))
+    let beyond = burn_counted(graph, w, &fireproof_amounts(graph, set))
         .burnt
         .unburnt;
     complement(size, beyond)
 }
 
 /// How many vertices of a part are next to a set and not in `stop`.
-fn count_ways_into(graph: &Graph, set: u16, part: u16, stop: u16) -> usize {
+fn count_adjacent(graph: &Graph, set: u16, part: u16, stop: u16) -> usize {
     let mut count = 0;
     for v in 0..graph.size() {
         if contains(part, v) && !contains(stop, v) && graph.edges_into(set, v) > 0 {
@@ -109,8 +109,8 @@ fn count_ways_into(graph: &Graph, set: u16, part: u16, stop: u16) -> usize {
 }
 
 /// So many dollars at each vertex of a set that it does not burn, and none elsewhere.
-fn walled_against_fire(graph: &Graph, set: u16) -> [u8; 16]
-    ensures { (v : ℕ) → v < graph.now.size → dollars result v ≡ never_burning_dollars (in_set set) v }
+fn fireproof_amounts(graph: &Graph, set: u16) -> [u8; 16]
+    ensures { (v : ℕ) → v < graph.now.size → list_amounts result v ≡ fireproof_divisor (in_set set) v }
 {
     let mut held = [0; 16];
     for v in 0..graph.size() {
@@ -122,8 +122,8 @@ fn walled_against_fire(graph: &Graph, set: u16) -> [u8; 16]
 }
 
 /// A dollar at each vertex outside a set from which an edge leads into the set.
-fn dollars_beside(graph: &Graph, set: u16) -> [u8; 16]
-    ensures { (v : ℕ) → v < graph.now.size → dollars result v ≡ beside graph.now (in_set set) v }
+fn boundary_dollars(graph: &Graph, set: u16) -> [u8; 16]
+    ensures { (v : ℕ) → v < graph.now.size → list_amounts result v ≡ boundary_divisor graph.now (in_set set) v }
 {
     let mut held = [0; 16];
     for v in 0..graph.size() {

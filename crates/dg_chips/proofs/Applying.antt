@@ -5,7 +5,7 @@
 --   moved           a divisor that holds them is the one after it
 --   moved_once      there is one divisor after a move
 --   out_of_range    where they are refused as a divisor, the script leaves the range
-use Rattle.dg_chips.proofs.Common.{◌≡◌, ℕ, ◌<◌, ◌≤◌, List, length, take, arith, ◌∙◌, slice_index_or, ℤ, pos, get_or-take, length-take, Multigraph, Amounts, fired, Vector, at, HoldsNumbers, IsVector, IsOutOfRange, IsAfterMove, IsFirstChipFault, ChipFault, Length, Range, sym}
+use Rattle.dg_chips.proofs.Common.{◌≡◌, ℕ, ◌<◌, ◌≤◌, List, length, take, arith, ◌∙◌, slice_index_or, ℤ, pos, get_or-take, length-take, Multigraph, Amounts, fired, Vector, at, HoldsNumbers, IsVector, IsOutOfRange, IsAfterMove, IsChipFault, ChipFault, Length, Range, sym}
 use Rattle.dg_chips.specs.declared.moves.Move.{Move}
 use Rattle.dg_chips.specs.declared.moves.Move.TheVariants.{Script}
 use Rattle.dg_chips.proofs.VectorLaws.{one_vector}
@@ -38,7 +38,7 @@ moved g D s n xs d made size holds right = record {
 }
 
 pub out_of_range : (g : Multigraph) (D : Amounts) (s : Vector) (n : ℕ) (xs : List ℤ) (fault : ChipFault) →
-    AreFired g D s n xs → IsFirstChipFault g.size (take n xs) fault → IsOutOfRange g.size (fired g D (at s))
+    AreFired g D s n xs → IsChipFault g.size (take n xs) fault → IsOutOfRange g.size (fired g D (at s))
 out_of_range g D s n xs Length made other = absurd (other (numbers_taken g D s n xs made))
 out_of_range g D s n xs (Range v) made first =
     let below : v < g.size = omega (arith, numbers_taken g D s n xs made, first.1.place) in

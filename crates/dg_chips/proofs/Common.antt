@@ -1,7 +1,7 @@
 -- The names that the proofs of this crate cite, passed on from one place. Declares nothing.
 pub use Rattle.dg_chips.specs.Applied.{IsAfterMove}
-pub use Rattle.dg_chips.specs.DivisorFaults.{IsFirstChipFault}
-pub use Rattle.dg_chips.specs.Light.{IsLightScript}
+pub use Rattle.dg_chips.specs.DivisorFaults.{IsChipFault}
+pub use Rattle.dg_chips.specs.Light.{GainsFitI32}
 pub use Rattle.dg_chips.specs.Vector.{HoldsNumbers, IsInRange, IsOutOfRange, IsVector, Vector, at}
 pub use Rattle.dg_chips.specs.declared.divisor.ChipFault.{ChipFault}
 pub use Rattle.dg_chips.specs.declared.divisor.ChipFault.TheVariants.{Length, Range}
@@ -18,13 +18,13 @@ pub use Rattle.dg_theory.proofs.SetFiring.{gain-outside}
 pub use Rattle.dg_theory.proofs.SumLaws.{sum_below-cong, sum_below-differ_at, sum_below-more, sum_below-zero}
 pub use Rattle.dg_theory.proofs.SumSwap.{sum_below-scale, sum_below-sub}
 pub use Rattle.dg_theory.proofs.SumTotals.{sum_below-total}
-pub use Rattle.dg_theory.proofs.TotalLaws.{total_below-term}
+pub use Rattle.dg_theory.proofs.TotalLaws.{nat_sum_below-term}
 pub use Rattle.dg_theory.specs.Burning.{edges_into}
 pub use Rattle.dg_theory.specs.Firing.{Amounts, fired, gain, indicator, multiple, only_at}
 pub use Rattle.dg_theory.specs.Multigraph.{IsMultigraph, Multigraph, edges_between, valence}
 pub use Rattle.dg_theory.specs.Rank.{canonical}
 pub use Rattle.dg_theory.specs.Reduced.{edges_out}
-pub use Rattle.dg_theory.specs.Sums.{sum_below, total_below}
+pub use Rattle.dg_theory.specs.Sums.{sum_below, nat_sum_below}
 pub use Rattle.std.proofs.Common.{Bool, FitsSigned, List, MatchBool, add-one, ap, arith, below_more, ext_get_or, false, get_or-set_other, get_or-set_same, inl, inr, length, length-set, mul-one, refl, slice_set, subst, suc, sym, take, true, w32, w64, zero, ℕ, ⊎_elim, ◌%◌, ◌&&◌, ◌*◌, ◌+◌, ◌-◌, ◌<◌, ◌^◌, ◌∙◌, ◌≡◌, ◌≢◌, ◌≤◌}
 pub use Rattle.std.proofs.Math.IntN.{*ℤ-zero, *ℤ_comm, +ℤ_idr, pos, zero-*ℤ, ℤ, ◌*ℤ◌, ◌+ℤ◌, ◌-ℤ◌}
 pub use Rattle.std.proofs.Math.Nat.{mul-le-mul}

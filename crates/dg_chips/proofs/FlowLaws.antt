@@ -9,14 +9,14 @@
 --   carried_held      a machine's value of what edges carry is that value, within the limit
 --   held_sum          so a machine's sum of two numbers within 2^61 is their sum
 --   product_limit     edges that each carry a limited amount carry so many times the limit together
-use Rattle.dg_chips.proofs.Common.{◌≡◌, ℕ, zero, suc, ◌*◌, ◌^◌, ◌≤◌, arith, refl, sym, w64, FitsSigned, ◌∙◌, ap, ⊎_elim, cases_eq, ints, unsigned_abs-mul, mul-le-mul, ℤ, pos, ◌+ℤ◌, ◌-ℤ◌, ◌*ℤ◌, zero-*ℤ, *ℤ_comm, unsigned_abs, w128, to_z, of_z, sum_below, total_below, Multigraph, IsMultigraph, edges_between, valence, Amounts, gain, within_abs, abs-add, mulz-sub, sum_below-cong, sum_below-scale, sum_below-sub, sum_below-total}
+use Rattle.dg_chips.proofs.Common.{◌≡◌, ℕ, zero, suc, ◌*◌, ◌^◌, ◌≤◌, arith, refl, sym, w64, FitsSigned, ◌∙◌, ap, ⊎_elim, cases_eq, ints, unsigned_abs-mul, mul-le-mul, ℤ, pos, ◌+ℤ◌, ◌-ℤ◌, ◌*ℤ◌, zero-*ℤ, *ℤ_comm, unsigned_abs, w128, to_z, of_z, sum_below, nat_sum_below, Multigraph, IsMultigraph, edges_between, valence, Amounts, gain, within_abs, abs-add, mulz-sub, sum_below-cong, sum_below-scale, sum_below-sub, sum_below-total}
 
-pub sum_below-edges : (n : ℕ) (e : ℕ → ℕ) (y : ℤ) → sum_below n (λ w. pos (e w) *ℤ y) ≡ pos (total_below n e) *ℤ y
+pub sum_below-edges : (n : ℕ) (e : ℕ → ℕ) (y : ℤ) → sum_below n (λ w. pos (e w) *ℤ y) ≡ pos (nat_sum_below n e) *ℤ y
 sum_below-edges n e y =
     sum_below-cong n _ _ (λ w _. *ℤ_comm (pos (e w)) y)
     ∙ sym (sum_below-scale n y (λ w. pos (e w)))
     ∙ ap (λ (z : ℤ). y *ℤ z) (sum_below-total n (λ w. pos (e w)) e (λ _ _. refl))
-    ∙ *ℤ_comm y (pos (total_below n e))
+    ∙ *ℤ_comm y (pos (nat_sum_below n e))
 
 pub sum_below-past : (n m : ℕ) (f : ℕ → ℤ) → n ≤ m → ((w : ℕ) → n ≤ w → f w ≡ pos 0) → sum_below m f ≡ sum_below n f
 sum_below-past n zero f less none = let same : n ≡ 0 = omega arith in rw same refl

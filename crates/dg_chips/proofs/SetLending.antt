@@ -8,7 +8,7 @@
 --   lends-once      what is told of a vertex as a number is how often it lends
 --   held_flow       a machine's sum of an amount and what comes less what goes is the amount after it
 --   range-more      whether the first amounts are in range, and one more
-use Rattle.dg_chips.proofs.Common.{if◌then◌else◌, ◌≡◌, ℕ, ◌+◌, ◌<◌, ◌≤◌, Bool, true, false, ◌&&◌, arith, add-one, refl, ap, ◌∙◌, below_more, ⊎_elim, w32, mul-one, MatchBool, nat_le, unsigned_abs, to_z, of_z, bool_byte, cases_Bool, leb-true, leb-false, ints, ℤ, pos, ◌+ℤ◌, ◌-ℤ◌, ◌*ℤ◌, *ℤ-zero, sum_below, total_below, Multigraph, edges_between, valence, edges_into, Amounts, gain, fired, indicator, within_abs, into-le-valence, gain-outside, sum_below-total, IsGraph, IsVertexSet, valence-few, valence-outside, IsInRange, IsOutOfRange}
+use Rattle.dg_chips.proofs.Common.{if◌then◌else◌, ◌≡◌, ℕ, ◌+◌, ◌<◌, ◌≤◌, Bool, true, false, ◌&&◌, arith, add-one, refl, ap, ◌∙◌, below_more, ⊎_elim, w32, mul-one, MatchBool, nat_le, unsigned_abs, to_z, of_z, bool_byte, cases_Bool, leb-true, leb-false, ints, ℤ, pos, ◌+ℤ◌, ◌-ℤ◌, ◌*ℤ◌, *ℤ-zero, sum_below, nat_sum_below, Multigraph, edges_between, valence, edges_into, Amounts, gain, fired, indicator, within_abs, into-le-valence, gain-outside, sum_below-total, IsGraph, IsVertexSet, valence-few, valence-outside, IsInRange, IsOutOfRange}
 use Rattle.dg_chips.proofs.FlowLaws.{gain-products}
 use Rattle.dg_chips.proofs.LightLaws.{total-within}
 
@@ -16,7 +16,7 @@ abbrev counted : Multigraph → (ℕ → Bool) → ℕ → ℕ → ℕ
 counted g S w u = if S u then edges_between g w u else 0
 
 abbrev pub into_first : Multigraph → (ℕ → Bool) → ℕ → ℕ → ℕ
-into_first g S w n = total_below n (λ u. if S u then edges_between g w u else 0)
+into_first g S w n = nat_sum_below n (λ u. if S u then edges_between g w u else 0)
 
 into_first-next : (g : Multigraph) (S : ℕ → Bool) (w v : ℕ) →
     into_first g S w (v + 1) ≡ into_first g S w v + counted g S w v

@@ -1,26 +1,26 @@
 -- When amounts for n vertices are refused.
---   IsFirstChipFault n xs fault == the numbers xs are refused as a divisor for n vertices, for this
---                                  cause first
---   IsWideFault n xs fault      == the numbers xs are refused as amounts of any size for n
---                                  vertices, for this cause
---   IsFirstMinusFault x y fault == x less y is refused as a divisor, for this cause first
+--   IsChipFault n xs fault == the numbers xs are refused as a divisor for n vertices, for this
+--                             cause first
+--   IsWideFault n xs fault == the numbers xs are refused as amounts of any size for n
+--                             vertices, for this cause
+--   IsMinusFault x y fault == x less y is refused as a divisor, for this cause first
 use Rattle.std.specs.Prelude.{◌≡◌, ◌≢◌, ℕ, ℤ, List, length}
-use Rattle.dg_theory.specs.Rank.{less}
+use Rattle.dg_theory.specs.Rank.{minus}
 use Rattle.dg_chips.specs.Vector.{Vector, at}
 use Rattle.dg_chips.specs.VectorFaults.{IsFirstBeyond, IsFirstPast}
 use Rattle.dg_chips.specs.declared.divisor.ChipFault.{ChipFault}
 use Rattle.dg_chips.specs.declared.divisor.ChipFault.TheVariants.{Length, Range}
 use Rattle.dg_chips.specs.declared.limits.TheConstants.{MAX_AMOUNT}
 
-abbrev pub IsFirstChipFault : ℕ → List ℤ → ChipFault → Type 0
-IsFirstChipFault n xs Length = length xs ≢ n
-IsFirstChipFault n xs (Range v) = (length xs ≡ n) × IsFirstPast MAX_AMOUNT xs v
+abbrev pub IsChipFault : ℕ → List ℤ → ChipFault → Type 0
+IsChipFault n xs Length = length xs ≢ n
+IsChipFault n xs (Range v) = (length xs ≡ n) × IsFirstPast MAX_AMOUNT xs v
 
 abbrev pub IsWideFault : ℕ → List ℤ → ChipFault → Type 0
 IsWideFault n xs Length = length xs ≢ n
 IsWideFault n xs (Range v) = ⊥
 
-abbrev pub IsFirstMinusFault : Vector → Vector → ChipFault → Type 0
-IsFirstMinusFault x y Length = y.size ≢ x.size
-IsFirstMinusFault x y (Range v) =
-    (y.size ≡ x.size) × IsFirstBeyond MAX_AMOUNT x.size (less (at x) (at y)) v
+abbrev pub IsMinusFault : Vector → Vector → ChipFault → Type 0
+IsMinusFault x y Length = y.size ≢ x.size
+IsMinusFault x y (Range v) =
+    (y.size ≡ x.size) × IsFirstBeyond MAX_AMOUNT x.size (minus (at x) (at y)) v

@@ -1,5 +1,5 @@
 -- What it leaves if one vertex lends, and why it is refused.
---   IsLent g D v x d                == d holds the amounts after v has lent x times, all of them in
+--   IsAfterLending g D v x d        == d holds the amounts after v has lent x times, all of them in
 --                                      range
 --   IsLendingFault g D v x fault    == the lending is refused for this cause
 use Rattle.std.specs.Prelude.{◌≡◌, ℕ, ◌<◌, ◌≤◌, ℤ}
@@ -9,7 +9,7 @@ use Rattle.dg_chips.specs.Vector.{Vector, at, IsDivisorVector, IsOutOfRange}
 use Rattle.dg_chips.specs.declared.moves.MoveFault.{MoveFault}
 use Rattle.dg_chips.specs.declared.moves.MoveFault.TheVariants.{NoVertex, Empty, Script, Range}
 
-pub record IsLent (g : Multigraph) (D : Amounts) (v : ℕ) (x : ℤ) (d : Vector) : Type 0 where
+pub record IsAfterLending (g : Multigraph) (D : Amounts) (v : ℕ) (x : ℤ) (d : Vector) : Type 0 where
   pub vertex : v < g.size
   pub size : d.size ≡ g.size
   pub divisor : IsDivisorVector d

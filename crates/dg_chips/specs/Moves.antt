@@ -1,7 +1,7 @@
 -- Moves (Corry and Perkinson, chapters 1 and 2).
---   script_of_move m     == the script of the move: 1 or -1 at the vertex, 1 on the set, or the script given
---   IsMoveOfNoVertex n m == the move names a number that is none of the n vertices
---   IsMoveOfEmptySet m   == the move fires the empty set
+--   move_script m        == the script of the move: 1 or -1 at the vertex, 1 on the set, or the script given
+--   NamesNoVertex n m    == the move names a number that is none of the n vertices
+--   FiresEmptySet m      == the move fires the empty set
 --   HasOtherSize n m     == the move is a script for another number of vertices
 --   IsApplicableMove n m == the move names vertices alone, fires no empty set, and is no script of another
 --                          size
@@ -14,23 +14,23 @@ use Rattle.dg_chips.specs.Vector.{at}
 use Rattle.dg_chips.specs.declared.moves.Move.{Move}
 use Rattle.dg_chips.specs.declared.moves.Move.TheVariants.{Lend, Borrow, Fire, Script}
 
-abbrev pub script_of_move : Move → Amounts
-script_of_move (Lend v) = only_at v (pos 1)
-script_of_move (Borrow v) = only_at v (negsuc 0)
-script_of_move (Fire m) = indicator (in_set m)
-script_of_move (Script s) = at s
+abbrev pub move_script : Move → Amounts
+move_script (Lend v) = only_at v (pos 1)
+move_script (Borrow v) = only_at v (negsuc 0)
+move_script (Fire m) = indicator (in_set m)
+move_script (Script s) = at s
 
-abbrev pub IsMoveOfNoVertex : ℕ → Move → Type 0
-IsMoveOfNoVertex n (Lend v) = n ≤ v
-IsMoveOfNoVertex n (Borrow v) = n ≤ v
-IsMoveOfNoVertex n (Fire m) = (v : ℕ) × (n ≤ v) × (in_set m v ≡ true)
-IsMoveOfNoVertex n (Script s) = ⊥
+abbrev pub NamesNoVertex : ℕ → Move → Type 0
+NamesNoVertex n (Lend v) = n ≤ v
+NamesNoVertex n (Borrow v) = n ≤ v
+NamesNoVertex n (Fire m) = (v : ℕ) × (n ≤ v) × (in_set m v ≡ true)
+NamesNoVertex n (Script s) = ⊥
 
-abbrev pub IsMoveOfEmptySet : Move → Type 0
-IsMoveOfEmptySet (Lend v) = ⊥
-IsMoveOfEmptySet (Borrow v) = ⊥
-IsMoveOfEmptySet (Fire m) = m ≡ 0
-IsMoveOfEmptySet (Script s) = ⊥
+abbrev pub FiresEmptySet : Move → Type 0
+FiresEmptySet (Lend v) = ⊥
+FiresEmptySet (Borrow v) = ⊥
+FiresEmptySet (Fire m) = m ≡ 0
+FiresEmptySet (Script s) = ⊥
 
 abbrev pub HasOtherSize : ℕ → Move → Type 0
 HasOtherSize n (Lend v) = ⊥

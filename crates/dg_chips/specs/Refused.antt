@@ -4,13 +4,13 @@
 use Rattle.dg_theory.specs.Firing.{Amounts, fired}
 use Rattle.dg_theory.specs.Multigraph.{Multigraph}
 use Rattle.dg_chips.specs.Vector.{IsOutOfRange}
-use Rattle.dg_chips.specs.Moves.{script_of_move, IsMoveOfNoVertex, IsMoveOfEmptySet, HasOtherSize, IsApplicableMove}
+use Rattle.dg_chips.specs.Moves.{move_script, NamesNoVertex, FiresEmptySet, HasOtherSize, IsApplicableMove}
 use Rattle.dg_chips.specs.declared.moves.Move.{Move}
 use Rattle.dg_chips.specs.declared.moves.MoveFault.{MoveFault}
 use Rattle.dg_chips.specs.declared.moves.MoveFault.TheVariants.{NoVertex, Empty, Script, Range}
 
 abbrev pub IsMoveFault : Multigraph → Amounts → Move → MoveFault → Type 0
-IsMoveFault g D m NoVertex = IsMoveOfNoVertex g.size m
-IsMoveFault g D m Empty = IsMoveOfEmptySet m
+IsMoveFault g D m NoVertex = NamesNoVertex g.size m
+IsMoveFault g D m Empty = FiresEmptySet m
 IsMoveFault g D m Script = HasOtherSize g.size m
-IsMoveFault g D m Range = IsApplicableMove g.size m × IsOutOfRange g.size (fired g D (script_of_move m))
+IsMoveFault g D m Range = IsApplicableMove g.size m × IsOutOfRange g.size (fired g D (move_script m))

@@ -8,12 +8,12 @@ ghost use Rattle.dg_theory.specs.Firing.{degree, IsEffective, only_at, indicator
 ghost use Rattle.dg_graph.specs.Sets.{in_set};
 ghost use Rattle.dg_theory.specs.Sets.{IsVertexSet};
 ghost use Rattle.dg_chips.specs.Vector.{at, HoldsNumbers, IsDivisorVector, IsOutOfRange};
-ghost use Rattle.dg_chips.specs.DivisorFaults.{IsFirstChipFault, IsFirstMinusFault};
+ghost use Rattle.dg_chips.specs.DivisorFaults.{IsChipFault, IsMinusFault};
 
-use crate::firing::dollars_carried_once;
+use crate::firing::carried_once;
 use crate::limits::MAX_AMOUNT;
 use crate::set_firing::set_firing_sums;
-use crate::vector::{first_amount_past, narrowed};
+use crate::vector::{first_past, to_i32s};
 use dg_graph::{Graph, MAX_VERTICES};
 use std::marker::Model;
 use thiserror::Error;
@@ -56,13 +56,13 @@ impl Divisor {
     pub fn new(graph: &Graph, amounts: &[i64]) -> Result<Divisor, ChipFault>
         ensures { MatchResult result
             (λ d. (d.size ≡ graph.now.size) × HoldsNumbers amounts.now d × IsDivisorVector d)
-            (IsFirstChipFault graph.now.size amounts.now) }
+            (IsChipFault graph.now.size amounts.now) }
     {
         let size = graph.size();
         if amounts.len() != size {
             return Err(ChipFault::Length);
         }
-        if let Some(v) = first_amount_past(amounts, MAX_AMOUNT) {
+        if let Some(v) = first_past(amounts, MAX_AMOUNT) {
             return Err(ChipFault::Range(v));
         }
         Ok(Divisor::sized(amounts))
@@ -76,11 +76,11 @@ impl Divisor {
             unsigned_abs (slice_index_or amounts.now v (pos 0)) ≤ MAX_AMOUNT }
         ensures { HoldsNumbers amounts.now result }
     {
-        Divisor::of_vector_entries(amounts.len(), narrowed(amounts))
+        Divisor::from_array(amounts.len(), to_i32s(amounts))
     }
 
     /// The divisor that is kept as this row.
-    fn of_vector_entries(size: usize, amounts: [i32; 16]) -> Divisor
+    fn from_array(size: usize, amounts: [i32; 16]) -> Divisor
         requires { IsDivisorVector (record { size = size; numbers = amounts }) }
         ensures row { result ≡ record { size = size; numbers = amounts } }
         ensures divisor { IsDivisorVector result }
@@ -99,7 +99,7 @@ impl Divisor {
         for v in 0..size {
             amounts[v] = i32::from(graph.valence(v)) - 2;
         }
-        Divisor::of_vector_entries(size, amounts)
+        Divisor::from_array(size, amounts)
     }
 
     /// The divisor less another one: at each vertex the difference of the amounts.
@@ -110,7 +110,7 @@ impl Divisor {
         ensures { MatchResult result
             (λ d. (d.size ≡ self.now.size) × (other.now.size ≡ self.now.size)
             × ((v : ℕ) → v < self.now.size → at d v ≡ at self.now v -ℤ at other.now v))
-            (IsFirstMinusFault self.now other.now) }
+            (IsMinusFault self.now other.now) }
     {
         let size = self.size();
         if other.size() != size {
@@ -124,7 +124,7 @@ impl Divisor {
             }
             amounts[v] = amount as i32;
         }
-        Ok(Divisor::of_vector_entries(size, amounts))
+        Ok(Divisor::from_array(size, amounts))
     }
 
     /// The number of vertices.
@@ -198,7 +198,7 @@ impl Divisor {
         Some(Divisor { size, amounts })
     }
 
-    /// The divisor after a vertex has lent once, or borrowed once if `times` is -1; `None` if an amount is then not within
+    /// The divisor after a vertex has lent once, or borrowed once if `scaled` is -1; `None` if an amount is then not within
     /// 1,000,000.
     pub(crate) fn after_lending(&self, graph: &Graph, v: usize, times: i32) -> Option<Divisor>
         requires size { self.now.size ≡ graph.now.size }
@@ -214,16 +214,16 @@ impl Divisor {
         let size = graph.size();
         let row = graph.row(v);
         let mut amounts = self.amounts;
-        amounts[v] -= dollars_carried_once(graph.valence(v), times);
+        amounts[v] -= carried_once(graph.valence(v), times);
         let mut fits = true;
         for w in 0..16 {
-            amounts[w] += dollars_carried_once(row[w], times);
+            amounts[w] += carried_once(row[w], times);
             fits &= u64::from(amounts[w].unsigned_abs()) <= MAX_AMOUNT;
         }
         if !fits {
             return None;
         }
-        Some(Divisor::of_vector_entries(size, amounts))
+        Some(Divisor::from_array(size, amounts))
     }
 
     /// The divisor after each vertex of a set has lent once; `None` if an amount is then not within 1,000,000.
@@ -248,6 +248,6 @@ impl Divisor {
         if !fits {
             return None;
         }
-        Some(Divisor::of_vector_entries(size, amounts))
+        Some(Divisor::from_array(size, amounts))
     }
 }

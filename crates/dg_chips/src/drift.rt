@@ -3,7 +3,7 @@
 ghost use Rattle.std.specs.Prelude.{◌≡◌, ℕ, ◌<◌, ◌≤◌, ◌+ℤ◌, ◌-ℤ◌, pos, MatchOption, MatchBool};
 ghost use Rattle.std.specs.Int.RustNames.{unsigned_abs};
 ghost use Rattle.dg_chips.specs.Vector.{at, IsDrift};
-ghost use Rattle.dg_chips.specs.Moves.{script_of_move, IsApplicableMove};
+ghost use Rattle.dg_chips.specs.Moves.{move_script, IsApplicableMove};
 ghost use Rattle.dg_theory.specs.Firing.{FiresTo, only_at, indicator};
 ghost use Rattle.dg_graph.specs.Sets.{in_set};
 ghost use Rattle.dg_chips.specs.Drifts.{IsPastDrift};
@@ -73,10 +73,10 @@ impl Drift {
         requires size { self.now.size ≡ graph.now.size }
         requires playable { IsApplicableMove graph.now.size chip_move.now }
         requires limit { (v : ℕ) → v < graph.now.size →
-            unsigned_abs (at self.now v +ℤ script_of_move chip_move.now v) ≤ MAX_DRIFT }
+            unsigned_abs (at self.now v +ℤ move_script chip_move.now v) ≤ MAX_DRIFT }
         ensures size { result.size ≡ graph.now.size }
         ensures entries { (v : ℕ) → v < graph.now.size →
-            at result v ≡ at self.now v +ℤ script_of_move chip_move.now v }
+            at result v ≡ at self.now v +ℤ move_script chip_move.now v }
     {
         let _size = graph.size();
         match chip_move {
@@ -87,7 +87,7 @@ impl Drift {
         }
     }
 
-    /// The drift with one lending more, or one borrowing if `times` is -1.
+    /// The drift with one lending more, or one borrowing if `scaled` is -1.
     fn plus_at(&self, v: usize, times: i64) -> Drift
         requires vertex { v < self.now.size }
         requires times { unsigned_abs times ≤ 1 }

@@ -1,6 +1,6 @@
 //! The residual of a divisor: the canonical divisor of the graph less it.
 ghost use Rattle.std.specs.Prelude.{◌≡◌, MatchResult};
-ghost use Rattle.dg_chips.specs.Dual.{DualOf, IsDualFault};
+ghost use Rattle.dg_chips.specs.Dual.{IsDualOf, IsDualFault};
 ghost use Rattle.dg_chips.specs.Vector.{at, IsInRange};
 
 use crate::divisor::{ChipFault, Divisor};
@@ -13,7 +13,7 @@ use dg_graph::Graph;
 pub fn dual(graph: &Graph, divisor: &Divisor) -> Result<Divisor, ChipFault>
     requires { divisor.now.size ≡ graph.now.size }
     ensures { MatchResult result
-        (λ d. (d.size ≡ graph.now.size) × DualOf graph.now (at divisor.now) (at d) ×
+        (λ d. (d.size ≡ graph.now.size) × IsDualOf graph.now (at divisor.now) (at d) ×
         IsInRange graph.now.size (at d))
         (IsDualFault graph.now (at divisor.now)) }
 {

@@ -7,13 +7,13 @@ ghost use Rattle.std.specs.Int.RustNames.{unsigned_abs};
 ghost use Rattle.dg_theory.specs.Firing.{gain, fired, FiresTo};
 ghost use Rattle.dg_chips.specs.Vector.{at};
 ghost use Rattle.dg_chips.specs.Applied.{IsAfterMove};
-ghost use Rattle.dg_chips.specs.Lent.{IsLent, IsLendingFault};
+ghost use Rattle.dg_chips.specs.Lent.{IsAfterLending, IsLendingFault};
 ghost use Rattle.dg_chips.specs.Refused.{IsMoveFault};
-ghost use Rattle.dg_chips.specs.Light.{IsLightScript};
+ghost use Rattle.dg_chips.specs.Light.{GainsFitI32};
 ghost use Rattle.dg_chips.specs.declared.moves.Move.TheVariants.{Fire, Script as ScriptMove};
 
 use crate::divisor::Divisor;
-use crate::light::gained_lightly;
+use crate::light::gain_i32;
 use crate::limits::MAX_DRIFT;
 use crate::moves::{Move, MoveFault};
 use crate::script::Script;
@@ -32,19 +32,19 @@ pub fn apply(graph: &Graph, divisor: &Divisor, chip_move: &Move) -> Result<Divis
         (IsMoveFault graph.now (at divisor.now) chip_move.now) }
 {
     match chip_move {
-        Move::Lend(v) => lent(graph, divisor, usize::from(*v), 1),
-        Move::Borrow(v) => lent(graph, divisor, usize::from(*v), -1),
-        Move::Fire(set) => fired_set(graph, divisor, *set),
-        Move::Script(script) => divisor_after_script(graph, divisor, script),
+        Move::Lend(v) => lend(graph, divisor, usize::from(*v), 1),
+        Move::Borrow(v) => lend(graph, divisor, usize::from(*v), -1),
+        Move::Fire(set) => fire_set(graph, divisor, *set),
+        Move::Script(script) => fire_script(graph, divisor, script),
     }
 }
 
-/// The divisor after a vertex has lent once, or borrowed once if `times` is -1.
-fn lent(graph: &Graph, divisor: &Divisor, v: usize, times: i32) -> Result<Divisor, MoveFault>
+/// The divisor after a vertex has lent once, or borrowed once if `scaled` is -1.
+fn lend(graph: &Graph, divisor: &Divisor, v: usize, times: i32) -> Result<Divisor, MoveFault>
     requires divisor { divisor.now.size ≡ graph.now.size }
     requires times { unsigned_abs times ≤ 1 }
     ensures { MatchResult result
-        (IsLent graph.now (at divisor.now) v times)
+        (IsAfterLending graph.now (at divisor.now) v times)
         (IsLendingFault graph.now (at divisor.now) v times) }
 {
     if v >= graph.size() {
@@ -57,7 +57,7 @@ fn lent(graph: &Graph, divisor: &Divisor, v: usize, times: i32) -> Result<Diviso
 }
 
 /// The divisor after each vertex of a set has lent once.
-fn fired_set(graph: &Graph, divisor: &Divisor, set: u16) -> Result<Divisor, MoveFault>
+fn fire_set(graph: &Graph, divisor: &Divisor, set: u16) -> Result<Divisor, MoveFault>
     requires { divisor.now.size ≡ graph.now.size }
     ensures { MatchResult result
         (IsAfterMove graph.now (at divisor.now) (Fire set))
@@ -76,11 +76,7 @@ fn fired_set(graph: &Graph, divisor: &Divisor, set: u16) -> Result<Divisor, Move
 }
 
 /// The divisor after each vertex has lent as often as a script says.
-fn divisor_after_script(
-    graph: &Graph,
-    divisor: &Divisor,
-    script: &Script,
-) -> Result<Divisor, MoveFault>
+fn fire_script(graph: &Graph, divisor: &Divisor, script: &Script) -> Result<Divisor, MoveFault>
     requires { divisor.now.size ≡ graph.now.size }
     ensures { MatchResult result
         (IsAfterMove graph.now (at divisor.now) (ScriptMove script.now))
@@ -141,26 +137,26 @@ pub(crate) fn gained(graph: &Graph, lendings: &[i64; 16], v: usize) -> i64
     let row = graph.row(v);
     let mut sum = 0;
     for w in 0..16 {
-        sum += dollars_carried(row[w], lendings[w]);
+        sum += carried(row[w], lendings[w]);
     }
-    sum - dollars_carried(graph.valence(v), lendings[v])
+    sum - carried(graph.valence(v), lendings[v])
 }
 
 /// What a vertex gets by the lendings of a script; those that are known to be light are summed in 32 bits.
-pub(crate) fn gained_by(graph: &Graph, script: &Script, light: bool, v: usize) -> i64
+pub(crate) fn gain_of_script(graph: &Graph, script: &Script, light: bool, v: usize) -> i64
     requires vertex { v < graph.now.size }
-    requires light { OnTrue light (IsLightScript graph.now (at script.now)) }
+    requires light { OnTrue light (GainsFitI32 graph.now (at script.now)) }
     ensures gain { result ≡ gain graph.now (at script.now) v }
     ensures limit { unsigned_abs result ≤ 51000000000000000 * 16 }
 {
     if light {
-        return i64::from(gained_lightly(graph, script.in_32_bits(), v));
+        return i64::from(gain_i32(graph, script.as_array(), v));
     }
     gained(graph, &script.entries(), v)
 }
 
 /// What some edges carry together when each of them carries one dollar, or none, or one the other way.
-pub(crate) fn dollars_carried_once(edges: u8, each: i32) -> i32
+pub(crate) fn carried_once(edges: u8, each: i32) -> i32
     requires { unsigned_abs each ≤ 1 }
     ensures product { result ≡ pos edges *ℤ each }
     ensures limit { unsigned_abs result ≤ 255 * unsigned_abs each }
@@ -169,7 +165,7 @@ pub(crate) fn dollars_carried_once(edges: u8, each: i32) -> i32
 }
 
 /// What some edges carry together when each of them carries `each`.
-pub(crate) fn dollars_carried(edges: u8, each: i64) -> i64
+pub(crate) fn carried(edges: u8, each: i64) -> i64
     requires { unsigned_abs each ≤ MAX_DRIFT }
     ensures product { result ≡ pos edges *ℤ each }
     ensures limit { unsigned_abs result ≤ 255 * unsigned_abs each }

@@ -22,5 +22,5 @@ pub use limits::{MAX_AMOUNT, MAX_DRIFT, MAX_ENTRY};
 pub use moves::{Move, MoveFault};
 pub use script::{Script, ScriptFault};
 pub use start::{Start, StartFault};
-pub use vector::widened;
+pub use vector::to_i64s;
 pub use wide::Wide;

@@ -5,13 +5,13 @@ ghost use Rattle.std.specs.List.{slice_index_or};
 ghost use Rattle.std.specs.Int.RustNames.{unsigned_abs};
 ghost use Rattle.dg_theory.specs.Firing.{FiresTo};
 ghost use Rattle.dg_chips.specs.Vector.{at, HoldsNumbers, IsScriptVector};
-ghost use Rattle.dg_chips.specs.ScriptFaults.{IsFirstScriptFault};
+ghost use Rattle.dg_chips.specs.ScriptFaults.{IsScriptFault};
 
 use crate::divisor::Divisor;
 use crate::drift::Drift;
 use crate::firing::leads;
 use crate::limits::MAX_ENTRY;
-use crate::vector::{first_amount_past, narrowed, widened};
+use crate::vector::{first_past, to_i32s, to_i64s};
 use crate::wide::Wide;
 use dg_graph::{Graph, MAX_VERTICES};
 use std::marker::Model;
@@ -55,13 +55,13 @@ impl Script {
     pub fn new(graph: &Graph, entries: &[i64]) -> Result<Script, ScriptFault>
         ensures { MatchResult result
             (λ s. (s.size ≡ graph.now.size) × HoldsNumbers entries.now s × IsScriptVector s)
-            (IsFirstScriptFault graph.now.size entries.now) }
+            (IsScriptFault graph.now.size entries.now) }
     {
         let size = graph.size();
         if entries.len() != size {
             return Err(ScriptFault::Length);
         }
-        if let Some(v) = first_amount_past(entries, MAX_ENTRY) {
+        if let Some(v) = first_past(entries, MAX_ENTRY) {
             return Err(ScriptFault::Limit(v));
         }
         Ok(Script::sized(entries))
@@ -75,12 +75,12 @@ impl Script {
             unsigned_abs (slice_index_or entries.now v (pos 0)) ≤ MAX_ENTRY }
         ensures { HoldsNumbers entries.now result }
     {
-        Script::of_vector_entries(entries.len(), narrowed(entries))
+        Script::from_array(entries.len(), to_i32s(entries))
     }
 
     /// The script with the first `size` of these entries. The conditions are that `size` is at most 16, and that each entry is
     /// within 1,000,000,000.
-    pub fn script_of_first_vertices(size: usize, entries: &[i32; 16]) -> Script
+    pub fn from_prefix(size: usize, entries: &[i32; 16]) -> Script
         requires few { size ≤ MAX_VERTICES }
         requires limit { (v : ℕ) → unsigned_abs (slice_index_or entries.now v (pos 0)) ≤ MAX_ENTRY }
         ensures size { result.size ≡ size }
@@ -91,11 +91,11 @@ impl Script {
             let entry = if v < size { entries[v] } else { 0 };
             first[v] = entry;
         }
-        Script::of_vector_entries(size, first)
+        Script::from_array(size, first)
     }
 
     /// The script that is kept as this row.
-    fn of_vector_entries(size: usize, entries: [i32; 16]) -> Script
+    fn from_array(size: usize, entries: [i32; 16]) -> Script
         requires { IsScriptVector (record { size = size; numbers = entries }) }
         ensures { result ≡ record { size = size; numbers = entries } }
     {
@@ -104,7 +104,7 @@ impl Script {
     }
 
     /// The script by which each vertex lends as often as its amount exceeds that of q.
-    pub fn script_relative_to(lendings: &Wide, q: usize) -> Script
+    pub fn relative_to(lendings: &Wide, q: usize) -> Script
         requires vertex { q < lendings.now.size }
         requires limit { (v : ℕ) → v < lendings.now.size →
             unsigned_abs (at lendings.now v -ℤ at lendings.now q) ≤ MAX_ENTRY }
@@ -117,7 +117,7 @@ impl Script {
         for v in 0..size {
             entries[v] = (lendings.get(v) - lendings.get(q)) as i32;
         }
-        Script::of_vector_entries(size, entries)
+        Script::from_array(size, entries)
     }
 
     /// The script by which each vertex lends as often as by this one and another together.
@@ -134,12 +134,12 @@ impl Script {
         for v in 0..size {
             entries[v] = (self.get(v) + other.get(v)) as i32;
         }
-        Script::of_vector_entries(size, entries)
+        Script::from_array(size, entries)
     }
 
     /// What this script lends more than a drift, with the drift's number for q added at each vertex: so q lends as often
     /// as by this script.
-    pub fn less_drift(&self, drift: &Drift, q: usize) -> Script
+    pub fn rebased(&self, drift: &Drift, q: usize) -> Script
         requires size { drift.now.size ≡ self.now.size }
         requires vertex { q < self.now.size }
         requires limit { (v : ℕ) → v < self.now.size →
@@ -153,7 +153,7 @@ impl Script {
         for v in 0..size {
             entries[v] = (self.get(v) - drift.get(v) + drift.get(q)) as i32;
         }
-        Script::of_vector_entries(size, entries)
+        Script::from_array(size, entries)
     }
 
     /// Whether firing by this script leads from a divisor to some amounts.
@@ -181,11 +181,11 @@ impl Script {
         ensures entries { result ≡ self.now.numbers }
         ensures script { IsScriptVector self.now }
     {
-        widened(&self.entries)
+        to_i64s(&self.entries)
     }
 
     /// The same in 32 bits.
-    pub(crate) fn in_32_bits(&self) -> &[i32; 16]
+    pub(crate) fn as_array(&self) -> &[i32; 16]
         ensures entries { result.now ≡ self.now.numbers }
         ensures script { IsScriptVector self.now }
     {

@@ -12,7 +12,7 @@ ghost use Rattle.dg_theory.specs.Sets.{IsVertexSet};
 use dg_graph::{Graph, contains};
 use std::simd::prelude::*;
 
-/// How often a vertex lends when each vertex of a set lends `times` times.
+/// How often a vertex lends when each vertex of a set lends `scaled` times.
 pub(crate) fn lendings(set: u16, times: i128, v: usize) -> i128
     requires vertex { v < MAX_VERTICES }
     requires times { unsigned_abs times ≤ 2 ^ 120 }
@@ -25,8 +25,8 @@ pub(crate) fn lendings(set: u16, times: i128, v: usize) -> i128
     0
 }
 
-/// What a vertex gets when each vertex of a set lends `times` times.
-pub(crate) fn gained_by_set(graph: &Graph, set: u16, times: i128, v: usize) -> i128
+/// What a vertex gets when each vertex of a set lends `scaled` times.
+pub(crate) fn gain_of_set(graph: &Graph, set: u16, times: i128, v: usize) -> i128
     requires vertex { v < graph.now.size }
     requires times { unsigned_abs times ≤ 2 ^ 120 }
     ensures gain { result ≡ gain graph.now (multiple times (indicator (in_set set))) v }
@@ -34,14 +34,14 @@ pub(crate) fn gained_by_set(graph: &Graph, set: u16, times: i128, v: usize) -> i
 {
     let _size = graph.size();
     if contains(set, v) {
-        -dollars_carried(graph.edges_out(set, v), times)
+        -carried(graph.edges_out(set, v), times)
     } else {
-        dollars_carried(graph.edges_into(set, v), times)
+        carried(graph.edges_into(set, v), times)
     }
 }
 
 /// What some edges carry together when each of them carries `each`.
-fn dollars_carried(edges: u32, each: i128) -> i128
+fn carried(edges: u32, each: i128) -> i128
     requires few { edges ≤ MAX_VALENCE }
     requires each { unsigned_abs each ≤ 2 ^ 120 }
     ensures product { result ≡ pos edges *ℤ each }
@@ -65,7 +65,7 @@ pub(crate) fn set_firing_sums(graph: &Graph, set: u16) -> ([u8; 16], [u8; 16])
     let mut lent = [0; 16];
     for v in 0..graph.size() {
         if contains(set, v) {
-            got = with_set_firing_row(got, u8x16::from_array(*graph.row(v)));
+            got = add_row(got, u8x16::from_array(*graph.row(v)));
             lent[v] = graph.valence(v);
         }
     }
@@ -73,7 +73,7 @@ pub(crate) fn set_firing_sums(graph: &Graph, set: u16) -> ([u8; 16], [u8; 16])
 }
 
 /// Adds `row` to `sums`, lane by lane. No lane passes 255.
-fn with_set_firing_row(sums: u8x16, row: u8x16) -> u8x16
+fn add_row(sums: u8x16, row: u8x16) -> u8x16
     requires { (v : ℕ) → v < MAX_VERTICES → slice_index sums v + slice_index row v ≤ 255 }
     ensures { (v : ℕ) → v < MAX_VERTICES →
         slice_index result v ≡ slice_index sums v + slice_index row v }

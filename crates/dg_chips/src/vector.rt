@@ -9,7 +9,7 @@ use crate::limits::MAX_ENTRY;
 use dg_graph::MAX_VERTICES;
 
 /// The place of the first number whose absolute value is above the limit.
-pub fn first_amount_past(numbers: &[i64], limit: u64) -> Option<usize>
+pub fn first_past(numbers: &[i64], limit: u64) -> Option<usize>
     ensures { MatchOption result
         ((v : ℕ) → v < length numbers.now →
         unsigned_abs (slice_index_or numbers.now v (pos 0)) ≤ limit)
@@ -24,7 +24,7 @@ pub fn first_amount_past(numbers: &[i64], limit: u64) -> Option<usize>
 }
 
 /// The numbers in 32 bits, at most 16 and each within 1,000,000,000, and 0 at each place after them.
-pub fn narrowed(numbers: &[i64]) -> [i32; 16]
+pub fn to_i32s(numbers: &[i64]) -> [i32; 16]
     requires few { length numbers.now ≤ MAX_VERTICES }
     requires limit { (v : ℕ) → v < length numbers.now →
         unsigned_abs (slice_index_or numbers.now v (pos 0)) ≤ MAX_ENTRY }
@@ -40,7 +40,7 @@ pub fn narrowed(numbers: &[i64]) -> [i32; 16]
 }
 
 /// The same numbers in 64 bits.
-pub fn widened(numbers: &[i32; 16]) -> [i64; 16]
+pub fn to_i64s(numbers: &[i32; 16]) -> [i64; 16]
     ensures { result ≡ numbers.now }
 {
     let mut widened = [0; 16];
@@ -51,15 +51,15 @@ pub fn widened(numbers: &[i32; 16]) -> [i64; 16]
 }
 
 /// The numbers, at most 16, and zero at each place after them.
-pub fn padded_vector<T: Copy>(numbers: &[T], zero: T) -> [T; 16]
+pub fn padded<T: Copy>(numbers: &[T], zero: T) -> [T; 16]
     requires { length numbers.now ≤ MAX_VERTICES }
     ensures same { (v : ℕ) → v < length numbers.now →
         slice_index_or result v zero ≡ slice_index_or numbers.now v zero }
     ensures zero { (v : ℕ) → length numbers.now ≤ v → slice_index_or result v zero ≡ zero }
 {
-    let mut padded_vector = [zero; 16];
+    let mut whole = [zero; 16];
     for (v, number) in numbers.iter().enumerate() {
-        padded_vector[v] = *number;
+        whole[v] = *number;
     }
-    padded_vector
+    whole
 }

@@ -8,11 +8,11 @@ ghost use Rattle.dg_chips.specs.Vector.{at, HoldsNumbers, IsWide};
 ghost use Rattle.dg_chips.specs.DivisorFaults.{IsWideFault};
 
 use crate::divisor::{ChipFault, Divisor};
-use crate::firing::gained_by;
-use crate::light::is_light;
+use crate::firing::gain_of_script;
+use crate::light::gains_fit_i32;
 use crate::script::Script;
-use crate::set_firing::{gained_by_set, lendings};
-use crate::vector::padded_vector;
+use crate::set_firing::{gain_of_set, lendings};
+use crate::vector::padded;
 use dg_graph::Graph;
 use std::marker::Model;
 
@@ -46,7 +46,7 @@ impl Wide {
         if amounts.len() != size {
             return Err(ChipFault::Length);
         }
-        let amounts = padded_vector(amounts, 0);
+        let amounts = padded(amounts, 0);
         Ok(Wide { size, amounts })
     }
 
@@ -102,13 +102,13 @@ impl Wide {
         let size = graph.size();
         let mut amounts = [0; 16];
         for v in 0..size {
-            amounts[v] = self.get(v) + gained_by_set(graph, set, times, v);
+            amounts[v] = self.get(v) + gain_of_set(graph, set, times, v);
         }
         Wide { size, amounts }
     }
 
     /// The amounts with so many more at each vertex of a set.
-    pub fn more(&self, set: u16, times: i128) -> Wide
+    pub fn plus_at_set(&self, set: u16, times: i128) -> Wide
         requires range { (v : ℕ) → v < self.now.size → unsigned_abs (at self.now v) ≤ 2 ^ 126 }
         requires times { unsigned_abs times ≤ 2 ^ 120 }
         ensures size { result.size ≡ self.now.size }
@@ -124,7 +124,7 @@ impl Wide {
     }
 
     /// The amounts less those of a divisor.
-    pub fn less(&self, divisor: &Divisor) -> Wide
+    pub fn minus(&self, divisor: &Divisor) -> Wide
         requires size { divisor.now.size ≡ self.now.size }
         requires range { (v : ℕ) → v < self.now.size → unsigned_abs (at self.now v) ≤ 2 ^ 126 }
         ensures size { result.size ≡ self.now.size }
@@ -149,10 +149,10 @@ impl Wide {
             at result v ≡ fired graph.now (at self.now) (at script.now) v }
     {
         let size = graph.size();
-        let light = is_light(graph, script.in_32_bits());
+        let light = gains_fit_i32(graph, script.as_array());
         let mut amounts = [0; 16];
         for v in 0..size {
-            let gain = gained_by(graph, script, light, v);
+            let gain = gain_of_script(graph, script, light, v);
             amounts[v] = self.get(v) + i128::from(gain);
         }
         Wide { size, amounts }

@@ -6,7 +6,7 @@
 --   all_arguments               with all its arguments it is the command
 --   no_command, one_command     the bare program has no command, and then one more
 --   all_commands                with all its commands it is the program
-use Rattle.dg_cli.proofs.Common.{◌≡◌, ℕ, ◌+◌, ◌<◌, ◌≤◌, ◌||◌, List, [], ◌∷◌, ◌++◌, length, map, take, get_or, false, refl, sym, ap, ap₂, ◌∙◌, append_assoc, append-nil, map-append, take_more, take_all, AddsArg, AddsSubcommand, App, Rule, Text, app_of, new_app, with_rule, with_subcommand, on_top, Arg, Command, IsArgument, HasSubcommandShape, clap_rule_for, shape_for, bare_program, command_shape, Argument, Subcommand}
+use Rattle.dg_cli.proofs.Common.{◌≡◌, ℕ, ◌+◌, ◌<◌, ◌≤◌, ◌||◌, List, [], ◌∷◌, ◌++◌, length, map, take, get_or, false, refl, sym, ap, ap₂, ◌∙◌, append_assoc, append-nil, map-append, take_more, take_all, AddsArg, AddsSubcommand, App, Rule, Text, app_of, new_app, with_rule, with_subcommand, on_top, Arg, Command, IsArgument, HasShape, clap_rule_for, shape_for, bare_program, command_shape, Argument, Subcommand}
 use Rattle.clap.specs.declared.builder.command.Command.TheViews.{out-Command as fields_of}
 use Rattle.dg_cli.specs.Commands.{dollar}
 use Rattle.dg_cli.specs.declared.commands.Subcommand.TheVariants as subcommand
@@ -62,7 +62,7 @@ shape_whole subcommand.Party = refl
 
 pub all_arguments : (s : Subcommand) (name : Text) (texts : List Argument) (i : ℕ) (made : Command) →
     name ≡ (shape_for s).name → map clap_rule_for texts ≡ (shape_for s).rules → length texts ≤ i →
-    HasArguments name texts i made → HasSubcommandShape (shape_for s) made
+    HasArguments name texts i made → HasShape (shape_for s) made
 all_arguments s name texts i made named rules all has = record {
   reads = ap (λ (a : App). a.top) (has.reads
       ∙ ap (λ l. added with_rule (new_app name) (map clap_rule_for l)) (take_all i texts all)
@@ -75,7 +75,7 @@ HasCommands texts i program =
     app_of program ≡ added with_subcommand bare_program (map shape_for (take i texts))
 
 pub one_command : (commands : List Subcommand) (i : ℕ) (d : Subcommand) (old sub new : Command) → i < length commands →
-    AddsSubcommand old sub new → HasSubcommandShape (shape_for (get_or commands i d)) sub → HasCommands commands i old →
+    AddsSubcommand old sub new → HasShape (shape_for (get_or commands i d)) sub → HasCommands commands i old →
     HasCommands commands (i + 1) new
 one_command commands i d old sub new within adds made has =
     adds.shape made.own ∙ ap₂ with_subcommand has made.reads

@@ -7,13 +7,13 @@ pub use Rattle.clap.specs.declared.builder.command.Command.{Command}
 pub use Rattle.clap.specs.declared.builder.command.Command.TheOpen.{Command-F}
 pub use Rattle.clap.specs.declared.error.Error.{Error}
 pub use Rattle.clap.specs.declared.error.kind.ErrorKind.{ErrorKind}
-pub use Rattle.dg_cli.specs.Asks.{Asks, AsksFor, word_of_argument}
-pub use Rattle.dg_cli.specs.Building.{IsArgument, HasSubcommandShape, clap_rule_for, shape_for}
+pub use Rattle.dg_cli.specs.Asks.{Asks, AsksFor, word_of}
+pub use Rattle.dg_cli.specs.Building.{IsArgument, HasShape, clap_rule_for, shape_for}
 pub use Rattle.dg_cli.specs.Commands.{bare_program, command_shape}
-pub use Rattle.dg_cli.specs.Faults.{IsSaidOfClapError, IsWhyWordsAskNothing}
-pub use Rattle.dg_cli.specs.Numbers.{IsGiven, IsGivenOr, IsArgumentNumber}
-pub use Rattle.dg_cli.specs.Refusals.{AskNothing, RefusesCommandLine}
-pub use Rattle.dg_cli.specs.Telling.{TellsSubcommand, least_of_argument, most_of_argument, argument_rows}
+pub use Rattle.dg_cli.specs.Faults.{IsErrorText, HasErrorKind}
+pub use Rattle.dg_cli.specs.Numbers.{IsGiven, IsGivenOr, IsNumberIn}
+pub use Rattle.dg_cli.specs.Refusals.{AskNothing, IsArgsFault}
+pub use Rattle.dg_cli.specs.Telling.{TellsInvocation, least_of_argument, most_of_argument, argument_rows}
 pub use Rattle.dg_cli.specs.declared.arguments.Argument.{Argument}
 pub use Rattle.dg_cli.specs.declared.commands.Subcommand.{Subcommand}
 pub use Rattle.dg_cli.specs.declared.reading.NumberArgument.{NumberArgument}

@@ -1,5 +1,5 @@
 -- What a parse of the words tells.
-use Rattle.dg_cli.proofs.Common.{◌≡◌, ◌∙◌, List, [], Option, Some, None, Result, Ok, Err, IsSomeAnd, IfErr, true, inl, inr, refl, ap, subst, App, HasKind, IsAmong, Kinds, Row, Text, fault_of, is_simple, is_simple_and_free, kind_of, subcommand_of, Error, ErrorKind, Invocation, ArgsFault, CommandLine, NotText, OutOfMemory, Asks, AsksFor, AskNothing, RefusesCommandLine, IsSaidOfClapError, IsWhyWordsAskNothing}
+use Rattle.dg_cli.proofs.Common.{◌≡◌, ◌∙◌, List, [], Option, Some, None, Result, Ok, Err, IsSomeAnd, IfErr, true, inl, inr, refl, ap, subst, App, HasKind, IsAmong, Kinds, Row, Text, fault_of, is_simple, is_simple_and_free, kind_of, subcommand_of, Error, ErrorKind, Invocation, ArgsFault, CommandLine, NotText, OutOfMemory, Asks, AsksFor, AskNothing, IsArgsFault, IsErrorText, HasErrorKind}
 use Rattle.dg_invocation.specs.declared.invocation.Invocation.TheVariants as asked
 use Rattle.dg_cli.specs.Commands.{dollar}
 
@@ -20,7 +20,7 @@ pub entered : (program : App) (words : List Text) (rows : Option (Text × List R
 entered program words rows X is told = (told (ap is_simple is ∙ simple)).1 ∙ ap (λ a. subcommand_of a words) is
 
 pub why : (program : App) (words : List Text) (e : Error) → program ≡ dollar → (is_simple_and_free program ≡ true →
-    HasKind (fault_of program words) e) → IsWhyWordsAskNothing words (kind_of e)
+    HasKind (fault_of program words) e) → HasErrorKind words (kind_of e)
 why program words e is told = elim (subst (λ a. HasKind (fault_of a words) e) is (told (ap is_simple_and_free is ∙ free))) [
   | inl m ↦ inl m
   | inr k ↦ inr (inl k)
@@ -55,8 +55,8 @@ ask_nothing words none h = record { faultless = none; nothing = nothing }
       | inr version ↦ no_kind _ _ none version
     ]
 
-pub refuses : (words : List Text) (kind : ErrorKind) (r : Result Invocation ArgsFault) → IsWhyWordsAskNothing words kind →
-    IsSaidOfClapError kind r → IfErr r (λ fault. RefusesCommandLine words fault)
+pub refuses : (words : List Text) (kind : ErrorKind) (r : Result Invocation ArgsFault) → HasErrorKind words kind →
+    IsErrorText kind r → IfErr r (λ fault. IsArgsFault words fault)
 refuses words kind (Ok it) why said = tt
 refuses words kind (Err OutOfMemory) why said = tt
 refuses words kind (Err NotText) why said = said

@@ -1,19 +1,19 @@
 -- What words ask for: those of a command line, of which the first is the program's name. The library
 -- of command lines tells which command they name, and the rows of that command: which word stands
 -- for which of its arguments. It also tells which faults the words have.
---   word_of_argument name rows             == the word of the argument of that name, if there is one
+--   word_of name rows                      == the word of the argument of that name, if there is one
 --   words_of name rows                     == all its words
 --   HasFileArgument rows file              == the file is the word for `file`
 --   HasLinesFlag rows                      == the flag `--lines` is there
 --   HasOrderFlag rows                      == the flag `--order` is there
 --   HasNumbersFlag rows                    == the flag `--numbers` is there
---   IsOrderedByFlag rows ordered           == the order of burning is asked for exactly if that flag is there
+--   HasOrder rows ordered                  == the order of burning is asked for exactly if that flag is there
 --   HasFormFlag rows form                  == numbers are asked for exactly if their flag is there
---   HasVerdictFormFlags rows form          == the same for verdicts, of which numbers have no order
+--   HasVerdictFlags rows form              == the same for verdicts, of which numbers have no order
 --   divisors_option rows                   == the name of the file of amounts, if there is one
 --   HasLinesOption rows divisors           == there are lines, of one kind: the flag is there exactly if no
 --                                             file of amounts is named
---   HasOneTableArgument rows               == there are no lines
+--   HasOneTable rows                       == there are no lines
 --   IsInWords rows                         == there are no lines, and so no numbers
 --   HasNumberArgument name low high rows n == the word of that argument is there, and is n, from low to high
 --   HasDegreeArgument rows n               == so many dollars are lost, from 0 to 2^32 - 1
@@ -51,58 +51,58 @@ use Rattle.dg_invocation.specs.declared.question.Form.TheVariants as form
 use Rattle.dg_invocation.specs.declared.question.Question.TheVariants as question
 use Rattle.dg_invocation.specs.declared.question.VerdictForm.TheVariants as verdict
 use Rattle.dg_cli.specs.Commands.{dollar}
-use Rattle.dg_cli.specs.Numbers.{IsArgumentNumber, IsGiven, IsGivenOr}
+use Rattle.dg_cli.specs.Numbers.{IsNumberIn, IsGiven, IsGivenOr}
 
-abbrev pub word_of_argument : Text → List Row → Option Text
-word_of_argument name rows = first_of name rows
+abbrev pub word_of : Text → List Row → Option Text
+word_of name rows = first_of name rows
 
 abbrev pub words_of : Text → List Row → Option (List Text)
 words_of name rows = all_of name rows
 
 abbrev pub HasLinesFlag : List Row → Type 0
-HasLinesFlag rows = word_of_argument (codes "lines") rows ≡ Some (codes "true")
+HasLinesFlag rows = word_of (codes "lines") rows ≡ Some (codes "true")
 
 abbrev pub HasOrderFlag : List Row → Type 0
-HasOrderFlag rows = word_of_argument (codes "order") rows ≡ Some (codes "true")
+HasOrderFlag rows = word_of (codes "order") rows ≡ Some (codes "true")
 
 abbrev pub HasNumbersFlag : List Row → Type 0
-HasNumbersFlag rows = word_of_argument (codes "numbers") rows ≡ Some (codes "true")
+HasNumbersFlag rows = word_of (codes "numbers") rows ≡ Some (codes "true")
 
-abbrev pub IsOrderedByFlag : List Row → Bool → Type 0
-IsOrderedByFlag rows ordered = IsTrue ordered ↔ HasOrderFlag rows
+abbrev pub HasOrder : List Row → Bool → Type 0
+HasOrder rows ordered = IsTrue ordered ↔ HasOrderFlag rows
 
 abbrev pub HasFormFlag : List Row → Form → Type 0
 HasFormFlag rows form.Words = HasNumbersFlag rows → ⊥
 HasFormFlag rows form.Numbers = HasNumbersFlag rows
 
-abbrev pub HasVerdictFormFlags : List Row → VerdictForm → Type 0
-HasVerdictFormFlags rows (verdict.Words ordered) = (HasNumbersFlag rows → ⊥) × IsOrderedByFlag rows ordered
-HasVerdictFormFlags rows verdict.Numbers = HasNumbersFlag rows × (HasOrderFlag rows → ⊥)
+abbrev pub HasVerdictFlags : List Row → VerdictForm → Type 0
+HasVerdictFlags rows (verdict.Words ordered) = (HasNumbersFlag rows → ⊥) × HasOrder rows ordered
+HasVerdictFlags rows verdict.Numbers = HasNumbersFlag rows × (HasOrderFlag rows → ⊥)
 
 abbrev pub divisors_option : List Row → Option Text
-divisors_option rows = word_of_argument (codes "divisors") rows
+divisors_option rows = word_of (codes "divisors") rows
 
 abbrev pub HasLinesOption : List Row → Option Text → Type 0
 HasLinesOption rows None = HasLinesFlag rows
 HasLinesOption rows (Some name) = HasLinesFlag rows → ⊥
 
-abbrev pub HasOneTableArgument : List Row → Type 0
-HasOneTableArgument rows = (HasLinesFlag rows → ⊥) × (divisors_option rows ≡ None)
+abbrev pub HasOneTable : List Row → Type 0
+HasOneTable rows = (HasLinesFlag rows → ⊥) × (divisors_option rows ≡ None)
 
 abbrev pub IsInWords : List Row → Type 0
-IsInWords rows = HasOneTableArgument rows × (HasNumbersFlag rows → ⊥)
+IsInWords rows = HasOneTable rows × (HasNumbersFlag rows → ⊥)
 
 abbrev pub HasFileArgument : List Row → Text → Type 0
-HasFileArgument rows file = word_of_argument (codes "file") rows ≡ Some file
+HasFileArgument rows file = word_of (codes "file") rows ≡ Some file
 
 abbrev pub HasNumberArgument : Text → ℕ → ℕ → List Row → ℕ → Type 0
-HasNumberArgument name low high rows n = IsSomeAnd (word_of_argument name rows) (λ text. IsArgumentNumber low high text n)
+HasNumberArgument name low high rows n = IsSomeAnd (word_of name rows) (λ text. IsNumberIn low high text n)
 
 abbrev pub HasWorkersOption : List Row → ℕ → Type 0
-HasWorkersOption rows n = IsGivenOr 1 1 MAX_WORKERS (word_of_argument (codes "workers") rows) n
+HasWorkersOption rows n = IsGivenOr 1 1 MAX_WORKERS (word_of (codes "workers") rows) n
 
 abbrev pub HasCapacityOption : List Row → ℕ → Type 0
-HasCapacityOption rows n = IsGivenOr MAX_CAPACITY 1 MAX_CAPACITY (word_of_argument (codes "cap") rows) n
+HasCapacityOption rows n = IsGivenOr MAX_CAPACITY 1 MAX_CAPACITY (word_of (codes "cap") rows) n
 
 abbrev pub HasDegreeArgument : List Row → ℕ → Type 0
 HasDegreeArgument rows n = HasNumberArgument (codes "degree") 0 (2 ^ 32 - 1) rows n
@@ -118,7 +118,7 @@ pub record AsksGreedy (rows : List Row) (task : GreedyTask) : Type 0 where
 
 pub record AsksServe (rows : List Row) (task : ServeTask) : Type 0 where
   pub file : HasFileArgument rows task.file.now
-  pub seats : IsGiven 1 MAX_SEATS (word_of_argument (codes "seats") rows) task.seats
+  pub seats : IsGiven 1 MAX_SEATS (word_of (codes "seats") rows) task.seats
   pub capacity : HasCapacityOption rows task.capacity
   pub workers : HasWorkersOption rows task.workers
 
@@ -129,7 +129,7 @@ pub record AsksParty (rows : List Row) (task : PartyTask) : Type 0 where
 
 abbrev pub AsksQuestion : Text → List Row → Question → Type 0
 AsksQuestion name rows (question.Judge form) =
-    (name ≡ codes "judge") × HasVerdictFormFlags rows form
+    (name ≡ codes "judge") × HasVerdictFlags rows form
 AsksQuestion name rows (question.Rank degree form) =
     (name ≡ codes "rank") × HasDegreeArgument rows degree × HasFormFlag rows form
 AsksQuestion name rows (question.RiemannRoch form) = (name ≡ codes "rr") × HasFormFlag rows form
@@ -142,18 +142,18 @@ pub record AsksSweep (name : Text) (rows : List Row) (task : SweepTask) : Type 0
   pub workers : HasWorkersOption rows task.workers
 
 abbrev pub HasNoLineOptions : List Row → Type 0
-HasNoLineOptions rows = IsInWords rows × (word_of_argument (codes "workers") rows ≡ None)
+HasNoLineOptions rows = IsInWords rows × (word_of (codes "workers") rows ≡ None)
 
 abbrev pub AsksTask : Text → List Row → Task → Type 0
 AsksTask name rows (Judge file ordered) =
-    (name ≡ codes "judge") × HasFileArgument rows file.now × HasNoLineOptions rows × IsOrderedByFlag rows ordered
+    (name ≡ codes "judge") × HasFileArgument rows file.now × HasNoLineOptions rows × HasOrder rows ordered
 AsksTask name rows (RiemannRoch file) = (name ≡ codes "rr") × HasFileArgument rows file.now × HasNoLineOptions rows
 AsksTask name rows (Rank task) =
     (name ≡ codes "rank") × AsksRank rows task × IsInWords rows
 AsksTask name rows (Greedy task) = (name ≡ codes "greedy") × AsksGreedy rows task
 AsksTask name rows (Rehearse file steps) =
     (name ≡ codes "rehearse") × HasFileArgument rows file.now
-    × (word_of_argument (codes "steps") rows ≡ Some steps.now)
+    × (word_of (codes "steps") rows ≡ Some steps.now)
 
 abbrev pub AsksFor : Text → List Row → Invocation → Type 0
 AsksFor name rows (asked.Task task) = AsksTask name rows task

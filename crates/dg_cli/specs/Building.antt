@@ -1,9 +1,9 @@
 -- What the library is told.
---   clap_rule_by syntax name      == the rule of an argument of that syntax and name
---   clap_rule_for argument        == the rule of an argument
---   shape_for subcommand          == the shape of a command
---   IsArgument rule arg           == the argument is the one of the rule, and of its command alone
---   HasSubcommandShape shape made == the command has the shape, and no argument that others share
+--   clap_rule_by syntax name == the rule of an argument of that syntax and name
+--   clap_rule_for argument   == the rule of an argument
+--   shape_for subcommand     == the shape of a command
+--   IsArgument rule arg      == the argument is the one of the rule, and of its command alone
+--   HasShape shape made      == the command has the shape, and no argument that others share
 use Rattle.std.specs.Prelude.{◌≡◌, false, codes}
 use Rattle.clap.specs.Words.{Rule, Shape, Text, rule_of, shape_of}
 use Rattle.clap.specs.declared.builder.arg.Arg.{Arg}
@@ -52,6 +52,6 @@ pub record IsArgument (rule : Rule) (arg : Arg) : Type 0 where
   pub reads : rule_of arg ≡ rule
   pub own : arg.global ≡ false
 
-pub record HasSubcommandShape (shape : Shape) (made : Command) : Type 0 where
+pub record HasShape (shape : Shape) (made : Command) : Type 0 where
   pub reads : shape_of made ≡ shape
   pub own : (fields_of made).has_globals ≡ false

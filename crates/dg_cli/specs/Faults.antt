@@ -1,8 +1,8 @@
 -- Why words ask for nothing, by the kind of the library's error.
---   IsWhyWordsAskNothing words kind == memory was refused; or the library finds a fault of that kind; or the
---                                      words ask for nothing, and the kind is none of help or the version
---   IsSaidOfClapError kind result   == what is said of an error of that kind: its text, if it is one of help
---                                      or the version, and else a fault; for want of memory the fault says so
+--   HasErrorKind words kind == memory was refused; or the library finds a fault of that kind; or the
+--                              words ask for nothing, and the kind is none of help or the version
+--   IsErrorText kind result == what is said of an error of that kind: its text, if it is one of help
+--                              or the version, and else a fault; for want of memory the fault says so
 use Rattle.std.specs.Prelude.{◌≡◌, ◌≢◌, ◌⊎◌, List, Result, Ok, Err, ⊤}
 use Rattle.clap.specs.Words.{IsAmong, Text, fault_of}
 use Rattle.clap.specs.declared.error.kind.ErrorKind.{ErrorKind}
@@ -15,16 +15,16 @@ use Rattle.dg_invocation.specs.declared.invocation.Invocation.TheVariants as ask
 use Rattle.dg_cli.specs.Commands.{dollar}
 use Rattle.dg_cli.specs.Refusals.{AskNothing}
 
-abbrev pub IsNoCallForHelp : ErrorKind → Type 0
-IsNoCallForHelp kind = (kind ≢ DisplayHelp) × (kind ≢ DisplayVersion)
+abbrev pub CallsNoHelp : ErrorKind → Type 0
+CallsNoHelp kind = (kind ≢ DisplayHelp) × (kind ≢ DisplayVersion)
 
-abbrev pub IsWhyWordsAskNothing : List Text → ErrorKind → Type 0
-IsWhyWordsAskNothing words kind =
-    (kind ≡ error.OutOfMemory) ⊎ (IsAmong kind (fault_of dollar words) ⊎ (AskNothing words × IsNoCallForHelp kind))
+abbrev pub HasErrorKind : List Text → ErrorKind → Type 0
+HasErrorKind words kind =
+    (kind ≡ error.OutOfMemory) ⊎ (IsAmong kind (fault_of dollar words) ⊎ (AskNothing words × CallsNoHelp kind))
 
-abbrev pub IsSaidOfClapError : ErrorKind → Result Invocation ArgsFault → Type 0
-IsSaidOfClapError kind (Ok (asked.Text text)) = (kind ≡ DisplayHelp) ⊎ (kind ≡ DisplayVersion)
-IsSaidOfClapError kind (Ok _) = ⊥
-IsSaidOfClapError kind (Err OutOfMemory) = ⊤
-IsSaidOfClapError kind (Err NotText) = ⊥
-IsSaidOfClapError kind (Err (CommandLine text)) = (kind ≢ error.OutOfMemory) × IsNoCallForHelp kind
+abbrev pub IsErrorText : ErrorKind → Result Invocation ArgsFault → Type 0
+IsErrorText kind (Ok (asked.Text text)) = (kind ≡ DisplayHelp) ⊎ (kind ≡ DisplayVersion)
+IsErrorText kind (Ok _) = ⊥
+IsErrorText kind (Err OutOfMemory) = ⊤
+IsErrorText kind (Err NotText) = ⊥
+IsErrorText kind (Err (CommandLine text)) = (kind ≢ error.OutOfMemory) × CallsNoHelp kind

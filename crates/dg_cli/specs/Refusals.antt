@@ -1,10 +1,10 @@
 -- Why words are refused.
---   HasClapFault words             == the library of command lines finds a fault, which is no call for help
---                                     or the version
---   AskNothing words               == it finds none, and yet there is nothing that the words ask for, as if a
---                                     number is not in its range, or `--workers` stands without `--lines`
---   RefusesCommandLine words fault == the words may be refused so: for want of memory, or else because they
---                                     have a fault or ask for nothing
+--   HasClapFault words      == the library of command lines finds a fault, which is no call for help
+--                              or the version
+--   AskNothing words        == it finds none, and yet there is nothing that the words ask for, as if a
+--                              number is not in its range, or `--workers` stands without `--lines`
+--   IsArgsFault words fault == the words may be refused so: for want of memory, or else because they
+--                              have a fault or ask for nothing
 use Rattle.std.specs.Prelude.{◌≡◌, ◌≢◌, ◌⊎◌, List, [], ⊤}
 use Rattle.clap.specs.Words.{IsAmong, Text, fault_of}
 use Rattle.clap.specs.declared.error.kind.ErrorKind.{ErrorKind}
@@ -25,7 +25,7 @@ pub record AskNothing (words : List Text) : Type 0 where
   pub faultless : fault_of dollar words ≡ []
   pub nothing : (asked : Invocation) → Asks words asked → ⊥
 
-abbrev pub RefusesCommandLine : List Text → ArgsFault → Type 0
-RefusesCommandLine words OutOfMemory = ⊤
-RefusesCommandLine words NotText = ⊥
-RefusesCommandLine words (CommandLine text) = HasClapFault words ⊎ AskNothing words
+abbrev pub IsArgsFault : List Text → ArgsFault → Type 0
+IsArgsFault words OutOfMemory = ⊤
+IsArgsFault words NotText = ⊥
+IsArgsFault words (CommandLine text) = HasClapFault words ⊎ AskNothing words

@@ -1,7 +1,7 @@
 -- How what the library of command lines tells is read.
 --   argument_rows matches                      == the rows of the command
 --   argument_name, shown, least, most argument == the name of a number's argument, and its range
---   TellsSubcommand asks result                == what is asked for; or a refusal, because memory is refused
+--   TellsInvocation asks result                == what is asked for; or a refusal, because memory is refused
 --                                                 or because nothing is asked for
 use Rattle.std.specs.Prelude.{◌≡◌, ◌⊎◌, ◌-◌, ◌^◌, ℕ, List, Result, Ok, Err, codes}
 use Rattle.clap.specs.Words.{Row, Text, found_of, rows_of}
@@ -36,6 +36,6 @@ most_of_argument Seats = MAX_SEATS
 most_of_argument Degree = 2 ^ 32 - 1
 most_of_argument Turns = MAX_TURNS
 
-abbrev pub TellsSubcommand : {T : Type 0} → (T → Type 0) → Result T Refusal → Type 0
-TellsSubcommand asks (Ok x) = asks x
-TellsSubcommand asks (Err refusal) = (refusal ≡ Memory) ⊎ ((x : _) → asks x → ⊥)
+abbrev pub TellsInvocation : {T : Type 0} → (T → Type 0) → Result T Refusal → Type 0
+TellsInvocation asks (Ok x) = asks x
+TellsInvocation asks (Err refusal) = (refusal ≡ Memory) ⊎ ((x : _) → asks x → ⊥)

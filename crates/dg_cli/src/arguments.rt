@@ -64,12 +64,12 @@ impl Argument {
         let name = self.name();
         let argument = Arg::new(alloc, name).help(self.help());
         match self.syntax() {
-            Syntax::Word => argument.value_name(self.shown_in_usage()).required(true),
+            Syntax::Word => argument.value_name(self.value_name()).required(true),
             Syntax::Words => argument
-                .value_name(self.shown_in_usage())
+                .value_name(self.value_name())
                 .required(true)
                 .num_args(1..),
-            Syntax::Option => argument.value_name(self.shown_in_usage()).long(name),
+            Syntax::Option => argument.value_name(self.value_name()).long(name),
             Syntax::Flag => argument.long(name).action(ArgAction::SetTrue),
         }
     }
@@ -112,7 +112,7 @@ impl Argument {
     }
 
     /// What the usage calls its word; a flag has none.
-    fn shown_in_usage<'a>(self) -> &'a str {
+    fn value_name<'a>(self) -> &'a str {
         match self {
             Argument::File => "FILE",
             Argument::Steps => "STEPS",

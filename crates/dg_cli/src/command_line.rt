@@ -3,11 +3,11 @@ ghost use Rattle.std.specs.Prelude.{◌≡◌, ◌≢◌, ◌⊎◌, IfErr, IfOk
 ghost use Rattle.clap.specs.Words.{IsAmong, fault_of, kind_of};
 ghost use Rattle.dg_cli.specs.Asks.{Asks};
 ghost use Rattle.dg_cli.specs.Commands.{dollar};
-ghost use Rattle.dg_cli.specs.Refusals.{AskNothing, RefusesCommandLine};
-ghost use Rattle.dg_cli.specs.Faults.{IsNoCallForHelp, IsSaidOfClapError, IsWhyWordsAskNothing};
+ghost use Rattle.dg_cli.specs.Refusals.{AskNothing, IsArgsFault};
+ghost use Rattle.dg_cli.specs.Faults.{CallsNoHelp, IsErrorText, HasErrorKind};
 
-use crate::commands::{SUBCOMMANDS, dollar};
-use crate::reading::{Refusal, asked_by_words};
+use crate::commands::{SUBCOMMANDS, program_command};
+use crate::reading::{Refusal, invocation_in};
 use clap::Command;
 use clap::error::ErrorKind;
 use dg_invocation::{ArgsFault, Invocation};
@@ -34,9 +34,9 @@ pub fn words_of<R: Env + AllocGlobal>(rt: &R) -> Result<Vec<String>, ArgsFault> 
 /// Refused with `CommandLine` if they ask for nothing, with all that is said of them, and with `OutOfMemory`.
 pub fn invocation_of<'a>(alloc: Global, words: &'a [String]) -> Result<Invocation<'a>, ArgsFault>
     ensures asked { IfOk result (Asks (map string_bytes words.entry.now)) }
-    ensures refused { IfErr result (RefusesCommandLine (map string_bytes words.entry.now)) }
+    ensures refused { IfErr result (IsArgsFault (map string_bytes words.entry.now)) }
 {
-    match command_of(alloc, words) {
+    match invocation_of_words(alloc, words) {
         Ok(asked) => Ok(asked),
         Err(error) => help_or_error(alloc, &error),
     }
@@ -44,7 +44,7 @@ pub fn invocation_of<'a>(alloc: Global, words: &'a [String]) -> Result<Invocatio
 
 /// The answer to words that ask for no command: a text for the standard output after a call for help, else a fault.
 fn help_or_error<'a>(alloc: Global, error: &clap::Error) -> Result<Invocation<'a>, ArgsFault>
-    ensures { IsSaidOfClapError (kind_of error.now) result }
+    ensures { IsErrorText (kind_of error.now) result }
 {
     if error.kind() == ErrorKind::OutOfMemory {
         return Err(ArgsFault::OutOfMemory);
@@ -60,12 +60,15 @@ fn help_or_error<'a>(alloc: Global, error: &clap::Error) -> Result<Invocation<'a
 }
 
 /// What the words ask for.
-fn command_of<'a>(alloc: Global, words: &'a [String]) -> Result<Invocation<'a>, clap::Error>
+fn invocation_of_words<'a>(
+    alloc: Global,
+    words: &'a [String],
+) -> Result<Invocation<'a>, clap::Error>
     ensures asked { IfOk result (Asks (map string_bytes words.entry.now)) }
-    ensures refused { IfErr result (λ error. IsWhyWordsAskNothing (map string_bytes words.entry.now) (kind_of error)) }
+    ensures refused { IfErr result (λ error. HasErrorKind (map string_bytes words.entry.now) (kind_of error)) }
 {
-    let matches = dollar(alloc)?.try_get_matches_from(words)?;
-    match asked_by_words(alloc, &matches) {
+    let matches = program_command(alloc)?.try_get_matches_from(words)?;
+    match invocation_in(alloc, &matches) {
         Ok(asked) => Ok(asked),
         Err(refusal) => Err(clap_error_of(alloc, matches.subcommand_name(), refusal)?),
     }
@@ -79,7 +82,7 @@ fn clap_error_of(
 ) -> Result<clap::Error, AllocError>
     ensures { IfOk result (λ error.
         (refusal.entry ≡ Refusal.Memory → kind_of error ≡ ErrorKind.OutOfMemory)
-        × IsNoCallForHelp (kind_of error)) }
+        × CallsNoHelp (kind_of error)) }
 {
     if let Refusal::Memory = refusal {
         return Ok(clap::Error::from(AllocError));
@@ -91,7 +94,7 @@ fn clap_error_of(
 
 /// The library's kind of such an error.
 fn clap_kind_for(refusal: &Refusal<'_>) -> ErrorKind
-    ensures { IsNoCallForHelp result }
+    ensures { CallsNoHelp result }
 {
     match refusal {
         Refusal::Memory => ErrorKind::OutOfMemory,
@@ -122,5 +125,5 @@ fn command_for_usage<'a>(alloc: Global, name: &str) -> Result<Command<'a>, Alloc
             return subcommand.to_clap(alloc)?.bin_name(subcommand.usage());
         }
     }
-    dollar(alloc)
+    program_command(alloc)
 }

@@ -1,7 +1,7 @@
 //! The commands of the program, as the library of command lines is told of them.
 ghost use Rattle.std.specs.Prelude.{◌≡◌, IfOk, map};
 ghost use Rattle.clap.specs.Words.{app_of};
-ghost use Rattle.dg_cli.specs.Building.{HasSubcommandShape, clap_rule_for, shape_for};
+ghost use Rattle.dg_cli.specs.Building.{HasShape, clap_rule_for, shape_for};
 ghost use Rattle.dg_cli.specs.Commands.{bare_program, dollar};
 
 use crate::arguments::Argument;
@@ -43,7 +43,7 @@ pub(crate) const SUBCOMMANDS: &[Subcommand] = &[
 ];
 
 /// The program with its commands.
-pub(crate) fn dollar<'a>(alloc: Global) -> Result<Command<'a>, AllocError>
+pub(crate) fn program_command<'a>(alloc: Global) -> Result<Command<'a>, AllocError>
     ensures { IfOk result (λ program. app_of program ≡ dollar) }
 {
     let mut program = bare_program(alloc)?;
@@ -71,11 +71,11 @@ fn bare_program<'a>(alloc: Global) -> Result<Command<'a>, AllocError>
 impl Subcommand {
     /// The command as the library is told of it.
     pub(crate) fn to_clap<'a>(self, alloc: Global) -> Result<Command<'a>, AllocError>
-        ensures { IfOk result (HasSubcommandShape (shape_for self)) }
+        ensures { IfOk result (HasShape (shape_for self)) }
     {
         let mut command = Command::new(alloc, self.name())
             .about(self.about())
-            .after_help(self.more());
+            .after_help(self.after_help_text());
         'arguments: for argument in self.arguments() {
             command = command.arg(argument.to_clap(alloc))?;
         }
@@ -141,7 +141,7 @@ impl Subcommand {
     }
 
     /// What its help says after its arguments.
-    fn more<'a>(self) -> &'a str {
+    fn after_help_text<'a>(self) -> &'a str {
         match self {
             Subcommand::Judge => JUDGE_MORE,
             Subcommand::Rank => RANK_MORE,

@@ -15,22 +15,22 @@ ghost use Rattle.dg_cli.specs.Asks.{
   HasLinesFlag,
   HasNumbersFlag,
   HasOrderFlag,
-  HasOneTableArgument,
+  HasOneTable,
   HasFormFlag,
-  HasVerdictFormFlags,
-  word_of_argument,
+  HasVerdictFlags,
+  word_of,
   words_of,
   HasNumberArgument,
 };
-ghost use Rattle.dg_cli.specs.Numbers.{IsGiven, IsGivenOr, IsArgumentNumber};
-ghost use Rattle.dg_cli.specs.Telling.{TellsSubcommand, least_of_argument, most_of_argument, argument_name, argument_rows};
+ghost use Rattle.dg_cli.specs.Numbers.{IsGiven, IsGivenOr, IsNumberIn};
+ghost use Rattle.dg_cli.specs.Telling.{TellsInvocation, least_of_argument, most_of_argument, argument_name, argument_rows};
 
 use clap::ArgMatches;
 use dg_invocation::{
     ArgsFault, Form, GreedyTask, Invocation, MAX_CAPACITY, MAX_SEATS, MAX_TURNS, MAX_WORKERS,
     PartyTask, Question, RankTask, ServeTask, SweepTask, Task, VerdictForm,
 };
-use dg_tokens::natural;
+use dg_tokens::parse_natural;
 use std::alloc::Global;
 use std::fmt;
 use thiserror::Error;
@@ -65,7 +65,7 @@ impl NumberArgument {
     }
 
     /// How the usage shows it.
-    fn shown_in_usage(self) -> &'static str {
+    fn value_name(self) -> &'static str {
         match self {
             NumberArgument::Capacity => "--cap <N>",
             NumberArgument::Workers => "--workers <N>",
@@ -96,7 +96,7 @@ impl fmt::Display for NumberArgument {
         write!(
             f,
             "'{}': a whole number from {least} to {most}",
-            self.shown_in_usage()
+            self.value_name()
         )
     }
 }
@@ -125,11 +125,11 @@ pub(crate) enum Refusal<'a> {
 }
 
 /// What the words ask for, by the command that they name.
-pub(crate) fn asked_by_words<'a>(
+pub(crate) fn invocation_in<'a>(
     alloc: Global,
     matches: &ArgMatches<'a>,
 ) -> Result<Invocation<'a>, Refusal<'a>>
-    ensures { TellsSubcommand
+    ensures { TellsInvocation
         (λ asked. IsSomeAnd (subcommand_rows_of matches.now) (λ entered. AsksFor entered.0 entered.1 asked)) result }
 {
     match matches.subcommand() {
@@ -144,7 +144,7 @@ fn subcommand_in<'a>(
     name: &str,
     inner: &ArgMatches<'a>,
 ) -> Result<Invocation<'a>, Refusal<'a>>
-    ensures { TellsSubcommand (AsksFor name.now (argument_rows inner.now)) result }
+    ensures { TellsInvocation (AsksFor name.now (argument_rows inner.now)) result }
 {
     match name {
         "serve" => serve_in(inner).map(Invocation::Serve),
@@ -162,11 +162,11 @@ fn subcommand_in<'a>(
 ///
 /// Refused for the number of entries, then of workers, then of seats.
 fn serve_in<'a>(inner: &ArgMatches<'a>) -> Result<ServeTask<'a>, Refusal<'a>>
-    ensures { TellsSubcommand (AsksServe (argument_rows inner.now)) result }
+    ensures { TellsInvocation (AsksServe (argument_rows inner.now)) result }
 {
     let file = word_in(inner, "file")?;
-    let capacity = given_or(inner, NumberArgument::Capacity, MAX_CAPACITY)?;
-    let workers = given_or(inner, NumberArgument::Workers, 1)?;
+    let capacity = number_or(inner, NumberArgument::Capacity, MAX_CAPACITY)?;
+    let workers = number_or(inner, NumberArgument::Workers, 1)?;
     let seats = seats_in(inner)?;
     Ok(ServeTask {
         file,
@@ -178,10 +178,10 @@ fn serve_in<'a>(inner: &ArgMatches<'a>) -> Result<ServeTask<'a>, Refusal<'a>>
 
 /// Scripts that are played side by side.
 fn party_in<'a>(alloc: Global, inner: &ArgMatches<'a>) -> Result<PartyTask<'a>, Refusal<'a>>
-    ensures { TellsSubcommand (AsksParty (argument_rows inner.now)) result }
+    ensures { TellsInvocation (AsksParty (argument_rows inner.now)) result }
 {
     let file = word_in(inner, "file")?;
-    let capacity = given_or(inner, NumberArgument::Capacity, MAX_CAPACITY)?;
+    let capacity = number_or(inner, NumberArgument::Capacity, MAX_CAPACITY)?;
     let scripts = scripts_in(alloc, inner)?;
     Ok(PartyTask {
         file,
@@ -194,15 +194,15 @@ fn party_in<'a>(alloc: Global, inner: &ArgMatches<'a>) -> Result<PartyTask<'a>, 
 ///
 /// Refused if both are there, then for the number of workers, then for the degree.
 fn sweep_in<'a>(name: &str, inner: &ArgMatches<'a>) -> Result<SweepTask<'a>, Refusal<'a>>
-    requires { (word_of_argument (codes "divisors") (argument_rows inner.now) ≡ None) → HasLinesFlag (argument_rows inner.now) }
-    ensures { TellsSubcommand (AsksSweep name.now (argument_rows inner.now)) result }
+    requires { (word_of (codes "divisors") (argument_rows inner.now) ≡ None) → HasLinesFlag (argument_rows inner.now) }
+    ensures { TellsInvocation (AsksSweep name.now (argument_rows inner.now)) result }
 {
     let file = word_in(inner, "file")?;
     let divisors = divisors_in(inner);
     if divisors.is_some() && has_lines_flag(inner) {
         return Err(Refusal::Both);
     }
-    let workers = given_or(inner, NumberArgument::Workers, 1)?;
+    let workers = number_or(inner, NumberArgument::Workers, 1)?;
     let question = question_in(name, inner)?;
     Ok(SweepTask {
         file,
@@ -214,7 +214,7 @@ fn sweep_in<'a>(name: &str, inner: &ArgMatches<'a>) -> Result<SweepTask<'a>, Ref
 
 /// What a command asks of each line.
 fn question_in<'a>(name: &str, inner: &ArgMatches<'a>) -> Result<Question, Refusal<'a>>
-    ensures { TellsSubcommand (AsksQuestion name.now (argument_rows inner.now)) result }
+    ensures { TellsInvocation (AsksQuestion name.now (argument_rows inner.now)) result }
 {
     match name {
         "judge" => verdict_form_in(inner).map(Question::Judge),
@@ -231,7 +231,7 @@ fn question_in<'a>(name: &str, inner: &ArgMatches<'a>) -> Result<Question, Refus
 ///
 /// Refused if both numbers and the order of burning are asked for.
 fn verdict_form_in<'a>(inner: &ArgMatches<'a>) -> Result<VerdictForm, Refusal<'a>>
-    ensures { TellsSubcommand (HasVerdictFormFlags (argument_rows inner.now)) result }
+    ensures { TellsInvocation (HasVerdictFlags (argument_rows inner.now)) result }
 {
     let ordered = has_order_flag(inner);
     match form_in(inner) {
@@ -256,9 +256,9 @@ fn form_in(inner: &ArgMatches<'_>) -> Form
 ///
 /// Refused if there are numbers, which are for lines.
 fn task_in<'a>(name: &str, inner: &ArgMatches<'a>) -> Result<Task<'a>, Refusal<'a>>
-    requires lines { HasOneTableArgument (argument_rows inner.now) }
+    requires lines { HasOneTable (argument_rows inner.now) }
     requires others { (name.now ≢ codes "greedy") × (name.now ≢ codes "rehearse") }
-    ensures { TellsSubcommand (AsksTask name.now (argument_rows inner.now)) result }
+    ensures { TellsInvocation (AsksTask name.now (argument_rows inner.now)) result }
 {
     if has_numbers_flag(inner) {
         return Err(Refusal::Lines);
@@ -278,7 +278,7 @@ fn task_in<'a>(name: &str, inner: &ArgMatches<'a>) -> Result<Task<'a>, Refusal<'
 
 /// Steps that are played on a table.
 fn rehearsal_in<'a>(inner: &ArgMatches<'a>) -> Result<Task<'a>, Refusal<'a>>
-    ensures { TellsSubcommand (AsksTask (codes "rehearse") (argument_rows inner.now)) result }
+    ensures { TellsInvocation (AsksTask (codes "rehearse") (argument_rows inner.now)) result }
 {
     let file = word_in(inner, "file")?;
     let steps = word_in(inner, "steps")?;
@@ -287,9 +287,9 @@ fn rehearsal_in<'a>(inner: &ArgMatches<'a>) -> Result<Task<'a>, Refusal<'a>>
 
 /// The table file of a command that has workers for lines alone.
 fn file_alone_in<'a>(inner: &ArgMatches<'a>) -> Result<&'a str, Refusal<'a>>
-    ensures { TellsSubcommand
-        (λ file. (word_of_argument (codes "file") (argument_rows inner.now) ≡ Some file.now)
-        × (word_of_argument (codes "workers") (argument_rows inner.now) ≡ None))
+    ensures { TellsInvocation
+        (λ file. (word_of (codes "file") (argument_rows inner.now) ≡ Some file.now)
+        × (word_of (codes "workers") (argument_rows inner.now) ≡ None))
         result }
 {
     let file = word_in(inner, "file")?;
@@ -303,10 +303,10 @@ fn file_alone_in<'a>(inner: &ArgMatches<'a>) -> Result<&'a str, Refusal<'a>>
 ///
 /// Refused for the number of workers, then for the degree.
 fn rank_in<'a>(inner: &ArgMatches<'a>) -> Result<RankTask<'a>, Refusal<'a>>
-    ensures { TellsSubcommand (AsksRank (argument_rows inner.now)) result }
+    ensures { TellsInvocation (AsksRank (argument_rows inner.now)) result }
 {
     let file = word_in(inner, "file")?;
-    let workers = given_or(inner, NumberArgument::Workers, 1)?;
+    let workers = number_or(inner, NumberArgument::Workers, 1)?;
     let degree = number_in(inner, NumberArgument::Degree)?;
     Ok(RankTask {
         file,
@@ -317,7 +317,7 @@ fn rank_in<'a>(inner: &ArgMatches<'a>) -> Result<RankTask<'a>, Refusal<'a>>
 
 /// The greedy strategy.
 fn greedy_in<'a>(inner: &ArgMatches<'a>) -> Result<GreedyTask<'a>, Refusal<'a>>
-    ensures { TellsSubcommand (AsksGreedy (argument_rows inner.now)) result }
+    ensures { TellsInvocation (AsksGreedy (argument_rows inner.now)) result }
 {
     let file = word_in(inner, "file")?;
     let turns = number_in(inner, NumberArgument::Turns)?;
@@ -347,14 +347,14 @@ fn has_numbers_flag(inner: &ArgMatches<'_>) -> bool
 
 /// The name of the file of amounts, if there is one.
 fn divisors_in<'a>(inner: &ArgMatches<'a>) -> Option<&'a str>
-    ensures { option_map (λ text. text.now) result ≡ word_of_argument (codes "divisors") (argument_rows inner.now) }
+    ensures { option_map (λ text. text.now) result ≡ word_of (codes "divisors") (argument_rows inner.now) }
 {
     text_in(inner, "divisors")
 }
 
 /// The word of an argument, if it has one.
 fn text_in<'a>(inner: &ArgMatches<'a>, name: &str) -> Option<&'a str>
-    ensures { option_map (λ text. text.now) result ≡ word_of_argument name.now (argument_rows inner.now) }
+    ensures { option_map (λ text. text.now) result ≡ word_of name.now (argument_rows inner.now) }
 {
     inner.get_str(name)
 }
@@ -368,22 +368,22 @@ fn texts_in<'a, 'm>(inner: &'m ArgMatches<'a>, name: &str) -> Option<&'m [&'a st
 
 /// The word of an argument that has to be there.
 fn word_in<'a>(inner: &ArgMatches<'a>, name: &str) -> Result<&'a str, Refusal<'a>>
-    ensures { TellsSubcommand (λ word. word_of_argument name.now (argument_rows inner.now) ≡ Some word.now) result }
+    ensures { TellsInvocation (λ word. word_of name.now (argument_rows inner.now) ≡ Some word.now) result }
 {
     text_in(inner, name).ok_or(Refusal::Command)
 }
 
 /// The number of an argument, or a default if it is not given.
-fn given_or<'a>(
+fn number_or<'a>(
     inner: &ArgMatches<'a>,
     argument: NumberArgument,
     default: u32,
 ) -> Result<u32, Refusal<'a>>
-    ensures { TellsSubcommand
+    ensures { TellsInvocation
         (IsGivenOr default (least_of_argument argument) (most_of_argument argument)
-        (word_of_argument (argument_name argument) (argument_rows inner.now))) result }
+        (word_of (argument_name argument) (argument_rows inner.now))) result }
 {
-    match given_in(inner, argument)? {
+    match number_if_given(inner, argument)? {
         Some(number) => Ok(number),
         None => Ok(default),
     }
@@ -391,9 +391,9 @@ fn given_or<'a>(
 
 /// The number of seats, if one is given.
 fn seats_in<'a>(inner: &ArgMatches<'a>) -> Result<Option<u8>, Refusal<'a>>
-    ensures { TellsSubcommand (IsGiven 1 MAX_SEATS (word_of_argument (codes "seats") (argument_rows inner.now))) result }
+    ensures { TellsInvocation (IsGiven 1 MAX_SEATS (word_of (codes "seats") (argument_rows inner.now))) result }
 {
-    match given_in(inner, NumberArgument::Seats)? {
+    match number_if_given(inner, NumberArgument::Seats)? {
         Some(seats) => Ok(Some(seats as u8)),
         None => Ok(None),
     }
@@ -401,37 +401,37 @@ fn seats_in<'a>(inner: &ArgMatches<'a>) -> Result<Option<u8>, Refusal<'a>>
 
 /// The number of an argument that has to be there.
 fn number_in<'a>(inner: &ArgMatches<'a>, argument: NumberArgument) -> Result<u32, Refusal<'a>>
-    ensures { TellsSubcommand (HasNumberArgument (argument_name argument)
+    ensures { TellsInvocation (HasNumberArgument (argument_name argument)
         (least_of_argument argument) (most_of_argument argument) (argument_rows
         inner.now)) result }
 {
     match text_in(inner, argument.name()) {
-        Some(word) => number_of_argument(argument, word),
+        Some(word) => parse_number(argument, word),
         None => Err(Refusal::Command),
     }
 }
 
 /// The number of an argument, if it is given.
-fn given_in<'a>(
+fn number_if_given<'a>(
     inner: &ArgMatches<'a>,
     argument: NumberArgument,
 ) -> Result<Option<u32>, Refusal<'a>>
-    ensures { TellsSubcommand
+    ensures { TellsInvocation
         (IsGiven (least_of_argument argument) (most_of_argument argument)
-        (word_of_argument (argument_name argument) (argument_rows inner.now))) result }
+        (word_of (argument_name argument) (argument_rows inner.now))) result }
 {
     match text_in(inner, argument.name()) {
-        Some(word) => Ok(Some(number_of_argument(argument, word)?)),
+        Some(word) => Ok(Some(parse_number(argument, word)?)),
         None => Ok(None),
     }
 }
 
 /// The number that the word of an argument is.
-fn number_of_argument(argument: NumberArgument, word: &str) -> Result<u32, Refusal<'_>>
-    ensures { TellsSubcommand (IsArgumentNumber (least_of_argument argument) (most_of_argument argument) word.entry.now) result }
+fn parse_number(argument: NumberArgument, word: &str) -> Result<u32, Refusal<'_>>
+    ensures { TellsInvocation (IsNumberIn (least_of_argument argument) (most_of_argument argument) word.entry.now) result }
 {
     let (least, most) = argument.range();
-    match natural(word.as_bytes()) {
+    match parse_natural(word.as_bytes()) {
         Some(number) if least <= number && number <= most => Ok(number as u32),
         _ => Err(Refusal::Number(argument, word)),
     }
@@ -439,7 +439,7 @@ fn number_of_argument(argument: NumberArgument, word: &str) -> Result<u32, Refus
 
 /// The names of the scripts.
 fn scripts_in<'a>(alloc: Global, inner: &ArgMatches<'a>) -> Result<Vec<&'a str>, Refusal<'a>>
-    ensures { TellsSubcommand
+    ensures { TellsInvocation
         (λ scripts. (words_of (codes "script") (argument_rows inner.now)
         ≡ Some (map (λ script. script.now) scripts.items)) × (1 ≤ vec_len scripts))
         result }

@@ -1,5 +1,5 @@
 -- No list of words asks for two things, or asks for something and is refused.
-use Rattle.dg_cli_laws.proofs.Common.{◌≡◌, ◌∙◌, ◌⊎◌, List, [], Option, None, Some, IsSomeAnd, true, inl, inr, refl, sym, subst, subcommand_of, ErrorKind, Invocation, ArgsFault, CommandLine, NotText, OutOfMemory, Asks, AsksFor, CallsForHelp, HasClapFault, RefusesCommandLine, CommandLinesHaveOneMeaning, written}
+use Rattle.dg_cli_laws.proofs.Common.{◌≡◌, ◌∙◌, ◌⊎◌, List, [], Option, None, Some, IsSomeAnd, true, inl, inr, refl, sym, subst, subcommand_of, ErrorKind, Invocation, ArgsFault, CommandLine, NotText, OutOfMemory, Asks, AsksFor, CallsForHelp, HasClapFault, IsArgsFault, MeaningIsUnique, written}
 use Rattle.clap.specs.Words.{IsAmong, Kinds, Row, Text, fault_of}
 use Rattle.clap.specs.declared.error.kind.ErrorKind.TheVariants as kind
 use Rattle.dg_invocation.specs.declared.invocation.Invocation.TheVariants as asked
@@ -30,7 +30,7 @@ both words (asked.Sweep task) asks bad = faultless words asks.0 bad
 both words (asked.Serve task) asks bad = faultless words asks.0 bad
 both words (asked.Party task) asks bad = faultless words asks.0 bad
 
-apart : (words : List Text) (it : Invocation) (fault : ArgsFault) → Asks words it → RefusesCommandLine words fault → fault ≡
+apart : (words : List Text) (it : Invocation) (fault : ArgsFault) → Asks words it → IsArgsFault words fault → fault ≡
     OutOfMemory
 apart words it OutOfMemory asks refused = refl
 apart words it NotText asks refused = absurd refused
@@ -75,5 +75,5 @@ one words a b asks also = elim (meant words a asks) [
   ]
 ]
 
-pub law : CommandLinesHaveOneMeaning
+pub law : MeaningIsUnique
 law = record { one = one; apart = apart }

@@ -12,10 +12,10 @@ pub use Rattle.clap.specs.declared.builder.action.ArgAction.{ArgAction}
 pub use Rattle.clap.specs.declared.builder.action.ArgAction.TheVariants.{Append, Count, Help, HelpLong, HelpShort, Set, SetFalse, SetTrue, Version}
 pub use Rattle.clap.specs.declared.builder.value_parser.ValueParser.{ValueParser}
 pub use Rattle.clap.specs.declared.error.kind.ErrorKind.{ErrorKind}
-pub use Rattle.dg_cli.specs.Asks.{Asks, AsksFor, AsksQuestion, CallsForHelp, HasOneTableArgument, HasFormFlag, HasVerdictFormFlags, IsOrderedByFlag, HasLinesOption, divisors_option, word_of_argument, words_of}
-pub use Rattle.dg_cli.specs.Numbers.{IsGiven, IsGivenOr, IsArgumentNumber}
-pub use Rattle.dg_cli.specs.Refusals.{HasClapFault, RefusesCommandLine}
-pub use Rattle.dg_cli_laws.specs.OneMeaning.{CommandLinesHaveOneMeaning, form_as_written, lines_as_written, order_as_written, question_as_written, seats_as_written, verdict_as_written, written}
+pub use Rattle.dg_cli.specs.Asks.{Asks, AsksFor, AsksQuestion, CallsForHelp, HasOneTable, HasFormFlag, HasVerdictFlags, HasOrder, HasLinesOption, divisors_option, word_of, words_of}
+pub use Rattle.dg_cli.specs.Numbers.{IsGiven, IsGivenOr, IsNumberIn}
+pub use Rattle.dg_cli.specs.Refusals.{HasClapFault, IsArgsFault}
+pub use Rattle.dg_cli_laws.specs.OneMeaning.{MeaningIsUnique, form_as_written, lines_as_written, order_as_written, question_as_written, seats_as_written, verdict_as_written, written}
 pub use Rattle.dg_invocation.specs.declared.invocation.Invocation.{Invocation}
 pub use Rattle.dg_invocation.specs.declared.limits.TheConstants.{MAX_CAPACITY}
 pub use Rattle.dg_invocation.specs.declared.args_fault.ArgsFault.{ArgsFault}

@@ -6,13 +6,13 @@
 --   question_as_written question == the command that asks this of each line
 --   written asked                == the words that say what is asked for: the command, the files and the
 --                                   numbers, also those that nobody gave. The text of a help is left out
---   CommandLinesHaveOneMeaning   == words that ask for two things ask for one, since both are written alike;
+--   MeaningIsUnique              == words that ask for two things ask for one, since both are written alike;
 --                                   and words that ask for something are refused for nothing but want of
 --                                   memory
 use Rattle.std.specs.Prelude.{◌≡◌, ℕ, Bool, true, false, List, [], ◌∷◌, ◌++◌, Option, Some, None, codes, decimal, map, option_map}
 use Rattle.clap.specs.Words.{Text}
 use Rattle.dg_cli.specs.Asks.{Asks}
-use Rattle.dg_cli.specs.Refusals.{RefusesCommandLine}
+use Rattle.dg_cli.specs.Refusals.{IsArgsFault}
 use Rattle.dg_invocation.specs.declared.invocation.Invocation.{Invocation}
 use Rattle.dg_invocation.specs.declared.args_fault.ArgsFault.{ArgsFault}
 use Rattle.dg_invocation.specs.declared.args_fault.ArgsFault.TheVariants.{OutOfMemory}
@@ -68,8 +68,8 @@ written (asked.Party party) =
     ∷ map (λ script. script.now) party.scripts.items
 written (asked.Text text) = []
 
-pub record CommandLinesHaveOneMeaning : Type 0 where
+pub record MeaningIsUnique : Type 0 where
   pub one : (words : List Text) (a b : Invocation) → Asks words a → Asks words b
       → written a ≡ written b
   pub apart : (words : List Text) (it : Invocation) (fault : ArgsFault) → Asks words it
-      → RefusesCommandLine words fault → fault ≡ OutOfMemory
+      → IsArgsFault words fault → fault ≡ OutOfMemory

@@ -3,4 +3,4 @@
 
 mod laws;
 
-pub use laws::command_lines_have_one_meaning;
+pub use laws::meaning_is_unique;

@@ -1,30 +1,30 @@
 -- The names that the proofs of this crate cite, passed on from one place. Declares nothing.
 pub use Rattle.dg_chips.proofs.VectorLaws.{held_once}
-pub use Rattle.dg_chips.specs.DivisorFaults.{IsFirstChipFault}
+pub use Rattle.dg_chips.specs.DivisorFaults.{IsChipFault}
 pub use Rattle.dg_chips.specs.Starts.{StartData}
 pub use Rattle.dg_chips.specs.Vector.{HoldsNumbers, IsDivisorVector, Vector, at}
 pub use Rattle.dg_chips.specs.VectorFaults.{IsFirstPast}
 pub use Rattle.dg_chips.specs.declared.divisor.ChipFault.{ChipFault}
 pub use Rattle.dg_chips.specs.declared.divisor.ChipFault.TheVariants.{Length, Range}
-pub use Rattle.dg_file.specs.Content.{Content, HasJsonParts, IsContent, IsNotJson, JsonParts, ReadsJson, edge_count_in_json, edge_from_json, edge_in_json, edges_in_json, listed_in_json, numbers_in_json, put_first_json, texts_in_json, whole}
-pub use Rattle.dg_file.specs.FileFaults.{FileGivesDivisor, FileGivesGraph, IsEdgeFault, IsFileGraphFault, IsFileNameFault, IsFileContentFault, IsShapeFault, IsShapeFaultOf, IsFileTwiceFault, RefusesTableFile, RefusesTableContent}
-pub use Rattle.dg_file.specs.FileLaws.{FilesHaveOneMeaning}
-pub use Rattle.dg_file.specs.TableFiles.{IsTableInFile, IsTableFile, item_of_file_edge, items_of_file_content}
+pub use Rattle.dg_file.specs.Content.{Content, HasMemberValues, IsContent, IsNotJson, MemberValues, ReadsJson, count_in_json, edge_from_json, edge_in_json, edges_in_json, listed_in_json, numbers_in_json, cons_some, texts_in_json, whole}
+pub use Rattle.dg_file.specs.FileFaults.{GivesDivisor, GivesGraph, IsEdgeFault, HasGraphFault, IsNameFault, HasContentFault, IsShapeFault, IsPartFault, IsTwiceFault, IsFileFault, IsContentFault}
+pub use Rattle.dg_file.specs.FileLaws.{FileMeaningIsUnique}
+pub use Rattle.dg_file.specs.TableFiles.{ContentDescribes, IsTableFile, edge_item, edge_items}
 pub use Rattle.dg_file.specs.declared.fault.FileFault.{FileFault}
 pub use Rattle.dg_file.specs.declared.fault.FileFault.TheVariants.{Chip, Graph, Json, Name, NoQ, OutOfMemory, Twice}
 pub use Rattle.dg_file.specs.declared.fault.Shape.{Shape}
 pub use Rattle.dg_file.specs.declared.fault.Shape.TheVariants.{Amounts, Edge, Edges, Q, Top, Vertices}
 pub use Rattle.dg_graph.proofs.Squares.{one_graph}
-pub use Rattle.dg_graph.specs.Faults.{IsEmptyGraphItem, IsFirstGraphFault, IsFirstHighValence, IsGraphLoop, IsPartedGraph, IsSize, JoinsNoVertex}
-pub use Rattle.dg_graph.specs.Items.{HasGraphItem, IsGiven, IsGraphItem, AreGraphItems, AreGraphItemsBefore, GraphItem, edges_listed, valence_listed}
+pub use Rattle.dg_graph.specs.Faults.{IsEmptyItem, IsGraphFault, IsFirstHighValence, IsLoop, IsDisconnected, IsSize, JoinsNoVertex}
+pub use Rattle.dg_graph.specs.Items.{HasEdgeItem, IsGraphOf, IsEdgeItem, AreEdgeItems, AreItemsBefore, EdgeItem, edges_listed, valence_listed}
 pub use Rattle.dg_graph.specs.declared.fault.GraphFault.{GraphFault}
 pub use Rattle.dg_graph.specs.declared.fault.GraphFault.TheVariants.{Loop, Multiplicity, NoVertex, NotConnected, Size, Valence}
-pub use Rattle.dg_theory.proofs.Chains.{JoinedInMultigraph-cong}
-pub use Rattle.dg_theory.proofs.TotalLaws.{total_below-cong}
+pub use Rattle.dg_theory.proofs.Chains.{IsConnectedTo-cong}
+pub use Rattle.dg_theory.proofs.TotalLaws.{nat_sum_below-cong}
 pub use Rattle.dg_theory.specs.Multigraph.{Multigraph, edges_between}
-pub use Rattle.dg_theory.specs.Sums.{total_below}
+pub use Rattle.dg_theory.specs.Sums.{nat_sum_below}
 pub use Rattle.dg_tokens.proofs.NamesLaws.{AreNames-added, AreNames-nil, bytes_eq-swap}
-pub use Rattle.dg_tokens.specs.Names.{AreNames, IsName, added, has, place_of}
+pub use Rattle.dg_tokens.specs.Names.{AreNames, IsName, names_inserted, names_contain, place_of}
 pub use Rattle.serde_json.proofs.Views.{get_item_within}
 pub use Rattle.serde_json.specs.Data.{Data, Items, Members, array, boolean, item, no_items, null, number, object, string}
 pub use Rattle.serde_json.specs.Find.{as_array, as_object, as_str, get, get_item, get_member}

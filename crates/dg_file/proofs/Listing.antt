@@ -9,8 +9,8 @@
 --   parts-counted  an object of another number of members has no parts
 --   edge-three     an array of three values is an edge where they are two texts and a number of edges
 --   edge-others    an array of another number of values is no edge
-use Rattle.dg_file.proofs.Common.{◌≡◌, ◌≢◌, ℕ, suc, ◌+◌, ◌<◌, ◌≤◌, List, [], ◌∷◌, ◌++◌, length, get_or, drop, Option, Some, None, option_map, Bor, Vec, String, Global, refl, sym, ap, ◌∙◌, codes, inl, inr, arith, IsSome, option_and_then, cases_order, append_assoc, append-nil, drop_more, drop_all, Data, null, boolean, number, string, array, object, Members, get, get_member, get_item, as_object, as_array, as_str, view, items_view, members_view, Value, get_item_within, JsonParts, HasJsonParts, put_first_json, edge_in_json, edge_from_json, edge_count_in_json, listed_in_json, IsEdgeFault}
-use Rattle.dg_file.specs.Content.{json_member_count, each, edge_of_json}
+use Rattle.dg_file.proofs.Common.{◌≡◌, ◌≢◌, ℕ, suc, ◌+◌, ◌<◌, ◌≤◌, List, [], ◌∷◌, ◌++◌, length, get_or, drop, Option, Some, None, option_map, Bor, Vec, String, Global, refl, sym, ap, ◌∙◌, codes, inl, inr, arith, IsSome, option_and_then, cases_order, append_assoc, append-nil, drop_more, drop_all, Data, null, boolean, number, string, array, object, Members, get, get_member, get_item, as_object, as_array, as_str, view, items_view, members_view, Value, get_item_within, MemberValues, HasMemberValues, cons_some, edge_in_json, edge_from_json, count_in_json, listed_in_json, IsEdgeFault}
+use Rattle.dg_file.specs.Content.{member_count, each, edge_of_items}
 
 abbrev pub after : {A : Type 0} → List A → Option (List A) → Option (List A)
 after xs rest = option_map (λ more. xs ++ more) rest
@@ -34,7 +34,7 @@ module _ {A : Type 0} (read : Data → Option A) (vs : List Value) (i : ℕ) (v 
   unfolding each
   each-more x below is some so_far =
       so_far ∙ ap (λ rest. after xs (each read (items_view rest))) (left below is)
-      ∙ ap (λ first. after xs (put_first_json first (each read (items_view (drop (i + 1) vs))))) some
+      ∙ ap (λ first. after xs (cons_some first (each read (items_view (drop (i + 1) vs))))) some
       ∙ after-item xs x (each read (items_view (drop (i + 1) vs)))
 
   pub each-failed : i < length vs → v ≡ get_or vs i v → read (view v) ≡ None
@@ -43,7 +43,7 @@ module _ {A : Type 0} (read : Data → Option A) (vs : List Value) (i : ℕ) (v 
   unfolding each
   each-failed below is none so_far =
       so_far ∙ ap (λ rest. after xs (each read (items_view rest))) (left below is)
-      ∙ ap (λ first. after xs (put_first_json first (each read (items_view (drop (i + 1) vs))))) none
+      ∙ ap (λ first. after xs (cons_some first (each read (items_view (drop (i + 1) vs))))) none
 
 pub each-all : {A : Type 0} (read : Data → Option A) (vs : List Value) (i : ℕ) (xs : List A) → length vs ≤ i
     → each read (items_view vs) ≡ after xs (each read (items_view (drop i vs)))
@@ -77,14 +77,14 @@ get-object k (object own) ms is = ap (get_member k) (let e : own ≡ ms = cc in 
 abbrev Entry : Type 0
 Entry = String Global × Value
 
-member_count-view : (es : List Entry) → json_member_count (members_view es) ≡ length es
-unfolding json_member_count
+member_count-view : (es : List Entry) → member_count (members_view es) ≡ length es
+unfolding member_count
 member_count-view [] = refl
 member_count-view (e ∷ es) = ap suc (member_count-view es)
 
-pub parts-given : (value : Data) (es : List Entry) (parts : JsonParts) → Some (members_view es) ≡ as_object value
+pub parts-given : (value : Data) (es : List Entry) (parts : MemberValues) → Some (members_view es) ≡ as_object value
     → length es ≡ 4 → Some parts.vertices ≡ get (codes "vertices") value → Some parts.edges ≡ get (codes "edges") value
-    → Some parts.amounts ≡ get (codes "amounts") value → Some parts.q ≡ get (codes "q") value → HasJsonParts value parts
+    → Some parts.amounts ≡ get (codes "amounts") value → Some parts.q ≡ get (codes "q") value → HasMemberValues value parts
 parts-given value es parts is four vertices edges amounts q = record {
   members = members_view es;
   object = sym is;
@@ -95,12 +95,12 @@ parts-given value es parts is four vertices edges amounts q = record {
   q = sym (q ∙ get-object (codes "q") value (members_view es) (sym is));
 }
 
-pub parts-counted : (value : Data) (es : List Entry) (parts : JsonParts) → Some (members_view es) ≡ as_object value
-    → (length es ≡ 4 → ⊥) → ¬ HasJsonParts value parts
+pub parts-counted : (value : Data) (es : List Entry) (parts : MemberValues) → Some (members_view es) ≡ as_object value
+    → (length es ≡ 4 → ⊥) → ¬ HasMemberValues value parts
 parts-counted value es parts is other has =
     let both : Some (members_view es) ≡ Some has.members = is ∙ has.object in
     let same : members_view es ≡ has.members = cc in
-    other (sym (member_count-view es) ∙ ap json_member_count same ∙ has.four)
+    other (sym (member_count-view es) ∙ ap member_count same ∙ has.four)
 
 three : (vs : List Value) (one other count : Value) → length vs ≡ 3 → one ≡ get_or vs 0 one → other ≡ get_or vs 1 other
     → count ≡ get_or vs 2 count → vs ≡ one ∷ other ∷ count ∷ []
@@ -113,13 +113,13 @@ three (a ∷ b ∷ c ∷ d ∷ vs) one other count size e f g = absurd (omega ar
 pub edge-three : (value : Data) (vs : List Value) (one other count : Value)
     → Some (items_view vs) ≡ as_array value → length vs ≡ 3
     → one ≡ get_or vs 0 one → other ≡ get_or vs 1 other → count ≡ get_or vs 2 count
-    → edge_in_json value ≡ edge_from_json (as_str (view one)) (as_str (view other)) (edge_count_in_json (view count))
-unfolding edge_of_json
+    → edge_in_json value ≡ edge_from_json (as_str (view one)) (as_str (view other)) (count_in_json (view count))
+unfolding edge_of_items
 edge-three value vs one other count is size e f g = rw (← is, three vs one other count size e f g) refl
 
 pub edge-others : (value : Data) (vs : List Value) → Some (items_view vs) ≡ as_array value → length vs ≢ 3
     → edge_in_json value ≡ None
-unfolding edge_of_json
+unfolding edge_of_items
 edge-others value [] is different = rw (← is) refl
 edge-others value (a ∷ []) is different = rw (← is) refl
 edge-others value (a ∷ b ∷ []) is different = rw (← is) refl

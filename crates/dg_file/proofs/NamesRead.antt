@@ -9,7 +9,7 @@
 --   name-fault          a text that is no name
 --   twice-fault         a name that stood before
 --   stood               a name stood before just if it was not added
-use Rattle.dg_file.proofs.Common.{◌≡◌, ℕ, ◌+◌, ◌<◌, ◌≤◌, Bool, true, false, not, cond, refl, List, [], ◌∷◌, ◌++◌, length, get_or, take, map, Some, Bor, option_map, sym, ap, ◌∙◌, arith, slice_get, length-map, length-take, take-map, take_all, map_more, slice_get-map, slice_get-get_or, IsSize, IsName, AreNames, has, added, IsFileNameFault, IsFileTwiceFault}
+use Rattle.dg_file.proofs.Common.{◌≡◌, ℕ, ◌+◌, ◌<◌, ◌≤◌, Bool, true, false, not, cond, refl, List, [], ◌∷◌, ◌++◌, length, get_or, take, map, Some, Bor, option_map, sym, ap, ◌∙◌, arith, slice_get, length-map, length-take, take-map, take_all, map_more, slice_get-map, slice_get-get_or, IsSize, IsName, AreNames, names_contain, names_inserted, IsNameFault, IsTwiceFault}
 
 abbrev pub the_text : Bor (List ℕ) → List ℕ
 the_text t = t.now
@@ -33,8 +33,8 @@ module _ (vertices : List (Bor (List ℕ))) (v : ℕ) (names : List (List ℕ)) 
       ap (λ front. front ++ text_at vertices v ∷ []) (so_far ∙ take-map the_text v vertices)
       ∙ sym (take-map the_text (v + 1) vertices ∙ map_more the_text vertices v none below)
 
-  pub names-added : has names (text_at vertices v) ≡ false
-      → added names (text_at vertices v) ≡ take (v + 1) (texts vertices)
+  pub names-added : names_contain names (text_at vertices v) ≡ false
+      → names_inserted names (text_at vertices v) ≡ take (v + 1) (texts vertices)
   names-added new =
       ap (λ old. cond old names (names ++ text_at vertices v ∷ [])) new ∙ names-more
 
@@ -42,7 +42,7 @@ module _ (vertices : List (Bor (List ℕ))) (v : ℕ) (names : List (List ℕ)) 
   names-few few = rw so_far (omega (arith, length-take v (texts vertices)))
 
   pub name-fault : IsSize (length vertices) → AreNames names → ¬ IsName (text_at vertices v)
-      → IsFileNameFault (texts vertices) v
+      → IsNameFault (texts vertices) v
   name-fault size are bad = record {
     size = rw length-map size;
     before = rw so_far at are;
@@ -50,17 +50,17 @@ module _ (vertices : List (Bor (List ℕ))) (v : ℕ) (names : List (List ℕ)) 
   }
 
   pub twice-fault : IsSize (length vertices) → AreNames names → IsName (text_at vertices v)
-      → has names (text_at vertices v) ≡ true → IsFileTwiceFault (texts vertices) v
+      → names_contain names (text_at vertices v) ≡ true → IsTwiceFault (texts vertices) v
   twice-fault size are is stood = record {
     size = rw length-map size;
     before = rw so_far at are;
     refused = (text_at vertices v, text-there, (is, rw so_far at stood));
   }
 
-pub stood : (is_new : Bool) (names : List (List ℕ)) (name : List ℕ) → is_new ≡ not (has names name)
-    → has names name ≡ not is_new
+pub stood : (is_new : Bool) (names : List (List ℕ)) (name : List ℕ) → is_new ≡ not (names_contain names name)
+    → names_contain names name ≡ not is_new
 stood is_new names name is =
-    rw is (elim (has names name) as (λ t. t ≡ not (not t)) [ true ↦ refl | false ↦ refl ])
+    rw is (elim (names_contain names name) as (λ t. t ≡ not (not t)) [ true ↦ refl | false ↦ refl ])
 
 pub names-all : (vertices : List (Bor (List ℕ))) (v : ℕ) (names : List (List ℕ)) → length vertices ≤ v
     → names ≡ take v (texts vertices) → names ≡ texts vertices

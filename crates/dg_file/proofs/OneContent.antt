@@ -5,7 +5,7 @@
 --   same-value     the value of bytes
 --   same-parts     the parts of a value
 --   same-content   the content of a value
-use Rattle.dg_file.proofs.Common.{◌≡◌, ℕ, ◌<◌, List, Option, Some, None, inl, inr, sym, ◌∙◌, codes, IsSome, false≢true, cases_order, Data, get_member, as_object, as_str, Content, JsonParts, ReadsJson, HasJsonParts, IsContent, texts_in_json, edges_in_json, numbers_in_json}
+use Rattle.dg_file.proofs.Common.{◌≡◌, ℕ, ◌<◌, List, Option, Some, None, inl, inr, sym, ◌∙◌, codes, IsSome, false≢true, cases_order, Data, get_member, as_object, as_str, Content, MemberValues, ReadsJson, HasMemberValues, IsContent, texts_in_json, edges_in_json, numbers_in_json}
 
 pub found-once : {A : Type 0} (o : Option A) (x y : A) → o ≡ Some x → o ≡ Some y → x ≡ y
 found-once o x y a b = let e : Some x ≡ Some y = sym a ∙ b in cc
@@ -27,10 +27,10 @@ first-once i j before after = elim (cases_order i j) [
 pub same-value : (bytes : List ℕ) (u v : Data) → ReadsJson bytes u → ReadsJson bytes v → u ≡ v
 same-value bytes u v a b = found-once _ u v a.1 b.1
 
-parts-equal : (o p : JsonParts) → o.vertices ≡ p.vertices → o.edges ≡ p.edges → o.amounts ≡ p.amounts → o.q ≡ p.q → o ≡ p
+parts-equal : (o p : MemberValues) → o.vertices ≡ p.vertices → o.edges ≡ p.edges → o.amounts ≡ p.amounts → o.q ≡ p.q → o ≡ p
 parts-equal o p a b c d = λ i. record { vertices = a i; edges = b i; amounts = c i; q = d i }
 
-pub same-parts : (value : Data) (o p : JsonParts) → HasJsonParts value o → HasJsonParts value p → o ≡ p
+pub same-parts : (value : Data) (o p : MemberValues) → HasMemberValues value o → HasMemberValues value p → o ≡ p
 same-parts value o p a b =
     let members : a.members ≡ b.members = found-once (as_object value) a.members b.members a.object b.object in
     parts-equal o p

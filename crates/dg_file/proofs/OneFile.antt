@@ -1,7 +1,7 @@
 -- Bytes have one fault at most, want of memory aside, and none where they are a table file.
 --   file-one      one fault
 --   file-none     no fault where there is a table
-use Rattle.dg_file.proofs.Common.{◌≡◌, ◌≢◌, ℕ, List, refl, ap, Data, StartData, ReadsJson, IsNotJson, IsTableFile, IsShapeFault, IsFileContentFault, RefusesTableFile, Shape, FileFault, Json, Graph, Name, Twice, Chip, NoQ, OutOfMemory}
+use Rattle.dg_file.proofs.Common.{◌≡◌, ◌≢◌, ℕ, List, refl, ap, Data, StartData, ReadsJson, IsNotJson, IsTableFile, IsShapeFault, HasContentFault, IsFileFault, Shape, FileFault, Json, Graph, Name, Twice, Chip, NoQ, OutOfMemory}
 use Rattle.dg_file.specs.declared.fault.FileFault.TheVariants.{Shape as OfShape}
 use Rattle.dg_file.proofs.OneContent.{none-found, same-value, same-content}
 use Rattle.dg_file.proofs.OneShape.{shape-one, shape-none}
@@ -11,9 +11,9 @@ use Rattle.dg_file.proofs.OneTable.{table-one, table-none}
 data Cause (bytes : List ℕ) : FileFault → Type 0 where
   no_json : IsNotJson bytes → Cause bytes Json
   shape : (s : Shape) (value : Data) → ReadsJson bytes value → IsShapeFault value s → Cause bytes (OfShape s)
-  table : (f : FileFault) → IsFileContentFault bytes f → Cause bytes f
+  table : (f : FileFault) → HasContentFault bytes f → Cause bytes f
 
-cause : (bytes : List ℕ) (f : FileFault) → f ≢ OutOfMemory → RefusesTableFile bytes f → Cause bytes f
+cause : (bytes : List ℕ) (f : FileFault) → f ≢ OutOfMemory → IsFileFault bytes f → Cause bytes f
 cause bytes Json known fault = no_json fault
 cause bytes (OfShape s) known fault = shape s fault.0 fault.1 fault.2
 cause bytes (Graph f) known fault = table (Graph f) fault
@@ -28,7 +28,7 @@ module _ (bytes : List ℕ) where
   json-none value reads none = none-found _ value reads.1 (none reads.0)
 
   shape-table : (s : Shape) (value : Data) (f : FileFault) → ReadsJson bytes value → IsShapeFault value s
-      → IsFileContentFault bytes f → ⊥
+      → HasContentFault bytes f → ⊥
   shape-table s value f reads fault refused =
       let same : value ≡ refused.value = same-value bytes value refused.value reads refused.reads in
       shape-none refused.value refused.content refused.says s (rw same at fault)
@@ -61,10 +61,10 @@ module _ (bytes : List ℕ) where
       table-none file.content o names file.describes g (rw content at a.refused)
 
 pub file-one : (bytes : List ℕ) (one other : FileFault) → one ≢ OutOfMemory → other ≢ OutOfMemory
-    → RefusesTableFile bytes one → RefusesTableFile bytes other → one ≡ other
+    → IsFileFault bytes one → IsFileFault bytes other → one ≡ other
 file-one bytes one other known_one known_other a b =
     cause-one bytes one other (cause bytes one known_one a) (cause bytes other known_other b)
 
 pub file-none : (bytes : List ℕ) (fault : FileFault) (o : StartData) (names : List (List ℕ)) → fault ≢ OutOfMemory
-    → RefusesTableFile bytes fault → ¬ IsTableFile bytes o names
+    → IsFileFault bytes fault → ¬ IsTableFile bytes o names
 file-none bytes fault o names known refused file = cause-none bytes fault o names (cause bytes fault known refused) file

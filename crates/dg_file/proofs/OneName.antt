@@ -4,7 +4,7 @@
 --   stops-twice       a name that stood before
 --   stops-one         one place at which they stop
 --   name-or-twice     a name is at fault in one way
-use Rattle.dg_file.proofs.Common.{◌≡◌, ℕ, zero, suc, ◌<◌, true, false, List, [], ◌∷◌, length, take, Some, refl, sym, ◌∙◌, ⊎_elim, arith, bytes_eq, slice_get, AllByRecursion, false≢true, or_cases, take-take, take_all, All-get_or, slice_get_within, get_or_from_slice_get, IsName, AreNames, has, IsFileNameFault, IsFileTwiceFault, bytes_eq-swap}
+use Rattle.dg_file.proofs.Common.{◌≡◌, ℕ, zero, suc, ◌<◌, true, false, List, [], ◌∷◌, length, take, Some, refl, sym, ◌∙◌, ⊎_elim, arith, bytes_eq, slice_get, AllByRecursion, false≢true, or_cases, take-take, take_all, All-get_or, slice_get_within, get_or_from_slice_get, IsName, AreNames, names_contain, IsNameFault, IsTwiceFault, bytes_eq-swap}
 use Rattle.std.specs.List.{IsDistinct}
 use Rattle.dg_file.proofs.OneContent.{found-once, first-once}
 
@@ -32,7 +32,7 @@ differs x (y ∷ names) zero name others there = let same : y ≡ name = cc in r
 differs x (y ∷ names) (suc i) name others there = differs x names i name others.1 there
 
 is-new : (names : List (List ℕ)) (i : ℕ) (name : List ℕ) → IsDistinct bytes_eq names → slice_get names i ≡ Some name
-    → has (take i names) name ≡ true → ⊥
+    → names_contain (take i names) name ≡ true → ⊥
 unfolding IsDistinct
 is-new [] i name distinct there old = absurd (cc)
 is-new (x ∷ names) zero name distinct there old = false≢true old
@@ -40,8 +40,8 @@ is-new (x ∷ names) (suc i) name distinct there old =
     ⊎_elim
     (λ (same : bytes_eq name x ≡ true).
     false≢true (sym (bytes_eq-swap x name (differs x names i name distinct.0 there)) ∙ same))
-    (λ (later : has (take i names) name ≡ true). is-new names i name distinct.1 there later)
-    (or_cases (bytes_eq name x) (has (take i names) name) old)
+    (λ (later : names_contain (take i names) name ≡ true). is-new names i name distinct.1 there later)
+    (or_cases (bytes_eq name x) (names_contain (take i names) name) old)
 
 module _ (names : List (List ℕ)) (i : ℕ) where
   stops : AreNames (take i names) → i < length names → ((j : ℕ) → i < j → ¬ AreNames (take j names)) → Stops names i
@@ -51,20 +51,20 @@ module _ (names : List (List ℕ)) (i : ℕ) where
     whole = λ are. after (length names) within (rw (take_all (length names) names (omega arith)) are);
   }
 
-  pub stops-name : IsFileNameFault names i → Stops names i
+  pub stops-name : IsNameFault names i → Stops names i
   stops-name fault =
       let name = fault.refused.0 in let there = fault.refused.1 in
       stops fault.before (slice_get_within names i name there)
       (λ j below are. fault.refused.2 (is-name (take j names) i name are (slice_get-take names i j below ∙ there)))
 
-  pub stops-twice : IsFileTwiceFault names i → Stops names i
+  pub stops-twice : IsTwiceFault names i → Stops names i
   stops-twice fault =
       let name = fault.refused.0 in let there = fault.refused.1 in
       stops fault.before (slice_get_within names i name there)
       (λ j below are. is-new (take j names) i name are.different (slice_get-take names i j below ∙ there)
       (rw (take-take i j names (omega arith)) fault.refused.2.1))
 
-  pub name-or-twice : (j : ℕ) → i ≡ j → IsFileNameFault names i → IsFileTwiceFault names j → ⊥
+  pub name-or-twice : (j : ℕ) → i ≡ j → IsNameFault names i → IsTwiceFault names j → ⊥
   name-or-twice j same bad old =
       let name : bad.refused.0 ≡ old.refused.0 =
       found-once (slice_get names j) bad.refused.0 old.refused.0 (rw same at bad.refused.1) old.refused.1 in

@@ -2,11 +2,11 @@
 --   each-none     an item that cannot be read leaves nothing
 --   shape-one     one shape at fault
 --   shape-none    no shape at fault where there is a content
-use Rattle.dg_file.proofs.Common.{◌≡◌, ℕ, zero, suc, ◌<◌, ◌⊎◌, inl, inr, Option, Some, None, refl, sym, ap, ◌∙◌, option_and_then, Data, Items, no_items, item, get_item, as_array, Content, JsonParts, HasJsonParts, IsContent, put_first_json, edge_in_json, edges_in_json, IsEdgeFault, IsShapeFaultOf, IsShapeFault, Shape, Top, Vertices, Edges, Edge, Amounts, Q}
+use Rattle.dg_file.proofs.Common.{◌≡◌, ℕ, zero, suc, ◌<◌, ◌⊎◌, inl, inr, Option, Some, None, refl, sym, ap, ◌∙◌, option_and_then, Data, Items, no_items, item, get_item, as_array, Content, MemberValues, HasMemberValues, IsContent, cons_some, edge_in_json, edges_in_json, IsEdgeFault, IsPartFault, IsShapeFault, Shape, Top, Vertices, Edges, Edge, Amounts, Q}
 use Rattle.dg_file.specs.Content.{each}
 use Rattle.dg_file.proofs.OneContent.{found-once, first-once, none-or-some, none-found, same-parts}
 
-nothing : {A : Type 0} (o : Option A) → put_first_json o None ≡ None
+nothing : {A : Type 0} (o : Option A) → cons_some o None ≡ None
 nothing None = refl
 nothing (Some a) = refl
 
@@ -16,9 +16,9 @@ unfolding each
 each-none read no_items i d there none = absurd (cc)
 each-none read (item first rest) zero d there none =
     let same : first ≡ d = cc in
-    ap (λ o. put_first_json o (each read rest)) (ap read same ∙ none)
+    ap (λ o. cons_some o (each read rest)) (ap read same ∙ none)
 each-none read (item first rest) (suc i) d there none =
-    ap (put_first_json (read first)) (each-none read rest i d there none)
+    ap (cons_some (read first)) (each-none read rest i d there none)
     ∙ nothing (read first)
 
 no-array : (value : Data) → as_array value ≡ None → edges_in_json value ≡ None
@@ -37,7 +37,7 @@ edge-before value i j a b before =
 edge-one : (value : Data) (i j : ℕ) → IsEdgeFault value i → IsEdgeFault value j → i ≡ j
 edge-one value i j a b = first-once i j (edge-before value i j a b) (edge-before value j i b a)
 
-of-one : (parts : JsonParts) (s t : Shape) → IsShapeFaultOf parts s → IsShapeFaultOf parts t → s ≡ t
+of-one : (parts : MemberValues) (s t : Shape) → IsPartFault parts s → IsPartFault parts t → s ≡ t
 of-one parts Top t a b = absurd a
 of-one parts s Top a b = absurd b
 of-one parts Vertices Vertices a b = refl
@@ -67,7 +67,7 @@ of-one parts Q Amounts a b = absurd (none-or-some _ a.2 b.2)
 of-one parts Q Q a b = refl
 
 abbrev AtParts : Data → Shape → Type 0
-AtParts value shape = (parts : JsonParts) × HasJsonParts value parts × IsShapeFaultOf parts shape
+AtParts value shape = (parts : MemberValues) × HasMemberValues value parts × IsPartFault parts shape
 
 kinds : (value : Data) (s : Shape) → IsShapeFault value s → (s ≡ Top) ⊎ AtParts value s
 kinds value Top fault = inl refl
@@ -77,7 +77,7 @@ kinds value (Edge i) fault = inr fault
 kinds value Amounts fault = inr fault
 kinds value Q fault = inr fault
 
-no-parts : (value : Data) (s : Shape) → s ≡ Top → IsShapeFault value s → (parts : JsonParts) → ¬ HasJsonParts value parts
+no-parts : (value : Data) (s : Shape) → s ≡ Top → IsShapeFault value s → (parts : MemberValues) → ¬ HasMemberValues value parts
 no-parts value s top fault = rw top at fault
 
 pub shape-one : (value : Data) (s t : Shape) → IsShapeFault value s → IsShapeFault value t → s ≡ t
@@ -95,7 +95,7 @@ shape-one value s t a b = elim (kinds value s a) [
 ]
 
 of-none : (value : Data) (content : Content) (says : IsContent value content) (s : Shape)
-    → IsShapeFaultOf says.parts s → ⊥
+    → IsPartFault says.parts s → ⊥
 of-none value content says Top fault = fault
 of-none value content says Vertices fault = none-found _ content.vertices says.vertices fault
 of-none value content says Edges fault = none-found _ content.edges says.edges (no-array says.parts.edges fault.1)

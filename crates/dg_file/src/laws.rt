@@ -1,6 +1,6 @@
 //! A law of table files, the contract of a function that no call needs.
 ghost use Rattle.std.specs.Prelude.{OnOk};
-ghost use Rattle.dg_file.specs.FileLaws.{FilesHaveOneMeaning, HasMeaning};
+ghost use Rattle.dg_file.specs.FileLaws.{FileMeaningIsUnique, HasMeaning};
 
 use crate::fault::FileFault;
 use crate::table_file::read_table;
@@ -10,9 +10,9 @@ use std::alloc::{AllocError, Global};
 /// aside. That these have one of them is shown by `read_table`, which finds it.
 ///
 /// Refused if there is not enough memory to read them; no bytes have two all the same.
-pub fn files_have_one_meaning(alloc: Global, bytes: &[u8]) -> Result<(), AllocError>
+pub fn file_meaning_is_unique(alloc: Global, bytes: &[u8]) -> Result<(), AllocError>
     ensures some { OnOk result (HasMeaning bytes.now) }
-    ensures one { FilesHaveOneMeaning }
+    ensures one { FileMeaningIsUnique }
 {
     match read_table(alloc, bytes) {
         Err(FileFault::OutOfMemory) => Err(AllocError),

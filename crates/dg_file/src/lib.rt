@@ -8,5 +8,5 @@ mod table_file;
 
 pub use dg_tokens::Names;
 pub use fault::{FileFault, Shape};
-pub use laws::files_have_one_meaning;
+pub use laws::file_meaning_is_unique;
 pub use table_file::{TableFile, read_table};

@@ -2,9 +2,9 @@
 ghost use Rattle.std.specs.Prelude.{◌≡◌, ◌<◌, Some, IfOk, IfErr, MatchOption, map, option_map};
 ghost use Rattle.serde_json.specs.Data.{array};
 ghost use Rattle.serde_json.specs.View.{view, items_view};
-ghost use Rattle.dg_file.specs.Content.{JsonParts, HasJsonParts, ReadsJson, IsNotJson, IsContent, texts_in_json, numbers_in_json, edges_in_json, edge_in_json, edge_count_in_json};
+ghost use Rattle.dg_file.specs.Content.{MemberValues, HasMemberValues, ReadsJson, IsNotJson, IsContent, texts_in_json, numbers_in_json, edges_in_json, edge_in_json, count_in_json};
 ghost use Rattle.dg_file.specs.FileFaults.{IsEdgeFault};
-ghost use Rattle.dg_file.specs.Reading.{json_parts_of, RefusesShape};
+ghost use Rattle.dg_file.specs.Reading.{member_values, RefusesShape};
 
 use crate::fault::{FileFault, Shape};
 use serde_json::Value;
@@ -146,8 +146,8 @@ struct Members<'v> {
 }
 
 fn members_from_json(value: &Value) -> Option<Members<'_>>
-    ensures { MatchOption result ((parts : JsonParts) → ¬ HasJsonParts (view value.now) parts)
-        (λ members. HasJsonParts (view value.now) (json_parts_of members)) }
+    ensures { MatchOption result ((parts : MemberValues) → ¬ HasMemberValues (view value.now) parts)
+        (λ members. HasMemberValues (view value.now) (member_values members)) }
 {
     let has_four = value.as_object()?.len() == 4;
     if !has_four {
@@ -191,7 +191,7 @@ fn edges_from_json<'v>(
 {
     let mut edges = Vec::new(alloc);
     for (i, item) in items.iter().enumerate() {
-        let Some(edge) = edge_of_json(item) else {
+        let Some(edge) = edge_from_json(item) else {
             return Ok(Err(i));
         };
         edges.push(edge)?;
@@ -199,7 +199,7 @@ fn edges_from_json<'v>(
     Ok(Ok(edges))
 }
 
-fn edge_of_json(value: &Value) -> Option<FileEdge<'_>>
+fn edge_from_json(value: &Value) -> Option<FileEdge<'_>>
     ensures { result ≡ edge_in_json (view value.now) }
 {
     let items = value.as_array()?;
@@ -210,12 +210,12 @@ fn edge_of_json(value: &Value) -> Option<FileEdge<'_>>
     Some(FileEdge {
         one: one.as_str()?,
         other: other.as_str()?,
-        count: edge_count_from_json(count)?,
+        count: count_from_json(count)?,
     })
 }
 
-fn edge_count_from_json(value: &Value) -> Option<u8>
-    ensures { result ≡ edge_count_in_json (view value.now) }
+fn count_from_json(value: &Value) -> Option<u8>
+    ensures { result ≡ count_in_json (view value.now) }
 {
     u8::try_from(value.as_i64()?).ok()
 }

@@ -5,10 +5,10 @@ pub use Rattle.dg_rules.proofs.ListLaws.{more_holds}
 pub use Rattle.dg_rules.proofs.LookLaws.{look_fits, look_kept, look_new, look_vertices}
 pub use Rattle.dg_rules.proofs.StateLaws.{right_in}
 pub use Rattle.dg_rules.proofs.StepLaw.{vertices_stay}
-pub use Rattle.dg_rules.specs.Legal.{IsLegal, IsSeatInGame}
+pub use Rattle.dg_rules.specs.Legal.{IsLegal, IsSeatNumber}
 pub use Rattle.dg_rules.specs.Look.{IsLookAt}
-pub use Rattle.dg_rules.specs.Requests.{asked}
-pub use Rattle.dg_rules.specs.State.{HistoryLeadsTo, GameState}
+pub use Rattle.dg_rules.specs.Requests.{call_request}
+pub use Rattle.dg_rules.specs.State.{LeadsTo, GameState}
 pub use Rattle.dg_rules.specs.declared.entry.Entry.{Entry}
 pub use Rattle.dg_rules.specs.declared.entry.Plain.{Plain}
 pub use Rattle.dg_rules.specs.declared.game.TheConstants.{MAX_ENTRIES}
@@ -16,10 +16,10 @@ pub use Rattle.dg_rules.specs.declared.look.LookData.{LookData}
 pub use Rattle.dg_rules.specs.declared.step.Command.{Command}
 pub use Rattle.dg_rules.specs.declared.step.Command.TheVariants.{Call, Commit, Rank}
 pub use Rattle.dg_rules.specs.declared.step.Step.{Step}
-pub use Rattle.dg_rank.specs.Limits.{ArePastTrialLimits}
-pub use Rattle.dg_game.specs.Rehearsal.{IsPlayingSchedule, RehearsalKeepsLook, PlaysScheduleOn, StopsSchedule}
-pub use Rattle.dg_game.specs.Schedule.{IsScheduleGoodBefore, HasScheduleLook, ScheduleHasTrials, IsAskedInSchedule, IsEntryOfSchedule, IsGoodScheduleStep, IsKeptInSchedule, StepUsesKeptLook, UsesUpKeptLook}
-pub use Rattle.dg_game.specs.ScheduleFaults.{IsFirstRehearsalFault}
+pub use Rattle.dg_rank.specs.Limits.{IsPastLimits}
+pub use Rattle.dg_game.specs.Rehearsal.{IsRehearsalAfter, KeepsLook, PlaysStep, RefusesStep}
+pub use Rattle.dg_game.specs.Schedule.{AreGoodBefore, HasLook, HasTrials, IsStepRequest, IsStepEntry, IsGoodStep, KeepsLookAt, ChangesKeptLook, UsesUpLook}
+pub use Rattle.dg_game.specs.ScheduleFaults.{IsRehearsalFault}
 pub use Rattle.dg_game.specs.declared.schedule.Rehearsal.{Rehearsal}
 pub use Rattle.dg_game.specs.declared.schedule.RehearseFault.{RehearseFault}
 pub use Rattle.dg_game.specs.declared.schedule.RehearseFault.TheVariants.{TooMany}

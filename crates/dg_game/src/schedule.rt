@@ -1,23 +1,23 @@
 //! Schedules: their steps are played one after another.
 ghost use Rattle.std.specs.Prelude.{◌≡◌, ◌≢◌, ℕ, ◌<◌, ◌≤◌, List, [], ◌∷◌, ◌++◌, length, slice_get, Some, MatchResult, MatchOption, OnErr, None};
 ghost use Rattle.dg_chips.specs.Starts.{StartData};
-ghost use Rattle.dg_rules.specs.Legal.{IsSeatInGame};
+ghost use Rattle.dg_rules.specs.Legal.{IsSeatNumber};
 ghost use Rattle.dg_rules.specs.Look.{IsRightFinding, request_for_finding, request_for_question};
-ghost use Rattle.dg_game.specs.Schedule.{UsesUpKeptLook, IsKeptInSchedule, IsAskedInSchedule, ScheduleHasTrials, IsRehearsal};
-ghost use Rattle.dg_game.specs.ScheduleFaults.{IsFirstRehearsalFault};
-ghost use Rattle.dg_game.specs.Rehearsal.{RehearsalKeepsLook, IsPlayingSchedule, IsRehearsalInPlay, PlaysScheduleOn, StopsSchedule};
+ghost use Rattle.dg_game.specs.Schedule.{UsesUpLook, KeepsLookAt, IsStepRequest, HasTrials, IsRehearsal};
+ghost use Rattle.dg_game.specs.ScheduleFaults.{IsRehearsalFault};
+ghost use Rattle.dg_game.specs.Rehearsal.{KeepsLook, IsRehearsalAfter, IsRehearsalState, PlaysStep, RefusesStep};
 ghost use Rattle.dg_rules.specs.declared.entry.Entry.{Entry};
 ghost use Rattle.dg_rules.specs.declared.step.Command.{Command};
 ghost use Rattle.dg_rules.specs.declared.step.Step.{Step};
 ghost use Rattle.dg_rules.specs.declared.step.Command.TheVariants.{Call, Commit, Rank};
 
-use crate::ranking::rank_look_of_schedule;
+use crate::ranking::rank_look;
 use dg_chips::Start;
 use dg_rank::{RankFault, trials};
 use dg_reduce::InverseLaplacian;
 use dg_rules::{
     BLANK, Command, Entry, Finding, Game, LookData, MAX_ENTRIES, MAX_SEATS, Plain, Question, Step,
-    finding_of_verdict, renew_game_inverse,
+    judge_look, renew_inverse,
 };
 use std::alloc::Allocator;
 use thiserror::Error;
@@ -69,7 +69,7 @@ pub fn rehearse<A: Allocator + Drop>(
 ) -> Result<Vec<Entry, A>, RehearseFault>
     ensures { MatchResult result
         (λ history. IsRehearsal start.now steps.now history.items)
-        (IsFirstRehearsalFault start.now.graph.size steps.now) }
+        (IsRehearsalFault start.now.graph.size steps.now) }
 {
     let Ok(mut history) = Vec::with_capacity(alloc, steps.len().min(MAX_ENTRIES)) else {
         return Err(RehearseFault::OutOfMemory);
@@ -86,7 +86,7 @@ pub fn rehearse<A: Allocator + Drop>(
 impl Rehearsal {
     /// The schedule before its first step.
     pub fn new(start: &Start) -> Rehearsal
-        ensures { (steps : List Step) → IsPlayingSchedule start.now steps [] result }
+        ensures { (steps : List Step) → IsRehearsalAfter start.now steps [] result }
     {
         let q = start.q();
         Rehearsal {
@@ -102,14 +102,14 @@ impl Rehearsal {
     ///
     /// Refused with `Seat`, `Full`, `NoLook` or `TooMany` as `rehearse` refuses the step; then nothing has changed.
     pub fn play(&mut self, step: &Step, entry: &mut Entry) -> Result<(), RehearseFault>
-        requires { IsRehearsalInPlay self.old }
+        requires { IsRehearsalState self.old }
         ensures plays { MatchResult result
-            (λ _. (self.old.game.entries < MAX_ENTRIES) × PlaysScheduleOn self.old step.now entry.new self.new)
-            (StopsSchedule self.old step.now) }
+            (λ _. (self.old.game.entries < MAX_ENTRIES) × PlaysStep self.old step.now entry.new self.new)
+            (RefusesStep self.old step.now) }
         ensures same { OnErr result ((self.new ≡ self.old) × (entry.new ≡ entry.old)) }
     {
         let seat = step.seat;
-        if let Some(fault) = self.seat_barred_from_schedule(seat) {
+        if let Some(fault) = self.seat_fault(seat) {
             return Err(fault);
         }
         match &step.command {
@@ -123,12 +123,12 @@ impl Rehearsal {
     }
 
     /// Why the seat can have no step next, whatever its command.
-    fn seat_barred_from_schedule(&self, seat: u8) -> Option<RehearseFault>
-        requires { IsRehearsalInPlay self.now }
+    fn seat_fault(&self, seat: u8) -> Option<RehearseFault>
+        requires { IsRehearsalState self.now }
         ensures { MatchOption result
-            (IsSeatInGame seat × (self.now.game.entries < MAX_ENTRIES))
+            (IsSeatNumber seat × (self.now.game.entries < MAX_ENTRIES))
             (λ fault. (c : Command) →
-            StopsSchedule self.now (record { seat = seat; command = c }) fault) }
+            RefusesStep self.now (record { seat = seat; command = c }) fault) }
     {
         let i = self.game.entries() as usize;
         if seat < 1 || seat > MAX_SEATS {
@@ -142,26 +142,26 @@ impl Rehearsal {
 
     /// Answers a seat's call, and writes its entry; a look is kept for the seat.
     fn call(&mut self, seat: u8, plain: &Plain, entry: &mut Entry)
-        requires playing { IsRehearsalInPlay self.old }
+        requires playing { IsRehearsalState self.old }
         requires room { self.old.game.entries < MAX_ENTRIES }
-        requires seat { IsSeatInGame seat }
-        ensures { PlaysScheduleOn self.old (record { seat = seat; command = Call plain.now }) entry.new self.new }
+        requires seat { IsSeatNumber seat }
+        ensures { PlaysStep self.old (record { seat = seat; command = Call plain.now }) entry.new self.new }
     {
         if let Plain::Look = plain {
             self.looks[usize::from(seat)] = Some(self.game.look_data());
         }
         self.game.reply_to_call(seat, plain, entry);
-        self.game.follow_entry(entry);
+        self.game.follow(entry);
     }
 
     /// Enters the verdict on the look that a seat keeps, which is used up; or why it can't be entered.
     fn commit(&mut self, seat: u8, entry: &mut Entry) -> Result<(), RehearseFault>
-        requires playing { IsRehearsalInPlay self.old }
+        requires playing { IsRehearsalState self.old }
         requires room { self.old.game.entries < MAX_ENTRIES }
-        requires seat { IsSeatInGame seat }
+        requires seat { IsSeatNumber seat }
         ensures plays { MatchResult result
-            (λ _. PlaysScheduleOn self.old (record { seat = seat; command = Commit }) entry.new self.new)
-            (StopsSchedule self.old (record { seat = seat; command = Commit })) }
+            (λ _. PlaysStep self.old (record { seat = seat; command = Commit }) entry.new self.new)
+            (RefusesStep self.old (record { seat = seat; command = Commit })) }
         ensures same { OnErr result ((self.new ≡ self.old) × (entry.new ≡ entry.old)) }
     {
         let i = self.game.entries() as usize;
@@ -169,24 +169,24 @@ impl Rehearsal {
             return Err(RehearseFault::NoLook(i));
         };
         if look.gifts != self.game.gifts() {
-            self.enter_stale_in_rehearsal(seat, &look, &Question::Judge, entry);
+            self.enter_stale(seat, &look, &Question::Judge, entry);
             return Ok(());
         }
         let q = self.q();
-        renew_game_inverse(&mut self.inverse, q, &look);
-        let finding = finding_of_verdict(&self.inverse, q, &look);
-        self.enter_finding_in_rehearsal(seat, &look, &finding, entry);
+        renew_inverse(&mut self.inverse, q, &look);
+        let finding = judge_look(&self.inverse, q, &look);
+        self.enter_finding(seat, &look, &finding, entry);
         Ok(())
     }
 
     /// Enters the rank test of degree k on the look that a seat keeps, which is used up; or why it can't be entered.
     fn rank(&mut self, seat: u8, k: u32, entry: &mut Entry) -> Result<(), RehearseFault>
-        requires playing { IsRehearsalInPlay self.old }
+        requires playing { IsRehearsalState self.old }
         requires room { self.old.game.entries < MAX_ENTRIES }
-        requires seat { IsSeatInGame seat }
+        requires seat { IsSeatNumber seat }
         ensures plays { MatchResult result
-            (λ _. PlaysScheduleOn self.old (record { seat = seat; command = Rank k }) entry.new self.new)
-            (StopsSchedule self.old (record { seat = seat; command = Rank k })) }
+            (λ _. PlaysStep self.old (record { seat = seat; command = Rank k }) entry.new self.new)
+            (RefusesStep self.old (record { seat = seat; command = Rank k })) }
         ensures same { OnErr result ((self.new ≡ self.old) × (entry.new ≡ entry.old)) }
     {
         let i = self.game.entries() as usize;
@@ -196,19 +196,19 @@ impl Rehearsal {
         if look.gifts != self.game.gifts()
             && let Some(_) = trials(look.graph.size(), k)
         {
-            self.enter_stale_in_rehearsal(seat, &look, &Question::Rank(k), entry);
+            self.enter_stale(seat, &look, &Question::Rank(k), entry);
             return Ok(());
         }
-        let Ok(finding) = rank_look_of_schedule(self.q(), &look, k) else {
+        let Ok(finding) = rank_look(self.q(), &look, k) else {
             return Err(RehearseFault::TooMany(i));
         };
-        self.enter_finding_in_rehearsal(seat, &look, &finding, entry);
+        self.enter_finding(seat, &look, &finding, entry);
         Ok(())
     }
 
     /// The vertex from which verdicts are computed, which is that of the game.
     fn q(&self) -> usize
-        requires { IsRehearsalInPlay self.now }
+        requires { IsRehearsalState self.now }
         ensures q { result ≡ self.now.game.q }
         ensures vertex { result < self.now.game.graph.size }
     {
@@ -218,62 +218,50 @@ impl Rehearsal {
 
     /// The look that a seat keeps, if it keeps one.
     fn kept_look(&self, seat: u8) -> Option<LookData>
-        requires playing { IsRehearsalInPlay self.now }
-        requires seat { IsSeatInGame seat }
+        requires playing { IsRehearsalState self.now }
+        requires seat { IsSeatNumber seat }
         ensures { (o : StartData) (H : List Entry) (steps : List Step) →
-            IsPlayingSchedule o steps H self.now → RehearsalKeepsLook o H steps seat result }
+            IsRehearsalAfter o steps H self.now → KeepsLook o H steps seat result }
     {
         self.looks[usize::from(seat)]
     }
 
     /// Enters what was computed on the look that a seat keeps, writes the entry, and uses the look up.
     #[inline(always)]
-    fn enter_finding_in_rehearsal(
-        &mut self,
-        seat: u8,
-        look: &LookData,
-        finding: &Finding,
-        entry: &mut Entry,
-    )
+    fn enter_finding(&mut self, seat: u8, look: &LookData, finding: &Finding, entry: &mut Entry)
         requires playing { (o : StartData) × (H : List Entry) × (steps : List Step) ×
-            IsPlayingSchedule o steps H self.old × RehearsalKeepsLook o H steps seat (Some look.now) }
+            IsRehearsalAfter o steps H self.old × KeepsLook o H steps seat (Some look.now) }
         requires found { IsRightFinding self.old.game.q look.now finding.now }
         requires room { self.old.game.entries < MAX_ENTRIES }
-        requires seat { IsSeatInGame seat }
+        requires seat { IsSeatNumber seat }
         ensures { (o : StartData) (H : List Entry) (steps : List Step) (c : Command) →
-            IsPlayingSchedule o steps H self.old → RehearsalKeepsLook o H steps seat (Some look.now) →
+            IsRehearsalAfter o steps H self.old → KeepsLook o H steps seat (Some look.now) →
             slice_get steps (length H) ≡ Some (record { seat = seat; command = c }) →
-            UsesUpKeptLook c → ScheduleHasTrials o.graph.size c →
-            IsAskedInSchedule steps seat (length H) c (request_for_finding look.now.number finding.now) →
-            IsPlayingSchedule o steps (H ++ entry.new ∷ []) self.new }
+            UsesUpLook c → HasTrials o.graph.size c →
+            IsStepRequest steps seat (length H) c (request_for_finding look.now.number finding.now) →
+            IsRehearsalAfter o steps (H ++ entry.new ∷ []) self.new }
     {
         self.game.reply_to_finding(seat, look, finding, entry);
-        self.game.follow_entry(entry);
+        self.game.follow(entry);
         self.looks[usize::from(seat)] = None;
     }
 
     /// Enters a question as stale, on the look that a seat keeps, writes the entry, and uses the look up.
-    fn enter_stale_in_rehearsal(
-        &mut self,
-        seat: u8,
-        look: &LookData,
-        asks: &Question,
-        entry: &mut Entry,
-    )
+    fn enter_stale(&mut self, seat: u8, look: &LookData, asks: &Question, entry: &mut Entry)
         requires playing { (o : StartData) × (H : List Entry) × (steps : List Step) ×
-            IsPlayingSchedule o steps H self.old × RehearsalKeepsLook o H steps seat (Some look.now) }
+            IsRehearsalAfter o steps H self.old × KeepsLook o H steps seat (Some look.now) }
         requires stale { look.now.gifts ≢ self.old.game.gifts }
         requires room { self.old.game.entries < MAX_ENTRIES }
-        requires seat { IsSeatInGame seat }
+        requires seat { IsSeatNumber seat }
         ensures { (o : StartData) (H : List Entry) (steps : List Step) (c : Command) →
-            IsPlayingSchedule o steps H self.old → RehearsalKeepsLook o H steps seat (Some look.now) →
+            IsRehearsalAfter o steps H self.old → KeepsLook o H steps seat (Some look.now) →
             slice_get steps (length H) ≡ Some (record { seat = seat; command = c }) →
-            UsesUpKeptLook c → ScheduleHasTrials o.graph.size c →
-            IsAskedInSchedule steps seat (length H) c (request_for_question look.now.number asks.now) →
-            IsPlayingSchedule o steps (H ++ entry.new ∷ []) self.new }
+            UsesUpLook c → HasTrials o.graph.size c →
+            IsStepRequest steps seat (length H) c (request_for_question look.now.number asks.now) →
+            IsRehearsalAfter o steps (H ++ entry.new ∷ []) self.new }
     {
-        self.game.reply_as_stale(seat, look, asks, entry);
-        self.game.follow_entry(entry);
+        self.game.reply_stale(seat, look, asks, entry);
+        self.game.follow(entry);
         let place = usize::from(seat);
         self.looks[place] = None;
     }

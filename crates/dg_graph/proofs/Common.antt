@@ -1,20 +1,20 @@
 -- The names that the proofs of this crate cite, passed on from one place. Declares nothing.
-pub use Rattle.dg_graph.specs.Faults.{IsFirstHighValence, IsPartedGraph, IsSize}
-pub use Rattle.dg_graph.specs.Graph.{IsGraph, HasGraphRows}
-pub use Rattle.dg_graph.specs.Items.{IsGraphItem, AreGraphItems, AreGraphItemsBefore, GraphItem, edges_of_graph_item}
+pub use Rattle.dg_graph.specs.Faults.{IsFirstHighValence, IsDisconnected, IsSize}
+pub use Rattle.dg_graph.specs.Graph.{IsGraph, HasSixteenRows}
+pub use Rattle.dg_graph.specs.Items.{IsEdgeItem, AreEdgeItems, AreItemsBefore, EdgeItem, item_edges}
 pub use Rattle.dg_graph.specs.Joins.{IsJoinable}
-pub use Rattle.dg_graph.specs.Search.{IsApart, IsInSetOrApart, IsJoinedInGraph, IsNextTo, is_in}
-pub use Rattle.dg_graph.specs.Sets.{IsLeastInSet}
+pub use Rattle.dg_graph.specs.Search.{HasUnreachable, IsInOrNotAdjacent, IsPairwiseConnected, IsAdjacentTo, is_in}
+pub use Rattle.dg_graph.specs.Sets.{IsLeastIn}
 pub use Rattle.dg_theory.specs.Sets.{IsSetWith, IsSetWithout}
-pub use Rattle.dg_theory.proofs.Chains.{JoinedInMultigraph-append, JoinedInMultigraph-cong, JoinedInMultigraph-reverse, JoinedInMultigraph-stays}
+pub use Rattle.dg_theory.proofs.Chains.{IsConnectedTo-append, IsConnectedTo-cong, IsConnectedTo-reverse, IsConnectedTo-stays}
 pub use Rattle.dg_theory.proofs.Debts.{into-le-valence, out-le-valence}
-pub use Rattle.dg_theory.proofs.JoinLaws.{edge_entry_more-row, joined_is_multigraph, size_stays, valence_grows}
-pub use Rattle.dg_theory.proofs.TotalLaws.{total_below-cong, total_below-le, total_below-term}
+pub use Rattle.dg_theory.proofs.JoinLaws.{table_with_edge-row, joined_is_multigraph, size_stays, valence_grows}
+pub use Rattle.dg_theory.proofs.TotalLaws.{nat_sum_below-cong, nat_sum_below-le, nat_sum_below-term}
 pub use Rattle.dg_theory.specs.Burning.{edges_into}
-pub use Rattle.dg_theory.specs.Joins.{at_either, edge_entry_more, one_edge_more}
-pub use Rattle.dg_theory.specs.Multigraph.{JoinedInMultigraph, Multigraph, along, edges_between, here, valence}
+pub use Rattle.dg_theory.specs.Joins.{endpoint_indicator, table_with_edge, row_with_edge}
+pub use Rattle.dg_theory.specs.Multigraph.{IsConnectedTo, Multigraph, along, edges_between, here, valence}
 pub use Rattle.dg_theory.specs.Reduced.{edges_out}
-pub use Rattle.dg_theory.specs.Sums.{total_below}
+pub use Rattle.dg_theory.specs.Sums.{nat_sum_below}
 pub use Rattle.std.proofs.Common.{Bool, List, MatchBool, Some, [], ap, ap₂, arith, bit_and, bit_or, cond, count_by, ext_get_or, false, get_or, inl, inr, length, length-set, min, nat_eq, not, refl, replicate, rules, set, slice_get, subst, suc, sum_by, sym, take, true, w16, zero, ℕ, ⊎_elim, ◌%◌, ◌&&◌, ◌*◌, ◌+◌, ◌-◌, ◌/◌, ◌<◌, ◌==◌, ◌^◌, ◌||◌, ◌∙◌, ◌∷◌, ◌≡◌, ◌≢◌, ◌≤◌}
 pub use Rattle.std.proofs.Math.IntN.{pos, ◌+ℤ◌, ◌-ℤ◌}
 pub use Rattle.std.proofs.lemmas.Bool.{cases_Bool, cases_eq, cases_lt, eqb-false, eqb-true, false≢true, le-ltb, lt-ltb}

@@ -7,7 +7,7 @@
 --   without_bit       a number without one bit that is set, which is turned
 --   least_bit         the lowest bit of a number that is not 0
 --   complement_bits   the bits below n that are not set, as a mask of n ones picks them
-use Rattle.dg_graph.proofs.Common.{◌≡◌, ◌≢◌, ℕ, zero, suc, ◌+◌, ◌-◌, ◌*◌, ◌/◌, ◌%◌, ◌^◌, ◌<◌, ◌≤◌, true, false, not, ◌&&◌, nat_eq, min, arith, refl, ap, ap₂, sym, ◌∙◌, inl, inr, bit_and, bit_or, w16, nat_lt, bit_at, bit_not, bit_xor, trailing_zeros, cases_lt, lt-ltb, le-ltb, eqb-false, eqb-true, one_shl, bit_at_xor, bit_at-pow_same, bit_at-pow_other, bit_at-trailing_zeros, bit_at-zero, bit_at-lt, same_from_bits, bit_at_set_same, bit_at_set_other, bit_at_and, bit_at_not, bit_at_above, bit_at_ones, bit_at_ones_above, ones_shr, IsSetWith, IsSetWithout, IsLeastInSet}
+use Rattle.dg_graph.proofs.Common.{◌≡◌, ◌≢◌, ℕ, zero, suc, ◌+◌, ◌-◌, ◌*◌, ◌/◌, ◌%◌, ◌^◌, ◌<◌, ◌≤◌, true, false, not, ◌&&◌, nat_eq, min, arith, refl, ap, ap₂, sym, ◌∙◌, inl, inr, bit_and, bit_or, w16, nat_lt, bit_at, bit_not, bit_xor, trailing_zeros, cases_lt, lt-ltb, le-ltb, eqb-false, eqb-true, one_shl, bit_at_xor, bit_at-pow_same, bit_at-pow_other, bit_at-trailing_zeros, bit_at-zero, bit_at-lt, same_from_bits, bit_at_set_same, bit_at_set_other, bit_at_and, bit_at_not, bit_at_above, bit_at_ones, bit_at_ones_above, ones_shr, IsSetWith, IsSetWithout, IsLeastIn}
 use Rattle.dg_graph.specs.Sets.{in_set}
 
 pub in_set_below : (set v : ℕ) → set < 2 ^ 16 → in_set set v ≡ true → v < 16
@@ -95,7 +95,7 @@ without_bit set v few member = record {
       ∙ sym (ap (λ m. nat_eq (bit_at (bit_xor set m) w) 1) (one_shl v 16 few));
 }
 
-pub least_bit : (set : ℕ) → 0 < set → set < 2 ^ 16 → IsLeastInSet (in_set set) (trailing_zeros w16 set)
+pub least_bit : (set : ℕ) → 0 < set → set < 2 ^ 16 → IsLeastIn (in_set set) (trailing_zeros w16 set)
 unfolding in_set
 least_bit set some few =
     let least = bit_at-trailing_zeros w16 set some few in

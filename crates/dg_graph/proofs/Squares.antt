@@ -3,17 +3,17 @@
 --   set_square   a row of 16 numbers may be put into one
 --   one_table    it is told by its numbers,
 --   one_graph    and so a graph by its size and its edges
-use Rattle.dg_graph.proofs.Common.{◌≡◌, ◌≢◌, ℕ, ◌<◌, List, [], length, set, arith, refl, sym, ◌∙◌, ⊎_elim, cases_eq, ext_get_or, length-set, get_or-set_same, get_or-set_other, get_or-replicate, replicate, ap, slice_index_or, Multigraph, edges_between, IsGraph, HasGraphRows}
+use Rattle.dg_graph.proofs.Common.{◌≡◌, ◌≢◌, ℕ, ◌<◌, List, [], length, set, arith, refl, sym, ◌∙◌, ⊎_elim, cases_eq, ext_get_or, length-set, get_or-set_same, get_or-set_other, get_or-replicate, replicate, ap, slice_index_or, Multigraph, edges_between, IsGraph, HasSixteenRows}
 use Rattle.dg_theory.specs.Multigraph.{entry}
 
-pub none_square : HasGraphRows (replicate 16 (replicate 16 0))
+pub none_square : HasSixteenRows (replicate 16 (replicate 16 0))
 none_square = record {
   rows = refl;
   places = λ v below. ap length (get_or-replicate 16 v (replicate 16 0) [] below);
 }
 
-pub set_square : (table : List (List ℕ)) (u : ℕ) (row : List ℕ) → u < 16 → length row ≡ 16 → HasGraphRows table →
-    HasGraphRows (set table u row)
+pub set_square : (table : List (List ℕ)) (u : ℕ) (row : List ℕ) → u < 16 → length row ≡ 16 → HasSixteenRows table →
+    HasSixteenRows (set table u row)
 set_square table u row below long square =
     let inside : u < length table = omega (arith, square.rows) in
     record {
@@ -24,7 +24,7 @@ set_square table u row below long square =
           (cases_eq w u);
     }
 
-pub one_table : (t s : List (List ℕ)) → HasGraphRows t → HasGraphRows s → ((u v : ℕ) → entry t u v ≡ entry s u v) → t ≡ s
+pub one_table : (t s : List (List ℕ)) → HasSixteenRows t → HasSixteenRows s → ((u v : ℕ) → entry t u v ≡ entry s u v) → t ≡ s
 unfolding entry
 one_table t s square other same = ext_get_or [] t s (square.rows ∙ sym other.rows) (λ u below.
     let row : u < 16 = omega (arith, square.rows) in

@@ -4,13 +4,13 @@
 --   valences_of-at    what is kept at a place
 --   valences_of-all   and past the places too
 --   filled-more       a list that is filled in one place after another
-use Rattle.dg_graph.proofs.Common.{◌≡◌, ℕ, zero, suc, ◌+◌, ◌<◌, ◌≤◌, List, length, set, arith, refl, sym, ◌∙◌, ⊎_elim, slice_index, cases_lt, cases_eq, get_or-set_same, get_or-set_other, get_or_past, get_or-map-range_with_len, total_below, Multigraph, valence, edges_between, IsGraph}
+use Rattle.dg_graph.proofs.Common.{◌≡◌, ℕ, zero, suc, ◌+◌, ◌<◌, ◌≤◌, List, length, set, arith, refl, sym, ◌∙◌, ⊎_elim, slice_index, cases_lt, cases_eq, get_or-set_same, get_or-set_other, get_or_past, get_or-map-range_with_len, nat_sum_below, Multigraph, valence, edges_between, IsGraph}
 use Rattle.dg_graph.specs.Valences.{valences_of}
 
-none_below : (n : ℕ) (f : ℕ → ℕ) → ((w : ℕ) → f w ≡ 0) → total_below n f ≡ 0
+none_below : (n : ℕ) (f : ℕ → ℕ) → ((w : ℕ) → f w ≡ 0) → nat_sum_below n f ≡ 0
 none_below zero f none = refl
 none_below (suc n) f none =
-    let before : total_below n f ≡ 0 = none_below n f none in
+    let before : nat_sum_below n f ≡ 0 = none_below n f none in
     let last : f n ≡ 0 = none n in
     omega arith
 

@@ -1,7 +1,7 @@
 -- When one more edge may be put between two vertices, and why it is refused: each case says that no
 -- earlier one applies.
---   IsJoinable g u v             == u and v are two vertices of g, and fewer than 63 edges meet at each
---   RefusesGraphJoin g u v fault == an edge more between u and v is refused with this fault
+--   IsJoinable g u v        == u and v are two vertices of g, and fewer than 63 edges meet at each
+--   IsJoinFault g u v fault == an edge more between u and v is refused with this fault
 use Rattle.std.specs.Prelude.{◌≡◌, ◌≢◌, ℕ, ◌<◌, ◌≤◌, ◌⊎◌}
 use Rattle.dg_theory.specs.Multigraph.{Multigraph, valence}
 use Rattle.dg_graph.specs.declared.limits.TheConstants.{MAX_VALENCE}
@@ -15,9 +15,9 @@ pub record IsJoinable (g : Multigraph) (u v : ℕ) : Type 0 where
   pub first_room : valence g u < MAX_VALENCE
   pub second_room : valence g v < MAX_VALENCE
 
-abbrev pub RefusesGraphJoin : Multigraph → ℕ → ℕ → JoinFault → Type 0
-RefusesGraphJoin g u v NoVertex = (g.size ≤ u) ⊎ (g.size ≤ v)
-RefusesGraphJoin g u v Loop = (u < g.size) × (u ≡ v)
-RefusesGraphJoin g u v Valence =
+abbrev pub IsJoinFault : Multigraph → ℕ → ℕ → JoinFault → Type 0
+IsJoinFault g u v NoVertex = (g.size ≤ u) ⊎ (g.size ≤ v)
+IsJoinFault g u v Loop = (u < g.size) × (u ≡ v)
+IsJoinFault g u v Valence =
     (u < g.size) × (v < g.size) × (u ≢ v) ×
     ((MAX_VALENCE ≤ valence g u) ⊎ (MAX_VALENCE ≤ valence g v))

@@ -5,15 +5,15 @@ ghost use Rattle.dg_graph.specs.declared.limits.TheConstants.{MAX_VALENCE};
 ghost use Rattle.dg_theory.specs.Multigraph.{edges_between, valence, genus};
 ghost use Rattle.dg_theory.specs.Joins.{with_edge};
 ghost use Rattle.dg_graph.specs.Graph.{IsGraph};
-ghost use Rattle.dg_graph.specs.Items.{IsGiven};
-ghost use Rattle.dg_graph.specs.Faults.{IsFirstGraphFault};
-ghost use Rattle.dg_graph.specs.Joins.{IsJoinable, RefusesGraphJoin};
+ghost use Rattle.dg_graph.specs.Items.{IsGraphOf};
+ghost use Rattle.dg_graph.specs.Faults.{IsGraphFault};
+ghost use Rattle.dg_graph.specs.Joins.{IsJoinable, IsJoinFault};
 
-use crate::build::{edge_table_of, first_graph_item_fault};
+use crate::build::{edge_table, first_item_fault};
 use crate::connected::is_connected;
 use crate::fault::{GraphFault, JoinFault};
 use crate::limits::{MAX_VALENCE, MAX_VERTICES};
-use crate::table::{Table, edge_count, first_high_valence, valences_of, with_one_more};
+use crate::table::{Table, edge_count, first_high_valence, plus_edge, valences_of};
 use std::marker::Model;
 
 /// A finite connected multigraph without loops: 1 to 16 vertices, numbered from 0, and at most 63 edges at each.
@@ -30,11 +30,11 @@ impl Model for Graph {
     ghost Value = { Multigraph };
 
     ghost use Rattle.std.proofs.Common.{sym};
-    ghost use Rattle.dg_graph.specs.Valences.{valences_of, IsGraphWith};
+    ghost use Rattle.dg_graph.specs.Valences.{valences_of, HasValences};
 
     ghost view = { λ a. record { size = a.size; table = a.table } };
 
-    ghost invariant = { λ a. IsGraphWith (record { size = a.size; table = a.table }) a.valences };
+    ghost invariant = { λ a. HasValences (record { size = a.size; table = a.table }) a.valences };
 
     ghost inverse = { λ g. record { size = g.size; table = g.table; valences = valences_of g } };
 
@@ -49,15 +49,15 @@ impl Graph {
     /// The first fault is reported: `Size`; then item by item `NoVertex`, `Loop`, `Multiplicity`; then `Valence` for
     /// the least vertex with more than 63 edges; then `NotConnected`.
     pub fn new(size: usize, items: &[(u8, u8, u8)]) -> Result<Graph, GraphFault>
-        ensures { MatchResult result (IsGiven size items.now) (IsFirstGraphFault size items.now) }
+        ensures { MatchResult result (IsGraphOf size items.now) (IsGraphFault size items.now) }
     {
         if size == 0 || size > MAX_VERTICES {
             return Err(GraphFault::Size);
         }
-        if let Some(fault) = first_graph_item_fault(size, items) {
+        if let Some(fault) = first_item_fault(size, items) {
             return Err(fault);
         }
-        let table = edge_table_of(size, items);
+        let table = edge_table(size, items);
         if let Some(v) = first_high_valence(size, &table) {
             return Err(GraphFault::Valence(v));
         }
@@ -79,12 +79,12 @@ impl Graph {
     pub fn join(&self, u: u8, v: u8) -> Result<Graph, JoinFault>
         ensures { MatchResult result
             (λ g. (g ≡ with_edge self.now u v) × IsGraph g × IsJoinable self.now u v)
-            (RefusesGraphJoin self.now u v) }
+            (IsJoinFault self.now u v) }
     {
-        self.may_join(u, v)?;
+        self.check_join(u, v)?;
         let (u, v) = (usize::from(u), usize::from(v));
-        let once = with_one_more(self.table, u, v);
-        let table = with_one_more(once, v, u);
+        let once = plus_edge(self.table, u, v);
+        let table = plus_edge(once, v, u);
         let valences = valences_of(self.size, &table);
         Ok(Graph {
             size: self.size,
@@ -94,10 +94,10 @@ impl Graph {
     }
 
     /// Whether one more edge may be put between two vertices, or the fault for which `join` refuses it.
-    pub fn may_join(&self, u: u8, v: u8) -> Result<(), JoinFault>
+    pub fn check_join(&self, u: u8, v: u8) -> Result<(), JoinFault>
         ensures { MatchResult result
             (λ _. IsJoinable self.now u v)
-            (RefusesGraphJoin self.now u v) }
+            (IsJoinFault self.now u v) }
     {
         let (u, v) = (usize::from(u), usize::from(v));
         if u >= self.size || v >= self.size {
@@ -106,14 +106,14 @@ impl Graph {
         if u == v {
             return Err(JoinFault::Loop);
         }
-        if self.has_most_edges(u) || self.has_most_edges(v) {
+        if self.has_max_valence(u) || self.has_max_valence(v) {
             return Err(JoinFault::Valence);
         }
         Ok(())
     }
 
     /// Whether as many edges as may be meet at a vertex.
-    fn has_most_edges(&self, v: usize) -> bool
+    fn has_max_valence(&self, v: usize) -> bool
         requires { v < self.now.size }
         ensures { MatchBool result
             (MAX_VALENCE ≤ valence self.now v)

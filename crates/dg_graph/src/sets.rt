@@ -2,7 +2,7 @@
 
 ghost use Rattle.std.specs.Prelude.{◌≡◌, ℕ, ◌<◌, ◌≤◌, ◌&&◌, not, nat_lt, true, false, MatchOption};
 ghost use Rattle.std.specs.Bool.{OnTrue, OnFalse};
-ghost use Rattle.dg_graph.specs.Sets.{in_set, IsLeastInSet};
+ghost use Rattle.dg_graph.specs.Sets.{in_set, IsLeastIn};
 ghost use Rattle.dg_theory.specs.Sets.{IsVertexSet, IsSetWith, IsSetWithout, IsEmptySet};
 
 use crate::limits::MAX_VERTICES;
@@ -41,7 +41,7 @@ pub fn intersection(set: u16, other: u16) -> u16
 
 /// The least vertex of a set.
 pub fn least_vertex(set: u16) -> Option<usize>
-    ensures { MatchOption result (IsEmptySet (in_set set)) (IsLeastInSet (in_set set)) }
+    ensures { MatchOption result (IsEmptySet (in_set set)) (IsLeastIn (in_set set)) }
 {
     if set == 0 {
         return None;

@@ -1,9 +1,9 @@
 //! The table of the numbers of edges, and its sums.
 
 ghost use Rattle.std.specs.Prelude.{◌≡◌, ℕ, ◌<◌, ◌≤◌, ◌*◌, MatchOption, slice_index};
-ghost use Rattle.dg_theory.specs.Sums.{total_below};
+ghost use Rattle.dg_theory.specs.Sums.{nat_sum_below};
 ghost use Rattle.dg_theory.specs.Multigraph.{entry};
-ghost use Rattle.dg_theory.specs.Joins.{one_edge_more, edge_entry_more};
+ghost use Rattle.dg_theory.specs.Joins.{row_with_edge, table_with_edge};
 ghost use Rattle.dg_graph.specs.Graph.{IsGraph};
 ghost use Rattle.dg_graph.specs.Valences.{valences_of};
 
@@ -13,9 +13,9 @@ use crate::limits::{MAX_VALENCE, MAX_VERTICES};
 pub type Table = [[u8; MAX_VERTICES]; MAX_VERTICES];
 
 /// The sum of a row's first `size` numbers.
-pub fn valence_of_row(size: usize, row: &[u8; MAX_VERTICES]) -> u32
+pub fn row_sum(size: usize, row: &[u8; MAX_VERTICES]) -> u32
     requires { size ≤ MAX_VERTICES }
-    ensures sum { result ≡ total_below size (slice_index row.now) }
+    ensures sum { result ≡ nat_sum_below size (slice_index row.now) }
     ensures limit { result ≤ 255 * size }
 {
     let mut sum = 0u32;
@@ -33,7 +33,7 @@ pub fn valences_of(size: usize, table: &Table) -> [u8; MAX_VERTICES]
 {
     let mut valences = [0; MAX_VERTICES];
     for v in 0..MAX_VERTICES {
-        valences[v] = valence_of_row(size, &table[v]) as u8;
+        valences[v] = row_sum(size, &table[v]) as u8;
     }
     valences
 }
@@ -42,16 +42,16 @@ pub fn valences_of(size: usize, table: &Table) -> [u8; MAX_VERTICES]
 #[tactic(auto, unfolding(dg_theory::specs::Multigraph::entry))]
 fn edges_before(table: &Table, v: usize) -> u32
     requires { v < MAX_VERTICES }
-    ensures sum { result ≡ total_below v (entry table.now v) }
+    ensures sum { result ≡ nat_sum_below v (entry table.now v) }
     ensures limit { result ≤ 255 * v }
 {
-    valence_of_row(v, &table[v])
+    row_sum(v, &table[v])
 }
 
 /// The sum of all numbers before the diagonal.
 pub fn edge_count(size: usize, table: &Table) -> u32
     requires { size ≤ MAX_VERTICES }
-    ensures sum { result ≡ total_below size (λ v. total_below v (entry table.now v)) }
+    ensures sum { result ≡ nat_sum_below size (λ v. nat_sum_below v (entry table.now v)) }
     ensures limit { result ≤ 3825 * size }
 {
     let mut count = 0u32;
@@ -66,12 +66,12 @@ pub fn edge_count(size: usize, table: &Table) -> u32
 pub fn first_high_valence(size: usize, table: &Table) -> Option<usize>
     requires { size ≤ MAX_VERTICES }
     ensures { MatchOption result
-        ((v : ℕ) → v < size → total_below size (entry table.now v) ≤ MAX_VALENCE)
-        (λ v. (v < size) × (MAX_VALENCE < total_below size (entry table.now v))
-        × ((u : ℕ) → u < v → total_below size (entry table.now u) ≤ MAX_VALENCE)) }
+        ((v : ℕ) → v < size → nat_sum_below size (entry table.now v) ≤ MAX_VALENCE)
+        (λ v. (v < size) × (MAX_VALENCE < nat_sum_below size (entry table.now v))
+        × ((u : ℕ) → u < v → nat_sum_below size (entry table.now u) ≤ MAX_VALENCE)) }
 {
     for v in 0..size {
-        if valence_of_row(size, &table[v]) > MAX_VALENCE {
+        if row_sum(size, &table[v]) > MAX_VALENCE {
             return Some(v);
         }
     }
@@ -80,21 +80,21 @@ pub fn first_high_valence(size: usize, table: &Table) -> Option<usize>
 
 /// The table with one more edge in row u and column v, if there are fewer than 255.
 #[tactic(auto, unfolding(dg_theory::specs::Multigraph::entry))]
-pub fn with_one_more(mut table: Table, u: usize, v: usize) -> Table
+pub fn plus_edge(mut table: Table, u: usize, v: usize) -> Table
     requires u { u < MAX_VERTICES }
     requires v { v < MAX_VERTICES }
     requires few { entry table u v < 255 }
-    ensures { result ≡ edge_entry_more table u v }
+    ensures { result ≡ table_with_edge table u v }
 {
-    table[u] = row_with_one_more(table[u], v);
+    table[u] = row_plus_edge(table[u], v);
     table
 }
 
 /// The row with one more edge at v, if there are fewer than 255.
-fn row_with_one_more(mut row: [u8; MAX_VERTICES], v: usize) -> [u8; MAX_VERTICES]
+fn row_plus_edge(mut row: [u8; MAX_VERTICES], v: usize) -> [u8; MAX_VERTICES]
     requires v { v < MAX_VERTICES }
     requires few { slice_index row v < 255 }
-    ensures { result ≡ one_edge_more row v }
+    ensures { result ≡ row_with_edge row v }
 {
     row[v] += 1;
     row

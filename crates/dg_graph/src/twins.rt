@@ -2,7 +2,7 @@
 
 ghost use Rattle.std.specs.Prelude.{◌≡◌, ◌≢◌, ℕ, ◌<◌, ◌↔◌, true, MatchBool, slice_index};
 ghost use Rattle.dg_theory.specs.Twins.{AreTwins};
-ghost use Rattle.dg_graph.specs.Sets.{in_set, AreSetsOfTwins};
+ghost use Rattle.dg_graph.specs.Sets.{in_set, AreTwinSets};
 
 use crate::graph::Graph;
 use crate::limits::MAX_VERTICES;
@@ -11,7 +11,7 @@ use crate::sets::with_vertex;
 impl Graph {
     /// The other twins of each vertex: those that have as many edges as it to each third vertex.
     pub fn twins(&self) -> [u16; MAX_VERTICES]
-        ensures { AreSetsOfTwins self.now result }
+        ensures { AreTwinSets self.now result }
     {
         let mut sets = [0; MAX_VERTICES];
         for v in 0..self.size() {

@@ -1,7 +1,7 @@
 -- How many seats are asked for.
---   seats_of_invocation seats == as many as are asked for; if none is named, one
+--   seat_count seats == as many as are asked for; if none is named, one
 use Rattle.std.specs.Prelude.{ℕ, Option, None, Some}
 
-abbrev pub seats_of_invocation : Option ℕ → ℕ
-seats_of_invocation None = 1
-seats_of_invocation (Some n) = n
+abbrev pub seat_count : Option ℕ → ℕ
+seat_count None = 1
+seat_count (Some n) = n

@@ -3,7 +3,7 @@ ghost use Rattle.std.specs.Prelude.{◌≡◌, ◌≤◌};
 ghost use Rattle.std.specs.Vec.{vec_len};
 ghost use Rattle.dg_invocation.specs.declared.limits.TheConstants.{MAX_CAPACITY, MAX_SEATS, MAX_WORKERS};
 ghost use Rattle.dg_invocation.specs.Files.{file_of};
-ghost use Rattle.dg_invocation.specs.Seats.{seats_of_invocation};
+ghost use Rattle.dg_invocation.specs.Seats.{seat_count};
 
 use crate::numbered::{GreedyTask, RankTask};
 use crate::question::SweepTask;
@@ -63,7 +63,7 @@ pub struct ServeTask<'a> {
     pub capacity: u32,
     /// How many workers a rank test has, 1 to 16.
     pub workers: u32,
-    ghost seated: { (1 ≤ seats_of_invocation seats) × (seats_of_invocation seats ≤ MAX_SEATS) },
+    ghost seated: { (1 ≤ seat_count seats) × (seat_count seats ≤ MAX_SEATS) },
     ghost room: { (1 ≤ capacity) × (capacity ≤ MAX_CAPACITY) },
     ghost helped: { (1 ≤ workers) × (workers ≤ MAX_WORKERS) },
 }

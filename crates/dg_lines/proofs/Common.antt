@@ -7,22 +7,22 @@ pub use Rattle.dg_chips.specs.declared.moves.Move.{Move}
 pub use Rattle.dg_chips.specs.declared.moves.Move.TheVariants.{Borrow, Fire, Script}
 pub use Rattle.dg_rules.proofs.LegalLaws.{legal_sized}
 pub use Rattle.dg_rules.specs.Legal.{IsLegal}
-pub use Rattle.dg_rules.specs.LegalLaws.{IsReplyOfSize}
+pub use Rattle.dg_rules.specs.LegalLaws.{IsSizedReply}
 pub use Rattle.dg_rules.specs.declared.entry.Entry.{Entry}
 pub use Rattle.dg_rules.specs.declared.entry.Plain.TheVariants.{Claim, Gift, Join, Look}
 pub use Rattle.dg_rules.specs.declared.step.Command.{Command}
 pub use Rattle.dg_rules.specs.declared.step.Command.TheVariants.{Call, Commit, Rank}
 pub use Rattle.dg_rules.specs.declared.step.Step.{Step}
-pub use Rattle.dg_lines.specs.CommandWords.{AreNamesOnLine, WordsOnLineAreNamed, AreNumbersOnLine, IsNumeralForWord, IsNumeralWithin, IsScriptSpelledBy, SpellsScript, IsSetSpelledBy, WordKind, degree, dollars, name_part_of_item, number_part_of_item, vertex, vertices}
-pub use Rattle.dg_lines.specs.Commands.{LineSpellsCommand, IsWellFormedLine, Means, kinds_on_line, kinds_wanted_on_line, words_wanted_on_line}
-pub use Rattle.dg_lines.specs.Cuts.{items, onto_first_piece, text_pieces_after, words, words_after}
-pub use Rattle.dg_lines.specs.Judgements.{JudgementHasNames, burning_text}
-pub use Rattle.dg_lines.specs.Keywords.{AreWords, IsBadScriptWord, keyword_kinds, spelling}
-pub use Rattle.dg_lines.specs.LineFaults.{AreRefusedStepLines, IsLineFault}
-pub use Rattle.dg_lines.specs.LineLaws.{IsLineDigit, IsLineNumeral, IsShortLineNumeral, IsUnsignedLineNumeral, LinesHaveOneMeaning, LineNumeralsAreDecimals, StepsHaveOneMeaning}
-pub use Rattle.dg_lines.specs.Schedules.{AreStepsOf, StepLinesHaveSeats}
-pub use Rattle.dg_lines.specs.Steps.{IsSeatedLine, IsStepFault, IsStepLine, IsStepTextFault}
-pub use Rattle.dg_lines.specs.Streams.{BeginsWithLines, HasNoNewline, LinesOfTextHaveCome, last_line, with_newline}
+pub use Rattle.dg_lines.specs.CommandWords.{AreDistinctNames, HaveDistinctNames, AreNumerals, IsWordNumeral, IsNumeralWithin, IsSpelledScript, SpellsScript, IsSpelledSet, WordKind, degree, dollars, item_name, item_number, vertex, vertices}
+pub use Rattle.dg_lines.specs.Commands.{SpellsCommand, IsWellFormed, Means, kinds_on_line, wanted_kinds, wanted_words}
+pub use Rattle.dg_lines.specs.Cuts.{items, cons_to_first, pieces_after, words, words_after}
+pub use Rattle.dg_lines.specs.Judgements.{VerdictHasNames, burning_text}
+pub use Rattle.dg_lines.specs.Keywords.{AreWords, IsBadScript, keyword_kinds, spelling}
+pub use Rattle.dg_lines.specs.LineFaults.{AreRefusedWords, IsLineFault}
+pub use Rattle.dg_lines.specs.LineLaws.{IsDigit, IsNumeral, IsShortNumber, IsUnsignedNumeral, LineMeaningIsUnique, NumeralsAreDecimals, StepMeaningIsUnique}
+pub use Rattle.dg_lines.specs.Schedules.{AreStepsOf, StepsHaveSeats}
+pub use Rattle.dg_lines.specs.Steps.{IsSeatedLine, IsStepFault, IsStepLine, IsTextFault}
+pub use Rattle.dg_lines.specs.Streams.{BeginsWithLines, HasNoNewline, LinesHaveCome, last_line, with_newline}
 pub use Rattle.dg_lines.specs.Texts.{RepliesHaveNames, entry_text, pair, rank_text, verdict_text, verdict_word}
 pub use Rattle.dg_lines.specs.declared.command.Keyword.{Keyword}
 pub use Rattle.dg_lines.specs.declared.command.Keyword.TheVariants.{Lend}
@@ -32,13 +32,13 @@ pub use Rattle.dg_theory.proofs.ConstantLaws.{same_by_constant}
 pub use Rattle.dg_theory.proofs.Equivalence.{equivalent-sym, equivalent-trans}
 pub use Rattle.dg_theory.proofs.LossLaws.{loss_bounds_rank, loss_once}
 pub use Rattle.dg_theory.proofs.ReducedLaws.{reduced_once}
-pub use Rattle.dg_theory.specs.Burning.{BurnsAll}
+pub use Rattle.dg_theory.specs.Burning.{IsBurningOrder}
 pub use Rattle.dg_theory.specs.Firing.{DivisorsAgreeOn, Amounts}
 pub use Rattle.dg_theory.specs.Multigraph.{IsMultigraph, Multigraph}
 pub use Rattle.dg_theory.specs.Play.{IsWinnable}
-pub use Rattle.dg_tokens.specs.Names.{has, label, name_at}
-pub use Rattle.dg_verdict.specs.RankTests.{IsRightRankVerdict}
-pub use Rattle.dg_verdict.specs.Right.{IsRight, IsVerdictOn}
+pub use Rattle.dg_tokens.specs.Names.{names_contain, label, name_at}
+pub use Rattle.dg_verdict.specs.RankTests.{IsRightRank}
+pub use Rattle.dg_verdict.specs.Right.{IsRightVerdict, IsVerdictOn}
 pub use Rattle.dg_verdict.specs.declared.rank_verdict.RankVerdict.{RankVerdict}
 pub use Rattle.dg_verdict.specs.declared.rank_verdict.RankVerdict.TheVariants.{AtLeast, Below}
 pub use Rattle.dg_verdict.specs.declared.verdict.Verdict.{Verdict}

@@ -2,7 +2,7 @@
 --   lines_after rest == the lines of what follows a newline, and none where no newline follows
 -- Proved: the pieces are what stands before the first byte that cuts, and then the pieces of what stands after it; so
 -- are the lines of bytes that are not empty; and what `position` says of the two parts.
-use Rattle.dg_lines.proofs.Common.{Bor, take, drop, length, nat_lt, suc, ◌≤◌, ◌∙◌, ◌<◌, sym, ◌≡◌, ℕ, ◌+◌, ◌==◌, cond, true, false, List, [], ◌∷◌, Option, Some, None, refl, ap, arith, not, Bool, one-add, cond_some, take_all, nat_tests, option_copied, unwrap_or, position_or_len, onto_first_piece, text_pieces_after, words, words_after}
+use Rattle.dg_lines.proofs.Common.{Bor, take, drop, length, nat_lt, suc, ◌≤◌, ◌∙◌, ◌<◌, sym, ◌≡◌, ℕ, ◌+◌, ◌==◌, cond, true, false, List, [], ◌∷◌, Option, Some, None, refl, ap, arith, not, Bool, one-add, cond_some, take_all, nat_tests, option_copied, unwrap_or, position_or_len, cons_to_first, pieces_after, words, words_after}
 use Rattle.std.specs.List.{position}
 use Rattle.dg_lines.specs.Cuts.{before, after, pieces, lines}
 
@@ -10,24 +10,24 @@ abbrev pub lines_after : Option (List ℕ) → List (List ℕ)
 lines_after None = []
 lines_after (Some rest) = lines rest
 
-pub pieces_cut : (b : ℕ) (xs : List ℕ) → pieces b xs ≡ before b xs ∷ text_pieces_after b (after b xs)
+pub pieces_cut : (b : ℕ) (xs : List ℕ) → pieces b xs ≡ before b xs ∷ pieces_after b (after b xs)
 unfolding pieces before after
 pieces_cut b [] = refl
 pieces_cut b (x ∷ xs) =
-    elim (x == b) as (λ t. cond t ([] ∷ pieces b xs) (onto_first_piece x (pieces b xs))
-    ≡ cond t [] (x ∷ before b xs) ∷ text_pieces_after b (cond t (Some xs) (after b xs)))
-    [ true ↦ refl | false ↦ ap (onto_first_piece x) (pieces_cut b xs) ]
+    elim (x == b) as (λ t. cond t ([] ∷ pieces b xs) (cons_to_first x (pieces b xs))
+    ≡ cond t [] (x ∷ before b xs) ∷ pieces_after b (cond t (Some xs) (after b xs)))
+    [ true ↦ refl | false ↦ ap (cons_to_first x) (pieces_cut b xs) ]
 
 pub lines_cut : (x : ℕ) (xs : List ℕ) → lines (x ∷ xs) ≡ before 10 (x ∷ xs) ∷ lines_after (after 10 (x ∷ xs))
 unfolding lines before after
 lines_cut x [] =
-    elim (x == 10) as (λ t. cond t ([] ∷ lines []) (onto_first_piece x (lines []))
+    elim (x == 10) as (λ t. cond t ([] ∷ lines []) (cons_to_first x (lines []))
     ≡ cond t [] (x ∷ []) ∷ lines_after (cond t (Some []) None))
     [ true ↦ refl | false ↦ refl ]
 lines_cut x (y ∷ ys) =
-    elim (x == 10) as (λ t. cond t ([] ∷ lines (y ∷ ys)) (onto_first_piece x (lines (y ∷ ys)))
+    elim (x == 10) as (λ t. cond t ([] ∷ lines (y ∷ ys)) (cons_to_first x (lines (y ∷ ys)))
     ≡ cond t [] (x ∷ before 10 (y ∷ ys)) ∷ lines_after (cond t (Some (y ∷ ys)) (after 10 (y ∷ ys))))
-    [ true ↦ refl | false ↦ ap (onto_first_piece x) (lines_cut y ys) ]
+    [ true ↦ refl | false ↦ ap (cons_to_first x) (lines_cut y ys) ]
 
 before_take : (b : ℕ) (xs : List ℕ) → before b xs ≡ take (position_or_len (λ x. x == b) xs) xs
 unfolding before
@@ -109,21 +109,21 @@ lines_step xs line o other rest some first follows none is =
 
 -- the pieces that are left begin with the next one
 pub pieces_next : (b : ℕ) (rest : Option (Bor (List ℕ))) (text : Bor (List ℕ)) → rest ≡ Some text
-    → text_pieces_after b (option_copied rest) ≡ before b text.now ∷ text_pieces_after b (after b text.now)
-pieces_next b rest text e = ap (λ (o : Option (Bor (List ℕ))). text_pieces_after b (option_copied o)) e ∙ pieces_cut b text.now
+    → pieces_after b (option_copied rest) ≡ before b text.now ∷ pieces_after b (after b text.now)
+pieces_next b rest text e = ap (λ (o : Option (Bor (List ℕ))). pieces_after b (option_copied o)) e ∙ pieces_cut b text.now
 
 -- the pieces that are left begin with the one that is cut off next
 pub pieces_left : (b : ℕ) (rest : Option (Bor (List ℕ))) (text : Bor (List ℕ)) (first : List ℕ)
     (more : Option (Bor (List ℕ)))
     → rest ≡ Some text → first ≡ before b text.now → option_copied more ≡ after b text.now
-    → text_pieces_after b (option_copied rest) ≡ first ∷ text_pieces_after b (option_copied more)
+    → pieces_after b (option_copied rest) ≡ first ∷ pieces_after b (option_copied more)
 pieces_left b rest text first more e front back =
     pieces_next b rest text e
-    ∙ ap (λ front_is. front_is ∷ text_pieces_after b (after b text.now)) (sym front)
-    ∙ ap (λ back_is. first ∷ text_pieces_after b back_is) (sym back)
+    ∙ ap (λ front_is. front_is ∷ pieces_after b (after b text.now)) (sym front)
+    ∙ ap (λ back_is. first ∷ pieces_after b back_is) (sym back)
 
-pub none_left : (b : ℕ) (rest : Option (Bor (List ℕ))) → rest ≡ None → text_pieces_after b (option_copied rest) ≡ []
-none_left b rest e = ap (λ (o : Option (Bor (List ℕ))). text_pieces_after b (option_copied o)) e
+pub none_left : (b : ℕ) (rest : Option (Bor (List ℕ))) → rest ≡ None → pieces_after b (option_copied rest) ≡ []
+none_left b rest e = ap (λ (o : Option (Bor (List ℕ))). pieces_after b (option_copied o)) e
 
 -- a line is its first word, which is a keyword, and the words after it
 pub line_words : (line word keyword : List ℕ) (rest : Option (List ℕ)) (others : List (List ℕ))

@@ -10,7 +10,7 @@
 --   one_member       with one name more the set has one vertex more
 --   HasTaken names given left set == `left` are the last of the names given, and the set has those before them
 -- What a loop over the names does: none taken, one more, all, and where the next name refuses them.
-use Rattle.dg_lines.proofs.Common.{◌≡◌, ◌≢◌, ℕ, ◌+◌, ◌*◌, ◌<◌, ◌==◌, ◌||◌, not, cond, Bool, true, false, List, [], ◌∷◌, ◌++◌, length, Some, None, refl, ap, sym, ◌∙◌, subst, arith, Decides, append_assoc, bytes_eq, IsTrue, All, IsEquivalence, bit_at, AllByRecursion, position_or_len, eqb-true, nat_tests, append-nil, All-nil, All-cons, All-head, All-tail, All-push, list_any-append, list_any_at, position-Some, IsDistinct-push, apart_from_distinct, bit_at-zero, bit_at-lt, same_from_bits, bytes_eq-Decides, has, name_at, AreNamesOnLine, IsSetSpelledBy}
+use Rattle.dg_lines.proofs.Common.{◌≡◌, ◌≢◌, ℕ, ◌+◌, ◌*◌, ◌<◌, ◌==◌, ◌||◌, not, cond, Bool, true, false, List, [], ◌∷◌, ◌++◌, length, Some, None, refl, ap, sym, ◌∙◌, subst, arith, Decides, append_assoc, bytes_eq, IsTrue, All, IsEquivalence, bit_at, AllByRecursion, position_or_len, eqb-true, nat_tests, append-nil, All-nil, All-cons, All-head, All-tail, All-push, list_any-append, list_any_at, position-Some, IsDistinct-push, apart_from_distinct, bit_at-zero, bit_at-lt, same_from_bits, bytes_eq-Decides, names_contain, name_at, AreDistinctNames, IsSpelledSet}
 use Rattle.std.specs.List.{IsDistinct}
 use Rattle.dg_graph.specs.Sets.{in_set}
 use Rattle.dg_tokens.specs.Names.{place_of}
@@ -53,54 +53,54 @@ recursion_there P [] back name each = each.0
 recursion_there P (x ∷ done) back name each = recursion_there P done back name each.1
 
 stands_before : (done back : List (List ℕ)) (name : List ℕ) → IsDistinct bytes_eq (done ++ name ∷ back)
-    → has done name ≡ false
+    → names_contain done name ≡ false
 unfolding IsDistinct
 stands_before [] back name known = refl
 stands_before (x ∷ done) back name known =
     let other : bytes_eq name x ≡ false =
     bytes_eq-swaps name x ∙ recursion_there (λ y. bytes_eq x y ≡ false) done back name known.0 in
-    ap (λ t. t || has done name) other ∙ stands_before done back name known.1
+    ap (λ t. t || names_contain done name) other ∙ stands_before done back name known.1
 
 -- ---- names and their places
-some_place : (names : List (List ℕ)) (name : List ℕ) → has names name ≡ true
+some_place : (names : List (List ℕ)) (name : List ℕ) → names_contain names name ≡ true
     → position_or_len (λ own. bytes_eq own name) names < length names
 some_place [] name e = absurd (cc)
 some_place (own ∷ names) name e =
     let n : ℕ = position_or_len (λ own. bytes_eq own name) names in
-    let P : Bool → Type 0 = λ t. (t || has names name) ≡ true → cond (not t) (1 + n) 0 < length (own ∷ names) in
+    let P : Bool → Type 0 = λ t. (t || names_contain names name) ≡ true → cond (not t) (1 + n) 0 < length (own ∷ names) in
     (elim (bytes_eq own name) as P [
       | true ↦ λ found. omega arith
       | false ↦ λ found. omega (arith, some_place names name found)
-    ]) (ap (λ t. t || has names name) (bytes_eq-swaps own name) ∙ e)
+    ]) (ap (λ t. t || names_contain names name) (bytes_eq-swaps own name) ∙ e)
 
 -- the first vertex is the lowest bit
 unfoldable members : List (List ℕ) → List (List ℕ) → ℕ
 members [] given = 0
-members (name ∷ names) given = cond (has given name) 1 0 + 2 * members names given
+members (name ∷ names) given = cond (names_contain given name) 1 0 + 2 * members names given
 
 same_bit : (a b w : ℕ) → in_set a w ≡ in_set b w → bit_at a w ≡ bit_at b w
 unfolding in_set
 same_bit a b w same = grind (arith, nat_tests, bit_at-lt a w, bit_at-lt b w)
 
 has_more : (done : List (List ℕ)) (name own : List ℕ)
-    → has (done ++ name ∷ []) own ≡ (has done own || bytes_eq own name)
+    → names_contain (done ++ name ∷ []) own ≡ (names_contain done own || bytes_eq own name)
 has_more done name own =
-    list_any-append (bytes_eq own) done (name ∷ []) ∙ ap (λ t. has done own || t) (or_false (bytes_eq own name))
+    list_any-append (bytes_eq own) done (name ∷ []) ∙ ap (λ t. names_contain done own || t) (or_false (bytes_eq own name))
 
 -- the vertex v of the names, all different, that is named next
 pub record IsNamedNext (names done : List (List ℕ)) (name : List ℕ) (v : ℕ) : Type 0 where
   pub distinct : IsDistinct bytes_eq names
   pub place : place_of names name ≡ Some v
-  pub fresh : has done name ≡ false
+  pub fresh : names_contain done name ≡ false
 
 pub record HasTaken (names given left : List (List ℕ)) (set : ℕ) : Type 0 where
   pub done : List (List ℕ)
   pub whole : given ≡ done ++ left
-  pub is_set : IsSetSpelledBy names done set
+  pub is_set : IsSpelledSet names done set
 
 module _ (names : List (List ℕ)) where
   abbrev IsNamed : List ℕ → Type 0
-  IsNamed name = IsTrue (has names name)
+  IsNamed name = IsTrue (names_contain names name)
 
   pub vertex_named : (name : List ℕ) (v : ℕ) → place_of names name ≡ Some v
       → (v < length names) × (name_at names v ≡ name)
@@ -109,12 +109,12 @@ module _ (names : List (List ℕ)) where
       let found = position-Some (λ own. bytes_eq own name) names v [] e in
       (found.0, is_equal (name_at names v) name found.1)
 
-  is_named : (name : List ℕ) (v : ℕ) → place_of names name ≡ Some v → has names name ≡ true
+  is_named : (name : List ℕ) (v : ℕ) → place_of names name ≡ Some v → names_contain names name ≡ true
   is_named name v e =
       let found = vertex_named name v e in
       list_any_at (bytes_eq name) names v [] found.0 (equal name (name_at names v) (sym found.1))
 
-  not_named : (name : List ℕ) → place_of names name ≡ None → has names name ≡ true → ⊥
+  not_named : (name : List ℕ) → place_of names name ≡ None → names_contain names name ≡ true → ⊥
   unfolding place_of
   not_named name e found =
       let less = some_place names name found in
@@ -123,26 +123,26 @@ module _ (names : List (List ℕ)) where
       let no : Some n ≡ None = sym (ap (λ t. cond t (Some n) None) there) ∙ e in
       cc
 
-  pub none_given : AreNamesOnLine names []
+  pub none_given : AreDistinctNames names []
   unfolding IsDistinct
   none_given = record { each = All-nil IsNamed; different = tt }
 
-  pub named_alone : (name : List ℕ) (v : ℕ) → place_of names name ≡ Some v → AreNamesOnLine names (name ∷ [])
+  pub named_alone : (name : List ℕ) (v : ℕ) → place_of names name ≡ Some v → AreDistinctNames names (name ∷ [])
   unfolding IsDistinct
   named_alone name v e =
       record { each = All-cons IsNamed name [] (is_named name v e) (All-nil IsNamed); different = (tt, tt) }
 
   pub unnamed_among : (done back : List (List ℕ)) (name : List ℕ) → place_of names name ≡ None
-      → AreNamesOnLine names (done ++ name ∷ back) → ⊥
+      → AreDistinctNames names (done ++ name ∷ back) → ⊥
   unnamed_among done back name e known = not_named name e (all_there IsNamed done back name known.each)
 
-  twice_among : (done back : List (List ℕ)) (name : List ℕ) → has done name ≡ true
-      → AreNamesOnLine names (done ++ name ∷ back) → ⊥
+  twice_among : (done back : List (List ℕ)) (name : List ℕ) → names_contain done name ≡ true
+      → AreDistinctNames names (done ++ name ∷ back) → ⊥
   twice_among done back name there known =
       let no : true ≡ false = sym there ∙ stands_before done back name known.different in cc
 
   -- ---- sets of vertices
-  pub one_set : (given : List (List ℕ)) (a b : ℕ) → IsSetSpelledBy names given a → IsSetSpelledBy names given b → a ≡ b
+  pub one_set : (given : List (List ℕ)) (a b : ℕ) → IsSpelledSet names given a → IsSpelledSet names given b → a ≡ b
   one_set given a b first second = same_from_bits a b (λ v. same_bit a b v (go v (in_set a v) (in_set b v) refl refl))
     where
       member : (v : ℕ) → v < length names → in_set a v ≡ in_set b v
@@ -153,7 +153,7 @@ module _ (names : List (List ℕ)) where
       go v false true e f = member v (second.within v f)
       go v false false e f = e ∙ sym f
 
-  pub no_members : IsSetSpelledBy names [] 0
+  pub no_members : IsSpelledSet names [] 0
   unfolding in_set
   no_members = record {
     are_given = none_given;
@@ -175,18 +175,18 @@ module _ (names : List (List ℕ)) where
           ∙ apart_from_distinct bytes_eq names v w [] distinct less also
 
   pub is_next : (done : List (List ℕ)) (name : List ℕ) (set v : ℕ) → IsDistinct bytes_eq names
-      → place_of names name ≡ Some v → IsSetSpelledBy names done set → in_set set v ≡ false → IsNamedNext names done name v
+      → place_of names name ≡ Some v → IsSpelledSet names done set → in_set set v ≡ false → IsNamedNext names done name v
   is_next done name set v distinct place known absent =
       let found = vertex_named name v place in
       record {
         distinct = distinct;
         place = place;
-        fresh = ap (has done) (sym found.1) ∙ sym (known.members v found.0) ∙ absent;
+        fresh = ap (names_contain done) (sym found.1) ∙ sym (known.members v found.0) ∙ absent;
       }
 
   pub one_member : (done : List (List ℕ)) (name : List ℕ) (set more v : ℕ) → IsNamedNext names done name v
-      → IsSetSpelledBy names done set → in_set more v ≡ true
-      → ((w : ℕ) → w ≢ v → in_set more w ≡ in_set set w) → IsSetSpelledBy names (done ++ name ∷ []) more
+      → IsSpelledSet names done set → in_set more v ≡ true
+      → ((w : ℕ) → w ≢ v → in_set more w ≡ in_set set w) → IsSpelledSet names (done ++ name ∷ []) more
   one_member done name set more v next known here others = record {
     are_given = record {
       each = All-push IsNamed done name known.are_given.each (is_named name v next.place);
@@ -199,21 +199,21 @@ module _ (names : List (List ℕ)) where
       found : (v < length names) × (name_at names v ≡ name)
       found = vertex_named name v next.place
 
-      at_v : in_set more v ≡ has (done ++ name ∷ []) (name_at names v)
+      at_v : in_set more v ≡ names_contain (done ++ name ∷ []) (name_at names v)
       at_v =
           here ∙ sym (has_more done name (name_at names v)
-          ∙ ap (λ t. has done (name_at names v) || t) (equal (name_at names v) name found.1)
-          ∙ or_true (has done (name_at names v)))
+          ∙ ap (λ t. names_contain done (name_at names v) || t) (equal (name_at names v) name found.1)
+          ∙ or_true (names_contain done (name_at names v)))
 
       member : (w : ℕ) → w < length names → (t : Bool) → (w == v) ≡ t
-          → in_set more w ≡ has (done ++ name ∷ []) (name_at names w)
+          → in_set more w ≡ names_contain (done ++ name ∷ []) (name_at names w)
       member w less true same =
-          subst (λ n. in_set more n ≡ has (done ++ name ∷ []) (name_at names n)) (sym (eqb-true w v same)) at_v
+          subst (λ n. in_set more n ≡ names_contain (done ++ name ∷ []) (name_at names n)) (sym (eqb-true w v same)) at_v
       member w less false differs =
           let other : w ≢ v = grind (arith, nat_tests) in
           others w other ∙ known.members w less ∙ sym (has_more done name (name_at names w)
-          ∙ ap (λ t. has done (name_at names w) || t) (other_name name v w next.distinct found.0 less found.1 other)
-          ∙ or_false (has done (name_at names w)))
+          ∙ ap (λ t. names_contain done (name_at names w) || t) (other_name name v w next.distinct found.0 less found.1 other)
+          ∙ or_false (names_contain done (name_at names w)))
 
       inside : (w : ℕ) → in_set more w ≡ true → (t : Bool) → (w == v) ≡ t → w < length names
       inside w e true same = let is : w ≡ v = eqb-true w v same in omega (arith, found.0)
@@ -225,10 +225,10 @@ module _ (names : List (List ℕ)) where
   none_taken given = record { done = []; whole = refl; is_set = no_members }
 
 module _ (names given left : List (List ℕ)) (set : ℕ) (known : HasTaken names given left set) where
-  pub all_taken : left ≡ [] → IsSetSpelledBy names given set
+  pub all_taken : left ≡ [] → IsSpelledSet names given set
   all_taken e =
       let same : known.done ≡ given = sym (known.whole ∙ ap (λ rest. known.done ++ rest) e ∙ append-nil known.done) in
-      subst (λ names_given. IsSetSpelledBy names names_given set) same known.is_set
+      subst (λ names_given. IsSpelledSet names names_given set) same known.is_set
 
 module _ (names given left back : List (List ℕ)) (name : List ℕ) (set : ℕ) (e : left ≡ name ∷ back)
     (known : HasTaken names given left set) where
@@ -246,12 +246,12 @@ module _ (names given left back : List (List ℕ)) (name : List ℕ) (set : ℕ)
         (is_next names known.done name set v distinct place known.is_set absent) known.is_set here others;
   }
 
-  pub unnamed_taken : place_of names name ≡ None → AreNamesOnLine names given → ⊥
-  unnamed_taken place good = unnamed_among names known.done back name place (subst (AreNamesOnLine names) cut_off good)
+  pub unnamed_taken : place_of names name ≡ None → AreDistinctNames names given → ⊥
+  unnamed_taken place good = unnamed_among names known.done back name place (subst (AreDistinctNames names) cut_off good)
 
-  pub twice_taken : (v : ℕ) → place_of names name ≡ Some v → in_set set v ≡ true → AreNamesOnLine names given → ⊥
+  pub twice_taken : (v : ℕ) → place_of names name ≡ Some v → in_set set v ≡ true → AreDistinctNames names given → ⊥
   twice_taken v place member good =
       let found = vertex_named names name v place in
-      let there : has known.done name ≡ true =
-      ap (has known.done) (sym found.1) ∙ sym (known.is_set.members v found.0) ∙ member in
-      twice_among names known.done back name there (subst (AreNamesOnLine names) cut_off good)
+      let there : names_contain known.done name ≡ true =
+      ap (names_contain known.done) (sym found.1) ∙ sym (known.is_set.members v found.0) ∙ member in
+      twice_among names known.done back name there (subst (AreDistinctNames names) cut_off good)

@@ -5,7 +5,7 @@
 --   some_words              behind a space there are words
 --   none_there, word_more, word_less   no words, one more and one less
 --   well_formed, ill_formed whether just the words follow that are wanted
-use Rattle.dg_lines.proofs.Common.{◌≡◌, ◌≢◌, ℕ, ◌+◌, ◌==◌, ◌⊎◌, inl, inr, Bool, true, false, List, [], ◌∷◌, length, Option, Some, refl, ap, sym, ◌∙◌, arith, Bor, bytes_eq, IsSome, is_some, option_map, option_copied, nat_tests, All-nil, All-cons, All-head, All-tail, bytes_eq-Decides, words_after, Keyword, Lend, WordKind, kinds_wanted_on_line, words_wanted_on_line, IsWellFormedLine, spelling, keyword_kinds, AreWords}
+use Rattle.dg_lines.proofs.Common.{◌≡◌, ◌≢◌, ℕ, ◌+◌, ◌==◌, ◌⊎◌, inl, inr, Bool, true, false, List, [], ◌∷◌, length, Option, Some, refl, ap, sym, ◌∙◌, arith, Bor, bytes_eq, IsSome, is_some, option_map, option_copied, nat_tests, All-nil, All-cons, All-head, All-tail, bytes_eq-Decides, words_after, Keyword, Lend, WordKind, wanted_kinds, wanted_words, IsWellFormed, spelling, keyword_kinds, AreWords}
 use Rattle.dg_lines.specs.Cuts.{before, after}
 use Rattle.dg_lines.specs.Commands.{kinds_beside}
 use Rattle.dg_lines.proofs.Cutting.{pieces_cut}
@@ -17,7 +17,7 @@ bytes_tell x y = go (bytes_eq x y) refl
     go true e = inl (refl, (bytes_eq-Decides x y).0 e)
     go false e = inr (refl, λ same. let no : true ≡ false = sym ((bytes_eq-Decides x y).1 same) ∙ e in cc)
 
-pub wanted_of : (k : Keyword) → kinds_wanted_on_line (spelling k) ≡ Some (keyword_kinds k)
+pub wanted_of : (k : Keyword) → wanted_kinds (spelling k) ≡ Some (keyword_kinds k)
 unfolding kinds_beside
 wanted_of Lend = refl
 wanted_of k = refl
@@ -49,16 +49,16 @@ pub none_there : AreWords 0 []
 none_there = record { count = refl; filled = All-nil (λ w. w ≢ []) }
 
 -- ---- the words that are wanted
-module _ (keyword : List ℕ) (keyword_kinds : List WordKind) (rest : List (List ℕ)) (wants : kinds_wanted_on_line keyword ≡ Some
+module _ (keyword : List ℕ) (keyword_kinds : List WordKind) (rest : List (List ℕ)) (wants : wanted_kinds keyword ≡ Some
     keyword_kinds) where
-  counted : words_wanted_on_line keyword ≡ Some (length keyword_kinds)
+  counted : wanted_words keyword ≡ Some (length keyword_kinds)
   counted = ap (option_map length) wants
 
-  pub well_formed : AreWords (length keyword_kinds) rest → IsWellFormedLine keyword rest
+  pub well_formed : AreWords (length keyword_kinds) rest → IsWellFormed keyword rest
   well_formed known = record { wanted = counted ∙ ap Some (sym known.count); filled = known.filled }
 
   pub ill_formed : (AreWords (length keyword_kinds) rest → ⊥)
-      → IsSome (kinds_wanted_on_line keyword) × (IsWellFormedLine keyword rest → ⊥)
+      → IsSome (wanted_kinds keyword) × (IsWellFormed keyword rest → ⊥)
   ill_formed never = (
     ap is_some wants,
     λ formed.

@@ -1,7 +1,7 @@
 -- A line spells no two commands, has no two faults, and never both.
 --   line_read        what is read of the words of a line is what the line spells, or its fault
---   lines_have_one_meaning
-use Rattle.dg_lines.proofs.Common.{◌≡◌, ℕ, ◌<◌, ◌^◌, cond, true, false, ℤ, pos, List, [], ◌∷◌, length, map, Some, None, Result, Ok, Err, refl, ap, sym, ◌∙◌, subst, arith, codes, FitsSigned, w64, decimal, MatchResult, IfOk, IfErr, All, IsSome, is_some, bytes_eq, option_map, signed_decimal, decimal_injective, signed_decimal_injective, ints, All-nil, All-cons, Vector, Move, Borrow, Fire, Script, Command, Call, Commit, Rank, Gift, Join, Look, Claim, name_at, LineFault, Seat, Word, Form, Name, Number, words, items, WordKind, vertex, vertices, degree, dollars, name_part_of_item, number_part_of_item, IsNumeralForWord, WordsOnLineAreNamed, AreNumbersOnLine, SpellsScript, IsSetSpelledBy, kinds_wanted_on_line, kinds_on_line, IsWellFormedLine, Means, LineSpellsCommand, AreRefusedStepLines, IsLineFault, one_vector, LinesHaveOneMeaning}
+--   line_meaning_is_unique
+use Rattle.dg_lines.proofs.Common.{◌≡◌, ℕ, ◌<◌, ◌^◌, cond, true, false, ℤ, pos, List, [], ◌∷◌, length, map, Some, None, Result, Ok, Err, refl, ap, sym, ◌∙◌, subst, arith, codes, FitsSigned, w64, decimal, MatchResult, IfOk, IfErr, All, IsSome, is_some, bytes_eq, option_map, signed_decimal, decimal_injective, signed_decimal_injective, ints, All-nil, All-cons, Vector, Move, Borrow, Fire, Script, Command, Call, Commit, Rank, Gift, Join, Look, Claim, name_at, LineFault, Seat, Word, Form, Name, Number, words, items, WordKind, vertex, vertices, degree, dollars, item_name, item_number, IsWordNumeral, HaveDistinctNames, AreNumerals, SpellsScript, IsSpelledSet, wanted_kinds, kinds_on_line, IsWellFormed, Means, SpellsCommand, AreRefusedWords, IsLineFault, one_vector, LineMeaningIsUnique}
 use Rattle.dg_chips.specs.declared.moves.Move.TheVariants.{Lend}
 use Rattle.dg_rules.specs.declared.entry.Plain.TheVariants.{Move as Play}
 use Rattle.dg_tokens.specs.Names.{place_of}
@@ -18,43 +18,43 @@ same_words one other ones others e = (cc, cc)
 
 module _ (names : List (List ℕ)) (line keyword : List ℕ) (rest : List (List ℕ))
     (cut : words line ≡ keyword ∷ rest) where
-  pub line_read : (result : Result Command LineFault) → IsWellFormedLine keyword rest
-      → MatchResult result (λ command. Means names command keyword rest) (λ fault. AreRefusedStepLines names fault keyword rest)
-      → IfOk result (λ command. LineSpellsCommand names command line) × IfErr result (λ fault. IsLineFault names fault line)
+  pub line_read : (result : Result Command LineFault) → IsWellFormed keyword rest
+      → MatchResult result (λ command. Means names command keyword rest) (λ fault. AreRefusedWords names fault keyword rest)
+      → IfOk result (λ command. SpellsCommand names command line) × IfErr result (λ fault. IsLineFault names fault line)
   line_read (Ok command) formed read =
       (record { keyword = keyword; rest = rest; cut = cut; formed = formed; means = read }, tt)
   line_read (Err fault) formed read = (tt, record { keyword = keyword; rest = rest; cut = cut; refused = read })
 
-  refused_at : (fault : LineFault) → IsLineFault names fault line → AreRefusedStepLines names fault keyword rest
+  refused_at : (fault : LineFault) → IsLineFault names fault line → AreRefusedWords names fault keyword rest
   refused_at fault known =
       let same = same_words known.keyword keyword known.rest rest (sym known.cut ∙ cut) in
-      subst (λ k. AreRefusedStepLines names fault k rest) same.0
-      (subst (AreRefusedStepLines names fault known.keyword) same.1 known.refused)
+      subst (λ k. AreRefusedWords names fault k rest) same.0
+      (subst (AreRefusedWords names fault known.keyword) same.1 known.refused)
 
-  means_at : (c : Command) → LineSpellsCommand names c line → Means names c keyword rest
+  means_at : (c : Command) → SpellsCommand names c line → Means names c keyword rest
   means_at c known =
       let same = same_words known.keyword keyword known.rest rest (sym known.cut ∙ cut) in
       subst (λ k. Means names c k rest) same.0 (subst (Means names c known.keyword) same.1 known.means)
 
 -- ---- what is spelled has no fault
-gift_number : (x : ℤ) → FitsSigned w64 x → IsNumeralForWord dollars (signed_decimal x)
+gift_number : (x : ℤ) → FitsSigned w64 x → IsWordNumeral dollars (signed_decimal x)
 gift_number x fits =
     let sides = within_fits x fits in
     record { number = x; spelled = refl; not_less = sides.0; not_more = sides.1 }
 
-rank_number : (k : ℕ) → k < 2 ^ 32 → IsNumeralForWord degree (decimal k)
+rank_number : (k : ℕ) → k < 2 ^ 32 → IsWordNumeral degree (decimal k)
 rank_number k small =
     record { number = pos k; spelled = refl; not_less = omega (arith, ints); not_more = omega (arith, ints) }
 
-no_numbers : (kind : WordKind) → All (IsNumeralForWord kind) []
-no_numbers kind = All-nil (IsNumeralForWord kind)
+no_numbers : (kind : WordKind) → All (IsWordNumeral kind) []
+no_numbers kind = All-nil (IsWordNumeral kind)
 
-one_number : (kind : WordKind) (text : List ℕ) → IsNumeralForWord kind text → All (IsNumeralForWord kind) (text ∷ [])
-one_number kind text good = All-cons (IsNumeralForWord kind) text [] good (no_numbers kind)
+one_number : (kind : WordKind) (text : List ℕ) → IsWordNumeral kind text → All (IsWordNumeral kind) (text ∷ [])
+one_number kind text good = All-cons (IsWordNumeral kind) text [] good (no_numbers kind)
 
 module _ (names : List (List ℕ)) (keyword : List ℕ) (rest : List (List ℕ)) where
   means_good : (c : Command) → Means names c keyword rest
-      → WordsOnLineAreNamed names (kinds_on_line keyword) rest × AreNumbersOnLine (kinds_on_line keyword) rest
+      → HaveDistinctNames names (kinds_on_line keyword) rest × AreNumerals (kinds_on_line keyword) rest
   unfolding kinds_beside
   means_good (Call (Play (Lend v))) (word, one, (key, place)) =
       rw (key, one) ((named_alone names word v place, tt), (no_numbers vertex, tt))
@@ -65,7 +65,7 @@ module _ (names : List (List ℕ)) (keyword : List ℕ) (rest : List (List ℕ))
   means_good (Call (Play (Script s))) (word, one, (key, known)) =
       rw (key, one) (
         (known.script.are_given, tt),
-        (told_numbers (map number_part_of_item (items word)) known.numbers known.spelled known.limit, tt),
+        (told_numbers (map item_number (items word)) known.numbers known.spelled known.limit, tt),
       )
   means_good (Call (Gift v x)) (key, known) =
       rw (key, known.given) (
@@ -83,23 +83,23 @@ module _ (names : List (List ℕ)) (keyword : List ℕ) (rest : List (List ℕ))
   means_good (Rank k) (key, one, small) =
       rw (key, one) ((none_given names, tt), (one_number degree (decimal k) (rank_number k small), tt))
 
-  unwanted : kinds_wanted_on_line keyword ≡ None → IsWellFormedLine keyword rest → ⊥
+  unwanted : wanted_kinds keyword ≡ None → IsWellFormed keyword rest → ⊥
   unwanted none formed =
       let no : Some (length rest) ≡ None = sym formed.wanted ∙ ap (option_map length) none in cc
 
-  not_wanted : kinds_wanted_on_line keyword ≡ None → IsSome (kinds_wanted_on_line keyword) → ⊥
+  not_wanted : wanted_kinds keyword ≡ None → IsSome (wanted_kinds keyword) → ⊥
   not_wanted e f = let no : false ≡ true = sym (ap is_some e) ∙ f in cc
 
-  no_fault : (c : Command) (fault : LineFault) → IsWellFormedLine keyword rest → Means names c keyword rest
-      → AreRefusedStepLines names fault keyword rest → ⊥
+  no_fault : (c : Command) (fault : LineFault) → IsWellFormed keyword rest → Means names c keyword rest
+      → AreRefusedWords names fault keyword rest → ⊥
   no_fault c Seat formed means refused = refused
   no_fault c Word formed means refused = unwanted refused formed
   no_fault c Form formed means refused = refused.1 formed
   no_fault c Name formed means refused = refused.1 (means_good c means).0
   no_fault c Number formed means refused = refused.2 (means_good c means).1
 
-  one_refusal : (one other : LineFault) → AreRefusedStepLines names one keyword rest
-      → AreRefusedStepLines names other keyword rest
+  one_refusal : (one other : LineFault) → AreRefusedWords names one keyword rest
+      → AreRefusedWords names other keyword rest
       → one ≡ other
   one_refusal Seat other a b = absurd a
   one_refusal one Seat a b = absurd b
@@ -155,7 +155,7 @@ module _ (names : List (List ℕ)) where
       (first.script.size ∙ sym second.script.size) (λ v inside.
       let below : v < length names = omega (arith, inside, first.script.size) in
       first.script.entries v below
-      ∙ ap (λ xs. number_spelled_for (map name_part_of_item (items word)) xs (name_at names v)) numbers
+      ∙ ap (λ xs. number_spelled_for (map item_name (items word)) xs (name_at names v)) numbers
       ∙ sym (second.script.entries v below))
     where
       numbers : first.numbers ≡ second.numbers
@@ -193,7 +193,7 @@ module _ (names : List (List ℕ)) (keyword : List ℕ) (rest : List (List ℕ))
   one_command (Call (Play (Fire members))) d (word, one, (key, known)) other form =
       let (m, is) = subst (HasForm d) key form in
       let also = meant_as d (play (Fire m)) is other in
-      let there = subst (λ w. IsSetSpelledBy names (items w) m) (one_word word also.0 rest one also.1) also.2.1 in
+      let there = subst (λ w. IsSpelledSet names (items w) m) (one_word word also.0 rest one also.1) also.2.1 in
       ap (λ x. play (Fire x)) (one_set names (items word) members m known there) ∙ sym is
   one_command (Call (Play (Script s))) d (word, one, (key, known)) other form =
       let (t, is) = subst (HasForm d) key form in
@@ -225,8 +225,8 @@ module _ (names : List (List ℕ)) (keyword : List ℕ) (rest : List (List ℕ))
       let same = one_word (decimal k) (decimal m) rest one also.1 in
       ap Rank (decimal_injective k m (omega arith) (omega (arith, also.2)) (sym same)) ∙ sym is
 
-pub lines_have_one_meaning : LinesHaveOneMeaning
-lines_have_one_meaning = record {
+pub line_meaning_is_unique : LineMeaningIsUnique
+line_meaning_is_unique = record {
   not_both = λ names line c fault known refused.
       no_fault names known.keyword known.rest c fault known.formed known.means
       (refused_at names line known.keyword known.rest known.cut fault refused);

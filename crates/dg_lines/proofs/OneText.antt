@@ -5,9 +5,9 @@
 --   verdict_same   and one text
 --   test_same      so have right rank tests of one degree
 --   verdict_row_same, loss_row_same   a verdict has one row, and so has a first loss
-use Rattle.dg_lines.proofs.Common.{◌≡◌, ℕ, ◌+◌, ◌<◌, Bool, true, false, List, [], ◌∷◌, ◌++◌, length, codes, arith, refl, sym, ap, ◌∙◌, ◌↔◌, decimal, ints, Multigraph, IsMultigraph, Amounts, DivisorsAgreeOn, IsWinnable, same_by_constant, equivalent-sym, equivalent-trans, loss_once, loss_bounds_rank, reduced_once, Some, Vector, at, IsRight, IsRightRankVerdict, Verdict, RankVerdict, AtLeast, Below, pair, verdict_word, verdict_text, rank_text}
+use Rattle.dg_lines.proofs.Common.{◌≡◌, ℕ, ◌+◌, ◌<◌, Bool, true, false, List, [], ◌∷◌, ◌++◌, length, codes, arith, refl, sym, ap, ◌∙◌, ◌↔◌, decimal, ints, Multigraph, IsMultigraph, Amounts, DivisorsAgreeOn, IsWinnable, same_by_constant, equivalent-sym, equivalent-trans, loss_once, loss_bounds_rank, reduced_once, Some, Vector, at, IsRightVerdict, IsRightRank, Verdict, RankVerdict, AtLeast, Below, pair, verdict_word, verdict_text, rank_text}
 use Rattle.std.proofs.Math.IntN.{ℤ}
-use Rattle.dg_lines.specs.Columns.{columns, rank_row, truth_text, vector_columns, verdict_row}
+use Rattle.dg_lines.specs.Columns.{columns, rank_row, bool_text, vector_columns, verdict_row}
 use Rattle.dg_lines.specs.Texts.{more_pairs, pairs}
 use Rattle.dg_lines.proofs.Rows.{columns_same}
 
@@ -38,7 +38,7 @@ module _ (names : List (List ℕ)) (g : Multigraph) (D : Amounts) (fit : length 
   shown_same : (d e : Vector) → DivisorsAgreeOn g.size (at d) (at e) → pairs names (at d) ≡ pairs names (at e)
   shown_same d e same = pairs_same names (at d) (at e) (λ v below. same v (omega (arith, below, fit)))
 
-  pub reduced_same : (q : ℕ) → q < g.size → (x y : Verdict) → IsRight g q D x → IsRight g q D y
+  pub reduced_same : (q : ℕ) → q < g.size → (x y : Verdict) → IsRightVerdict g q D x → IsRightVerdict g q D y
       → DivisorsAgreeOn g.size (at x.reduced) (at y.reduced)
   reduced_same q vertex x y first second =
       reduced_once g q (at x.reduced) (at y.reduced) vertex
@@ -46,14 +46,14 @@ module _ (names : List (List ℕ)) (g : Multigraph) (D : Amounts) (fit : length 
       (equivalent-sym g D (at x.reduced) (at x.script, first.led)) (at y.script, second.led))
       first.reduced second.reduced
 
-  script_same : (q : ℕ) → IsMultigraph g → q < g.size → (x y : Verdict) → IsRight g q D x → IsRight g q D y
+  script_same : (q : ℕ) → IsMultigraph g → q < g.size → (x y : Verdict) → IsRightVerdict g q D x → IsRightVerdict g q D y
       → DivisorsAgreeOn g.size (at x.script) (at y.script)
   script_same q graph vertex x y first second =
       let (z, apart) = (same_by_constant g D (at x.script) (at y.script) graph).0
       (λ v below. sym (first.led v below) ∙ reduced_same q vertex x y first second v below ∙ second.led v below) in
       λ v below. omega (arith, ints, apart v below, apart q vertex, first.at_q, second.at_q)
 
-  pub verdict_same : (q : ℕ) → IsMultigraph g → q < g.size → (x y : Verdict) → IsRight g q D x → IsRight g q D y
+  pub verdict_same : (q : ℕ) → IsMultigraph g → q < g.size → (x y : Verdict) → IsRightVerdict g q D x → IsRightVerdict g q D y
       → verdict_text names x ≡ verdict_text names y
   verdict_same q graph vertex x y first second =
       ap (λ (w : Bool). verdict_word w ++ pairs names (at x.script) ++ codes " to " ++ pairs names (at x.reduced))
@@ -63,7 +63,7 @@ module _ (names : List (List ℕ)) (g : Multigraph) (D : Amounts) (fit : length 
       ∙ ap (λ (ps : List ℕ). verdict_word y.winnable ++ pairs names (at y.script) ++ codes " to " ++ ps)
       (shown_same x.reduced y.reduced (reduced_same q vertex x y first second))
 
-  pub test_same : (k : ℕ) (x y : RankVerdict) → IsRightRankVerdict g D k x → IsRightRankVerdict g D k y
+  pub test_same : (k : ℕ) (x y : RankVerdict) → IsRightRank g D k x → IsRightRank g D k y
       → rank_text names x ≡ rank_text names y
   test_same k (AtLeast i) (AtLeast j) first second =
       ap (λ (n : ℕ). codes "rank at least " ++ decimal n) (first.0 ∙ sym second.0)
@@ -82,20 +82,20 @@ module _ (g : Multigraph) (D : Amounts) where
       ∙ ap (columns (at e) 0) (one ∙ sym other)
 
   pub verdict_row_same : (names : List (List ℕ)) → length names ≡ g.size → (q : ℕ) → IsMultigraph g → q < g.size
-      → (x y : Verdict) → IsRight g q D x → IsRight g q D y → verdict_row x ≡ verdict_row y
+      → (x y : Verdict) → IsRightVerdict g q D x → IsRightVerdict g q D y → verdict_row x ≡ verdict_row y
   verdict_row_same names fit q graph vertex x y first second =
-      ap (λ (w : Bool). truth_text w ++ vector_columns x.script ++ vector_columns x.reduced ++ codes "\n")
+      ap (λ (w : Bool). bool_text w ++ vector_columns x.script ++ vector_columns x.reduced ++ codes "\n")
       (win_once (IsWinnable g D) x.winnable y.winnable first.winnable second.winnable)
-      ∙ ap (λ (l : List ℕ). truth_text y.winnable ++ l ++ vector_columns x.reduced ++ codes "\n")
+      ∙ ap (λ (l : List ℕ). bool_text y.winnable ++ l ++ vector_columns x.reduced ++ codes "\n")
       (vector_same x.script y.script first.script_size second.script_size
       (script_same names g D fit q graph vertex x y first second))
-      ∙ ap (λ (l : List ℕ). truth_text y.winnable ++ vector_columns y.script ++ l ++ codes "\n")
+      ∙ ap (λ (l : List ℕ). bool_text y.winnable ++ vector_columns y.script ++ l ++ codes "\n")
       (vector_same x.reduced y.reduced first.reduced_size second.reduced_size
       (reduced_same names g D fit q vertex x y first second))
 
-  pub loss_row_same : (n k : ℕ) (holds : Bool) (d e : Vector) → IsRightRankVerdict g D k (Below k d) → IsRightRankVerdict g D
+  pub loss_row_same : (n k : ℕ) (holds : Bool) (d e : Vector) → IsRightRank g D k (Below k d) → IsRightRank g D
       k (Below k e)
       → rank_row n holds (Some d) ≡ rank_row n holds (Some e)
   loss_row_same n k holds d e first second =
-      ap (λ (l : List ℕ). truth_text holds ++ l ++ codes "\n")
+      ap (λ (l : List ℕ). bool_text holds ++ l ++ codes "\n")
       (vector_same d e first.1 second.1 (loss_once g D k (at d) (at e) first.2 second.2))

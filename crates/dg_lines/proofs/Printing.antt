@@ -1,13 +1,13 @@
 -- Histories as texts.
 --   legal_named      each reply of a legal history has as many amounts as there are vertices
 --   history_more     the text of a history with one more entry ends with that entry's line
-use Rattle.dg_lines.proofs.Common.{◌≡◌, ℕ, ◌+◌, List, [], ◌∷◌, ◌++◌, length, arith, sym, subst, ap, ◌∙◌, append_assoc, StartData, IsLegal, IsReplyOfSize, Entry, legal_sized, entry_text, RepliesHaveNames}
+use Rattle.dg_lines.proofs.Common.{◌≡◌, ℕ, ◌+◌, List, [], ◌∷◌, ◌++◌, length, arith, sym, subst, ap, ◌∙◌, append_assoc, StartData, IsLegal, IsSizedReply, Entry, legal_sized, entry_text, RepliesHaveNames}
 use Rattle.std.proofs.Common.{append-nil}
 use Rattle.dg_lines.specs.Texts.{history_text}
 
 pub legal_named : (names : List (List ℕ)) (o : StartData) (H : List Entry) → length names ≡ o.graph.size → IsLegal o H →
     RepliesHaveNames names H
-legal_named names o H fit legal k e at = subst (λ (n : ℕ). IsReplyOfSize n e.reply) (sym fit) (legal_sized o H k e legal at)
+legal_named names o H fit legal k e at = subst (λ (n : ℕ). IsSizedReply n e.reply) (sym fit) (legal_sized o H k e legal at)
 
 pub history_more : (names : List (List ℕ)) (n : ℕ) (H : List Entry) (e : Entry) →
     history_text names n (H ++ e ∷ []) ≡ history_text names n H ++ entry_text names (n + length H) e.reply

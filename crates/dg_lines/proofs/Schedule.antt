@@ -3,7 +3,7 @@
 --   AreRead names all left steps == the lines before those that are left spell the steps
 --   none_read, one_more, all_read   at first, with one more line, and at the end
 --   steps_seated                    steps that lines spell have seats
-use Rattle.dg_lines.proofs.Common.{◌≡◌, ℕ, zero, suc, ◌+◌, length, List, [], ◌∷◌, ◌++◌, Some, refl, ap, sym, ◌∙◌, subst, append_assoc, slice_get, arith, append-nil, length-append, Step, IsStepLine, AreStepsOf, StepLinesHaveSeats}
+use Rattle.dg_lines.proofs.Common.{◌≡◌, ℕ, zero, suc, ◌+◌, length, List, [], ◌∷◌, ◌++◌, Some, refl, ap, sym, ◌∙◌, subst, append_assoc, slice_get, arith, append-nil, length-append, Step, IsStepLine, AreStepsOf, StepsHaveSeats}
 
 pub record AreRead (names : List (List ℕ)) (all left : List (List ℕ)) (steps : List Step) : Type 0 where
   pub front : List (List ℕ)
@@ -59,7 +59,7 @@ some_line (s ∷ steps) (line ∷ lines) zero step count e = (line, refl)
 some_line (s ∷ steps) (line ∷ lines) (suc k) step count e = some_line steps lines k step (omega arith) e
 
 pub steps_seated : (names : List (List ℕ)) (steps : List Step) (lines : List (List ℕ)) → AreStepsOf names steps lines →
-    StepLinesHaveSeats steps
+    StepsHaveSeats steps
 steps_seated names steps lines known k step e =
     let line = some_line steps lines k step known.count e in
     let spelled = known.each k step line.0 e line.1 in

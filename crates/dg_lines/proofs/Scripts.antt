@@ -9,7 +9,7 @@
 --   HasPairs names all left set entries flag == `left` are the last of the items, and so much is read of
 --                                               those before
 -- What a loop over the pairs does: none read, one more, all; and what it comes to.
-use Rattle.dg_lines.proofs.Common.{◌≡◌, ◌≢◌, ℕ, ◌+◌, ◌<◌, ◌≤◌, ◌==◌, ◌&&◌, cond, Bool, true, false, ℤ, pos, negsuc, neg_ℤ, unsigned_abs, List, [], ◌∷◌, ◌++◌, length, take, map, Option, Some, None, refl, ap, sym, ◌∙◌, subst, arith, append_assoc, FitsSigned, w64, MatchOption, Bor, bytes_eq, All, is_some, replicate, signed_decimal, slice_index_or, slice_set, option_copied, eqb-true, nat_tests, signed_decimal_injective, ints, append-nil, map-append, length-append, length-take, length-set, get_or-set_same, get_or-set_other, get_or_past, get_or-take, get_or-replicate, length-replicate, All-nil, All-cons, All-head, All-tail, All-push, Vector, IsScriptVector, HoldsNumbers, MAX_ENTRY, has, name_at, IsNumeralWithin, AreNamesOnLine, name_part_of_item, number_part_of_item, IsScriptSpelledBy}
+use Rattle.dg_lines.proofs.Common.{◌≡◌, ◌≢◌, ℕ, ◌+◌, ◌<◌, ◌≤◌, ◌==◌, ◌&&◌, cond, Bool, true, false, ℤ, pos, negsuc, neg_ℤ, unsigned_abs, List, [], ◌∷◌, ◌++◌, length, take, map, Option, Some, None, refl, ap, sym, ◌∙◌, subst, arith, append_assoc, FitsSigned, w64, MatchOption, Bor, bytes_eq, All, is_some, replicate, signed_decimal, slice_index_or, slice_set, option_copied, eqb-true, nat_tests, signed_decimal_injective, ints, append-nil, map-append, length-append, length-take, length-set, get_or-set_same, get_or-set_other, get_or_past, get_or-take, get_or-replicate, length-replicate, All-nil, All-cons, All-head, All-tail, All-push, Vector, IsScriptVector, HoldsNumbers, MAX_ENTRY, names_contain, name_at, IsNumeralWithin, AreDistinctNames, item_name, item_number, IsSpelledScript}
 use Rattle.std.proofs.Common.{◌≤ℤ◌}
 use Rattle.std.specs.Prelude.{unwrap_or}
 use Rattle.std.specs.List.{IsDistinct}
@@ -91,14 +91,14 @@ module _ (name own : List ℕ) (x : ℤ) where
   given_before (first ∷ done) (y ∷ numbers) count other =
       ap (λ rest. cond (bytes_eq first own) y rest) (given_before done numbers (omega arith) other)
 
-  given_last : (done : List (List ℕ)) (numbers : List ℤ) → length done ≡ length numbers → has done own ≡ false
+  given_last : (done : List (List ℕ)) (numbers : List ℤ) → length done ≡ length numbers → names_contain done own ≡ false
       → bytes_eq name own ≡ true → number_spelled_for (done ++ name ∷ []) (numbers ++ x ∷ []) own ≡ x
   unfolding number_spelled_for
   given_last [] [] count fresh same = ap (λ t. cond t x (pos 0)) same
   given_last [] (y ∷ numbers) count fresh same = absurd (omega arith)
   given_last (first ∷ done) [] count fresh same = absurd (omega arith)
   given_last (first ∷ done) (y ∷ numbers) count fresh same =
-      let (differs, later) = or-false (bytes_eq own first) (has done own) fresh in
+      let (differs, later) = or-false (bytes_eq own first) (names_contain done own) fresh in
       ap (λ t. cond t y (number_spelled_for (done ++ name ∷ []) (numbers ++ x ∷ []) own))
       (same_bytes.symm first own ∙ differs) ∙ given_last done numbers (omega arith) later same
 
@@ -114,15 +114,15 @@ pub record AreRead (names given texts : List (List ℕ)) (entries : List ℤ) (f
   pub unspelled : flag ≡ false → All IsEntryText texts → ⊥
 
 pub record HasPairs (names all left : List (List ℕ)) (set : ℕ) (entries : List ℤ) (flag : Bool) : Type 0 where
-  pub taken : HasTaken names (map name_part_of_item all) (map name_part_of_item left) set
+  pub taken : HasTaken names (map item_name all) (map item_name left) set
   pub told : List (List ℕ)
-  pub whole : map number_part_of_item all ≡ told ++ map number_part_of_item left
+  pub whole : map item_number all ≡ told ++ map item_number left
   pub read : AreRead names taken.done told entries flag
 
 pub no_pairs : (names all : List (List ℕ)) → HasPairs names all all 0 (replicate 16 (pos 0)) true
 unfolding none_taken
 no_pairs names all = record {
-  taken = none_taken names (map name_part_of_item all);
+  taken = none_taken names (map item_name all);
   told = [];
   whole = refl;
   read = record {
@@ -201,7 +201,7 @@ module _ (names done told : List (List ℕ)) (entries : List ℤ) (flag : Bool)
           let room : v < length entries = omega (arith, found.0, known.size) in
           ap (λ n. slice_index_or (slice_set entries v x) n (pos 0)) is ∙ get_or-set_same entries v x (pos 0) room
           ∙ sym (given_last name (name_at names w) x done known.numbers known.count
-          (ap (has done) named ∙ next.fresh) (ap (bytes_eq name) named ∙ same_bytes.refl name))
+          (ap (names_contain done) named ∙ next.fresh) (ap (bytes_eq name) named ∙ same_bytes.refl name))
       number w less false differs =
           let other : w ≢ v = grind (arith, nat_tests) in
           get_or-set_other entries v w x (pos 0) other ∙ known.entered w less
@@ -216,9 +216,9 @@ module _ (names done told : List (List ℕ)) (entries : List ℤ) (flag : Bool)
       subst IsSmall (sym (get_or-take n entries v (pos 0) below ∙ known.entered v inside))
       (given_within done known.numbers (name_at names v) known.within)
 
-  pub script_in_word : (n : ℕ) (s : Vector) → AreNamesOnLine names done → IsScriptVector s → n ≡ length names → n ≤ 16
-      → HoldsNumbers (take n entries) s → IsScriptSpelledBy names done known.numbers s
-  script_in_word n s given script same few held =
+  pub parse_script : (n : ℕ) (s : Vector) → AreDistinctNames names done → IsScriptVector s → n ≡ length names → n ≤ 16
+      → HoldsNumbers (take n entries) s → IsSpelledScript names done known.numbers s
+  parse_script n s given script same few held =
       let long : length (take n entries) ≡ length names = omega (arith, length-take n entries, known.size) in
       record {
         are_given = given;
@@ -231,45 +231,45 @@ module _ (names done told : List (List ℕ)) (entries : List ℤ) (flag : Bool)
 module _ (names all left back : List (List ℕ)) (item : List ℕ) (set : ℕ) (entries : List ℤ) (flag : Bool)
     (e : left ≡ item ∷ back) (known : HasPairs names all left set entries flag) where
   pub one_pair : (o : Option ℤ) (more v : ℕ) → length names ≤ 16 → IsDistinct bytes_eq names
-      → place_of names (name_part_of_item item) ≡ Some v → in_set set v ≡ false → in_set more v ≡ true
-      → ((w : ℕ) → w ≢ v → in_set more w ≡ in_set set w) → IsSpelled (number_part_of_item item) o
+      → place_of names (item_name item) ≡ Some v → in_set set v ≡ false → in_set more v ≡ true
+      → ((w : ℕ) → w ≢ v → in_set more w ≡ in_set set w) → IsSpelled (item_number item) o
       → HasPairs names all back more (slice_set entries v (unwrap_or o (pos 0))) (flag && is_some o)
   unfolding one_taken
   one_pair o more v few distinct place absent here others is = record {
     taken =
-        one_taken names (map name_part_of_item all) (map name_part_of_item left) (map name_part_of_item back)
-        (name_part_of_item item) set
-        (ap (map name_part_of_item) e) known.taken more v distinct place absent here others;
-    told = known.told ++ number_part_of_item item ∷ [];
+        one_taken names (map item_name all) (map item_name left) (map item_name back)
+        (item_name item) set
+        (ap (map item_name) e) known.taken more v distinct place absent here others;
+    told = known.told ++ item_number item ∷ [];
     whole =
-        known.whole ∙ ap (λ rest. known.told ++ map number_part_of_item rest) e
-        ∙ sym (append_assoc known.told (number_part_of_item item ∷ []) (map number_part_of_item back));
+        known.whole ∙ ap (λ rest. known.told ++ map item_number rest) e
+        ∙ sym (append_assoc known.told (item_number item ∷ []) (map item_number back));
     read =
-        one_read names known.taken.done known.told entries flag known.read (name_part_of_item item) (number_part_of_item item) o v
-        (is_next names known.taken.done (name_part_of_item item) set v distinct place known.taken.is_set absent) few is;
+        one_read names known.taken.done known.told entries flag known.read (item_name item) (item_number item) o v
+        (is_next names known.taken.done (item_name item) set v distinct place known.taken.is_set absent) few is;
   }
 
 module _ (names all left : List (List ℕ)) (set : ℕ) (entries : List ℤ) (flag : Bool)
     (known : HasPairs names all left set entries flag) where
-  pub all_pairs : left ≡ [] → AreNamesOnLine names (map name_part_of_item all)
-      × AreRead names (map name_part_of_item all) (map number_part_of_item all) entries flag
+  pub all_pairs : left ≡ [] → AreDistinctNames names (map item_name all)
+      × AreRead names (map item_name all) (map item_number all) entries flag
   all_pairs e =
-      let given : known.taken.done ≡ map name_part_of_item all =
-      sym (known.taken.whole ∙ ap (λ rest. known.taken.done ++ map name_part_of_item rest) e ∙ append-nil known.taken.done) in
-      let texts : known.told ≡ map number_part_of_item all =
-      sym (known.whole ∙ ap (λ rest. known.told ++ map number_part_of_item rest) e ∙ append-nil known.told) in (
-        subst (AreNamesOnLine names) given known.taken.is_set.are_given,
-        subst (λ ts. AreRead names (map name_part_of_item all) ts entries flag) texts
+      let given : known.taken.done ≡ map item_name all =
+      sym (known.taken.whole ∙ ap (λ rest. known.taken.done ++ map item_name rest) e ∙ append-nil known.taken.done) in
+      let texts : known.told ≡ map item_number all =
+      sym (known.whole ∙ ap (λ rest. known.told ++ map item_number rest) e ∙ append-nil known.told) in (
+        subst (AreDistinctNames names) given known.taken.is_set.are_given,
+        subst (λ ts. AreRead names (map item_name all) ts entries flag) texts
             (subst (λ gs. AreRead names gs known.told entries flag) given known.read),
       )
 
 -- ---- what the code comes to
-pub vertex_in_word : (names : List (List ℕ)) (name item : List ℕ) (place v : ℕ) → name ≡ name_part_of_item item
-    → Some place ≡ place_of names name → v ≡ place → place_of names (name_part_of_item item) ≡ Some v
-vertex_in_word names name item place v part there same = ap (place_of names) (sym part) ∙ sym there ∙ ap Some (sym same)
+pub parse_vertex : (names : List (List ℕ)) (name item : List ℕ) (place v : ℕ) → name ≡ item_name item
+    → Some place ≡ place_of names name → v ≡ place → place_of names (item_name item) ≡ Some v
+parse_vertex names name item place v part there same = ap (place_of names) (sym part) ∙ sym there ∙ ap Some (sym same)
 
 pub part_after : (item : List ℕ) (o : Option (Bor (List ℕ))) (other text : Bor (List ℕ)) → other.now ≡ []
-    → option_copied o ≡ after 61 item → text ≡ unwrap_or o other → text.now ≡ number_part_of_item item
+    → option_copied o ≡ after 61 item → text ≡ unwrap_or o other → text.now ≡ item_number item
 part_after item None other text none e is =
     ap (λ (t : Bor (List ℕ)). t.now) is ∙ none ∙ ap (λ (rest : Option (List ℕ)). unwrap_or rest []) e
 part_after item (Some rest) other text none e is =

@@ -1,7 +1,7 @@
 -- A line spells no two steps, has no two faults, and never both.
---   steps_have_one_meaning
-use Rattle.dg_lines.proofs.Common.{◌≡◌, ℕ, ◌⊎◌, inl, inr, List, Some, refl, sym, ◌∙◌, subst, Step, LineFault, Seat, Word, Form, Name, Number, LineSpellsCommand, IsLineFault, StepsHaveOneMeaning, IsSeatedLine, IsStepLine, IsStepTextFault, IsStepFault}
-use Rattle.dg_lines.proofs.Meaning.{lines_have_one_meaning}
+--   step_meaning_is_unique
+use Rattle.dg_lines.proofs.Common.{◌≡◌, ℕ, ◌⊎◌, inl, inr, List, Some, refl, sym, ◌∙◌, subst, Step, LineFault, Seat, Word, Form, Name, Number, SpellsCommand, IsLineFault, StepMeaningIsUnique, IsSeatedLine, IsStepLine, IsTextFault, IsStepFault}
+use Rattle.dg_lines.proofs.Meaning.{line_meaning_is_unique}
 use Rattle.dg_lines.proofs.Stepping.{IsUnseated, seated_parts}
 
 module _ (names : List (List ℕ)) (line : List ℕ) where
@@ -16,7 +16,7 @@ module _ (names : List (List ℕ)) (line : List ℕ) where
 
   -- a fault is that of the seat or that of the text
   abbrev IsEither : LineFault → Type 0
-  IsEither fault = ((fault ≡ Seat) × IsUnseated line) ⊎ IsStepTextFault names fault line
+  IsEither fault = ((fault ≡ Seat) × IsUnseated line) ⊎ IsTextFault names fault line
 
   which : (fault : LineFault) → IsStepFault names fault line → IsEither fault
   which Seat refused = inl (refl, refused)
@@ -29,8 +29,8 @@ module _ (names : List (List ℕ)) (line : List ℕ) where
   not_both step fault known (inl (is, never)) = never step.seat known.text known.seated
   not_both step fault known (inr refused) =
       let same = one_seat step.seat refused.seat known.text refused.text known.seated refused.seated in
-      lines_have_one_meaning.not_both names refused.text step.command fault
-      (subst (LineSpellsCommand names step.command) same.1 known.means) refused.refused
+      line_meaning_is_unique.not_both names refused.text step.command fault
+      (subst (SpellsCommand names step.command) same.1 known.means) refused.refused
 
   one_fault : (one other : LineFault) → IsEither one → IsEither other → one ≡ other
   one_fault one other (inl (is, never)) (inl (also, neither)) = is ∙ sym also
@@ -38,19 +38,19 @@ module _ (names : List (List ℕ)) (line : List ℕ) where
   one_fault one other (inr refused) (inl (is, never)) = absurd (never refused.seat refused.text refused.seated)
   one_fault one other (inr first) (inr second) =
       let same = one_seat first.seat second.seat first.text second.text first.seated second.seated in
-      lines_have_one_meaning.fault names second.text one other
+      line_meaning_is_unique.fault names second.text one other
       (subst (IsLineFault names one) same.1 first.refused) second.refused
 
   one_step : (c d : Step) → IsStepLine names c line → IsStepLine names d line
       → c ≡ d
   one_step c d first second =
       let same = one_seat c.seat d.seat first.text second.text first.seated second.seated in
-      let means = subst (LineSpellsCommand names c.command) same.1 first.means in
-      let command = lines_have_one_meaning.command names second.text c.command d.command means second.means in
+      let means = subst (SpellsCommand names c.command) same.1 first.means in
+      let command = line_meaning_is_unique.command names second.text c.command d.command means second.means in
       λ i. record { seat = same.0 i; command = command i }
 
-pub steps_have_one_meaning : StepsHaveOneMeaning
-steps_have_one_meaning = record {
+pub step_meaning_is_unique : StepMeaningIsUnique
+step_meaning_is_unique = record {
   not_both = λ names line step fault known refused.
       not_both names line step fault known (which names line fault refused);
   step = one_step;

@@ -6,7 +6,7 @@
 --   part_plain, part_front, part_whole, part_line   what `cut` gives of bytes: a part with no newline, and what
 --       follows it
 --   line_shorter  what stands after a line is shorter
-use Rattle.dg_lines.proofs.Common.{Bor, length, ◌<◌, ◌≤◌, inl, inr, subst, ◌≡◌, ◌≢◌, ℕ, ◌==◌, cond, Bool, true, false, List, [], ◌∷◌, ◌++◌, Option, Some, None, refl, sym, ap, ◌∙◌, arith, append_assoc, flat_map, All-head, All-tail, All-append, All-cons, All-nil, flat_map-append, nat_tests, option_copied, onto_first_piece, HasNoNewline, BeginsWithLines, LinesOfTextHaveCome, with_newline, last_line}
+use Rattle.dg_lines.proofs.Common.{Bor, length, ◌<◌, ◌≤◌, inl, inr, subst, ◌≡◌, ◌≢◌, ℕ, ◌==◌, cond, Bool, true, false, List, [], ◌∷◌, ◌++◌, Option, Some, None, refl, sym, ap, ◌∙◌, arith, append_assoc, flat_map, All-head, All-tail, All-append, All-cons, All-nil, flat_map-append, nat_tests, option_copied, cons_to_first, HasNoNewline, BeginsWithLines, LinesHaveCome, with_newline, last_line}
 use Rattle.std.proofs.Common.{length-append, append-nil, All}
 use Rattle.dg_lines.specs.Cuts.{before, after, lines}
 
@@ -52,19 +52,19 @@ line_first : (line rest : List ℕ) → HasNoNewline line → lines (line ++ 10 
 unfolding lines
 line_first [] rest none = refl
 line_first (x ∷ xs) rest none =
-    ap (λ t. cond t ([] ∷ lines (xs ++ 10 ∷ rest)) (onto_first_piece x (lines (xs ++ 10 ∷ rest))))
+    ap (λ t. cond t ([] ∷ lines (xs ++ 10 ∷ rest)) (cons_to_first x (lines (xs ++ 10 ∷ rest))))
     (other_byte x (All-head Other x xs none))
-    ∙ ap (onto_first_piece x) (line_first xs rest (All-tail Other x xs none))
+    ∙ ap (cons_to_first x) (line_first xs rest (All-tail Other x xs none))
 
 rest_last : (rest : List ℕ) → HasNoNewline rest → lines rest ≡ last_line rest
 unfolding lines
 rest_last [] none = refl
 rest_last (x ∷ []) none =
-    ap (λ t. cond t ([] ∷ lines []) (onto_first_piece x (lines []))) (other_byte x (All-head Other x [] none))
+    ap (λ t. cond t ([] ∷ lines []) (cons_to_first x (lines []))) (other_byte x (All-head Other x [] none))
 rest_last (x ∷ y ∷ ys) none =
-    ap (λ t. cond t ([] ∷ lines (y ∷ ys)) (onto_first_piece x (lines (y ∷ ys))))
+    ap (λ t. cond t ([] ∷ lines (y ∷ ys)) (cons_to_first x (lines (y ∷ ys))))
     (other_byte x (All-head Other x (y ∷ ys) none))
-    ∙ ap (onto_first_piece x) (rest_last (y ∷ ys) (All-tail Other x (y ∷ ys) none))
+    ∙ ap (cons_to_first x) (rest_last (y ∷ ys) (All-tail Other x (y ∷ ys) none))
 
 -- no line has a newline
 module _ {P : List ℕ → Type 0} (plain : (line : List ℕ) → P line → HasNoNewline line) where
@@ -85,14 +85,14 @@ module _ {P : List ℕ → Type 0} (plain : (line : List ℕ) → P line → Has
   one_cutting stream rest ls cut none = lines_of cut ∙ ap (λ l. ls ++ l) (rest_last rest none)
 
   pub come_then : {E ended : Type 0} (over : E → ended) {stream rest : List ℕ} {ls : List (List ℕ)}
-      (last : List (List ℕ)) → BeginsWithLines P stream ls rest → LinesOfTextHaveCome P E rest last
-      → LinesOfTextHaveCome P ended stream (ls ++ last)
+      (last : List (List ℕ)) → BeginsWithLines P stream ls rest → LinesHaveCome P E rest last
+      → LinesHaveCome P ended stream (ls ++ last)
   come_then over {stream} {rest} {ls} last p come = elim come [
     | inl more ↦ inl (more.0, begins_then p more.1)
     | inr all ↦ inr (over all.0, ap (λ l. ls ++ l) all.1 ∙ sym (lines_of p), All-append P ls last p.each all.2)
   ]
 
-  pub come_last : {ended : Type 0} (p : List ℕ) → ended → P p → LinesOfTextHaveCome P ended p (last_line p)
+  pub come_last : {ended : Type 0} (p : List ℕ) → ended → P p → LinesHaveCome P ended p (last_line p)
   come_last p over is = inr (over, sym (rest_last p (plain p is)), each_last P p is)
 
 no_newline : (bytes : List ℕ) → HasNoNewline (before 10 bytes)

@@ -1,19 +1,19 @@
 -- Command lines: what a line spells. A line is cut into words at each single space, so that two
 -- spaces in a row make an empty word. `names` are the names of the vertices, in vertex order.
---   row keyword                          == the command word, and the kinds of the words after it
---   keywords                             == all commands
---   command_words                        == their rows: the table of the step language
---   kinds_beside rows word               == the kinds beside the word, in the first of the rows that has it, if
---                                           one has
---   kinds_wanted_on_line keyword         == the kinds of the words after the command word, if it is one
---   kinds_on_line keyword                == these kinds, and none if it is no command word
---   words_wanted_on_line keyword         == how many words follow the command word, if it is one
---   IsWellFormedLine keyword rest        == so many words follow it, and none of them is empty
---   IsMoveWord names move keyword word   == the command word and the word after it spell the move
---   MeansGift names v x rest             == the two words name the vertex v and spell the number x
---   MeansJoin names u v rest             == the two words name the vertices u and v, which may be the same
---   Means names command keyword rest     == the command word and the words after it spell the command
---   LineSpellsCommand names command line == the line has the right form, and its words spell the command
+--   row keyword                        == the command word, and the kinds of the words after it
+--   keywords                           == all commands
+--   command_words                      == their rows: the table of the step language
+--   kinds_beside rows word             == the kinds beside the word, in the first of the rows that has it, if
+--                                         one has
+--   wanted_kinds keyword               == the kinds of the words after the command word, if it is one
+--   kinds_on_line keyword              == these kinds, and none if it is no command word
+--   wanted_words keyword               == how many words follow the command word, if it is one
+--   IsWellFormed keyword rest          == so many words follow it, and none of them is empty
+--   IsMoveWord names move keyword word == the command word and the word after it spell the move
+--   MeansGift names v x rest           == the two words name the vertex v and spell the number x
+--   MeansJoin names u v rest           == the two words name the vertices u and v, which may be the same
+--   Means names command keyword rest   == the command word and the words after it spell the command
+--   SpellsCommand names command line   == the line has the right form, and its words spell the command
 use Rattle.std.specs.Prelude.{◌≡◌, ◌≢◌, ℕ, ◌<◌, ◌^◌, ℤ, FitsSigned, List, [], ◌∷◌, length, map, cond, Option, Some, None, option_map, unwrap_or, All, bytes_eq, codes, decimal}
 use Rattle.std.specs.Fmt.{signed_decimal}
 use Rattle.std.specs.Int.{w64}
@@ -24,7 +24,7 @@ use Rattle.dg_rules.specs.declared.step.Command.TheVariants.{Call, Commit, Rank}
 use Rattle.dg_tokens.specs.Names.{place_of}
 use Rattle.dg_rules.specs.declared.entry.Plain.TheVariants.{Gift, Join, Look, Claim, Move as Play}
 use Rattle.dg_lines.specs.Cuts.{words, items}
-use Rattle.dg_lines.specs.CommandWords.{WordKind, vertex, vertices, script, degree, dollars, IsSetSpelledBy, SpellsScript}
+use Rattle.dg_lines.specs.CommandWords.{WordKind, vertex, vertices, script, degree, dollars, IsSpelledSet, SpellsScript}
 use Rattle.dg_lines.specs.declared.command.Keyword.{Keyword}
 use Rattle.dg_lines.specs.declared.command.Keyword.TheVariants as of
 
@@ -53,24 +53,24 @@ kinds_beside [] word = None
 kinds_beside (first ∷ rows) word =
     cond (bytes_eq word first.0) (Some first.1) (kinds_beside rows word)
 
-abbrev pub kinds_wanted_on_line : List ℕ → Option (List WordKind)
-kinds_wanted_on_line keyword = kinds_beside command_words keyword
+abbrev pub wanted_kinds : List ℕ → Option (List WordKind)
+wanted_kinds keyword = kinds_beside command_words keyword
 
 abbrev pub kinds_on_line : List ℕ → List WordKind
-kinds_on_line keyword = unwrap_or (kinds_wanted_on_line keyword) []
+kinds_on_line keyword = unwrap_or (wanted_kinds keyword) []
 
-abbrev pub words_wanted_on_line : List ℕ → Option ℕ
-words_wanted_on_line keyword = option_map length (kinds_wanted_on_line keyword)
+abbrev pub wanted_words : List ℕ → Option ℕ
+wanted_words keyword = option_map length (wanted_kinds keyword)
 
-pub record IsWellFormedLine (keyword : List ℕ) (rest : List (List ℕ)) : Type 0 where
-  pub wanted : words_wanted_on_line keyword ≡ Some (length rest)
+pub record IsWellFormed (keyword : List ℕ) (rest : List (List ℕ)) : Type 0 where
+  pub wanted : wanted_words keyword ≡ Some (length rest)
   pub filled : All (λ word. word ≢ []) rest
 
 abbrev pub IsMoveWord : List (List ℕ) → Move → List ℕ → List ℕ → Type 0
 IsMoveWord names (Lend v) keyword word = (keyword ≡ codes "lend") × (place_of names word ≡ Some v)
 IsMoveWord names (Borrow v) keyword word =
     (keyword ≡ codes "borrow") × (place_of names word ≡ Some v)
-IsMoveWord names (Fire set) keyword word = (keyword ≡ codes "fire") × IsSetSpelledBy names (items word) set
+IsMoveWord names (Fire set) keyword word = (keyword ≡ codes "fire") × IsSpelledSet names (items word) set
 IsMoveWord names (Script s) keyword word = (keyword ≡ codes "script") × SpellsScript names word s
 
 pub record MeansGift (names : List (List ℕ)) (v : ℕ) (x : ℤ) (rest : List (List ℕ)) : Type 0 where
@@ -97,9 +97,9 @@ Means names Commit keyword rest = (keyword ≡ codes "commit") × (rest ≡ [])
 Means names (Rank k) keyword rest =
     (keyword ≡ codes "rank") × (rest ≡ decimal k ∷ []) × (k < 2 ^ 32)
 
-pub record LineSpellsCommand (names : List (List ℕ)) (command : Command) (line : List ℕ) : Type 0 where
+pub record SpellsCommand (names : List (List ℕ)) (command : Command) (line : List ℕ) : Type 0 where
   pub keyword : List ℕ
   pub rest : List (List ℕ)
   pub cut : words line ≡ keyword ∷ rest
-  pub formed : IsWellFormedLine keyword rest
+  pub formed : IsWellFormed keyword rest
   pub means : Means names command keyword rest

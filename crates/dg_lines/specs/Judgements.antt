@@ -3,7 +3,7 @@
 --                                           after a space
 --   judgement_text names ordered x       == the text of the verdict x; and, if the order is asked for, in
 --                                           which order all vertices burn in its reduced divisor
---   JudgementHasNames names x            == there are as many names as the verdict has vertices, and its
+--   VerdictHasNames names x              == there are as many names as the verdict has vertices, and its
 --                                           order is one of vertices that have names
 --   IsJudgementText o names ordered text == the text is that of the verdict on the amounts of the start o,
 --                                           computed from its vertex q, and a newline
@@ -24,7 +24,7 @@ judgement_text names false x = verdict_text names x
 judgement_text names true x =
     verdict_text names x ++ burning_text names (take (length names) x.order)
 
-pub record JudgementHasNames (names : List (List ℕ)) (x : Verdict) : Type 0 where
+pub record VerdictHasNames (names : List (List ℕ)) (x : Verdict) : Type 0 where
   pub script : length names ≡ x.script.size
   pub reduced : length names ≡ x.reduced.size
   pub order : All (λ v. v < length names) (take (length names) x.order)

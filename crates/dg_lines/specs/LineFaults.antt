@@ -1,6 +1,6 @@
 -- Why a command line is refused: each case says that all that is judged before it is good.
---   AreRefusedStepLines names fault keyword rest == the first word of a line and the words after it are
---                                                   refused with the fault
+--   AreRefusedWords names fault keyword rest == the first word of a line and the words after it are
+--                                               refused with the fault
 --     Word     the first word is no command word
 --     Form     it is one, and the words after it have the wrong number, or one is empty
 --     Name     the line is well formed, and a name that it gives is that of no vertex, or stands
@@ -12,26 +12,26 @@
 --   line_fault_text fault                        == `bad`, what is wrong with the line, and a newline
 use Rattle.std.specs.Prelude.{◌≡◌, ℕ, List, ◌∷◌, None, IsSome, codes}
 use Rattle.dg_lines.specs.Cuts.{words}
-use Rattle.dg_lines.specs.CommandWords.{WordsOnLineAreNamed, AreNumbersOnLine}
-use Rattle.dg_lines.specs.Commands.{kinds_wanted_on_line, kinds_on_line, IsWellFormedLine}
+use Rattle.dg_lines.specs.CommandWords.{HaveDistinctNames, AreNumerals}
+use Rattle.dg_lines.specs.Commands.{wanted_kinds, kinds_on_line, IsWellFormed}
 use Rattle.dg_lines.specs.declared.line.LineFault.{LineFault}
 use Rattle.dg_lines.specs.declared.line.LineFault.TheVariants.{Seat, Word, Form, Name, Number}
 
-abbrev pub AreRefusedStepLines : List (List ℕ) → LineFault → List ℕ → List (List ℕ) → Type 0
-AreRefusedStepLines names Seat keyword rest = ⊥
-AreRefusedStepLines names Word keyword rest = kinds_wanted_on_line keyword ≡ None
-AreRefusedStepLines names Form keyword rest = IsSome (kinds_wanted_on_line keyword) × ¬ IsWellFormedLine keyword rest
-AreRefusedStepLines names Name keyword rest =
-    IsWellFormedLine keyword rest × ¬ WordsOnLineAreNamed names (kinds_on_line keyword) rest
-AreRefusedStepLines names Number keyword rest =
-    IsWellFormedLine keyword rest × WordsOnLineAreNamed names (kinds_on_line keyword) rest
-    × ¬ AreNumbersOnLine (kinds_on_line keyword) rest
+abbrev pub AreRefusedWords : List (List ℕ) → LineFault → List ℕ → List (List ℕ) → Type 0
+AreRefusedWords names Seat keyword rest = ⊥
+AreRefusedWords names Word keyword rest = wanted_kinds keyword ≡ None
+AreRefusedWords names Form keyword rest = IsSome (wanted_kinds keyword) × ¬ IsWellFormed keyword rest
+AreRefusedWords names Name keyword rest =
+    IsWellFormed keyword rest × ¬ HaveDistinctNames names (kinds_on_line keyword) rest
+AreRefusedWords names Number keyword rest =
+    IsWellFormed keyword rest × HaveDistinctNames names (kinds_on_line keyword) rest
+    × ¬ AreNumerals (kinds_on_line keyword) rest
 
 pub record IsLineFault (names : List (List ℕ)) (fault : LineFault) (line : List ℕ) : Type 0 where
   pub keyword : List ℕ
   pub rest : List (List ℕ)
   pub cut : words line ≡ keyword ∷ rest
-  pub refused : AreRefusedStepLines names fault keyword rest
+  pub refused : AreRefusedWords names fault keyword rest
 
 abbrev pub line_fault_text : LineFault → List ℕ
 line_fault_text Seat = codes "bad seat\n"

@@ -1,5 +1,5 @@
 -- The texts of replies, over the names of the vertices, in vertex order.
---   TextHasNames names reply      == there are as many names as the amounts of the reply, its script and its
+--   HasNames names reply          == there are as many names as the amounts of the reply, its script and its
 --                                    graph have vertices
 --   pair name amount              == `name=amount`
 --   more_pairs names amounts v    == the pairs from the vertex v on, each after a space
@@ -16,7 +16,7 @@
 use Rattle.std.specs.Prelude.{◌≡◌, ℕ, ◌+◌, ℤ, Bool, true, false, List, [], ◌∷◌, ◌++◌, length, slice_get, Some, codes, decimal}
 use Rattle.std.specs.Fmt.{signed_decimal}
 use Rattle.dg_chips.specs.Vector.{at}
-use Rattle.dg_rules.specs.LegalLaws.{IsReplyOfSize}
+use Rattle.dg_rules.specs.LegalLaws.{IsSizedReply}
 use Rattle.dg_rules.specs.declared.entry.Entry.{Entry}
 use Rattle.dg_rules.specs.declared.entry.Refusal.{Refusal}
 use Rattle.dg_rules.specs.declared.entry.Reply.{Reply}
@@ -26,8 +26,8 @@ use Rattle.dg_rules.specs.declared.entry.Reply.TheVariants.{Moved, Given, Joined
 use Rattle.dg_rules.specs.declared.entry.Refusal.TheVariants.{NoVertex, Empty, Range, Loop, Valence, Script, Gift}
 use Rattle.dg_verdict.specs.declared.verdict.Verdict.{Verdict as VerdictFound}
 
-abbrev pub TextHasNames : List (List ℕ) → Reply → Type 0
-TextHasNames names reply = IsReplyOfSize (length names) reply
+abbrev pub HasNames : List (List ℕ) → Reply → Type 0
+HasNames names reply = IsSizedReply (length names) reply
 
 abbrev pub pair : List ℕ → ℤ → List ℕ
 pair name amount = name ++ codes "=" ++ signed_decimal amount
@@ -84,4 +84,4 @@ history_text names n [] = []
 history_text names n (e ∷ H) = entry_text names n e.reply ++ history_text names (n + 1) H
 
 abbrev pub RepliesHaveNames : List (List ℕ) → List Entry → Type 0
-RepliesHaveNames names H = (k : ℕ) (e : Entry) → slice_get H k ≡ Some e → TextHasNames names e.reply
+RepliesHaveNames names H = (k : ℕ) (e : Entry) → slice_get H k ≡ Some e → HasNames names e.reply

@@ -1,6 +1,6 @@
 //! Answers in columns of bare numbers, with one space between two.
 ghost use Rattle.std.specs.Prelude.{◌≡◌, ◌++◌, OnOk, option_map};
-ghost use Rattle.dg_lines.specs.Columns.{loss_columns, marks, rank_row, truth_text, vector_columns, verdict_row};
+ghost use Rattle.dg_lines.specs.Columns.{loss_columns, marks, rank_row, bool_text, vector_columns, verdict_row};
 
 use crate::amounts::Amounts;
 use crate::digits::MAX_DIGITS;
@@ -17,7 +17,7 @@ pub fn push_verdict_row<A: Allocator>(
 ) -> Result<(), AllocError>
     ensures { OnOk result (text.new.items ≡ text.old.items ++ verdict_row verdict.now) }
 {
-    push_truth(text, verdict.winnable)?;
+    push_bool(text, verdict.winnable)?;
     push_columns(text, &verdict.script)?;
     push_columns(text, &verdict.reduced)?;
     text.push(b'\n')?;
@@ -35,7 +35,7 @@ pub fn push_rank_row<A: Allocator>(
     ensures { OnOk result (text.new.items
         ≡ text.old.items ++ rank_row size holds (option_map (λ d. d.now) loss.entry)) }
 {
-    push_truth(text, holds)?;
+    push_bool(text, holds)?;
     push_loss(text, size, loss)?;
     text.push(b'\n')?;
     Ok(())
@@ -52,13 +52,13 @@ fn push_loss<A: Allocator>(
 {
     match loss {
         Some(loss) => push_columns(text, loss),
-        None => push_mark_columns(text, size),
+        None => push_marks(text, size),
     }
 }
 
 /// 1 for yes, 0 for no.
-fn push_truth<A: Allocator>(text: &mut Vec<u8, A>, holds: bool) -> Result<(), AllocError>
-    ensures { OnOk result (text.new.items ≡ text.old.items ++ truth_text holds) }
+fn push_bool<A: Allocator>(text: &mut Vec<u8, A>, holds: bool) -> Result<(), AllocError>
+    ensures { OnOk result (text.new.items ≡ text.old.items ++ bool_text holds) }
 {
     if holds {
         text.extend_from_slice(b"1")
@@ -68,7 +68,7 @@ fn push_truth<A: Allocator>(text: &mut Vec<u8, A>, holds: bool) -> Result<(), Al
 }
 
 /// So many times ` NA`.
-fn push_mark_columns<A: Allocator>(text: &mut Vec<u8, A>, count: usize) -> Result<(), AllocError>
+fn push_marks<A: Allocator>(text: &mut Vec<u8, A>, count: usize) -> Result<(), AllocError>
     ensures { OnOk result (text.new.items ≡ text.old.items ++ marks count) }
 {
     'marks: for _ in 0..count {

@@ -1,11 +1,11 @@
 //! Commands: the word of each, how many words follow it, and what they come to.
 ghost use Rattle.std.specs.Prelude.{◌≡◌, None, MatchOption, MatchResult, bytes_eq, length};
-ghost use Rattle.dg_lines.specs.Commands.{kinds_wanted_on_line, IsWellFormedLine, Means};
-ghost use Rattle.dg_lines.specs.LineFaults.{AreRefusedStepLines};
+ghost use Rattle.dg_lines.specs.Commands.{wanted_kinds, IsWellFormed, Means};
+ghost use Rattle.dg_lines.specs.LineFaults.{AreRefusedWords};
 ghost use Rattle.dg_lines.specs.Keywords.{spelling, keyword_kinds, first_words};
 
 use crate::line::LineFault;
-use crate::word::{degree_in_word, dollars_in_word, script_in_word, set_in_word, vertex_in_word};
+use crate::word::{parse_degree, parse_dollars, parse_script, parse_set, parse_vertex};
 use dg_chips::Move;
 use dg_rules::{Command, Plain};
 use dg_tokens::Names;
@@ -27,9 +27,9 @@ pub(crate) enum Keyword {
 
 /// The command word that the bytes are, if they are one, and how many words follow it: two at most.
 #[tactic(auto, using(crate::proofs::Keywords::bytes_tell), unfolding(crate::specs::Commands::kinds_beside))]
-pub(crate) fn keyword_of(word: &[u8]) -> Option<(Keyword, usize)>
+pub(crate) fn parse_keyword(word: &[u8]) -> Option<(Keyword, usize)>
     ensures { MatchOption result
-        (kinds_wanted_on_line word.now ≡ None)
+        (wanted_kinds word.now ≡ None)
         (λ p. (word.now ≡ spelling p.0) × (p.1 ≡ length (keyword_kinds p.0))) }
 {
     if spells(word, b"script") {
@@ -74,39 +74,39 @@ fn spells(word: &[u8], text: &[u8]) -> bool
 }
 
 /// The command of a command word and as many of the two words as belong to it.
-pub(crate) fn command_of(
+pub(crate) fn parse_command(
     keyword: Keyword,
     first: &[u8],
     second: &[u8],
     names: &Names,
 ) -> Result<Command, LineFault>
-    requires { IsWellFormedLine (spelling keyword)
+    requires { IsWellFormed (spelling keyword)
         (first_words (length (keyword_kinds keyword)) first.now second.now) }
     ensures { let rest = first_words (length (keyword_kinds keyword)) first.now second.now in
         MatchResult result
         (λ command. Means names.now command (spelling keyword) rest)
-        (λ fault. AreRefusedStepLines names.now fault (spelling keyword) rest) }
+        (λ fault. AreRefusedWords names.now fault (spelling keyword) rest) }
 {
     match keyword {
-        Keyword::Lend => Ok(Command::Call(Plain::Move(Move::Lend(vertex_in_word(first, names)?)))),
-        Keyword::Borrow => Ok(Command::Call(Plain::Move(Move::Borrow(vertex_in_word(
+        Keyword::Lend => Ok(Command::Call(Plain::Move(Move::Lend(parse_vertex(first, names)?)))),
+        Keyword::Borrow => Ok(Command::Call(Plain::Move(Move::Borrow(parse_vertex(
             first, names,
         )?)))),
-        Keyword::Fire => Ok(Command::Call(Plain::Move(Move::Fire(set_in_word(first, names)?)))),
-        Keyword::Script => Ok(Command::Call(Plain::Move(Move::Script(script_in_word(
+        Keyword::Fire => Ok(Command::Call(Plain::Move(Move::Fire(parse_set(first, names)?)))),
+        Keyword::Script => Ok(Command::Call(Plain::Move(Move::Script(parse_script(
             first, names,
         )?)))),
         Keyword::Gift => {
-            let v = vertex_in_word(first, names)?;
-            Ok(Command::Call(Plain::Gift(v, dollars_in_word(second)?)))
+            let v = parse_vertex(first, names)?;
+            Ok(Command::Call(Plain::Gift(v, parse_dollars(second)?)))
         }
         Keyword::Join => {
-            let u = vertex_in_word(first, names)?;
-            Ok(Command::Call(Plain::Join(u, vertex_in_word(second, names)?)))
+            let u = parse_vertex(first, names)?;
+            Ok(Command::Call(Plain::Join(u, parse_vertex(second, names)?)))
         }
         Keyword::Look => Ok(Command::Call(Plain::Look)),
         Keyword::Claim => Ok(Command::Call(Plain::Claim)),
         Keyword::Commit => Ok(Command::Commit),
-        Keyword::Rank => Ok(Command::Rank(degree_in_word(first)?)),
+        Keyword::Rank => Ok(Command::Rank(parse_degree(first)?)),
     }
 }

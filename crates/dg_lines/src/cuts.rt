@@ -12,36 +12,36 @@ pub fn cut(bytes: &[u8], at: u8) -> (&[u8], Option<&[u8]>)
     ensures before { result.0.now ≡ before at bytes.now }
     ensures after { option_copied result.1 ≡ after at bytes.now }
 {
-    match first_cut_in_line(bytes, at) {
+    match find_byte(bytes, at) {
         Some(place) => (&bytes[..place], Some(&bytes[place + 1..])),
         None => (bytes, None),
     }
 }
 
 /// The first place of the byte. If there are 32 bytes, these are looked at together, because most words end there.
-fn first_cut_in_line(bytes: &[u8], at: u8) -> Option<usize>
+fn find_byte(bytes: &[u8], at: u8) -> Option<usize>
     ensures { result ≡ position (λ byte. byte == at) bytes.now }
 {
     if bytes.len() < 32 {
         return bytes.iter().position(|byte| *byte == at);
     }
-    let places = cuts_in_32_bytes(bytes, at);
+    let places = byte_mask(bytes, at);
     if places != 0 {
         return Some(places.trailing_zeros() as usize);
     }
-    far_cut_in_line(bytes, at)
+    find_far_byte(bytes, at)
 }
 
 /// The first place of the byte, if it is far. This stands apart, so that a byte that is near costs nothing for it.
 #[inline(never)]
-fn far_cut_in_line(bytes: &[u8], at: u8) -> Option<usize>
+fn find_far_byte(bytes: &[u8], at: u8) -> Option<usize>
     ensures { result ≡ position (λ byte. byte == at) bytes.now }
 {
     memchr(at, bytes)
 }
 
 /// The places of the byte among the first 32: bit i of the number is for place i.
-fn cuts_in_32_bytes(bytes: &[u8], at: u8) -> u64
+fn byte_mask(bytes: &[u8], at: u8) -> u64
     requires { 32 ≤ length bytes.now }
     ensures { result ≡ mask_l (map (λ byte. byte == at) (take 32 bytes.now)) }
 {

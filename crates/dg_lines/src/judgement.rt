@@ -1,6 +1,6 @@
 //! The line of a verdict that is printed for a table.
 ghost use Rattle.std.specs.Prelude.{◌≡◌, ◌<◌, ◌++◌, All, codes, length, OnOk};
-ghost use Rattle.dg_lines.specs.Judgements.{JudgementHasNames, burning_text, judgement_text};
+ghost use Rattle.dg_lines.specs.Judgements.{VerdictHasNames, burning_text, judgement_text};
 
 use crate::text::push_verdict;
 use dg_tokens::Names;
@@ -16,20 +16,20 @@ pub fn push_judgement<A: Allocator>(
     verdict: &Verdict,
     ordered: bool,
 ) -> Result<(), AllocError>
-    requires { JudgementHasNames names.now verdict.now }
+    requires { VerdictHasNames names.now verdict.now }
     ensures { OnOk result (text.new.items
         ≡ text.old.items ++ (judgement_text names.now ordered verdict.now ++ codes "\n")) }
 {
     push_verdict(text, names, verdict)?;
     if ordered {
-        push_burning_text(text, names, &verdict.order[..names.len()])?;
+        push_burning_order(text, names, &verdict.order[..names.len()])?;
     }
     text.push(b'\n')?;
     Ok(())
 }
 
 /// ` burning` and the names of these vertices, each after a space.
-fn push_burning_text<A: Allocator>(
+fn push_burning_order<A: Allocator>(
     text: &mut Vec<u8, A>,
     names: &Names,
     order: &[u8],

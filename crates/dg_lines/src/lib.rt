@@ -18,8 +18,8 @@ mod word;
 pub use columns::{push_rank_row, push_verdict_row};
 pub use cuts::cut;
 pub use judgement::push_judgement;
-pub use laws::{line_numerals_are_decimals, lines_have_one_meaning, steps_have_one_meaning};
-pub use line::{LineFault, parse_line, parse_step, split_seat_off_line};
+pub use laws::{line_meaning_is_unique, numerals_are_decimals, step_meaning_is_unique};
+pub use line::{LineFault, parse_line, parse_step, split_seat};
 pub use lines::Lines;
 /// Memory was refused: the one fault of `reply_text`.
 pub use std::alloc::AllocError as OutOfMemory;

@@ -2,14 +2,14 @@
 ghost use Rattle.std.specs.Prelude.{◌≡◌, ℕ, ◌≤◌, List, [], ◌∷◌, None, IfOk, IfErr, IfSome, MatchOption};
 ghost use Rattle.std.specs.Option.{option_copied};
 ghost use Rattle.dg_lines.specs.Cuts.{words_after};
-ghost use Rattle.dg_lines.specs.Commands.{LineSpellsCommand};
+ghost use Rattle.dg_lines.specs.Commands.{SpellsCommand};
 ghost use Rattle.dg_lines.specs.LineFaults.{IsLineFault, line_fault_text};
 ghost use Rattle.dg_lines.specs.Steps.{IsSeatedLine, IsStepLine, IsStepFault};
 ghost use Rattle.dg_lines.specs.Keywords.{first_words, AreWords};
 
-use crate::command::{command_of, keyword_of};
+use crate::command::{parse_command, parse_keyword};
 use crate::cuts::cut;
-use crate::number::seat_numeral;
+use crate::number::seat_from_decimal;
 use dg_rules::{Command, Step};
 use dg_tokens::Names;
 use thiserror::Error;
@@ -36,7 +36,7 @@ pub enum LineFault {
 
 impl LineFault {
     /// The line that answers such a line in a session: what is said of the fault, and a newline.
-    pub fn line(self) -> &'static str
+    pub fn answer_line(self) -> &'static str
         ensures { result.now ≡ line_fault_text self }
     {
         match self {
@@ -52,12 +52,12 @@ impl LineFault {
 /// The seat, from 1 to 64, that stands before the first space of a line, and the text after that space. `None` if there is
 /// no space, or another text before it. It takes no memory.
 #[tactic(auto, using(crate::proofs::Stepping::no_space_after))]
-pub fn split_seat_off_line(line: &[u8]) -> Option<(u8, &[u8])>
+pub fn split_seat(line: &[u8]) -> Option<(u8, &[u8])>
     ensures seated { IfSome result (λ p. IsSeatedLine p.0 p.1.now line.now) }
     ensures none { result ≡ None → (seat : ℕ) (text : List ℕ) → ¬ IsSeatedLine seat text line.now }
 {
     let (text, rest) = cut(line, b' ');
-    match seat_numeral(text) {
+    match seat_from_decimal(text) {
         Some(seat) => match rest {
             Some(rest) => Some((seat, rest)),
             None => None,
@@ -73,7 +73,7 @@ pub fn parse_step(line: &[u8], names: &Names) -> Result<Step, LineFault>
     ensures step { IfOk result (λ step. IsStepLine names.now step line.now) }
     ensures refused { IfErr result (λ fault. IsStepFault names.now fault line.now) }
 {
-    let Some((seat, rest)) = split_seat_off_line(line) else {
+    let Some((seat, rest)) = split_seat(line) else {
         return Err(LineFault::Seat);
     };
     match parse_line(rest, names) {
@@ -86,17 +86,17 @@ pub fn parse_step(line: &[u8], names: &Names) -> Result<Step, LineFault>
 ///
 /// Refused with `Word` if the first word is no command, then with `Form`, then with `Name`, then with `Number`.
 pub fn parse_line(line: &[u8], names: &Names) -> Result<Command, LineFault>
-    ensures command { IfOk result (λ command. LineSpellsCommand names.now command line.now) }
+    ensures command { IfOk result (λ command. SpellsCommand names.now command line.now) }
     ensures refused { IfErr result (λ fault. IsLineFault names.now fault line.now) }
 {
     let (word, rest) = cut(line, b' ');
-    let Some((keyword, count)) = keyword_of(word) else {
+    let Some((keyword, count)) = parse_keyword(word) else {
         return Err(LineFault::Word);
     };
     let Some((first, second)) = words_of(rest, count) else {
         return Err(LineFault::Form);
     };
-    command_of(keyword, first, second, names)
+    parse_command(keyword, first, second, names)
 }
 
 /// The words of what follows the command word, if there are just so many, at most two, and none is empty. The others of the

@@ -1,7 +1,7 @@
 //! Files of steps: a step on each line.
 ghost use Rattle.std.specs.Prelude.{IfOk, IfErr};
 ghost use Rattle.dg_lines.specs.Cuts.{lines};
-ghost use Rattle.dg_lines.specs.Schedules.{AreStepsOf, StepLinesHaveSeats, IsStepsFault};
+ghost use Rattle.dg_lines.specs.Schedules.{AreStepsOf, StepsHaveSeats, IsStepsFault};
 
 use crate::line::{LineFault, parse_step};
 use crate::lines::Lines;
@@ -35,7 +35,7 @@ pub fn parse_steps<A: Allocator + Drop>(
     names: &Names,
 ) -> Result<Vec<Step, A>, StepsFault>
     ensures steps { IfOk result (λ steps. AreStepsOf names.now steps.items (lines bytes.now)) }
-    ensures seated { IfOk result (λ steps. StepLinesHaveSeats steps.items) }
+    ensures seated { IfOk result (λ steps. StepsHaveSeats steps.items) }
     ensures refused { IfErr result (IsStepsFault names.now (lines bytes.now)) }
 {
     let mut steps = Vec::new(alloc);

@@ -2,7 +2,7 @@
 ghost use Rattle.std.specs.Prelude.{◌≡◌, ◌<◌, ◌++◌, length, codes, decimal, IfOk, OnOk};
 ghost use Rattle.std.specs.Fmt.{signed_decimal};
 ghost use Rattle.dg_chips.specs.Vector.{at};
-ghost use Rattle.dg_lines.specs.Texts.{TextHasNames, pair, pairs, refusal_text, verdict_word, verdict_text, rank_text, text_of, entry_text};
+ghost use Rattle.dg_lines.specs.Texts.{HasNames, pair, pairs, refusal_text, verdict_word, verdict_text, rank_text, text_of, entry_text};
 ghost use Rattle.dg_rules.specs.declared.entry.Reply.TheVariants.{Rank};
 
 use crate::OutOfMemory;
@@ -22,7 +22,7 @@ pub fn reply_text<A: Allocator + Drop>(
     reply: &Reply,
     names: &Names,
 ) -> Result<Vec<u8, A>, OutOfMemory>
-    requires { TextHasNames names.now reply.now }
+    requires { HasNames names.now reply.now }
     ensures { IfOk result (λ text. text.items ≡ text_of names.now reply.now) }
 {
     let mut text = Vec::new(alloc);
@@ -38,7 +38,7 @@ pub fn push_entry<A: Allocator>(
     reply: &Reply,
     names: &Names,
 ) -> Result<(), AllocError>
-    requires { TextHasNames names.now reply.now }
+    requires { HasNames names.now reply.now }
     ensures { OnOk result
         (text.new.items ≡ text.old.items ++ entry_text names.now number reply.now) }
 {
@@ -56,7 +56,7 @@ pub fn push_reply<A: Allocator>(
     reply: &Reply,
     names: &Names,
 ) -> Result<(), AllocError>
-    requires { TextHasNames names.now reply.now }
+    requires { HasNames names.now reply.now }
     ensures { OnOk result (text.new.items ≡ text.old.items ++ text_of names.now reply.now) }
 {
     match reply {
@@ -142,7 +142,7 @@ fn push_rank<A: Allocator>(
     names: &Names,
     verdict: &RankVerdict,
 ) -> Result<(), AllocError>
-    requires { TextHasNames names.now (Rank verdict.now) }
+    requires { HasNames names.now (Rank verdict.now) }
     ensures { OnOk result (text.new.items ≡ text.old.items ++ rank_text names.now verdict.now) }
 {
     match verdict {

@@ -4,21 +4,21 @@ ghost use Rattle.std.specs.Int.{w64};
 ghost use Rattle.std.specs.Fmt.{signed_decimal};
 ghost use Rattle.dg_tokens.specs.Names.{place_of};
 ghost use Rattle.dg_lines.specs.Cuts.{items};
-ghost use Rattle.dg_lines.specs.CommandWords.{vertex, vertices, degree, dollars, names_in_word, IsNumeralForWord, AreNamesOnLine, IsSetSpelledBy, SpellsScript};
-ghost use Rattle.dg_lines.specs.Keywords.{IsBadScriptWord};
+ghost use Rattle.dg_lines.specs.CommandWords.{vertex, vertices, degree, dollars, names_in_word, IsWordNumeral, AreDistinctNames, IsSpelledSet, SpellsScript};
+ghost use Rattle.dg_lines.specs.Keywords.{IsBadScript};
 
 use crate::cuts::cut;
 use crate::line::LineFault;
-use crate::number::{degree_numeral, entry_numeral};
+use crate::number::{degree_from_decimal, entry_from_decimal};
 use dg_chips::Script;
 use dg_graph::{MAX_VERTICES, contains, with_vertex};
-use dg_tokens::{Names, integer};
+use dg_tokens::{Names, parse_integer};
 
 /// The vertex of that name.
-pub(crate) fn vertex_in_word(word: &[u8], names: &Names) -> Result<u8, LineFault>
+pub(crate) fn parse_vertex(word: &[u8], names: &Names) -> Result<u8, LineFault>
     ensures { MatchResult result
         (λ v. place_of names.now word.now ≡ Some v)
-        (λ fault. (fault ≡ LineFault.Name) × ¬ AreNamesOnLine names.now (names_in_word vertex word.now)) }
+        (λ fault. (fault ≡ LineFault.Name) × ¬ AreDistinctNames names.now (names_in_word vertex word.now)) }
 {
     match names.place(word) {
         Some(v) => Ok(v),
@@ -27,34 +27,34 @@ pub(crate) fn vertex_in_word(word: &[u8], names: &Names) -> Result<u8, LineFault
 }
 
 /// The degree of a rank test.
-pub(crate) fn degree_in_word(word: &[u8]) -> Result<u32, LineFault>
+pub(crate) fn parse_degree(word: &[u8]) -> Result<u32, LineFault>
     ensures { MatchResult result
         (λ k. (word.now ≡ decimal k) × (k < 2 ^ 32))
-        (λ fault. (fault ≡ LineFault.Number) × ¬ IsNumeralForWord degree word.now) }
+        (λ fault. (fault ≡ LineFault.Number) × ¬ IsWordNumeral degree word.now) }
 {
-    match degree_numeral(word) {
+    match degree_from_decimal(word) {
         Some(k) => Ok(k),
         None => Err(LineFault::Number),
     }
 }
 
 /// The number of dollars; a negative one is a levy.
-pub(crate) fn dollars_in_word(word: &[u8]) -> Result<i64, LineFault>
+pub(crate) fn parse_dollars(word: &[u8]) -> Result<i64, LineFault>
     ensures { MatchResult result
         (λ x. (word.now ≡ signed_decimal x) × FitsSigned w64 x)
-        (λ fault. (fault ≡ LineFault.Number) × ¬ IsNumeralForWord dollars word.now) }
+        (λ fault. (fault ≡ LineFault.Number) × ¬ IsWordNumeral dollars word.now) }
 {
-    match integer(word) {
+    match parse_integer(word) {
         Some(x) => Ok(x),
         None => Err(LineFault::Number),
     }
 }
 
 /// The set of the vertices that the items name, if each names one that no earlier item names.
-pub(crate) fn set_in_word(text: &[u8], names: &Names) -> Result<u16, LineFault>
+pub(crate) fn parse_set(text: &[u8], names: &Names) -> Result<u16, LineFault>
     ensures { MatchResult result
-        (IsSetSpelledBy names.now (items text.now))
-        (λ fault. (fault ≡ LineFault.Name) × ¬ AreNamesOnLine names.now (names_in_word vertices text.now)) }
+        (IsSpelledSet names.now (items text.now))
+        (λ fault. (fault ≡ LineFault.Name) × ¬ AreDistinctNames names.now (names_in_word vertices text.now)) }
 {
     // No two names of a table are the same.
     let _size = names.len();
@@ -78,9 +78,9 @@ pub(crate) fn set_in_word(text: &[u8], names: &Names) -> Result<u16, LineFault>
 /// The script of the items, each the name of a vertex that no earlier item names, `=` and a number.
 ///
 /// Refused with `Name` before `Number`.
-pub(crate) fn script_in_word(text: &[u8], names: &Names) -> Result<Script, LineFault>
+pub(crate) fn parse_script(text: &[u8], names: &Names) -> Result<Script, LineFault>
     ensures { MatchResult result
-        (SpellsScript names.now text.now) (λ fault. IsBadScriptWord names.now fault text.now) }
+        (SpellsScript names.now text.now) (λ fault. IsBadScript names.now fault text.now) }
 {
     let size = names.len();
     let mut given = 0;
@@ -98,7 +98,7 @@ pub(crate) fn script_in_word(text: &[u8], names: &Names) -> Result<Script, LineF
             return Err(LineFault::Name);
         }
         given = with_vertex(given, v);
-        let entry = entry_numeral(number.unwrap_or(&[]));
+        let entry = entry_from_decimal(number.unwrap_or(&[]));
         are_spelled &= entry.is_some();
         entries[v] = entry.unwrap_or(0);
         rest = after;

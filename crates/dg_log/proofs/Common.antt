@@ -1,8 +1,8 @@
 -- The names that the proofs of this crate cite, passed on from one place. Declares nothing.
 pub use Rattle.dg_log.specs.Rolls.{IsBlankRoll, claim_owns, coded_tally, first_halves, roll_owns, unclaimed_halves}
 pub use Rattle.dg_rules.specs.declared.entry.Entry.{Entry}
-pub use Rattle.dg_log.specs.Numbered.{IsLongerPrefix, IsPrefixOf, ReceiptsAreBelow, StandInLog}
-pub use Rattle.dg_log.specs.ReceiptSets.{AreReceiptsNamed, IsReceiptSetEnd, entries_of_receipts}
+pub use Rattle.dg_log.specs.Numbered.{IsLongerPrefix, IsPrefixOf, AreBelow, StandIn}
+pub use Rattle.dg_log.specs.ReceiptSets.{AreNamed, IsSetEnd, entries_of}
 pub use Rattle.dg_log.specs.Witnesses.{AgreeOnCells, AgreesOnCell, noted_cells}
 pub use Rattle.dg_log.specs.Written.{Written}
 pub use Rattle.dg_log.specs.contracts.witness.Witness.{the_row}

@@ -16,49 +16,49 @@
 --   seen_length, began_seen, stands_seen   so it is of what a contract sees of these
 --   begins_itself  a history begins with itself
 --   longer_second, longer_first   of a history and its beginning, it is the longer
-use Rattle.dg_log.proofs.Common.{◌≡◌, ℕ, zero, suc, ◌+◌, ◌<◌, ◌≤◌, List, [], ◌∷◌, ◌++◌, length, map, take, slice_get, Some, arith, refl, sym, ap, subst, ◌∙◌, length-append, slice_get_within, length-map, append-nil, Entry, AgreesOnCell, AgreeOnCells, ReceiptsAreBelow, StandInLog, IsPrefixOf, IsLongerPrefix, entries_of_receipts, AreReceiptsNamed, IsReceiptSetEnd}
+use Rattle.dg_log.proofs.Common.{◌≡◌, ℕ, zero, suc, ◌+◌, ◌<◌, ◌≤◌, List, [], ◌∷◌, ◌++◌, length, map, take, slice_get, Some, arith, refl, sym, ap, subst, ◌∙◌, length-append, slice_get_within, length-map, append-nil, Entry, AgreesOnCell, AgreeOnCells, AreBelow, StandIn, IsPrefixOf, IsLongerPrefix, entries_of, AreNamed, IsSetEnd}
 
-pub below_up : (m n : ℕ) (ps : List (ℕ × Entry)) → m ≤ n → ReceiptsAreBelow m ps → ReceiptsAreBelow n ps
+pub below_up : (m n : ℕ) (ps : List (ℕ × Entry)) → m ≤ n → AreBelow m ps → AreBelow n ps
 below_up m n [] up below = tt
 below_up m n (p ∷ ps) up below = (omega (arith, below.0, up), below_up m n ps up below.1)
 
-pub below_more : (n : ℕ) (ps : List (ℕ × Entry)) (p : ℕ × Entry) → ReceiptsAreBelow n ps → p.0 < n →
-    ReceiptsAreBelow n (ps ++ p ∷ [])
+pub below_more : (n : ℕ) (ps : List (ℕ × Entry)) (p : ℕ × Entry) → AreBelow n ps → p.0 < n →
+    AreBelow n (ps ++ p ∷ [])
 below_more n [] p below last = (last, tt)
 below_more n (x ∷ ps) p below last = (below.0, below_more n ps p below.1 last)
 
-pub below_fewer : (n : ℕ) (ps : List (ℕ × Entry)) (p : ℕ × Entry) → ReceiptsAreBelow n (ps ++ p ∷ []) →
-    ReceiptsAreBelow n ps ×
+pub below_fewer : (n : ℕ) (ps : List (ℕ × Entry)) (p : ℕ × Entry) → AreBelow n (ps ++ p ∷ []) →
+    AreBelow n ps ×
     (p.0 < n)
 below_fewer n [] p below = (tt, below.0)
 below_fewer n (x ∷ ps) p below = let rest = below_fewer n ps p below.1 in ((below.0, rest.0), rest.1)
 
 pub said_more : (items : List (ℕ × ℕ × Entry)) (x : ℕ × ℕ × Entry) →
-    entries_of_receipts (items ++ x ∷ []) ≡ entries_of_receipts items ++ (x.0, x.2) ∷ []
+    entries_of (items ++ x ∷ []) ≡ entries_of items ++ (x.0, x.2) ∷ []
 said_more [] x = refl
 said_more (y ∷ items) x = ap (λ ps. (y.0, y.2) ∷ ps) (said_more items x)
 
-pub named_more : (row : List ℕ) (items : List (ℕ × ℕ × Entry)) (x : ℕ × ℕ × Entry) → AreReceiptsNamed row items →
-    slice_get row x.0 ≡ Some x.1 → AreReceiptsNamed row (items ++ x ∷ [])
+pub named_more : (row : List ℕ) (items : List (ℕ × ℕ × Entry)) (x : ℕ × ℕ × Entry) → AreNamed row items →
+    slice_get row x.0 ≡ Some x.1 → AreNamed row (items ++ x ∷ [])
 named_more row [] x named last = (last, tt)
 named_more row (y ∷ items) x named last = (named.0, named_more row items x named.1 last)
 
-pub named_below : (row : List ℕ) (items : List (ℕ × ℕ × Entry)) → AreReceiptsNamed row items →
-    ReceiptsAreBelow (length row) (entries_of_receipts items)
+pub named_below : (row : List ℕ) (items : List (ℕ × ℕ × Entry)) → AreNamed row items →
+    AreBelow (length row) (entries_of items)
 named_below row [] named = tt
 named_below row (x ∷ items) named = (slice_get_within row x.0 x.1 named.0, named_below row items named.1)
 
-pub end_more : (end prefix : ℕ) (ps : List (ℕ × Entry)) (p : ℕ × Entry) → IsReceiptSetEnd end ps → prefix ≡ p.0 + 1 →
+pub end_more : (end prefix : ℕ) (ps : List (ℕ × Entry)) (p : ℕ × Entry) → IsSetEnd end ps → prefix ≡ p.0 + 1 →
     end < prefix →
-    IsReceiptSetEnd prefix (ps ++ p ∷ [])
+    IsSetEnd prefix (ps ++ p ∷ [])
 end_more end prefix ps p is_end last greater = (
   below_more prefix ps p (below_up end prefix ps (omega arith) is_end.0) (omega arith),
   λ n below. omega (arith, (below_fewer n ps p below).1),
 )
 
-pub end_same : (end prefix : ℕ) (ps : List (ℕ × Entry)) (p : ℕ × Entry) → IsReceiptSetEnd end ps → prefix ≡ p.0 + 1 →
+pub end_same : (end prefix : ℕ) (ps : List (ℕ × Entry)) (p : ℕ × Entry) → IsSetEnd end ps → prefix ≡ p.0 + 1 →
     prefix ≤ end →
-    IsReceiptSetEnd end (ps ++ p ∷ [])
+    IsSetEnd end (ps ++ p ∷ [])
 end_same end prefix ps p is_end last within = (
   below_more end ps p is_end.0 (omega arith),
   λ n below. is_end.1 n (below_fewer n ps p below).0,
@@ -94,10 +94,10 @@ cells_more row items x cells next =
     map_more items x ∙ ap (λ ns. ns ++ x.1 ∷ []) cells ∙ sym (take_more (length items) row x.1 next)
     ∙ ap (λ k. take k row) (sym longer)
 
-pub stands : (row : List ℕ) (items others : List (ℕ × ℕ × Entry)) → AgreeOnCells items others → AreReceiptsNamed row items →
+pub stands : (row : List ℕ) (items others : List (ℕ × ℕ × Entry)) → AgreeOnCells items others → AreNamed row items →
     map (λ y. y.1) others ≡ take (length others) row →
-    ReceiptsAreBelow (length (map (λ y. y.2) others)) (entries_of_receipts items) →
-    StandInLog (map (λ y. y.2) others) (entries_of_receipts items)
+    AreBelow (length (map (λ y. y.2) others)) (entries_of items) →
+    StandIn (map (λ y. y.2) others) (entries_of items)
 stands row [] others agree named cells below = tt
 stands row (x ∷ items) others agree named cells below =
     let inside : x.0 < length others = omega (arith, below.0, length-map others (λ (y : ℕ × ℕ × Entry). y.2)) in
@@ -142,13 +142,13 @@ began_seen row items others {K} first second agree cells more few =
     (began row items others agree cells more (omega (arith, few, seen_length items first, seen_length others second))))
 
 pub stands_seen : (row : List ℕ) (items others : List (ℕ × ℕ × Entry)) {ps : List (ℕ × Entry)} {H : List Entry} →
-    entries_of_receipts items ≡ ps → map (λ x. x.2) others ≡ H → AgreeOnCells items others → AreReceiptsNamed row items →
-    map (λ y. y.1) others ≡ take (length others) row → ReceiptsAreBelow (length H) ps → StandInLog H ps
+    entries_of items ≡ ps → map (λ x. x.2) others ≡ H → AgreeOnCells items others → AreNamed row items →
+    map (λ y. y.1) others ≡ take (length others) row → AreBelow (length H) ps → StandIn H ps
 stands_seen row items others {ps} {H} first second agree named cells below =
-    subst (StandInLog H) first (subst (λ L. StandInLog L (entries_of_receipts items)) second
+    subst (StandIn H) first (subst (λ L. StandIn L (entries_of items)) second
     (stands row items others agree named cells
-    (subst (λ L. ReceiptsAreBelow (length L) (entries_of_receipts items)) (sym second)
-    (subst (ReceiptsAreBelow (length H)) (sym first) below))))
+    (subst (λ L. AreBelow (length L) (entries_of items)) (sym second)
+    (subst (AreBelow (length H)) (sym first) below))))
 
 pub begins_itself : (H : List Entry) → IsPrefixOf H H
 begins_itself H = ([], sym (append-nil H))

@@ -1,8 +1,8 @@
 -- What a pen wrote.
---   Written                 == the history, and whether the last entry was refused by its cell
---   nothing_written         == nothing is written
---   with_entry p e          == after p the entry e is written
---   written_after_refusal p == after p an entry was refused
+--   Written         == the history, and whether the last entry was refused by its cell
+--   nothing_written == nothing is written
+--   with_entry p e  == after p the entry e is written
+--   after_refusal p == after p an entry was refused
 use Rattle.std.specs.Prelude.{List, [], ◌∷◌, ◌++◌, Bool, true, false}
 use Rattle.dg_rules.specs.declared.entry.Entry.{Entry}
 
@@ -16,5 +16,5 @@ nothing_written = record { entries = []; stuck = false }
 abbrev pub with_entry : Written → Entry → Written
 with_entry p e = record { entries = p.entries ++ e ∷ []; stuck = false }
 
-abbrev pub written_after_refusal : Written → Written
-written_after_refusal p = record { entries = p.entries; stuck = true }
+abbrev pub after_refusal : Written → Written
+after_refusal p = record { entries = p.entries; stuck = true }

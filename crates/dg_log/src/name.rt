@@ -1,7 +1,7 @@
 //! Names of tables, which exist in the proofs alone.
 ghost use Rattle.dg_log.specs.Rows.{RowNames};
 ghost use Rattle.dg_log.specs.Tables.{TableData};
-ghost use Rattle.dg_log.specs.Nobody.{no_row_names, no_table_data};
+ghost use Rattle.dg_log.specs.Nobody.{no_row_names, no_table};
 
 use std::marker::Brand;
 
@@ -19,5 +19,5 @@ pub trait Name {
 impl Name for Brand {
     ghost names = { no_row_names };
 
-    ghost table = { no_table_data };
+    ghost table = { no_table };
 }

@@ -3,8 +3,8 @@ ghost use Rattle.std.specs.Prelude.{◌≡◌, ◌<◌, ◌≤◌, [], ◌∷◌
 ghost use Rattle.std.specs.List.{slice_get};
 ghost use Rattle.std.specs.declared.option.Option.TheVariants.{Some};
 ghost use Rattle.dg_rules.specs.declared.game.TheConstants.{MAX_ENTRIES};
-ghost use Rattle.dg_log.specs.Numbered.{ReceiptsAreBelow, StandInLog, IsPrefixOf};
-ghost use Rattle.dg_log.specs.Written.{nothing_written, with_entry, written_after_refusal};
+ghost use Rattle.dg_log.specs.Numbered.{AreBelow, StandIn, IsPrefixOf};
+ghost use Rattle.dg_log.specs.Written.{nothing_written, with_entry, after_refusal};
 
 use crate::log::Log;
 use crate::name::Name;
@@ -58,7 +58,7 @@ impl<N: Name> Pen<N> {
         requires { length self.old.entries < N.table.capacity }
         ensures { MatchResult result
             (λ r. (r ≡ (length self.old.entries, entry.value)) × (self.new ≡ with_entry self.old entry.value))
-            (λ b. (b.value ≡ entry.value) × (self.new ≡ written_after_refusal self.old)) }
+            (λ b. (b.value ≡ entry.value) × (self.new ≡ after_refusal self.old)) }
     {
         let cell = &log.cells[self.len as usize];
         let mut note = cell.note();
@@ -66,7 +66,7 @@ impl<N: Name> Pen<N> {
             Ok(()) => {
                 let witness = Witness::of(&mut note);
                 let number = self.len;
-                self.witnesses = self.witnesses.and(number, &witness);
+                self.witnesses = self.witnesses.with(number, &witness);
                 self.len += 1;
                 self.stuck = false;
                 Ok(Receipt::of(number, witness))
@@ -106,8 +106,8 @@ impl<N: Name> Pen<N> {
     /// What receipts say stands in the history that was written. It does nothing. The condition is that their numbers are
     /// less than its length.
     pub fn holds(&self, receipt_set: &ReceiptSet<N>)
-        requires { ReceiptsAreBelow (length self.now.entries) receipt_set.now }
-        ensures { StandInLog self.now.entries receipt_set.now }
+        requires { AreBelow (length self.now.entries) receipt_set.now }
+        ensures { StandIn self.now.entries receipt_set.now }
     {
         receipt_set.witnesses.agree(&self.witnesses);
     }

@@ -1,6 +1,6 @@
 //! How a history began.
 ghost use Rattle.std.specs.Prelude.{◌≡◌, ◌⊎◌, [], length, map, take};
-ghost use Rattle.dg_log.specs.Numbered.{ReceiptsAreBelow, StandInLog, IsPrefixOf, IsLongerPrefix};
+ghost use Rattle.dg_log.specs.Numbered.{AreBelow, StandIn, IsPrefixOf, IsLongerPrefix};
 
 use crate::name::Name;
 use crate::receipt_set::ReceiptSet;
@@ -87,8 +87,8 @@ impl<N: Name> Prefix<N> {
 
     /// What receipts say stands in the history. It does nothing. The condition is that their numbers are less than its length.
     pub fn holds(&self, receipt_set: &ReceiptSet<N>)
-        requires { ReceiptsAreBelow (length self.now) receipt_set.now }
-        ensures { StandInLog self.now receipt_set.now }
+        requires { AreBelow (length self.now) receipt_set.now }
+        ensures { StandIn self.now receipt_set.now }
     {
         receipt_set.witnesses.agree(&self.witnesses);
     }

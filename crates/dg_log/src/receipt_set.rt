@@ -1,8 +1,8 @@
 //! What many receipts say, in a few bytes.
 ghost use Rattle.std.specs.Prelude.{◌≡◌, ℕ, ◌<◌, ◌≤◌, List, [], ◌∷◌, ◌++◌, length, IsTrue, ◌↔◌};
 ghost use Rattle.dg_rules.specs.declared.entry.Entry.{Entry as EntryData};
-ghost use Rattle.dg_log.specs.Numbered.{ReceiptsAreBelow};
-ghost use Rattle.dg_log.specs.ReceiptSets.{entries_of_receipts, AreReceiptsNamed, IsReceiptSetEnd};
+ghost use Rattle.dg_log.specs.Numbered.{AreBelow};
+ghost use Rattle.dg_log.specs.ReceiptSets.{entries_of, AreNamed, IsSetEnd};
 
 use crate::name::Name;
 use crate::receipt::Receipt;
@@ -22,10 +22,10 @@ pub struct ReceiptSet<N: Name> {
 impl<N: Name> Model for ReceiptSet<N> {
     ghost Value = { List (ℕ × EntryData) };
 
-    ghost view = { λ d. entries_of_receipts d.witnesses.items };
+    ghost view = { λ d. entries_of d.witnesses.items };
 
-    ghost invariant = { λ d. AreReceiptsNamed N.names.cells d.witnesses.items
-        × IsReceiptSetEnd d.end (entries_of_receipts d.witnesses.items) };
+    ghost invariant = { λ d. AreNamed N.names.cells d.witnesses.items
+        × IsSetEnd d.end (entries_of d.witnesses.items) };
 }
 
 impl<N: Name> ReceiptSet<N> {
@@ -41,20 +41,20 @@ impl<N: Name> ReceiptSet<N> {
     }
 
     /// The set with one receipt more.
-    pub fn and(&self, receipt: &Receipt<N>) -> ReceiptSet<N>
+    pub fn with(&self, receipt: &Receipt<N>) -> ReceiptSet<N>
         ensures { result ≡ self.now ++ receipt.now ∷ [] }
     {
         let prefix = u64::from(receipt.number()) + 1;
         ReceiptSet {
-            witnesses: self.witnesses.and(receipt.number(), &receipt.witness),
+            witnesses: self.witnesses.with(receipt.number(), &receipt.witness),
             end: if prefix > self.end { prefix } else { self.end },
             of: PhantomData,
         }
     }
 
     /// Whether all numbers are less than the given one. They are if that is the number of cells, or greater.
-    pub fn below(&self, count: u32) -> bool
-        ensures below { IsTrue result ↔ ReceiptsAreBelow count self.now }
+    pub fn all_below(&self, count: u32) -> bool
+        ensures below { IsTrue result ↔ AreBelow count self.now }
         ensures cells { length N.names.cells ≤ count → IsTrue result }
     {
         self.end <= u64::from(count)

@@ -2,7 +2,7 @@
 ghost use Rattle.std.specs.Prelude.{◌≡◌, ℕ, ◌≤◌, List, length, map, MatchResult, IfOk};
 ghost use Rattle.std.specs.Vec.{vec_len};
 ghost use Rattle.once_cell.specs.Once.{cell_name};
-ghost use Rattle.dg_log.specs.Rows.{IsLogCapacity, RefusesRowOfCells};
+ghost use Rattle.dg_log.specs.Rows.{IsCapacity, IsLogFault};
 ghost use Rattle.dg_rules.specs.declared.game.TheConstants.{MAX_ENTRIES};
 
 use crate::roll::Roll;
@@ -52,14 +52,14 @@ impl Row {
     ///
     /// Refused with `Capacity` if the number is another, and with `OutOfMemory`.
     pub fn new(alloc: Global, capacity: u32) -> Result<Row, LogFault>
-        ensures { MatchResult result (λ r. (length r.cells ≡ capacity) × IsLogCapacity capacity)
-            (RefusesRowOfCells capacity) }
+        ensures { MatchResult result (λ r. (length r.cells ≡ capacity) × IsCapacity capacity)
+            (IsLogFault capacity) }
     {
         let count = capacity as usize;
         if count == 0 || count > MAX_ENTRIES {
             return Err(LogFault::Capacity);
         }
-        match Row::empty(alloc, count) {
+        match Row::empty_cells(alloc, count) {
             Ok(cells) => Ok(Row {
                 cells,
                 roll: Roll::new(),
@@ -69,7 +69,7 @@ impl Row {
     }
 
     // So many empty cells.
-    fn empty(alloc: Global, count: usize) -> Result<Vec<OnceBox<Entry>>, AllocError>
+    fn empty_cells(alloc: Global, count: usize) -> Result<Vec<OnceBox<Entry>>, AllocError>
         ensures { IfOk result (λ cells. vec_len cells ≡ count) }
     {
         let mut cells = Vec::with_capacity(alloc, count)?;

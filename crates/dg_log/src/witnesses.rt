@@ -33,7 +33,7 @@ impl<T> Witnesses<T> {
     }
 
     /// What was known, and one more value with a number.
-    pub fn and(&self, number: u32, known: &Witness<T>) -> Witnesses<T>
+    pub fn with(&self, number: u32, known: &Witness<T>) -> Witnesses<T>
         ensures { result.items ≡ self.now.items ++ (number, known.now.cell, known.now.value) ∷ [] }
     {
         Witnesses {

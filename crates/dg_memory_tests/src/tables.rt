@@ -291,7 +291,7 @@ pub(crate) fn nothing_to_do(graph: &Graph) -> Result<Verdict, Fail> {
 fn plays<N: Name>(rt: &impl Wait, alloc: Global, table: &Table<N>, seat: &mut Seat<N>) -> Outcome {
     let lender = Strategy::new(|_: &Graph, _: &Divisor| Some(Move::Lend(0)));
     match play(rt, alloc, table, seat, &lender, 2) {
-        Ok(ended) => done_if(!ended.ended_with_claim() && seat.calls() == 2),
+        Ok(ended) => done_if(!ended.is_settled() && seat.calls() == 2),
         Err(fault) if seat.calls() < 2 => refused(fault),
         Err(_) => Outcome::Wrong,
     }
@@ -306,7 +306,7 @@ fn settles<N: Name>(
 ) -> Outcome {
     let settler = Settler::new(|_: &Graph, position: &Divisor| greedy_choice(position));
     match settle_out(rt, alloc, table, seat, &settler, 5) {
-        Ok(ended) => done_if(ended.ended_with_claim() && seat.calls() == 3),
+        Ok(ended) => done_if(ended.is_settled() && seat.calls() == 3),
         Err(fault) if seat.calls() < 3 => refused(fault),
         Err(_) => Outcome::Wrong,
     }

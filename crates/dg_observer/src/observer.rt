@@ -1,7 +1,7 @@
 //! Observers: what they have read, and what they keep of it.
 ghost use Rattle.std.specs.Prelude.{◌≡◌, ◌<◌, ◌≤◌, ◌++◌, ℕ, List, [], ◌∷◌, length, slice_get, Some, IfOk, OnOk, OnErr};
 ghost use Rattle.dg_rules.specs.declared.entry.Entry.{Entry as EntryData};
-ghost use Rattle.dg_observer.specs.Folds.{Folds, GoesOn, IsAskedInEveryFold, Observed};
+ghost use Rattle.dg_observer.specs.Folds.{Folds, GoesOn, MayCallAnywhere, Observed};
 
 use crate::OutOfMemory;
 use crate::watch::Watch;
@@ -32,14 +32,14 @@ pub struct Observer<N: Name, W: Watch, F> {
 impl<N: Name, W: Watch, F> Model for Observer<N, W, F> {
     ghost use Rattle.std.specs.Prelude.{◌≤◌, map, length};
     ghost use Rattle.dg_rules.specs.declared.game.TheConstants.{MAX_ENTRIES};
-    ghost use Rattle.dg_observer.specs.Folds.{Observed, Folds, AreObservedInOrder};
+    ghost use Rattle.dg_observer.specs.Folds.{Observed, Folds, AreNumbered};
 
     ghost Value = { Observed W.State F };
 
     ghost view = { λ o. record { state = o.state; entries = map (λ r. r.1) o.receipts.items; step = o.step } };
 
     ghost invariant = { λ o. Folds W.begins W.goes_on (map (λ r. r.1) o.receipts.items) o.state
-        × AreObservedInOrder o.receipts.items
+        × AreNumbered o.receipts.items
         × (length o.receipts.items ≤ length N.names.cells) × (length o.receipts.items ≤ MAX_ENTRIES) };
 }
 
@@ -53,7 +53,7 @@ where
     /// that the closure may be called at every state and entry, and that it goes on as W says.
     pub fn new(alloc: Global, first: W::State, step: F) -> Observer<N, W, F>
         requires first { W.begins first }
-        requires asked { IsAskedInEveryFold (F.pre step) }
+        requires asked { MayCallAnywhere (F.pre step) }
         requires keeps { GoesOn (F.post step) W.goes_on }
         ensures { result ≡ record { state = first; entries = []; step = step } }
     {
@@ -96,7 +96,7 @@ where
     /// Refused with `OutOfMemory` if memory for a receipt is, or if the step answers so; what was read before
     /// stands.
     pub fn catch_up(&mut self, log: &Log<N>) -> Result<u32, ObserverFault>
-        requires asked { IsAskedInEveryFold (F.pre self.old.step) }
+        requires asked { MayCallAnywhere (F.pre self.old.step) }
         requires keeps { GoesOn (F.post self.old.step) W.goes_on }
         ensures step { self.new.step ≡ self.old.step }
         ensures more { (es : List EntryData) × (self.new.entries ≡ self.old.entries ++ es)
@@ -119,7 +119,7 @@ where
         requires entry { receipt.1 ≡ entry.now }
         requires cell { length self.old.entries < length N.names.cells }
         requires few { length N.names.cells ≤ MAX_ENTRIES }
-        requires asked { IsAskedInEveryFold (F.pre self.old.step) }
+        requires asked { MayCallAnywhere (F.pre self.old.step) }
         requires keeps { GoesOn (F.post self.old.step) W.goes_on }
         ensures step { self.new.step ≡ self.old.step }
         ensures ok { OnOk result (self.new.entries ≡ self.old.entries ++ entry.now ∷ []) }

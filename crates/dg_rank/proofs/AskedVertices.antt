@@ -8,15 +8,15 @@
 --   no_twins         sets of twins without anybody
 --   loss_from        a loss of the box holds nothing before the place
 --   told_from        so what is told of the box is told of these losses
-use Rattle.dg_rank.proofs.Common.{if◌then◌else◌, ◌≡◌, ℕ, ◌<◌, ◌≤◌, inl, inr, ⊎_elim, Bool, true, false, List, arith, cases_eq, cases_lt, cases_Bool, both_ways, false_from_ne_true, ints, ◌≤ℤ◌, slice_index, length, set, get_or-set_same, get_or-set_other, get_or-replicate, replicate, Option, Some, None, MatchOption, IsMadeOf, IsBoxLoss, IsTrialLossFrom, in_set, in_set-none, Multigraph, BearsLosses, Determines, Amounts, degree, HasRankAtLeast, sum_below-one, IsSubset, TrialsWinFrom, BoxWins, DeterminesTrialsFrom}
-use Rattle.dg_rank.specs.Boxes.{AreTwinsInSets}
+use Rattle.dg_rank.proofs.Common.{if◌then◌else◌, ◌≡◌, ℕ, ◌<◌, ◌≤◌, inl, inr, ⊎_elim, Bool, true, false, List, arith, cases_eq, cases_lt, cases_Bool, both_ways, false_from_ne_true, ints, ◌≤ℤ◌, slice_index, length, set, get_or-set_same, get_or-set_other, get_or-replicate, replicate, Option, Some, None, MatchOption, IsMadeOf, IsBoxLoss, IsLossFrom, in_set, in_set-none, Multigraph, HasRankAtLeastOn, Determines, Amounts, degree, HasRankAtLeast, sum_below-one, IsSubset, TrialsWinFrom, BoxWins, DeterminesLossesFrom}
+use Rattle.dg_rank.specs.Boxes.{HaveOnlyTwins}
 use Rattle.dg_rank.specs.declared.asked.Made.{Made}
 
 pub record IsAllFrom (n d : ℕ) (U : ℕ → Bool) : Type 0 where
   pub part : (v : ℕ) → U v ≡ true → (d ≤ v) × (v < n)
   pub all : (v : ℕ) → d ≤ v → v < n → U v ≡ true
 
-pub all_determine : (g : Multigraph) (d : ℕ) (U : ℕ → Bool) → IsAllFrom g.size d U → DeterminesTrialsFrom g d U
+pub all_determine : (g : Multigraph) (d : ℕ) (U : ℕ → Bool) → IsAllFrom g.size d U → DeterminesLossesFrom g d U
 all_determine g d U whole = record {
   part = λ v low. false_from_ne_true (U v) (λ member. omega (arith, (whole.part v member).0));
   wins = λ A r bears F from.
@@ -27,7 +27,7 @@ all_determine g d U whole = record {
 }
 
 pub set_determines : (g : Multigraph) (d : ℕ) (S U : ℕ → Bool) → IsAllFrom g.size d U → IsSubset S U → Determines g S U →
-    DeterminesTrialsFrom g d S
+    DeterminesLossesFrom g d S
 set_determines g d S U whole part determines = record {
   part = λ v low. false_from_ne_true (S v) (λ member. omega (arith, (whole.part v (part v member)).0));
   wins = λ A r bears. (all_determine g d U whole).wins A r (determines A r bears);
@@ -37,7 +37,7 @@ abbrev pub IsRoomAt : List ℕ → (ℕ → Bool) → ℕ → Type 0
 IsRoomAt room S r = (v : ℕ) → v < 16 → slice_index room v ≡ (if S v then r else 0)
 
 pub bears_box : (g : Multigraph) (A : Amounts) (S : ℕ → Bool) (room : List ℕ) (r : ℕ) → g.size ≤ 16 → IsRoomAt room S r →
-    BoxWins g A room r → BearsLosses g S A r
+    BoxWins g A room r → HasRankAtLeastOn g S A r
 bears_box g A S room r few at wins E effective of_degree none =
     wins E (record {
       effective = effective;
@@ -52,7 +52,7 @@ bears_box g A S room r few at wins E effective of_degree none =
     })
 
 pub wins_from : (g : Multigraph) (A : Amounts) (d : ℕ) (S : ℕ → Bool) (room : List ℕ) (r : ℕ) → g.size ≤ 16 →
-    DeterminesTrialsFrom g d S → IsRoomAt room S r → BoxWins g A room r → TrialsWinFrom g A r d
+    DeterminesLossesFrom g d S → IsRoomAt room S r → BoxWins g A room r → TrialsWinFrom g A r d
 wins_from g A d S room r few determines at wins = determines.wins A r (bears_box g A S room r few at wins)
 
 pub rank_from : (g : Multigraph) (A : Amounts) (k : ℕ) → TrialsWinFrom g A k 0 → HasRankAtLeast g A k
@@ -65,13 +65,13 @@ rank_from g A k wins E effective of_degree = wins E (record {
 pub none_made : (g : Multigraph) → g.size ≤ 16 → IsMadeOf g (record { sets = replicate 16 0; twins = None })
 none_made g few = record { sets = λ p below. inl (get_or-replicate 16 p 0 0 (omega arith)); twins = tt }
 
-pub no_twins : (g : Multigraph) → g.size ≤ 16 → AreTwinsInSets g (replicate 16 0)
+pub no_twins : (g : Multigraph) → g.size ≤ 16 → HaveOnlyTwins g (replicate 16 0)
 no_twins g few v u below member =
     let none : slice_index (replicate 16 0) v ≡ 0 = get_or-replicate 16 v 0 0 (omega arith) in
     absurd (both_ways _ (in_set-none u) (rw none at member))
 
 pub made_at : (g : Multigraph) (a : Made) (d m : ℕ) → d < length a.sets → IsMadeOf g a →
-    DeterminesTrialsFrom g d (in_set m) → IsMadeOf g (record { sets = set a.sets d m; twins = a.twins })
+    DeterminesLossesFrom g d (in_set m) → IsMadeOf g (record { sets = set a.sets d m; twins = a.twins })
 made_at g a d m inside made new = record {
   sets = λ p below. ⊎_elim
       (λ (same : p ≡ d). inr (rw (same, get_or-set_same a.sets d m 0 inside) new))
@@ -81,7 +81,7 @@ made_at g a d m inside made new = record {
 }
 
 pub loss_from : (g : Multigraph) (A : Amounts) (d : ℕ) (S : ℕ → Bool) (room : List ℕ) (r : ℕ) (E : List ℕ) → g.size ≤ 16 →
-    d ≤ g.size → DeterminesTrialsFrom g d S → IsRoomAt room S r → IsBoxLoss g A room r E → IsTrialLossFrom g A r d E
+    d ≤ g.size → DeterminesLossesFrom g d S → IsRoomAt room S r → IsBoxLoss g A room r E → IsLossFrom g A r d E
 loss_from g A d S room r E few below determines at loss = record {
   places = loss.places;
   few = loss.inside.few;
@@ -92,8 +92,8 @@ loss_from g A d S room r E few below determines at loss = record {
 }
 
 pub told_from : (g : Multigraph) (A : Amounts) (d : ℕ) (S : ℕ → Bool) (room : List ℕ) (r : ℕ) (found : Option (List ℕ)) →
-    g.size ≤ 16 → d ≤ g.size → DeterminesTrialsFrom g d S → IsRoomAt room S r →
+    g.size ≤ 16 → d ≤ g.size → DeterminesLossesFrom g d S → IsRoomAt room S r →
     MatchOption found (BoxWins g A room r) (IsBoxLoss g A room r)
-    → MatchOption found (TrialsWinFrom g A r d) (IsTrialLossFrom g A r d)
+    → MatchOption found (TrialsWinFrom g A r d) (IsLossFrom g A r d)
 told_from g A d S room r None few below determines at wins = wins_from g A d S room r few determines at wins
 told_from g A d S room r (Some E) few below determines at loss = loss_from g A d S room r E few below determines at loss

@@ -5,20 +5,20 @@ pub use Rattle.dg_graph.proofs.SetLaws.{in_set-none}
 pub use Rattle.dg_graph.specs.Graph.{IsGraph}
 pub use Rattle.dg_theory.specs.Sets.{IsSubset}
 unfoldable pub use Rattle.dg_graph.specs.Sets.{in_set}
-pub use Rattle.dg_rank.specs.Asked.{IsMadeOf, DeterminesTrialsFrom}
-pub use Rattle.dg_rank.specs.Boxes.{BoxWins, HoldsAt, IsBoxLoss, IsFirstTrialFrom, IsFirstTrialIf, IsInBox, IsNotBefore, IsTrialFrom, IsTrialLossFrom, TellsFirstTrialIf, TrialsWinFrom, TrialsWinIf}
+pub use Rattle.dg_rank.specs.Asked.{IsMadeOf, DeterminesLossesFrom}
+pub use Rattle.dg_rank.specs.Boxes.{BoxWins, HoldsAt, IsBoxLoss, IsFirstLossFrom, IsFirstTrialIf, IsInBox, IsNotBefore, IsTrialFrom, IsLossFrom, TellsFirstIf, TrialsWinFrom, TrialsWinIf}
 pub use Rattle.dg_rank.specs.Divisors.{HoldsTrial, amounts_of_trial}
-pub use Rattle.dg_rank.specs.Ladders.{AnswersRankTest, AreRankTestAnswers, FailsRankTestsAfter, MeetsTooManyTrials, PassesRankTestsBelow, RankByTrialLadder, RanksByTrialLadders}
-pub use Rattle.dg_rank.specs.Limits.{ArePastTrialLimits, AreTrialsWithinLimits}
-pub use Rattle.dg_rank.specs.Losses.{AllTrialsWin, IsFirstLossOfTrials, WinsWithoutTrial}
-pub use Rattle.dg_rank.specs.Pieces.{start_of_trials}
-pub use Rattle.dg_rank.specs.Ranks.{FailsRankTestsFirstAt, IsRankInLimits, IsRankTestWithinLimits, NeedsTooMany}
+pub use Rattle.dg_rank.specs.Ladders.{AnswersRankTest, AreTestAnswers, FailsAfter, MeetsTooMany, PassesBelow, TestsTellRank, TestsTellBoth}
+pub use Rattle.dg_rank.specs.Limits.{IsPastLimits, HasTrials}
+pub use Rattle.dg_rank.specs.Losses.{AllTrialsWin, IsFirstLossIn, WinsWithout}
+pub use Rattle.dg_rank.specs.Pieces.{piece_start}
+pub use Rattle.dg_rank.specs.Ranks.{FailsFirstAt, IsTestedRank, IsTestable, NeedsTooMany}
 pub use Rattle.dg_rank.specs.Trials.{AnyTrial, AreTrialsCounted, IsTrialBefore, IsTrialNumbering, IsTrial}
 pub use Rattle.dg_rank.specs.declared.counting.TheConstants.{MAX_TRIALS}
 pub use Rattle.dg_rank.specs.declared.pieces.Search.{Search}
 pub use Rattle.dg_rank.specs.declared.rank_fault.RankFault.{RankFault}
 pub use Rattle.dg_rank.specs.declared.rank_fault.RankFault.TheVariants.{TooMany}
-pub use Rattle.dg_reduce.specs.Effective.{IsEffectiveDivisor}
+pub use Rattle.dg_reduce.specs.Effective.{IsInLinearSystem}
 pub use Rattle.dg_theory.proofs.Absolute.{abs_within, within_abs}
 pub use Rattle.dg_theory.proofs.Agreement.{agree-sym}
 pub use Rattle.dg_theory.proofs.DualityLaws.{IsDual, dual_tests, high_rank, natural}
@@ -35,12 +35,12 @@ pub use Rattle.dg_theory.proofs.SumBounds.{sum_below-at_least}
 pub use Rattle.dg_theory.proofs.SumLaws.{sum_below-add, sum_below-cong, sum_below-zero}
 pub use Rattle.dg_theory.proofs.SumSwap.{sum_below-sub}
 pub use Rattle.dg_theory.proofs.Winning.{equivalent-winnable}
-pub use Rattle.dg_theory.specs.Determining.{BearsLosses, Determines}
-pub use Rattle.dg_theory.specs.Firing.{DivisorsAgreeOn, Amounts, AreEquivalent, HasNoDebtOff, IsEffective, degree, only_at}
+pub use Rattle.dg_theory.specs.Determining.{HasRankAtLeastOn, Determines}
+pub use Rattle.dg_theory.specs.Firing.{DivisorsAgreeOn, Amounts, AreEquivalent, IsEffectiveOff, IsEffective, degree, only_at}
 pub use Rattle.dg_theory.specs.Multigraph.{IsMultigraph, Multigraph, edge_count, edges_between, genus, valence}
 pub use Rattle.dg_theory.specs.Play.{IsWinnable}
-pub use Rattle.dg_theory.specs.Rank.{HasRankAtLeast, IsDivisorBefore, IsFirstLoss, IsRank, canonical, less}
-pub use Rattle.dg_theory.specs.Sums.{sum_below, total_below}
+pub use Rattle.dg_theory.specs.Rank.{HasRankAtLeast, IsLexBefore, IsFirstLoss, IsRank, canonical, minus}
+pub use Rattle.dg_theory.specs.Sums.{sum_below, nat_sum_below}
 pub use Rattle.dg_verdict.specs.declared.rank_verdict.RankVerdict.{RankVerdict}
 pub use Rattle.dg_verdict.specs.declared.rank_verdict.RankVerdict.TheVariants.{AtLeast, Below}
 pub use Rattle.std.proofs.Common.{Bool, List, [], add-one, ap, arith, false, get_or-set_other, get_or-set_same, inl, inr, length, length-append, length-set, mul-le-mul_right, of_z, refl, replicate, rules, set, subst, suc, suc-mul, sym, take, to_z, true, w32, w64, zero, ℕ, ⊎_elim, ◌*◌, ◌++◌, ◌+◌, ◌-◌, ◌/◌, ◌<◌, ◌∙◌, ◌∷◌, ◌≡◌, ◌≢◌, ◌≤◌, ◌⊎◌}

@@ -10,7 +10,7 @@
 --   trial_small     a trial's amounts are at most 1,000
 --   left_small      small amounts less a trial's are small
 --   left_degree     what is left without a trial adds up to no more than before
-use Rattle.dg_rank.proofs.Common.{◌≡◌, ℕ, ◌+◌, ◌*◌, ◌<◌, ◌≤◌, Bool, true, false, List, arith, sym, ap, ◌∙◌, ⊎_elim, slice_index, ◌≤ℤ◌, MatchBool, unsigned_abs, cases_eq, ints, sum, get_or-le-sum_by, ℤ, pos, ◌-ℤ◌, Multigraph, IsMultigraph, Amounts, degree, only_at, IsEffective, HasNoDebtOff, AreEquivalent, IsWinnable, less, within_abs, abs_within, equivalent-trans, equivalent-degree, degree-only_at, only_at-here, only_at-other, sum_below-one, sum_below-at_most, sum_below-cong, sum_below-add, equivalent-winnable, IsGraph, Vector, at, IsEffectiveDivisor, amounts_of_trial, length}
+use Rattle.dg_rank.proofs.Common.{◌≡◌, ℕ, ◌+◌, ◌*◌, ◌<◌, ◌≤◌, Bool, true, false, List, arith, sym, ap, ◌∙◌, ⊎_elim, slice_index, ◌≤ℤ◌, MatchBool, unsigned_abs, cases_eq, ints, sum, get_or-le-sum_by, ℤ, pos, ◌-ℤ◌, Multigraph, IsMultigraph, Amounts, degree, only_at, IsEffective, IsEffectiveOff, AreEquivalent, IsWinnable, minus, within_abs, abs_within, equivalent-trans, equivalent-degree, degree-only_at, only_at-here, only_at-other, sum_below-one, sum_below-at_most, sum_below-cong, sum_below-add, equivalent-winnable, IsGraph, Vector, at, IsInLinearSystem, amounts_of_trial, length}
 use Rattle.std.proofs.Math.IntN.{◌+ℤ◌}
 
 pub only_at-more : (v k w : ℕ) → pos 0 ≤ℤ only_at v (pos k) w
@@ -21,7 +21,7 @@ only_at-more v k w = ⊎_elim
 
 pub owed_at : (g : Multigraph) (A B : Amounts) (v k : ℕ) → IsEffective g.size A →
     ((w : ℕ) → B w ≡ A w -ℤ only_at v (pos k) w) →
-    HasNoDebtOff g v B
+    IsEffectiveOff g v B
 owed_at g A B v k rich less w below other = omega (arith, ints, rich w below, less w, only_at-other v (pos k) w other)
 
 pub rich_small : (n : ℕ) (A : Amounts) (M w : ℕ) → IsEffective n A → degree n A ≤ℤ pos M → w < n →
@@ -47,13 +47,13 @@ degree-given n A B v k below more =
     sum_below-cong n B (λ w. A w +ℤ only_at v (pos k) w) (λ w _. more w)
     ∙ sum_below-add n A (only_at v (pos k)) ∙ ap (λ (d : ℤ). degree n A +ℤ d) (degree-only_at n v (pos k) below)
 
-pub form_degree : (g : Multigraph) (A : Amounts) (x : Vector) → IsMultigraph g → IsEffectiveDivisor g A x →
+pub form_degree : (g : Multigraph) (A : Amounts) (x : Vector) → IsMultigraph g → IsInLinearSystem g A x →
     degree g.size (at x) ≡ degree g.size A
 form_degree g A x graph form = sym (equivalent-degree g A (at x) graph form.led)
 
-pub given_back : (g : Multigraph) (A B : Amounts) (x y : Vector) (v k : ℕ) → IsEffectiveDivisor g A x →
+pub given_back : (g : Multigraph) (A B : Amounts) (x y : Vector) (v k : ℕ) → IsInLinearSystem g A x →
     y.size ≡ x.size → ((w : ℕ) → B w ≡ A w +ℤ only_at v (pos k) w) →
-    ((w : ℕ) → at y w ≡ at x w +ℤ only_at v (pos k) w) → IsEffectiveDivisor g B y
+    ((w : ℕ) → at y w ≡ at x w +ℤ only_at v (pos k) w) → IsInLinearSystem g B y
 given_back g A B x y v k form size more given =
     let (s, leads) = form.led in
     record {
@@ -63,7 +63,7 @@ given_back g A B x y v k form size more given =
     }
 
 pub told_by : (b : Bool) (g : Multigraph) (A B : Amounts) (z : Vector) → AreEquivalent g A B →
-    MatchBool b (IsEffectiveDivisor g B z) (¬ IsWinnable g B) → MatchBool b (IsEffectiveDivisor g A z) (¬ IsWinnable g A)
+    MatchBool b (IsInLinearSystem g B z) (¬ IsWinnable g B) → MatchBool b (IsInLinearSystem g A z) (¬ IsWinnable g A)
 told_by true g A B z same form = record {
   size = form.size;
   effective = form.effective;
@@ -72,13 +72,13 @@ told_by true g A B z same form = record {
 told_by false g A B z same lost = λ win. lost ((equivalent-winnable g A B same).0 win)
 
 pub left_degree : (g : Multigraph) (D : Amounts) (E : List ℕ) (x : Vector) → IsGraph g →
-    ((v : ℕ) → v < g.size → unsigned_abs (D v) ≤ 1999000) → IsEffectiveDivisor g (less D (amounts_of_trial E)) x →
+    ((v : ℕ) → v < g.size → unsigned_abs (D v) ≤ 1999000) → IsInLinearSystem g (minus D (amounts_of_trial E)) x →
     degree g.size (at x) ≤ℤ pos 31984000
 left_degree g D E x graph range form =
-    let same : degree g.size (at x) ≡ degree g.size (less D (amounts_of_trial E)) =
-    form_degree g (less D (amounts_of_trial E)) x graph.multigraph form in
-    let total : degree g.size (less D (amounts_of_trial E)) ≤ℤ pos (g.size * 1999000) =
-    sum_below-at_most g.size 1999000 (less D (amounts_of_trial E))
+    let same : degree g.size (at x) ≡ degree g.size (minus D (amounts_of_trial E)) =
+    form_degree g (minus D (amounts_of_trial E)) x graph.multigraph form in
+    let total : degree g.size (minus D (amounts_of_trial E)) ≤ℤ pos (g.size * 1999000) =
+    sum_below-at_most g.size 1999000 (minus D (amounts_of_trial E))
     (λ w below. omega (arith, ints, (within_abs (D w) 1999000 (range w below)).1)) in
     let few : g.size ≤ 16 = graph.few in
     omega (arith, ints)
@@ -89,7 +89,7 @@ trial_small E v few inside =
     omega arith
 
 pub left_small : (E : List ℕ) (B F : Amounts) (v : ℕ) → sum E ≤ 1000 → v < length E →
-    unsigned_abs (B v) ≤ 1999000 → F v ≡ less B (amounts_of_trial E) v → unsigned_abs (F v) ≤ 2000000
+    unsigned_abs (B v) ≤ 1999000 → F v ≡ minus B (amounts_of_trial E) v → unsigned_abs (F v) ≤ 2000000
 left_small E B F v total inside small left =
     let few : slice_index E v ≤ 1000 = trial_small E v total inside in
     let (low, high) = within_abs (B v) 1999000 small in

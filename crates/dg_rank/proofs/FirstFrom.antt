@@ -8,7 +8,7 @@
 --   first_with       if those win that hold nothing up to p, the first loss with a dollar at p is the first of all
 --   at_last, none_before, first_at_last   the trial that holds all at the last place comes before all others
 --   held_few         no trial holds more than its degree
-use Rattle.dg_rank.proofs.Common.{◌≡◌, ◌≢◌, ℕ, ◌+◌, ◌-◌, ◌<◌, ◌≤◌, List, length, arith, sym, ap, ◌∙◌, ⊎_elim, ◌⊎◌, inl, inr, set, length-set, get_or-set_same, get_or-set_other, slice_index, ◌≤ℤ◌, cases_eq, cases_lt, ints, ℤ, pos, ◌-ℤ◌, natural, Multigraph, Amounts, degree, only_at, AreEquivalent, IsWinnable, less, degree-less, degree-only_at, only_at-here, only_at-other, sum_below-one, sum_below-cong, equivalent-winnable, amounts_of_trial, WinsWithoutTrial, IsTrialFrom, TrialsWinFrom, IsFirstTrialFrom, IsFirstTrialIf, IsNotBefore, HoldsAt}
+use Rattle.dg_rank.proofs.Common.{◌≡◌, ◌≢◌, ℕ, ◌+◌, ◌-◌, ◌<◌, ◌≤◌, List, length, arith, sym, ap, ◌∙◌, ⊎_elim, ◌⊎◌, inl, inr, set, length-set, get_or-set_same, get_or-set_other, slice_index, ◌≤ℤ◌, cases_eq, cases_lt, ints, ℤ, pos, ◌-ℤ◌, natural, Multigraph, Amounts, degree, only_at, AreEquivalent, IsWinnable, minus, degree-less, degree-only_at, only_at-here, only_at-other, sum_below-one, sum_below-cong, equivalent-winnable, amounts_of_trial, WinsWithout, IsTrialFrom, TrialsWinFrom, IsFirstLossFrom, IsFirstTrialIf, IsNotBefore, HoldsAt}
 use Rattle.std.proofs.Math.IntN.{◌+ℤ◌}
 
 as_much_or_more : (a b : ℤ) → a ≤ℤ b → (b ≡ a) ⊎ ((a +ℤ pos 1) ≤ℤ b)
@@ -39,16 +39,16 @@ all_last n r v F of_degree empty inside =
     alone v inside ∙ ap (λ (x : ℤ). only_at (n - 1) x v) (sym held ∙ of_degree)
 
 abbrev pub IsOther : Multigraph → Amounts → Amounts → ℕ → ℕ → Type 0
-IsOther g A B p a = AreEquivalent g (less A (only_at p (pos a))) B
+IsOther g A B p a = AreEquivalent g (minus A (only_at p (pos a))) B
 
 pub wins_other : (g : Multigraph) (A B F : Amounts) (p a : ℕ) → IsOther g A B p a →
-    IsWinnable g (less B (less F (only_at p (pos a)))) → IsWinnable g (less A F)
+    IsWinnable g (minus B (minus F (only_at p (pos a)))) → IsWinnable g (minus A F)
 wins_other g A B F p a (s, leads) win =
-    (equivalent-winnable g (less A F) (less B (less F (only_at p (pos a))))
+    (equivalent-winnable g (minus A F) (minus B (minus F (only_at p (pos a))))
     (s, λ v below. omega (arith, ints, leads v below))).1 win
 
 pub some_less : (n r p a : ℕ) (F : Amounts) → IsTrialFrom n r p F → p < n → HoldsAt p a F →
-    IsTrialFrom n (r - a) p (less F (only_at p (pos a)))
+    IsTrialFrom n (r - a) p (minus F (only_at p (pos a)))
 some_less n r p a F from inside some = record {
   effective = λ v below. ⊎_elim
       (λ (there : v ≡ p). rw there (omega (arith, ints, some, only_at-here p (pos a))))
@@ -83,7 +83,7 @@ from_more n r p q a L E inside few past from more = record {
   of_degree = omega (
     arith,
     ints,
-    sum_below-cong n (amounts_of_trial L) (less (amounts_of_trial E) (only_at p (pos a)))
+    sum_below-cong n (amounts_of_trial L) (minus (amounts_of_trial E) (only_at p (pos a)))
         (λ v below. omega (arith, ints, more v)),
     degree-less n (amounts_of_trial E) (only_at p (pos a)),
     degree-only_at n p (pos a) inside,
@@ -95,15 +95,15 @@ from_more n r p q a L E inside few past from more = record {
 }
 
 pub first_above : (g : Multigraph) (A B : Amounts) (r p a : ℕ) (L E : List ℕ) → p < g.size → a ≤ r → IsOther g A B p a →
-    IsFirstTrialFrom g B (r - a) p L → E ≡ set L p (slice_index L p + a) → IsFirstTrialIf g A r p (HoldsAt p a) E
+    IsFirstLossFrom g B (r - a) p L → E ≡ set L p (slice_index L p + a) → IsFirstTrialIf g A r p (HoldsAt p a) E
 first_above g A B r p a L E inside few other loss is = record {
   places = ap length is ∙ length-set L p (slice_index L p + a) ∙ loss.places;
   from = from_more g.size r p p a L E inside few (omega arith) loss.from more;
   among = omega (arith, ints, more p, only_at-here p (pos a));
-  loses = λ win. loss.loses ((equivalent-winnable g (less A (amounts_of_trial E)) (less B (amounts_of_trial L))
+  loses = λ win. loss.loses ((equivalent-winnable g (minus A (amounts_of_trial E)) (minus B (amounts_of_trial L))
       (other.0, λ v below. omega (arith, ints, other.1 v below, more v))).0 win);
   first = λ F from held earlier. wins_other g A B F p a other
-      (loss.first (less F (only_at p (pos a))) (some_less g.size r p a F from inside held) (record {
+      (loss.first (minus F (only_at p (pos a))) (some_less g.size r p a F from inside held) (record {
         place = earlier.place;
         inside = earlier.inside;
         same = λ v low. omega (arith, ints, earlier.same v low, more v);
@@ -114,8 +114,8 @@ first_above g A B r p a L E inside few other loss is = record {
   more v = ap (λ (T : List ℕ). amounts_of_trial T v) is ∙ some_more L p a v (omega (arith, loss.places))
 
 pub first_with : (g : Multigraph) (A B : Amounts) (r p : ℕ) (E E' : List ℕ) → p < g.size → 1 ≤ r → IsOther g A B p 1 →
-    TrialsWinFrom g A r (p + 1) → IsFirstTrialFrom g B (r - 1) p E' → E ≡ set E' p (slice_index E' p + 1) →
-    IsFirstTrialFrom g A r p E
+    TrialsWinFrom g A r (p + 1) → IsFirstLossFrom g B (r - 1) p E' → E ≡ set E' p (slice_index E' p + 1) →
+    IsFirstLossFrom g A r p E
 first_with g A B r p E E' inside some other wins loss is =
     let above : IsFirstTrialIf g A r p (HoldsAt p 1) E = first_above g A B r p 1 E' E inside some other loss is in
     record {
@@ -170,8 +170,8 @@ none_before n r p E F held empty from earlier =
     (cases_lt (u + 1) n)
 
 pub first_at_last : (g : Multigraph) (B : Amounts) (r p : ℕ) (E : List ℕ) → p < g.size → length E ≡ g.size →
-    slice_index E (g.size - 1) ≡ r → ((u : ℕ) → u + 1 < g.size → slice_index E u ≡ 0) → ¬ WinsWithoutTrial g B E →
-    IsFirstTrialFrom g B r p E
+    slice_index E (g.size - 1) ≡ r → ((u : ℕ) → u + 1 < g.size → slice_index E u ≡ 0) → ¬ WinsWithout g B E →
+    IsFirstLossFrom g B r p E
 first_at_last g B r p E inside places held empty loses = record {
   places = places;
   from = at_last g.size r p E inside held empty;
@@ -179,6 +179,6 @@ first_at_last g B r p E inside places held empty loses = record {
   first = λ F from earlier. absurd (none_before g.size r p E F held empty from earlier);
 }
 
-pub held_few : (g : Multigraph) (A : Amounts) (r d v : ℕ) (E : List ℕ) → IsFirstTrialFrom g A r d E → v < g.size →
+pub held_few : (g : Multigraph) (A : Amounts) (r d v : ℕ) (E : List ℕ) → IsFirstLossFrom g A r d E → v < g.size →
     slice_index E v ≤ r
 held_few g A r d v E loss inside = omega (arith, ints, from_few g.size r d v (amounts_of_trial E) loss.from inside)

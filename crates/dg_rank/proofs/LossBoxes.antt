@@ -13,14 +13,14 @@
 --   none_held      a trial of no dollars
 --   class_small    what is equivalent to small amounts is small
 --   taken_small    what is left once dollars are taken
-use Rattle.dg_rank.proofs.Common.{◌≡◌, ℕ, ◌+◌, ◌-◌, ◌<◌, ◌≤◌, inl, inr, sym, List, [], length, arith, ap, ◌∙◌, ⊎_elim, set, length-set, get_or-set_same, get_or-set_other, slice_index, ◌≤ℤ◌, ◌<ℤ◌, cases_eq, ints, by_lt_z, pos, Option, Some, None, MatchOption, Multigraph, Amounts, degree, only_at, AreEquivalent, IsWinnable, less, degree-less, degree-only_at, only_at-here, only_at-other, sum_below-one, sum_below-zero, equivalent-winnable, win_more, amounts_of_trial, BoxWins, IsBoxLoss, IsInBox, IsMultigraph, Vector, at, IsEffectiveDivisor}
+use Rattle.dg_rank.proofs.Common.{◌≡◌, ℕ, ◌+◌, ◌-◌, ◌<◌, ◌≤◌, inl, inr, sym, List, [], length, arith, ap, ◌∙◌, ⊎_elim, set, length-set, get_or-set_same, get_or-set_other, slice_index, ◌≤ℤ◌, ◌<ℤ◌, cases_eq, ints, by_lt_z, pos, Option, Some, None, MatchOption, Multigraph, Amounts, degree, only_at, AreEquivalent, IsWinnable, minus, degree-less, degree-only_at, only_at-here, only_at-other, sum_below-one, sum_below-zero, equivalent-winnable, win_more, amounts_of_trial, BoxWins, IsBoxLoss, IsInBox, IsMultigraph, Vector, at, IsInLinearSystem}
 use Rattle.std.proofs.Common.{min}
 use Rattle.std.proofs.Math.IntN.{◌+ℤ◌, ◌-ℤ◌}
 use Rattle.dg_rank.proofs.Elsewhere.{degree-given, form_degree}
 use Rattle.std.proofs.lemmas.List.Sums.{sum_by-set}
 use Rattle.std.specs.List.{sum}
 use Rattle.dg_theory.proofs.Searching.{AllBelow, FirstOf, first_or_all}
-use Rattle.dg_rank.specs.Boxes.{IsClosedWithTwins, IsSameInBox}
+use Rattle.dg_rank.specs.Boxes.{IsTwinClosed, IsBoxTwin}
 use Rattle.std.proofs.lemmas.Bool.Decides.{nat_tests}
 use Rattle.dg_theory.specs.Twins.{AreTwins, exchange, exchanged}
 use Rattle.dg_theory.proofs.Twins.{exchange-below, exchange-same, exchange-twice, sum_below-exchanged, win_exchanged}
@@ -47,7 +47,7 @@ room_left r v t u placed few = ⊎_elim
     (cases_eq u v)
 
 box_without : (n j v t : ℕ) (r : List ℕ) (E : Amounts) → IsInBox n r j E → v < n → v < length r → pos t ≤ℤ E v →
-    IsInBox n (set r v (slice_index r v - t)) (j - t) (less E (only_at v (pos t)))
+    IsInBox n (set r v (slice_index r v - t)) (j - t) (minus E (only_at v (pos t)))
 box_without n j v t r E inside below placed some = record {
   effective = λ u low. ⊎_elim
       (λ (there : u ≡ v). rw there (omega (arith, ints, some, only_at-here v (pos t))))
@@ -87,7 +87,7 @@ some_more E p t v inside = ⊎_elim
 
 pub loss_beyond : (g : Multigraph) (A : Amounts) (r : List ℕ) (j v t : ℕ) (E E' : List ℕ) → v < g.size →
     v < length r → t ≤ slice_index r v → t ≤ j →
-    IsBoxLoss g (less A (only_at v (pos t))) (set r v (slice_index r v - t)) (j - t) E' →
+    IsBoxLoss g (minus A (only_at v (pos t))) (set r v (slice_index r v - t)) (j - t) E' →
     E ≡ set E' v (slice_index E' v + t) → IsBoxLoss g A r j E
 loss_beyond g A r j v t E E' below placed roomy few loss is = record {
   places = ap length is ∙ length-set E' v (slice_index E' v + t) ∙ loss.places;
@@ -101,7 +101,7 @@ loss_beyond g A r j v t E E' below placed roomy few loss is = record {
     );
     within = λ u low. omega (arith, ints, more u, loss.inside.within u low, room_left r v t u placed roomy);
   };
-  loses = λ win. loss.loses (win_more g (less A (amounts_of_trial E)) (less (less A (only_at v (pos t))) (amounts_of_trial E'))
+  loses = λ win. loss.loses (win_more g (minus A (amounts_of_trial E)) (minus (minus A (only_at v (pos t))) (amounts_of_trial E'))
       (λ u low. omega (arith, ints, more u)) win);
 } where
   more : (u : ℕ) → amounts_of_trial E u ≡ amounts_of_trial E' u +ℤ only_at v (pos t) u
@@ -116,28 +116,28 @@ nothing_lost g A r j E places empty lost = record {
     few = omega (arith, ints, sum_below-zero g.size (amounts_of_trial E) (λ u low. ap pos (empty u low)));
     within = λ u low. omega (arith, ints, empty u low);
   };
-  loses = λ win. lost (win_more g (less A (amounts_of_trial E)) A (λ u low. omega (arith, ints)) win);
+  loses = λ win. lost (win_more g (minus A (amounts_of_trial E)) A (λ u low. omega (arith, ints)) win);
 }
 
 pub box_told : (o : Option (List ℕ)) (g : Multigraph) (A B : Amounts) (r : List ℕ) (j : ℕ) → AreEquivalent g A B →
     MatchOption o (BoxWins g B r j) (IsBoxLoss g B r j) → MatchOption o (BoxWins g A r j) (IsBoxLoss g A r j)
 box_told None g A B r j (s, leads) wins =
-    λ E inside. (equivalent-winnable g (less A E) (less B E) (s, λ u below. omega (arith, ints, leads u below))).1
+    λ E inside. (equivalent-winnable g (minus A E) (minus B E) (s, λ u below. omega (arith, ints, leads u below))).1
     (wins E inside)
 box_told (Some E) g A B r j (s, leads) loss = record {
   places = loss.places;
   inside = loss.inside;
-  loses = λ win. loss.loses ((equivalent-winnable g (less A (amounts_of_trial E)) (less B (amounts_of_trial E))
+  loses = λ win. loss.loses ((equivalent-winnable g (minus A (amounts_of_trial E)) (minus B (amounts_of_trial E))
       (s, λ u below. omega (arith, ints, leads u below))).0 win);
 }
 
 beyond_wins : (g : Multigraph) (A : Amounts) (r : List ℕ) (j v h : ℕ) → v < g.size → v < length r → h < slice_index r v →
-    BoxWins g (less A (only_at v (pos (h + 1)))) (set r v (slice_index r v - (h + 1))) (j - (h + 1)) →
-    (E : Amounts) → IsInBox g.size r j E → pos h <ℤ E v → IsWinnable g (less A E)
+    BoxWins g (minus A (only_at v (pos (h + 1)))) (set r v (slice_index r v - (h + 1))) (j - (h + 1)) →
+    (E : Amounts) → IsInBox g.size r j E → pos h <ℤ E v → IsWinnable g (minus A E)
 beyond_wins g A r j v h below placed low beyond E inside more =
     let X : Amounts = only_at v (pos (h + 1)) in
-    win_more g (less (less A X) (less E X)) (less A E) (λ u low. omega (arith, ints))
-    (beyond (less E X) (box_without g.size j v (h + 1) r E inside below placed (omega (arith, ints))))
+    win_more g (minus (minus A X) (minus E X)) (minus A E) (λ u low. omega (arith, ints))
+    (beyond (minus E X) (box_without g.size j v (h + 1) r E inside below placed (omega (arith, ints))))
 
 box_exchanged : (n j u v : ℕ) (r : List ℕ) (E : Amounts) → u < n → v < n → slice_index r u ≡ slice_index r v →
     IsInBox n r j E → IsInBox n r j (exchanged u v E)
@@ -153,21 +153,21 @@ box_exchanged n j u v r E left right same inside = record {
 }
 
 twin_wins : (g : Multigraph) (A : Amounts) (r : List ℕ) (j v h u : ℕ) → IsMultigraph g → v < g.size → u < g.size →
-    IsSameInBox g A r v u → ((E : Amounts) → IsInBox g.size r j E → pos h <ℤ E v → IsWinnable g (less A E)) →
-    (E : Amounts) → IsInBox g.size r j E → pos h <ℤ E u → IsWinnable g (less A E)
+    IsBoxTwin g A r v u → ((E : Amounts) → IsInBox g.size r j E → pos h <ℤ E v → IsWinnable g (minus A E)) →
+    (E : Amounts) → IsInBox g.size r j E → pos h <ℤ E u → IsWinnable g (minus A E)
 twin_wins g A r j v h u graph below below' same beyond E inside more =
     let F : Amounts = exchanged v u E in
     let there : exchange v u v ≡ u = grind (arith, nat_tests) in
     let held : E u ≡ F v = sym (ap E there) in
-    win_more g (exchanged v u (less A F)) (less A E)
+    win_more g (exchanged v u (minus A F)) (minus A E)
     (λ w low. omega (arith, ints, exchange-same A v u w (sym same.held), ap E (exchange-twice v u w)))
-    (win_exchanged g (less A F) v u graph below below' same.twins
+    (win_exchanged g (minus A F) v u graph below below' same.twins
     (beyond F (box_exchanged g.size j v u r E below below' (sym same.room) inside) (omega (arith, ints))))
 
 pub box_closed : (o : Option (List ℕ)) (g : Multigraph) (A : Amounts) (r c : List ℕ) (j v h : ℕ) → IsMultigraph g →
     v < g.size → v < length r → h < slice_index r v →
-    BoxWins g (less A (only_at v (pos (h + 1)))) (set r v (slice_index r v - (h + 1))) (j - (h + 1)) →
-    IsClosedWithTwins g A r v h c → MatchOption o (BoxWins g A c j) (IsBoxLoss g A c j) →
+    BoxWins g (minus A (only_at v (pos (h + 1)))) (set r v (slice_index r v - (h + 1))) (j - (h + 1)) →
+    IsTwinClosed g A r v h c → MatchOption o (BoxWins g A c j) (IsBoxLoss g A c j) →
     MatchOption o (BoxWins g A r j) (IsBoxLoss g A r j)
 box_closed None g A r c j v h graph below placed low beyond closed wins = λ E inside. ⊎_elim
     (λ (all : AllBelow g.size (λ u. E u ≤ℤ pos (slice_index c u))).
@@ -175,7 +175,7 @@ box_closed None g A r c j v h graph below placed low beyond closed wins = λ E i
     (λ (first : FirstOf g.size (λ u. E u ≤ℤ pos (slice_index c u)) (λ u. pos (slice_index c u) <ℤ E u)).
     let u = first.0 in ⊎_elim
     (λ (same : slice_index c u ≡ slice_index r u). absurd (omega (arith, ints, first.2, inside.within u first.1)))
-    (λ (twin : (slice_index c u ≡ h) × IsSameInBox g A r v u).
+    (λ (twin : (slice_index c u ≡ h) × IsBoxTwin g A r v u).
     twin_wins g A r j v h u graph below first.1 twin.1 (beyond_wins g A r j v h below placed low beyond) E inside
     (omega (arith, ints, first.2, twin.0)))
     (closed u first.1))
@@ -189,7 +189,7 @@ box_closed (Some E) g A r c j v h graph below placed low beyond closed loss = re
     few = loss.inside.few;
     within = λ u inside. ⊎_elim
         (λ (same : slice_index c u ≡ slice_index r u). omega (arith, ints, loss.inside.within u inside))
-        (λ (twin : (slice_index c u ≡ h) × IsSameInBox g A r v u).
+        (λ (twin : (slice_index c u ≡ h) × IsBoxTwin g A r v u).
         omega (arith, ints, loss.inside.within u inside, twin.0, twin.1.room))
         (closed u inside);
   };
@@ -197,8 +197,8 @@ box_closed (Some E) g A r c j v h graph below placed low beyond closed loss = re
 }
 
 pub one_closed : (g : Multigraph) (A : Amounts) (r c : List ℕ) (v h u : ℕ) → u < length c → u < g.size →
-    h < slice_index r v → AreTwins g v u → A u ≡ A v → slice_index c u ≡ slice_index r v → IsClosedWithTwins g A r v h c →
-    IsClosedWithTwins g A r v h (set c u h)
+    h < slice_index r v → AreTwins g v u → A u ≡ A v → slice_index c u ≡ slice_index r v → IsTwinClosed g A r v h c →
+    IsTwinClosed g A r v h (set c u h)
 one_closed g A r c v h u placed below low twins held room closed w inside = ⊎_elim
     (λ (there : w ≡ u). rw there (inr (
       get_or-set_same c u h 0 placed,
@@ -207,7 +207,7 @@ one_closed g A r c v h u placed below low twins held room closed w inside = ⊎_
         held = held;
         room = ⊎_elim
             (λ (same : slice_index c u ≡ slice_index r u). omega (arith))
-            (λ (twin : (slice_index c u ≡ h) × IsSameInBox g A r v u). twin.1.room)
+            (λ (twin : (slice_index c u ≡ h) × IsBoxTwin g A r v u). twin.1.room)
             (closed u below);
       },
     )))
@@ -225,12 +225,12 @@ none_held n E held empty u low = ⊎_elim
     (cases_eq u (n - 1))
 
 pub class_small : (g : Multigraph) (A : Amounts) (x : Vector) → IsMultigraph g →
-    degree g.size A ≤ℤ pos 32000000 → IsEffectiveDivisor g A x → degree g.size (at x) ≤ℤ pos 32000000
+    degree g.size A ≤ℤ pos 32000000 → IsInLinearSystem g A x → degree g.size (at x) ≤ℤ pos 32000000
 class_small g A x graph small form = omega (arith, ints, form_degree g A x graph form, small)
 
 pub taken_small : (g : Multigraph) (A : Amounts) (x : Vector) (v t : ℕ) → IsMultigraph g → v < g.size →
-    degree g.size A ≤ℤ pos 32000000 → IsEffectiveDivisor g (less A (only_at v (pos t))) x →
+    degree g.size A ≤ℤ pos 32000000 → IsInLinearSystem g (minus A (only_at v (pos t))) x →
     degree g.size (at x) ≤ℤ pos 32000000
 taken_small g A x v t graph below small form =
-    class_small g (less A (only_at v (pos t))) x graph
+    class_small g (minus A (only_at v (pos t))) x graph
     (omega (arith, ints, degree-less g.size A (only_at v (pos t)), degree-only_at g.size v (pos t) below, small)) form

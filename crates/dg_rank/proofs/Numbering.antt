@@ -5,14 +5,14 @@
 --   limits_trial     within the limits a number below that of all trials is the number of one
 --   past_above       past the limits of a degree are all above it
 --   past_within      no rank test is past the limits and within them
-use Rattle.dg_rank.proofs.Common.{◌≡◌, ℕ, zero, suc, ◌+◌, ◌-◌, ◌<◌, ◌≤◌, List, [], ◌∷◌, length, arith, refl, sym, ap, subst, ◌∙◌, ⊎_elim, ◌⊎◌, inl, inr, slice_index, sum, cases_lt, cond_below, cond_above, IsTrial, IsTrialNumbering, AreTrialsCounted, AnyTrial, IsTrialBefore, MAX_TRIALS, AreTrialsWithinLimits, ArePastTrialLimits, IsRankTestWithinLimits}
-use Rattle.dg_rank.specs.Numbering.{trials_with_one_place_more, trial_count, trial_raised, with_trial_place, nth_trial}
+use Rattle.dg_rank.proofs.Common.{◌≡◌, ℕ, zero, suc, ◌+◌, ◌-◌, ◌<◌, ◌≤◌, List, [], ◌∷◌, length, arith, refl, sym, ap, subst, ◌∙◌, ⊎_elim, ◌⊎◌, inl, inr, slice_index, sum, cases_lt, cond_below, cond_above, IsTrial, IsTrialNumbering, AreTrialsCounted, AnyTrial, IsTrialBefore, MAX_TRIALS, HasTrials, IsPastLimits, IsTestable}
+use Rattle.dg_rank.specs.Numbering.{count_with_place, trial_count, raised_first, with_trial_place, nth_trial}
 use Rattle.dg_rank.proofs.Lists.{sum_cons, no_places, trial_cons, trial_tail, before_cons}
 use Rattle.dg_rank.proofs.CountedOnce.{lower_number, counted_once}
 use Rattle.dg_rank.proofs.Pascal.{count_grows_by_degree}
 
-raised_trial : (n k : ℕ) (E : List ℕ) → IsTrial (suc n) k E → IsTrial (suc n) (suc k) (trial_raised E)
-unfolding trial_raised
+raised_trial : (n k : ℕ) (E : List ℕ) → IsTrial (suc n) k E → IsTrial (suc n) (suc k) (raised_first E)
+unfolding raised_first
 raised_trial n k [] trial = absurd (omega (arith, trial.places))
 raised_trial n k (a ∷ E) trial = record {
   places = trial.places;
@@ -29,14 +29,14 @@ more_before a b E F (suc p) same smaller = record { place = suc p; same = same_a
   same_at zero low = ap suc (same 0 (omega arith))
   same_at (suc u) low = same (suc u) low
 
-raised_before : (E F : List ℕ) → 0 < length E → 0 < length F → IsTrialBefore E F → IsTrialBefore (trial_raised E) (trial_raised F)
-unfolding trial_raised
+raised_before : (E F : List ℕ) → 0 < length E → 0 < length F → IsTrialBefore E F → IsTrialBefore (raised_first E) (raised_first F)
+unfolding raised_first
 raised_before [] F some other before = absurd (omega arith)
 raised_before (a ∷ E) [] some other before = absurd (omega arith)
 raised_before (a ∷ E) (b ∷ F) some other before = more_before a b E F before.place before.same before.smaller
 
-none_before : (E F : List ℕ) → 0 < length F → IsTrialBefore (0 ∷ E) (trial_raised F)
-unfolding trial_raised
+none_before : (E F : List ℕ) → 0 < length F → IsTrialBefore (0 ∷ E) (raised_first F)
+unfolding raised_first
 none_before E [] some = absurd (omega arith)
 none_before E (b ∷ F) some = record { place = 0; same = λ u low. absurd (omega arith); smaller = omega arith }
 
@@ -67,7 +67,7 @@ parts c i = ⊎_elim (λ (low : i < c). inl low) (λ (high : c ≤ i). inr (i - 
 -- h numbers first those that hold nothing at the first place, by f, and then those that hold something there, by g
 record IsJoined (c : ℕ) (f g h : ℕ → List ℕ) : Type 0 where
   low : (i : ℕ) → i < c → h i ≡ 0 ∷ f i
-  high : (i : ℕ) → h (c + i) ≡ trial_raised (g i)
+  high : (i : ℕ) → h (c + i) ≡ raised_first (g i)
 
 joined_each : (n k c d : ℕ) (f g h : ℕ → List ℕ) → IsTrialNumbering n (suc k) AnyTrial c f →
     IsTrialNumbering (suc n) k AnyTrial d g →
@@ -75,14 +75,14 @@ joined_each : (n k c d : ℕ) (f g h : ℕ → List ℕ) → IsTrialNumbering n 
 joined_each n k c d f g h first second whole i small = ⊎_elim
     (λ (low : i < c). rw (whole.low i low) (trial_cons n (suc k) 0 (suc k) (f i) (first.each i low).0 (omega arith)))
     (λ (high : (j : ℕ) × (c + j ≡ i)).
-    let is : h i ≡ trial_raised (g high.0) = ap h (sym high.1) ∙ whole.high high.0 in
+    let is : h i ≡ raised_first (g high.0) = ap h (sym high.1) ∙ whole.high high.0 in
     rw is (raised_trial n k (g high.0) (second.each high.0 (omega (arith, high.1))).0))
     (parts c i)
 
 joined_all : (n k c d : ℕ) (f g h : ℕ → List ℕ) → IsTrialNumbering n (suc k) AnyTrial c f →
     IsTrialNumbering (suc n) k AnyTrial d g →
     IsJoined c f g h → (E : List ℕ) → IsTrial (suc n) (suc k) E → (i : ℕ) × (i < c + d) × (h i ≡ E)
-unfolding trial_raised
+unfolding raised_first
 joined_all n k c d f g h first second whole [] trial = absurd (omega (arith, trial.places))
 joined_all n k c d f g h first second whole (zero ∷ E) trial =
     let (i, low, found) = first.all E (trial_tail n (suc k) 0 (suc k) E trial (omega arith)) tt in
@@ -91,7 +91,7 @@ joined_all n k c d f g h first second whole (suc a ∷ E) trial =
     let less : IsTrial (suc n) k (a ∷ E) =
     record { places = trial.places; amount = omega (arith, trial.amount, sum_cons (suc a) E, sum_cons a E) } in
     let (i, low, found) = second.all (a ∷ E) less tt in
-    (c + i, omega arith, whole.high i ∙ ap trial_raised found)
+    (c + i, omega arith, whole.high i ∙ ap raised_first found)
 
 joined_ascending : (n k c d : ℕ) (f g h : ℕ → List ℕ) → IsTrialNumbering n (suc k) AnyTrial c f →
     IsTrialNumbering (suc n) k AnyTrial d g →
@@ -101,13 +101,13 @@ joined_ascending n k c d f g h first second whole i j less small = ⊎_elim
     (before_cons 0 (f i) (f j) (first.ascending i j less low)))
     (λ (high : (m : ℕ) × (c + m ≡ j)).
     let below : high.0 < d = omega (arith, high.1) in
-    let is : h j ≡ trial_raised (g high.0) = ap h (sym high.1) ∙ whole.high high.0 in
+    let is : h j ≡ raised_first (g high.0) = ap h (sym high.1) ∙ whole.high high.0 in
     rw is (⊎_elim
     (λ (low : i < c). rw (whole.low i low)
     (none_before (f i) (g high.0) (omega (arith, (second.each high.0 below).0.places))))
     (λ (other : (l : ℕ) × (c + l ≡ i)).
     let lower : other.0 < high.0 = omega (arith, high.1, other.1) in
-    let here : h i ≡ trial_raised (g other.0) = ap h (sym other.1) ∙ whole.high other.0 in
+    let here : h i ≡ raised_first (g other.0) = ap h (sym other.1) ∙ whole.high other.0 in
     rw here (raised_before (g other.0) (g high.0)
     (omega (arith, (second.each other.0 (omega arith)).0.places))
     (omega (arith, (second.each high.0 below).0.places))
@@ -116,18 +116,18 @@ joined_ascending n k c d f g h first second whole i j less small = ⊎_elim
     (parts c j)
 
 place_numbered : (n : ℕ) (c : ℕ → ℕ) (f : ℕ → ℕ → List ℕ) → ((k : ℕ) → IsTrialNumbering n k AnyTrial (c k) (f k)) →
-    (k : ℕ) → IsTrialNumbering (suc n) k AnyTrial (trials_with_one_place_more c k) (with_trial_place c f k)
-unfolding trials_with_one_place_more with_trial_place
+    (k : ℕ) → IsTrialNumbering (suc n) k AnyTrial (count_with_place c k) (with_trial_place c f k)
+unfolding count_with_place with_trial_place
 place_numbered n c f numbers zero = broke_numbered n (c 0) (f 0) (with_trial_place c f 0) (numbers 0) (λ i. refl)
 place_numbered n c f numbers (suc k) =
     let first : IsTrialNumbering n (suc k) AnyTrial (c (suc k)) (f (suc k)) = numbers (suc k) in
-    let second : IsTrialNumbering (suc n) k AnyTrial (trials_with_one_place_more c k) (with_trial_place c f k) =
+    let second : IsTrialNumbering (suc n) k AnyTrial (count_with_place c k) (with_trial_place c f k) =
     place_numbered n c f numbers k in
     let whole : IsJoined (c (suc k)) (f (suc k)) (with_trial_place c f k) (with_trial_place c f (suc k)) = record {
-      low = λ i low. sym (cond_below i (c (suc k)) (0 ∷ f (suc k) i) (trial_raised (with_trial_place c f k (i - c (suc k)))) low);
+      low = λ i low. sym (cond_below i (c (suc k)) (0 ∷ f (suc k) i) (raised_first (with_trial_place c f k (i - c (suc k)))) low);
       high = λ i. sym (cond_above (c (suc k) + i) (c (suc k)) (0 ∷ f (suc k) (c (suc k) + i)) _
-          (trial_raised (with_trial_place c f k i))
-          (omega arith) (ap (λ (j : ℕ). trial_raised (with_trial_place c f k j)) (omega arith)));
+          (raised_first (with_trial_place c f k i))
+          (omega arith) (ap (λ (j : ℕ). raised_first (with_trial_place c f k j)) (omega arith)));
     } in
     record {
       each = λ i low. (joined_each n k _ _ _ _ _ first second whole i low, tt);
@@ -171,10 +171,10 @@ counted_before n k i small = (
   all : IsTrialNumbering n k AnyTrial (trial_count n k) (nth_trial n k)
   all = numbered n k
 
-pub limits_count : (n k c : ℕ) → AreTrialsWithinLimits n k c → c ≡ trial_count n k
+pub limits_count : (n k c : ℕ) → HasTrials n k c → c ≡ trial_count n k
 limits_count n k c limits = counted_once n k _ c (trial_count n k) limits.counted (nth_trial n k, numbered n k)
 
-pub limits_trial : (n k c i : ℕ) → AreTrialsWithinLimits n k c → i < c → IsTrial n k (nth_trial n k i)
+pub limits_trial : (n k c i : ℕ) → HasTrials n k c → i < c → IsTrial n k (nth_trial n k i)
 limits_trial n k c i limits small =
     let all : c ≡ trial_count n k = limits_count n k c limits in
     ((numbered n k).each i (omega arith)).0
@@ -185,13 +185,13 @@ more_trials n j k some less (c, many, counted) =
     let all : c ≡ trial_count n j = counted_once n j _ c (trial_count n j) counted (nth_trial n j, numbered n j) in
     (trial_count n k, omega (arith, count_grows_by_degree n j k some less), (nth_trial n k, numbered n k))
 
-pub past_above : (n j k : ℕ) → 0 < n → j ≤ k → ArePastTrialLimits n j → ArePastTrialLimits n k
+pub past_above : (n j k : ℕ) → 0 < n → j ≤ k → IsPastLimits n j → IsPastLimits n k
 past_above n j k some less (inl none) = inl none
 past_above n j k some less (inr (inl much)) = inr (inl much)
 past_above n j k some less (inr (inr (inl high))) = inr (inr (inl (omega arith)))
 past_above n j k some less (inr (inr (inr many))) = inr (inr (inr (more_trials n j k some less many)))
 
-pub past_within : (n k : ℕ) → ArePastTrialLimits n k → IsRankTestWithinLimits n k → ⊥
+pub past_within : (n k : ℕ) → IsPastLimits n k → IsTestable n k → ⊥
 past_within n k (inl none) (c, within) = omega (arith, none, within.some)
 past_within n k (inr (inl many)) (c, within) = omega (arith, many, within.few)
 past_within n k (inr (inr (inl large))) (c, within) = omega (arith, large, within.small)

@@ -7,19 +7,19 @@
 --   count_grows_by_degree   of a greater degree there are no fewer trials, on one place or more
 --   count_next    on p + 1 places there are (k + p) / p times as many trials of degree k as on p places
 use Rattle.dg_rank.proofs.Common.{◌≡◌, ℕ, zero, suc, ◌+◌, ◌*◌, ◌/◌, ◌<◌, ◌≤◌, arith, refl, ap, ⊎_elim, add-one, mul-div_cancel_left, cases_lt}
-use Rattle.dg_rank.specs.Numbering.{trials_with_one_place_more, trial_count}
+use Rattle.dg_rank.specs.Numbering.{count_with_place, trial_count}
 
 pub one_place : (k : ℕ) → trial_count 1 k ≡ 1
-unfolding trials_with_one_place_more trial_count
+unfolding count_with_place trial_count
 one_place zero = refl
 one_place (suc k) = omega (arith, one_place k)
 
 pub count_more : (n k : ℕ) → trial_count (suc n) (suc k) ≡ trial_count n (suc k) + trial_count (suc n) k
-unfolding trials_with_one_place_more trial_count
+unfolding count_with_place trial_count
 count_more n k = refl
 
 pub no_dollar : (n : ℕ) → trial_count n 0 ≡ 1
-unfolding trials_with_one_place_more trial_count
+unfolding count_with_place trial_count
 no_dollar zero = refl
 no_dollar (suc n) = no_dollar n
 

@@ -10,22 +10,22 @@
 --   piece_loses    the first loss from one on is that of the piece, if it comes before the next piece
 --   piece_passed   if it does not, all trials of the piece win
 --   of_all         what is found in all trials by their numbers is found in all
-use Rattle.dg_rank.proofs.Common.{◌≡◌, ℕ, ◌+◌, ◌*◌, ◌/◌, ◌<◌, ◌≤◌, List, arith, sym, ⊎_elim, mul-le-mul_right, ints, Option, Some, None, MatchOption, cases_lt, get_or_past, le-div, div-mul-le_self, div-le_of_le-mul, Multigraph, Amounts, IsDivisorBefore, less, win_more, IsWinnable, IsTrial, IsTrialBefore, AnyTrial, AreTrialsWithinLimits, amounts_of_trial, WinsWithoutTrial, IsTrialFrom, TrialsWinFrom, IsFirstTrialFrom, TrialsWinIf, IsFirstTrialIf, IsNotBefore, AllTrialsWin, IsFirstLossOfTrials, start_of_trials, Search}
+use Rattle.dg_rank.proofs.Common.{◌≡◌, ℕ, ◌+◌, ◌*◌, ◌/◌, ◌<◌, ◌≤◌, List, arith, sym, ⊎_elim, mul-le-mul_right, ints, Option, Some, None, MatchOption, cases_lt, get_or_past, le-div, div-mul-le_self, div-le_of_le-mul, Multigraph, Amounts, IsLexBefore, minus, win_more, IsWinnable, IsTrial, IsTrialBefore, AnyTrial, HasTrials, amounts_of_trial, WinsWithout, IsTrialFrom, TrialsWinFrom, IsFirstLossFrom, TrialsWinIf, IsFirstTrialIf, IsNotBefore, AllTrialsWin, IsFirstLossIn, piece_start, Search}
 use Rattle.dg_rank.specs.Numbering.{trial_count, nth_trial}
 use Rattle.dg_rank.proofs.Numbering.{numbered, limits_count, limits_trial}
 use Rattle.dg_rank.proofs.CountedOnce.{lower_number}
 use Rattle.dg_rank.proofs.Starts.{from_trial, trial_from}
 use Rattle.dg_rank.proofs.TrialLists.{listed, listed-amounts, listed-trial}
 
-pub piece_first : (s : Search) → start_of_trials s 0 ≡ 0
+pub piece_first : (s : Search) → piece_start s 0 ≡ 0
 piece_first s = omega arith
 
-pub piece_within : (s : Search) (j : ℕ) → j ≤ s.workers → start_of_trials s j ≤ s.count
+pub piece_within : (s : Search) (j : ℕ) → j ≤ s.workers → piece_start s j ≤ s.count
 piece_within s j few =
     let most : j * s.count ≤ s.workers * s.count = mul-le-mul_right s.count few in
     div-le_of_le-mul s.workers most
 
-pub piece_ends : (s : Search) (j : ℕ) → 0 < s.workers → start_of_trials s j ≤ start_of_trials s (j + 1)
+pub piece_ends : (s : Search) (j : ℕ) → 0 < s.workers → piece_start s j ≤ piece_start s (j + 1)
 piece_ends s j some =
     let low : j * s.count / s.workers * s.workers ≤ j * s.count = div-mul-le_self (j * s.count) s.workers in
     le-div (j * s.count / s.workers) ((j + 1) * s.count) s.workers some (omega arith)
@@ -38,8 +38,8 @@ wins_both g D k i m j first second l from to =
     (λ (after : m ≤ l). second l after to)
     (cases_lt l m)
 
-pub loss_before : (g : Multigraph) (D : Amounts) (k i m j : ℕ) (E : List ℕ) → m ≤ j → IsFirstLossOfTrials g D k i m E →
-    IsFirstLossOfTrials g D k i j E
+pub loss_before : (g : Multigraph) (D : Amounts) (k i m j : ℕ) (E : List ℕ) → m ≤ j → IsFirstLossIn g D k i m E →
+    IsFirstLossIn g D k i j E
 loss_before g D k i m j E end loss = record {
   number = loss.number;
   from = loss.from;
@@ -50,8 +50,8 @@ loss_before g D k i m j E end loss = record {
 }
 
 pub loss_after : (g : Multigraph) (D : Amounts) (k i m j : ℕ) (E : List ℕ) → i ≤ m → AllTrialsWin g D k i m →
-    IsFirstLossOfTrials g D k m j E →
-    IsFirstLossOfTrials g D k i j E
+    IsFirstLossIn g D k m j E →
+    IsFirstLossIn g D k i j E
 loss_after g D k i m j E start wins loss = record {
   number = loss.number;
   from = omega arith;
@@ -62,13 +62,13 @@ loss_after g D k i m j E start wins loss = record {
 }
 
 pub found_after : (g : Multigraph) (D : Amounts) (k i m j : ℕ) (found : Option (List ℕ)) → i ≤ m → AllTrialsWin g D k i m →
-    MatchOption found (AllTrialsWin g D k m j) (IsFirstLossOfTrials g D k m j) →
-    MatchOption found (AllTrialsWin g D k i j) (IsFirstLossOfTrials g D k i j)
+    MatchOption found (AllTrialsWin g D k m j) (IsFirstLossIn g D k m j) →
+    MatchOption found (AllTrialsWin g D k i j) (IsFirstLossIn g D k i j)
 found_after g D k i m j (Some E) start wins loss = loss_after g D k i m j E start wins loss
 found_after g D k i m j None start wins later = wins_both g D k i m j wins later
 
 -- the order of trials and of divisors
-before_list : (n : ℕ) (E F : List ℕ) → IsDivisorBefore n (amounts_of_trial E) (amounts_of_trial F) → IsTrialBefore E F
+before_list : (n : ℕ) (E F : List ℕ) → IsLexBefore n (amounts_of_trial E) (amounts_of_trial F) → IsTrialBefore E F
 before_list n E F before = record {
   place = before.place;
   same = λ u low. omega (arith, ints, before.same u low);
@@ -76,7 +76,7 @@ before_list n E F before = record {
 }
 
 before_amounts : (n k : ℕ) (E F : List ℕ) → IsTrial n k F → IsTrialBefore E F →
-    IsDivisorBefore n (amounts_of_trial E) (amounts_of_trial F)
+    IsLexBefore n (amounts_of_trial E) (amounts_of_trial F)
 before_amounts n k E F trial before = record {
   place = before.place;
   inside = ⊎_elim
@@ -88,24 +88,24 @@ before_amounts n k E F trial before = record {
   smaller = omega (arith, ints, before.smaller);
 }
 
-module _ {n k c : ℕ} (limits : AreTrialsWithinLimits n k c) where
+module _ {n k c : ℕ} (limits : HasTrials n k c) where
   lower : (i j : ℕ) → i < c → IsTrialBefore (nth_trial n k i) (nth_trial n k j) → i < j
   lower i j low before =
       lower_number n k AnyTrial (trial_count n k) (nth_trial n k) i j (numbered n k) (omega (arith, limits_count n k c limits))
       before
 
   earlier : (i j : ℕ) → i < j → j < c →
-      IsDivisorBefore n (amounts_of_trial (nth_trial n k i)) (amounts_of_trial (nth_trial n k j))
-  earlier i j less low =
+      IsLexBefore n (amounts_of_trial (nth_trial n k i)) (amounts_of_trial (nth_trial n k j))
+  earlier i j minus low =
       before_amounts n k (nth_trial n k i) (nth_trial n k j) (limits_trial n k c j limits low)
-      ((numbered n k).ascending i j less (omega (arith, limits_count n k c limits)))
+      ((numbered n k).ascending i j minus (omega (arith, limits_count n k c limits)))
 
   number_of : (E : List ℕ) → IsTrial n k E → (e : ℕ) × (e < c) × (nth_trial n k e ≡ E)
   number_of E trial =
       let (e, low, is) = (numbered n k).all E trial tt in
       (e, omega (arith, limits_count n k c limits), is)
 
-module _ (g : Multigraph) (D : Amounts) (k c i : ℕ) (limits : AreTrialsWithinLimits g.size k c) (start : i < c) where
+module _ (g : Multigraph) (D : Amounts) (k c i : ℕ) (limits : HasTrials g.size k c) (start : i < c) where
   from : (m : ℕ) → m < c → IsTrialFrom g.size k 0 (amounts_of_trial (nth_trial g.size k m))
   from m low = from_trial g.size k (nth_trial g.size k m) (limits_trial g.size k c m limits low)
 
@@ -118,13 +118,13 @@ module _ (g : Multigraph) (D : Amounts) (k c i : ℕ) (limits : AreTrialsWithinL
 
   won_before : (e m : ℕ) → e < c →
       IsFirstTrialIf g D k 0 (IsNotBefore g.size (nth_trial g.size k i)) (nth_trial g.size k e) → i ≤ m → m < e →
-      WinsWithoutTrial g D (nth_trial g.size k m)
+      WinsWithout g D (nth_trial g.size k m)
   won_before e m low loss after to =
       loss.first _ (from m (omega arith)) (late m after (omega arith)) (earlier limits m e to low)
 
   pub piece_loses : (j : ℕ) (E : List ℕ) → j ≤ c →
       IsFirstTrialIf g D k 0 (IsNotBefore g.size (nth_trial g.size k i)) E →
-      (j < c → IsTrialBefore E (nth_trial g.size k j)) → IsFirstLossOfTrials g D k i j E
+      (j < c → IsTrialBefore E (nth_trial g.size k j)) → IsFirstLossIn g D k i j E
   piece_loses j E end loss before =
       let (e, low, is) = number_of limits E (trial_from g.size k 0 E loss.places loss.from) in
       record {
@@ -151,17 +151,17 @@ module _ (g : Multigraph) (D : Amounts) (k c i : ℕ) (limits : AreTrialsWithinL
       (λ (enough : j ≤ e). omega arith)
       (cases_lt e j))
 
-pub of_all : (g : Multigraph) (D : Amounts) (k c : ℕ) (found : Option (List ℕ)) → AreTrialsWithinLimits g.size k c →
-    MatchOption found (AllTrialsWin g D k 0 c) (IsFirstLossOfTrials g D k 0 c) →
-    MatchOption found (TrialsWinFrom g D k 0) (IsFirstTrialFrom g D k 0)
+pub of_all : (g : Multigraph) (D : Amounts) (k c : ℕ) (found : Option (List ℕ)) → HasTrials g.size k c →
+    MatchOption found (AllTrialsWin g D k 0 c) (IsFirstLossIn g D k 0 c) →
+    MatchOption found (TrialsWinFrom g D k 0) (IsFirstLossFrom g D k 0)
 of_all g D k c found limits = told found where
   listed_wins : (F : Amounts) → IsTrialFrom g.size k 0 F → (m : ℕ) → nth_trial g.size k m ≡ listed g.size F →
-      WinsWithoutTrial g D (nth_trial g.size k m) → IsWinnable g (less D F)
-  listed_wins F from m is win = win_more g (less D (amounts_of_trial (nth_trial g.size k m))) (less D F)
+      WinsWithout g D (nth_trial g.size k m) → IsWinnable g (minus D F)
+  listed_wins F from m is win = win_more g (minus D (amounts_of_trial (nth_trial g.size k m))) (minus D F)
       (λ v inside. rw is (omega (arith, ints, listed-amounts g.size F v from.effective inside))) win
 
-  told : (x : Option (List ℕ)) → MatchOption x (AllTrialsWin g D k 0 c) (IsFirstLossOfTrials g D k 0 c) →
-      MatchOption x (TrialsWinFrom g D k 0) (IsFirstTrialFrom g D k 0)
+  told : (x : Option (List ℕ)) → MatchOption x (AllTrialsWin g D k 0 c) (IsFirstLossIn g D k 0 c) →
+      MatchOption x (TrialsWinFrom g D k 0) (IsFirstLossFrom g D k 0)
   told None wins = λ F from.
       let (m, low, is) = number_of limits (listed g.size F) (listed-trial g.size k F from.effective from.of_degree) in
       listed_wins F from m is (wins m (omega arith) low)

@@ -5,22 +5,22 @@
 --   not_all_pass      from the genus on, and where it is not rich, a divisor fails
 --   in_limits         the rank is told within the limits, where the next test is
 --   needs_too_many    where a test of the next degree after the rank is past the limits, too many tests are needed
-use Rattle.dg_rank.proofs.Common.{◌≡◌, ℕ, zero, suc, ◌+◌, ◌<◌, ◌≤◌, arith, refl, sym, subst, unsigned_abs, ◌≤ℤ◌, ◌<ℤ◌, ints, by_lt_z, ℤ, pos, ◌-ℤ◌, Multigraph, IsMultigraph, genus, Amounts, degree, less, canonical, HasRankAtLeast, IsRank, poor_rank, rank_passes, rank_of_dual, IsDual, high_rank, IsRankTestWithinLimits, ArePastTrialLimits, IsRankInLimits, NeedsTooMany, FailsRankTestsFirstAt}
+use Rattle.dg_rank.proofs.Common.{◌≡◌, ℕ, zero, suc, ◌+◌, ◌<◌, ◌≤◌, arith, refl, sym, subst, unsigned_abs, ◌≤ℤ◌, ◌<ℤ◌, ints, by_lt_z, ℤ, pos, ◌-ℤ◌, Multigraph, IsMultigraph, genus, Amounts, degree, minus, canonical, HasRankAtLeast, IsRank, poor_rank, rank_passes, rank_of_dual, IsDual, high_rank, IsTestable, IsPastLimits, IsTestedRank, NeedsTooMany, FailsFirstAt}
 use Rattle.std.proofs.Math.IntN.{◌+ℤ◌}
 
-pub rank_before : (g : Multigraph) (D : Amounts) (k : ℕ) → FailsRankTestsFirstAt g D k → IsRank g D (pos k -ℤ pos 1)
+pub rank_before : (g : Multigraph) (D : Amounts) (k : ℕ) → FailsFirstAt g D k → IsRank g D (pos k -ℤ pos 1)
 rank_before g D zero first = (refl, first.fails)
 rank_before g D (suc j) first =
     let less : pos j ≡ pos (suc j) -ℤ pos 1 = omega (arith, ints) in
     let more : j + 1 ≡ suc j = omega arith in
     subst (IsRank g D) less (first.passed j (omega arith), λ rank. first.fails (subst (HasRankAtLeast g D) more rank))
 
-pub rank_of_dual_before : (g : Multigraph) (D : Amounts) (k l : ℕ) → IsMultigraph g → 0 < g.size → FailsRankTestsFirstAt g D k →
-    IsDual g D k l → IsRank g (less (canonical g) D) (pos l -ℤ pos 1)
+pub rank_of_dual_before : (g : Multigraph) (D : Amounts) (k l : ℕ) → IsMultigraph g → 0 < g.size → FailsFirstAt g D k →
+    IsDual g D k l → IsRank g (minus (canonical g) D) (pos l -ℤ pos 1)
 rank_of_dual_before g D k l graph some first dual =
     rank_of_dual g D (pos k -ℤ pos 1) (pos l -ℤ pos 1) graph some (omega (arith, ints)) (rank_before g D k first)
 
-pub fails_low : (g : Multigraph) (D : Amounts) (k : ℕ) → IsMultigraph g → 0 < g.size → FailsRankTestsFirstAt g D k →
+pub fails_low : (g : Multigraph) (D : Amounts) (k : ℕ) → IsMultigraph g → 0 < g.size → FailsFirstAt g D k →
     k ≤ unsigned_abs (degree g.size D) + 1
 fails_low g D zero graph some first = omega arith
 fails_low g D (suc j) graph some first =
@@ -28,7 +28,7 @@ fails_low g D (suc j) graph some first =
     (λ (poor : degree g.size D <ℤ pos j). absurd (poor_rank g D j graph some poor (first.passed j (omega arith))))
     (λ (enough : pos j ≤ℤ degree g.size D). omega (arith, ints))
 
-pub needs_too_many : (g : Multigraph) (D : Amounts) (k : ℕ) → IsRank g D (pos k -ℤ pos 1) → ArePastTrialLimits g.size k →
+pub needs_too_many : (g : Multigraph) (D : Amounts) (k : ℕ) → IsRank g D (pos k -ℤ pos 1) → IsPastLimits g.size k →
     NeedsTooMany g D
 needs_too_many g D k rank past = record {
   degree = k;
@@ -42,7 +42,7 @@ not_all_pass g D k graph some high poor rank =
     let none : ⊥ = omega (arith, ints, high_rank g D k graph some high rank) in none
 
 pub in_limits : (g : Multigraph) (D : Amounts) (k : ℕ) (r : ℤ) → IsRank g D (pos k -ℤ pos 1) → r ≡ pos k -ℤ pos 1 →
-    IsRankTestWithinLimits g.size k → IsRankInLimits g D r
+    IsTestable g.size k → IsTestedRank g D r
 in_limits g D k r rank same within = record {
   is_rank = subst (IsRank g D) (sym same) rank;
   next = k;

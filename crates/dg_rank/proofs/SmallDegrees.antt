@@ -3,32 +3,32 @@
 --   genus_small      the genus of a graph is at most 1,009
 --   genus_least      and at least -16
 --   degree_small     n amounts within 1,000,000 add up to at most n times as much
-use Rattle.dg_rank.proofs.Common.{◌≡◌, ℕ, zero, suc, ◌+◌, ◌*◌, ◌<◌, ◌≤◌, arith, refl, ⊎_elim, suc-mul, ◌≤ℤ◌, unsigned_abs, cases_eq, ints, pos, ◌-ℤ◌, sum_below, total_below, Multigraph, edges_between, valence, edge_count, genus, Amounts, degree, sum_below-zero, sum_below-at_least, sum_below-sub, IsGraph}
+use Rattle.dg_rank.proofs.Common.{◌≡◌, ℕ, zero, suc, ◌+◌, ◌*◌, ◌<◌, ◌≤◌, arith, refl, ⊎_elim, suc-mul, ◌≤ℤ◌, unsigned_abs, cases_eq, ints, pos, ◌-ℤ◌, sum_below, nat_sum_below, Multigraph, edges_between, valence, edge_count, genus, Amounts, degree, sum_below-zero, sum_below-at_least, sum_below-sub, IsGraph}
 use Rattle.std.proofs.Math.IntN.{◌+ℤ◌}
 
 -- the edges to lower vertices are some of the edges
-total_below-part : (n m : ℕ) (f : ℕ → ℕ) → n ≤ m → total_below n f ≤ total_below m f
-total_below-part n zero f few = let none : n ≡ zero = omega arith in rw none (omega arith)
-total_below-part n (suc m) f few =
+nat_sum_below-part : (n m : ℕ) (f : ℕ → ℕ) → n ≤ m → nat_sum_below n f ≤ nat_sum_below m f
+nat_sum_below-part n zero f few = let none : n ≡ zero = omega arith in rw none (omega arith)
+nat_sum_below-part n (suc m) f few =
     ⊎_elim
     (λ (same : n ≡ suc m). rw same (omega arith))
-    (λ (other : n ≡ suc m → ⊥). let before : total_below n f ≤ total_below m f = total_below-part n m f (omega arith) in
+    (λ (other : n ≡ suc m → ⊥). let before : nat_sum_below n f ≤ nat_sum_below m f = nat_sum_below-part n m f (omega arith) in
     omega arith)
     (cases_eq n (suc m))
 
-pub total_below-times : (n K : ℕ) (f : ℕ → ℕ) → ((w : ℕ) → w < n → f w ≤ K) → total_below n f ≤ n * K
-total_below-times zero K f low = omega arith
-total_below-times (suc n) K f low =
-    let before : total_below n f ≤ n * K = total_below-times n K f (λ w below. low w (omega arith)) in
+pub nat_sum_below-times : (n K : ℕ) (f : ℕ → ℕ) → ((w : ℕ) → w < n → f w ≤ K) → nat_sum_below n f ≤ n * K
+nat_sum_below-times zero K f low = omega arith
+nat_sum_below-times (suc n) K f low =
+    let before : nat_sum_below n f ≤ n * K = nat_sum_below-times n K f (λ w below. low w (omega arith)) in
     let last : f n ≤ K = low n (omega arith) in
     let more : suc n * K ≡ n * K + K = suc-mul n K in
     omega arith
 
 pub edges_few : (g : Multigraph) → IsGraph g → edge_count g ≤ g.size * 63
 edges_few g graph =
-    total_below-times g.size 63 (λ v. total_below v (edges_between g v)) (λ v inside.
-    let part : total_below v (edges_between g v) ≤ valence g v =
-    total_below-part v g.size (edges_between g v) (omega arith) in
+    nat_sum_below-times g.size 63 (λ v. nat_sum_below v (edges_between g v)) (λ v inside.
+    let part : nat_sum_below v (edges_between g v) ≤ valence g v =
+    nat_sum_below-part v g.size (edges_between g v) (omega arith) in
     omega (arith, part, graph.valences v inside))
 
 pub genus_small : (g : Multigraph) → IsGraph g → genus g ≤ℤ pos 1009

@@ -11,7 +11,7 @@
 --   stepped          what does not come before S holds more at p, or as much, and then the rest does not come before that of S
 --   loss_later, told_above   so the first loss is one of those that hold as much, or of those that hold more
 --   told_same        what is told of a divisor is told of those that are equivalent to it
-use Rattle.dg_rank.proofs.Common.{◌≡◌, ◌≢◌, ℕ, ◌+◌, ◌-◌, ◌<◌, ◌≤◌, List, Option, Some, None, MatchOption, length, arith, refl, sym, ap, ◌∙◌, ⊎_elim, set, length-set, get_or-set_same, get_or-set_other, slice_index, sum, cases_eq, cases_lt, ints, by_lt_z, pos, ◌-ℤ◌, ◌≤ℤ◌, ◌<ℤ◌, Multigraph, Amounts, only_at, AreEquivalent, IsWinnable, IsDivisorBefore, less, only_at-here, only_at-other, sum_below-cong, sum_below-two, equivalent-winnable, win_more, amounts_of_trial, IsTrial, IsTrialFrom, TrialsWinFrom, IsFirstTrialFrom, TrialsWinIf, IsFirstTrialIf, TellsFirstTrialIf, IsNotBefore, HoldsAt}
+use Rattle.dg_rank.proofs.Common.{◌≡◌, ◌≢◌, ℕ, ◌+◌, ◌-◌, ◌<◌, ◌≤◌, List, Option, Some, None, MatchOption, length, arith, refl, sym, ap, ◌∙◌, ⊎_elim, set, length-set, get_or-set_same, get_or-set_other, slice_index, sum, cases_eq, cases_lt, ints, by_lt_z, pos, ◌-ℤ◌, ◌≤ℤ◌, ◌<ℤ◌, Multigraph, Amounts, only_at, AreEquivalent, IsWinnable, IsLexBefore, minus, only_at-here, only_at-other, sum_below-cong, sum_below-two, equivalent-winnable, win_more, amounts_of_trial, IsTrial, IsTrialFrom, TrialsWinFrom, IsFirstLossFrom, TrialsWinIf, IsFirstTrialIf, TellsFirstIf, IsNotBefore, HoldsAt}
 use Rattle.std.proofs.Math.IntN.{◌+ℤ◌}
 use Rattle.dg_rank.proofs.TrialLists.{degree-trial}
 use Rattle.dg_rank.proofs.FirstFrom.{IsOther, all_last, from_few, from_more, none_before, some_less, some_more, wins_other}
@@ -29,7 +29,7 @@ from_trial n k E trial = record {
   empty = λ v low. absurd (omega arith);
 }
 
-first_place : (n r t p : ℕ) (F G : Amounts) → p < n → IsTrialFrom n r p F → IsTrialFrom n t p G → IsDivisorBefore n F G →
+first_place : (n r t p : ℕ) (F G : Amounts) → p < n → IsTrialFrom n r p F → IsTrialFrom n t p G → IsLexBefore n F G →
     F p ≤ℤ G p
 first_place n r t p F G inside from other before =
     let q = before.place in
@@ -64,8 +64,8 @@ not_last n r p S inside start other = ⊎_elim
 
 pub told_on : (g : Multigraph) (A : Amounts) (r p : ℕ) (S : List ℕ) (found : Option (List ℕ)) →
     ((F : Amounts) → IsTrialFrom g.size r p F → IsNotBefore g.size S F) →
-    MatchOption found (TrialsWinFrom g A r p) (IsFirstTrialFrom g A r p) →
-    TellsFirstTrialIf g A r p (IsNotBefore g.size S) found
+    MatchOption found (TrialsWinFrom g A r p) (IsFirstLossFrom g A r p) →
+    TellsFirstIf g A r p (IsNotBefore g.size S) found
 told_on g A r p S None none wins = λ F from _. wins F from
 told_on g A r p S (Some E) none loss = record {
   places = loss.places;
@@ -77,8 +77,8 @@ told_on g A r p S (Some E) none loss = record {
 
 pub all_told : (g : Multigraph) (A : Amounts) (r p : ℕ) (S : List ℕ) (found : Option (List ℕ)) →
     ((F : Amounts) → IsTrialFrom g.size r p F → IsNotBefore g.size S F) →
-    TellsFirstTrialIf g A r p (IsNotBefore g.size S) found →
-    MatchOption found (TrialsWinFrom g A r p) (IsFirstTrialFrom g A r p)
+    TellsFirstIf g A r p (IsNotBefore g.size S) found →
+    MatchOption found (TrialsWinFrom g A r p) (IsFirstLossFrom g A r p)
 all_told g A r p S None none wins = λ F from. wins F from (none F from)
 all_told g A r p S (Some E) none loss = record {
   places = loss.places;
@@ -88,7 +88,7 @@ all_told g A r p S (Some E) none loss = record {
 }
 
 pub start_lost : (g : Multigraph) (A : Amounts) (r p : ℕ) (S : List ℕ) → length S ≡ g.size →
-    IsTrialFrom g.size r p (amounts_of_trial S) → (¬ IsWinnable g (less A (amounts_of_trial S))) →
+    IsTrialFrom g.size r p (amounts_of_trial S) → (¬ IsWinnable g (minus A (amounts_of_trial S))) →
     IsFirstTrialIf g A r p (IsNotBefore g.size S) S
 start_lost g A r p S places start lost = record {
   places = places;
@@ -99,8 +99,8 @@ start_lost g A r p S places start lost = record {
 }
 
 pub some_lost : (g : Multigraph) (A : Amounts) (p : ℕ) (S : List ℕ) →
-    (¬ IsWinnable g (less A (only_at p (pos (slice_index S p))))) → ¬ IsWinnable g (less A (amounts_of_trial S))
-some_lost g A p S lost win = lost (win_more g (less A (amounts_of_trial S)) (less A (only_at p (pos (slice_index S p))))
+    (¬ IsWinnable g (minus A (only_at p (pos (slice_index S p))))) → ¬ IsWinnable g (minus A (amounts_of_trial S))
+some_lost g A p S lost win = lost (win_more g (minus A (amounts_of_trial S)) (minus A (only_at p (pos (slice_index S p))))
     (λ v inside. ⊎_elim
     (λ (there : v ≡ p). rw there (omega (arith, ints, only_at-here p (pos (slice_index S p)))))
     (λ (apart : v ≡ p → ⊥). omega (arith, ints, only_at-other p (pos (slice_index S p)) v apart))
@@ -122,7 +122,7 @@ module _ {g : Multigraph} {A B : Amounts} {r p : ℕ} {S : List ℕ} (step : IsS
       (cases_eq v p)
 
   pub one_later : (F : Amounts) → IsTrialFrom g.size r p F → F p ≡ amounts_of_trial S p →
-      IsTrialFrom g.size (r - slice_index S p) (p + 1) (less F (only_at p (pos (slice_index S p))))
+      IsTrialFrom g.size (r - slice_index S p) (p + 1) (minus F (only_at p (pos (slice_index S p))))
   one_later F from all =
       let less = some_less g.size r p (slice_index S p) F from step.inside (omega (arith, ints)) in
       record {
@@ -224,23 +224,23 @@ module _ {g : Multigraph} {A B : Amounts} {r p : ℕ} {S : List ℕ} (step : IsS
 
 pub told_above : (g : Multigraph) (A B : Amounts) (r p : ℕ) (S : List ℕ) (found : Option (List ℕ)) → IsStep g A B r p S →
     TrialsWinIf g B (r - slice_index S p) (p + 1) (IsNotBefore g.size (set S p 0)) →
-    TellsFirstTrialIf g A r p (HoldsAt p (slice_index S p + 1)) found → TellsFirstTrialIf g A r p (IsNotBefore g.size S) found
+    TellsFirstIf g A r p (HoldsAt p (slice_index S p + 1)) found → TellsFirstIf g A r p (IsNotBefore g.size S) found
 told_above g A B r p S None step wins above = wins_on step wins above
 told_above g A B r p S (Some E) step wins loss = loss_above step E wins loss
 
 pub told_same : (g : Multigraph) (D A : Amounts) (r p : ℕ) (P : Amounts → Type 0) (found : Option (List ℕ)) →
-    AreEquivalent g D A → TellsFirstTrialIf g A r p P found → TellsFirstTrialIf g D r p P found
+    AreEquivalent g D A → TellsFirstIf g A r p P found → TellsFirstIf g D r p P found
 told_same g D A r p P found (s, leads) = told found where
-  same : (F : Amounts) → AreEquivalent g (less D F) (less A F)
+  same : (F : Amounts) → AreEquivalent g (minus D F) (minus A F)
   same F = (s, λ v below. omega (arith, ints, leads v below))
 
-  told : (x : Option (List ℕ)) → TellsFirstTrialIf g A r p P x → TellsFirstTrialIf g D r p P x
-  told None wins = λ F from holds. (equivalent-winnable g (less D F) (less A F) (same F)).1 (wins F from holds)
+  told : (x : Option (List ℕ)) → TellsFirstIf g A r p P x → TellsFirstIf g D r p P x
+  told None wins = λ F from holds. (equivalent-winnable g (minus D F) (minus A F) (same F)).1 (wins F from holds)
   told (Some E) loss = record {
     places = loss.places;
     from = loss.from;
     among = loss.among;
     loses = λ win. loss.loses ((equivalent-winnable g _ _ (same (amounts_of_trial E))).0 win);
     first = λ F from holds earlier.
-        (equivalent-winnable g (less D F) (less A F) (same F)).1 (loss.first F from holds earlier);
+        (equivalent-winnable g (minus D F) (minus A F) (same F)).1 (loss.first F from holds earlier);
   }

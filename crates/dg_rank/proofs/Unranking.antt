@@ -16,7 +16,7 @@
 --   one_amount              on one place there is but one trial
 --   last_amount             what is left goes to the last place
 use Rattle.dg_rank.proofs.Common.{◌≡◌, ℕ, suc, ◌+◌, ◌-◌, ◌<◌, ◌≤◌, List, [], ◌∷◌, ◌++◌, length, take, set, arith, refl, sym, ap, subst, ◌∙◌, length-set, take_more_set, take_all, cond_below, cond_above, IsTrial}
-use Rattle.dg_rank.specs.Numbering.{trials_with_one_place_more, trial_count, trial_raised, with_trial_place, nth_trial}
+use Rattle.dg_rank.specs.Numbering.{count_with_place, trial_count, raised_first, with_trial_place, nth_trial}
 use Rattle.dg_rank.proofs.Lists.{no_places}
 use Rattle.dg_rank.proofs.Numbering.{numbered}
 use Rattle.dg_rank.proofs.Pascal.{count_more}
@@ -34,8 +34,8 @@ more_none : (E : List ℕ) → E ≡ more_by 0 E
 more_none [] = refl
 more_none (x ∷ E) = ap (λ (y : ℕ). y ∷ E) (omega arith)
 
-more_raised : (a : ℕ) (E : List ℕ) → more_by a (trial_raised E) ≡ more_by (a + 1) E
-unfolding trial_raised
+more_raised : (a : ℕ) (E : List ℕ) → more_by a (raised_first E) ≡ more_by (a + 1) E
+unfolding raised_first
 more_raised a [] = refl
 more_raised a (x ∷ E) = ap (λ (y : ℕ). y ∷ E) (omega arith)
 
@@ -44,7 +44,7 @@ unfolding nth_trial with_trial_place
 nth_low n k i low = sym (cond_below i (trial_count n (suc k)) (0 ∷ nth_trial n (suc k) i) _ low)
 
 pub nth_high : (n k i : ℕ) → trial_count n (suc k) ≤ i →
-    nth_trial (suc n) (suc k) i ≡ trial_raised (nth_trial (suc n) k (i - trial_count n (suc k)))
+    nth_trial (suc n) (suc k) i ≡ raised_first (nth_trial (suc n) k (i - trial_count n (suc k)))
 unfolding nth_trial with_trial_place
 nth_high n k i high = sym (cond_above i (trial_count n (suc k)) (0 ∷ nth_trial n (suc k) i) _ _ high refl)
 
@@ -53,7 +53,7 @@ unfolding nth_trial with_trial_place
 nth_broke n i = refl
 
 pub count_broke : (n : ℕ) → trial_count (suc n) 0 ≡ trial_count n 0
-unfolding trial_count trials_with_one_place_more
+unfolding trial_count count_with_place
 count_broke n = refl
 
 pub sought_first : (n k i : ℕ) → i < trial_count (suc n) k → IsSought n k i 0 i

@@ -5,30 +5,30 @@
 --   BoxWins g A r j            == A less each of these is winnable
 --   IsBoxLoss g A r j E        == the trial E is one of these, and A less E is not winnable
 --   IsLackInBox n A r j o      == at o A holds less than may be lost there, or nowhere if there is no o
---   AreTwinsInSets g l         == whoever is in the set that the list l has at a vertex of g is a twin of that
+--   HaveOnlyTwins g l         == whoever is in the set that the list l has at a vertex of g is a twin of that
 --                                 vertex
---   IsSameInBox g A r v u      == u is v or a twin of it, A holds as much at both, and as much may be lost at both
---   IsClosedWithTwins g A r v h c == the list c is r, but for the number h at some vertices that are the same as
+--   IsBoxTwin g A r v u      == u is v or a twin of it, A holds as much at both, and as much may be lost at both
+--   IsTwinClosed g A r v h c == the list c is r, but for the number h at some vertices that are the same as
 --                                 v in the box
---   IsTrialLossFrom g A r d E  == A less E is not winnable, where E is a trial of degree at most r that holds
+--   IsLossFrom g A r d E  == A less E is not winnable, where E is a trial of degree at most r that holds
 --                                 nothing before place d
 --   IsTrialFrom n r d F        == F is effective, of degree r, and holds nothing before place d
 --   TrialsWinFrom g A r d      == A less each of these is winnable
---   IsFirstTrialFrom g A r d E == the trial E is the first of these without which A is not winnable
+--   IsFirstLossFrom g A r d E == the trial E is the first of these without which A is not winnable
 --   TrialsWinIf g A r d P      == A less each of the F with the property P is winnable
 --   IsFirstTrialIf g A r d P E == the trial E is the first of these without which A is not winnable
---   TellsFirstTrialIf g A r d P x == x is this first trial, or they all win
+--   TellsFirstIf g A r d P x == x is this first trial, or they all win
 --   IsNotBefore n S F          == F does not come before the trial S
 --   HoldsAt p a F              == F holds a at least at place p
 use Rattle.std.specs.Prelude.{◌≡◌, ℕ, ◌<◌, ◌⊎◌, true, pos, ◌<ℤ◌, ◌≤ℤ◌, List, Option, MatchOption, length, min, slice_index}
 use Rattle.dg_theory.specs.Firing.{Amounts, degree, IsEffective}
 use Rattle.dg_theory.specs.Multigraph.{Multigraph}
 use Rattle.dg_theory.specs.Play.{IsWinnable}
-use Rattle.dg_theory.specs.Rank.{less, IsDivisorBefore}
+use Rattle.dg_theory.specs.Rank.{minus, IsLexBefore}
 use Rattle.dg_theory.specs.Twins.{AreTwins}
 use Rattle.dg_graph.specs.Sets.{in_set}
 use Rattle.dg_rank.specs.Divisors.{amounts_of_trial}
-use Rattle.dg_rank.specs.Losses.{WinsWithoutTrial}
+use Rattle.dg_rank.specs.Losses.{WinsWithout}
 
 pub record IsInBox (n : ℕ) (r : List ℕ) (j : ℕ) (E : Amounts) : Type 0 where
   pub effective : IsEffective n E
@@ -36,35 +36,35 @@ pub record IsInBox (n : ℕ) (r : List ℕ) (j : ℕ) (E : Amounts) : Type 0 whe
   pub within : (v : ℕ) → v < n → E v ≤ℤ pos (slice_index r v)
 
 abbrev pub BoxWins : Multigraph → Amounts → List ℕ → ℕ → Type 0
-BoxWins g A r j = (E : Amounts) → IsInBox g.size r j E → IsWinnable g (less A E)
+BoxWins g A r j = (E : Amounts) → IsInBox g.size r j E → IsWinnable g (minus A E)
 
 pub record IsBoxLoss (g : Multigraph) (A : Amounts) (r : List ℕ) (j : ℕ) (E : List ℕ) : Type 0 where
   pub places : length E ≡ g.size
   pub inside : IsInBox g.size r j (amounts_of_trial E)
-  pub loses : ¬ WinsWithoutTrial g A E
+  pub loses : ¬ WinsWithout g A E
 
 abbrev pub IsLackInBox : ℕ → Amounts → List ℕ → ℕ → Option ℕ → Type 0
 IsLackInBox n A r j o = MatchOption o
     ((v : ℕ) → v < n → pos (min (slice_index r v) j) ≤ℤ A v)
     (λ v. (v < n) × (A v <ℤ pos (min (slice_index r v) j)))
 
-abbrev pub AreTwinsInSets : Multigraph → List ℕ → Type 0
-AreTwinsInSets g l = (v u : ℕ) → v < g.size → in_set (slice_index l v) u ≡ true → AreTwins g v u
+abbrev pub HaveOnlyTwins : Multigraph → List ℕ → Type 0
+HaveOnlyTwins g l = (v u : ℕ) → v < g.size → in_set (slice_index l v) u ≡ true → AreTwins g v u
 
-pub record IsSameInBox (g : Multigraph) (A : Amounts) (r : List ℕ) (v u : ℕ) : Type 0 where
+pub record IsBoxTwin (g : Multigraph) (A : Amounts) (r : List ℕ) (v u : ℕ) : Type 0 where
   pub twins : AreTwins g v u
   pub held : A u ≡ A v
   pub room : slice_index r u ≡ slice_index r v
 
-abbrev pub IsClosedWithTwins : Multigraph → Amounts → List ℕ → ℕ → ℕ → List ℕ → Type 0
-IsClosedWithTwins g A r v h c = (u : ℕ) → u < g.size →
-    (slice_index c u ≡ slice_index r u) ⊎ ((slice_index c u ≡ h) × IsSameInBox g A r v u)
+abbrev pub IsTwinClosed : Multigraph → Amounts → List ℕ → ℕ → ℕ → List ℕ → Type 0
+IsTwinClosed g A r v h c = (u : ℕ) → u < g.size →
+    (slice_index c u ≡ slice_index r u) ⊎ ((slice_index c u ≡ h) × IsBoxTwin g A r v u)
 
-pub record IsTrialLossFrom (g : Multigraph) (A : Amounts) (r d : ℕ) (E : List ℕ) : Type 0 where
+pub record IsLossFrom (g : Multigraph) (A : Amounts) (r d : ℕ) (E : List ℕ) : Type 0 where
   pub places : length E ≡ g.size
   pub few : degree g.size (amounts_of_trial E) ≤ℤ pos r
   pub empty : (v : ℕ) → v < d → slice_index E v ≡ 0
-  pub loses : ¬ WinsWithoutTrial g A E
+  pub loses : ¬ WinsWithout g A E
 
 pub record IsTrialFrom (n r d : ℕ) (F : Amounts) : Type 0 where
   pub effective : IsEffective n F
@@ -72,31 +72,31 @@ pub record IsTrialFrom (n r d : ℕ) (F : Amounts) : Type 0 where
   pub empty : (v : ℕ) → v < d → F v ≡ pos 0
 
 abbrev pub TrialsWinFrom : Multigraph → Amounts → ℕ → ℕ → Type 0
-TrialsWinFrom g A r d = (F : Amounts) → IsTrialFrom g.size r d F → IsWinnable g (less A F)
+TrialsWinFrom g A r d = (F : Amounts) → IsTrialFrom g.size r d F → IsWinnable g (minus A F)
 
-pub record IsFirstTrialFrom (g : Multigraph) (A : Amounts) (r d : ℕ) (E : List ℕ) : Type 0 where
+pub record IsFirstLossFrom (g : Multigraph) (A : Amounts) (r d : ℕ) (E : List ℕ) : Type 0 where
   pub places : length E ≡ g.size
   pub from : IsTrialFrom g.size r d (amounts_of_trial E)
-  pub loses : ¬ WinsWithoutTrial g A E
-  pub first : (F : Amounts) → IsTrialFrom g.size r d F → IsDivisorBefore g.size F (amounts_of_trial E) →
-      IsWinnable g (less A F)
+  pub loses : ¬ WinsWithout g A E
+  pub first : (F : Amounts) → IsTrialFrom g.size r d F → IsLexBefore g.size F (amounts_of_trial E) →
+      IsWinnable g (minus A F)
 
 abbrev pub TrialsWinIf : Multigraph → Amounts → ℕ → ℕ → (Amounts → Type 0) → Type 0
-TrialsWinIf g A r d P = (F : Amounts) → IsTrialFrom g.size r d F → P F → IsWinnable g (less A F)
+TrialsWinIf g A r d P = (F : Amounts) → IsTrialFrom g.size r d F → P F → IsWinnable g (minus A F)
 
 pub record IsFirstTrialIf (g : Multigraph) (A : Amounts) (r d : ℕ) (P : Amounts → Type 0) (E : List ℕ) : Type 0 where
   pub places : length E ≡ g.size
   pub from : IsTrialFrom g.size r d (amounts_of_trial E)
   pub among : P (amounts_of_trial E)
-  pub loses : ¬ WinsWithoutTrial g A E
-  pub first : (F : Amounts) → IsTrialFrom g.size r d F → P F → IsDivisorBefore g.size F (amounts_of_trial E) →
-      IsWinnable g (less A F)
+  pub loses : ¬ WinsWithout g A E
+  pub first : (F : Amounts) → IsTrialFrom g.size r d F → P F → IsLexBefore g.size F (amounts_of_trial E) →
+      IsWinnable g (minus A F)
 
-abbrev pub TellsFirstTrialIf : Multigraph → Amounts → ℕ → ℕ → (Amounts → Type 0) → Option (List ℕ) → Type 0
-TellsFirstTrialIf g A r d P x = MatchOption x (TrialsWinIf g A r d P) (IsFirstTrialIf g A r d P)
+abbrev pub TellsFirstIf : Multigraph → Amounts → ℕ → ℕ → (Amounts → Type 0) → Option (List ℕ) → Type 0
+TellsFirstIf g A r d P x = MatchOption x (TrialsWinIf g A r d P) (IsFirstTrialIf g A r d P)
 
 abbrev pub IsNotBefore : ℕ → List ℕ → Amounts → Type 0
-IsNotBefore n S F = ¬ IsDivisorBefore n F (amounts_of_trial S)
+IsNotBefore n S F = ¬ IsLexBefore n F (amounts_of_trial S)
 
 abbrev pub HoldsAt : ℕ → ℕ → Amounts → Type 0
 HoldsAt p a F = pos a ≤ℤ F p

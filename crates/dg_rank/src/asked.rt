@@ -5,18 +5,18 @@ ghost use Rattle.dg_theory.specs.Firing.{IsEffective};
 ghost use Rattle.dg_theory.specs.Multigraph.{Multigraph};
 ghost use Rattle.dg_graph.specs.Sets.{in_set};
 ghost use Rattle.dg_chips.specs.Vector.{at};
-ghost use Rattle.dg_rank.specs.Asked.{IsMadeOf, DeterminesTrialsFrom};
-ghost use Rattle.dg_rank.specs.Boxes.{AreTwinsInSets, TrialsWinFrom, IsTrialLossFrom};
-ghost use Rattle.dg_rank.specs.Losses.{AddUpToFewForTrials};
+ghost use Rattle.dg_rank.specs.Asked.{IsMadeOf, DeterminesLossesFrom};
+ghost use Rattle.dg_rank.specs.Boxes.{HaveOnlyTwins, TrialsWinFrom, IsLossFrom};
+ghost use Rattle.dg_rank.specs.Losses.{HasSmallDegree};
 
-use crate::boxes::{Stopped, find_in_box};
+use crate::boxes::{Stopped, find_box_loss};
 use crate::enumeration::Trial;
 use dg_burn::determining_set;
 use dg_graph::{Graph, MAX_VERTICES, contains, with_vertex};
 use dg_reduce::EffectiveDivisor;
 
 /// So many boxes are searched on all vertices, before a determining set is made.
-const FEW_BOXES: u32 = 32;
+const MAX_PLAIN_BOXES: u32 = 32;
 
 /// What is made of a graph once a search takes long, and kept for all searches of that graph: for each place the set of the
 /// vertices to ask, and 0 until it is made; and the twins of each vertex.
@@ -42,7 +42,7 @@ impl Made {
         requires place { place < graph.now.size }
         requires made { IsMadeOf graph.now self.old }
         ensures made { IsMadeOf graph.now self.new }
-        ensures determines { DeterminesTrialsFrom graph.now place (in_set result) }
+        ensures determines { DeterminesLossesFrom graph.now place (in_set result) }
     {
         let size = graph.size();
         let sets = &mut self.sets;
@@ -50,7 +50,7 @@ impl Made {
         if known != 0 {
             return known;
         }
-        let set = determining_set(graph, trial_places_from(size, place));
+        let set = determining_set(graph, vertices_from(size, place));
         sets[place] = set;
         set
     }
@@ -59,7 +59,7 @@ impl Made {
     fn twins(&mut self, graph: &Graph) -> [u16; 16]
         requires made { IsMadeOf graph.now self.old }
         ensures made { IsMadeOf graph.now self.new }
-        ensures twins { AreTwinsInSets graph.now result }
+        ensures twins { HaveOnlyTwins graph.now result }
     {
         if let Some(twins) = self.twins {
             return twins;
@@ -71,7 +71,7 @@ impl Made {
 }
 
 /// A loss of at most so many dollars, of which none are lost before a place; `None` if each such loss can be borne.
-pub(crate) fn find_from(
+pub(crate) fn find_loss_from(
     graph: &Graph,
     left: &EffectiveDivisor,
     made: &mut Made,
@@ -80,34 +80,34 @@ pub(crate) fn find_from(
 ) -> Option<Trial>
     requires size { left.now.size ≡ graph.now.size }
     requires effective { IsEffective graph.now.size (at left.now) }
-    requires small { AddUpToFewForTrials graph.now.size (at left.now) }
+    requires small { HasSmallDegree graph.now.size (at left.now) }
     requires few { dollars ≤ 1000 }
     requires place { place < graph.now.size }
     requires made { IsMadeOf graph.now made.old }
     ensures made { IsMadeOf graph.now made.new }
     ensures told { MatchOption result
         (TrialsWinFrom graph.now (at left.now) dollars place)
-        (IsTrialLossFrom graph.now (at left.now) dollars place) }
+        (IsLossFrom graph.now (at left.now) dollars place) }
 {
     let size = graph.size();
-    let mut boxes = FEW_BOXES;
+    let mut boxes = MAX_PLAIN_BOXES;
     let sets = &made.sets;
     if sets[place] == 0 {
-        let room = box_room_at(trial_places_from(size, place), dollars);
-        if let Ok(found) = find_in_box(graph, left, &[0; 16], &room, dollars, true, &mut boxes) {
+        let room = box_on(vertices_from(size, place), dollars);
+        if let Ok(found) = find_box_loss(graph, left, &[0; 16], &room, dollars, true, &mut boxes) {
             return found;
         }
     }
-    let room = box_room_at(made.set_from(graph, place), dollars);
+    let room = box_on(made.set_from(graph, place), dollars);
     let twins = made.twins(graph);
-    match find_in_box(graph, left, &twins, &room, dollars, false, &mut boxes) {
+    match find_box_loss(graph, left, &twins, &room, dollars, false, &mut boxes) {
         Ok(found) => found,
         Err(Stopped) => unreachable!(),
     }
 }
 
 /// Room for so many dollars at each vertex of a set, and for none elsewhere.
-fn box_room_at(set: u16, dollars: u32) -> [u32; 16]
+fn box_on(set: u16, dollars: u32) -> [u32; 16]
     ensures { (v : ℕ) → v < 16 → slice_index result v ≡ if in_set set v then dollars else 0 }
 {
     let mut room = [0; 16];
@@ -120,7 +120,7 @@ fn box_room_at(set: u16, dollars: u32) -> [u32; 16]
 }
 
 /// The vertices from a place on.
-fn trial_places_from(size: usize, place: usize) -> u16
+fn vertices_from(size: usize, place: usize) -> u16
     requires few { size ≤ MAX_VERTICES }
     requires place { place ≤ size }
     ensures part { (v : ℕ) → in_set result v ≡ true → (place ≤ v) × (v < size) }

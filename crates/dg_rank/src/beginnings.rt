@@ -2,12 +2,12 @@
 ghost use Rattle.std.specs.Prelude.{◌≡◌, ◌<◌, ◌≤◌, MatchOption};
 ghost use Rattle.dg_theory.specs.Firing.{IsEffective};
 ghost use Rattle.dg_chips.specs.Vector.{at};
-ghost use Rattle.dg_rank.specs.Losses.{AddUpToFewForTrials};
+ghost use Rattle.dg_rank.specs.Losses.{HasSmallDegree};
 ghost use Rattle.dg_rank.specs.Asked.{IsMadeOf};
-ghost use Rattle.dg_rank.specs.Boxes.{TrialsWinFrom, IsTrialLossFrom, IsFirstTrialFrom};
+ghost use Rattle.dg_rank.specs.Boxes.{TrialsWinFrom, IsLossFrom, IsFirstLossFrom};
 
-use crate::asked::{Made, find_from};
-use crate::boxes::left_in_box_after;
+use crate::asked::{Made, find_loss_from};
+use crate::boxes::after_loss;
 use crate::enumeration::Trial;
 use dg_graph::Graph;
 use dg_reduce::EffectiveDivisor;
@@ -22,16 +22,16 @@ pub(crate) fn find_first_from(
 ) -> Option<Trial>
     requires size { left.now.size ≡ graph.now.size }
     requires effective { IsEffective graph.now.size (at left.now) }
-    requires small { AddUpToFewForTrials graph.now.size (at left.now) }
+    requires small { HasSmallDegree graph.now.size (at left.now) }
     requires few { dollars ≤ 1000 }
     requires place { place < graph.now.size }
     requires made { IsMadeOf graph.now made.old }
     ensures made { IsMadeOf graph.now made.new }
     ensures first { MatchOption result
         (TrialsWinFrom graph.now (at left.now) dollars place)
-        (IsFirstTrialFrom graph.now (at left.now) dollars place) }
+        (IsFirstLossFrom graph.now (at left.now) dollars place) }
 {
-    let Some(known) = find_from(graph, left, made, dollars, place) else {
+    let Some(known) = find_loss_from(graph, left, made, dollars, place) else {
         return None;
     };
     Some(first_loss_from(graph, made, left, dollars, place, known))
@@ -49,27 +49,27 @@ fn first_loss_from(
 ) -> Trial
     requires size { left.now.size ≡ graph.now.size }
     requires effective { IsEffective graph.now.size (at left.now) }
-    requires small { AddUpToFewForTrials graph.now.size (at left.now) }
+    requires small { HasSmallDegree graph.now.size (at left.now) }
     requires few { dollars ≤ 1000 }
     requires place { place < graph.now.size }
     requires made { IsMadeOf graph.now made.old }
-    requires known { IsTrialLossFrom graph.now (at left.now) dollars place known }
+    requires known { IsLossFrom graph.now (at left.now) dollars place known }
     ensures made { IsMadeOf graph.now made.new }
-    ensures first { IsFirstTrialFrom graph.now (at left.now) dollars place result }
+    ensures first { IsFirstLossFrom graph.now (at left.now) dollars place result }
 {
     let size = graph.size();
     if place + 1 == size {
-        return Trial::trial_at_last(size, dollars);
+        return Trial::all_at_last(size, dollars);
     }
     let held = known.get(place);
     if held == 0 {
         return first_loss_from(graph, made, left, dollars, place + 1, known);
     }
-    if let Some(later) = find_from(graph, left, made, dollars, place + 1) {
+    if let Some(later) = find_loss_from(graph, left, made, dollars, place + 1) {
         return first_loss_from(graph, made, left, dollars, place + 1, later);
     }
-    let Some(other) = left_in_box_after(graph, left, place, 1) else {
-        return Trial::trial_at_last(size, dollars - 1).with_more(place, 1);
+    let Some(other) = after_loss(graph, left, place, 1) else {
+        return Trial::all_at_last(size, dollars - 1).with_more(place, 1);
     };
     let mut fewer = known;
     fewer.set(place, held - 1);

@@ -3,13 +3,13 @@ ghost use Rattle.std.specs.Prelude.{◌≡◌, ℕ, ◌<◌, ◌≤◌, true, po
 ghost use Rattle.std.specs.List.{sum};
 ghost use Rattle.dg_theory.specs.Firing.{only_at, IsEffective};
 ghost use Rattle.dg_theory.specs.Play.{IsWinnable};
-ghost use Rattle.dg_theory.specs.Rank.{less};
+ghost use Rattle.dg_theory.specs.Rank.{minus};
 ghost use Rattle.dg_theory.specs.Twins.{AreTwins};
 ghost use Rattle.dg_graph.specs.Sets.{in_set};
 ghost use Rattle.dg_chips.specs.Vector.{at};
-ghost use Rattle.dg_reduce.specs.Effective.{IsEffectiveDivisor};
-ghost use Rattle.dg_rank.specs.Losses.{AddUpToFewForTrials};
-ghost use Rattle.dg_rank.specs.Boxes.{BoxWins, IsBoxLoss, IsLackInBox, AreTwinsInSets, IsClosedWithTwins};
+ghost use Rattle.dg_reduce.specs.Effective.{IsInLinearSystem};
+ghost use Rattle.dg_rank.specs.Losses.{HasSmallDegree};
+ghost use Rattle.dg_rank.specs.Boxes.{BoxWins, IsBoxLoss, IsLackInBox, HaveOnlyTwins, IsTwinClosed};
 
 use crate::enumeration::Trial;
 use dg_graph::{Graph, contains};
@@ -29,7 +29,7 @@ pub(crate) struct Stopped;
 /// left and may be taken, who loses more at a twin has a mirror image that was searched. Sets of twins may lack some.
 ///
 /// A search that stops does so after so many more boxes; the number is counted down.
-pub(crate) fn find_in_box(
+pub(crate) fn find_box_loss(
     graph: &Graph,
     left: &EffectiveDivisor,
     twins: &[u16; 16],
@@ -40,8 +40,8 @@ pub(crate) fn find_in_box(
 ) -> Result<Option<Trial>, Stopped>
     requires size { left.now.size ≡ graph.now.size }
     requires effective { IsEffective graph.now.size (at left.now) }
-    requires small { AddUpToFewForTrials graph.now.size (at left.now) }
-    requires twins { AreTwinsInSets graph.now twins.now }
+    requires small { HasSmallDegree graph.now.size (at left.now) }
+    requires twins { HaveOnlyTwins graph.now twins.now }
     requires few { dollars ≤ 1000 }
     ensures { MatchResult result
         (λ found. MatchOption found
@@ -61,10 +61,10 @@ pub(crate) fn find_in_box(
     let mut best = *left;
     let mut lack = lack_in_box(&best, &open, dollars);
     'lacking: while let Some(v) = lack.vertex {
-        let held = held_in_box(&best, v);
+        let held = held_at(&best, v);
         let taken = held + 1;
-        let Some(other) = left_in_box_after(graph, &best, v, taken) else {
-            return Ok(Some(Trial::trial_at_last(size, 0).with_more(v, taken)));
+        let Some(other) = after_loss(graph, &best, v, taken) else {
+            return Ok(Some(Trial::all_at_last(size, 0).with_more(v, taken)));
         };
         let mut fuller = other;
         fuller.give(v, taken);
@@ -75,7 +75,7 @@ pub(crate) fn find_in_box(
         } else {
             let mut beyond = open;
             beyond[v] -= taken;
-            match find_in_box(graph, &other, twins, &beyond, dollars - taken, stops, boxes) {
+            match find_box_loss(graph, &other, twins, &beyond, dollars - taken, stops, boxes) {
                 Ok(Some(trial)) => return Ok(Some(trial.with_more(v, taken))),
                 Ok(None) => close_with_twins(graph, &best, twins[v], &mut open, v, held),
                 Err(stopped) => return Err(stopped),
@@ -101,7 +101,7 @@ fn close_with_twins(
     requires held { pos held ≡ at left.now v }
     requires more { held < slice_index room.old v }
     requires twins { (u : ℕ) → in_set twins u ≡ true → AreTwins graph.now v u }
-    ensures closed { IsClosedWithTwins graph.now (at left.now) room.old v held room.new }
+    ensures closed { IsTwinClosed graph.now (at left.now) room.old v held room.new }
     ensures fewer { sum room.new < sum room.old }
 {
     let wide = room[v];
@@ -110,7 +110,7 @@ fn close_with_twins(
         return;
     }
     for u in 0..graph.size() {
-        if contains(twins, u) && room[u] == wide && held_in_box(left, u) == held {
+        if contains(twins, u) && room[u] == wide && held_at(left, u) == held {
             room[u] = held;
         }
     }
@@ -130,22 +130,22 @@ fn lack_in_box(left: &EffectiveDivisor, room: &[u32; 16], dollars: u32) -> Lack
     requires effective { IsEffective left.now.size (at left.now) }
     ensures { IsLackInBox left.now.size (at left.now) room.now dollars result.vertex }
 {
-    let dollars_lacking = left.dollars_lacking(room, dollars);
-    let lanes = u32x16::from_array(dollars_lacking);
+    let lacks = left.shortfalls(room, dollars);
+    let lanes = u32x16::from_array(lacks);
     let squares = (lanes * lanes).reduce_sum();
     let most = lanes.simd_eq(u32x16::splat(lanes.reduce_max()));
     let v = most.to_bitmask().trailing_zeros() as usize;
     // No clause of the lanes' greatest says that a vertex has it: so what lacks there is looked at once more.
-    let vertex = if v < 16 && dollars_lacking[v] > 0 {
+    let vertex = if v < 16 && lacks[v] > 0 {
         Some(v)
     } else {
-        dollars_lacking.iter().position(|lack| *lack > 0)
+        lacks.iter().position(|lack| *lack > 0)
     };
     Lack { vertex, squares }
 }
 
 /// What is left once so many dollars are taken at a vertex and paid back; `None` if that can't be won.
-pub(crate) fn left_in_box_after(
+pub(crate) fn after_loss(
     graph: &Graph,
     left: &EffectiveDivisor,
     v: usize,
@@ -153,12 +153,12 @@ pub(crate) fn left_in_box_after(
 ) -> Option<EffectiveDivisor>
     requires size { left.now.size ≡ graph.now.size }
     requires effective { IsEffective graph.now.size (at left.now) }
-    requires small { AddUpToFewForTrials graph.now.size (at left.now) }
+    requires small { HasSmallDegree graph.now.size (at left.now) }
     requires vertex { v < graph.now.size }
     requires taken { taken ≤ 1000 }
     ensures { MatchOption result
-        (¬ IsWinnable graph.now (less (at left.now) (only_at v (pos taken))))
-        (IsEffectiveDivisor graph.now (less (at left.now) (only_at v (pos taken)))) }
+        (¬ IsWinnable graph.now (minus (at left.now) (only_at v (pos taken))))
+        (IsInLinearSystem graph.now (minus (at left.now) (only_at v (pos taken)))) }
 {
     let mut other = *left;
     other.take(v, taken);
@@ -170,7 +170,7 @@ pub(crate) fn left_in_box_after(
 }
 
 /// The dollars that a vertex has left.
-fn held_in_box(left: &EffectiveDivisor, v: usize) -> u32
+fn held_at(left: &EffectiveDivisor, v: usize) -> u32
     requires vertex { v < left.now.size }
     requires effective { IsEffective left.now.size (at left.now) }
     ensures { pos result ≡ at left.now v }

@@ -1,7 +1,7 @@
 //! How many trials of a degree there are, and which one has a number.
 ghost use Rattle.std.specs.Prelude.{◌≡◌, ℕ, ◌+◌, ◌<◌, ◌≤◌, MatchOption, min};
 ghost use Rattle.dg_rank.specs.Divisors.{IsTrialNumber};
-ghost use Rattle.dg_rank.specs.Limits.{AreTrialsWithinLimits, ArePastTrialLimits};
+ghost use Rattle.dg_rank.specs.Limits.{HasTrials, IsPastLimits};
 ghost use Rattle.dg_rank.specs.Numbering.{trial_count};
 
 use crate::enumeration::Trial;
@@ -17,12 +17,12 @@ pub const MAX_TRIALS: u32 = 200_000;
 /// How many trials of degree k there are on n vertices: effective divisors of that degree. `None` if n is not 1 to
 /// 16, if k is above 1,000, or if there are more than 200,000.
 pub fn trials(n: usize, k: u32) -> Option<u32>
-    ensures { MatchOption result (ArePastTrialLimits n k) (AreTrialsWithinLimits n k) }
+    ensures { MatchOption result (IsPastLimits n k) (HasTrials n k) }
 {
     if n < 1 || n > MAX_VERTICES || k > MAX_DEGREE {
         return None;
     }
-    let count = count(n, k);
+    let count = capped_trial_count(n, k);
     if count > MAX_TRIALS {
         return None;
     }
@@ -32,15 +32,15 @@ pub fn trials(n: usize, k: u32) -> Option<u32>
 /// The trial of degree k on n vertices that has exactly i trials before it; one is before another if it holds less
 /// at the first vertex at which they differ. The condition is that i is below the number of trials.
 pub fn trial(n: usize, k: u32, i: u32) -> Divisor
-    requires { (c : ℕ) × AreTrialsWithinLimits n k c × (i < c) }
+    requires { (c : ℕ) × HasTrials n k c × (i < c) }
     ensures { IsTrialNumber n k i result }
 {
-    Trial::trial_with_number(n, k, i).trial_as_divisor()
+    Trial::nth(n, k, i).to_divisor()
 }
 
 /// How many trials of degree k there are on n places, or 200,001 if there are more than 200,000. The conditions are
 /// that n is 1 to 16, and that k is at most 1,000.
-pub(crate) fn count(n: usize, k: u32) -> u32
+pub(crate) fn capped_trial_count(n: usize, k: u32) -> u32
     requires some { 0 < n }
     requires few { n ≤ MAX_VERTICES }
     requires small { k ≤ MAX_DEGREE }

@@ -4,13 +4,13 @@ ghost use Rattle.std.specs.Prelude.{◌≡◌, ℕ, ◌+◌, ◌<◌, ◌≤◌,
 ghost use Rattle.std.specs.Int.RustNames.{unsigned_abs};
 ghost use Rattle.dg_theory.specs.Multigraph.{genus};
 ghost use Rattle.dg_theory.specs.Firing.{degree};
-ghost use Rattle.dg_theory.specs.Rank.{less, canonical, HasRankAtLeast};
+ghost use Rattle.dg_theory.specs.Rank.{minus, canonical, HasRankAtLeast};
 ghost use Rattle.dg_graph.specs.Graph.{IsGraph};
 ghost use Rattle.dg_chips.specs.Vector.{at};
 ghost use Rattle.dg_rank.specs.Asked.{IsMadeOf};
-ghost use Rattle.dg_rank.specs.Losses.{AreSmallForTrials};
+ghost use Rattle.dg_rank.specs.Losses.{AreSmallAmounts};
 
-use crate::asked::{Made, find_from};
+use crate::asked::{Made, find_loss_from};
 use crate::enumeration::Trial;
 use crate::first_loss::effective_with;
 use dg_chips::{Divisor, Wide};
@@ -20,7 +20,7 @@ use dg_reduce::InverseLaplacian;
 /// Whether the rank of a divisor is at least k: whether every effective divisor of degree k can be lost and the rest still
 /// won. The test is made of the divisor or of its residual, if that has fewer dollars to take, and on a determining set of
 /// vertices. It has no limit, and may take long on a graph of many edges.
-pub fn has_rank(graph: &Graph, divisor: &Divisor, k: u32) -> bool
+pub fn has_rank_at_least(graph: &Graph, divisor: &Divisor, k: u32) -> bool
     requires size { divisor.now.size ≡ graph.now.size }
     requires some { 0 < graph.now.size }
     ensures { MatchBool result
@@ -28,11 +28,11 @@ pub fn has_rank(graph: &Graph, divisor: &Divisor, k: u32) -> bool
         (¬ HasRankAtLeast graph.now (at divisor.now) k) }
 {
     let _size = graph.size();
-    passes_rank_test(graph, None, &mut Made::nothing(), divisor, k)
+    has_rank_at_least_by(graph, None, &mut Made::nothing(), divisor, k)
 }
 
-/// What `has_rank` answers, with any inverse or none. The determining sets that were made for the graph are kept.
-pub(crate) fn passes_rank_test(
+/// What `has_rank_at_least` answers, with any inverse or none. The determining sets that were made for the graph are kept.
+pub(crate) fn has_rank_at_least_by(
     graph: &Graph,
     inverse: Option<&InverseLaplacian>,
     made: &mut Made,
@@ -57,7 +57,7 @@ pub(crate) fn passes_rank_test(
 }
 
 /// The degree of what is left of a divisor after a loss of degree k.
-pub(crate) fn degree_left(divisor: &Divisor, k: u32) -> i64
+pub(crate) fn remaining_degree(divisor: &Divisor, k: u32) -> i64
     ensures { result ≡ degree divisor.now.size (at divisor.now) -ℤ pos k }
 {
     let _amounts = divisor.size();
@@ -84,22 +84,22 @@ pub(crate) fn passes_unasked(
         (¬ HasRankAtLeast graph.now (at divisor.now) k)) }
 {
     let _size = graph.size();
-    let rest = degree_left(divisor, k);
+    let rest = remaining_degree(divisor, k);
     if rest >= i64::from(graph.genus()) {
         return Some(true);
     }
     if rest < i64::from(k) {
         return Some(false);
     }
-    let other = rank_degree_of_dual(graph, divisor, k);
+    let other = dual_test_degree(graph, divisor, k);
     if k <= other {
         return None;
     }
-    Some(all_trials_win(graph, inverse, made, &dual_for_rank(graph, divisor), other))
+    Some(all_trials_win(graph, inverse, made, &dual_amounts(graph, divisor), other))
 }
 
 /// The degree at which the residual passes its test exactly if the divisor passes the test of degree k.
-pub(crate) fn rank_degree_of_dual(graph: &Graph, divisor: &Divisor, k: u32) -> u32
+pub(crate) fn dual_test_degree(graph: &Graph, divisor: &Divisor, k: u32) -> u32
     requires size { divisor.now.size ≡ graph.now.size }
     requires low { k ≤ unsigned_abs (degree graph.now.size (at divisor.now)) + 1 }
     requires poor { degree graph.now.size (at divisor.now) <ℤ (genus graph.now +ℤ pos k) }
@@ -107,11 +107,11 @@ pub(crate) fn rank_degree_of_dual(graph: &Graph, divisor: &Divisor, k: u32) -> u
         ≡ (degree graph.now.size (at divisor.now) +ℤ pos 1) -ℤ genus graph.now }
 {
     let _size = graph.size();
-    (i64::from(k) - ranks_apart(graph, divisor)) as u32
+    (i64::from(k) - rank_difference(graph, divisor)) as u32
 }
 
 /// By how much the rank of a divisor is above the rank of its residual.
-pub(crate) fn ranks_apart(graph: &Graph, divisor: &Divisor) -> i64
+pub(crate) fn rank_difference(graph: &Graph, divisor: &Divisor) -> i64
     requires { divisor.now.size ≡ graph.now.size }
     ensures apart { result ≡ (degree graph.now.size (at divisor.now) +ℤ pos 1) -ℤ genus graph.now }
     ensures small { unsigned_abs result ≤ 17000000 }
@@ -122,19 +122,19 @@ pub(crate) fn ranks_apart(graph: &Graph, divisor: &Divisor) -> i64
 }
 
 /// The residual of a divisor: the canonical divisor less it.
-fn dual_for_rank(graph: &Graph, divisor: &Divisor) -> Wide
+fn dual_amounts(graph: &Graph, divisor: &Divisor) -> Wide
     requires { divisor.now.size ≡ graph.now.size }
     ensures size { result.size ≡ graph.now.size }
     ensures amounts { (v : ℕ) → v < graph.now.size →
-        at result v ≡ less (canonical graph.now) (at divisor.now) v }
-    ensures range { AreSmallForTrials graph.now.size (at result) }
+        at result v ≡ minus (canonical graph.now) (at divisor.now) v }
+    ensures range { AreSmallAmounts graph.now.size (at result) }
 {
     let _size = graph.size();
     let canonical = Divisor::canonical(graph);
     // The clauses of `size` say that the amounts of both are within their limit.
     let _canonical = canonical.size();
     let _amounts = divisor.size();
-    Wide::of(&canonical).less(divisor)
+    Wide::of(&canonical).minus(divisor)
 }
 
 /// Whether all trials of degree k win.
@@ -148,7 +148,7 @@ fn all_trials_win(
     requires graph { IsGraph graph.now }
     requires some { 0 < graph.now.size }
     requires size { amounts.now.size ≡ graph.now.size }
-    requires range { AreSmallForTrials graph.now.size (at amounts.now) }
+    requires range { AreSmallAmounts graph.now.size (at amounts.now) }
     requires few { k ≤ 1000 }
     requires made { IsMadeOf graph.now made.old }
     ensures made { IsMadeOf graph.now made.new }
@@ -156,9 +156,9 @@ fn all_trials_win(
         (HasRankAtLeast graph.now (at amounts.now) k)
         (¬ HasRankAtLeast graph.now (at amounts.now) k) }
 {
-    let first = Trial::trial_at_last(graph.size(), k);
+    let first = Trial::all_at_last(graph.size(), k);
     match effective_with(graph, inverse, amounts, &first) {
-        Some(left) => find_from(graph, &left, made, k, 0).is_none(),
+        Some(left) => find_loss_from(graph, &left, made, k, 0).is_none(),
         None => false,
     }
 }

@@ -1,12 +1,12 @@
 //! Trials in their order: the one with a number, which comes first, and each as a divisor.
 ghost use Rattle.std.specs.Prelude.{◌≡◌, ℕ, suc, ◌<◌, ◌≤◌, ◌+◌, ◌-◌, ◌∷◌, MatchBool, length, slice_index, slice_set};
 ghost use Rattle.std.specs.List.{sum};
-ghost use Rattle.dg_rank.specs.Limits.{AreTrialsWithinLimits};
+ghost use Rattle.dg_rank.specs.Limits.{HasTrials};
 ghost use Rattle.dg_rank.specs.Numbering.{trial_count, nth_trial};
 ghost use Rattle.dg_rank.specs.Divisors.{HoldsTrial};
 ghost use Rattle.dg_rank.specs.Trials.{IsTrialBefore};
 
-use crate::counting::{MAX_DEGREE, MAX_TRIALS, count};
+use crate::counting::{MAX_DEGREE, MAX_TRIALS, capped_trial_count};
 use dg_chips::Divisor;
 use dg_graph::MAX_VERTICES;
 use std::marker::Model;
@@ -70,8 +70,8 @@ impl Trial {
     }
 
     /// The trial of degree k on n vertices with this number, counted from 0 in the order of trials.
-    pub fn trial_with_number(n: usize, k: u32, i: u32) -> Trial
-        requires { (c : ℕ) × AreTrialsWithinLimits n k c × (i < c) }
+    pub fn nth(n: usize, k: u32, i: u32) -> Trial
+        requires { (c : ℕ) × HasTrials n k c × (i < c) }
         ensures { result ≡ nth_trial n k i }
     {
         let mut trial = Trial {
@@ -81,7 +81,7 @@ impl Trial {
         let mut left = k;
         let mut number = i;
         for v in 0..n - 1 {
-            let (amount, rest) = first_amount_of_trial(n - 1 - v, left, number);
+            let (amount, rest) = first_amount(n - 1 - v, left, number);
             trial.set(v, amount);
             left -= amount;
             number = rest;
@@ -91,7 +91,7 @@ impl Trial {
     }
 
     /// The trial on n places that holds so many dollars at the last, and nothing elsewhere.
-    pub(crate) fn trial_at_last(n: usize, dollars: u32) -> Trial
+    pub(crate) fn all_at_last(n: usize, dollars: u32) -> Trial
         requires some { 0 < n }
         requires few { n ≤ MAX_VERTICES }
         ensures places { length result ≡ n }
@@ -122,7 +122,7 @@ impl Trial {
     }
 
     /// A trial as a divisor.
-    pub fn trial_as_divisor(&self) -> Divisor
+    pub fn to_divisor(&self) -> Divisor
         requires { sum self.now ≤ 1000 }
         ensures { HoldsTrial (length self.now) self.now result }
     {
@@ -137,7 +137,7 @@ impl Trial {
 
 /// The first amount of the trial with this number on one place more than n, and the number of what it leaves on the
 /// other places.
-fn first_amount_of_trial(n: usize, k: u32, i: u32) -> (u32, u32)
+fn first_amount(n: usize, k: u32, i: u32) -> (u32, u32)
     requires some { 0 < n }
     requires few { n ≤ MAX_VERTICES }
     requires small { k ≤ MAX_DEGREE }
@@ -150,7 +150,7 @@ fn first_amount_of_trial(n: usize, k: u32, i: u32) -> (u32, u32)
 {
     let mut rest = i;
     for amount in 0..k {
-        let fewer = count(n, k - amount);
+        let fewer = capped_trial_count(n, k - amount);
         if rest < fewer {
             return (amount, rest);
         }

@@ -5,14 +5,14 @@ ghost use Rattle.dg_theory.specs.Firing.{IsEffective};
 ghost use Rattle.dg_graph.specs.Graph.{IsGraph};
 ghost use Rattle.dg_chips.specs.Vector.{at};
 ghost use Rattle.dg_rank.specs.Asked.{IsMadeOf};
-ghost use Rattle.dg_rank.specs.Boxes.{IsTrialFrom, TellsFirstTrialIf, IsNotBefore, HoldsAt};
+ghost use Rattle.dg_rank.specs.Boxes.{IsTrialFrom, TellsFirstIf, IsNotBefore, HoldsAt};
 ghost use Rattle.dg_rank.specs.Divisors.{amounts_of_trial};
-ghost use Rattle.dg_rank.specs.Losses.{AreSmallForTrials, AddUpToFewForTrials, WinsWithoutTrial, IsFewDivisor};
+ghost use Rattle.dg_rank.specs.Losses.{AreSmallAmounts, HasSmallDegree, WinsWithout, IsFewDivisor};
 ghost use Rattle.dg_rank.specs.Trials.{IsTrial};
 
 use crate::asked::Made;
 use crate::beginnings::find_first_from;
-use crate::boxes::left_in_box_after;
+use crate::boxes::after_loss;
 use crate::enumeration::Trial;
 use dg_chips::Wide;
 use dg_graph::Graph;
@@ -29,12 +29,12 @@ pub(crate) fn first_loss(
 ) -> Option<Trial>
     requires graph { IsGraph graph.now }
     requires size { chips.now.size ≡ graph.now.size }
-    requires range { AreSmallForTrials graph.now.size (at chips.now) }
+    requires range { AreSmallAmounts graph.now.size (at chips.now) }
     requires few { k ≤ 1000 }
     requires made { IsMadeOf graph.now made.old }
     requires start { IsTrial graph.now.size k start }
     ensures made { IsMadeOf graph.now made.new }
-    ensures first { TellsFirstTrialIf graph.now (at chips.now) k 0 (IsNotBefore graph.now.size start) result }
+    ensures first { TellsFirstIf graph.now (at chips.now) k 0 (IsNotBefore graph.now.size start) result }
 {
     match effective_with(graph, inverse, chips, &start) {
         Some(left) => first_loss_on(graph, made, &left, k, 0, start),
@@ -54,21 +54,21 @@ fn first_loss_on(
 ) -> Option<Trial>
     requires size { left.now.size ≡ graph.now.size }
     requires effective { IsEffective graph.now.size (at left.now) }
-    requires small { AddUpToFewForTrials graph.now.size (at left.now) }
+    requires small { HasSmallDegree graph.now.size (at left.now) }
     requires few { dollars ≤ 1000 }
     requires place { place < graph.now.size }
     requires made { IsMadeOf graph.now made.old }
     requires places { length start ≡ graph.now.size }
     requires start { IsTrialFrom graph.now.size dollars place (amounts_of_trial start) }
     ensures made { IsMadeOf graph.now made.new }
-    ensures first { TellsFirstTrialIf graph.now (at left.now) dollars place (IsNotBefore graph.now.size start) result }
+    ensures first { TellsFirstIf graph.now (at left.now) dollars place (IsNotBefore graph.now.size start) result }
 {
     let size = graph.size();
     if start.get(size - 1) == dollars {
         return find_first_from(graph, made, left, dollars, place);
     }
     let held = start.get(place);
-    let Some(rest) = left_in_box_after(graph, left, place, held) else {
+    let Some(rest) = after_loss(graph, left, place, held) else {
         return Some(start);
     };
     let mut later = start;
@@ -90,19 +90,19 @@ fn first_loss_above(
 ) -> Option<Trial>
     requires size { left.now.size ≡ graph.now.size }
     requires effective { IsEffective graph.now.size (at left.now) }
-    requires small { AddUpToFewForTrials graph.now.size (at left.now) }
+    requires small { HasSmallDegree graph.now.size (at left.now) }
     requires few { dollars ≤ 1000 }
     requires place { place < graph.now.size }
     requires made { IsMadeOf graph.now made.old }
     ensures made { IsMadeOf graph.now made.new }
-    ensures first { TellsFirstTrialIf graph.now (at left.now) dollars place (HoldsAt place least) result }
+    ensures first { TellsFirstIf graph.now (at left.now) dollars place (HoldsAt place least) result }
 {
     if least > dollars {
         return None;
     }
     let size = graph.size();
-    let Some(other) = left_in_box_after(graph, left, place, least) else {
-        return Some(Trial::trial_at_last(size, dollars - least).with_more(place, least));
+    let Some(other) = after_loss(graph, left, place, least) else {
+        return Some(Trial::all_at_last(size, dollars - least).with_more(place, least));
     };
     match find_first_from(graph, made, &other, dollars - least, place) {
         Some(loss) => Some(loss.with_more(place, least)),
@@ -119,16 +119,16 @@ pub(crate) fn effective_with(
 ) -> Option<EffectiveDivisor>
     requires graph { IsGraph graph.now }
     requires size { chips.now.size ≡ graph.now.size }
-    requires range { AreSmallForTrials graph.now.size (at chips.now) }
+    requires range { AreSmallAmounts graph.now.size (at chips.now) }
     requires places { length trial.now ≡ graph.now.size }
     requires few { sum trial.now ≤ 1000 }
     ensures { MatchOption result
-        (¬ WinsWithoutTrial graph.now (at chips.now) trial.now)
+        (¬ WinsWithout graph.now (at chips.now) trial.now)
         (IsFewDivisor graph.now (at chips.now)) }
 {
     let size = graph.size();
-    let lost = trial.trial_as_divisor();
-    let reduced = reduce_certified(graph, inverse, 0, &chips.less(&lost))
+    let lost = trial.to_divisor();
+    let reduced = reduce_certified(graph, inverse, 0, &chips.minus(&lost))
         .reduced
         .divisor;
     if reduced.get(0) < 0 {

@@ -18,8 +18,8 @@ mod workers;
 
 pub use counting::{MAX_DEGREE, MAX_TRIALS, trial, trials};
 pub use dg_verdict::RankVerdict;
-pub use duals::has_rank;
-pub use laws::ranks_are_told_by_tests;
+pub use duals::has_rank_at_least;
+pub use laws::tests_tell_ranks;
 pub use numbers::{both_ranks, both_ranks_in_limits, rank};
 pub use rank_fault::RankFault;
 pub use ranks::{rank_at_least, rank_at_least_by};

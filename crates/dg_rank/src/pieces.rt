@@ -1,8 +1,8 @@
 //! Pieces of the trials of a rank test, each with a thread of its own.
 ghost use Rattle.std.specs.Prelude.{◌≡◌, ℕ, ◌+◌, ◌<◌, ◌≤◌, MatchResult};
-ghost use Rattle.dg_rank.specs.Pieces.{start_of_trials, CanSearch, TellsFirstLossOfTrials};
+ghost use Rattle.dg_rank.specs.Pieces.{piece_start, CanSearch, TellsFirstLoss};
 ghost use Rattle.dg_rank.specs.declared.pieces.Search.{Search};
-ghost use Rattle.dg_rank.specs.Ranks.{MayHaveRankWorkers};
+ghost use Rattle.dg_rank.specs.Ranks.{IsWorkerCount};
 ghost use Rattle.dg_rank.specs.declared.rank_fault.RankFault.TheVariants.{Spawn};
 
 use crate::asked::Made;
@@ -39,10 +39,10 @@ pub(crate) fn first_loss_among<R: Threads + Wait, G: Gate>(
     piece: u32,
 ) -> Result<Option<Trial>, RankFault>
     requires search { CanSearch search.now }
-    requires workers { MayHaveRankWorkers search.now.workers }
+    requires workers { IsWorkerCount search.now.workers }
     requires piece { piece ≤ search.now.workers }
     ensures { MatchResult result
-        (TellsFirstLossOfTrials search.now (start_of_trials search.now piece) search.now.count)
+        (TellsFirstLoss search.now (piece_start search.now piece) search.now.count)
         (λ e. e ≡ Spawn) }
 {
     if piece == search.workers {
@@ -50,16 +50,16 @@ pub(crate) fn first_loss_among<R: Threads + Wait, G: Gate>(
     }
     let next = piece + 1;
     let mut here = || -> Option<Trial>
-        requires { CanSearch search.now × MayHaveRankWorkers search.now.workers ×
+        requires { CanSearch search.now × IsWorkerCount search.now.workers ×
             (piece < search.now.workers) }
-        ensures { TellsFirstLossOfTrials search.entry.now (start_of_trials search.entry.now piece)
-            (start_of_trials search.entry.now (piece + 1)) result }
-    { first_loss_of(search, gate, piece) };
+        ensures { TellsFirstLoss search.entry.now (piece_start search.entry.now piece)
+            (piece_start search.entry.now (piece + 1)) result }
+    { first_loss_in_piece(search, gate, piece) };
     let mut later = || -> Result<Option<Trial>, RankFault>
-        requires { CanSearch search.now × MayHaveRankWorkers search.now.workers ×
+        requires { CanSearch search.now × IsWorkerCount search.now.workers ×
             (next ≤ search.now.workers) }
         ensures { MatchResult result
-            (TellsFirstLossOfTrials search.entry.now (start_of_trials search.entry.now next) search.entry.now.count)
+            (TellsFirstLoss search.entry.now (piece_start search.entry.now next) search.entry.now.count)
             (λ e. e ≡ Spawn) }
     { first_loss_among(rt, search, gate, next) };
     let (here, later) = match in_parallel(rt, &mut here, &mut later) {
@@ -67,15 +67,15 @@ pub(crate) fn first_loss_among<R: Threads + Wait, G: Gate>(
         Err(_) => return Err(RankFault::Spawn),
     };
     match later {
-        Ok(later) => Ok(first_loss_of_two(here, later)),
+        Ok(later) => Ok(earlier_loss(here, later)),
         Err(fault) => Err(fault),
     }
 }
 
 /// The first loss of trials, and of others after them.
-fn first_loss_of_two(here: Option<Trial>, later: Option<Trial>) -> Option<Trial>
-    ensures { (s : Search) (i m j : ℕ) → i ≤ m → m ≤ j → TellsFirstLossOfTrials s i m here → TellsFirstLossOfTrials s m j later →
-        TellsFirstLossOfTrials s i j result }
+fn earlier_loss(here: Option<Trial>, later: Option<Trial>) -> Option<Trial>
+    ensures { (s : Search) (i m j : ℕ) → i ≤ m → m ≤ j → TellsFirstLoss s i m here → TellsFirstLoss s m j later →
+        TellsFirstLoss s i j result }
 {
     match here {
         Some(trial) => Some(trial),
@@ -84,18 +84,18 @@ fn first_loss_of_two(here: Option<Trial>, later: Option<Trial>) -> Option<Trial>
 }
 
 /// The first loss of a piece, searched once the gate has let it through.
-fn first_loss_of<G: Gate>(search: &Search, gate: &G, piece: u32) -> Option<Trial>
+fn first_loss_in_piece<G: Gate>(search: &Search, gate: &G, piece: u32) -> Option<Trial>
     requires search { CanSearch search.now }
-    requires workers { MayHaveRankWorkers search.now.workers }
+    requires workers { IsWorkerCount search.now.workers }
     requires piece { piece < search.now.workers }
-    ensures { TellsFirstLossOfTrials search.now (start_of_trials search.now piece)
-        (start_of_trials search.now (piece + 1)) result }
+    ensures { TellsFirstLoss search.now (piece_start search.now piece)
+        (piece_start search.now (piece + 1)) result }
 {
     let piece = enter(gate, piece);
     first_loss_between(
         search,
-        first_trial_of_piece(search, piece),
-        first_trial_of_piece(search, piece + 1),
+        piece_start(search, piece),
+        piece_start(search, piece + 1),
     )
 }
 
@@ -105,16 +105,16 @@ fn first_loss_between(search: &Search, from: u32, to: u32) -> Option<Trial>
     requires search { CanSearch search.now }
     requires order { from ≤ to }
     requires within { to ≤ search.now.count }
-    ensures { TellsFirstLossOfTrials search.now from to result }
+    ensures { TellsFirstLoss search.now from to result }
 {
     if from == to {
         return None;
     }
     let (graph, k) = (&search.graph, search.k);
     let size = graph.size();
-    let start = Trial::trial_with_number(size, k, from);
+    let start = Trial::nth(size, k, from);
     let loss = first_loss(graph, None, &mut Made::nothing(), &search.chips, k, start)?;
-    if to < search.count && !loss.is_before(&Trial::trial_with_number(size, k, to)) {
+    if to < search.count && !loss.is_before(&Trial::nth(size, k, to)) {
         return None;
     }
     Some(loss)
@@ -129,11 +129,11 @@ fn enter<G: Gate>(gate: &G, piece: u32) -> u32
 }
 
 /// The number of the first trial of a piece, and of the one past all trials for the number past all pieces.
-fn first_trial_of_piece(search: &Search, piece: u32) -> u32
+fn piece_start(search: &Search, piece: u32) -> u32
     requires search { CanSearch search.now }
-    requires workers { MayHaveRankWorkers search.now.workers }
+    requires workers { IsWorkerCount search.now.workers }
     requires piece { piece ≤ search.now.workers }
-    ensures { result ≡ start_of_trials search.now piece }
+    ensures { result ≡ piece_start search.now piece }
 {
     piece * search.count / search.workers
 }

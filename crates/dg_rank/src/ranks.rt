@@ -4,14 +4,14 @@ ghost use Rattle.std.specs.List.{sum};
 ghost use Rattle.dg_theory.specs.Multigraph.{Multigraph};
 ghost use Rattle.dg_theory.specs.Firing.{Amounts, AreEquivalent};
 ghost use Rattle.dg_chips.specs.Vector.{at};
-ghost use Rattle.dg_rank.specs.Boxes.{TrialsWinFrom, IsFirstTrialFrom};
-ghost use Rattle.dg_verdict.specs.RankTests.{IsRightRankVerdict};
+ghost use Rattle.dg_rank.specs.Boxes.{TrialsWinFrom, IsFirstLossFrom};
+ghost use Rattle.dg_verdict.specs.RankTests.{IsRightRank};
 ghost use Rattle.dg_rank.specs.Ladders.{AnswersRankTest};
-ghost use Rattle.dg_rank.specs.Ranks.{IsRankTestWithinLimits};
+ghost use Rattle.dg_rank.specs.Ranks.{IsTestable};
 
 use crate::asked::Made;
 use crate::counting::trials;
-use crate::duals::{degree_left, passes_unasked};
+use crate::duals::{passes_unasked, remaining_degree};
 use crate::enumeration::Trial;
 use crate::first_loss::first_loss;
 use crate::rank_fault::RankFault;
@@ -59,19 +59,19 @@ pub fn rank_at_least_by(
     if let Some(verdict) = rank_by_degree(graph, divisor, k) {
         return Ok(verdict);
     }
-    Ok(tested(graph, inverse, divisor, k))
+    Ok(rank_by_trials(graph, inverse, divisor, k))
 }
 
 /// The answer of a rank test that the degree does not settle.
-fn tested(
+fn rank_by_trials(
     graph: &Graph,
     inverse: Option<&InverseLaplacian>,
     divisor: &Divisor,
     k: u32,
 ) -> RankVerdict
     requires size { divisor.now.size ≡ graph.now.size }
-    requires limits { IsRankTestWithinLimits graph.now.size k }
-    ensures { IsRightRankVerdict graph.now (at divisor.now) k result }
+    requires limits { IsTestable graph.now.size k }
+    ensures { IsRightRank graph.now (at divisor.now) k result }
 {
     let size = graph.size();
     // The clause of `size` says that the amounts are within their limit.
@@ -80,39 +80,39 @@ fn tested(
     if let Some(true) = passes_unasked(graph, inverse, &mut made, divisor, k) {
         return RankVerdict::AtLeast(k);
     }
-    let first = Trial::trial_at_last(size, k);
+    let first = Trial::all_at_last(size, k);
     let loss = first_loss(graph, inverse, &mut made, &Wide::of(divisor), k, first);
-    rank_verdict_of(k, loss)
+    verdict_of_loss(k, loss)
 }
 
 /// The answer of a rank test that the degree alone settles. `None` if trials must be made.
 pub(crate) fn rank_by_degree(graph: &Graph, divisor: &Divisor, k: u32) -> Option<RankVerdict>
     requires size { divisor.now.size ≡ graph.now.size }
-    requires limits { IsRankTestWithinLimits graph.now.size k }
+    requires limits { IsTestable graph.now.size k }
     ensures { MatchOption result
         ⊤
-        (IsRightRankVerdict graph.now (at divisor.now) k) }
+        (IsRightRank graph.now (at divisor.now) k) }
 {
     let size = graph.size();
-    let rest = degree_left(divisor, k);
+    let rest = remaining_degree(divisor, k);
     if rest >= i64::from(graph.genus()) {
         return Some(RankVerdict::AtLeast(k));
     }
     if rest < 0 {
-        let first = Trial::trial_at_last(size, k).trial_as_divisor();
+        let first = Trial::all_at_last(size, k).to_divisor();
         return Some(RankVerdict::Below(k, first));
     }
     None
 }
 
 /// The answer if this is the first loss of all trials, or if none was found.
-pub(crate) fn rank_verdict_of(k: u32, loss: Option<Trial>) -> RankVerdict
+pub(crate) fn verdict_of_loss(k: u32, loss: Option<Trial>) -> RankVerdict
     requires { MatchOption loss ⊤ (λ E. sum E ≤ 1000) }
     ensures { (g : Multigraph) (D x : Amounts) → AreEquivalent g D x →
-        MatchOption loss (TrialsWinFrom g x k 0) (IsFirstTrialFrom g x k 0) → IsRightRankVerdict g D k result }
+        MatchOption loss (TrialsWinFrom g x k 0) (IsFirstLossFrom g x k 0) → IsRightRank g D k result }
 {
     match loss {
-        Some(trial) => RankVerdict::Below(k, trial.trial_as_divisor()),
+        Some(trial) => RankVerdict::Below(k, trial.to_divisor()),
         None => RankVerdict::AtLeast(k),
     }
 }

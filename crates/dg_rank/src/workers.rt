@@ -1,13 +1,13 @@
 //! Rank tests among workers.
 ghost use Rattle.std.specs.Prelude.{◌≡◌, ◌<◌, ◌⊎◌, ⊤, MatchOption, MatchResult};
 ghost use Rattle.dg_chips.specs.Vector.{at};
-ghost use Rattle.dg_verdict.specs.RankTests.{IsRightRankVerdict};
-ghost use Rattle.dg_rank.specs.Ranks.{IsRankTestWithinLimits, IsRankTestFault, MayHaveRankWorkers};
+ghost use Rattle.dg_verdict.specs.RankTests.{IsRightRank};
+ghost use Rattle.dg_rank.specs.Ranks.{IsTestable, IsRankFault, IsWorkerCount};
 
 use crate::counting::trials;
 use crate::pieces::{Search, first_loss_among};
 use crate::rank_fault::RankFault;
-use crate::ranks::{rank_by_degree, rank_verdict_of};
+use crate::ranks::{rank_by_degree, verdict_of_loss};
 use dg_chips::{Divisor, Wide};
 use dg_graph::Graph;
 use dg_verdict::RankVerdict;
@@ -53,9 +53,9 @@ pub fn rank_with<R: Threads + Wait, G: Gate>(
     requires size { divisor.now.size ≡ graph.now.size }
     requires vertex { q < graph.now.size }
     ensures { MatchResult result
-        (λ x. IsRankTestWithinLimits graph.now.size k × MayHaveRankWorkers workers ×
-        IsRightRankVerdict graph.now (at divisor.now) k x)
-        (IsRankTestFault graph.now.size k workers) }
+        (λ x. IsTestable graph.now.size k × IsWorkerCount workers ×
+        IsRightRank graph.now (at divisor.now) k x)
+        (IsRankFault graph.now.size k workers) }
 {
     let size = graph.size();
     let Some(count) = trials(size, k) else {
@@ -77,7 +77,7 @@ pub fn rank_with<R: Threads + Wait, G: Gate>(
     match first_loss_among(rt, &search, gate, 0) {
         Ok(loss) => match known {
             Some(verdict) => Ok(verdict),
-            None => Ok(rank_verdict_of(k, loss)),
+            None => Ok(verdict_of_loss(k, loss)),
         },
         Err(fault) => Err(fault),
     }

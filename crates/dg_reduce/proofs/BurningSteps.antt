@@ -4,17 +4,17 @@
 --   burning_down-more         it holds after one more such set
 --   burning_down-falls        and the weight falls
 --   burning_down-chips, burning_down-script   amounts and script are within the limits of a firing
-use Rattle.dg_reduce.proofs.Common.{◌≡◌, ℕ, ◌+◌, ◌*◌, ◌^◌, ◌<◌, ◌≤◌, Bool, true, false, arith, sym, ◌∙◌, refl, ints, ℤ, pos, ◌+ℤ◌, ◌-ℤ◌, unsigned_abs, Multigraph, fired, indicator, multiple, IsDistance, within_abs, abs_within, multiple-off, weights, levels_are_potential, weight_of, weight_of-cong, weight_falls_by_firings, IsLed, clear_all, led_start, led_step, led-cong, led_limit, script_between, IsGraph, at, Walk, IsTiedInReduction, IsFiredInReduction, IsCleared, IsMostReducingFirings}
+use Rattle.dg_reduce.proofs.Common.{◌≡◌, ℕ, ◌+◌, ◌*◌, ◌^◌, ◌<◌, ◌≤◌, Bool, true, false, arith, sym, ◌∙◌, refl, ints, ℤ, pos, ◌+ℤ◌, ◌-ℤ◌, unsigned_abs, Multigraph, fired, indicator, multiple, IsDistance, within_abs, abs_within, multiple-off, weights, levels_are_potential, weight_of, weight_of-cong, weight_falls_by_firings, IsLed, clear_all, led_start, led_step, led-cong, led_limit, script_between, IsGraph, at, FiringTrace, IsFiringTrace, IsTraceAfter, IsCleared, IsMaxFirings}
 use Rattle.dg_reduce.specs.States.{level_limit_at}
 use Rattle.dg_reduce.proofs.LevelLimits.{level_limit_at-small}
 
-pub record IsBurningDown (g : Multigraph) (q : ℕ) (x y : Walk) : Type 0 where
-  pub tied : IsTiedInReduction g y
+pub record IsBurningDown (g : Multigraph) (q : ℕ) (x y : FiringTrace) : Type 0 where
+  pub tied : IsFiringTrace g y
   pub begun : y.start ≡ x.start
   pub led : IsLed g q (at x.chips) (at y.chips)
   pub kept : at y.script q ≡ at x.script q
 
-pub burning_down-start : (g : Multigraph) (q : ℕ) (level : ℕ → ℕ) (x : Walk) → IsDistance g q level →
+pub burning_down-start : (g : Multigraph) (q : ℕ) (level : ℕ → ℕ) (x : FiringTrace) → IsDistance g q level →
     IsCleared g level 1 x →
     IsBurningDown g q x x
 burning_down-start g q level x distance cleared = record {
@@ -24,8 +24,8 @@ burning_down-start g q level x distance cleared = record {
   kept = refl;
 }
 
-pub burning_down-more : (g : Multigraph) (q : ℕ) (S : ℕ → Bool) (m : ℤ) (x y z : Walk) → IsGraph g → q < g.size →
-    IsBurningDown g q x y → S q ≡ false → IsMostReducingFirings g q (at y.chips) S m → IsFiredInReduction g S m y z
+pub burning_down-more : (g : Multigraph) (q : ℕ) (S : ℕ → Bool) (m : ℤ) (x y z : FiringTrace) → IsGraph g → q < g.size →
+    IsBurningDown g q x y → S q ≡ false → IsMaxFirings g q (at y.chips) S m → IsTraceAfter g S m y z
     → IsBurningDown g
     q x z
 burning_down-more g q S m x y z graph vertex state without most fires = record {
@@ -42,11 +42,11 @@ burning_down-more g q S m x y z graph vertex state without most fires = record {
       omega (arith, ints);
 }
 
-pub burning_down-falls : (g : Multigraph) (q : ℕ) (level : ℕ → ℕ) (S : ℕ → Bool) (m : ℤ) (x y z : Walk) (v : ℕ) →
+pub burning_down-falls : (g : Multigraph) (q : ℕ) (level : ℕ → ℕ) (S : ℕ → Bool) (m : ℤ) (x y z : FiringTrace) (v : ℕ) →
     IsGraph g →
-    IsDistance g q level → IsBurningDown g q x y → S q ≡ false → IsMostReducingFirings g q (at y.chips) S m → v < g.size → S v
+    IsDistance g q level → IsBurningDown g q x y → S q ≡ false → IsMaxFirings g q (at y.chips) S m → v < g.size → S v
     ≡ true →
-    IsFiredInReduction g S m y z → weight_of g (weights level) (at z.chips) < weight_of g (weights level) (at y.chips)
+    IsTraceAfter g S m y z → weight_of g (weights level) (at z.chips) < weight_of g (weights level) (at y.chips)
 burning_down-falls g q level S m x y z v graph distance state without most inside member fires =
     let less : weight_of g (weights level) (fired g (at y.chips) (multiple m (indicator S)))
     < weight_of g (weights level) (at y.chips) =
@@ -59,12 +59,12 @@ burning_down-falls g q level S m x y z v graph distance state without most insid
     weight_of-cong g (weights level) (at z.chips) (fired g (at y.chips) (multiple m (indicator S))) fires.chips in
     omega arith
 
-chips_limit : (g : Multigraph) (q : ℕ) (level : ℕ → ℕ) (x y : Walk) → IsGraph g → q < g.size → IsCleared g level 1 x →
+chips_limit : (g : Multigraph) (q : ℕ) (level : ℕ → ℕ) (x y : FiringTrace) → IsGraph g → q < g.size → IsCleared g level 1 x →
     IsBurningDown g q x y → (v : ℕ) → v < g.size → unsigned_abs (at y.chips v) ≤ 17 * level_limit_at 0
 chips_limit g q level x y graph vertex cleared state v inside =
     led_limit g q (at x.chips) (at y.chips) (level_limit_at 0) v vertex graph.few cleared.chips state.led inside
 
-pub burning_down-chips : (g : Multigraph) (q : ℕ) (level : ℕ → ℕ) (x y : Walk) → IsGraph g → q < g.size →
+pub burning_down-chips : (g : Multigraph) (q : ℕ) (level : ℕ → ℕ) (x y : FiringTrace) → IsGraph g → q < g.size →
     IsCleared g level 1 x →
     IsBurningDown g q x y → (v : ℕ) → v < g.size → unsigned_abs (at y.chips v) ≤ 2 ^ 120
 burning_down-chips g q level x y graph vertex cleared state v inside =
@@ -79,7 +79,7 @@ near_both a b m n apart near =
     let (low', high') = within_abs b n near in
     abs_within a (m + n) (omega (arith, ints)) (omega (arith, ints))
 
-pub burning_down-script : (g : Multigraph) (q : ℕ) (level : ℕ → ℕ) (x y : Walk) → IsGraph g → q < g.size →
+pub burning_down-script : (g : Multigraph) (q : ℕ) (level : ℕ → ℕ) (x y : FiringTrace) → IsGraph g → q < g.size →
     IsCleared g level 1 x →
     IsBurningDown g q x y → ((v : ℕ) → v < g.size → unsigned_abs (at x.start v) ≤ 2000000) →
     (v : ℕ) → v < g.size → unsigned_abs (at y.script v) ≤ 2 ^ 126

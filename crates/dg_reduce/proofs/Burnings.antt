@@ -2,10 +2,10 @@
 --   held-may       who may burn is the same, where q burns
 --   whole_order    so its order is that of the amounts
 --   whole_reduced  and the amounts are reduced
-use Rattle.dg_reduce.proofs.Common.{◌≡◌, ◌≢◌, ℕ, suc, ◌<◌, Bool, true, false, List, take, arith, ap, sym, ◌∙◌, ◌↔◌, both_ways, ints, Multigraph, Amounts, among, MayBurn, BurnsNext, BurnsInOrder, IsReduced, among-first, q_burns, dollars, Burning, IsCertifyingOrder, CertifiesReduced, IsGuessedOff}
+use Rattle.dg_reduce.proofs.Common.{◌≡◌, ◌≢◌, ℕ, suc, ◌<◌, Bool, true, false, List, take, arith, ap, sym, ◌∙◌, ◌↔◌, both_ways, ints, Multigraph, Amounts, list_contains, MayBurn, BurnsNext, IsLeastBurningOrder, IsReduced, list_contains-first, q_burns, list_amounts, Burning, IsFullOrder, CertifiesBurning, CoversOff}
 
 pub held-may : (g : Multigraph) (q : ℕ) (D : Amounts) (held : List ℕ) (B : ℕ → Bool) (v : ℕ) →
-    IsGuessedOff g.size q D held → B q ≡ true → MayBurn g (dollars held) B v ↔ MayBurn g D B v
+    CoversOff g.size q D held → B q ≡ true → MayBurn g (list_amounts held) B v ↔ MayBurn g D B v
 held-may g q D held B v same burns = (
   λ may. record {
     vertex = may.vertex;
@@ -19,27 +19,27 @@ held-may g q D held B v same burns = (
   },
 )
   where
-    here : v < g.size → B v ≡ false → D v ≡ dollars held v
+    here : v < g.size → B v ≡ false → D v ≡ list_amounts held v
     here below out = same v below (λ is_q. both_ways _ out (ap B is_q ∙ burns))
 
 -- q is the first to burn
-pub whole_order : (g : Multigraph) (q : ℕ) (D : Amounts) (x : Burning) → IsGuessedOff g.size q D x.held →
-    CertifiesReduced g q x → IsCertifyingOrder g q D x.order
+pub whole_order : (g : Multigraph) (q : ℕ) (D : Amounts) (x : Burning) → CoversOff g.size q D x.held →
+    CertifiesBurning g q x → IsFullOrder g q D x.order
 whole_order g q D x same whole = record {
   burns = record {
     begun = record {
       first = order.begun.first;
       next = λ i v place.
-          let burns : among (take (suc i) l) q ≡ true = among-first l q i order.begun.first in
-          let next : BurnsNext g (dollars x.held) (among (take (suc i) l)) v = order.begun.next i v place in
+          let burns : list_contains (take (suc i) l) q ≡ true = list_contains-first l q i order.begun.first in
+          let next : BurnsNext g (list_amounts x.held) (list_contains (take (suc i) l)) v = order.begun.next i v place in
           record {
-            may = (held-may g q D x.held (among (take (suc i) l)) v same burns).0 next.may;
+            may = (held-may g q D x.held (list_contains (take (suc i) l)) v same burns).0 next.may;
             least = λ u before may.
-                next.least u before ((held-may g q D x.held (among (take (suc i) l)) u same burns).1 may);
+                next.least u before ((held-may g q D x.held (list_contains (take (suc i) l)) u same burns).1 may);
           };
     };
     last = λ v may.
-        order.last v ((held-may g q D x.held (among l) v same (q_burns g q (dollars x.held) l order)).1 may);
+        order.last v ((held-may g q D x.held (list_contains l) v same (q_burns g q (list_amounts x.held) l order)).1 may);
   };
   rest = whole.order.rest;
 }
@@ -47,11 +47,11 @@ whole_order g q D x same whole = record {
     l : List ℕ
     l = take g.size x.order
 
-    order : BurnsInOrder g q (dollars x.held) l
+    order : IsLeastBurningOrder g q (list_amounts x.held) l
     order = whole.order.burns
 
-pub whole_reduced : (g : Multigraph) (q : ℕ) (D : Amounts) (x : Burning) → IsGuessedOff g.size q D x.held →
-    CertifiesReduced g q x → IsReduced g q D
+pub whole_reduced : (g : Multigraph) (q : ℕ) (D : Amounts) (x : Burning) → CoversOff g.size q D x.held →
+    CertifiesBurning g q x → IsReduced g q D
 whole_reduced g q D x same whole = record {
   no_debt = λ v below other. omega (arith, ints, same v below other);
   none_fires = λ S without u below member.

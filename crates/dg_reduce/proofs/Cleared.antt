@@ -1,9 +1,9 @@
 -- That nobody off q is in debt any more, by the levels and without them.
 --   levels_cleared   once level 1 and those farther are cleared, nobody off q is in debt
 --   cleared_levels   and then they are cleared, for the distances from q
-use Rattle.dg_reduce.proofs.Common.{ℕ, ◌<◌, Multigraph, IsDistance, not_q, clear_all, distance_from, distance_from-is, IsGraph, at, Walk, IsCleared, IsClearedOff}
+use Rattle.dg_reduce.proofs.Common.{ℕ, ◌<◌, Multigraph, IsDistance, not_q, clear_all, distance_from, distance_from-is, IsGraph, at, FiringTrace, IsCleared, IsClearedOff}
 
-pub levels_cleared : (g : Multigraph) (q : ℕ) (level : ℕ → ℕ) (x : Walk) → IsDistance g q level →
+pub levels_cleared : (g : Multigraph) (q : ℕ) (level : ℕ → ℕ) (x : FiringTrace) → IsDistance g q level →
     IsCleared g level 1 x →
     IsClearedOff g q x
 levels_cleared g q level x distance cleared = record {
@@ -13,7 +13,7 @@ levels_cleared g q level x distance cleared = record {
   script = cleared.script;
 }
 
-pub cleared_levels : (g : Multigraph) (q : ℕ) (x : Walk) → IsGraph g → q < g.size → IsClearedOff g q x →
+pub cleared_levels : (g : Multigraph) (q : ℕ) (x : FiringTrace) → IsGraph g → q < g.size → IsClearedOff g q x →
     IsCleared g (distance_from g q) 1 x
 cleared_levels g q x graph vertex cleared = record {
   tied = cleared.tied;

@@ -3,14 +3,14 @@
 --   repaying-start       no set has lent at first
 --   repaying-done        once v is out of debt, nobody is in debt
 --   repaying-lost        if the amounts are reduced for v while v is in debt, they can't be won
-use Rattle.dg_reduce.proofs.Common.{◌≡◌, ℕ, ◌<◌, arith, refl, ap, ⊎_elim, ints, cases_eq, pos, ◌≤ℤ◌, ◌<ℤ◌, Multigraph, HasNoDebtOff, AreEquivalent, IsWinnable, IsReduced, equivalent-refl, IsLed, led_start, reduced_decides, Vector, at, IsEffectiveDivisor}
+use Rattle.dg_reduce.proofs.Common.{◌≡◌, ℕ, ◌<◌, arith, refl, ap, ⊎_elim, ints, cases_eq, pos, ◌≤ℤ◌, ◌<ℤ◌, Multigraph, IsEffectiveOff, AreEquivalent, IsWinnable, IsReduced, equivalent-refl, IsLed, led_start, reduced_decides, Vector, at, IsInLinearSystem}
 
 pub record IsRepaying (g : Multigraph) (v : ℕ) (x y : Vector) : Type 0 where
   pub size : y.size ≡ g.size
   pub led : IsLed g v (at x) (at y)
   pub equivalent : AreEquivalent g (at x) (at y)
 
-pub repaying-start : (g : Multigraph) (v : ℕ) (x : Vector) → x.size ≡ g.size → HasNoDebtOff g v (at x) →
+pub repaying-start : (g : Multigraph) (v : ℕ) (x : Vector) → x.size ≡ g.size → IsEffectiveOff g v (at x) →
     IsRepaying g v x x
 repaying-start g v x size no_debt = record {
   size = size;
@@ -19,7 +19,7 @@ repaying-start g v x size no_debt = record {
 }
 
 pub repaying-done : (g : Multigraph) (v : ℕ) (x y : Vector) → IsRepaying g v x y → pos 0 ≤ℤ at y v →
-    IsEffectiveDivisor g (at x) y
+    IsInLinearSystem g (at x) y
 repaying-done g v x y state paid = record {
   size = state.size;
   effective = λ w below. ⊎_elim

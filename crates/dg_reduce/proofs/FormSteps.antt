@@ -10,9 +10,9 @@
 --   once_more        after one more set has lent, such sets led there
 --   once_falls       the weight falls where one more set lends once
 --   once_limit       from amounts within 2^26 come amounts within 17 * 2^26
-use Rattle.dg_reduce.proofs.Common.{if◌then◌else◌, ◌≡◌, ℕ, zero, suc, ◌+◌, ◌*◌, ◌^◌, ◌<◌, ◌≤◌, Bool, true, false, List, arith, refl, sym, ap, ◌∙◌, ⊎_elim, unsigned_abs, cases_Bool, ints, pos, ℤ, ◌-ℤ◌, total_below, Multigraph, edges_between, valence, Amounts, fired, gain, indicator, multiple, FiresTo, edges_out, edges_into, FiresFreely, abs_within, into-le-valence, out-le-valence, equivalent-trans, fired-cong, multiple-once, weights, levels_are_potential, led_step, led-cong, led_limit, distance_from, distance_from-is, gain-inside, gain-outside, weight_of, weight_of-cong, weight_falls_by_set, IsGraph, valence-outside, Vector, at}
-use Rattle.dg_reduce.specs.Rests.{IsFloorOff, IsRestInReduction, StaysAboveFloor}
-use Rattle.dg_reduce.specs.declared.effective_divisor.Rest.{Rest}
+use Rattle.dg_reduce.proofs.Common.{if◌then◌else◌, ◌≡◌, ℕ, zero, suc, ◌+◌, ◌*◌, ◌^◌, ◌<◌, ◌≤◌, Bool, true, false, List, arith, refl, sym, ap, ◌∙◌, ⊎_elim, unsigned_abs, cases_Bool, ints, pos, ℤ, ◌-ℤ◌, nat_sum_below, Multigraph, edges_between, valence, Amounts, fired, gain, indicator, multiple, FiresTo, edges_out, edges_into, IsLegalSetFiring, abs_within, into-le-valence, out-le-valence, equivalent-trans, fired-cong, multiple-once, weights, levels_are_potential, led_step, led-cong, led_limit, distance_from, distance_from-is, gain-inside, gain-outside, weight_of, weight_of-cong, weight_falls_by_set, IsGraph, valence-outside, Vector, at}
+use Rattle.dg_reduce.specs.Rests.{IsFloorOff, IsUnburntRest, StaysAboveFloor}
+use Rattle.dg_reduce.specs.declared.effective_divisor.UnburntSet.{UnburntSet}
 use Rattle.dg_reduce.proofs.DebtSteps.{IsRepaying}
 
 apart : (b : Bool) (e : ℕ) → (if b then e else 0) + (if b then 0 else e) ≡ e
@@ -20,11 +20,11 @@ apart true e = omega arith
 apart false e = omega arith
 
 totals_apart : (n : ℕ) (S : ℕ → Bool) (f : ℕ → ℕ) →
-    total_below n (λ w. if S w then f w else 0) + total_below n (λ w. if S w then 0 else f w) ≡ total_below n f
+    nat_sum_below n (λ w. if S w then f w else 0) + nat_sum_below n (λ w. if S w then 0 else f w) ≡ nat_sum_below n f
 totals_apart zero S f = refl
 totals_apart (suc n) S f =
-    let before : total_below n (λ w. if S w then f w else 0) + total_below n (λ w. if S w then 0 else f w)
-    ≡ total_below n f =
+    let before : nat_sum_below n (λ w. if S w then f w else 0) + nat_sum_below n (λ w. if S w then 0 else f w)
+    ≡ nat_sum_below n f =
     totals_apart n S f in
     let last : (if S n then f n else 0) + (if S n then 0 else f n) ≡ f n = apart (S n) (f n) in
     omega arith
@@ -80,9 +80,9 @@ gain_past g S v graph past =
     let none : unsigned_abs (gain g (indicator S) v) ≤ valence g v = gain_small g S v graph in
     omega (arith, ints, valence-outside g v graph past)
 
-pub rest_again : (g : Multigraph) (v : ℕ) (x y : Vector) (rest : Rest) (floor : List ℤ) → IsGraph g →
-    IsRepaying g v x y → (D : Amounts) × IsRestInReduction g v D rest → IsFloorOff v floor →
-    StaysAboveFloor 16 floor (at y) rest → IsRestInReduction g v (at y) rest
+pub rest_again : (g : Multigraph) (v : ℕ) (x y : Vector) (rest : UnburntSet) (floor : List ℤ) → IsGraph g →
+    IsRepaying g v x y → (D : Amounts) × IsUnburntRest g v D rest → IsFloorOff v floor →
+    StaysAboveFloor 16 floor (at y) rest → IsUnburntRest g v (at y) rest
 rest_again g v x y rest floor graph state (D, before) off stays = record {
   free = record {
     vertices = before.free.vertices;
@@ -106,7 +106,7 @@ once g D S w below =
     fired-cong g D (multiple (pos 1) (indicator S)) (indicator S) w below (λ u _. multiple-once (indicator S) u)
 
 pub once_more : (g : Multigraph) (v : ℕ) (S : ℕ → Bool) (x y z : Vector) → IsGraph g → v < g.size →
-    IsRepaying g v x y → FiresFreely g v (at y) S → z.size ≡ g.size → FiresTo g (indicator S) (at y) (at z) →
+    IsRepaying g v x y → IsLegalSetFiring g v (at y) S → z.size ≡ g.size → FiresTo g (indicator S) (at y) (at z) →
     IsRepaying g v x z
 once_more g v S x y z graph vertex state free size fires = record {
   size = size;
@@ -118,7 +118,7 @@ once_more g v S x y z graph vertex state free size fires = record {
 }
 
 pub once_falls : (g : Multigraph) (v : ℕ) (S : ℕ → Bool) (x y z : Vector) (u : ℕ) → IsGraph g → v < g.size →
-    IsRepaying g v x y → FiresFreely g v (at y) S → S u ≡ true → FiresTo g (indicator S) (at y) (at z) →
+    IsRepaying g v x y → IsLegalSetFiring g v (at y) S → S u ≡ true → FiresTo g (indicator S) (at y) (at z) →
     weight_of g (weights (distance_from g v)) (at z) < weight_of g (weights (distance_from g v)) (at y)
 once_falls g v S x y z u graph vertex state free member fires =
     let less : weight_of g (weights (distance_from g v)) (fired g (at y) (indicator S))

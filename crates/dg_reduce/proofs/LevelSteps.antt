@@ -7,18 +7,18 @@
 --   debt_small       so as many firings are within their limit
 --   cleared_free     if nobody of the next level is in debt, it is cleared
 --   cleared_paid     and it is cleared once the nearer vertices have lent as often as its largest debt
-use Rattle.dg_reduce.proofs.Common.{if◌then◌else◌, ◌≡◌, ℕ, ◌+◌, ◌-◌, ◌*◌, ◌^◌, ◌<◌, ◌≤◌, Bool, arith, ap, sym, ◌∙◌, inl, inr, ⊎_elim, cases_eq, ints, ℤ, pos, negsuc, ◌+ℤ◌, ◌*ℤ◌, ◌≤ℤ◌, ◌<ℤ◌, unsigned_abs, Multigraph, Amounts, indicator, multiple, IsDistance, within_abs, abs_within, abs-add, fired-cong, multiple-within, nearer, fired_nearer, level_limit, level_paid, clear_step, clear_stays, IsGraph, at, Walk, IsFiredInReduction, IsCleared, IsLargestDebt}
+use Rattle.dg_reduce.proofs.Common.{if◌then◌else◌, ◌≡◌, ℕ, ◌+◌, ◌-◌, ◌*◌, ◌^◌, ◌<◌, ◌≤◌, Bool, arith, ap, sym, ◌∙◌, inl, inr, ⊎_elim, cases_eq, ints, ℤ, pos, negsuc, ◌+ℤ◌, ◌*ℤ◌, ◌≤ℤ◌, ◌<ℤ◌, unsigned_abs, Multigraph, Amounts, indicator, multiple, IsDistance, within_abs, abs_within, abs-add, fired-cong, multiple-within, nearer, fired_nearer, level_limit, level_paid, clear_step, clear_stays, IsGraph, at, FiringTrace, IsTraceAfter, IsCleared, IsLargestDebt}
 use Rattle.dg_reduce.specs.States.{level_limit_at}
 use Rattle.dg_reduce.proofs.LevelLimits.{level_limit_at-next, level_limit_at-small}
 
-pub chips_small : (g : Multigraph) (level : ℕ → ℕ) (j : ℕ) (x : Walk) → IsCleared g level j x →
+pub chips_small : (g : Multigraph) (level : ℕ → ℕ) (j : ℕ) (x : FiringTrace) → IsCleared g level j x →
     (v : ℕ) → v < g.size → unsigned_abs (at x.chips v) ≤ 2 ^ 120
 chips_small g level j x cleared v inside =
     let most : unsigned_abs (at x.chips v) ≤ level_limit_at (j - 1) = cleared.chips v inside in
     let small : level_limit_at (j - 1) < 2 ^ 111 = level_limit_at-small (j - 1) in
     omega arith
 
-pub script_small : (g : Multigraph) (level : ℕ → ℕ) (j : ℕ) (x : Walk) → IsCleared g level j x →
+pub script_small : (g : Multigraph) (level : ℕ → ℕ) (j : ℕ) (x : FiringTrace) → IsCleared g level j x →
     (v : ℕ) → v < g.size → unsigned_abs (at x.script v) ≤ 2 ^ 126
 script_small g level j x cleared v inside =
     let most : unsigned_abs (at x.script v) ≤ level_limit_at (j - 1) = cleared.script v inside in
@@ -63,12 +63,12 @@ debt_within n level j D m M debt small =
     abs_within m M (omega (arith, ints)) (omega (arith, ints)))
     debt.owed
 
-pub debt_small : (g : Multigraph) (level : ℕ → ℕ) (j : ℕ) (x : Walk) (m : ℤ) → IsCleared g level (j + 1) x →
+pub debt_small : (g : Multigraph) (level : ℕ → ℕ) (j : ℕ) (x : FiringTrace) (m : ℤ) → IsCleared g level (j + 1) x →
     IsLargestDebt g.size level j (at x.chips) m → unsigned_abs m ≤ 2 ^ 120
 debt_small g level j x m cleared debt =
     debt_within g.size level j (at x.chips) m (2 ^ 120) debt (chips_small g level (j + 1) x cleared)
 
-pub cleared_free : (g : Multigraph) (level : ℕ → ℕ) (j : ℕ) (x : Walk) → 0 < j → j ≤ 15 → IsCleared g level (j + 1) x →
+pub cleared_free : (g : Multigraph) (level : ℕ → ℕ) (j : ℕ) (x : FiringTrace) → 0 < j → j ≤ 15 → IsCleared g level (j + 1) x →
     IsLargestDebt g.size level j (at x.chips) (pos 0) → IsCleared g level j x
 cleared_free g level j x some few cleared debt =
     let place : level_limit_at ((j + 1) - 1) ≡ level_limit_at j = ap level_limit_at (omega arith) in
@@ -83,7 +83,7 @@ cleared_free g level j x some few cleared debt =
           let small : unsigned_abs (at x.script v) ≤ level_limit_at ((j + 1) - 1) = cleared.script v inside in omega arith;
     }
 
-nearer_fired : (g : Multigraph) (level : ℕ → ℕ) (j k : ℕ) (S : ℕ → Bool) (x y : Walk) → IsFiredInReduction g S (pos k) x y →
+nearer_fired : (g : Multigraph) (level : ℕ → ℕ) (j k : ℕ) (S : ℕ → Bool) (x y : FiringTrace) → IsTraceAfter g S (pos k) x y →
     ((w : ℕ) → w < g.size → S w ≡ nearer level j w) →
     (v : ℕ) → v < g.size → at y.chips v ≡ fired_nearer g level j k (at x.chips) v
 nearer_fired g level j k S x y fires same v inside =
@@ -92,9 +92,9 @@ nearer_fired g level j k S x y fires same v inside =
     (multiple (pos k) (indicator (nearer level j))) v inside
     (λ w below. ap (λ (b : Bool). pos k *ℤ (if b then pos 1 else pos 0)) (same w below))
 
-pub cleared_paid : (g : Multigraph) (q : ℕ) (level : ℕ → ℕ) (j : ℕ) (S : ℕ → Bool) (m : ℤ) (x y : Walk) → IsGraph g →
+pub cleared_paid : (g : Multigraph) (q : ℕ) (level : ℕ → ℕ) (j : ℕ) (S : ℕ → Bool) (m : ℤ) (x y : FiringTrace) → IsGraph g →
     IsDistance g q level → 0 < j → j ≤ 15 → IsCleared g level (j + 1) x → IsLargestDebt g.size level j (at x.chips) m →
-    IsFiredInReduction g S m x y → ((w : ℕ) → w < g.size → S w ≡ nearer level j w) → IsCleared g level j y
+    IsTraceAfter g S m x y → ((w : ℕ) → w < g.size → S w ≡ nearer level j w) → IsCleared g level j y
 cleared_paid g q level j S (negsuc k) x y graph distance some few cleared debt fires same =
     absurd (omega (arith, ints, debt.some))
 cleared_paid g q level j S (pos k) x y graph distance some few cleared debt fires same =

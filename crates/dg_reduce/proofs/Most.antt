@@ -7,12 +7,12 @@
 --   some_leaves     a set without q that has a member has an edge that leaves it
 --   least_is_most   over all vertices, the least is how often the set can fire
 --   most_within     and it is at most what a vertex holds
-use Rattle.dg_reduce.proofs.Common.{if◌then◌else◌, ◌≡◌, ◌≢◌, ℕ, ◌+◌, ◌<◌, ◌≤◌, Bool, true, false, arith, ap, sym, ◌∙◌, ◌⊎◌, inl, inr, ⊎_elim, cases_eq, cases_Bool, ints, ℤ, pos, ◌+ℤ◌, ◌*ℤ◌, *ℤ_comm, ◌≤ℤ◌, ◌<ℤ◌, unsigned_abs, Multigraph, IsMultigraph, edges_between, Amounts, gain, fired, indicator, multiple, edges_out, edges_into, FiresFreely, within_abs, abs_within, mulz-add, one-mul, mul-mono, mul-grows, total_below-term, gain-outside, fired-inside, gain-all_inside, gain-all_outside, Leaves, JoinedInMultigraph-leaves, IsMostReducingFirings, LastsInReduction, LacksForReducingFirings, ReducingSetSendsNothing, largest}
+use Rattle.dg_reduce.proofs.Common.{if◌then◌else◌, ◌≡◌, ◌≢◌, ℕ, ◌+◌, ◌<◌, ◌≤◌, Bool, true, false, arith, ap, sym, ◌∙◌, ◌⊎◌, inl, inr, ⊎_elim, cases_eq, cases_Bool, ints, ℤ, pos, ◌+ℤ◌, ◌*ℤ◌, *ℤ_comm, ◌≤ℤ◌, ◌<ℤ◌, unsigned_abs, Multigraph, IsMultigraph, edges_between, Amounts, gain, fired, indicator, multiple, edges_out, edges_into, IsLegalSetFiring, within_abs, abs_within, mulz-add, one-mul, mul-mono, mul-grows, nat_sum_below-term, gain-outside, fired-inside, gain-all_inside, gain-all_outside, Leaves, IsConnectedTo-leaves, IsMaxFirings, LastsForFirings, LacksForFirings, SendsNothing, largest}
 
 pub off_q : (S : ℕ → Bool) (q v : ℕ) → S q ≡ false → S v ≡ true → v ≢ q
 off_q S q v without member same = let clash : true ≡ false = sym member ∙ ap S same ∙ without in absurd (cc)
 
-pub member_holds : (g : Multigraph) (q : ℕ) (D : Amounts) (S : ℕ → Bool) (v : ℕ) → FiresFreely g q D S → v < g.size →
+pub member_holds : (g : Multigraph) (q : ℕ) (D : Amounts) (S : ℕ → Bool) (v : ℕ) → IsLegalSetFiring g q D S → v < g.size →
     S v ≡ true → pos (edges_out g S v) ≤ℤ D v
 member_holds g q D S v free inside member =
     fired-inside g D S v member (free.no_debt v inside (off_q S q v free.without member))
@@ -21,11 +21,11 @@ pub record IsLeast (g : Multigraph) (D : Amounts) (S : ℕ → Bool) (n : ℕ) (
   pub some : pos 1 ≤ℤ m
   pub few : m ≤ℤ largest
   pub enough : (u : ℕ) → u < n → S u ≡ true → (pos (edges_out g S u) *ℤ m) ≤ℤ D u
-  pub last : ((u : ℕ) × (u < g.size) × LacksForReducingFirings g D S u (m +ℤ pos 1)) ⊎
-      ((m ≡ largest) × ((u : ℕ) → u < n → ReducingSetSendsNothing g S u))
+  pub last : ((u : ℕ) × (u < g.size) × LacksForFirings g D S u (m +ℤ pos 1)) ⊎
+      ((m ≡ largest) × ((u : ℕ) → u < n → SendsNothing g S u))
 
 pub least_lower : (g : Multigraph) (D : Amounts) (S : ℕ → Bool) (n : ℕ) (m t : ℤ) → n < g.size → IsLeast g D S n m →
-    LastsInReduction g D S n t → t <ℤ m → IsLeast g D S (n + 1) t
+    LastsForFirings g D S n t → t <ℤ m → IsLeast g D S (n + 1) t
 least_lower g D S n m t inside before at less = record {
   some = at.some;
   few = at.few;
@@ -38,14 +38,14 @@ least_lower g D S n m t inside before at less = record {
       omega (arith, ints))
       (cases_eq u n);
   last = ⊎_elim
-      (λ (dollars_lacking : LacksForReducingFirings g D S n (t +ℤ pos 1)). inl (n, inside, dollars_lacking))
-      (λ (top : (t ≡ largest) × ReducingSetSendsNothing g S n).
+      (λ (lacks : LacksForFirings g D S n (t +ℤ pos 1)). inl (n, inside, lacks))
+      (λ (top : (t ≡ largest) × SendsNothing g S n).
       let is : t ≡ largest = top.0 in let most : m ≤ℤ largest = before.few in absurd (omega (arith, ints)))
       at.last;
 }
 
 pub least_kept : (g : Multigraph) (D : Amounts) (S : ℕ → Bool) (n : ℕ) (m t : ℤ) → n < g.size → IsLeast g D S n m →
-    LastsInReduction g D S n t → m ≤ℤ t → IsLeast g D S (n + 1) m
+    LastsForFirings g D S n t → m ≤ℤ t → IsLeast g D S (n + 1) m
 least_kept g D S n m t inside before at more = record {
   some = before.some;
   few = before.few;
@@ -58,12 +58,12 @@ least_kept g D S n m t inside before at more = record {
       (λ (other : u ≡ n → ⊥). before.enough u (omega arith) member)
       (cases_eq u n);
   last = ⊎_elim
-      (λ (found : (u : ℕ) × (u < g.size) × LacksForReducingFirings g D S u (m +ℤ pos 1)). inl found)
-      (λ (top : (m ≡ largest) × ((u : ℕ) → u < n → ReducingSetSendsNothing g S u)).
+      (λ (found : (u : ℕ) × (u < g.size) × LacksForFirings g D S u (m +ℤ pos 1)). inl found)
+      (λ (top : (m ≡ largest) × ((u : ℕ) → u < n → SendsNothing g S u)).
       let is : m ≡ largest = top.0 in let most : t ≤ℤ largest = at.few in let same : t ≡ m = omega (arith, ints) in
       ⊎_elim
-      (λ (dollars_lacking : LacksForReducingFirings g D S n (t +ℤ pos 1)). inl (n, inside, rw same at dollars_lacking))
-      (λ (also : (t ≡ largest) × ReducingSetSendsNothing g S n). inr (
+      (λ (lacks : LacksForFirings g D S n (t +ℤ pos 1)). inl (n, inside, rw same at lacks))
+      (λ (also : (t ≡ largest) × SendsNothing g S n). inr (
         is,
         λ u below. ⊎_elim
             (λ (last : u ≡ n). rw last (also.1))
@@ -78,16 +78,16 @@ pub some_leaves : (g : Multigraph) (q : ℕ) (S : ℕ → Bool) (v : ℕ) → Is
     v < g.size → S v ≡ true → (u : ℕ) × (u < g.size) × (S u ≡ true) × (0 < edges_out g S u)
 some_leaves g q S v graph vertex without inside member =
     let out : Leaves g.size (edges_between g) S =
-    JoinedInMultigraph-leaves S inside member (graph.connected v q inside vertex) without in
+    IsConnectedTo-leaves S inside member (graph.connected v q inside vertex) without in
     let term : (if S out.b then 0 else edges_between g out.a out.b) ≤ edges_out g S out.a =
-    total_below-term g.size (λ w. if S w then 0 else edges_between g out.a w) out.b out.to in
+    nat_sum_below-term g.size (λ w. if S w then 0 else edges_between g out.a w) out.b out.to in
     let counts : (if S out.b then 0 else edges_between g out.a out.b) ≡ edges_between g out.a out.b =
     ap (λ (b : Bool). if b then 0 else edges_between g out.a out.b) out.outside in
     let edge : 0 < edges_between g out.a out.b = out.edge in
     (out.a, out.from, out.within, omega arith)
 
 pub least_is_most : (g : Multigraph) (q : ℕ) (D : Amounts) (S : ℕ → Bool) (m : ℤ) → IsMultigraph g → q < g.size →
-    FiresFreely g q D S → (v : ℕ) × (v < g.size) × (S v ≡ true) → IsLeast g D S g.size m → IsMostReducingFirings g q D S m
+    IsLegalSetFiring g q D S → (v : ℕ) × (v < g.size) × (S v ≡ true) → IsLeast g D S g.size m → IsMaxFirings g q D S m
 least_is_most g q D S m graph vertex free (v, inside, member) least = record {
   some = least.some;
   no_debt = λ u below other. ⊎_elim
@@ -107,12 +107,12 @@ least_is_most g q D S m graph vertex free (v, inside, member) least = record {
       omega (arith, ints))
       (cases_Bool (S u));
   last = ⊎_elim
-      (λ (found : (u : ℕ) × (u < g.size) × LacksForReducingFirings g D S u (m +ℤ pos 1)).
+      (λ (found : (u : ℕ) × (u < g.size) × LacksForFirings g D S u (m +ℤ pos 1)).
       let (u, below, (on, less)) = found in
       let lost : gain g (multiple (m +ℤ pos 1) (indicator S)) u +ℤ pos (edges_out g S u) *ℤ (m +ℤ pos 1) ≡ pos 0 =
       gain-all_inside g (m +ℤ pos 1) S u on in
       (u, below, on, omega (arith, ints)))
-      (λ (top : (m ≡ largest) × ((u : ℕ) → u < g.size → ReducingSetSendsNothing g S u)).
+      (λ (top : (m ≡ largest) × ((u : ℕ) → u < g.size → SendsNothing g S u)).
       let (u, below, on, some) = some_leaves g q S v graph vertex free.without inside member in
       let none : edges_out g S u ≡ 0 = top.1 u below on in
       absurd (omega arith))
@@ -120,7 +120,7 @@ least_is_most g q D S m graph vertex free (v, inside, member) least = record {
 }
 
 pub most_within : (g : Multigraph) (q : ℕ) (D : Amounts) (S : ℕ → Bool) (m : ℤ) (M : ℕ) → S q ≡ false →
-    IsMostReducingFirings g q D S m →
+    IsMaxFirings g q D S m →
     ((v : ℕ) → v < g.size → unsigned_abs (D v) ≤ M) → unsigned_abs m ≤ M
 most_within g q D S m M without most small =
     let (u, below, on, less) = most.last in

@@ -5,7 +5,7 @@
 --   reduced_only      the reduced divisor and its script that is 0 at q are the only ones
 --   reduction_within  a reduced divisor and a script that leads to it and is 0 at q are a reduction, within a bound
 --                     that the range of the amounts gives
-use Rattle.dg_reduce.proofs.Common.{◌≡◌, ◌≢◌, ℕ, ◌+◌, ◌*◌, ◌<◌, ◌≤◌, ◌==◌, Bool, arith, ap, sym, ◌∙◌, refl, ints, eq-eqb, eqb-true, ne_eqb, pos, ◌+ℤ◌, ◌-ℤ◌, ◌≤ℤ◌, unsigned_abs, Multigraph, valence, Amounts, DivisorsAgreeOn, AreEquivalent, FiresTo, fired, edges_out, IsReduced, script_bound, same_by_constant, out-le-valence, agree-trans, equivalent-fired, equivalent-sym, equivalent-trans, reduced_once, fired-shifted, IsGraph, at, Reduced, IsOnlyReduction, IsReduction}
+use Rattle.dg_reduce.proofs.Common.{◌≡◌, ◌≢◌, ℕ, ◌+◌, ◌*◌, ◌<◌, ◌≤◌, ◌==◌, Bool, arith, ap, sym, ◌∙◌, refl, ints, eq-eqb, eqb-true, ne_eqb, pos, ◌+ℤ◌, ◌-ℤ◌, ◌≤ℤ◌, unsigned_abs, Multigraph, valence, Amounts, DivisorsAgreeOn, AreEquivalent, FiresTo, fired, edges_out, IsReduced, script_bound, same_by_constant, out-le-valence, agree-trans, equivalent-fired, equivalent-sym, equivalent-trans, reduced_once, fired-shifted, IsGraph, at, Reduced, IsUniqueReduction, IsReduction}
 
 pub reduced_few : (g : Multigraph) (q : ℕ) (D : Amounts) (v : ℕ) → IsGraph g → IsReduced g q D → v < g.size → v ≢ q →
     D v ≤ℤ pos 62
@@ -27,13 +27,13 @@ script_near g q D R s M graph vertex range reduced leads v inside =
 
 pub relative_leads : (g : Multigraph) (q : ℕ) (D R s t : Amounts) → ((v : ℕ) → v < g.size → R v ≡ fired g D s v) →
     ((v : ℕ) → v < g.size → t v ≡ s v -ℤ s q) → (v : ℕ) → v < g.size → R v ≡ fired g D t v
-relative_leads g q D R s t leads script_relative_to v inside =
+relative_leads g q D R s t leads relative v inside =
     leads v inside
     ∙ fired-shifted g D s t (s q)
-    (λ w below. let at : t w ≡ s w -ℤ s q = script_relative_to w below in omega (arith, ints)) v inside
+    (λ w below. let at : t w ≡ s w -ℤ s q = relative w below in omega (arith, ints)) v inside
 
 pub reduced_only : (g : Multigraph) (q : ℕ) (D R s : Amounts) → IsGraph g → q < g.size → IsReduced g q R →
-    ((v : ℕ) → v < g.size → R v ≡ fired g D s v) → s q ≡ pos 0 → IsOnlyReduction g q D R s
+    ((v : ℕ) → v < g.size → R v ≡ fired g D s v) → s q ≡ pos 0 → IsUniqueReduction g q D R s
 reduced_only g q D R s graph vertex reduced leads at_q t also_q other v inside =
     let class : AreEquivalent g (fired g D t) R =
     equivalent-trans g (fired g D t) D R (equivalent-sym g D (fired g D t) (equivalent-fired g D t)) (s, leads) in

@@ -11,7 +11,7 @@
 --   reached-next      once all vertices of a level are passed, it is the turn of the next
 --   reached-gradual   when no level is left, the levels are gradual
 --   levels-first      so the list at the start is right
-use Rattle.dg_reduce.proofs.Common.{◌≡◌, ◌≢◌, ℕ, ◌+◌, ◌<◌, ◌≤◌, set, replicate, slice_index, arith, ap, sym, subst, ◌∙◌, ⊎_elim, cases_eq, cases_lt, nat_tests, get_or-set_same, get_or-set_other, get_or-replicate, length-replicate, Multigraph, IsMultigraph, edges_between, IsGradual, HasNearerLevel, IsLevelReached, spread_level}
+use Rattle.dg_reduce.proofs.Common.{◌≡◌, ◌≢◌, ℕ, ◌+◌, ◌<◌, ◌≤◌, set, replicate, slice_index, arith, ap, sym, subst, ◌∙◌, ⊎_elim, cases_eq, cases_lt, nat_tests, get_or-set_same, get_or-set_other, get_or-replicate, length-replicate, Multigraph, IsMultigraph, edges_between, IsGradual, HasNearer, AreLevelsReached, spread_level}
 
 spread_level-new : (g : Multigraph) (v k : ℕ) (level : ℕ → ℕ) (w : ℕ) → level w ≡ g.size → 0 < edges_between g v w →
     spread_level g v k level w ≡ k
@@ -57,7 +57,7 @@ spread_level-kept g v k level after w spreads inside most few low =
     (λ far same. absurd (omega arith))
 
 pub reached-first : (g : Multigraph) (q : ℕ) (level : ℕ → ℕ) → q < g.size → level q ≡ 0 →
-    ((v : ℕ) → v < g.size → v ≢ q → level v ≡ g.size) → IsLevelReached g q 0 0 level
+    ((v : ℕ) → v < g.size → v ≢ q → level v ≡ g.size) → AreLevelsReached g q 0 0 level
 reached-first g q level vertex start others = record {
   start = start;
   most = λ v inside. ⊎_elim
@@ -74,8 +74,8 @@ reached-first g q level vertex start others = record {
 }
 
 reached_nearer : (g : Multigraph) (q k v : ℕ) (level after : ℕ → ℕ) → IsMultigraph g → v < g.size → k + 1 < g.size →
-    IsLevelReached g q k v level → level v ≡ k → AreSpread g v (k + 1) level after → (w : ℕ) → w < g.size → w ≢ q →
-    after w < g.size → HasNearerLevel g after w
+    AreLevelsReached g q k v level → level v ≡ k → AreSpread g v (k + 1) level after → (w : ℕ) → w < g.size → w ≢ q →
+    after w < g.size → HasNearer g after w
 reached_nearer g q k v level after graph vertex few state at spreads w inside other near =
     by_spread g v (k + 1) level after w spreads inside (state.most w inside)
     (λ low same.
@@ -91,7 +91,7 @@ reached_nearer g q k v level after graph vertex few state at spreads w inside ot
     (λ far same. absurd (omega arith))
 
 reached_by : (g : Multigraph) (q k v : ℕ) (level after : ℕ → ℕ) → IsMultigraph g → k + 1 < g.size →
-    IsLevelReached g q k v level → AreSpread g v (k + 1) level after → (a : ℕ) → a < g.size → 0 < edges_between g a v →
+    AreLevelsReached g q k v level → AreSpread g v (k + 1) level after → (a : ℕ) → a < g.size → 0 < edges_between g a v →
     after a ≤ k + 1
 reached_by g q k v level after graph few state spreads a inside edge =
     by_spread g v (k + 1) level after a spreads inside (state.most a inside)
@@ -102,8 +102,8 @@ reached_by g q k v level after graph few state spreads a inside edge =
     omega (arith, spreads a inside, spread_level-new g v (k + 1) level a far out))
 
 pub reached-passed : (g : Multigraph) (q k v : ℕ) (level after : ℕ → ℕ) → IsMultigraph g → q < g.size → v < g.size →
-    k + 1 < g.size → IsLevelReached g q k v level → level v ≡ k → AreSpread g v (k + 1) level after →
-    IsLevelReached g q k (v + 1) after
+    k + 1 < g.size → AreLevelsReached g q k v level → level v ≡ k → AreSpread g v (k + 1) level after →
+    AreLevelsReached g q k (v + 1) after
 reached-passed g q k v level after graph start vertex few state at spreads =
     let lower : (w : ℕ) → w < g.size → after w ≤ level w =
     λ w inside. spread_level-lower g v (k + 1) level after w spreads inside (state.most w inside) (omega arith) in
@@ -130,8 +130,8 @@ reached-passed g q k v level after graph start vertex few state at spreads =
           (cases_eq b v);
     }
 
-pub reached-other : (g : Multigraph) (q k v : ℕ) (level : ℕ → ℕ) → IsLevelReached g q k v level → level v ≢ k →
-    IsLevelReached g q k (v + 1) level
+pub reached-other : (g : Multigraph) (q k v : ℕ) (level : ℕ → ℕ) → AreLevelsReached g q k v level → level v ≢ k →
+    AreLevelsReached g q k (v + 1) level
 reached-other g q k v level state off = record {
   start = state.start;
   most = state.most;
@@ -144,8 +144,8 @@ reached-other g q k v level state off = record {
       (cases_eq b v);
 }
 
-pub reached-next : (g : Multigraph) (q k u : ℕ) (level : ℕ → ℕ) → IsLevelReached g q k u level → g.size ≤ u →
-    IsLevelReached g q (k + 1) 0 level
+pub reached-next : (g : Multigraph) (q k u : ℕ) (level : ℕ → ℕ) → AreLevelsReached g q k u level → g.size ≤ u →
+    AreLevelsReached g q (k + 1) 0 level
 reached-next g q k u level state all = record {
   start = state.start;
   most = state.most;
@@ -159,7 +159,7 @@ reached-next g q k u level state all = record {
   passed = λ a b a_below b_below edge on before. absurd (omega arith);
 }
 
-pub reached-gradual : (g : Multigraph) (q k u : ℕ) (level : ℕ → ℕ) → IsLevelReached g q k u level → g.size ≤ k + 1 →
+pub reached-gradual : (g : Multigraph) (q k u : ℕ) (level : ℕ → ℕ) → AreLevelsReached g q k u level → g.size ≤ k + 1 →
     IsGradual g q level
 reached-gradual g q k u level state all = record {
   start = state.start;
@@ -170,7 +170,7 @@ reached-gradual g q k u level state all = record {
 }
 
 pub levels-first : (g : Multigraph) (q n : ℕ) → q < g.size → n ≡ g.size → n ≤ 16 →
-    IsLevelReached g q 0 0 (slice_index (set (replicate 16 n) q 0))
+    AreLevelsReached g q 0 0 (slice_index (set (replicate 16 n) q 0))
 levels-first g q n vertex whole few =
     reached-first g q (slice_index (set (replicate 16 n) q 0)) vertex
     (get_or-set_same (replicate 16 n) q 0 0 (omega (arith, length-replicate 16 n)))

@@ -2,7 +2,7 @@
 --   tied-start     a script of zeros leads from amounts to the same
 --   tied-more      after another script, the sum of both leads to the new amounts
 --   cleared-start  at the start no level beyond the farthest is in debt
-use Rattle.dg_reduce.proofs.Common.{◌≡◌, ℕ, ◌-◌, ◌<◌, ◌≤◌, arith, ap, sym, ◌∙◌, ℤ, pos, ◌+ℤ◌, unsigned_abs, Multigraph, Amounts, gain, fired, IsDistance, fired-fired, fired-constant, fired-cong, IsGraph, at, Walk, IsTiedInReduction, IsCleared}
+use Rattle.dg_reduce.proofs.Common.{◌≡◌, ℕ, ◌-◌, ◌<◌, ◌≤◌, arith, ap, sym, ◌∙◌, ℤ, pos, ◌+ℤ◌, unsigned_abs, Multigraph, Amounts, gain, fired, IsDistance, fired-fired, fired-constant, fired-cong, IsGraph, at, FiringTrace, IsFiringTrace, IsCleared}
 use Rattle.dg_reduce.specs.States.{level_limit_at}
 use Rattle.dg_reduce.proofs.LevelLimits.{level_limit_at-least}
 
@@ -19,8 +19,8 @@ tied-more g C D E s t u before now more v inside =
     ∙ fired-fired g C s u v
     ∙ fired-cong g C (λ w. s w +ℤ u w) t v inside (λ w below. sym (more w below))
 
-pub cleared-start : (g : Multigraph) (q : ℕ) (level : ℕ → ℕ) (x : Walk) → IsGraph g → IsDistance g q level →
-    IsTiedInReduction g x →
+pub cleared-start : (g : Multigraph) (q : ℕ) (level : ℕ → ℕ) (x : FiringTrace) → IsGraph g → IsDistance g q level →
+    IsFiringTrace g x →
     ((v : ℕ) → v < g.size → unsigned_abs (at x.chips v) ≤ 2000000) → ((v : ℕ) → at x.script v ≡ pos 0) →
     IsCleared g level g.size x
 cleared-start g q level x graph distance tied range none =

@@ -6,20 +6,20 @@ ghost use Rattle.dg_theory.specs.Reduced.{IsReduced};
 ghost use Rattle.dg_graph.specs.Graph.{IsGraph};
 ghost use Rattle.dg_chips.specs.Vector.{at};
 ghost use Rattle.dg_reduce.specs.declared.limits.TheConstants.{MAX_START};
-ghost use Rattle.dg_reduce.specs.States.{IsTiedInReduction, IsClearedOff};
+ghost use Rattle.dg_reduce.specs.States.{IsFiringTrace, IsClearedOff};
 
 use crate::next_firing::next_firing;
-use crate::walk::Walk;
+use crate::walk::FiringTrace;
 use dg_graph::Graph;
 
 /// Lets the vertices that burning leaves lend, as often at once as they can, until all burn.
-pub fn reduce_by_burning(graph: &Graph, q: usize, walk: &Walk) -> Walk
+pub fn fire_unburnt_sets(graph: &Graph, q: usize, walk: &FiringTrace) -> FiringTrace
     requires graph { IsGraph graph.now }
     requires vertex { q < graph.now.size }
     requires range { (v : ℕ) → v < graph.now.size → unsigned_abs (at walk.now.start v) ≤ MAX_START }
     requires cleared { IsClearedOff graph.now q walk.now }
     ensures reduced { IsReduced graph.now q (at result.chips) }
-    ensures tied { IsTiedInReduction graph.now result }
+    ensures tied { IsFiringTrace graph.now result }
     ensures start { result.start ≡ walk.now.start }
 {
     let mut now = *walk;

@@ -6,7 +6,7 @@ ghost use Rattle.std.specs.Int.RustNames.{unsigned_abs};
 ghost use Rattle.dg_chips.specs.Vector.{at};
 ghost use Rattle.dg_reduce.specs.Reductions.{IsReduction};
 
-use crate::burning_down::reduce_by_burning;
+use crate::burning_down::fire_unburnt_sets;
 use crate::clearing::clear_levels;
 use crate::levels::levels_from;
 use crate::limits::MAX_START;
@@ -21,7 +21,7 @@ use dg_graph::Graph;
 /// dollars there. So q counts as 0 in between, and only the script of the inner reduction is used.
 #[cold]
 #[inline(never)]
-pub fn reduce_after(graph: &Graph, q: usize, chips: &Wide, script: &Script) -> Reduced
+pub fn reduce_from_script(graph: &Graph, q: usize, chips: &Wide, script: &Script) -> Reduced
     requires size { chips.now.size ≡ graph.now.size }
     requires vertex { q < graph.now.size }
     requires script { script.now.size ≡ graph.now.size }
@@ -31,7 +31,7 @@ pub fn reduce_after(graph: &Graph, q: usize, chips: &Wide, script: &Script) -> R
 {
     let _size = graph.size();
     let left = chips.fired_by(graph, script).with_amount(q, 0);
-    if !is_within_reduction_limit(&left) {
+    if !may_reduce(&left) {
         return reduce_by_levels(graph, q, chips);
     }
     let sum = script.plus(&reduce_by_levels(graph, q, &left).script);
@@ -42,7 +42,7 @@ pub fn reduce_after(graph: &Graph, q: usize, chips: &Wide, script: &Script) -> R
 }
 
 /// Whether a reduction may start from these amounts: all are within 2,000,000.
-pub fn is_within_reduction_limit(chips: &Wide) -> bool
+pub fn may_reduce(chips: &Wide) -> bool
     ensures small { OnTrue result
         ((v : ℕ) → v < chips.now.size → unsigned_abs (at chips.now v) ≤ MAX_START) }
     ensures large { OnFalse result
@@ -67,9 +67,9 @@ pub fn reduce_by_levels(graph: &Graph, q: usize, chips: &Wide) -> Reduced
     let _size = graph.size();
     let levels = levels_from(graph, q);
     let cleared = clear_levels(graph, &levels, chips);
-    let walk = reduce_by_burning(graph, q, &cleared);
+    let walk = fire_unburnt_sets(graph, q, &cleared);
     Reduced {
         divisor: walk.chips,
-        script: Script::script_relative_to(&walk.script, q),
+        script: Script::relative_to(&walk.script, q),
     }
 }

@@ -2,11 +2,11 @@
 
 ghost use Rattle.std.specs.Prelude.{◌≡◌, ℕ, ◌<◌, ◌≤◌, MatchBool, MatchOption, IfSome};
 ghost use Rattle.std.specs.Bool.{OnTrue};
-ghost use Rattle.dg_theory.specs.Firing.{HasNoDebtOff};
+ghost use Rattle.dg_theory.specs.Firing.{IsEffectiveOff};
 ghost use Rattle.dg_theory.specs.Reduced.{IsReduced};
 ghost use Rattle.dg_chips.specs.Vector.{at};
-ghost use Rattle.dg_reduce.specs.Certificates.{IsCertifyingOrder};
-ghost use Rattle.dg_reduce.specs.Burnings.{CertifiesReduced, IsGuessedOff};
+ghost use Rattle.dg_reduce.specs.Certificates.{IsFullOrder};
+ghost use Rattle.dg_reduce.specs.Burnings.{CertifiesBurning, CoversOff};
 
 use dg_burn::burn;
 use dg_chips::Wide;
@@ -21,8 +21,8 @@ pub struct Burning {
     pub order: [u8; 16],
 }
 
-/// What `reduced_order` answers, if a burning is at hand: one of the same amounts serves for another.
-pub(crate) fn reduced_order_by(
+/// What `burning_order` answers, if a burning is at hand: one of the same amounts serves for another.
+pub(crate) fn burning_order_by(
     graph: &Graph,
     q: usize,
     chips: &Wide,
@@ -30,24 +30,24 @@ pub(crate) fn reduced_order_by(
 ) -> Option<[u8; 16]>
     requires size { chips.now.size ≡ graph.now.size }
     requires vertex { q < graph.now.size }
-    requires known { IfSome known.now (λ x. CertifiesReduced graph.now q x) }
+    requires known { IfSome known.now (λ x. CertifiesBurning graph.now q x) }
     ensures { MatchOption result
         (¬ IsReduced graph.now q (at chips.now))
         (λ order. IsReduced graph.now q (at chips.now) ×
-        IsCertifyingOrder graph.now q (at chips.now) order) }
+        IsFullOrder graph.now q (at chips.now) order) }
 {
     let _size = graph.size();
     if let Some(burning) = known {
-        if certifies_amounts(q, chips, &burning.held) {
+        if certifies(q, chips, &burning.held) {
             return Some(burning.order);
         }
     }
-    reduced_order(graph, q, chips)
+    burning_order(graph, q, chips)
 }
 
 /// Whether each vertex but q has as many dollars as it is held to have.
-fn certifies_amounts(q: usize, chips: &Wide, held: &[u8; 16]) -> bool
-    ensures { OnTrue result (IsGuessedOff chips.now.size q (at chips.now) held.now) }
+fn certifies(q: usize, chips: &Wide, held: &[u8; 16]) -> bool
+    ensures { OnTrue result (CoversOff chips.now.size q (at chips.now) held.now) }
 {
     for v in 0..chips.size() {
         if v != q && chips.get(v) != i128::from(held[v]) {
@@ -59,15 +59,15 @@ fn certifies_amounts(q: usize, chips: &Wide, held: &[u8; 16]) -> bool
 
 /// The order in which all vertices burn from q, the least first, which shows that the amounts are reduced; `None` if
 /// they are not.
-pub fn reduced_order(graph: &Graph, q: usize, chips: &Wide) -> Option<[u8; 16]>
+pub fn burning_order(graph: &Graph, q: usize, chips: &Wide) -> Option<[u8; 16]>
     requires size { chips.now.size ≡ graph.now.size }
     requires vertex { q < graph.now.size }
     ensures { MatchOption result
         (¬ IsReduced graph.now q (at chips.now))
         (λ order. IsReduced graph.now q (at chips.now) ×
-        IsCertifyingOrder graph.now q (at chips.now) order) }
+        IsFullOrder graph.now q (at chips.now) order) }
 {
-    if !is_solvent_off(graph, q, chips) {
+    if !is_effective_off(graph, q, chips) {
         return None;
     }
     let burnt = burn(graph, q, chips);
@@ -78,11 +78,11 @@ pub fn reduced_order(graph: &Graph, q: usize, chips: &Wide) -> Option<[u8; 16]>
 }
 
 /// Whether nobody off q is in debt.
-pub fn is_solvent_off(graph: &Graph, q: usize, chips: &Wide) -> bool
+pub fn is_effective_off(graph: &Graph, q: usize, chips: &Wide) -> bool
     requires { chips.now.size ≡ graph.now.size }
     ensures { MatchBool result
-        (HasNoDebtOff graph.now q (at chips.now))
-        (¬ HasNoDebtOff graph.now q (at chips.now)) }
+        (IsEffectiveOff graph.now q (at chips.now))
+        (¬ IsEffectiveOff graph.now q (at chips.now)) }
 {
     for v in 0..graph.size() {
         if v != q && chips.get(v) < 0 {

@@ -8,13 +8,13 @@ ghost use Rattle.dg_chips.specs.Vector.{at};
 ghost use Rattle.dg_reduce.specs.declared.limits.TheConstants.{MAX_START};
 ghost use Rattle.dg_reduce.specs.States.{IsCleared};
 
-use crate::levels::{largest_debt_at_level, nearer_set};
-use crate::walk::Walk;
+use crate::levels::{largest_debt, nearer_set};
+use crate::walk::FiringTrace;
 use dg_chips::Wide;
 use dg_graph::Graph;
 
 /// Clears the debts off the vertex that the levels are counted from, from the farthest level to the nearest.
-pub fn clear_levels(graph: &Graph, levels: &[usize; 16], chips: &Wide) -> Walk
+pub fn clear_levels(graph: &Graph, levels: &[usize; 16], chips: &Wide) -> FiringTrace
     requires graph { IsGraph graph.now }
     requires size { chips.now.size ≡ graph.now.size }
     requires range { (v : ℕ) → v < graph.now.size → unsigned_abs (at chips.now v) ≤ MAX_START }
@@ -22,7 +22,7 @@ pub fn clear_levels(graph: &Graph, levels: &[usize; 16], chips: &Wide) -> Walk
     ensures cleared { IsCleared graph.now (slice_index levels.now) 1 result }
     ensures start { result.start ≡ chips.now }
 {
-    let mut walk = Walk::new(graph, chips);
+    let mut walk = FiringTrace::new(graph, chips);
     let mut level = graph.size() - 1;
     'levels: while level > 0 {
         walk = clear_level(graph, levels, level, &walk);
@@ -32,7 +32,7 @@ pub fn clear_levels(graph: &Graph, levels: &[usize; 16], chips: &Wide) -> Walk
 }
 
 /// Clears the debts of a level: all nearer vertices lend as often as the largest of these debts has dollars.
-fn clear_level(graph: &Graph, levels: &[usize; 16], level: usize, walk: &Walk) -> Walk
+fn clear_level(graph: &Graph, levels: &[usize; 16], level: usize, walk: &FiringTrace) -> FiringTrace
     requires some { 0 < level }
     requires few { level ≤ 15 }
     requires distance { (q : ℕ) × IsDistance graph.now q (slice_index levels.now) }
@@ -40,7 +40,7 @@ fn clear_level(graph: &Graph, levels: &[usize; 16], level: usize, walk: &Walk) -
     ensures cleared { IsCleared graph.now (slice_index levels.now) level result }
     ensures start { result.start ≡ walk.now.start }
 {
-    let debt = largest_debt_at_level(levels, level, &walk.chips);
+    let debt = largest_debt(levels, level, &walk.chips);
     if debt == 0 {
         return *walk;
     }

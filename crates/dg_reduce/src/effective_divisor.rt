@@ -4,15 +4,15 @@ ghost use Rattle.std.specs.Prelude.{◌≡◌, ℕ, ◌<◌, ◌≤◌, ◌^◌,
 ghost use Rattle.std.specs.List.{slice_index_or};
 ghost use Rattle.std.specs.Int.RustNames.{unsigned_abs};
 ghost use Rattle.dg_theory.specs.Multigraph.{valence};
-ghost use Rattle.dg_theory.specs.Firing.{only_at, indicator, gain, FiresTo, IsEffective, HasNoDebtOff};
+ghost use Rattle.dg_theory.specs.Firing.{only_at, indicator, gain, FiresTo, IsEffective, IsEffectiveOff};
 ghost use Rattle.dg_theory.specs.Play.{IsWinnable};
 ghost use Rattle.dg_theory.specs.Reduced.{edges_out, IsReduced};
 ghost use Rattle.dg_graph.specs.declared.limits.TheConstants.{MAX_VERTICES};
 ghost use Rattle.dg_graph.specs.Sets.{in_set};
 ghost use Rattle.dg_chips.specs.Vector.{at};
-ghost use Rattle.dg_burn.specs.Fires.{IsHeldForFire};
-ghost use Rattle.dg_reduce.specs.Effective.{IsEffectiveDivisor};
-ghost use Rattle.dg_reduce.specs.Rests.{IsRestInReduction, IsFloorOff, StaysAboveFloor};
+ghost use Rattle.dg_burn.specs.Fires.{AreCapped};
+ghost use Rattle.dg_reduce.specs.Effective.{IsInLinearSystem};
+ghost use Rattle.dg_reduce.specs.Rests.{IsUnburntRest, IsFloorOff, StaysAboveFloor};
 
 use dg_burn::{BurnCounts, burn_counted};
 use dg_chips::Wide;
@@ -72,20 +72,20 @@ impl EffectiveDivisor {
     }
 
     /// How many dollars each vertex has less than the number there, or than `most` if that is less; 0 past the last vertex.
-    pub fn dollars_lacking(&self, numbers: &[u32; 16], most: u32) -> [u32; 16]
+    pub fn shortfalls(&self, numbers: &[u32; 16], most: u32) -> [u32; 16]
         requires { IsEffective self.now.size (at self.now) }
-        ensures dollars_lacking { (v : ℕ) → v < self.now.size → slice_index result v
+        ensures lacks { (v : ℕ) → v < self.now.size → slice_index result v
             ≡ min (slice_index numbers.now v) most - unsigned_abs (at self.now v) }
         ensures past { (v : ℕ) → self.now.size ≤ v → slice_index result v ≡ 0 }
     {
         let amounts = &self.amounts;
-        let mut dollars_lacking = [0; 16];
+        let mut lacks = [0; 16];
         for v in 0..self.size {
-            dollars_lacking[v] = numbers[v]
+            lacks[v] = numbers[v]
                 .min(most)
                 .saturating_sub(amounts[v].unsigned_abs());
         }
-        dollars_lacking
+        lacks
     }
 
     /// Gives dollars to a vertex.
@@ -118,28 +118,28 @@ impl EffectiveDivisor {
     pub fn repay(&mut self, graph: &Graph, v: usize) -> bool
         requires size { self.old.size ≡ graph.now.size }
         requires vertex { v < graph.now.size }
-        requires no_debt { HasNoDebtOff graph.now v (at self.old) }
+        requires no_debt { IsEffectiveOff graph.now v (at self.old) }
         requires range { (w : ℕ) → w < graph.now.size → unsigned_abs (at self.old w) ≤ 2 ^ 26 }
         ensures { MatchBool result
-            (IsEffectiveDivisor graph.now (at self.old) self.new)
+            (IsInLinearSystem graph.now (at self.old) self.new)
             (¬ IsWinnable graph.now (at self.old)) }
     {
         if self.get(v) >= 0 {
             return true;
         }
-        self.pay(graph, v)
+        self.repay_debt(graph, v)
     }
 
     /// The slow half of `repay`: pays back what the vertex owes. It stands apart, as most calls find no debt.
     #[inline(never)]
-    fn pay(&mut self, graph: &Graph, v: usize) -> bool
+    fn repay_debt(&mut self, graph: &Graph, v: usize) -> bool
         requires size { self.old.size ≡ graph.now.size }
         requires vertex { v < graph.now.size }
         requires owes { at self.old v <ℤ pos 0 }
-        requires no_debt { HasNoDebtOff graph.now v (at self.old) }
+        requires no_debt { IsEffectiveOff graph.now v (at self.old) }
         requires range { (w : ℕ) → w < graph.now.size → unsigned_abs (at self.old w) ≤ 2 ^ 26 }
         ensures { MatchBool result
-            (IsEffectiveDivisor graph.now (at self.old) self.new)
+            (IsInLinearSystem graph.now (at self.old) self.new)
             (¬ IsWinnable graph.now (at self.old)) }
     {
         // For the prover: `size` says that the graph is within its limits.
@@ -150,20 +150,20 @@ impl EffectiveDivisor {
         };
         'paying: while self.get(v) < 0 {
             // Burning takes longer than this test, and the same set often lends many times.
-            if !self.can_reduce_rest(&rest, &floor) {
+            if !self.can_fire(&rest, &floor) {
                 let Some(next) = self.rest(graph, v) else {
                     return false;
                 };
                 rest = next;
             }
-            self.fire_rest(graph, &rest);
+            self.fire(graph, &rest);
         }
         true
     }
 
     /// Whether each amount stays at its floor or above when a set that burning left lends once.
     #[inline(always)]
-    fn can_reduce_rest(&self, rest: &Rest, floor: &[i32; 16]) -> bool
+    fn can_fire(&self, rest: &UnburntSet, floor: &[i32; 16]) -> bool
         requires small { (v : ℕ) → unsigned_abs (slice_index_or rest.now.gains v (pos 0)) ≤ 63 }
         requires range { (v : ℕ) → v < self.now.size → unsigned_abs (at self.now v) ≤ 2 ^ 31 - 64 }
         ensures { MatchBool result
@@ -173,7 +173,7 @@ impl EffectiveDivisor {
         let amounts = &self.amounts;
         let mut stays = true;
         for v in 0..16 {
-            if reduced_with_gain(amounts[v], rest.gains[v]) < floor[v] {
+            if with_gain(amounts[v], rest.gains[v]) < floor[v] {
                 stays = false;
             }
         }
@@ -182,37 +182,37 @@ impl EffectiveDivisor {
 
     /// What burning from a vertex leaves, if it leaves something.
     #[inline(always)]
-    fn rest(&self, graph: &Graph, v: usize) -> Option<Rest>
+    fn rest(&self, graph: &Graph, v: usize) -> Option<UnburntSet>
         requires size { self.now.size ≡ graph.now.size }
         requires vertex { v < graph.now.size }
-        requires no_debt { HasNoDebtOff graph.now v (at self.now) }
+        requires no_debt { IsEffectiveOff graph.now v (at self.now) }
         ensures { MatchOption result
             (IsReduced graph.now v (at self.now))
-            (IsRestInReduction graph.now v (at self.now)) }
+            (IsUnburntRest graph.now v (at self.now)) }
     {
         let _size = graph.size();
         let counted = burn_counted(graph, v, &self.held());
         if counted.burnt.unburnt == 0 {
             return None;
         }
-        Some(Rest {
+        Some(UnburntSet {
             set: counted.burnt.unburnt,
-            gains: gains_in_reduction(graph, &counted),
+            gains: rest_gains(graph, &counted),
         })
     }
 
     /// The amounts as far as burning looks at them.
     #[inline(always)]
     fn held(&self) -> [u8; 16]
-        ensures { IsHeldForFire self.now.size (at self.now) result }
+        ensures { AreCapped self.now.size (at self.now) result }
     {
         let _size = self.size;
-        seen_by_reduction(&self.amounts)
+        capped_i32s(&self.amounts)
     }
 
     /// Lets each vertex that burning left lend once.
     #[inline(always)]
-    fn fire_rest(&mut self, graph: &Graph, rest: &Rest)
+    fn fire(&mut self, graph: &Graph, rest: &UnburntSet)
         requires size { self.old.size ≡ graph.now.size }
         requires gains { (v : ℕ) → v < MAX_VERTICES → slice_index_or rest.now.gains v (pos 0)
             ≡ gain graph.now (indicator (in_set rest.now.set)) v }
@@ -225,15 +225,15 @@ impl EffectiveDivisor {
         let size = graph.size();
         let mut amounts = self.amounts;
         for v in 0..16 {
-            amounts[v] = reduced_with_gain(amounts[v], rest.gains[v]);
+            amounts[v] = with_gain(amounts[v], rest.gains[v]);
         }
         *self = EffectiveDivisor { size, amounts };
     }
 }
 
 /// The amounts as far as burning looks at them: 0 for a debt, and 64 for more than 64.
-pub(crate) fn seen_by_reduction(amounts: &[i32; 16]) -> [u8; 16]
-    ensures { IsHeldForFire MAX_VERTICES (λ v. slice_index_or amounts.now v (pos 0)) result }
+pub(crate) fn capped_i32s(amounts: &[i32; 16]) -> [u8; 16]
+    ensures { AreCapped MAX_VERTICES (λ v. slice_index_or amounts.now v (pos 0)) result }
 {
     let mut held = [0; 16];
     for v in 0..16 {
@@ -244,7 +244,7 @@ pub(crate) fn seen_by_reduction(amounts: &[i32; 16]) -> [u8; 16]
 
 /// A set that burning left, and what each vertex gains if each of the set lends once.
 #[derive(Clone, Copy)]
-struct Rest {
+struct UnburntSet {
     set: u16,
     gains: [i32; 16],
 }
@@ -260,7 +260,7 @@ fn floor_off(v: usize) -> [i32; 16]
 }
 
 /// What each vertex gains if each vertex that burning left lends once.
-fn gains_in_reduction(graph: &Graph, rest: &BurnCounts) -> [i32; 16]
+fn rest_gains(graph: &Graph, rest: &BurnCounts) -> [i32; 16]
     requires { (v : ℕ) →
         slice_index rest.now.joined v ≡ edges_out graph.now (in_set rest.now.burnt.unburnt) v }
     ensures gains { (v : ℕ) → v < MAX_VERTICES →
@@ -300,7 +300,7 @@ fn difference(more: u8, less: u8) -> i8
 }
 
 /// An amount with what is gained.
-fn reduced_with_gain(amount: i32, gain: i32) -> i32
+fn with_gain(amount: i32, gain: i32) -> i32
     requires amount { unsigned_abs amount ≤ 2 ^ 31 - 64 }
     requires gain { unsigned_abs gain ≤ 63 }
     ensures { result ≡ amount +ℤ gain }

@@ -8,11 +8,11 @@ ghost use Rattle.std.specs.List.{slice_index_or};
 ghost use Rattle.std.specs.Int.RustNames.{unsigned_abs};
 ghost use Rattle.dg_chips.specs.Vector.{at};
 ghost use Rattle.dg_chips.specs.declared.limits.TheConstants.{MAX_ENTRY};
-ghost use Rattle.dg_reduce.specs.Burnings.{CertifiesReduced};
+ghost use Rattle.dg_reduce.specs.Burnings.{CertifiesBurning};
 
 use crate::certificate::Burning;
-use crate::effective_divisor::seen_by_reduction;
-use crate::inverse_laplacian::{InverseLaplacian, Lending, guessed_lendings_once};
+use crate::effective_divisor::capped_i32s;
+use crate::inverse_laplacian::{InverseLaplacian, Lending, solve_once};
 use dg_burn::burn_counted;
 use dg_chips::Script;
 use dg_graph::{Graph, MAX_VERTICES, contains};
@@ -20,10 +20,10 @@ use std::num::f64_to_bits_with_nan;
 use std::simd::prelude::*;
 
 /// The most lendings, and the most borrowings, that are guessed.
-const MOST: i32 = 1_000_000_000;
+const MAX_LENDINGS: i32 = 1_000_000_000;
 
 /// How often one who owes borrows: more than was ever seen to be needed.
-const PAYINGS: usize = 1000;
+const MAX_BORROWINGS: usize = 1000;
 
 /// How many times those who do not burn lend together. Most tables need a few rounds; a heavy part that hangs on one edge was
 /// seen to need 690.
@@ -34,7 +34,7 @@ const BURNING_ROUNDS: usize = 2000;
 const SINGLE_ROUNDS: usize = 4;
 
 /// The most lendings of a round.
-const MOST_TIMES: i32 = 1_000_000;
+const MAX_ROUND_LENDINGS: i32 = 1_000_000;
 
 /// Amounts off q, and lendings, near to those of a reduction. What q holds is not followed: no step looks at it.
 #[derive(Clone, Copy)]
@@ -45,7 +45,7 @@ struct GuessState {
 
 /// A script, and what was seen where it leads.
 #[derive(Clone, Copy)]
-pub struct Guessed {
+pub struct ReductionGuess {
     /// The script: 0 at q.
     pub script: Script,
     /// The burning of the amounts off q that it seems to lead to, if all vertices burn.
@@ -62,11 +62,11 @@ pub fn guess(
     inverse: Option<&InverseLaplacian>,
     q: usize,
     amounts: &[i32; 16],
-) -> Guessed
+) -> ReductionGuess
     requires { q < graph.now.size }
     ensures size { result.script.size ≡ graph.now.size }
     ensures at_q { at result.script q ≡ pos 0 }
-    ensures burning { IfSome result.burning (λ x. CertifiesReduced graph.now q x) }
+    ensures burning { IfSome result.burning (λ x. CertifiesBurning graph.now q x) }
 {
     let _size = graph.size();
     let mut off = *amounts;
@@ -79,14 +79,14 @@ pub fn guess(
 
 /// The guess without an inverse. It stands apart, so that no room is cleared for what an inverse has already.
 #[inline(never)]
-fn guess_alone(graph: &Graph, q: usize, amounts: &[i32; 16]) -> Guessed
+fn guess_alone(graph: &Graph, q: usize, amounts: &[i32; 16]) -> ReductionGuess
     requires { q < graph.now.size }
     ensures size { result.script.size ≡ graph.now.size }
     ensures at_q { at result.script q ≡ pos 0 }
-    ensures burning { IfSome result.burning (λ x. CertifiesReduced graph.now q x) }
+    ensures burning { IfSome result.burning (λ x. CertifiesBurning graph.now q x) }
 {
     let lending = Lending::new(graph, q);
-    let lendings = guessed_lendings_once(graph, q, amounts);
+    let lendings = solve_once(graph, q, amounts);
     guess_near(graph, &lending, q, amounts, &lendings)
 }
 
@@ -97,36 +97,31 @@ fn guess_near(
     q: usize,
     amounts: &[i32; 16],
     lendings: &[f64; 16],
-) -> Guessed
+) -> ReductionGuess
     requires { q < graph.now.size }
     ensures size { result.script.size ≡ graph.now.size }
     ensures at_q { at result.script q ≡ pos 0 }
-    ensures burning { IfSome result.burning (λ x. CertifiesReduced graph.now q x) }
+    ensures burning { IfSome result.burning (λ x. CertifiesBurning graph.now q x) }
 {
     let _size = graph.size();
     let script = rounded(lendings);
-    let chips = guess_after_lendings(graph.size(), lending, amounts, &script);
+    let chips = after_lendings(graph.size(), lending, amounts, &script);
     let mut near = GuessState { chips, script };
-    pay(lending, &mut near);
-    let burning = reduce_by_burning(graph, lending, q, &mut near);
-    Guessed {
-        script: guessed_script_of(graph, q, &near.script),
+    borrow_until_solvent(lending, &mut near);
+    let burning = fire_unburnt_roughly(graph, lending, q, &mut near);
+    ReductionGuess {
+        script: to_script(graph, q, &near.script),
         burning,
     }
 }
 
 /// The amounts after all have lent so often.
-fn guess_after_lendings(
-    size: usize,
-    lending: &Lending,
-    amounts: &[i32; 16],
-    script: &[i32; 16],
-) -> i32x16
+fn after_lendings(size: usize, lending: &Lending, amounts: &[i32; 16], script: &[i32; 16]) -> i32x16
     requires { size ≤ MAX_VERTICES }
 {
     let mut chips = i32x16::from_array(*amounts);
     for v in 0..size {
-        chips = chips + lent(&lending.rows[v], script[v]);
+        chips = chips + row_times(&lending.rows[v], script[v]);
     }
     chips
 }
@@ -147,22 +142,22 @@ fn nearest(lendings: f64) -> i32 {
     ((sum & 0xffff_ffff) as u32).cast_signed()
 }
 
-/// What each vertex gains if the row's vertex lends `times` times.
-fn lent(row: &[i32; 16], times: i32) -> i32x16 {
+/// What each vertex gains if the row's vertex lends `scaled` times.
+fn row_times(row: &[i32; 16], times: i32) -> i32x16 {
     i32x16::from_array(*row) * i32x16::splat(times)
 }
 
 /// Lets the least who owes borrow until it owes no more, again and again. In any order of turns, each borrows as often in
 /// the end.
-fn pay(lending: &Lending, near: &mut GuessState) {
-    for _ in 0..PAYINGS {
+fn borrow_until_solvent(lending: &Lending, near: &mut GuessState) {
+    for _ in 0..MAX_BORROWINGS {
         let owing = near.chips.simd_lt(i32x16::splat(0)).to_bitmask();
         if owing == 0 {
             return;
         }
         let v = (owing.trailing_zeros() as usize).min(15);
         let times = times_to_pay(near.chips.to_array()[v], lending.valences[v]);
-        near.chips = near.chips + lent(&lending.rows[v], times);
+        near.chips = near.chips + row_times(&lending.rows[v], times);
         near.script[v] = near.script[v].wrapping_add(times);
     }
 }
@@ -176,18 +171,18 @@ fn times_to_pay(chips: i32, valence: i32) -> i32 {
 }
 
 /// Lets those who do not burn lend together, again and again, until all burn: that burning is the result.
-fn reduce_by_burning(
+fn fire_unburnt_roughly(
     graph: &Graph,
     lending: &Lending,
     q: usize,
     near: &mut GuessState,
 ) -> Option<Burning>
     requires { q < graph.now.size }
-    ensures { IfSome result (λ x. CertifiesReduced graph.now q x) }
+    ensures { IfSome result (λ x. CertifiesBurning graph.now q x) }
 {
     for round in 0..BURNING_ROUNDS {
         let chips = near.chips.to_array();
-        let held = seen_by_reduction(&chips);
+        let held = capped_i32s(&chips);
         let counted = burn_counted(graph, q, &held);
         if counted.burnt.unburnt == 0 {
             let order = counted.burnt.order;
@@ -197,17 +192,17 @@ fn reduce_by_burning(
         let times = if round < SINGLE_ROUNDS {
             1
         } else {
-            most_guessed_firings(set, &counted.joined, &chips)
+            max_firings(set, &counted.joined, &chips)
         };
-        fire_guessed_set(lending, set, &counted.joined, times, near);
+        fire_set(lending, set, &counted.joined, times, near);
     }
     None
 }
 
 /// How often a set can lend together until one of it would owe, but at least once; `joined` are the edges of each vertex to
 /// those that are not in the set.
-fn most_guessed_firings(set: u16, joined: &[u8; 16], chips: &[i32; 16]) -> i32 {
-    let mut most = MOST_TIMES;
+fn max_firings(set: u16, joined: &[u8; 16], chips: &[i32; 16]) -> i32 {
+    let mut most = MAX_ROUND_LENDINGS;
     for v in 0..16 {
         let out = i32::from(joined[v]);
         if contains(set, v) && out > 0 {
@@ -218,13 +213,7 @@ fn most_guessed_firings(set: u16, joined: &[u8; 16], chips: &[i32; 16]) -> i32 {
 }
 
 /// Lets the vertices of a set lend together so many times; `joined` are the edges of each vertex to those that are not in it.
-fn fire_guessed_set(
-    lending: &Lending,
-    set: u16,
-    joined: &[u8; 16],
-    times: i32,
-    near: &mut GuessState,
-) {
+fn fire_set(lending: &Lending, set: u16, joined: &[u8; 16], times: i32, near: &mut GuessState) {
     let mut chips = near.chips.to_array();
     for v in 0..16 {
         let lends = i32::from(contains(set, v));
@@ -238,25 +227,25 @@ fn fire_guessed_set(
 }
 
 /// The lendings as a script, 0 at q and cut off at the most that are guessed.
-fn guessed_script_of(graph: &Graph, q: usize, lendings: &[i32; 16]) -> Script
+fn to_script(graph: &Graph, q: usize, lendings: &[i32; 16]) -> Script
     requires { q < graph.now.size }
     ensures size { result.size ≡ graph.now.size }
     ensures at_q { at result q ≡ pos 0 }
 {
     let size = graph.size();
-    let mut entries = guess_cut_off(lendings);
+    let mut entries = clamped(lendings);
     entries[q] = 0;
-    Script::script_of_first_vertices(size, &entries)
+    Script::from_prefix(size, &entries)
 }
 
 /// The lendings, cut off at the most that are guessed.
-fn guess_cut_off(lendings: &[i32; 16]) -> [i32; 16]
+fn clamped(lendings: &[i32; 16]) -> [i32; 16]
     ensures places { length result ≡ 16 }
     ensures few { (v : ℕ) → unsigned_abs (slice_index_or result v (pos 0)) ≤ MAX_ENTRY }
 {
     let mut entries = [0; 16];
     for v in 0..16 {
-        entries[v] = lendings[v].clamp(-MOST, MOST);
+        entries[v] = lendings[v].clamp(-MAX_LENDINGS, MAX_LENDINGS);
     }
     entries
 }

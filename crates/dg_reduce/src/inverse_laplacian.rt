@@ -51,20 +51,20 @@ impl Lending {
 impl InverseLaplacian {
     /// What serves the reductions of a graph for vertex q.
     pub fn new(graph: &Graph, q: usize) -> InverseLaplacian {
-        let inverse = inverse_of(graph.size(), &equations(graph, q));
+        let inverse = inverted(graph.size(), &reduced_laplacian(graph, q));
         InverseLaplacian {
             q,
             size: graph.size(),
             valences: u8x16::from_array(*graph.valences()),
             inverse,
-            shift: shift_of_guess(graph, q, &inverse),
+            shift: target_shift(graph, q, &inverse),
             lending: Lending::new(graph, q),
         }
     }
 
     /// Whether this may serve a graph and a vertex q: the vertex is the one that it was made for, and so many edges meet at
     /// each vertex. A graph to which edges were added since has more.
-    pub fn may_invert(&self, graph: &Graph, q: usize) -> bool {
+    pub fn serves(&self, graph: &Graph, q: usize) -> bool {
         let valences = u8x16::from_array(*graph.valences());
         self.q == q && self.valences.simd_eq(valences).all()
     }
@@ -74,7 +74,7 @@ impl InverseLaplacian {
     pub(crate) fn lendings(&self, chips: &[i32; 16]) -> [f64; 16] {
         let mut sum = self.shift;
         for v in 0..self.size.min(MAX_VERTICES) {
-            sum = plus_times_row(&sum, &self.inverse[v], f64::from(chips[v]));
+            sum = add_scaled(&sum, &self.inverse[v], f64::from(chips[v]));
         }
         sum
     }
@@ -116,16 +116,16 @@ fn valences_of(graph: &Graph) -> [i32; 16] {
 
 /// The matrix of the equations, a row and a column for each vertex: the Laplacian of the graph, where the row and the
 /// column of q are replaced by those of the identity.
-fn equations(graph: &Graph, q: usize) -> [[f64; 16]; 16] {
+fn reduced_laplacian(graph: &Graph, q: usize) -> [[f64; 16]; 16] {
     let mut rows = [[0.0; 16]; 16];
     for v in 0..graph.size() {
-        rows[v] = equation(graph, q, v);
+        rows[v] = reduced_laplacian_row(graph, q, v);
     }
     rows
 }
 
 /// The row of vertex v: what it loses when each of the others lends once, 0 in the column of q.
-fn equation(graph: &Graph, q: usize, v: usize) -> [f64; 16]
+fn reduced_laplacian_row(graph: &Graph, q: usize, v: usize) -> [f64; 16]
     requires { v < graph.now.size }
 {
     let _size = graph.size();
@@ -147,33 +147,33 @@ fn equation(graph: &Graph, q: usize, v: usize) -> [f64; 16]
 
 /// The inverse of a matrix, as far as it has rows, made in its place: a column of the identity, once it is there, is
 /// replaced by the one that the inverse has so far.
-fn inverse_of(size: usize, matrix: &[[f64; 16]; 16]) -> [[f64; 16]; 16]
+fn inverted(size: usize, matrix: &[[f64; 16]; 16]) -> [[f64; 16]; 16]
     requires { size ≤ MAX_VERTICES }
 {
     let mut rows = *matrix;
     for pivot in 0..size {
-        take_pivot(size, &mut rows, pivot);
+        pivot_on(size, &mut rows, pivot);
     }
     rows
 }
 
 /// Divides the pivot's row so that it has 1 at the pivot, and takes multiples of it from all others, so that they have 0
 /// there; then the pivot's column is that of the inverse.
-fn take_pivot(size: usize, rows: &mut [[f64; 16]; 16], pivot: usize)
+fn pivot_on(size: usize, rows: &mut [[f64; 16]; 16], pivot: usize)
     requires few { size ≤ MAX_VERTICES }
     requires pivot { pivot < size }
 {
     let mut row = rows[pivot];
     let whole = 1.0 / row[pivot];
     row[pivot] = 1.0;
-    let row = times(&row, whole);
+    let row = scaled(&row, whole);
     // With one more at the pivot, what others held there is taken away too.
     let mut whole_row = row;
     whole_row[pivot] = whole + 1.0;
     for v in 0..size {
         let factor = -rows[v][pivot];
         if v != pivot && factor != 0.0 {
-            rows[v] = plus_times_row(&rows[v], &whole_row, factor);
+            rows[v] = add_scaled(&rows[v], &whole_row, factor);
         }
     }
     rows[pivot] = row;
@@ -181,29 +181,29 @@ fn take_pivot(size: usize, rows: &mut [[f64; 16]; 16], pivot: usize)
 
 /// How often each vertex lends, fractions too, as an inverse has it, if there is none: one solution of the equations in place
 /// of the inverse.
-pub(crate) fn guessed_lendings_once(graph: &Graph, q: usize, chips: &[i32; 16]) -> [f64; 16] {
-    let mut rows = equations(graph, q);
-    let mut wanted = wanted_by_guess(graph, q, chips);
+pub(crate) fn solve_once(graph: &Graph, q: usize, chips: &[i32; 16]) -> [f64; 16] {
+    let mut rows = reduced_laplacian(graph, q);
+    let mut wanted = right_hand_side(graph, q, chips);
     let size = graph.size();
     for pivot in 0..size {
-        clear_below(size, &mut rows, &mut wanted, pivot);
+        eliminate_below(size, &mut rows, &mut wanted, pivot);
     }
-    solved(size, &rows, &wanted)
+    back_substitute(size, &rows, &wanted)
 }
 
 /// What the equations come to: what each vertex holds, less what it is to keep.
-fn wanted_by_guess(graph: &Graph, q: usize, chips: &[i32; 16]) -> [f64; 16] {
+fn right_hand_side(graph: &Graph, q: usize, chips: &[i32; 16]) -> [f64; 16] {
     let mut wanted = [0.0; 16];
     for v in 0..graph.size() {
         if v != q {
-            wanted[v] = f64::from(chips[v]) - kept_by_guess(graph, v);
+            wanted[v] = f64::from(chips[v]) - target_amount(graph, v);
         }
     }
     wanted
 }
 
 /// Takes multiples of the pivot's row from all below it, so that they have 0 at the pivot.
-fn clear_below(size: usize, rows: &mut [[f64; 16]; 16], wanted: &mut [f64; 16], pivot: usize)
+fn eliminate_below(size: usize, rows: &mut [[f64; 16]; 16], wanted: &mut [f64; 16], pivot: usize)
     requires few { size ≤ MAX_VERTICES }
     requires pivot { pivot < size }
 {
@@ -212,28 +212,28 @@ fn clear_below(size: usize, rows: &mut [[f64; 16]; 16], wanted: &mut [f64; 16], 
     for v in pivot + 1..size {
         let factor = rows[v][pivot] * whole;
         if factor != 0.0 {
-            rows[v] = plus_times_row(&rows[v], &row, factor);
+            rows[v] = add_scaled(&rows[v], &row, factor);
             wanted[v] += wanted[pivot] * factor;
         }
     }
 }
 
 /// The solution of equations that have 0 before the diagonal, from the last on.
-fn solved(size: usize, rows: &[[f64; 16]; 16], wanted: &[f64; 16]) -> [f64; 16]
+fn back_substitute(size: usize, rows: &[[f64; 16]; 16], wanted: &[f64; 16]) -> [f64; 16]
     requires { size ≤ MAX_VERTICES }
 {
     let mut lendings = [ROUND_HALVES_UP; 16];
     let mut found = [0.0; 16];
     for v in (0..size).rev() {
         let row = &rows[v];
-        found[v] = (wanted[v] - product(row, &found)) / row[v];
+        found[v] = (wanted[v] - dot_product(row, &found)) / row[v];
         lendings[v] += found[v];
     }
     lendings
 }
 
 /// The sum of the products of two rows.
-fn product(row: &[f64; 16], other: &[f64; 16]) -> f64 {
+fn dot_product(row: &[f64; 16], other: &[f64; 16]) -> f64 {
     let mut sum = 0.0;
     for w in 0..16 {
         sum += row[w] * other[w];
@@ -243,19 +243,19 @@ fn product(row: &[f64; 16], other: &[f64; 16]) -> f64 {
 
 /// The lendings that leave what is aimed at, if nobody holds anything before: a vertex of valence 3 or more is to keep
 /// half of one dollar less than its valence less 1, so that it burns before long.
-fn shift_of_guess(graph: &Graph, q: usize, inverse: &[[f64; 16]; 16]) -> [f64; 16] {
+fn target_shift(graph: &Graph, q: usize, inverse: &[[f64; 16]; 16]) -> [f64; 16] {
     let mut shift = [ROUND_HALVES_UP; 16];
     for v in 0..graph.size() {
-        let kept = kept_by_guess(graph, v);
+        let kept = target_amount(graph, v);
         if v != q && kept != 0.0 {
-            shift = plus_times_row(&shift, &inverse[v], -kept);
+            shift = add_scaled(&shift, &inverse[v], -kept);
         }
     }
     shift
 }
 
 /// What a vertex is to keep.
-fn kept_by_guess(graph: &Graph, v: usize) -> f64
+fn target_amount(graph: &Graph, v: usize) -> f64
     requires { v < graph.now.size }
 {
     let valence = f64::from(graph.valence(v));
@@ -267,12 +267,12 @@ fn kept_by_guess(graph: &Graph, v: usize) -> f64
 }
 
 /// A row, so many times.
-fn times(row: &[f64; 16], times: f64) -> [f64; 16] {
-    plus_times_row(&[0.0; 16], row, times)
+fn scaled(row: &[f64; 16], times: f64) -> [f64; 16] {
+    add_scaled(&[0.0; 16], row, times)
 }
 
 /// A sum and so many times a row.
-fn plus_times_row(sum: &[f64; 16], row: &[f64; 16], times: f64) -> [f64; 16] {
+fn add_scaled(sum: &[f64; 16], row: &[f64; 16], times: f64) -> [f64; 16] {
     let mut sum = *sum;
     for w in 0..16 {
         sum[w] += row[w] * times;

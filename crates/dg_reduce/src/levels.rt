@@ -6,7 +6,7 @@ ghost use Rattle.std.specs.Int.RustNames.{unsigned_abs};
 ghost use Rattle.dg_theory.specs.Distances.{IsDistance};
 ghost use Rattle.dg_graph.specs.Sets.{in_set};
 ghost use Rattle.dg_chips.specs.Vector.{at};
-ghost use Rattle.dg_reduce.specs.Reaching.{IsLevelReached, spread_level};
+ghost use Rattle.dg_reduce.specs.Reaching.{AreLevelsReached, spread_level};
 ghost use Rattle.dg_reduce.specs.States.{IsLargestDebt};
 
 use dg_chips::Wide;
@@ -30,8 +30,8 @@ pub fn levels_from(graph: &Graph, q: usize) -> [usize; 16]
 fn with_next_level(graph: &Graph, levels: &[usize; 16], level: usize) -> [usize; 16]
     requires { level + 1 < graph.now.size }
     ensures { (q : ℕ) → q < graph.now.size →
-        IsLevelReached graph.now q level 0 (slice_index levels.now) →
-        IsLevelReached graph.now q (level + 1) 0 (slice_index result) }
+        AreLevelsReached graph.now q level 0 (slice_index levels.now) →
+        AreLevelsReached graph.now q (level + 1) 0 (slice_index result) }
 {
     let mut reached = *levels;
     for v in 0..graph.size() {
@@ -59,7 +59,7 @@ fn with_neighbour_levels(graph: &Graph, v: usize, levels: &[usize; 16], level: u
 }
 
 /// The largest debt of a vertex of the level, 0 if there is none.
-pub fn largest_debt_at_level(levels: &[usize; 16], level: usize, chips: &Wide) -> i128
+pub fn largest_debt(levels: &[usize; 16], level: usize, chips: &Wide) -> i128
     requires { (v : ℕ) → v < chips.now.size → unsigned_abs (at chips.now v) ≤ 2 ^ 120 }
     ensures { IsLargestDebt chips.now.size (slice_index levels.now) level (at chips.now) result }
 {

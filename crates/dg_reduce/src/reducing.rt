@@ -5,10 +5,10 @@ ghost use Rattle.std.specs.Int.RustNames.{unsigned_abs};
 ghost use Rattle.dg_chips.specs.Vector.{at};
 ghost use Rattle.dg_reduce.specs.Reductions.{IsReduction};
 ghost use Rattle.dg_reduce.specs.Certificates.{IsCertified};
-ghost use Rattle.dg_reduce.specs.Burnings.{CertifiesReduced};
+ghost use Rattle.dg_reduce.specs.Burnings.{CertifiesBurning};
 
-use crate::by_levels::reduce_after;
-use crate::certificate::{Burning, reduced_order_by};
+use crate::by_levels::reduce_from_script;
+use crate::certificate::{Burning, burning_order_by};
 use crate::guessing::guess;
 use crate::inverse_laplacian::InverseLaplacian;
 use crate::limits::MAX_START;
@@ -19,7 +19,7 @@ use dg_graph::Graph;
 
 /// A reduced divisor, the script that leads to it, and what shows that it is reduced.
 #[derive(Clone, Copy)]
-pub struct Certified {
+pub struct CertifiedReduction {
     /// The reduced divisor and the script.
     pub reduced: Reduced,
     /// The order in which all vertices burn from q, the least first; zeros past the last.
@@ -56,7 +56,7 @@ pub fn reduce_certified(
     inverse: Option<&InverseLaplacian>,
     q: usize,
     chips: &Wide,
-) -> Certified
+) -> CertifiedReduction
     requires size { chips.now.size ≡ graph.now.size }
     requires vertex { q < graph.now.size }
     requires range { (v : ℕ) → v < graph.now.size → unsigned_abs (at chips.now v) ≤ MAX_START }
@@ -76,21 +76,21 @@ pub fn certified_by(
     chips: &Wide,
     script: &Script,
     known: &Option<Burning>,
-) -> Certified
+) -> CertifiedReduction
     requires size { chips.now.size ≡ graph.now.size }
     requires vertex { q < graph.now.size }
     requires script { script.now.size ≡ graph.now.size }
     requires range { (v : ℕ) → v < graph.now.size → unsigned_abs (at chips.now v) ≤ MAX_START }
     requires start { at script.now q ≡ pos 0 }
-    requires known { IfSome known.now (λ x. CertifiesReduced graph.now q x) }
+    requires known { IfSome known.now (λ x. CertifiesBurning graph.now q x) }
     ensures { IsCertified graph.now q (at chips.now) 451000000 result }
 {
     let _size = graph.size();
     let divisor = chips.fired_by(graph, script);
-    let Some(order) = reduced_order_by(graph, q, &divisor, known) else {
+    let Some(order) = burning_order_by(graph, q, &divisor, known) else {
         return certified_after(graph, q, chips, script);
     };
-    Certified {
+    CertifiedReduction {
         reduced: Reduced {
             divisor,
             script: *script,
@@ -100,7 +100,7 @@ pub fn certified_by(
 }
 
 /// The reduction that begins with a script, and then goes by the fallback.
-fn certified_after(graph: &Graph, q: usize, chips: &Wide, script: &Script) -> Certified
+fn certified_after(graph: &Graph, q: usize, chips: &Wide, script: &Script) -> CertifiedReduction
     requires size { chips.now.size ≡ graph.now.size }
     requires vertex { q < graph.now.size }
     requires script { script.now.size ≡ graph.now.size }
@@ -109,7 +109,7 @@ fn certified_after(graph: &Graph, q: usize, chips: &Wide, script: &Script) -> Ce
     ensures { IsCertified graph.now q (at chips.now) 451000000 result }
 {
     let _size = graph.size();
-    let reduced = reduce_after(graph, q, chips, script);
+    let reduced = reduce_from_script(graph, q, chips, script);
     let order = burn(graph, q, &reduced.divisor).order;
-    Certified { reduced, order }
+    CertifiedReduction { reduced, order }
 }

@@ -9,7 +9,7 @@ mod playing;
 mod rows;
 
 use crate::playing::play;
-use crate::rows::{read_files_of_run, read_rows};
+use crate::rows::{read_files, read_rows};
 use anyhow::{Context, Result};
 use std::fs;
 use std::rt::Files;
@@ -63,8 +63,8 @@ where
 {
     let text = fs::read_to_string(rt, name)?;
     let mut files = Vec::new(rt.alloc());
-    read_files_of_run(&mut files, shared)?;
-    read_files_of_run(&mut files, text.as_str())?;
+    read_files(&mut files, shared)?;
+    read_files(&mut files, text.as_str())?;
     for row in &read_rows(rt.alloc(), text.as_str())? {
         if row.is_left_out {
             counts.left_out = counts.left_out.wrapping_add(1);

@@ -34,7 +34,7 @@ pub(crate) struct Row {
 }
 
 /// Appends the files that lines `file NAME | TEXT` tell.
-pub(crate) fn read_files_of_run(files: &mut Vec<Named>, text: &str) -> Result<()> {
+pub(crate) fn read_files(files: &mut Vec<Named>, text: &str) -> Result<()> {
     for line in text.lines() {
         if let Some(told) = line.strip_prefix("file ") {
             files.push(read_file(*files.allocator(), told).context(line)?)?;

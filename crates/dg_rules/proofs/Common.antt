@@ -1,22 +1,22 @@
 -- The names that the proofs of this crate cite, passed on from one place. Declares nothing.
 pub use Rattle.dg_chips.proofs.Applying.{moved_once}
 pub use Rattle.dg_chips.specs.Applied.{IsAfterMove}
-pub use Rattle.dg_chips.specs.Moves.{HasOtherSize, IsMoveOfEmptySet, IsApplicableMove, IsMoveOfNoVertex, script_of_move}
+pub use Rattle.dg_chips.specs.Moves.{HasOtherSize, FiresEmptySet, IsApplicableMove, NamesNoVertex, move_script}
 pub use Rattle.dg_chips.specs.Starts.{StartData}
 pub use Rattle.dg_chips.proofs.VectorLaws.{not_past, one_vector}
 pub use Rattle.dg_chips.specs.Vector.{IsDivisorVector, IsOutOfRange, Vector, at}
-pub use Rattle.dg_rules.specs.GiftReplies.{IsAcceptedGiftReply, RefusesGift, RepliesToGift}
-pub use Rattle.dg_rules.specs.History.{position_after_change, changed, gifts_by_reply, gifts_in, is_change, script_by_reply, scripts_played, scripts_since}
-pub use Rattle.dg_rules.specs.JoinReplies.{IsAcceptedJoinReply, RefusesJoinRequest, RepliesToJoin}
-pub use Rattle.dg_rules.specs.Legal.{IsLegal, IsSeatInGame, LooksBack}
-pub use Rattle.dg_rules.specs.LegalLaws.{LegalGraphsHold, IsReplyOfSize, LegalIsSized, LegalLooksAreShown}
+pub use Rattle.dg_rules.specs.GiftReplies.{IsAcceptedGift, RefusesGift, RepliesToGift}
+pub use Rattle.dg_rules.specs.History.{position_after_change, after_change, change_count, gifts_in, is_change, accepted_script, scripts_played, scripts_since}
+pub use Rattle.dg_rules.specs.JoinReplies.{IsAcceptedJoin, RefusesJoin, RepliesToJoin}
+pub use Rattle.dg_rules.specs.Legal.{IsLegal, IsSeatNumber, LooksBack}
+pub use Rattle.dg_rules.specs.LegalLaws.{LegalGraphsHold, IsSizedReply, LegalIsSized, LegalLooksShow}
 pub use Rattle.dg_rules.specs.Look.{IsLookAt, request_for_finding, request_for_question}
 pub use Rattle.dg_rules.specs.MoveReplies.{RefusesMove, RepliesToMove}
-pub use Rattle.dg_rules.specs.Position.{Position, ShowsPosition, position_fired_by, position_joined_at, position_at_start, with_gift}
+pub use Rattle.dg_rules.specs.Position.{Position, ShowsPosition, fired_position, with_join, start_position, with_gift}
 pub use Rattle.dg_rules.specs.Replies.{Replies, RepliesAt, RepliesToClaim, RepliesToJudge, RepliesToLook, RepliesToRank}
-pub use Rattle.dg_rules.specs.Requests.{asked}
-pub use Rattle.dg_rules.specs.State.{IsNextGameState, IsRightReplyInState, IsGameState, HistoryLeadsTo, GameState, position_amounts_after, gifts_after, graph_after, position_of}
-pub use Rattle.dg_rules.specs.Step.{GameHasNoEntry, OneMoreEntry, PositionSinceChange, PositionSinceLastChange, PlayedSinceStart, VerticesStay, after_reply}
+pub use Rattle.dg_rules.specs.Requests.{call_request}
+pub use Rattle.dg_rules.specs.State.{IsNextState, IsRightReply, IsState, LeadsTo, GameState, amounts_after, gifts_after, graph_after, position_of}
+pub use Rattle.dg_rules.specs.Step.{EmptyHistoryPosition, OneMoreEntry, PositionSinceChange, PlayedSinceChange, PlayedSinceStart, VerticesStay, after_reply}
 pub use Rattle.dg_rules.specs.declared.entry.Entry.{Entry}
 pub use Rattle.dg_rules.specs.declared.entry.Plain.{Plain}
 pub use Rattle.dg_rules.specs.declared.entry.Refusal.{Refusal}
@@ -42,9 +42,9 @@ pub use Rattle.dg_theory.specs.Firing.{DivisorsAgreeOn, Amounts, AreEquivalent, 
 pub use Rattle.dg_theory.specs.Multigraph.{Multigraph}
 pub use Rattle.dg_verdict.proofs.Agreement.{right-cong}
 pub use Rattle.dg_verdict.proofs.Between.{between_leads}
-pub use Rattle.dg_verdict.specs.RankTests.{IsRightRankVerdict}
+pub use Rattle.dg_verdict.specs.RankTests.{IsRightRank}
 pub use Rattle.dg_verdict.specs.Rebasing.{IsRebasable}
-pub use Rattle.dg_verdict.specs.Right.{IsRight}
+pub use Rattle.dg_verdict.specs.Right.{IsRightVerdict}
 pub use Rattle.dg_verdict.specs.declared.rank_verdict.RankVerdict.{RankVerdict}
 pub use Rattle.dg_verdict.specs.declared.rank_verdict.RankVerdict.TheVariants.{AtLeast, Below}
 pub use Rattle.std.proofs.Common.{Bool, List, Some, [], ap, append-nil, append_assoc, arith, drop, false, inl, inr, length, length-append, refl, reverse, slice_get, subst, suc, sym, take, true, zero, ℕ, ◌++◌, ◌+◌, ◌<◌, ◌∙◌, ◌∷◌, ◌≡◌, ◌≢◌, ◌≤◌, ◌⊎◌}

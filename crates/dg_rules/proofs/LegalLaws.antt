@@ -11,7 +11,7 @@
 --   sized_reply        a right reply has the size of the graph
 --   legal_sized        each reply of a legal history has the size of the start
 --   legal_looks        each look of a legal history is what is kept of it
-use Rattle.dg_rules.proofs.Common.{◌≡◌, ℕ, ◌<◌, ◌≤◌, List, [], ◌∷◌, ◌++◌, length, take, slice_get, Some, arith, ap, subst, ◌∙◌, inl, inr, take-append_seam, take-append-le, take-take, length-take, slice_get_within, Multigraph, StartData, AtLeast, Below, Replies, IsSeatInGame, LooksBack, IsLegal, IsReplyOfSize, LegalIsSized, LegalLooksAreShown, IsLookAt, request_for_finding, request_for_question, asked, Entry, Plain, Request, Move, Gift, Join, Look, Claim, Judge, Reply, Moved, Given, Joined, Looked, Verdict, Stale, Won, NotWon, Refused, Finding, Judged, Ranked, Question, LookData}
+use Rattle.dg_rules.proofs.Common.{◌≡◌, ℕ, ◌<◌, ◌≤◌, List, [], ◌∷◌, ◌++◌, length, take, slice_get, Some, arith, ap, subst, ◌∙◌, inl, inr, take-append_seam, take-append-le, take-take, length-take, slice_get_within, Multigraph, StartData, AtLeast, Below, Replies, IsSeatNumber, LooksBack, IsLegal, IsSizedReply, LegalIsSized, LegalLooksShow, IsLookAt, request_for_finding, request_for_question, call_request, Entry, Plain, Request, Move, Gift, Join, Look, Claim, Judge, Reply, Moved, Given, Joined, Looked, Verdict, Stale, Won, NotWon, Refused, Finding, Judged, Ranked, Question, LookData}
 use Rattle.dg_rules.specs.History.{position_after}
 use Rattle.dg_rules.specs.declared.entry.Plain.TheVariants as plain
 use Rattle.dg_rules.specs.declared.entry.Request.TheVariants.{Rank as RankRequest}
@@ -23,7 +23,7 @@ use Rattle.dg_rules.proofs.StepLaw.{vertices_stay}
 pub legal_none : (o : StartData) → IsLegal o []
 legal_none o k e at = absurd (cc)
 
-pub legal_more : (o : StartData) (H : List Entry) (e : Entry) → IsLegal o H → IsSeatInGame e.seat → LooksBack H e.request →
+pub legal_more : (o : StartData) (H : List Entry) (e : Entry) → IsLegal o H → IsSeatNumber e.seat → LooksBack H e.request →
     Replies o H e.request e.reply → IsLegal o (H ++ e ∷ [])
 legal_more o H e legal seat back right k x at = elim (more_holds H e k x at) [
   | inl old ↦
@@ -50,7 +50,7 @@ right_here o K e H legal =
     subst (λ (L : List Entry). Replies o L e.request e.reply) (take-append_seam K (e ∷ H))
     (legal (length K) e (slice_get-seam K e H)).2
 
-pub back_asked : (H : List Entry) (p : Plain) → LooksBack H (asked p)
+pub back_asked : (H : List Entry) (p : Plain) → LooksBack H (call_request p)
 back_asked H plain.Look = tt
 back_asked H p = tt
 
@@ -66,7 +66,7 @@ back_on o H x (question.Rank k) look = look.look
 
 sized_reply : (o : StartData) (H : List Entry) (n : ℕ) (request : Request) (reply : Reply) →
     (position_after o H).graph.size ≡ n →
-    Replies o H request reply → IsReplyOfSize n reply
+    Replies o H request reply → IsSizedReply n reply
 sized_reply o H n (Move m) (Moved d) size right = right.size ∙ size
 sized_reply o H n (Move m) (Refused r) size right = tt
 sized_reply o H n (Gift v x) (Given count d) size right = right.size ∙ size
@@ -88,7 +88,7 @@ pub legal_sized : LegalIsSized
 legal_sized o H i e legal at =
     sized_reply o (take i H) o.graph.size e.request e.reply (vertices_stay o (take i H)) (legal i e at).2
 
-pub legal_looks : LegalLooksAreShown
+pub legal_looks : LegalLooksShow
 legal_looks o H e x legal at asks shows =
     let right : Replies o (take x.number H) e.request e.reply = (legal x.number e at).2 in
     let (gifts, amounts, graph) = rw (asks, shows) at right in

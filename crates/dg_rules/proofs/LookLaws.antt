@@ -11,7 +11,7 @@
 --   look_new                an entry that is a look is a look of the history
 --   look_size               a look shows as many vertices as the state
 --   carried                 a verdict can be carried along a drift that leads to the amounts of a state
-use Rattle.dg_rules.proofs.Common.{◌≡◌, ◌≢◌, ℕ, ◌+◌, ◌<◌, ◌≤◌, List, [], ◌∷◌, ◌++◌, length, take, drop, slice_get, arith, refl, sym, ap, subst, ◌∙◌, take-append_seam, ints, take-append-le, take-append-drop, slice_get_within, Multigraph, Amounts, fired, FiresTo, Vector, at, StartData, IsRight, IsRebasable, IsRightRankVerdict, RankVerdict, Position, position_fired_by, scripts_played, gifts_in, IsLookAt, request_for_question, Replies, GameState, IsGameState, HistoryLeadsTo, Entry, Look, Judge, Verdict, Stale, Question, LookData}
+use Rattle.dg_rules.proofs.Common.{◌≡◌, ◌≢◌, ℕ, ◌+◌, ◌<◌, ◌≤◌, List, [], ◌∷◌, ◌++◌, length, take, drop, slice_get, arith, refl, sym, ap, subst, ◌∙◌, take-append_seam, ints, take-append-le, take-append-drop, slice_get_within, Multigraph, Amounts, fired, FiresTo, Vector, at, StartData, IsRightVerdict, IsRebasable, IsRightRank, RankVerdict, Position, fired_position, scripts_played, gifts_in, IsLookAt, request_for_question, Replies, GameState, IsState, LeadsTo, Entry, Look, Judge, Verdict, Stale, Question, LookData}
 use Rattle.dg_verdict.specs.declared.verdict.Verdict.{Verdict as AVerdict}
 use Rattle.dg_rules.specs.History.{position_after}
 use Rattle.dg_rules.specs.declared.entry.Request.TheVariants.{Rank as RankRequest}
@@ -24,7 +24,7 @@ use Rattle.dg_rules.proofs.StateLaws.{replies_after}
 use Rattle.dg_rules.proofs.StepLaw.{since_change, vertices_stay}
 
 -- a history after a look, as the part before the look and the rest
-pub moved_since : (o : StartData) (H : List Entry) (s : GameState) (x : LookData) → HistoryLeadsTo o H s → IsLookAt o H x →
+pub moved_since : (o : StartData) (H : List Entry) (s : GameState) (x : LookData) → LeadsTo o H s → IsLookAt o H x →
     s.gifts ≡ x.gifts →
     (s.graph ≡ x.graph) × (t : Amounts) × FiresTo s.graph t (at x.position) (at s.amounts)
 moved_since o H s x leads look same =
@@ -34,7 +34,7 @@ moved_since o H s x leads look same =
     let counts : gifts_in H ≡ gifts_in K + gifts_in L = ap gifts_in (sym whole) ∙ gifts_in-append K L in
     let none : gifts_in L ≡ 0 = omega (arith, counts, same, leads.gifts, look.gifts) in
     let p : Position = position_after o K in
-    let fires : position_after o H ≡ position_fired_by p (scripts_played L) =
+    let fires : position_after o H ≡ fired_position p (scripts_played L) =
     ap (position_after o) (sym whole) ∙ since_change o K L none in
     let graph : s.graph ≡ p.graph = leads.graph ∙ ap (λ (r : Position). r.graph) fires in (
       graph ∙ sym look.graph,
@@ -49,23 +49,23 @@ moved_since o H s x leads look same =
           rw graph (omega (arith, ints, now, then', moved)),
     )
 
-pub judged_after : (o : StartData) (H : List Entry) (s : GameState) (x : LookData) (verdict : AVerdict) → HistoryLeadsTo o H s →
+pub judged_after : (o : StartData) (H : List Entry) (s : GameState) (x : LookData) (verdict : AVerdict) → LeadsTo o H s →
     IsLookAt o H x →
-    s.gifts ≡ x.gifts → IsRight s.graph s.q (at s.amounts) verdict → Replies o H (Judge x.number) (Verdict verdict)
+    s.gifts ≡ x.gifts → IsRightVerdict s.graph s.q (at s.amounts) verdict → Replies o H (Judge x.number) (Verdict verdict)
 judged_after o H s x verdict leads look same right =
     replies_after o H s (Judge x.number) (Verdict verdict) leads (sym look.gifts ∙ sym same, right)
 
 pub ranked_after : (o : StartData) (H : List Entry) (s : GameState) (x : LookData) (k : ℕ) (verdict : RankVerdict) →
-    HistoryLeadsTo o H s → IsLookAt o H x →
-    s.gifts ≡ x.gifts → IsRightRankVerdict x.graph (at x.position) k verdict →
+    LeadsTo o H s → IsLookAt o H x →
+    s.gifts ≡ x.gifts → IsRightRank x.graph (at x.position) k verdict →
     Replies o H (RankRequest x.number k) (RankReply verdict)
 ranked_after o H s x k verdict leads look same right =
     let (graph, t, led) = moved_since o H s x leads look same in
-    let then' : IsRightRankVerdict s.graph (at x.position) k verdict = rw graph right in
+    let then' : IsRightRank s.graph (at x.position) k verdict = rw graph right in
     replies_after o H s (RankRequest x.number k) (RankReply verdict) leads
     (sym look.gifts ∙ sym same, rank_test_led s.graph (at x.position) (at s.amounts) t k verdict led then')
 
-pub stale_after : (o : StartData) (H : List Entry) (s : GameState) (x : LookData) (asks : Question) → HistoryLeadsTo o H s →
+pub stale_after : (o : StartData) (H : List Entry) (s : GameState) (x : LookData) (asks : Question) → LeadsTo o H s →
     IsLookAt o H x →
     x.gifts ≢ s.gifts → Replies o H (request_for_question x.number asks) (Stale s.gifts)
 stale_after o H s x question.Judge leads look other =
@@ -87,7 +87,7 @@ look_kept o H e x look =
     }
 
 -- the look that is entered next
-pub look_new : (o : StartData) (H : List Entry) (s : GameState) (e : Entry) (x : LookData) → HistoryLeadsTo o H s →
+pub look_new : (o : StartData) (H : List Entry) (s : GameState) (e : Entry) (x : LookData) → LeadsTo o H s →
     e.request ≡ Look →
     x.number ≡ s.entries → x.gifts ≡ s.gifts → x.graph ≡ s.graph → x.position ≡ s.amounts → IsLookAt o (H ++ e ∷ []) x
 look_new o H s e x leads is number gifts graph position =
@@ -103,19 +103,19 @@ look_new o H s e x leads is number gifts graph position =
 pub look_fits : (o : StartData) (H : List Entry) (x : LookData) → IsLookAt o H x → x.position.size ≡ x.graph.size
 look_fits o H x look = look.amounts.size ∙ ap (λ (g : Multigraph). g.size) (sym look.graph)
 
-pub look_vertices : (o : StartData) (H : List Entry) (s : GameState) (x : LookData) → HistoryLeadsTo o H s → IsLookAt o H x →
+pub look_vertices : (o : StartData) (H : List Entry) (s : GameState) (x : LookData) → LeadsTo o H s → IsLookAt o H x →
     x.graph.size ≡ s.graph.size
 look_vertices o H s x leads look =
     ap (λ (g : Multigraph). g.size) look.graph ∙ vertices_stay o (take x.number H) ∙ sym (vertices_stay o H)
     ∙ ap (λ (g : Multigraph). g.size) (sym leads.graph)
 
-pub look_size : (o : StartData) (H : List Entry) (s : GameState) (x : LookData) → HistoryLeadsTo o H s → IsLookAt o H x →
+pub look_size : (o : StartData) (H : List Entry) (s : GameState) (x : LookData) → LeadsTo o H s → IsLookAt o H x →
     x.position.size ≡ s.graph.size
 look_size o H s x leads look =
     look_fits o H x look ∙ look_vertices o H s x leads look
 
-pub carried : (s : GameState) (D : Amounts) (x : AVerdict) (m : Vector) → IsGameState s →
-    IsRight s.graph s.q D x → m.size ≡ s.graph.size → FiresTo s.graph (at m) D (at s.amounts) → IsRebasable s.q x m
+pub carried : (s : GameState) (D : Amounts) (x : AVerdict) (m : Vector) → IsState s →
+    IsRightVerdict s.graph s.q D x → m.size ≡ s.graph.size → FiresTo s.graph (at m) D (at s.amounts) → IsRebasable s.q x m
 carried s D x m state right size leads = record {
   graph = s.graph;
   start = D;

@@ -1,33 +1,33 @@
 -- At one position a call has one reply.
 --   no_vertex_playable, empty_playable, script_playable   a move that may be played has none of these faults
 --   move_once, gift_once, join_once, look_once, claim_once   so it is of each call
-use Rattle.dg_rules.proofs.Common.{◌≡◌, ℕ, ◌<◌, ◌≤◌, ◌⊎◌, inl, inr, arith, refl, sym, ap, ◌∙◌, false≢true, ℤ, moved_once, not_past, in_set-none, in_set, Vector, IsMoveOfNoVertex, IsMoveOfEmptySet, HasOtherSize, IsApplicableMove, IsAfterMove, IsAcceptedGiftReply, RefusesGift, RepliesToGift, IsAcceptedJoinReply, RefusesJoinRequest, RepliesToJoin, RefusesMove, RepliesToMove, Position, RepliesToLook, RepliesToClaim, Refusal, Reply, Moved, Given, Joined, Looked, Won, NotWon, Refused}
+use Rattle.dg_rules.proofs.Common.{◌≡◌, ℕ, ◌<◌, ◌≤◌, ◌⊎◌, inl, inr, arith, refl, sym, ap, ◌∙◌, false≢true, ℤ, moved_once, not_past, in_set-none, in_set, Vector, NamesNoVertex, FiresEmptySet, HasOtherSize, IsApplicableMove, IsAfterMove, IsAcceptedGift, RefusesGift, RepliesToGift, IsAcceptedJoin, RefusesJoin, RepliesToJoin, RefusesMove, RepliesToMove, Position, RepliesToLook, RepliesToClaim, Refusal, Reply, Moved, Given, Joined, Looked, Won, NotWon, Refused}
 use Rattle.dg_chips.specs.declared.moves.Move.{Move}
 use Rattle.dg_chips.specs.declared.moves.Move.TheVariants.{Lend, Borrow, Fire, Script}
 use Rattle.dg_rules.specs.declared.entry.Refusal.TheVariants as refusal
 use Rattle.dg_rules.proofs.StateLaws.{shown_once, given_once}
 
 module _ (p : Position) where
-  no_vertex_empty : (m : Move) → IsMoveOfNoVertex p.graph.size m → IsMoveOfEmptySet m → ⊥
+  no_vertex_empty : (m : Move) → NamesNoVertex p.graph.size m → FiresEmptySet m → ⊥
   no_vertex_empty (Fire s) (v, past, inside) none =
       false≢true (sym (in_set-none v) ∙ ap (λ (t : ℕ). in_set t v) (sym none) ∙ inside)
   no_vertex_empty m none empty = absurd empty
 
-  no_vertex_script : (m : Move) → IsMoveOfNoVertex p.graph.size m → HasOtherSize p.graph.size m → ⊥
+  no_vertex_script : (m : Move) → NamesNoVertex p.graph.size m → HasOtherSize p.graph.size m → ⊥
   no_vertex_script (Script s) none other = absurd none
   no_vertex_script m none other = absurd other
 
-  pub no_vertex_playable : (m : Move) → IsMoveOfNoVertex p.graph.size m → IsApplicableMove p.graph.size m → ⊥
+  pub no_vertex_playable : (m : Move) → NamesNoVertex p.graph.size m → IsApplicableMove p.graph.size m → ⊥
   no_vertex_playable (Lend v) none playable = omega (arith, none, playable)
   no_vertex_playable (Borrow v) none playable = omega (arith, none, playable)
   no_vertex_playable (Fire s) (v, past, inside) playable = omega (arith, past, playable.1 v inside)
   no_vertex_playable (Script s) none playable = absurd none
 
-  empty_script : (m : Move) → IsMoveOfEmptySet m → HasOtherSize p.graph.size m → ⊥
+  empty_script : (m : Move) → FiresEmptySet m → HasOtherSize p.graph.size m → ⊥
   empty_script (Script s) empty other = absurd empty
   empty_script m empty other = absurd other
 
-  pub empty_playable : (m : Move) → IsMoveOfEmptySet m → IsApplicableMove p.graph.size m → ⊥
+  pub empty_playable : (m : Move) → FiresEmptySet m → IsApplicableMove p.graph.size m → ⊥
   empty_playable (Fire s) empty playable = playable.0 empty
   empty_playable m empty playable = absurd empty
 
@@ -76,7 +76,7 @@ module _ (p : Position) where
   move_once m (Refused x) b first second = absurd second
   move_once m a b first second = absurd first
 
-  given_refused : (g v : ℕ) (x : ℤ) (n : ℕ) (d : Vector) (y : Refusal) → IsAcceptedGiftReply p g v x n d → RefusesGift p v x y → ⊥
+  given_refused : (g v : ℕ) (x : ℤ) (n : ℕ) (d : Vector) (y : Refusal) → IsAcceptedGift p g v x n d → RefusesGift p v x y → ⊥
   given_refused g v x n d refusal.NoVertex given right = omega (arith, given.vertex, right)
   given_refused g v x n d refusal.Gift given right = right.1 given.gift
   given_refused g v x n d refusal.Range given (vertex, gift, past) =
@@ -117,7 +117,7 @@ module _ (p : Position) where
   full u v x y l (inl past) first second = omega (arith, past, first)
   full u v x y l (inr past) first second = omega (arith, past, second)
 
-  joined_refused : (g u v n : ℕ) (d : Vector) (y : Refusal) → IsAcceptedJoinReply p g u v n d → RefusesJoinRequest p u v y → ⊥
+  joined_refused : (g u v n : ℕ) (d : Vector) (y : Refusal) → IsAcceptedJoin p g u v n d → RefusesJoin p u v y → ⊥
   joined_refused g u v n d refusal.NoVertex joined right =
       outside u v right joined.joinable.first joined.joinable.second
   joined_refused g u v n d refusal.Loop joined right = joined.joinable.different right.1
@@ -125,7 +125,7 @@ module _ (p : Position) where
       full u v _ _ _ right.3 joined.joinable.first_room joined.joinable.second_room
   joined_refused g u v n d y joined right = absurd right
 
-  join_refused_once : (u v : ℕ) (y z : Refusal) → RefusesJoinRequest p u v y → RefusesJoinRequest p u v z → y ≡ z
+  join_refused_once : (u v : ℕ) (y z : Refusal) → RefusesJoin p u v y → RefusesJoin p u v z → y ≡ z
   join_refused_once u v refusal.NoVertex refusal.NoVertex first second = refl
   join_refused_once u v refusal.NoVertex refusal.Loop first second =
       absurd (outside u v first second.0 (omega (arith, second.0, second.1)))

@@ -1,7 +1,7 @@
 -- A reply that is right at one position is right at another that has the same graph and the same amounts on it.
 --   out_of_range-cong    amounts that agree with some out of range are out of range
 --   replies-cong         a right reply to a request is right for amounts that agree
-use Rattle.dg_rules.proofs.Common.{◌≡◌, ℕ, arith, ◌∙◌, ints, ℤ, Multigraph, Amounts, DivisorsAgreeOn, Vector, IsOutOfRange, script_of_move, fired-here, right-cong, ShowsPosition, with_gift, RepliesToMove, RepliesToGift, RepliesToJoin, RepliesToLook, RepliesToClaim, RepliesToJudge, RepliesToRank, RepliesAt, Request, Move, Gift, Join, Look, Claim, Judge, Reply, Moved, Given, Joined, Looked, Verdict, Stale, Won, NotWon, Refused}
+use Rattle.dg_rules.proofs.Common.{◌≡◌, ℕ, arith, ◌∙◌, ints, ℤ, Multigraph, Amounts, DivisorsAgreeOn, Vector, IsOutOfRange, move_script, fired-here, right-cong, ShowsPosition, with_gift, RepliesToMove, RepliesToGift, RepliesToJoin, RepliesToLook, RepliesToClaim, RepliesToJudge, RepliesToRank, RepliesAt, Request, Move, Gift, Join, Look, Claim, Judge, Reply, Moved, Given, Joined, Looked, Verdict, Stale, Won, NotWon, Refused}
 use Rattle.dg_chips.specs.declared.moves.Move.{Move as AMove}
 use Rattle.dg_rules.specs.declared.entry.Refusal.TheVariants as refusal
 use Rattle.dg_rules.specs.declared.entry.Request.TheVariants.{Rank as RankRequest}
@@ -18,13 +18,13 @@ moved-cong g D E m (Moved d) same right = record {
   playable = right.playable;
   size = right.size;
   divisor = right.divisor;
-  amounts = λ v below. right.amounts v below ∙ fired-here g D E (script_of_move m) same v below;
+  amounts = λ v below. right.amounts v below ∙ fired-here g D E (move_script m) same v below;
 }
 moved-cong g D E m (Refused refusal.NoVertex) same right = right
 moved-cong g D E m (Refused refusal.Empty) same right = right
 moved-cong g D E m (Refused refusal.Script) same right = right
 moved-cong g D E m (Refused refusal.Range) same right =
-    (right.0, out_of_range-cong g.size _ _ (fired-here g D E (script_of_move m) same) right.1)
+    (right.0, out_of_range-cong g.size _ _ (fired-here g D E (move_script m) same) right.1)
 moved-cong g D E m reply same right = absurd right
 
 given-here : (g : Multigraph) (D E : Amounts) (v : ℕ) → DivisorsAgreeOn g.size D E → (x : ℤ) →

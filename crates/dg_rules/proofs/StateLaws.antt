@@ -7,7 +7,7 @@
 --   replies_after    a reply that is right in a state is right after a history that leads to it
 --   right_in         and the other way round
 --   leads_more       a reply that is right after the history leads with its entry to the next state
-use Rattle.dg_rules.proofs.Common.{◌≡◌, ℕ, ◌+◌, ◌<◌, List, [], ◌∷◌, ◌++◌, take, arith, refl, sym, ap, subst, ◌∙◌, length-append, ints, ℤ, pos, Multigraph, size_stays, one_vector, Vector, IsDivisorVector, at, StartData, Position, ShowsPosition, IsAcceptedGiftReply, with_gift, position_joined_at, gifts_in, gifts_by_reply, scripts_played, after_reply, Replies, RepliesAt, GameState, HistoryLeadsTo, IsRightReplyInState, IsNextGameState, position_of, position_amounts_after, gifts_after, graph_after, Entry, Request, Move, Gift, Join, Look, Claim, Judge, Reply, Moved, Given, Joined, Looked, Verdict, Stale, Won, NotWon, Refused}
+use Rattle.dg_rules.proofs.Common.{◌≡◌, ℕ, ◌+◌, ◌<◌, List, [], ◌∷◌, ◌++◌, take, arith, refl, sym, ap, subst, ◌∙◌, length-append, ints, ℤ, pos, Multigraph, size_stays, one_vector, Vector, IsDivisorVector, at, StartData, Position, ShowsPosition, IsAcceptedGift, with_gift, with_join, gifts_in, change_count, scripts_played, after_reply, Replies, RepliesAt, GameState, LeadsTo, IsRightReply, IsNextState, position_of, amounts_after, gifts_after, graph_after, Entry, Request, Move, Gift, Join, Look, Claim, Judge, Reply, Moved, Given, Joined, Looked, Verdict, Stale, Won, NotWon, Refused}
 use Rattle.dg_rules.specs.History.{position_after}
 use Rattle.dg_rules.specs.declared.entry.Request.TheVariants.{Rank as RankRequest}
 use Rattle.dg_rules.specs.declared.entry.Reply.TheVariants.{Rank as RankReply}
@@ -15,7 +15,7 @@ use Rattle.dg_rules.proofs.HistoryLaws.{gifts_in-more, scripts_played-more}
 use Rattle.dg_rules.proofs.StepLaw.{no_entry, one_more_entry}
 use Rattle.dg_rules.proofs.ReplyLaws.{replies-cong}
 
-pub replies_after : (o : StartData) (H : List Entry) (s : GameState) (request : Request) (reply : Reply) → HistoryLeadsTo o H s →
+pub replies_after : (o : StartData) (H : List Entry) (s : GameState) (request : Request) (reply : Reply) → LeadsTo o H s →
     RepliesAt (position_of s) s.q (λ i. gifts_in (take i H)) s.gifts request reply → Replies o H request reply
 replies_after o H s request reply leads right =
     let p : Position = position_after o H in
@@ -28,8 +28,8 @@ replies_after o H s request reply leads right =
     subst (λ (n : ℕ). RepliesAt p o.q before n request reply) leads.gifts
     (subst (λ (q : ℕ). RepliesAt p q before s.gifts request reply) leads.q on_amounts)
 
-pub right_in : (o : StartData) (H : List Entry) (s : GameState) (request : Request) (reply : Reply) → HistoryLeadsTo o H s →
-    Replies o H request reply → IsRightReplyInState s request reply
+pub right_in : (o : StartData) (H : List Entry) (s : GameState) (request : Request) (reply : Reply) → LeadsTo o H s →
+    Replies o H request reply → IsRightReply s request reply
 right_in o H s request reply leads right =
     let p : Position = position_after o H in
     let before : ℕ → ℕ = λ i. gifts_in (take i H) in
@@ -51,14 +51,14 @@ shown_once p d e first second =
     let here : v < p.graph.size = omega (arith, below, first.size) in
     first.amounts v here ∙ sym (second.amounts v here))
 
-pub given_once : (p : Position) (g v : ℕ) (x : ℤ) (n m : ℕ) (d e : Vector) → IsAcceptedGiftReply p g v x n d →
-    IsAcceptedGiftReply p g v x m e → d ≡ e
+pub given_once : (p : Position) (g v : ℕ) (x : ℤ) (n m : ℕ) (d e : Vector) → IsAcceptedGift p g v x n d →
+    IsAcceptedGift p g v x m e → d ≡ e
 given_once p g v x n m d e first second =
     shown_once (record { graph = p.graph; amounts = with_gift p v x }) d e
     (record { size = first.size; divisor = first.divisor; amounts = first.amounts })
     (record { size = second.size; divisor = second.divisor; amounts = second.amounts })
 
-pub shows_joined : (p : Position) (u v : ℕ) (d : Vector) → ShowsPosition p d → ShowsPosition (position_joined_at p u v) d
+pub shows_joined : (p : Position) (u v : ℕ) (d : Vector) → ShowsPosition p d → ShowsPosition (with_join p u v) d
 shows_joined p u v d shows = record {
   size = shows.size ∙ sym (size_stays p.graph u v);
   divisor = shows.divisor;
@@ -67,7 +67,7 @@ shows_joined p u v d shows = record {
 
 pub shows_after : (o : StartData) (H : List Entry) (d : Vector) (request : Request) (reply : Reply) →
     ShowsPosition (position_after o H) d →
-    Replies o H request reply → ShowsPosition (after_reply (position_after o H) request reply) (position_amounts_after d reply)
+    Replies o H request reply → ShowsPosition (after_reply (position_after o H) request reply) (amounts_after d reply)
 shows_after o H d (Move m) (Moved e) shows right =
     record { size = right.size; divisor = right.divisor; amounts = right.amounts }
 shows_after o H d (Move m) (Refused refusal) shows right = shows
@@ -97,7 +97,7 @@ size_after g (Join u v) (Joined count d) = size_stays g u v
 size_after g request reply = refl
 
 gifts_counted : (o : StartData) (H : List Entry) (request : Request) (reply : Reply) → Replies o H request reply →
-    gifts_after (gifts_in H) reply ≡ gifts_in H + gifts_by_reply reply
+    gifts_after (gifts_in H) reply ≡ gifts_in H + change_count reply
 gifts_counted o H (Move m) (Moved d) right = omega arith
 gifts_counted o H (Move m) (Refused refusal) right = omega arith
 gifts_counted o H (Gift v x) (Given count d) right = right.count'
@@ -113,9 +113,9 @@ gifts_counted o H (RankRequest i k) (RankReply x) right = omega arith
 gifts_counted o H (RankRequest i k) (Stale count) right = omega arith
 gifts_counted o H request reply right = absurd right
 
-pub leads_more : (o : StartData) (H : List Entry) (s t : GameState) (e : Entry) → HistoryLeadsTo o H s →
+pub leads_more : (o : StartData) (H : List Entry) (s t : GameState) (e : Entry) → LeadsTo o H s →
     Replies o H e.request e.reply →
-    IsNextGameState s e.request e.reply t → HistoryLeadsTo o (H ++ e ∷ []) t
+    IsNextState s e.request e.reply t → LeadsTo o (H ++ e ∷ []) t
 leads_more o H s t e leads right next =
     let p : Position = position_after o H in
     let shown : ShowsPosition (after_reply p e.request e.reply) t.amounts =
@@ -139,7 +139,7 @@ leads_more o H s t e leads right next =
 
 pub start_leads : (o : StartData) (d : Vector) → o.divisor.size ≡ o.graph.size → IsDivisorVector o.divisor →
     ((v : ℕ) → at d v ≡ pos 0) →
-    HistoryLeadsTo o [] (record { graph = o.graph; q = o.q; amounts = o.divisor; drift = d; gifts = 0; entries = 0 })
+    LeadsTo o [] (record { graph = o.graph; q = o.q; amounts = o.divisor; drift = d; gifts = 0; entries = 0 })
 start_leads o d size divisor still = record {
   graph = ap (λ (p : Position). p.graph) (sym (no_entry o));
   q = refl;

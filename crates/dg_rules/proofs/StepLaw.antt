@@ -6,7 +6,7 @@
 --   since_start         from the start on,
 --   since_last          and from the last change on
 --   vertices_stay       entries neither add nor remove vertices
-use Rattle.dg_rules.proofs.Common.{refl, ◌≡◌, ℕ, Bool, true, false, List, [], ◌∷◌, ◌++◌, reverse, append_assoc, append-nil, arith, sym, ap, ◌∙◌, cond, false≢true, reverse-append, pos, ◌+ℤ◌, Multigraph, Amounts, fired-fired, fired-constant, size_stays, StartData, Position, position_at_start, position_fired_by, script_by_reply, scripts_played, is_change, changed, scripts_since, position_after_change, after_reply, GameHasNoEntry, OneMoreEntry, PositionSinceChange, PlayedSinceStart, PositionSinceLastChange, VerticesStay, Entry, Request, Move, Gift, Join, Reply, Moved, Given, Joined}
+use Rattle.dg_rules.proofs.Common.{refl, ◌≡◌, ℕ, Bool, true, false, List, [], ◌∷◌, ◌++◌, reverse, append_assoc, append-nil, arith, sym, ap, ◌∙◌, cond, false≢true, reverse-append, pos, ◌+ℤ◌, Multigraph, Amounts, fired-fired, fired-constant, size_stays, StartData, Position, start_position, fired_position, accepted_script, scripts_played, is_change, after_change, scripts_since, position_after_change, after_reply, EmptyHistoryPosition, OneMoreEntry, PositionSinceChange, PlayedSinceStart, PlayedSinceChange, VerticesStay, Entry, Request, Move, Gift, Join, Reply, Moved, Given, Joined}
 use Rattle.dg_rules.specs.History.{position_after}
 
 abbrev placed : Multigraph → Amounts → Position
@@ -16,41 +16,41 @@ placed-cong : (g : Multigraph) (D E : Amounts) → ((v : ℕ) → D v ≡ E v) �
 placed-cong g D E same = λ i. placed g (λ v. same v i)
 
 -- to fire by nothing leaves a position as it is, and to fire twice is to fire by the sum
-still : (p : Position) → p ≡ position_fired_by p (λ v. pos 0)
+still : (p : Position) → p ≡ fired_position p (λ v. pos 0)
 still p = sym (placed-cong p.graph _ p.amounts (λ v. fired-constant p.graph p.amounts (pos 0) v))
 
-fired_on : (p : Position) (s t : Amounts) → position_fired_by (position_fired_by p s) t ≡ position_fired_by p (λ v. s v +ℤ t v)
+fired_on : (p : Position) (s t : Amounts) → fired_position (fired_position p s) t ≡ fired_position p (λ v. s v +ℤ t v)
 fired_on p s t = placed-cong p.graph _ _ (λ v. fired-fired p.graph p.amounts s t v)
 
-pub no_entry : GameHasNoEntry
+pub no_entry : EmptyHistoryPosition
 unfolding position_after
-no_entry o = sym (still (position_at_start o))
+no_entry o = sym (still (start_position o))
 
 -- an entry that is no change fires by its script, which is 0 where it is no accepted move; one that is, changes
 fires : (p : Position) (request : Request) (reply : Reply) → is_change reply ≡ false →
-    after_reply p request reply ≡ position_fired_by p (script_by_reply request reply)
+    after_reply p request reply ≡ fired_position p (accepted_script request reply)
 fires p (Move m) (Moved d) none = refl
 fires p request (Given g d) none = absurd (false≢true (sym none))
 fires p request (Joined g d) none = absurd (false≢true (sym none))
 fires p request reply none = still p
 
 changes : (p : Position) (request : Request) (reply : Reply) → is_change reply ≡ true →
-    after_reply p request reply ≡ changed p request reply
+    after_reply p request reply ≡ after_change p request reply
 changes p (Move m) (Moved d) change = absurd (false≢true change)
 changes p request reply change = refl
 
 -- the position after entries that stand the latest first
 abbrev ahead : StartData → List Entry → Position
-ahead o R = position_fired_by (position_after_change o R) (scripts_since R)
+ahead o R = fired_position (position_after_change o R) (scripts_since R)
 
 ahead_more : (o : StartData) (R : List Entry) (seat : ℕ) (request : Request) (reply : Reply) →
     ahead o (record { seat = seat; request = request; reply = reply } ∷ R) ≡ after_reply (ahead o R) request reply
 ahead_more o R seat request (Given g d) =
-    sym (still (changed (ahead o R) request (Given g d))) ∙ sym (changes (ahead o R) request (Given g d) refl)
+    sym (still (after_change (ahead o R) request (Given g d))) ∙ sym (changes (ahead o R) request (Given g d) refl)
 ahead_more o R seat request (Joined g d) =
-    sym (still (changed (ahead o R) request (Joined g d))) ∙ sym (changes (ahead o R) request (Joined g d) refl)
+    sym (still (after_change (ahead o R) request (Joined g d))) ∙ sym (changes (ahead o R) request (Joined g d) refl)
 ahead_more o R seat request reply =
-    sym (fired_on (position_after_change o R) (scripts_since R) (script_by_reply request reply))
+    sym (fired_on (position_after_change o R) (scripts_since R) (accepted_script request reply))
     ∙ sym (fires (ahead o R) request reply refl)
 
 pub one_more_entry : OneMoreEntry
@@ -67,19 +67,19 @@ since_change o K (e ∷ L) none =
     let p : Position = position_after o K in
     let parts : position_after o (K ++ (e ∷ L)) ≡ position_after o ((K ++ e ∷ []) ++ L) =
     ap (position_after o) (sym (append_assoc K (e ∷ []) L)) in
-    let more : position_after o (K ++ e ∷ []) ≡ position_fired_by p (script_by_reply e.request e.reply) =
+    let more : position_after o (K ++ e ∷ []) ≡ fired_position p (accepted_script e.request e.reply) =
     one_more_entry o K e ∙ fires p e.request e.reply (not_counted (is_change e.reply) (omega (arith, none))) in
     parts ∙ since_change o (K ++ e ∷ []) L (omega (arith, none))
-    ∙ ap (λ (q : Position). position_fired_by q (scripts_played L)) more
-    ∙ fired_on p (script_by_reply e.request e.reply) (scripts_played L)
+    ∙ ap (λ (q : Position). fired_position q (scripts_played L)) more
+    ∙ fired_on p (accepted_script e.request e.reply) (scripts_played L)
 
 pub since_start : PlayedSinceStart
-since_start o L none = since_change o [] L none ∙ ap (λ (p : Position). position_fired_by p (scripts_played L)) (no_entry o)
+since_start o L none = since_change o [] L none ∙ ap (λ (p : Position). fired_position p (scripts_played L)) (no_entry o)
 
-pub since_last : PositionSinceLastChange
+pub since_last : PlayedSinceChange
 since_last o K L c change none =
     ap (position_after o) (sym (append_assoc K (c ∷ []) L)) ∙ since_change o (K ++ c ∷ []) L none
-    ∙ ap (λ (p : Position). position_fired_by p (scripts_played L))
+    ∙ ap (λ (p : Position). fired_position p (scripts_played L))
     (one_more_entry o K c ∙ changes (position_after o K) c.request c.reply change)
 
 size_same : (p : Position) (request : Request) (reply : Reply) → (after_reply p request reply).graph.size ≡ p.graph.size

@@ -2,7 +2,7 @@
 --   RefusesMove p m refusal == the move is refused for this cause, and for no earlier one
 --   RepliesToMove p m reply == the reply is the right one: the amounts after the move, or its
 --                              refusal
-use Rattle.dg_rules.specs.Common.{fired, IsOutOfRange, script_of_move, IsMoveOfNoVertex, IsMoveOfEmptySet, HasOtherSize, IsApplicableMove, IsAfterMove, Move}
+use Rattle.dg_rules.specs.Common.{fired, IsOutOfRange, move_script, NamesNoVertex, FiresEmptySet, HasOtherSize, IsApplicableMove, IsAfterMove, Move}
 use Rattle.dg_rules.specs.Position.{Position}
 use Rattle.dg_rules.specs.declared.entry.Refusal.{Refusal}
 use Rattle.dg_rules.specs.declared.entry.Refusal.TheVariants.{NoVertex, Empty, Script, Range}
@@ -10,11 +10,11 @@ use Rattle.dg_rules.specs.declared.entry.Reply.{Reply}
 use Rattle.dg_rules.specs.declared.entry.Reply.TheVariants.{Moved, Refused}
 
 abbrev pub RefusesMove : Position → Move → Refusal → Type 0
-RefusesMove p m NoVertex = IsMoveOfNoVertex p.graph.size m
-RefusesMove p m Empty = IsMoveOfEmptySet m
+RefusesMove p m NoVertex = NamesNoVertex p.graph.size m
+RefusesMove p m Empty = FiresEmptySet m
 RefusesMove p m Script = HasOtherSize p.graph.size m
 RefusesMove p m Range =
-    IsApplicableMove p.graph.size m × IsOutOfRange p.graph.size (fired p.graph p.amounts (script_of_move m))
+    IsApplicableMove p.graph.size m × IsOutOfRange p.graph.size (fired p.graph p.amounts (move_script m))
 RefusesMove p m refusal = ⊥
 
 abbrev pub RepliesToMove : Position → Move → Reply → Type 0

@@ -11,7 +11,7 @@
 --                                           gift count is g, and was `before i` at entry i
 --   Replies o H request reply            == the reply is right after the history H from the start o
 use Rattle.std.specs.Prelude.{◌≡◌, ◌≢◌, ℕ, List, take}
-use Rattle.dg_rules.specs.Common.{IsEffective, StartData, IsRight, IsRightRankVerdict}
+use Rattle.dg_rules.specs.Common.{IsEffective, StartData, IsRightVerdict, IsRightRank}
 use Rattle.dg_rules.specs.Position.{Position, ShowsPosition}
 use Rattle.dg_rules.specs.History.{position_after, gifts_in}
 use Rattle.dg_rules.specs.MoveReplies.{RepliesToMove}
@@ -33,12 +33,12 @@ RepliesToClaim p NotWon = ¬ IsEffective p.graph.size p.amounts
 RepliesToClaim p reply = ⊥
 
 abbrev pub RepliesToJudge : Position → ℕ → ℕ → ℕ → Reply → Type 0
-RepliesToJudge p q h g (Verdict x) = (h ≡ g) × IsRight p.graph q p.amounts x
+RepliesToJudge p q h g (Verdict x) = (h ≡ g) × IsRightVerdict p.graph q p.amounts x
 RepliesToJudge p q h g (Stale count) = (h ≢ g) × (count ≡ g)
 RepliesToJudge p q h g reply = ⊥
 
 abbrev pub RepliesToRank : Position → ℕ → ℕ → ℕ → Reply → Type 0
-RepliesToRank p h g k (RankReply x) = (h ≡ g) × IsRightRankVerdict p.graph p.amounts k x
+RepliesToRank p h g k (RankReply x) = (h ≡ g) × IsRightRank p.graph p.amounts k x
 RepliesToRank p h g k (Stale count) = (h ≢ g) × (count ≡ g)
 RepliesToRank p h g k reply = ⊥
 

@@ -1,6 +1,6 @@
 -- What calls ask.
---   asked call         == the request that a call of the game makes
---   request_for choice == that of a choice: its move, and a claim if it has none
+--   call_request call     == the request that a call of the game makes
+--   choice_request choice == that of a choice: its move, and a claim if it has none
 use Rattle.std.specs.Prelude.{Option, Some, None}
 use Rattle.dg_rules.specs.Common.{Move}
 use Rattle.dg_rules.specs.declared.entry.Plain.{Plain}
@@ -8,13 +8,13 @@ use Rattle.dg_rules.specs.declared.entry.Plain.TheVariants as plain
 use Rattle.dg_rules.specs.declared.entry.Request.{Request}
 use Rattle.dg_rules.specs.declared.entry.Request.TheVariants as request
 
-abbrev pub asked : Plain → Request
-asked (plain.Move m) = request.Move m
-asked (plain.Gift v x) = request.Gift v x
-asked (plain.Join u v) = request.Join u v
-asked plain.Look = request.Look
-asked plain.Claim = request.Claim
+abbrev pub call_request : Plain → Request
+call_request (plain.Move m) = request.Move m
+call_request (plain.Gift v x) = request.Gift v x
+call_request (plain.Join u v) = request.Join u v
+call_request plain.Look = request.Look
+call_request plain.Claim = request.Claim
 
-abbrev pub request_for : Option Move → Request
-request_for (Some m) = request.Move m
-request_for None = request.Claim
+abbrev pub choice_request : Option Move → Request
+choice_request (Some m) = request.Move m
+choice_request None = request.Claim

@@ -1,21 +1,21 @@
 -- The state of a game.
---   GameState                           == the graph, the vertex q, the amounts now, how often each vertex
---                                          has lent by the accepted moves, the gift count and the number of
---                                          entries
---   position_of s                       == the position that the state shows
---   IsGameState s                       == the parts of the state s fit together and are within their limits
---   HistoryLeadsTo o H s                == the history H leads from the start o to the state s
---   IsRightReplyInState s request reply == the reply is right in the state s, for some gift counts at the
---                                          looks
---   position_amounts_after d reply      == the amounts after the reply, if they were d before
---   gifts_after n reply                 == the gift count after the reply, where it was n before
---   graph_after g request reply         == the graph after the request was so answered, where it was g before
---   IsNextGameState s request reply t   == t is the state after s and one entry with this request and reply
+--   GameState                     == the graph, the vertex q, the amounts now, how often each vertex
+--                                    has lent by the accepted moves, the gift count and the number of
+--                                    entries
+--   position_of s                 == the position that the state shows
+--   IsState s                     == the parts of the state s fit together and are within their limits
+--   LeadsTo o H s                 == the history H leads from the start o to the state s
+--   IsRightReply s request reply  == the reply is right in the state s, for some gift counts at the
+--                                    looks
+--   amounts_after d reply         == the amounts after the reply, if they were d before
+--   gifts_after n reply           == the gift count after the reply, where it was n before
+--   graph_after g request reply   == the graph after the request was so answered, where it was g before
+--   IsNextState s request reply t == t is the state after s and one entry with this request and reply
 use Rattle.std.specs.Prelude.{◌≡◌, ℕ, ◌+◌, ◌*◌, ◌<◌, ◌≤◌, ◌+ℤ◌, List, length}
 use Rattle.std.specs.Int.RustNames.{unsigned_abs}
 use Rattle.dg_rules.specs.Common.{Multigraph, with_edge, IsGraph, Vector, IsDivisorVector, at, MAX_ENTRY, StartData}
 use Rattle.dg_rules.specs.Position.{Position, ShowsPosition}
-use Rattle.dg_rules.specs.History.{position_after, gifts_in, scripts_played, script_by_reply}
+use Rattle.dg_rules.specs.History.{position_after, gifts_in, scripts_played, accepted_script}
 use Rattle.dg_rules.specs.Replies.{RepliesAt}
 use Rattle.dg_rules.specs.declared.entry.Entry.{Entry}
 use Rattle.dg_rules.specs.declared.entry.Request.{Request}
@@ -35,7 +35,7 @@ pub record GameState : Type 0 where
 abbrev pub position_of : GameState → Position
 position_of s = record { graph = s.graph; amounts = at s.amounts }
 
-pub record IsGameState (s : GameState) : Type 0 where
+pub record IsState (s : GameState) : Type 0 where
   pub graph : IsGraph s.graph
   pub vertex : s.q < s.graph.size
   pub size : s.amounts.size ≡ s.graph.size
@@ -45,7 +45,7 @@ pub record IsGameState (s : GameState) : Type 0 where
   pub gifts : s.gifts ≤ s.entries
   pub entries : s.entries ≤ MAX_ENTRIES
 
-pub record HistoryLeadsTo (o : StartData) (H : List Entry) (s : GameState) : Type 0 where
+pub record LeadsTo (o : StartData) (H : List Entry) (s : GameState) : Type 0 where
   pub graph : s.graph ≡ (position_after o H).graph
   pub q : s.q ≡ o.q
   pub amounts : ShowsPosition (position_after o H) s.amounts
@@ -53,21 +53,21 @@ pub record HistoryLeadsTo (o : StartData) (H : List Entry) (s : GameState) : Typ
   pub gifts : s.gifts ≡ gifts_in H
   pub entries : s.entries ≡ length H
 
-abbrev pub IsRightReplyInState : GameState → Request → Reply → Type 0
-IsRightReplyInState s request reply =
+abbrev pub IsRightReply : GameState → Request → Reply → Type 0
+IsRightReply s request reply =
     (before : ℕ → ℕ) × RepliesAt (position_of s) s.q before s.gifts request reply
 
-abbrev pub position_amounts_after : Vector → Reply → Vector
-position_amounts_after d (Moved e) = e
-position_amounts_after d (Given g e) = e
-position_amounts_after d (Joined g e) = d
-position_amounts_after d (Looked g e graph) = d
-position_amounts_after d (Verdict x) = d
-position_amounts_after d (Rank x) = d
-position_amounts_after d (Stale g) = d
-position_amounts_after d Won = d
-position_amounts_after d NotWon = d
-position_amounts_after d (Refused refusal) = d
+abbrev pub amounts_after : Vector → Reply → Vector
+amounts_after d (Moved e) = e
+amounts_after d (Given g e) = e
+amounts_after d (Joined g e) = d
+amounts_after d (Looked g e graph) = d
+amounts_after d (Verdict x) = d
+amounts_after d (Rank x) = d
+amounts_after d (Stale g) = d
+amounts_after d Won = d
+amounts_after d NotWon = d
+amounts_after d (Refused refusal) = d
 
 abbrev pub gifts_after : ℕ → Reply → ℕ
 gifts_after n (Given g e) = g
@@ -85,10 +85,10 @@ abbrev pub graph_after : Multigraph → Request → Reply → Multigraph
 graph_after g (Join u v) (Joined n e) = with_edge g u v
 graph_after g request reply = g
 
-pub record IsNextGameState (s : GameState) (request : Request) (reply : Reply) (t : GameState) : Type 0 where
+pub record IsNextState (s : GameState) (request : Request) (reply : Reply) (t : GameState) : Type 0 where
   pub graph : t.graph ≡ graph_after s.graph request reply
   pub q : t.q ≡ s.q
-  pub amounts : t.amounts ≡ position_amounts_after s.amounts reply
-  pub drift : (v : ℕ) → v < s.graph.size → at t.drift v ≡ at s.drift v +ℤ script_by_reply request reply v
+  pub amounts : t.amounts ≡ amounts_after s.amounts reply
+  pub drift : (v : ℕ) → v < s.graph.size → at t.drift v ≡ at s.drift v +ℤ accepted_script request reply v
   pub gifts : t.gifts ≡ gifts_after s.gifts reply
   pub entries : t.entries ≡ s.entries + 1

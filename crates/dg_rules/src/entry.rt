@@ -1,7 +1,7 @@
 //! Entries of a history: what was asked, and what was answered.
 ghost use Rattle.std.specs.Prelude.{◌≡◌};
 ghost use Rattle.dg_rules.specs.Refusals.{refusal_for, join_refusal_for};
-ghost use Rattle.dg_rules.specs.Requests.{asked, request_for};
+ghost use Rattle.dg_rules.specs.Requests.{call_request, choice_request};
 
 use dg_chips::{Divisor, Move, MoveFault};
 use dg_graph::{Graph, JoinFault};
@@ -31,8 +31,8 @@ pub enum Plain {
 
 impl Plain {
     /// The call that a choice makes: its move, or a claim if it has none.
-    pub fn of(choice: Option<Move>) -> Plain
-        ensures { asked result ≡ request_for choice }
+    pub fn from_choice(choice: Option<Move>) -> Plain
+        ensures { call_request result ≡ choice_request choice }
     {
         match choice {
             Some(play) => Plain::Move(play),
@@ -41,8 +41,8 @@ impl Plain {
     }
 
     /// Writes what the entry of the call asks.
-    pub fn ask(&self, request: &mut Request)
-        ensures { request.new ≡ asked self.now }
+    pub fn write_request(&self, request: &mut Request)
+        ensures { request.new ≡ call_request self.now }
     {
         match self {
             Plain::Move(play) => *request = Request::Move(*play),

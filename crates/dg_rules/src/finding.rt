@@ -55,7 +55,7 @@ impl Finding {
 /// The verdict on the amounts that a look showed, computed from the vertex q of its graph, whatever inverse it is given: one
 /// that was made for the graph and q saves the time to make it anew. The conditions are that the look showed an amount for
 /// each vertex of its graph, and that q is one of them.
-pub fn finding_of_verdict(inverse: &InverseLaplacian, q: usize, look: &LookData) -> Finding
+pub fn judge_look(inverse: &InverseLaplacian, q: usize, look: &LookData) -> Finding
     requires size { look.now.position.size ≡ look.now.graph.size }
     requires vertex { q < look.now.graph.size }
     ensures found { IsRightFinding q look.now result }
@@ -65,15 +65,15 @@ pub fn finding_of_verdict(inverse: &InverseLaplacian, q: usize, look: &LookData)
 }
 
 /// Makes an inverse anew, unless it may serve the verdict on a look, computed from the vertex q. Nothing is promised of it.
-pub fn renew_game_inverse(inverse: &mut InverseLaplacian, q: usize, look: &LookData) {
-    if !inverse.may_invert(&look.graph, q) {
-        make_game_inverse(inverse, q, &look.graph);
+pub fn renew_inverse(inverse: &mut InverseLaplacian, q: usize, look: &LookData) {
+    if !inverse.serves(&look.graph, q) {
+        remake_inverse(inverse, q, &look.graph);
     }
 }
 
 /// Makes an inverse anew. It stands apart, so that no room for an inverse is cleared if the one that is kept serves.
 #[cold]
 #[inline(never)]
-fn make_game_inverse(inverse: &mut InverseLaplacian, q: usize, graph: &Graph) {
+fn remake_inverse(inverse: &mut InverseLaplacian, q: usize, graph: &Graph) {
     *inverse = InverseLaplacian::new(graph, q);
 }

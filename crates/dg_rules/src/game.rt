@@ -4,18 +4,18 @@ ghost use Rattle.std.specs.Bool.{OnTrue};
 ghost use Rattle.std.specs.Int.RustNames.{unsigned_abs};
 ghost use Rattle.dg_chips.specs.Starts.{StartData};
 ghost use Rattle.dg_chips.specs.Vector.{at};
-ghost use Rattle.dg_chips.specs.Moves.{script_of_move};
+ghost use Rattle.dg_chips.specs.Moves.{move_script};
 ghost use Rattle.dg_theory.specs.Firing.{FiresTo, AreEquivalent};
-ghost use Rattle.dg_verdict.specs.Right.{IsRight};
+ghost use Rattle.dg_verdict.specs.Right.{IsRightVerdict};
 ghost use Rattle.dg_rules.specs.MoveReplies.{RepliesToMove};
 ghost use Rattle.dg_rules.specs.GiftReplies.{RepliesToGift};
 ghost use Rattle.dg_rules.specs.JoinReplies.{RepliesToJoin};
 ghost use Rattle.dg_rules.specs.Replies.{Replies, RepliesAt, RepliesToClaim};
 ghost use Rattle.dg_rules.specs.History.{with_entry};
-ghost use Rattle.dg_rules.specs.Legal.{IsSeatInGame, IsLegal};
-ghost use Rattle.dg_rules.specs.Look.{IsLookAt, IsRightFinding, request_for_finding, request_for_question, ReplyKeepsFinding};
-ghost use Rattle.dg_rules.specs.State.{IsGameState, HistoryLeadsTo, IsRightReplyInState, IsNextGameState, position_of};
-ghost use Rattle.dg_rules.specs.Requests.{asked};
+ghost use Rattle.dg_rules.specs.Legal.{IsSeatNumber, IsLegal};
+ghost use Rattle.dg_rules.specs.Look.{IsLookAt, IsRightFinding, request_for_finding, request_for_question, KeepsFinding};
+ghost use Rattle.dg_rules.specs.State.{IsState, LeadsTo, IsRightReply, IsNextState, position_of};
+ghost use Rattle.dg_rules.specs.Requests.{call_request};
 ghost use Rattle.dg_rules.specs.declared.entry.Entry.{Entry as EntryData};
 ghost use Rattle.dg_rules.specs.declared.entry.Reply.TheVariants.{Given, Refused, Stale};
 
@@ -43,7 +43,7 @@ pub struct Game {
 }
 
 impl Model for Game {
-    ghost use Rattle.dg_rules.specs.State.{GameState, IsGameState};
+    ghost use Rattle.dg_rules.specs.State.{GameState, IsState};
 
     ghost Value = { GameState };
 
@@ -56,7 +56,7 @@ impl Model for Game {
       entries = a.entries;
     } };
 
-    ghost invariant = { λ a. IsGameState (record {
+    ghost invariant = { λ a. IsState (record {
       graph = a.graph;
       q = a.q;
       amounts = a.amounts;
@@ -78,7 +78,7 @@ impl Model for Game {
 impl Game {
     /// The game at its start.
     pub fn new(start: &Start) -> Game
-        ensures { HistoryLeadsTo start.now [] result }
+        ensures { LeadsTo start.now [] result }
     {
         Game {
             graph: *start.graph(),
@@ -108,7 +108,7 @@ impl Game {
     /// The amounts now.
     pub fn position(&self) -> &Divisor
         ensures amounts { result.now ≡ self.now.amounts }
-        ensures state { IsGameState self.now }
+        ensures state { IsState self.now }
     {
         &self.amounts
     }
@@ -149,44 +149,44 @@ impl Game {
     /// a seat of 1 to 64 calls. It takes no memory. The condition is that there are fewer than 65,536 entries.
     pub fn act(&mut self, plain: Plain) -> Reply
         requires { self.old.entries < MAX_ENTRIES }
-        ensures replies { (o : StartData) (H : List EntryData) → HistoryLeadsTo o H self.old →
-            Replies o H (asked plain) result }
-        ensures leads { (o : StartData) (H : List EntryData) (seat : ℕ) → HistoryLeadsTo o H self.old →
-            HistoryLeadsTo o (with_entry H seat (asked plain) result) self.new }
-        ensures legal { (o : StartData) (H : List EntryData) (seat : ℕ) → HistoryLeadsTo o H self.old →
-            IsLegal o H → IsSeatInGame seat → IsLegal o (with_entry H seat (asked plain) result) }
+        ensures replies { (o : StartData) (H : List EntryData) → LeadsTo o H self.old →
+            Replies o H (call_request plain) result }
+        ensures leads { (o : StartData) (H : List EntryData) (seat : ℕ) → LeadsTo o H self.old →
+            LeadsTo o (with_entry H seat (call_request plain) result) self.new }
+        ensures legal { (o : StartData) (H : List EntryData) (seat : ℕ) → LeadsTo o H self.old →
+            IsLegal o H → IsSeatNumber seat → IsLegal o (with_entry H seat (call_request plain) result) }
     {
         let mut entry = BLANK;
         self.reply_to_call(0, &plain, &mut entry);
-        self.follow_entry(&entry);
+        self.follow(&entry);
         entry.reply
     }
 
-    /// Writes the entry of a seat's call, as the game answers it after its history. The game stays as it is: `follow_entry` takes
+    /// Writes the entry of a seat's call, as the game answers it after its history. The game stays as it is: `follow` takes
     /// the entry into the history.
     #[inline(always)]
     pub fn reply_to_call(&self, seat: u8, plain: &Plain, entry: &mut Entry)
         ensures seat { entry.new.seat ≡ seat }
-        ensures request { entry.new.request ≡ asked plain.now }
+        ensures request { entry.new.request ≡ call_request plain.now }
         ensures here { (before : ℕ → ℕ) →
             RepliesAt (position_of self.now) self.now.q before self.now.gifts entry.new.request
             entry.new.reply }
-        ensures replies { (o : StartData) (H : List EntryData) → HistoryLeadsTo o H self.now →
+        ensures replies { (o : StartData) (H : List EntryData) → LeadsTo o H self.now →
             Replies o H entry.new.request entry.new.reply }
-        ensures legal { (o : StartData) (H : List EntryData) → HistoryLeadsTo o H self.now →
-            IsLegal o H → IsSeatInGame seat → IsLegal o (H ++ entry.new ∷ []) }
+        ensures legal { (o : StartData) (H : List EntryData) → LeadsTo o H self.now →
+            IsLegal o H → IsSeatNumber seat → IsLegal o (H ++ entry.new ∷ []) }
     {
         entry.seat = seat;
-        plain.ask(&mut entry.request);
-        self.reply_at_position(plain, &mut entry.reply);
+        plain.write_request(&mut entry.request);
+        self.reply_to_plain(plain, &mut entry.reply);
     }
 
     /// Writes the reply to a call that is right as the game stands. If the caller knows that the game and the reply lie apart,
     /// what a look shows is copied once.
     #[inline(always)]
-    fn reply_at_position(&self, plain: &Plain, reply: &mut Reply)
+    fn reply_to_plain(&self, plain: &Plain, reply: &mut Reply)
         ensures { (before : ℕ → ℕ) →
-            RepliesAt (position_of self.now) self.now.q before self.now.gifts (asked plain.now) reply.new }
+            RepliesAt (position_of self.now) self.now.q before self.now.gifts (call_request plain.now) reply.new }
     {
         match plain {
             Plain::Move(play) => self.reply_to_move(play, reply),
@@ -224,7 +224,7 @@ impl Game {
     fn reply_to_join(&self, u: u8, v: u8, reply: &mut Reply)
         ensures { RepliesToJoin (position_of self.now) self.now.gifts u v reply.new }
     {
-        match self.graph.may_join(u, v) {
+        match self.graph.check_join(u, v) {
             Ok(()) => *reply = Reply::Joined(self.gifts + 1, self.amounts),
             Err(fault) => refuse(reply, Refusal::from(fault)),
         }
@@ -243,22 +243,22 @@ impl Game {
 
     /// Takes an entry that was answered rightly into the history. It takes no memory. The conditions are that there are fewer
     /// than 65,536 entries, and that the reply is the right one as the game stands.
-    pub fn follow_entry(&mut self, entry: &Entry)
+    pub fn follow(&mut self, entry: &Entry)
         requires room { self.old.entries < MAX_ENTRIES }
-        requires right { IsRightReplyInState self.old entry.now.request entry.now.reply }
-        ensures next { IsNextGameState self.old entry.now.request entry.now.reply self.new }
-        ensures leads { (o : StartData) (H : List EntryData) → HistoryLeadsTo o H self.old →
+        requires right { IsRightReply self.old entry.now.request entry.now.reply }
+        ensures next { IsNextState self.old entry.now.request entry.now.reply self.new }
+        ensures leads { (o : StartData) (H : List EntryData) → LeadsTo o H self.old →
             Replies o H entry.now.request entry.now.reply →
-            HistoryLeadsTo o (H ++ entry.now ∷ []) self.new }
+            LeadsTo o (H ++ entry.now ∷ []) self.new }
     {
-        self.follow_in_game(entry);
+        self.update(entry);
     }
 
     /// Takes an entry that was answered rightly into the state of the game.
-    fn follow_in_game(&mut self, entry: &Entry)
+    fn update(&mut self, entry: &Entry)
         requires room { self.old.entries < MAX_ENTRIES }
-        requires right { IsRightReplyInState self.old entry.now.request entry.now.reply }
-        ensures { IsNextGameState self.old entry.now.request entry.now.reply self.new }
+        requires right { IsRightReply self.old entry.now.request entry.now.reply }
+        ensures { IsNextState self.old entry.now.request entry.now.reply self.new }
     {
         self.entries += 1;
         match &entry.reply {
@@ -298,39 +298,39 @@ impl Game {
     /// and that the finding is right for the amounts of the look, on its graph.
     pub fn settle(&mut self, look: &LookData, finding: &Finding) -> Reply
         requires room { self.old.entries < MAX_ENTRIES }
-        requires look { (o : StartData) × (H : List EntryData) × HistoryLeadsTo o H self.old ×
+        requires look { (o : StartData) × (H : List EntryData) × LeadsTo o H self.old ×
             IsLookAt o H look.now }
         requires found { IsRightFinding self.old.q look.now finding.now }
-        ensures replies { (o : StartData) (H : List EntryData) → HistoryLeadsTo o H self.old →
+        ensures replies { (o : StartData) (H : List EntryData) → LeadsTo o H self.old →
             IsLookAt o H look.now → Replies o H (request_for_finding look.now.number finding.now) result }
-        ensures leads { (o : StartData) (H : List EntryData) (seat : ℕ) → HistoryLeadsTo o H self.old →
+        ensures leads { (o : StartData) (H : List EntryData) (seat : ℕ) → LeadsTo o H self.old →
             IsLookAt o H look.now →
-            HistoryLeadsTo o (with_entry H seat (request_for_finding look.now.number finding.now) result) self.new }
-        ensures legal { (o : StartData) (H : List EntryData) (seat : ℕ) → HistoryLeadsTo o H self.old →
-            IsLookAt o H look.now → IsLegal o H → IsSeatInGame seat →
+            LeadsTo o (with_entry H seat (request_for_finding look.now.number finding.now) result) self.new }
+        ensures legal { (o : StartData) (H : List EntryData) (seat : ℕ) → LeadsTo o H self.old →
+            IsLookAt o H look.now → IsLegal o H → IsSeatNumber seat →
             IsLegal o (with_entry H seat (request_for_finding look.now.number finding.now) result) }
-        ensures kept { ReplyKeepsFinding finding.now result }
+        ensures kept { KeepsFinding finding.now result }
     {
         let mut entry = BLANK;
         self.reply_to_finding(0, look, finding, &mut entry);
-        self.follow_entry(&entry);
+        self.follow(&entry);
         entry.reply
     }
 
     /// Writes the entry of what was computed on a look, answered as `settle` answers it. The game stays as it is:
-    /// `follow_entry` takes the entry into the history. The conditions are those of `settle` but for the number of entries.
+    /// `follow` takes the entry into the history. The conditions are those of `settle` but for the number of entries.
     #[inline(always)]
     pub fn reply_to_finding(&self, seat: u8, look: &LookData, finding: &Finding, entry: &mut Entry)
-        requires look { (o : StartData) × (H : List EntryData) × HistoryLeadsTo o H self.now ×
+        requires look { (o : StartData) × (H : List EntryData) × LeadsTo o H self.now ×
             IsLookAt o H look.now }
         requires found { IsRightFinding self.now.q look.now finding.now }
         ensures seat { entry.new.seat ≡ seat }
         ensures request { entry.new.request ≡ request_for_finding look.now.number finding.now }
-        ensures replies { (o : StartData) (H : List EntryData) → HistoryLeadsTo o H self.now →
+        ensures replies { (o : StartData) (H : List EntryData) → LeadsTo o H self.now →
             IsLookAt o H look.now → Replies o H entry.new.request entry.new.reply }
-        ensures legal { (o : StartData) (H : List EntryData) → HistoryLeadsTo o H self.now →
-            IsLookAt o H look.now → IsLegal o H → IsSeatInGame seat → IsLegal o (H ++ entry.new ∷ []) }
-        ensures kept { ReplyKeepsFinding finding.now entry.new.reply }
+        ensures legal { (o : StartData) (H : List EntryData) → LeadsTo o H self.now →
+            IsLookAt o H look.now → IsLegal o H → IsSeatNumber seat → IsLegal o (H ++ entry.new ∷ []) }
+        ensures kept { KeepsFinding finding.now entry.new.reply }
     {
         entry.seat = seat;
         entry.request = finding.request(look.number);
@@ -340,12 +340,12 @@ impl Game {
     /// Writes the reply to a finding that is right as the game stands.
     #[inline(always)]
     fn reply_to_right_finding(&self, look: &LookData, finding: &Finding, reply: &mut Reply)
-        requires look { (o : StartData) × (H : List EntryData) × HistoryLeadsTo o H self.now ×
+        requires look { (o : StartData) × (H : List EntryData) × LeadsTo o H self.now ×
             IsLookAt o H look.now }
         requires found { IsRightFinding self.now.q look.now finding.now }
-        ensures replies { (o : StartData) (H : List EntryData) → HistoryLeadsTo o H self.now →
+        ensures replies { (o : StartData) (H : List EntryData) → LeadsTo o H self.now →
             IsLookAt o H look.now → Replies o H (request_for_finding look.now.number finding.now) reply.new }
-        ensures kept { ReplyKeepsFinding finding.now reply.new }
+        ensures kept { KeepsFinding finding.now reply.new }
     {
         if self.gifts != look.gifts {
             *reply = Reply::Stale(self.gifts);
@@ -353,10 +353,10 @@ impl Game {
         }
         match finding {
             Finding::Judged(verdict) => {
-                if self.position_stands_at(&look.position) {
+                if self.is_at(&look.position) {
                     *reply = Reply::Verdict(*verdict);
                 } else {
-                    let carried = self.verdict_at_position(&look.position, &look.drift, verdict);
+                    let carried = self.verdict_now(&look.position, &look.drift, verdict);
                     *reply = Reply::Verdict(carried);
                 }
             }
@@ -365,18 +365,18 @@ impl Game {
     }
 
     /// Writes the entry of a question on a look, if gifts, levies or joins were accepted since: it is answered with `Stale`,
-    /// as `settle` answers each finding, so nothing has to be computed. The game stays as it is: `follow_entry` takes the
+    /// as `settle` answers each finding, so nothing has to be computed. The game stays as it is: `follow` takes the
     /// entry into the history. The condition is that their number is another than that before the look.
-    pub fn reply_as_stale(&self, seat: u8, look: &LookData, asks: &Question, entry: &mut Entry)
+    pub fn reply_stale(&self, seat: u8, look: &LookData, asks: &Question, entry: &mut Entry)
         requires { look.now.gifts ≢ self.now.gifts }
         ensures seat { entry.new.seat ≡ seat }
         ensures request { entry.new.request ≡ request_for_question look.now.number asks.now }
         ensures stale { entry.new.reply ≡ Stale self.now.gifts }
         ensures replies { (o : StartData) (H : List EntryData) →
-            HistoryLeadsTo o H self.now → IsLookAt o H look.now →
+            LeadsTo o H self.now → IsLookAt o H look.now →
             Replies o H entry.new.request entry.new.reply }
-        ensures legal { (o : StartData) (H : List EntryData) → HistoryLeadsTo o H self.now →
-            IsLookAt o H look.now → IsLegal o H → IsSeatInGame seat → IsLegal o (H ++ entry.new ∷ []) }
+        ensures legal { (o : StartData) (H : List EntryData) → LeadsTo o H self.now →
+            IsLookAt o H look.now → IsLegal o H → IsSeatNumber seat → IsLegal o (H ++ entry.new ∷ []) }
     {
         entry.seat = seat;
         entry.request = asks.request(look.number);
@@ -384,29 +384,29 @@ impl Game {
     }
 
     /// Whether the position now is an earlier one.
-    fn position_stands_at(&self, then: &Divisor) -> bool
+    fn is_at(&self, then: &Divisor) -> bool
         ensures { OnTrue result (then.now.numbers ≡ self.now.amounts.numbers) }
     {
         *then == self.amounts
     }
 
     /// The verdict on an earlier position, carried over to the position now.
-    fn verdict_at_position(&self, then: &Divisor, drift: &Drift, verdict: &Verdict) -> Verdict
+    fn verdict_now(&self, then: &Divisor, drift: &Drift, verdict: &Verdict) -> Verdict
         requires size { then.now.size ≡ self.now.graph.size }
         requires led { AreEquivalent self.now.graph (at then.now) (at self.now.amounts) }
-        requires right { IsRight self.now.graph self.now.q (at then.now) verdict.now }
-        ensures right { IsRight self.now.graph self.now.q (at self.now.amounts) result }
+        requires right { IsRightVerdict self.now.graph self.now.q (at then.now) verdict.now }
+        ensures right { IsRightVerdict self.now.graph self.now.q (at self.now.amounts) result }
         ensures reduced { result.reduced ≡ verdict.now.reduced }
         ensures order { result.order ≡ verdict.now.order }
     {
         let _size = self.amounts.size();
-        let since = self.drift_to_position(then, drift);
+        let since = self.drift_from(then, drift);
         rebase(self.q(), verdict, &since)
     }
 
     /// A drift that leads from an earlier position to the position now: what was lent since then, if it does; otherwise
     /// what the scripts of two verdicts differ by.
-    fn drift_to_position(&self, then: &Divisor, drift: &Drift) -> Drift
+    fn drift_from(&self, then: &Divisor, drift: &Drift) -> Drift
         requires size { then.now.size ≡ self.now.graph.size }
         requires led { AreEquivalent self.now.graph (at then.now) (at self.now.amounts) }
         ensures size { result.size ≡ self.now.graph.size }
@@ -465,7 +465,7 @@ fn refuse(reply: &mut Reply, refusal: Refusal)
 
 /// A move lends, and borrows, at most 1,000,000,000 times at each vertex.
 fn move_lends_few(play: &Move)
-    ensures { (v : ℕ) → unsigned_abs (script_of_move play.now v) ≤ MAX_ENTRY }
+    ensures { (v : ℕ) → unsigned_abs (move_script play.now v) ≤ MAX_ENTRY }
 {
     if let Move::Script(script) = play {
         let _size = script.size();

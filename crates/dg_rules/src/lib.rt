@@ -9,7 +9,7 @@ mod look;
 mod step;
 
 pub use entry::{BLANK, Entry, MAX_GIFT, MAX_SEATS, Plain, Refusal, Reply, Request};
-pub use finding::{Finding, Question, finding_of_verdict, renew_game_inverse};
+pub use finding::{Finding, Question, judge_look, renew_inverse};
 pub use game::{Game, MAX_ENTRIES};
 pub use laws::{law_of_legal_histories, law_of_positions};
 pub use look::LookData;

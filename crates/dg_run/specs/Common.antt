@@ -3,7 +3,7 @@ pub use Rattle.dg_chips.specs.Starts.{StartData}
 pub use Rattle.dg_file.specs.declared.fault.FileFault.{FileFault}
 pub use Rattle.dg_rules.specs.declared.entry.Entry.{Entry}
 pub use Rattle.dg_rules.specs.declared.entry.TheConstants.{MAX_SEATS}
-pub use Rattle.dg_invocation.specs.Seats.{seats_of_invocation}
+pub use Rattle.dg_invocation.specs.Seats.{seat_count}
 pub use Rattle.dg_invocation.specs.declared.invocation.Invocation.{Invocation}
 pub use Rattle.dg_invocation.specs.declared.invocation.Invocation.TheVariants.{Party, Serve, Sweep, Task, Text}
 pub use Rattle.dg_invocation.specs.declared.invocation.PartyTask.{PartyTask}
@@ -25,17 +25,17 @@ pub use Rattle.dg_sweep.specs.Answers.{AnswersTableWithin}
 pub use Rattle.dg_sweep.specs.Divisors.{AnswersAmounts}
 pub use Rattle.dg_sweep.specs.Sweeps.{IsSweep}
 pub use Rattle.dg_sweep.specs.declared.ends.SweepEnd.{SweepEnd}
-pub use Rattle.dg_system.specs.AllHeld.{IsFirstUnreadSource, MayHoldAllSourceBytes}
-pub use Rattle.dg_system.specs.Growth.{AppendsFrontToStream, StreamReading, StreamWriting}
-pub use Rattle.dg_system.specs.Held.{Held, MayHoldSourceBytes, RefusesSource}
-pub use Rattle.dg_system.specs.Streams.{MayGiveAsStream, RefusesSourceStream}
+pub use Rattle.dg_system.specs.AllHeld.{IsFirstUnread, MayHoldAll}
+pub use Rattle.dg_system.specs.Growth.{AppendsFront, StreamReading, StreamWriting}
+pub use Rattle.dg_system.specs.Held.{Held, MayHold, IsSourceFault}
+pub use Rattle.dg_system.specs.Streams.{MayGive, IsStreamFault}
 pub use Rattle.dg_system.specs.declared.shortage.Shortage.TheVariants.{OutOfMemory}
 pub use Rattle.dg_system.specs.declared.sources.SourceFault.{SourceFault}
 pub use Rattle.dg_system.specs.declared.sources.SourceFault.TheVariants.{TooLong, Unreadable}
 pub use Rattle.dg_table.specs.Closing.{IsCloseRefused, IsClosed}
-pub use Rattle.dg_table.specs.Opened.{AreFreshSeats}
+pub use Rattle.dg_table.specs.Opened.{AreFresh}
 pub use Rattle.dg_table.specs.Seats.{SeatView}
 pub use Rattle.dg_table.specs.declared.fault.Fault.TheVariants.{Full, Log}
-pub use Rattle.dg_tasks.specs.Tasks.{DescribesTaskTable, IsAnswer, IsOnTaskTable, RefusesTaskContents, RefusesTaskTable, RefusesTask}
+pub use Rattle.dg_tasks.specs.Tasks.{DescribesTable, IsAnswer, IsOnTable, RefusesContents, RefusesTable, RefusesTask}
 pub use Rattle.dg_tasks.specs.declared.fault.TaskFault.{TaskFault}
 pub use Rattle.dg_tasks.specs.declared.fault.TaskFault.TheVariants.{File, Source}

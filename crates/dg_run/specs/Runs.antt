@@ -6,19 +6,19 @@
 --   run_of words held input rest old new == the run of these
 --   Succeeds asks run                    == what the words ask for is done; the input is as it was, unless
 --                                           that is a session
---   IsRunOfWords refuses run fault       == the words are refused so, and the input and the output are as
+--   RefusesWords refuses run fault       == the words are refused so, and the input and the output are as
 --                                           they were
---   IsRunOfAsked asks run fault          == what the words ask for is refused so, or ended so; a fault in
+--   RefusesAsked asks run fault          == what the words ask for is refused so, or ended so; a fault in
 --                                           reading the input, or in writing, tells that the input, or the
 --                                           output, has failed; the input is as it was, unless a session was
 --                                           asked for
---   IsRunCause asks refuses run fault    == one of the two
+--   IsCause asks refuses run fault       == one of the two
 --   FailsWithStatus asks refuses run n   == n is the status of a fault that has its cause
 use Rattle.std.specs.Prelude.{◌≡◌, ◌⊎◌, ℕ, List, true}
 use Rattle.std.specs.Io.KnownBytes.{Keeps}
 use Rattle.dg_run.specs.Common.{Invocation, ArgsFault, StreamReading, StreamWriting, Held, passage}
-use Rattle.dg_run.specs.Streams.{IsRunInput, IsRunOutput}
-use Rattle.dg_run.specs.Performed.{Performs, LeavesInputOfRun, RefusesToPerform}
+use Rattle.dg_run.specs.Streams.{IsInputFault, IsOutputFault}
+use Rattle.dg_run.specs.Performed.{Performs, LeavesInput, RefusesToPerform}
 use Rattle.dg_run.specs.Status.{status}
 use Rattle.dg_run.specs.declared.fault.Fault.{Fault}
 use Rattle.dg_run.specs.declared.fault.Fault.TheVariants.{Words}
@@ -40,9 +40,9 @@ pub record Succeeds (asks : List (List ℕ) → Invocation → Type 0) (run : Ru
   pub wanted : asks run.words asked
   pub done : Performs run.held (passage run.input.remaining run.rest.remaining) asked
       run.old.contents run.new.contents
-  pub left : LeavesInputOfRun asked run.input run.rest
+  pub left : LeavesInput asked run.input run.rest
 
-pub record IsRunOfWords (refuses : List (List ℕ) → ArgsFault → Type 0) (run : Run) (fault : Fault)
+pub record RefusesWords (refuses : List (List ℕ) → ArgsFault → Type 0) (run : Run) (fault : Fault)
     : Type 0 where
   pub why : ArgsFault
   pub tells : fault ≡ Words why
@@ -50,22 +50,22 @@ pub record IsRunOfWords (refuses : List (List ℕ) → ArgsFault → Type 0) (ru
   pub left : run.rest ≡ run.input
   pub kept : Keeps run.old.contents run.new.contents
 
-pub record IsRunOfAsked (asks : List (List ℕ) → Invocation → Type 0) (run : Run) (fault : Fault)
+pub record RefusesAsked (asks : List (List ℕ) → Invocation → Type 0) (run : Run) (fault : Fault)
     : Type 0 where
   pub asked : Invocation
   pub wanted : asks run.words asked
   pub refused : RefusesToPerform run.held (passage run.input.remaining run.rest.remaining) asked fault
       run.old.contents run.new.contents
-  pub left : LeavesInputOfRun asked run.input run.rest
-  pub read : IsRunInput fault → run.rest.has_failed ≡ true
-  pub write : IsRunOutput fault → run.new.has_failed ≡ true
+  pub left : LeavesInput asked run.input run.rest
+  pub read : IsInputFault fault → run.rest.has_failed ≡ true
+  pub write : IsOutputFault fault → run.new.has_failed ≡ true
 
-abbrev pub IsRunCause : (List (List ℕ) → Invocation → Type 0) → (List (List ℕ) → ArgsFault → Type 0)
+abbrev pub IsCause : (List (List ℕ) → Invocation → Type 0) → (List (List ℕ) → ArgsFault → Type 0)
     → Run → Fault → Type 0
-IsRunCause asks refuses run fault = IsRunOfWords refuses run fault ⊎ IsRunOfAsked asks run fault
+IsCause asks refuses run fault = RefusesWords refuses run fault ⊎ RefusesAsked asks run fault
 
 pub record FailsWithStatus (asks : List (List ℕ) → Invocation → Type 0)
     (refuses : List (List ℕ) → ArgsFault → Type 0) (run : Run) (n : ℕ) : Type 0 where
   pub fault : Fault
   pub tells : status fault ≡ n
-  pub cause : IsRunCause asks refuses run fault
+  pub cause : IsCause asks refuses run fault

@@ -134,7 +134,7 @@ pub fn report<F: Write>(fault: &Fault, faults: &mut F) -> u8
 {
     let _ = match fault {
         Fault::Words(ArgsFault::CommandLine(text)) => faults.write_all(text.as_bytes()),
-        Fault::Sessions { all, .. } => report_seats_of_run(all.as_slice(), faults),
+        Fault::Sessions { all, .. } => report_seats(all.as_slice(), faults),
         _ => writeln!(faults, "dollar: {fault}"),
     };
     let _ = faults.flush();
@@ -142,7 +142,7 @@ pub fn report<F: Write>(fault: &Fault, faults: &mut F) -> u8
 }
 
 /// Writes a line for each session, with its seat and how it ended.
-fn report_seats_of_run<F: Write>(all: &[(usize, SessionEnd)], faults: &mut F) -> io::Result<()> {
+fn report_seats<F: Write>(all: &[(usize, SessionEnd)], faults: &mut F) -> io::Result<()> {
     for (seat, end) in all {
         writeln!(faults, "dollar: seat {seat}: {end}")?;
     }

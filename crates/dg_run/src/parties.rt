@@ -2,17 +2,17 @@
 ghost use Rattle.std.specs.Prelude.{◌≡◌, ◌⊎◌, ℕ, List, [], length, map, true, IfOk, IfErr, OnOk};
 ghost use Rattle.std.specs.Io.KnownBytes.{Appends, Keeps};
 ghost use Rattle.dg_system.specs.Held.{Held};
-ghost use Rattle.dg_table.specs.Opened.{TableMayHaveSeats};
-ghost use Rattle.dg_run.specs.OfTasks.{IsRunOfTask};
-ghost use Rattle.dg_run.specs.Parties.{early, PartyFilesAreHeld, RunPlaysParty, script_names_of_run, RefusesFilesAsked, IsRunPrintedWith, RunEndsSomeOfParty, IsWantingInRun, RunRefusesParty};
-ghost use Rattle.dg_run.specs.Streams.{IsRunInput, IsRunOutput};
+ghost use Rattle.dg_table.specs.Opened.{IsSeatCount};
+ghost use Rattle.dg_run.specs.OfTasks.{IsTaskFault};
+ghost use Rattle.dg_run.specs.Parties.{early, AreFilesHeld, PlaysParty, script_names, RefusesPartyFiles, IsPrintedWith, EndsSome, IsWanting, RefusesParty};
+ghost use Rattle.dg_run.specs.Streams.{IsInputFault, IsOutputFault};
 
 use crate::fault::Fault;
 use dg_file::{TableFile, read_table};
 use dg_invocation::PartyTask;
 use dg_rank::OpenGate;
 use dg_rules::MAX_SEATS;
-use dg_session::{PartyRefusal, Played, SessionEnd, party};
+use dg_session::{PartyOutcome, PartyRefusal, SessionEnd, party};
 use dg_system::{Output, Shortage, Sources, read_all};
 use dg_tasks::TaskFault;
 use std::alloc::{AllocError, Global};
@@ -33,25 +33,25 @@ where
     S: Sources,
     O: Write,
     ensures done { OnOk result
-        (RunPlaysParty (S.held sources.now) task.now output.old.contents output.new.contents) }
+        (PlaysParty (S.held sources.now) task.now output.old.contents output.new.contents) }
     ensures refused { IfErr result
-        (λ fault. RunRefusesParty (S.held sources.now) task.now fault output.old.contents
+        (λ fault. RefusesParty (S.held sources.now) task.now fault output.old.contents
         output.new.contents) }
-    ensures read { IfErr result (λ fault. ¬ IsRunInput fault) }
-    ensures write { IfErr result (λ fault. IsRunOutput fault → output.new.has_failed ≡ true) }
+    ensures read { IfErr result (λ fault. ¬ IsInputFault fault) }
+    ensures write { IfErr result (λ fault. IsOutputFault fault → output.new.has_failed ≡ true) }
 {
     if task.scripts.len() > usize::from(MAX_SEATS) {
         return Err(Fault::Seats);
     }
-    let (table, scripts) = match read_files_of_run(rt, task, sources) {
+    let (table, scripts) = match read_files(rt, task, sources) {
         Ok(read) => read,
         Err(fault) => return Err(fault),
     };
-    perform_scripts(rt, task, &table, scripts.as_slice(), output)
+    play_scripts(rt, task, &table, scripts.as_slice(), output)
 }
 
 /// Plays the scripts that were read for the task on its table, and prints the history and the totals.
-fn perform_scripts<R, O>(
+fn play_scripts<R, O>(
     rt: &R,
     task: &PartyTask<'_>,
     table: &TableFile,
@@ -61,16 +61,16 @@ fn perform_scripts<R, O>(
 where
     R: AllocGlobal + Threads + Wait + Sync,
     O: Write,
-    requires { TableMayHaveSeats (length scripts.now) }
+    requires { IsSeatCount (length scripts.now) }
     ensures done { OnOk result ((held : List ℕ → Held)
-        → PartyFilesAreHeld held task.now table.now.start table.now.names (map (λ script. script.items) scripts.now)
-        → RunPlaysParty held task.now output.old.contents output.new.contents) }
+        → AreFilesHeld held task.now table.now.start table.now.names (map (λ script. script.items) scripts.now)
+        → PlaysParty held task.now output.old.contents output.new.contents) }
     ensures refused { IfErr result (λ fault. (held : List ℕ → Held)
-        → PartyFilesAreHeld held task.now table.now.start table.now.names (map (λ script. script.items) scripts.now)
-        → (IsWantingInRun held task.now fault × Keeps output.old.contents output.new.contents)
-        ⊎ RunEndsSomeOfParty held task.now fault output.old.contents output.new.contents) }
-    ensures read { IfErr result (λ fault. ¬ IsRunInput fault) }
-    ensures write { IfErr result (λ fault. IsRunOutput fault → output.new.has_failed ≡ true) }
+        → AreFilesHeld held task.now table.now.start table.now.names (map (λ script. script.items) scripts.now)
+        → (IsWanting held task.now fault × Keeps output.old.contents output.new.contents)
+        ⊎ EndsSome held task.now fault output.old.contents output.new.contents) }
+    ensures read { IfErr result (λ fault. ¬ IsInputFault fault) }
+    ensures write { IfErr result (λ fault. IsOutputFault fault → output.new.has_failed ≡ true) }
 {
     let played = match party(
         rt,
@@ -85,11 +85,11 @@ where
         Err(PartyRefusal::Shortage(shortage)) => return Err(Fault::Shortage(shortage)),
         Err(PartyRefusal::Log) => return Err(Fault::History),
     };
-    print_party_of_run(rt.alloc(), &played, output)
+    print_party(rt.alloc(), &played, output)
 }
 
 /// The table of the file that is named, and the bytes of the scripts. All files are read before the table's is judged.
-fn read_files_of_run<R, S>(
+fn read_files<R, S>(
     rt: &R,
     task: &PartyTask<'_>,
     sources: &S,
@@ -98,10 +98,10 @@ where
     R: Files + AllocGlobal,
     S: Sources,
     ensures read { IfOk result
-        (λ r. PartyFilesAreHeld (S.held sources.now) task.now r.0.start r.0.names
+        (λ r. AreFilesHeld (S.held sources.now) task.now r.0.start r.0.names
         (map (λ script. script.items) r.1.items)) }
     ensures refused { IfErr result
-        (IsRunOfTask (RefusesFilesAsked (S.held sources.now) task.now.file.now (script_names_of_run task.now))) }
+        (IsTaskFault (RefusesPartyFiles (S.held sources.now) task.now.file.now (script_names task.now))) }
 {
     let file = match sources.bytes(rt, task.file) {
         Ok(file) => file,
@@ -118,20 +118,20 @@ where
 }
 
 /// Prints what came of a party, and tells of the sessions that ended early.
-fn print_party_of_run<O: Write>(
+fn print_party<O: Write>(
     alloc: Global,
-    played: &Played,
+    played: &PartyOutcome,
     output: &mut Output<O>,
 ) -> Result<(), Fault>
     ensures whole { OnOk result ((early 1 played.now.ends.items ≡ []) ×
         Appends output.old.contents output.new.contents played.now.text.items) }
     ensures refused { IfErr result
-        (λ fault. IsRunPrintedWith played.now.ends.items played.now.text.items fault
+        (λ fault. IsPrintedWith played.now.ends.items played.now.text.items fault
         output.old.contents output.new.contents) }
-    ensures read { IfErr result (λ fault. ¬ IsRunInput fault) }
-    ensures write { IfErr result (λ fault. IsRunOutput fault → output.new.has_failed ≡ true) }
+    ensures read { IfErr result (λ fault. ¬ IsInputFault fault) }
+    ensures write { IfErr result (λ fault. IsOutputFault fault → output.new.has_failed ≡ true) }
 {
-    let all = match early_ends_of_run(alloc, played.ends.as_slice()) {
+    let all = match early_ends(alloc, played.ends.as_slice()) {
         Ok(all) => all,
         Err(_) => return Err(Fault::Shortage(Shortage::OutOfMemory)),
     };
@@ -149,7 +149,7 @@ fn print_party_of_run<O: Write>(
 }
 
 /// The sessions that ended early, each with its seat.
-fn early_ends_of_run(
+fn early_ends(
     alloc: Global,
     ends: &[Result<u32, SessionEnd>],
 ) -> Result<Vec<(usize, SessionEnd)>, AllocError>

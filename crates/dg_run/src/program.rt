@@ -1,12 +1,12 @@
 //! What is asked for is done.
 ghost use Rattle.std.specs.Prelude.{◌≡◌, true, IfErr, OnOk};
 ghost use Rattle.dg_session.specs.Streams.{passage};
-ghost use Rattle.dg_run.specs.Performed.{LeavesInputOfRun, Performs, RefusesToPerform};
-ghost use Rattle.dg_run.specs.Streams.{IsRunInput, IsRunOutput};
+ghost use Rattle.dg_run.specs.Performed.{LeavesInput, Performs, RefusesToPerform};
+ghost use Rattle.dg_run.specs.Streams.{IsInputFault, IsOutputFault};
 
 use crate::fault::Fault;
 use crate::parties::run_party;
-use crate::serve::serve_run_input;
+use crate::serve::serve_input;
 use crate::sweeps::sweep_file;
 use dg_invocation::Invocation;
 use dg_system::{Input, Output, Sources};
@@ -37,9 +37,9 @@ where
     ensures refused { IfErr result
         (λ fault. RefusesToPerform (S.held sources.now) (passage input.old.remaining input.new.remaining)
         asked.entry fault output.old.contents output.new.contents) }
-    ensures left { LeavesInputOfRun asked.entry input.old input.new }
-    ensures read { IfErr result (λ fault. IsRunInput fault → input.new.has_failed ≡ true) }
-    ensures write { IfErr result (λ fault. IsRunOutput fault → output.new.has_failed ≡ true) }
+    ensures left { LeavesInput asked.entry input.old input.new }
+    ensures read { IfErr result (λ fault. IsInputFault fault → input.new.has_failed ≡ true) }
+    ensures write { IfErr result (λ fault. IsOutputFault fault → output.new.has_failed ≡ true) }
 {
     match asked {
         Invocation::Text(text) => output.write_whole(text.as_bytes()).map_err(Fault::from),
@@ -47,7 +47,7 @@ where
             Ok(text) => output.write_whole(text.as_slice()).map_err(Fault::from),
             Err(fault) => Err(Fault::Task(fault)),
         },
-        Invocation::Serve(task) => serve_run_input(rt, &task, sources, input, output),
+        Invocation::Serve(task) => serve_input(rt, &task, sources, input, output),
         Invocation::Sweep(task) => sweep_file(rt, &task, sources, output),
         Invocation::Party(task) => run_party(rt, &task, sources, output),
     }

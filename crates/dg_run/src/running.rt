@@ -2,7 +2,7 @@
 ghost use Rattle.std.specs.Prelude.{◌≡◌, ◌≢◌, map, string_bytes};
 ghost use Rattle.dg_system.specs.Growth.{StreamReading, StreamWriting, reading_anew, writing_anew};
 ghost use Rattle.dg_cli.specs.Asks.{Asks};
-ghost use Rattle.dg_cli.specs.Refusals.{RefusesCommandLine};
+ghost use Rattle.dg_cli.specs.Refusals.{IsArgsFault};
 ghost use Rattle.dg_run.specs.Runs.{run_of, Succeeds, FailsWithStatus};
 ghost use Rattle.dg_run.specs.Status.{IsStatus};
 
@@ -36,7 +36,7 @@ where
         Succeeds Asks (run_of (map string_bytes words.now) (S.held sources.now)
         (reading_anew (I.remaining input)) rest (writing_anew (O.contents output)) new) }
     ensures failed { result ≢ 0 → (rest : StreamReading) × (new : StreamWriting) ×
-        FailsWithStatus Asks RefusesCommandLine (run_of (map string_bytes words.now) (S.held sources.now)
+        FailsWithStatus Asks IsArgsFault (run_of (map string_bytes words.now) (S.held sources.now)
         (reading_anew (I.remaining input)) rest (writing_anew (O.contents output)) new) result }
 {
     let mut input = Input::new(input);
@@ -66,7 +66,7 @@ where
     ensures quiet { result ≡ 0 → faults.new ≡ faults.old }
     ensures done { result ≡ 0 → Succeeds Asks (run_of (map string_bytes words.now) (S.held sources.now)
         input.old input.new output.old output.new) }
-    ensures failed { result ≢ 0 → FailsWithStatus Asks RefusesCommandLine (run_of (map string_bytes words.now)
+    ensures failed { result ≢ 0 → FailsWithStatus Asks IsArgsFault (run_of (map string_bytes words.now)
         (S.held sources.now) input.old input.new output.old output.new) result }
 {
     match invocation_of(rt.alloc(), words) {

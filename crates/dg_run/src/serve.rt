@@ -1,13 +1,13 @@
 //! Sessions over the input of the program.
 ghost use Rattle.std.specs.Prelude.{◌≡◌, ℕ, length, Ok, true, IfErr, OnOk};
-ghost use Rattle.dg_invocation.specs.Seats.{seats_of_invocation};
+ghost use Rattle.dg_invocation.specs.Seats.{seat_count};
 ghost use Rattle.dg_log.specs.Tables.{table_data_of};
 ghost use Rattle.dg_session.specs.Commands.{setup_of};
 ghost use Rattle.dg_session.specs.Streams.{passage};
-ghost use Rattle.dg_rank.specs.Ranks.{MayHaveRankWorkers};
-ghost use Rattle.dg_table.specs.Opened.{TableMayHaveSeats};
-ghost use Rattle.dg_run.specs.Sessions.{line_format_of_run, session_of_run, RunServes, RunEndsEarly, IsServedInRun, RunRefusesServing};
-ghost use Rattle.dg_run.specs.Streams.{IsRunInput, IsRunOutput};
+ghost use Rattle.dg_rank.specs.Ranks.{IsWorkerCount};
+ghost use Rattle.dg_table.specs.Opened.{IsSeatCount};
+ghost use Rattle.dg_run.specs.Sessions.{line_format, session_of, Serves, EndsEarly, IsServed, RefusesServing};
+ghost use Rattle.dg_run.specs.Streams.{IsInputFault, IsOutputFault};
 
 use crate::fault::Fault;
 use dg_file::TableFile;
@@ -25,7 +25,7 @@ use std::sync::Wait;
 use std::thread::Threads;
 
 /// Answers the lines of the input, on the table of the file that is named.
-pub(crate) fn serve_run_input<R, S, I, O>(
+pub(crate) fn serve_input<R, S, I, O>(
     rt: &R,
     task: &ServeTask<'_>,
     sources: &S,
@@ -38,12 +38,12 @@ where
     I: Read,
     O: Write,
     ensures done { OnOk result
-        (RunServes (S.held sources.now) (passage input.old.remaining input.new.remaining) task.now
+        (Serves (S.held sources.now) (passage input.old.remaining input.new.remaining) task.now
         output.old.contents output.new.contents) }
-    ensures read { IfErr result (λ fault. IsRunInput fault → input.new.has_failed ≡ true) }
-    ensures write { IfErr result (λ fault. IsRunOutput fault → output.new.has_failed ≡ true) }
+    ensures read { IfErr result (λ fault. IsInputFault fault → input.new.has_failed ≡ true) }
+    ensures write { IfErr result (λ fault. IsOutputFault fault → output.new.has_failed ≡ true) }
     ensures refused { IfErr result
-        (λ fault. RunRefusesServing (S.held sources.now)
+        (λ fault. RefusesServing (S.held sources.now)
         (passage input.old.remaining input.new.remaining) task.now fault output.old.contents
         output.new.contents) }
 {
@@ -67,11 +67,11 @@ where
     I: Read,
     O: Write,
     ensures done { OnOk result ((count : ℕ)
-        × IsServedInRun (session_of_run task.now table.now.start table.now.names)
+        × IsServed (session_of task.now table.now.start table.now.names)
         (passage input.old.remaining input.new.remaining) (passage output.old.contents output.new.contents) (Ok count)) }
-    ensures read { IfErr result (λ fault. IsRunInput fault → input.new.has_failed ≡ true) }
-    ensures write { IfErr result (λ fault. IsRunOutput fault → output.new.has_failed ≡ true) }
-    ensures early { IfErr result (λ fault. RunEndsEarly (session_of_run task.now table.now.start table.now.names)
+    ensures read { IfErr result (λ fault. IsInputFault fault → input.new.has_failed ≡ true) }
+    ensures write { IfErr result (λ fault. IsOutputFault fault → output.new.has_failed ≡ true) }
+    ensures early { IfErr result (λ fault. EndsEarly (session_of task.now table.now.start table.now.names)
         (passage input.old.remaining input.new.remaining) fault (passage output.old.contents output.new.contents)) }
 {
     let row = match Row::new(rt.alloc(), task.capacity) {
@@ -79,14 +79,14 @@ where
         Err(LogFault::Capacity) => unreachable!(),
         Err(LogFault::OutOfMemory) => return Err(Fault::Shortage(Shortage::OutOfMemory)),
     };
-    let (seats, how) = seats_of_run(task.seats);
-    serve_run_stream::<Brand, R, I, O>(rt, row, table, seats, how, task.workers, input, output)
+    let (seats, how) = seats_and_format(task.seats);
+    serve_stream::<Brand, R, I, O>(rt, row, table, seats, how, task.workers, input, output)
 }
 
 /// How many seats there are, and how lines name them.
-fn seats_of_run(seats: Option<u8>) -> (u8, LineFormat)
-    ensures count { result.0 ≡ seats_of_invocation seats }
-    ensures how { result.1 ≡ line_format_of_run seats }
+fn seats_and_format(seats: Option<u8>) -> (u8, LineFormat)
+    ensures count { result.0 ≡ seat_count seats }
+    ensures how { result.1 ≡ line_format seats }
 {
     match seats {
         Some(count) => (count, LineFormat::BySeat),
@@ -95,7 +95,7 @@ fn seats_of_run(seats: Option<u8>) -> (u8, LineFormat)
 }
 
 /// Answers the lines of the input on a new table with so many seats, which is closed at the end: there is one history of all.
-fn serve_run_stream<N, R, I, O>(
+fn serve_stream<N, R, I, O>(
     rt: &R,
     row: Row,
     table: &TableFile,
@@ -112,15 +112,15 @@ where
     O: Write,
     requires row { row ≡ N.names }
     requires table { N.table ≡ table_data_of table.now.start seats (length row.cells) }
-    requires some { TableMayHaveSeats seats }
-    requires workers { MayHaveRankWorkers workers }
+    requires some { IsSeatCount seats }
+    requires workers { IsWorkerCount workers }
     ensures done { OnOk result ((count : ℕ)
-        × IsServedInRun (setup_of how (table_data_of table.now.start seats (length row.cells)) table.now.names workers)
+        × IsServed (setup_of how (table_data_of table.now.start seats (length row.cells)) table.now.names workers)
         (passage input.old.remaining input.new.remaining) (passage output.old.contents output.new.contents) (Ok count)) }
-    ensures read { IfErr result (λ fault. IsRunInput fault → input.new.has_failed ≡ true) }
-    ensures write { IfErr result (λ fault. IsRunOutput fault → output.new.has_failed ≡ true) }
+    ensures read { IfErr result (λ fault. IsInputFault fault → input.new.has_failed ≡ true) }
+    ensures write { IfErr result (λ fault. IsOutputFault fault → output.new.has_failed ≡ true) }
     ensures early { IfErr result (λ fault.
-        RunEndsEarly (setup_of how (table_data_of table.now.start seats (length row.cells)) table.now.names workers)
+        EndsEarly (setup_of how (table_data_of table.now.start seats (length row.cells)) table.now.names workers)
         (passage input.old.remaining input.new.remaining) fault (passage output.old.contents output.new.contents)) }
 {
     let alloc = rt.alloc();

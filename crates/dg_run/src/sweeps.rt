@@ -1,8 +1,8 @@
 //! Sweeps over the lines of a file.
 ghost use Rattle.std.specs.Prelude.{◌≡◌, true, Ok, IfErr, OnOk};
 ghost use Rattle.dg_sweep.specs.Kinds.{answers_of};
-ghost use Rattle.dg_run.specs.Sweeping.{IsSweptInRun, RunSweeps, RunRefusesLines, RunRefusesSweeping};
-ghost use Rattle.dg_run.specs.Streams.{IsRunInput, IsRunOutput};
+ghost use Rattle.dg_run.specs.Sweeping.{IsSwept, Sweeps, RefusesLines, RefusesSweeping};
+ghost use Rattle.dg_run.specs.Streams.{IsInputFault, IsOutputFault};
 
 use crate::fault::Fault;
 use dg_invocation::SweepTask;
@@ -26,10 +26,10 @@ where
     S: Sources,
     O: Write,
     ensures done { OnOk result
-        (RunSweeps (S.held sources.now) task.now output.old.contents output.new.contents) }
-    ensures read { IfErr result (λ fault. ¬ IsRunInput fault) }
-    ensures write { IfErr result (λ fault. IsRunOutput fault → output.new.has_failed ≡ true) }
-    ensures refused { IfErr result (λ fault. RunRefusesSweeping (S.held sources.now) task.now fault
+        (Sweeps (S.held sources.now) task.now output.old.contents output.new.contents) }
+    ensures read { IfErr result (λ fault. ¬ IsInputFault fault) }
+    ensures write { IfErr result (λ fault. IsOutputFault fault → output.new.has_failed ≡ true) }
+    ensures refused { IfErr result (λ fault. RefusesSweeping (S.held sources.now) task.now fault
         output.old.contents output.new.contents) }
 {
     let Some(lines) = task.divisors else {
@@ -57,11 +57,11 @@ where
     R: Files + AllocGlobal + Threads + Wait + Sync,
     S: Sources,
     O: Write,
-    ensures done { OnOk result (IsSweptInRun output.old.contents output.new.contents (Ok tt)
+    ensures done { OnOk result (IsSwept output.old.contents output.new.contents (Ok tt)
         (S.held sources.now file.now) (answers_of kind.now)) }
-    ensures read { IfErr result (λ fault. ¬ IsRunInput fault) }
-    ensures write { IfErr result (λ fault. IsRunOutput fault → output.new.has_failed ≡ true) }
-    ensures refused { IfErr result (λ fault. RunRefusesLines output.old.contents output.new.contents fault
+    ensures read { IfErr result (λ fault. ¬ IsInputFault fault) }
+    ensures write { IfErr result (λ fault. IsOutputFault fault → output.new.has_failed ≡ true) }
+    ensures refused { IfErr result (λ fault. RefusesLines output.old.contents output.new.contents fault
         (S.held sources.now file.now) (answers_of kind.now)) }
 {
     let stream = match sources.open(rt, file) {

@@ -30,9 +30,9 @@ impl Noted<'_> {
 
 impl Sources for Noted<'_> {
     ghost use Rattle.std.specs.Prelude.{map};
-    ghost use Rattle.dg_system.specs.Held.{held_among_sources};
+    ghost use Rattle.dg_system.specs.Held.{held_among};
 
-    ghost held = { λ noted. held_among_sources (map (λ file. (file.0.now, file.1.now)) noted.files.files.now) };
+    ghost held = { λ noted. held_among (map (λ file. (file.0.now, file.1.now)) noted.files.files.now) };
 
     fn bytes<R: Files + AllocGlobal>(&self, rt: &R, name: &str) -> Result<Vec<u8>, SourceFault> {
         self.note(name);

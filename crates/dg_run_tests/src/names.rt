@@ -17,8 +17,8 @@ fn keeps_one(rt: &impl Abort, alloc: Global, names: &mut Names) -> Result<(), Fa
     let name = "a";
     assert!(rt; names.is_empty() && names.place(name.as_bytes()).is_none());
     assert!(rt; is_name(name.as_bytes()));
-    assert!(rt; names.add(alloc, name)?);
-    assert!(rt; !names.add(alloc, name)? && !names.is_empty());
+    assert!(rt; names.insert(alloc, name)?);
+    assert!(rt; !names.insert(alloc, name)? && !names.is_empty());
     Ok(())
 }
 

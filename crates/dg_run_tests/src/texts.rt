@@ -143,7 +143,7 @@ static LINE_FAULTS: [LineFault; 5] = [
 fn a_session_answers_what_is_said_of_a_line(rt: HostRuntime) -> Result<(), Fail> {
     for fault in &LINE_FAULTS {
         let said = format!(in rt.alloc(); "{fault}\n")?;
-        assert!(&rt; said.as_str() == fault.line(), "at {said}");
+        assert!(&rt; said.as_str() == fault.answer_line(), "at {said}");
     }
     Ok(())
 }

@@ -1,5 +1,5 @@
 //! Replies that no line of a run comes to, and how they are written.
-ghost use Rattle.dg_lines.specs.Texts.{TextHasNames};
+ghost use Rattle.dg_lines.specs.Texts.{HasNames};
 
 use dg_chips::{Divisor, Script, Wide};
 use dg_file::Names;
@@ -29,7 +29,7 @@ fn replies_are_written(rt: HostRuntime) -> Result<(), Fail> {
     let mut names = Names::new(alloc);
     for name in ["a", "b", "c"] {
         if is_name(name.as_bytes()) && names.len() < 16 {
-            names.add(alloc, name)?;
+            names.insert(alloc, name)?;
         }
     }
     for (refusal, want) in &REFUSALS {
@@ -68,7 +68,7 @@ fn is_written(
     reply: &Reply,
     want: &str,
 ) -> Result<(), Fail>
-    requires { TextHasNames names.now reply.now }
+    requires { HasNames names.now reply.now }
 {
     let text = reply_text(alloc, reply, names)?;
     assert!(rt; text.as_slice() == want.as_bytes(), "at {want}");

@@ -11,30 +11,30 @@
 --   line_one       a line makes at most one entry
 --   hears_one      whatever its outcome
 --   last_made      what was made is the last entry, where there is one more
-use Rattle.dg_session.proofs.Common.{◌≡◌, ℕ, ◌+◌, ◌-◌, ◌<◌, ◌≤◌, inl, inr, List, [], ◌∷◌, ◌++◌, length, length-append, Option, Some, None, slice_get, refl, sym, ap, subst, ◌∙◌, arith, slice_get_within, same_Some, legal_none, Entry, IsHistoryOfTable, Command, Call, Commit, Rank, ReceiptsAreBelow, StandInLog, IsPrefixOf, SeatView, Keeps, SeatMeetsHistory, begins_on, begins_length, stand_longer, Ascend, ComesAfter, Setup, Gains, AnswersCommand, AnswersLine, OfLine, Result, Ok, Err, SessionEnd, Memory, TableData}
+use Rattle.dg_session.proofs.Common.{◌≡◌, ℕ, ◌+◌, ◌-◌, ◌<◌, ◌≤◌, inl, inr, List, [], ◌∷◌, ◌++◌, length, length-append, Option, Some, None, slice_get, refl, sym, ap, subst, ◌∙◌, arith, slice_get_within, same_Some, legal_none, Entry, IsHistoryOf, Command, Call, Commit, Rank, AreBelow, StandIn, IsPrefixOf, SeatView, Keeps, HasMet, begins_on, begins_length, stand_longer, Ascend, ComesAfter, Setup, Gains, AnswersCommand, AnswersLine, OfLine, Result, Ok, Err, SessionEnd, Memory, TableData}
 
-pub history_none : (table : TableData) → IsHistoryOfTable table []
+pub history_none : (table : TableData) → IsHistoryOf table []
 history_none table = record { legal = legal_none table.start; few = omega arith; seated = λ k e at. absurd (cc) }
 
 pub ascend_from : (a b : ℕ) (ps : List (ℕ × Entry)) → a ≤ b → Ascend b ps → Ascend a ps
 ascend_from a b [] few up = tt
 ascend_from a b (p ∷ ps) few up = (omega (arith, few, up.0), up.1)
 
-pub ascend_more : (a n : ℕ) (ps qs : List (ℕ × Entry)) → a ≤ n → Ascend a ps → ReceiptsAreBelow n ps →
+pub ascend_more : (a n : ℕ) (ps qs : List (ℕ × Entry)) → a ≤ n → Ascend a ps → AreBelow n ps →
     Ascend n qs
     → Ascend a (ps ++ qs)
 ascend_more a n [] qs few up below more = ascend_from a n qs few more
 ascend_more a n (p ∷ ps) qs few up below more =
     (up.0, ascend_more (p.0 + 1) n ps qs (omega (arith, below.0)) up.1 below.1 more)
 
-pub below_stand : (H : List Entry) (ps : List (ℕ × Entry)) → StandInLog H ps → ReceiptsAreBelow (length H) ps
+pub below_stand : (H : List Entry) (ps : List (ℕ × Entry)) → StandIn H ps → AreBelow (length H) ps
 below_stand H [] stand = tt
 below_stand H (p ∷ ps) stand = (slice_get_within H p.0 p.1 stand.0, below_stand H ps stand.1)
 
-pub stand_on : (K H : List Entry) (ps : List (ℕ × Entry)) → IsPrefixOf K H → StandInLog K ps → StandInLog H ps
-stand_on K H ps (rest, is) stand = subst (λ L. StandInLog L ps) (sym is) (stand_longer K rest ps stand)
+pub stand_on : (K H : List Entry) (ps : List (ℕ × Entry)) → IsPrefixOf K H → StandIn K ps → StandIn H ps
+stand_on K H ps (rest, is) stand = subst (λ L. StandIn L ps) (sym is) (stand_longer K rest ps stand)
 
-pub stand_both : (H : List Entry) (ps qs : List (ℕ × Entry)) → StandInLog H ps → StandInLog H qs → StandInLog H (ps ++ qs)
+pub stand_both : (H : List Entry) (ps qs : List (ℕ × Entry)) → StandIn H ps → StandIn H qs → StandIn H (ps ++ qs)
 stand_both H [] qs first second = second
 stand_both H (p ∷ ps) qs first second = (first.0, stand_both H ps qs first.1 second)
 
@@ -46,7 +46,7 @@ comes_from K M H made begins comes = record {
   after = ascend_from (length K) (length M) made (begins_length K M begins) comes.after;
 }
 
-pub met_keeps : {L : List Entry} {x m : SeatView} → SeatMeetsHistory L x m → Keeps x m
+pub met_keeps : {L : List Entry} {x m : SeatView} → HasMet L x m → Keeps x m
 met_keeps meets = record {
   number = meets.number;
   mine = meets.mine;

@@ -5,16 +5,16 @@
 --   calls_all       the calls of all seats are as many as the entries of their history
 --   entered_all     what was entered is all of the history
 --   full_at_close   which is full, where the session ended so
-use Rattle.dg_session.proofs.Common.{◌≡◌, ℕ, zero, suc, ◌+◌, ◌<◌, ◌≤◌, inl, inr, List, [], ◌∷◌, ◌++◌, length, length-append, map, Some, sum, get_or, slice_get, Result, Err, refl, sym, ap, subst, ◌∙◌, arith, append_assoc, enumerate_from, same_Some, slice_get-get_or, slice_get-map, slice_get_within, option_map, length-map, nil_from_length, sum_by-cons, Entry, slice_get-seam, ReceiptsAreBelow, StandInLog, IsPrefixOf, IsClosed, AreFreshSeats, SeatView, entries_of_seat, Full, seats_counted, begins_length, Setup, Ascend, Passage, Ends, HasEnded, IsOver, SessionEnd, Table, get_set, TableData}
+use Rattle.dg_session.proofs.Common.{◌≡◌, ℕ, zero, suc, ◌+◌, ◌<◌, ◌≤◌, inl, inr, List, [], ◌∷◌, ◌++◌, length, length-append, map, Some, sum, get_or, slice_get, Result, Err, refl, sym, ap, subst, ◌∙◌, arith, append_assoc, enumerate_from, same_Some, slice_get-get_or, slice_get-map, slice_get_within, option_map, length-map, nil_from_length, sum_by-cons, Entry, slice_get-seam, AreBelow, StandIn, IsPrefixOf, IsClosed, AreFresh, SeatView, entries_of, Full, seats_counted, begins_length, Setup, Ascend, Passage, Ends, HasEnded, IsOver, SessionEnd, Table, get_set, TableData}
 use Rattle.dg_session.proofs.Coming.{below_stand, stand_on}
 use Rattle.dg_session.proofs.InOrder.{calls_of, fits_of}
 
-few_between : (a b : ℕ) (ps : List (ℕ × Entry)) → Ascend a ps → ReceiptsAreBelow b ps → a ≤ b → a + length ps ≤ b
+few_between : (a b : ℕ) (ps : List (ℕ × Entry)) → Ascend a ps → AreBelow b ps → a ≤ b → a + length ps ≤ b
 few_between a b [] up below few = omega (arith, few)
 few_between a b (p ∷ ps) up below few =
     omega (arith, up.0, few_between (p.0 + 1) b ps up.1 below.1 (omega (arith, below.0)))
 
-all_after : (K rest : List Entry) (ps : List (ℕ × Entry)) → Ascend (length K) ps → StandInLog (K ++ rest) ps
+all_after : (K rest : List Entry) (ps : List (ℕ × Entry)) → Ascend (length K) ps → StandIn (K ++ rest) ps
     → length ps ≡ length rest → ps ≡ enumerate_from (length K) rest
 all_after K [] ps up stand size = nil_from_length ps size
 all_after K (e ∷ rest) [] up stand size = absurd (omega (arith, size))
@@ -28,12 +28,12 @@ all_after K (e ∷ rest) (p ∷ ps) up stand size =
     let more : length (K ++ e ∷ []) ≡ length K + 1 = length-append K (e ∷ []) in
     let next : length (K ++ e ∷ []) ≡ p.0 + 1 = omega (arith, more, place) in
     let tail = all_after (K ++ e ∷ []) rest ps (subst (λ n. Ascend n ps) (sym next) up.1)
-    (subst (λ H. StandInLog H ps) (sym whole) stand.1) (omega (arith, size)) in
+    (subst (λ H. StandIn H ps) (sym whole) stand.1) (omega (arith, size)) in
     let head : p ≡ (length K, e) = ap (λ i. (i, p.1)) place ∙ ap (λ (x : Entry). (length K, x)) entry in
     ap (λ (q : ℕ × Entry). q ∷ ps) head
     ∙ ap (λ (qs : List (ℕ × Entry)). (length K, e) ∷ qs) (tail ∙ ap (λ n. enumerate_from n rest) more)
 
-pub all_numbered : (H : List Entry) (ps : List (ℕ × Entry)) → Ascend 0 ps → StandInLog H ps → length ps ≡ length H
+pub all_numbered : (H : List Entry) (ps : List (ℕ × Entry)) → Ascend 0 ps → StandIn H ps → length ps ≡ length H
     → ps ≡ enumerate_from 0 H
 all_numbered H ps up stand size = all_after [] H ps up stand size
 
@@ -70,7 +70,7 @@ number_at xs ys i y same fresh at =
     ∙ slice_get-map number xs i ∙ ap (option_map number) there in
     same_Some y.number x.number told ∙ fresh x there
 
-pub calls_all : {table : TableData} {H : List Entry} (xs ys : List SeatView) → AreFreshSeats table.seats xs
+pub calls_all : {table : TableData} {H : List Entry} (xs ys : List SeatView) → AreFresh table.seats xs
     → map (λ (x : SeatView). x.number) ys ≡ map (λ (x : SeatView). x.number) xs → IsClosed table ys H
     → calls_of ys ≡ length H
 calls_all {table} {H} xs ys fresh same closed =
@@ -78,13 +78,13 @@ calls_all {table} {H} xs ys fresh same closed =
     let mine : SeatView → ℕ = λ x. length x.mine in
     let size : length ys ≡ table.seats = sym (length-map ys number) ∙ ap length same ∙ length-map xs number ∙ fresh.count in
     sym (calls_sum ys) ∙ seats_counted table.seats (map mine ys) H (length-map ys mine ∙ size)
-    (λ i below. get_count ys i (length (entries_of_seat (i + 1) H)) (omega (arith, below, size)) (λ y at.
+    (λ i below. get_count ys i (length (entries_of (i + 1) H)) (omega (arith, below, size)) (λ y at.
     ap length (sym (closed.held i y at).mine)
-    ∙ ap (λ s. length (entries_of_seat s H)) (number_at xs ys i y same (λ x there. fresh.number i x there) at)))
+    ∙ ap (λ s. length (entries_of s H)) (number_at xs ys i y same (λ x there. fresh.number i x there) at)))
     closed.history.seated
 
 pub entered_all : {t : Setup} {table : TableData} {input output : Passage} {xs ys : List SeatView}
-    {result : Result ℕ SessionEnd} {H : List Entry} (over : IsOver t input output xs ys result) → AreFreshSeats table.seats xs
+    {result : Result ℕ SessionEnd} {H : List Entry} (over : IsOver t input output xs ys result) → AreFresh table.seats xs
     → map (λ (x : SeatView). x.number) ys ≡ map (λ (x : SeatView). x.number) xs → IsClosed table ys H
     → over.end.entered ≡ enumerate_from 0 H
 entered_all {t} {input = input} {xs = xs} {ys} {result} {H} over fresh same closed =

@@ -6,7 +6,7 @@
 --   throughout    what each turn leaves so, a session leaves so
 --   fits_of       what the lines entered is in order at the end
 --   session_of    a session that is over, if each seat has found a history of the table
-use Rattle.dg_session.proofs.Common.{◌≡◌, ℕ, zero, suc, ◌+◌, inl, inr, List, [], ◌∷◌, ◌++◌, length, length-append, map, Some, slice_get, Result, Ok, Err, refl, sym, ap, subst, ◌∙◌, arith, append_assoc, append-nil, All, All-cons, All-nil, slice_set, StandInLog, SeatHasPrefix, SeatView, get_set, Setup, Ascend, State, begun, Turn, Answers, Passage, Ends, IsOver, IsSession, AreInOrder, SessionEnd, Read, Write, LongLine, Turns, Table, Memory, Spawn}
+use Rattle.dg_session.proofs.Common.{◌≡◌, ℕ, zero, suc, ◌+◌, inl, inr, List, [], ◌∷◌, ◌++◌, length, length-append, map, Some, slice_get, Result, Ok, Err, refl, sym, ap, subst, ◌∙◌, arith, append_assoc, append-nil, All, All-cons, All-nil, slice_set, StandIn, HasPrefix, SeatView, get_set, Setup, Ascend, State, begun, Turn, Answers, Passage, Ends, IsOver, IsSession, AreInOrder, SessionEnd, Read, Write, LongLine, Turns, Table, Memory, Spawn}
 use Rattle.dg_session.proofs.Coming.{ascend_more, below_stand, stand_on, stand_both}
 use Rattle.dg_session.proofs.Seated.{by_turns}
 
@@ -40,8 +40,8 @@ fits_on {n} i s z turn fits =
         ascend = subst (Ascend 0) (sym turn.entered)
             (ascend_more 0 (length s.latest) s.entered made (omega arith) fits.order.ascend
             (below_stand s.latest s.entered fits.order.stand) turn.order.after);
-        stand = subst (StandInLog z.latest) (sym turn.entered)
-            (subst (λ L. StandInLog L (s.entered ++ made)) (sym turn.latest)
+        stand = subst (StandIn z.latest) (sym turn.entered)
+            (subst (λ L. StandIn L (s.entered ++ made)) (sym turn.latest)
             (stand_both y.met s.entered made
             (stand_on s.latest y.met s.entered turn.order.begins fits.order.stand) turn.order.stand));
         met = inr (
@@ -144,7 +144,7 @@ own_of over x alone =
     subst (All P) (sym own.1 ∙ over.seats) (All-cons P own.0 [] own.2 (All-nil P))
 
 pub session_of : {t : Setup} {input output : Passage} {xs ys : List SeatView} {result : Result ℕ SessionEnd}
-    → IsOver t input output xs ys result → All (SeatHasPrefix t.table) ys → IsSession t input output xs ys result
+    → IsOver t input output xs ys result → All (HasPrefix t.table) ys → IsSession t input output xs ys result
 session_of over found = record {
   over = over;
   numbers = numbers_of over;

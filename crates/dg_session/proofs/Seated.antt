@@ -5,7 +5,7 @@
 --   by_turns      what each turn leaves so, a line leaves so
 --   sizes_kept    as many seats, and as many looks
 --   IsHalt, halts_by   a line ends a session for what the table, the memory or a thread refused
-use Rattle.dg_session.proofs.Common.{◌≡◌, ℕ, ◌+◌, ◌<◌, ◌≤◌, inl, inr, List, [], ◌++◌, length, length-set, map, Option, Some, Result, Ok, Err, refl, sym, ap, subst, ◌∙◌, arith, ⊤, slice_set, slice_index_or, slice_get-get_or, slice_get-map, option_map, map-set, Entry, SeatView, SeatMeetsHistory, TakenLookView, IsSeatedLine, seated_parts, line_fault_text, Gains, Hears, Setup, State, state_of, look_of, IsFor, IsForNobody, ReplacesAt, Turn, Does, OfLine, Handles, Passage, Answer, Tells, answer_entries, answer_text, seated, EntriesSoFarView, BySeat, SessionEnd, Table, Memory, Spawn}
+use Rattle.dg_session.proofs.Common.{◌≡◌, ℕ, ◌+◌, ◌<◌, ◌≤◌, inl, inr, List, [], ◌++◌, length, length-set, map, Option, Some, Result, Ok, Err, refl, sym, ap, subst, ◌∙◌, arith, ⊤, slice_set, slice_index_or, slice_get-get_or, slice_get-map, option_map, map-set, Entry, SeatView, HasMet, LookView, IsSeatedLine, seated_parts, line_fault_text, Gains, Hears, Setup, State, state_of, look_of, IsFor, IsForNobody, ReplacesAt, Turn, Does, OfLine, Handles, Passage, Answer, Tells, answer_entries, answer_text, seated, EntriesSoFarView, BySeat, SessionEnd, Table, Memory, Spawn}
 use Rattle.dg_lines.specs.declared.line.LineFault.TheVariants.{Seat}
 use Rattle.dg_session.proofs.Coming.{comes_from, met_keeps, gained_met, hears_one}
 
@@ -21,7 +21,7 @@ seat_turned : (xs : List SeatView) (i : ℕ) (d y : SeatView) → i < length xs
     → ReplacesAt i xs (slice_set xs i y) (slice_index_or xs i d) y
 seat_turned xs i d y low = record { old = slice_get-get_or xs i d low; new = refl }
 
-look_turned : (ks : List (Option TakenLookView)) (i : ℕ) (e l : Option TakenLookView) → i < length ks
+look_turned : (ks : List (Option LookView)) (i : ℕ) (e l : Option LookView) → i < length ks
     → ReplacesAt i (map look_of ks) (map look_of (slice_set ks i l)) (look_of (slice_index_or ks i e)) (look_of l)
 look_turned ks i e l low = record {
   old = slice_get-map look_of ks i ∙ ap (option_map look_of) (slice_get-get_or ks i e low);
@@ -33,10 +33,10 @@ abbrev Follows : SeatView → SeatView → List (ℕ × Entry) → List (ℕ × 
 Follows x y ps qs = (before made : List (ℕ × Entry)) → length before ≡ length x.mine → y.mine ≡ before ++ made
     → length made ≤ 1 → qs ≡ ps ++ made
 
-module _ {t : Setup} (line text : List ℕ) (xs : List SeatView) (ks : List (Option TakenLookView)) (i : ℕ)
-    (d m y : SeatView) (e l : Option TakenLookView) (old new : EntriesSoFarView)
+module _ {t : Setup} (line text : List ℕ) (xs : List SeatView) (ks : List (Option LookView)) (i : ℕ)
+    (d m y : SeatView) (e l : Option LookView) (old new : EntriesSoFarView)
     (for : IsFor t.how (length xs) line i text) (low : i < length xs) (size : length ks ≡ length xs)
-    (meets : SeatMeetsHistory old.latest (slice_index_or xs i d) m) (latest : new.latest ≡ y.met)
+    (meets : HasMet old.latest (slice_index_or xs i d) m) (latest : new.latest ≡ y.met)
     (follows : Follows (slice_index_or xs i d) y old.entered new.entered) where
   turn : (made : List (ℕ × Entry)) (o : Result (List ℕ) SessionEnd)
       → OfLine t text y (look_of (slice_index_or ks i e)) made (look_of l) o → Gains m y made

@@ -9,7 +9,7 @@
 --   whole            sessions of fresh seats, which a table was closed with, are a party
 --   whole_lent       so are they where the seats were lent as the front of a list
 --   party_unclosed   where the table was not closed with them, there is no party for that
-use Rattle.dg_session.proofs.Common.{◌≡◌, ℕ, zero, suc, ◌+◌, ◌<◌, ◌≤◌, List, [], ◌∷◌, ◌++◌, length, map, take, slice_get, Some, arith, refl, sym, ap, subst, ◌∙◌, Result, codes, decimal, unwrap_or, slice_index, Vec, none-some, take-append_seam, length-map, StartData, Vector, at, ShowsPosition, position_after, gifts_in, pairs, Entry, vertices_stay, SeatView, entries_of_seat, AreFreshSeats, IsClosed, AreAuditTotals, IsCloseRefused, all_there, none_missing, Ghosts, Audit, SessionEnd, IsScriptOver, script_contents, party_entries_text, party_seat_text, totals_text, IsParty, IsPartyRefused, Log, TableData}
+use Rattle.dg_session.proofs.Common.{◌≡◌, ℕ, zero, suc, ◌+◌, ◌<◌, ◌≤◌, List, [], ◌∷◌, ◌++◌, length, map, take, slice_get, Some, arith, refl, sym, ap, subst, ◌∙◌, Result, codes, decimal, unwrap_or, slice_index, Vec, none-some, take-append_seam, length-map, StartData, Vector, at, ShowsPosition, position_after, gifts_in, pairs, Entry, vertices_stay, SeatView, entries_of, AreFresh, IsClosed, AreAuditTotals, IsCloseRefused, all_there, none_missing, Ghosts, Audit, SessionEnd, IsScriptOver, script_bytes, numbered_entries_text, seat_text, totals_text, IsParty, IsPartyRefused, Log, TableData}
 use Rattle.dg_session.specs.Parties.{AreSessions}
 use Rattle.dg_session.specs.Printed.{seats_text, calls_text}
 
@@ -69,32 +69,32 @@ along table names (c ∷ cs) (x ∷ xs) [] ends are = elim are [ ]
 along table names (c ∷ cs) (x ∷ xs) (y ∷ ys) [] are = elim are [ ]
 
 calls_are : (H : List Entry) (s n : ℕ) (calls : List ℕ) → n ≤ length calls
-    → ((k : ℕ) → k < n → slice_index calls k ≡ length (entries_of_seat (s + k) H))
+    → ((k : ℕ) → k < n → slice_index calls k ≡ length (entries_of (s + k) H))
     → calls_text s (take n calls) ≡ seats_text s n H
 unfolding calls_text seats_text
 calls_are H s zero calls enough each = refl
 calls_are H s (suc n) [] enough each = absurd (omega arith)
 calls_are H s (suc n) (count ∷ calls) enough each =
     let here : s + 0 ≡ s = omega arith in
-    let first : count ≡ length (entries_of_seat s H) = each 0 (omega arith) ∙ ap (λ k. length (entries_of_seat k H)) here in
-    let rest : (k : ℕ) → k < n → slice_index calls k ≡ length (entries_of_seat ((s + 1) + k) H) =
+    let first : count ≡ length (entries_of s H) = each 0 (omega arith) ∙ ap (λ k. length (entries_of k H)) here in
+    let rest : (k : ℕ) → k < n → slice_index calls k ≡ length (entries_of ((s + 1) + k) H) =
     λ k less.
     let number : s + suc k ≡ (s + 1) + k = omega arith in
-    each (suc k) (omega (arith, less)) ∙ ap (λ j. length (entries_of_seat j H)) number in
-    ap (λ c. party_seat_text s c ++ calls_text (s + 1) (take n calls)) first
-    ∙ ap (λ t. party_seat_text s (length (entries_of_seat s H)) ++ t) (calls_are H (s + 1) n calls (omega (arith, enough)) rest)
+    each (suc k) (omega (arith, less)) ∙ ap (λ j. length (entries_of j H)) number in
+    ap (λ c. seat_text s c ++ calls_text (s + 1) (take n calls)) first
+    ∙ ap (λ t. seat_text s (length (entries_of s H)) ++ t) (calls_are H (s + 1) n calls (omega (arith, enough)) rest)
 
 call_counts : {N : Type 0} {named : Ghosts N} (table : TableData) (ys : List SeatView) (a : Audit N named)
     → IsClosed table ys a.pen.entries → AreAuditTotals table ys a
-    → (k : ℕ) → k < table.seats → slice_index a.calls k ≡ length (entries_of_seat (1 + k) a.pen.entries)
+    → (k : ℕ) → k < table.seats → slice_index a.calls k ≡ length (entries_of (1 + k) a.pen.entries)
 call_counts table ys a closed totals k less =
     let has = closed.complete (k + 1) (omega arith) (omega (arith, less)) in
     let same : k + 1 ≡ 1 + k = omega arith in
     totals.calls has.0 has.1 has.2 k has.3
     ∙ ap length (sym (closed.held has.0 has.1 has.2).mine)
-    ∙ ap (λ j. length (entries_of_seat j a.pen.entries)) (has.3 ∙ same)
+    ∙ ap (λ j. length (entries_of j a.pen.entries)) (has.3 ∙ same)
 
-pub contents_count : (scripts : List (Vec ℕ)) → length (script_contents scripts) ≡ length scripts
+pub contents_count : (scripts : List (Vec ℕ)) → length (script_bytes scripts) ≡ length scripts
 contents_count [] = refl
 contents_count (script ∷ scripts) = ap suc (contents_count scripts)
 
@@ -110,9 +110,9 @@ audit_with names H position seats =
 
 whole : {N : Type 0} {named : Ghosts N} (table : TableData) (names scripts : List (List ℕ)) (xs ys : List SeatView)
     (ends : List (Result ℕ SessionEnd)) (a : Audit N named) (text : List ℕ)
-    → length scripts ≡ table.seats → AreFreshSeats table.seats xs → AreSessions table names scripts xs ys ends
+    → length scripts ≡ table.seats → AreFresh table.seats xs → AreSessions table names scripts xs ys ends
     → IsClosed table ys a.pen.entries → AreAuditTotals table ys a → table.seats ≤ length a.calls
-    → text ≡ party_entries_text names 0 a.pen.entries
+    → text ≡ numbered_entries_text names 0 a.pen.entries
     ++ totals_text names a.entries a.gifts a.position (take table.seats a.calls)
     → IsParty table names scripts ends text
 whole table names scripts xs ys ends a text many fresh are closed totals enough printed =
@@ -132,18 +132,18 @@ whole table names scripts xs ys ends a text many fresh are closed totals enough 
             fresh = fresh.mine i s.before s.first;
             begins = (closed.held i s.after s.last).prefix;
             met = (closed.held i s.after s.last).met;
-            own = ap (λ k. entries_of_seat k H) (sym number) ∙ (closed.held i s.after s.last).mine;
+            own = ap (λ k. entries_of k H) (sym number) ∙ (closed.held i s.after s.last).mine;
             session = s.session;
           };
       position = a.position;
       shown = totals.position;
       printed =
           printed
-          ∙ ap (λ k. party_entries_text names 0 H ++ totals_text names k a.gifts a.position (take table.seats a.calls))
+          ∙ ap (λ k. numbered_entries_text names 0 H ++ totals_text names k a.gifts a.position (take table.seats a.calls))
           totals.entries
-          ∙ ap (λ k. party_entries_text names 0 H ++ totals_text names (length H) k a.position (take table.seats a.calls))
+          ∙ ap (λ k. numbered_entries_text names 0 H ++ totals_text names (length H) k a.position (take table.seats a.calls))
           totals.gifts
-          ∙ ap (λ t. party_entries_text names 0 H ++ audit_with names H a.position t)
+          ∙ ap (λ t. numbered_entries_text names 0 H ++ audit_with names H a.position t)
           (calls_are H 1 table.seats a.calls enough (call_counts table ys a closed totals)
           ∙ ap (λ k. seats_text 1 k H) (sym many));
     }
@@ -159,32 +159,32 @@ seats_back len xs ys rest whole numbers =
 pub whole_lent : {N : Type 0} {named : Ghosts N} (table : TableData) (names scripts : List (List ℕ)) (n len : ℕ)
     (opened xs ys rest : List SeatView)
     (ends : List (Result ℕ SessionEnd)) (a : Audit N named) (text : List ℕ)
-    → length scripts ≡ n → n ≡ table.seats → AreFreshSeats n opened → xs ≡ opened → len ≡ length opened
+    → length scripts ≡ n → n ≡ table.seats → AreFresh n opened → xs ≡ opened → len ≡ length opened
     → AreSessions table names scripts xs ys ends
     → IsClosed table (take len (ys ++ rest)) a.pen.entries × AreAuditTotals table (take len (ys ++ rest)) a
     → n ≤ length a.calls
-    → text ≡ party_entries_text names 0 a.pen.entries ++ totals_text names a.entries a.gifts a.position (take n a.calls)
+    → text ≡ numbered_entries_text names 0 a.pen.entries ++ totals_text names a.entries a.gifts a.position (take n a.calls)
     → IsParty table names scripts ends text
 whole_lent table names scripts n len opened xs ys rest ends a text many same fresh lent counted are closed enough
     printed =
     let numbers = (along table names scripts xs ys ends are).numbers in
     let front = seats_back len xs ys rest (ap length lent ∙ sym counted) numbers in
     whole table names scripts xs ys ends a text (many ∙ same)
-    (subst (λ k. AreFreshSeats k xs) same (rw lent fresh)) are (rw (← front) closed.0) (rw (← front) closed.1)
+    (subst (λ k. AreFresh k xs) same (rw lent fresh)) are (rw (← front) closed.0) (rw (← front) closed.1)
     (subst (λ k. k ≤ length a.calls) same enough)
-    (subst (λ k. text ≡ party_entries_text names 0 a.pen.entries
+    (subst (λ k. text ≡ numbered_entries_text names 0 a.pen.entries
     ++ totals_text names a.entries a.gifts a.position (take k a.calls)) same printed)
 
 pub party_unclosed : (table : TableData) (names scripts : List (List ℕ)) (n len : ℕ)
     (opened xs ys rest zs : List SeatView)
     (ends : List (Result ℕ SessionEnd)) (seat : ℕ)
-    → n ≡ table.seats → AreFreshSeats n opened → xs ≡ opened → len ≡ length opened
+    → n ≡ table.seats → AreFresh n opened → xs ≡ opened → len ≡ length opened
     → AreSessions table names scripts xs ys ends → IsCloseRefused table (take len (ys ++ rest)) zs seat
     → IsPartyRefused table names scripts Log
 party_unclosed table names scripts n len opened xs ys rest zs ends seat same fresh lent counted are refused =
     let numbers = (along table names scripts xs ys ends are).numbers in
     let front = seats_back len xs ys rest (ap length lent ∙ sym counted) numbers in
-    let begun : AreFreshSeats table.seats xs = subst (λ k. AreFreshSeats k xs) same (rw lent fresh) in
+    let begun : AreFresh table.seats xs = subst (λ k. AreFresh k xs) same (rw lent fresh) in
     let unclosed = subst (λ (ws : List SeatView). IsCloseRefused table ws zs seat) front refused in
     let complete = all_there table.seats xs ys begun numbers in
     let none = none_missing table ys zs seat complete unclosed in

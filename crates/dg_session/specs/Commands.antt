@@ -1,5 +1,5 @@
 -- What a command and a line come to at one seat. An entry that is made stands, with its number, in the one
--- history that the seat has found (`SeatHasPrefix`), and is answered there as the game answers it. `look` is
+-- history that the seat has found (`HasPrefix`), and is answered there as the game answers it. `look` is
 -- the number of the look that is kept, if one is; an outcome is a text, or an end of the session.
 --   Setup                                      == what holds for a whole session: how lines name the seats, the
 --                                                 table, the names of its vertices, and how many workers a rank
@@ -35,7 +35,7 @@
 --                                                 one that it had met, and the looks; and where it made none,
 --                                                 it found no history
 use Rattle.std.specs.Prelude.{◌≡◌, ℕ, ◌+◌, ◌≤◌, ◌⊎◌, List, [], ◌∷◌, ◌++◌, length, map, flat_map, Option, Some, None, Result, Ok, Err, codes, ⊤}
-use Rattle.dg_session.specs.Common.{IsRankTestWithinLimits, asked, Entry, Request, Look, Judge, Command, Call, Commit, Rank, IsPrefixOf, SeatView, StandInLog, RefusesCallAtTable, LineSpellsCommand, IsLineFault, line_fault_text, entry_text, LineFault, TableData}
+use Rattle.dg_session.specs.Common.{IsTestable, call_request, Entry, Request, Look, Judge, Command, Call, Commit, Rank, IsPrefixOf, SeatView, StandIn, RefusesCall, SpellsCommand, IsLineFault, line_fault_text, entry_text, LineFault, TableData}
 use Rattle.dg_rules.specs.declared.entry.Request.TheVariants.{Rank as RankRequest}
 use Rattle.dg_session.specs.declared.line_format.LineFormat.{LineFormat}
 use Rattle.dg_session.specs.declared.ends.SessionEnd.{SessionEnd}
@@ -71,20 +71,20 @@ Enters names kept request made after text =
 abbrev pub AnswersCommand : Setup → Option ℕ → Command → List (ℕ × Entry) → Option ℕ → List ℕ
     → Type 0
 AnswersCommand t kept (Call plain) made after text =
-    Enters t.names kept (asked plain) made after text
+    Enters t.names kept (call_request plain) made after text
 AnswersCommand t None Commit made after text = Says None (codes "bad look\n") made after text
 AnswersCommand t (Some i) Commit made after text = Enters t.names (Some i) (Judge i) made after text
 AnswersCommand t None (Rank k) made after text = Says None (codes "bad look\n") made after text
 AnswersCommand t (Some i) (Rank k) made after text =
-    ((¬ IsRankTestWithinLimits t.table.start.graph.size k) × Says (Some i) (codes "bad trials\n") made after text)
-    ⊎ (IsRankTestWithinLimits t.table.start.graph.size k
+    ((¬ IsTestable t.table.start.graph.size k) × Says (Some i) (codes "bad trials\n") made after text)
+    ⊎ (IsTestable t.table.start.graph.size k
     × Enters t.names (Some i) (RankRequest i k) made after text)
 
 abbrev pub AnswersLine : Setup → Option ℕ → List ℕ → List (ℕ × Entry) → Option ℕ → List ℕ → Type 0
 AnswersLine t kept line made after text =
     ((fault : LineFault) × IsLineFault t.names fault line
     × Says kept (line_fault_text fault) made after text)
-    ⊎ ((command : Command) × LineSpellsCommand t.names command line
+    ⊎ ((command : Command) × SpellsCommand t.names command line
     × AnswersCommand t kept command made after text)
 
 abbrev pub CallsTable : ℕ → Option ℕ → Command → Type 0
@@ -92,15 +92,15 @@ CallsTable n look (Call plain) = ⊤
 CallsTable n None Commit = ⊥
 CallsTable n (Some i) Commit = ⊤
 CallsTable n None (Rank k) = ⊥
-CallsTable n (Some i) (Rank k) = IsRankTestWithinLimits n k
+CallsTable n (Some i) (Rank k) = IsTestable n k
 
 abbrev pub TriesRank : ℕ → Option ℕ → Command → Type 0
-TriesRank n (Some i) (Rank k) = IsRankTestWithinLimits n k
+TriesRank n (Some i) (Rank k) = IsTestable n k
 TriesRank n look command = ⊥
 
 abbrev pub RefusesCommand : Setup → SeatView → Option ℕ → Command → SessionEnd → Type 0
 RefusesCommand t y look command (Table fault) =
-    CallsTable t.table.start.graph.size look command × RefusesCallAtTable t.table y fault
+    CallsTable t.table.start.graph.size look command × RefusesCall t.table y fault
 RefusesCommand t y look command Spawn = (2 ≤ t.workers) × TriesRank t.table.start.graph.size look command
 RefusesCommand t y look command end = ⊥
 
@@ -115,7 +115,7 @@ OfLine t line y look made after (Ok text) = AnswersLine t look line made after t
 OfLine t line y look made after (Err Memory) =
     (made ≡ []) ⊎ ((other : Option ℕ) × (text : List ℕ) × AnswersLine t look line made other text)
 OfLine t line y look made after (Err end) =
-    (made ≡ []) × (command : Command) × LineSpellsCommand t.names command line × RefusesCommand t y look command end
+    (made ≡ []) × (command : Command) × SpellsCommand t.names command line × RefusesCommand t y look command end
 
 abbrev pub Ascend : ℕ → List (ℕ × Entry) → Type 0
 Ascend n [] = ⊤
@@ -123,7 +123,7 @@ Ascend n (p ∷ ps) = (n ≤ p.0) × Ascend (p.0 + 1) ps
 
 pub record ComesAfter (K : List Entry) (made : List (ℕ × Entry)) (H : List Entry) : Type 0 where
   pub begins : IsPrefixOf K H
-  pub stand : StandInLog H made
+  pub stand : StandIn H made
   pub after : Ascend (length K) made
 
 abbrev pub looks_named : Request → List ℕ
@@ -137,7 +137,7 @@ pub record Gains (x y : SeatView) (made : List (ℕ × Entry)) : Type 0 where
   pub heard : List (ℕ × Entry)
   pub told : y.told ≡ x.told ++ heard
   pub named : map (λ p. p.0) heard ≡ flat_map (λ p. looks_named p.1.request) made
-  pub stand : StandInLog y.met heard
+  pub stand : StandIn y.met heard
   pub prefix : IsPrefixOf x.prefix y.prefix
   pub order : ComesAfter x.met made y.met
   pub still : made ≡ [] → y.prefix ≡ x.prefix

@@ -21,7 +21,7 @@
 --                                             and a seat that is alone has made just that
 use Rattle.std.specs.Prelude.{◌≡◌, ℕ, ◌+◌, ◌<◌, ◌≤◌, ◌⊎◌, List, [], ◌∷◌, ◌++◌, length, All, map, flat_map, Option, Result, Ok, Err, OnOk}
 use Rattle.std.specs.Io.KnownBytes.{Appends, Consumes, IsAtEnd}
-use Rattle.dg_session.specs.Common.{SeatHasPrefix, SeatView, lines, with_newline, AppendsFrontToStream}
+use Rattle.dg_session.specs.Common.{HasPrefix, SeatView, lines, with_newline, AppendsFront}
 use Rattle.dg_session.specs.Streams.{IsLine, IsTooLong, Cuts, Passage}
 use Rattle.dg_session.specs.Commands.{Setup}
 use Rattle.dg_session.specs.State.{State, begun, Does, Answers, AreInOrder}
@@ -58,7 +58,7 @@ pub record WritesFront (t : Setup) (s : State) (ls : List (List ℕ)) (z : State
   pub all : text ≡ said ++ more
   pub first : Answers t s told middle said
   pub second : Answers t middle last z more
-  pub written : AppendsFrontToStream output.before output.after said more
+  pub written : AppendsFront output.before output.after said more
 
 abbrev pub Writes : Setup → State → List (List ℕ) → State → Passage → List ℕ → Result ℕ SessionEnd → Type 0
 Writes t s ls z output text (Err Write) = WritesFront t s ls z output text
@@ -85,6 +85,6 @@ pub record IsSession (t : Setup) (input output : Passage) (xs ys : List SeatView
     (result : Result ℕ SessionEnd) : Type 0 where
   pub over : IsOver t input output xs ys result
   pub numbers : map (λ (y : SeatView). y.number) ys ≡ map (λ (x : SeatView). x.number) xs
-  pub found : All (SeatHasPrefix t.table) ys
+  pub found : All (HasPrefix t.table) ys
   pub order : AreInOrder over.end
   pub own : (x : SeatView) → xs ≡ x ∷ [] → All (λ (y : SeatView). y.mine ≡ x.mine ++ over.end.entered) ys

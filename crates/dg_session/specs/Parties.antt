@@ -1,6 +1,6 @@
 -- Sessions side by side, and a party: one table, a seat and a thread for each script, and one history of all.
 -- A script is the bytes of a session's lines; x and y are seats before and after.
---   script_contents scripts                    == the bytes of each of the scripts
+--   script_bytes scripts                       == the bytes of each of the scripts
 --   IsScriptOver table names script x y end    == a session of the seat over the bytes of the script came to
 --                                                 this end, on a table of so many seats and cap cells, of which
 --                                                 it found one history, with one worker; the script was in
@@ -31,19 +31,19 @@
 --                                                 party may end so
 use Rattle.std.specs.Prelude.{◌≡◌, ◌≢◌, ℕ, zero, suc, ◌+◌, ◌<◌, ◌≤◌, List, [], ◌∷◌, ◌++◌, length, map, slice_get, None, Some, ⊤, Result, Err}
 use Rattle.std.specs.Global.{Vec}
-use Rattle.dg_session.specs.Common.{Vector, position_after, ShowsPosition, Entry, IsPrefixOf, TableData, Shortage, OutOfMemory, Spawn, IsCloseRefused, IsHistoryOfTable, AreFreshSeats, SeatView, entries_of_seat}
+use Rattle.dg_session.specs.Common.{Vector, position_after, ShowsPosition, Entry, IsPrefixOf, TableData, Shortage, OutOfMemory, Spawn, IsCloseRefused, IsHistoryOf, AreFresh, SeatView, entries_of}
 use Rattle.dg_session.specs.Commands.{setup_of}
 use Rattle.dg_session.specs.Ends.{IsSession}
 use Rattle.dg_session.specs.Streams.{passage}
 use Rattle.dg_session.specs.declared.ends.SessionEnd.{SessionEnd}
 use Rattle.dg_session.specs.declared.ends.SessionEnd.TheVariants.{Read, Write}
 use Rattle.dg_session.specs.declared.line_format.LineFormat.TheVariants.{OneSeat}
-use Rattle.dg_session.specs.Printed.{party_entries_text, party_audit_text}
+use Rattle.dg_session.specs.Printed.{numbered_entries_text, audit_text}
 use Rattle.dg_session.specs.declared.played.PartyRefusal.{PartyRefusal}
 use Rattle.dg_session.specs.declared.played.PartyRefusal.TheVariants as party
 
-abbrev pub script_contents : List (Vec ℕ) → List (List ℕ)
-script_contents scripts = map (λ (script : Vec ℕ). script.items) scripts
+abbrev pub script_bytes : List (Vec ℕ) → List (List ℕ)
+script_bytes scripts = map (λ (script : Vec ℕ). script.items) scripts
 
 pub record IsScriptOver (table : TableData) (names : List (List ℕ)) (script : List ℕ) (x y : SeatView)
     (end : Result ℕ SessionEnd) : Type 0 where
@@ -83,7 +83,7 @@ pub record IsPartySession (table : TableData) (names : List (List ℕ)) (H : Lis
   pub after : SeatView
   pub seat : before.number ≡ s
   pub fresh : before.mine ≡ []
-  pub own : entries_of_seat s H ≡ after.mine
+  pub own : entries_of s H ≡ after.mine
   pub begins : IsPrefixOf after.prefix H
   pub met : IsPrefixOf after.met H
   pub session : IsScriptOver table names script before after end
@@ -91,20 +91,20 @@ pub record IsPartySession (table : TableData) (names : List (List ℕ)) (H : Lis
 pub record IsParty (table : TableData) (names : List (List ℕ)) (scripts : List (List ℕ))
     (ends : List (Result ℕ SessionEnd)) (text : List ℕ) : Type 0 where
   pub history : List Entry
-  pub is : IsHistoryOfTable table history
+  pub is : IsHistoryOf table history
   pub count : length ends ≡ length scripts
   pub sessions : (i : ℕ) (script : List ℕ) (end : Result ℕ SessionEnd)
       → slice_get scripts i ≡ Some script → slice_get ends i ≡ Some end
       → IsPartySession table names history (i + 1) script end
   pub position : Vector
   pub shown : ShowsPosition (position_after table.start history) position
-  pub printed : text ≡ party_entries_text names 0 history
-      ++ party_audit_text names (length scripts) history position
+  pub printed : text ≡ numbered_entries_text names 0 history
+      ++ audit_text names (length scripts) history position
 
 pub record IsOfSeats (n : ℕ) (P : List SeatView → List SeatView → Type 0) : Type 0 where
   pub before : List SeatView
   pub after : List SeatView
-  pub fresh : AreFreshSeats n before
+  pub fresh : AreFresh n before
   pub holds : P before after
 
 abbrev pub IsPartyRefused : TableData → List (List ℕ) → List (List ℕ) → PartyRefusal → Type 0

@@ -27,7 +27,7 @@
 use Rattle.std.specs.Prelude.{◌≡◌, ◌≢◌, ℕ, ◌+◌, ◌<◌, ◌≤◌, ◌⊎◌, List, [], ◌∷◌, ◌++◌, length, map, true, codes, Option, None, Some, Result, Ok, Err, OnOk, IfOk, IfErr, ⊤}
 use Rattle.std.specs.Global.{Vec}
 use Rattle.std.specs.Io.KnownBytes.{Appends}
-use Rattle.dg_session.specs.Common.{Command, Entry, SeatView, TakenLookView, StreamWriting, AppendsFrontToStream, entry_text, line_fault_text, TextHasNames}
+use Rattle.dg_session.specs.Common.{Command, Entry, SeatView, LookView, StreamWriting, AppendsFront, entry_text, line_fault_text, HasNames}
 use Rattle.dg_session.specs.Streams.{IsLine, Cuts, Passage}
 use Rattle.dg_session.specs.Commands.{Setup, Gains, OfCommand, OfLine}
 use Rattle.dg_session.specs.State.{State, EntriesSoFarView, begun, Does, Answers}
@@ -43,11 +43,11 @@ abbrev pub heard : Option (Vec ℕ) → Option (List ℕ)
 heard None = None
 heard (Some text) = Some text.items
 
-abbrev pub look_of : Option TakenLookView → Option ℕ
+abbrev pub look_of : Option LookView → Option ℕ
 look_of None = None
 look_of (Some look) = Some look.receipt.0
 
-abbrev pub state_of : List SeatView → List (Option TakenLookView) → EntriesSoFarView → State
+abbrev pub state_of : List SeatView → List (Option LookView) → EntriesSoFarView → State
 state_of xs looks entries =
     record { seats = xs; looks = map look_of looks; latest = entries.latest; entered = entries.entered }
 
@@ -69,7 +69,7 @@ answer_text names TooMany = codes "bad trials\n"
 answer_text names (BadLine fault) = line_fault_text fault
 
 abbrev pub AnswerHasNames : {N : Type 0} → List (List ℕ) → Answer N → Type 0
-AnswerHasNames names (Made r) = TextHasNames names r.1.reply
+AnswerHasNames names (Made r) = HasNames names r.1.reply
 AnswerHasNames names answer = ⊤
 
 abbrev pub made_by : {N : Type 0} → Result (Answer N) SessionEnd → List (ℕ × Entry)
@@ -157,5 +157,5 @@ abbrev pub IsWritten : {B : Type 0} → Result B SessionEnd → List ℕ → Str
     → Result B SessionEnd → Type 0
 IsWritten taken text old new result =
     ((taken ≡ result) × Appends old.contents new.contents text)
-    ⊎ ((result ≡ Err Write) × AppendsFrontToStream old.contents new.contents [] text
+    ⊎ ((result ≡ Err Write) × AppendsFront old.contents new.contents [] text
     × (new.has_failed ≡ true))

@@ -22,7 +22,7 @@
 --                                  or has no entry
 use Rattle.std.specs.Prelude.{◌≡◌, ℕ, ◌+◌, ◌<◌, ◌⊎◌, List, [], ◌∷◌, ◌++◌, length, map, Option, None, Some, slice_get, Result, Ok, Err}
 use Rattle.std.specs.List.{slice_set}
-use Rattle.dg_session.specs.Common.{Entry, SeatView, IsSeatedLine, line_fault_text, Seat, StandInLog}
+use Rattle.dg_session.specs.Common.{Entry, SeatView, IsSeatedLine, line_fault_text, Seat, StandIn}
 use Rattle.dg_session.specs.Commands.{Setup, Ascend, ComesAfter, Gains, OfLine}
 use Rattle.dg_session.specs.declared.line_format.LineFormat.{LineFormat}
 use Rattle.dg_session.specs.declared.line_format.LineFormat.TheVariants.{OneSeat, BySeat}
@@ -81,6 +81,6 @@ Answers t s (line ∷ ls) z text = (m : State) × (front back : List ℕ) ×
 
 pub record AreInOrder (s : State) : Type 0 where
   pub ascend : Ascend 0 s.entered
-  pub stand : StandInLog s.latest s.entered
+  pub stand : StandIn s.latest s.entered
   pub met : (s.latest ≡ [])
       ⊎ ((i : ℕ) × (x : SeatView) × (slice_get s.seats i ≡ Some x) × (s.latest ≡ x.met))

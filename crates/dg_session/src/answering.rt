@@ -1,15 +1,15 @@
 //! Answering one line of a seat.
 ghost use Rattle.std.specs.Prelude.{◌≡◌, ◌≢◌, ℕ, List, length, Option};
-ghost use Rattle.dg_rank.specs.Ranks.{MayHaveRankWorkers};
+ghost use Rattle.dg_rank.specs.Ranks.{IsWorkerCount};
 ghost use Rattle.dg_rules.specs.declared.step.Command.TheVariants.{Call, Commit, Rank};
-ghost use Rattle.dg_lines.specs.Texts.{TextHasNames, entry_text};
+ghost use Rattle.dg_lines.specs.Texts.{HasNames, entry_text};
 ghost use Rattle.dg_session.specs.Commands.{setup_of};
 ghost use Rattle.dg_session.specs.Streams.{passage};
 ghost use Rattle.dg_session.specs.SoFar.{answer_text, heard, look_of, seated, AnswerHasNames, Hears, Obeys, Tells};
 
 use crate::ends::SessionEnd;
 use crate::line_format::LineFormat;
-use dg_analyst::{Look, commit_look, commit_rank, commit_stale, look, try_rank_by};
+use dg_analyst::{Look, commit_look, commit_rank, commit_stale, look, try_rank_ungated};
 use dg_lines::{LineFault, parse_line, push_entry};
 use dg_log::{Name, Receipt};
 use dg_rank::{RankFault, trials};
@@ -31,7 +31,7 @@ pub(crate) struct Shared<'a, N: Name, R: Threads + Wait> {
     pub(crate) workers: u32,
     pub(crate) how: LineFormat,
     ghost named: { length names.now ≡ N.table.start.graph.size },
-    ghost helped: { MayHaveRankWorkers workers },
+    ghost helped: { IsWorkerCount workers },
 }
 
 /// What a line is answered with.
@@ -74,7 +74,7 @@ impl AnswerBuffer {
             Answer::Made(receipt) => self.say_entry(table, names, receipt),
             Answer::NoLook => self.say_words(b"bad look\n"),
             Answer::TooMany => self.say_words(b"bad trials\n"),
-            Answer::BadLine(fault) => self.say_words(fault.line().as_bytes()),
+            Answer::BadLine(fault) => self.say_words(fault.answer_line().as_bytes()),
         }
     }
 
@@ -98,7 +98,7 @@ impl AnswerBuffer {
         names: &Names,
         receipt: &Receipt<N>,
     ) -> Result<(), SessionEnd>
-        requires { TextHasNames names.now receipt.now.1.reply }
+        requires { HasNames names.now receipt.now.1.reply }
         ensures { Tells (entry_text names.now receipt.now.0 receipt.now.1.reply)
             (passage (heard self.old.text) (heard self.new.text)) result }
     {
@@ -279,7 +279,7 @@ fn enter_tried_rank<N: Name, R: Threads + Wait>(
         return Ok(Answer::NoLook);
     };
     let _receipt = look.receipt();
-    match try_rank_by(shared.rt, look, k, shared.workers) {
+    match try_rank_ungated(shared.rt, look, k, shared.workers) {
         Ok(tried) => match commit_rank(shared.table, shared.rt, shared.alloc, seat, tried) {
             Ok(receipt) => Ok(Answer::Made(receipt)),
             Err((_, fault)) => Err(SessionEnd::Table(fault)),

@@ -1,7 +1,7 @@
 //! What is printed of a table that was closed.
 ghost use Rattle.std.specs.Prelude.{◌≡◌, ◌≤◌, ◌++◌, length, take, decimal, IfOk, OnOk};
-ghost use Rattle.dg_lines.specs.Texts.{TextHasNames, RepliesHaveNames};
-ghost use Rattle.dg_session.specs.Printed.{party_entry_text, party_entries_text, party_seat_text, calls_text, totals_text};
+ghost use Rattle.dg_lines.specs.Texts.{HasNames, RepliesHaveNames};
+ghost use Rattle.dg_session.specs.Printed.{numbered_entry_text, numbered_entries_text, seat_text, calls_text, totals_text};
 
 use dg_chips::Divisor;
 use dg_lines::{push_amounts, push_reply};
@@ -17,7 +17,7 @@ use std::alloc::{AllocError, Global};
 /// seats.
 ///
 /// Refused if there is not enough memory.
-pub(crate) fn closed_party_text<N: Name>(
+pub(crate) fn party_text<N: Name>(
     alloc: Global,
     names: &Names,
     audit: &Audit<N>,
@@ -26,13 +26,13 @@ pub(crate) fn closed_party_text<N: Name>(
     requires history { RepliesHaveNames names.now audit.now.pen.entries }
     requires position { length names.now ≡ audit.now.position.size }
     requires seats { seats ≤ 64 }
-    ensures { IfOk result (λ text. text.items ≡ party_entries_text names.now 0 audit.now.pen.entries
+    ensures { IfOk result (λ text. text.items ≡ numbered_entries_text names.now 0 audit.now.pen.entries
         ++ totals_text names.now audit.now.entries audit.now.gifts audit.now.position
         (take seats audit.now.calls)) }
 {
     let mut text = Vec::new(alloc);
-    push_party_entries(&mut text, names, audit)?;
-    push_party_totals(
+    push_entries(&mut text, names, audit)?;
+    push_totals(
         &mut text,
         names,
         audit.entries,
@@ -44,14 +44,14 @@ pub(crate) fn closed_party_text<N: Name>(
 }
 
 // The lines of the entries of the history, each with its seat, numbered from 0 on, after the text.
-fn push_party_entries<N: Name>(
+fn push_entries<N: Name>(
     text: &mut Vec<u8>,
     names: &Names,
     audit: &Audit<N>,
 ) -> Result<(), AllocError>
     requires { RepliesHaveNames names.now audit.now.pen.entries }
     ensures { OnOk result
-        (text.new.items ≡ text.old.items ++ party_entries_text names.now 0 audit.now.pen.entries) }
+        (text.new.items ≡ text.old.items ++ numbered_entries_text names.now 0 audit.now.pen.entries) }
 {
     'entries: for number in 0..audit.len() {
         push_party_entry(text, names, number, audit.entry(number))?;
@@ -66,9 +66,9 @@ fn push_party_entry(
     number: u32,
     entry: &Entry,
 ) -> Result<(), AllocError>
-    requires { TextHasNames names.now entry.now.reply }
+    requires { HasNames names.now entry.now.reply }
     ensures { OnOk result
-        (text.new.items ≡ text.old.items ++ party_entry_text names.now number entry.now) }
+        (text.new.items ≡ text.old.items ++ numbered_entry_text names.now number entry.now) }
 {
     text.extend_from_slice(Buffer::new().format(number).as_bytes())?;
     text.extend_from_slice(b" ")?;
@@ -79,7 +79,7 @@ fn push_party_entry(
 }
 
 // How many entries there are, how many gifts, levies and joins, the amounts, and the calls of each seat, after the text.
-fn push_party_totals(
+fn push_totals(
     text: &mut Vec<u8>,
     names: &Names,
     entries: u32,
@@ -92,35 +92,35 @@ fn push_party_totals(
         (text.new.items ≡ text.old.items
         ++ totals_text names.now entries gifts position.now calls.now) }
 {
-    push_party_count(text, b"entries ", u64::from(entries))?;
-    push_party_count(text, b"\ngifts ", u64::from(gifts))?;
+    push_count(text, b"entries ", u64::from(entries))?;
+    push_count(text, b"\ngifts ", u64::from(gifts))?;
     text.extend_from_slice(b"\nposition ")?;
     push_amounts(text, names, position)?;
     text.extend_from_slice(b"\n")?;
-    push_party_calls(text, calls)
+    push_calls(text, calls)
 }
 
 // The line of each seat's calls, from seat 1 on, after the text.
-fn push_party_calls(text: &mut Vec<u8>, calls: &[u64]) -> Result<(), AllocError>
+fn push_calls(text: &mut Vec<u8>, calls: &[u64]) -> Result<(), AllocError>
     ensures { OnOk result (text.new.items ≡ text.old.items ++ calls_text 1 calls.now) }
 {
     'seats: for (place, count) in calls.iter().enumerate() {
-        push_party_seat(text, place as u64 + 1, *count)?;
+        push_seat(text, place as u64 + 1, *count)?;
     }
     Ok(())
 }
 
 // The line of a seat's calls, after the text.
-fn push_party_seat(text: &mut Vec<u8>, number: u64, count: u64) -> Result<(), AllocError>
-    ensures { OnOk result (text.new.items ≡ text.old.items ++ party_seat_text number count) }
+fn push_seat(text: &mut Vec<u8>, number: u64, count: u64) -> Result<(), AllocError>
+    ensures { OnOk result (text.new.items ≡ text.old.items ++ seat_text number count) }
 {
-    push_party_count(text, b"seat ", number)?;
-    push_party_count(text, b" calls ", count)?;
+    push_count(text, b"seat ", number)?;
+    push_count(text, b" calls ", count)?;
     text.extend_from_slice(b"\n")
 }
 
 // A label and a number, after the text.
-fn push_party_count(text: &mut Vec<u8>, label: &[u8], count: u64) -> Result<(), AllocError>
+fn push_count(text: &mut Vec<u8>, label: &[u8], count: u64) -> Result<(), AllocError>
     ensures { OnOk result (text.new.items ≡ text.old.items ++ label.now ++ decimal count) }
 {
     text.extend_from_slice(label)?;

@@ -1,7 +1,7 @@
 //! What the lines of a session have come to.
 ghost use Rattle.std.specs.Prelude.{◌≡◌, ◌≤◌, ℕ, List, [], ◌++◌, length};
 ghost use Rattle.dg_rules.specs.declared.entry.Entry.{Entry as EntryData};
-ghost use Rattle.dg_table.specs.Seats.{SeatMeetsHistory};
+ghost use Rattle.dg_table.specs.Seats.{HasMet};
 
 use dg_log::{Name, Prefix, ReceiptSet};
 use dg_table::Seat;
@@ -16,14 +16,14 @@ pub(crate) struct EntriesSoFar<N: Name> {
 
 impl<N: Name> Model for EntriesSoFar<N> {
     ghost use Rattle.std.specs.Prelude.{length};
-    ghost use Rattle.dg_table.specs.Histories.{IsHistoryOfTable};
+    ghost use Rattle.dg_table.specs.Histories.{IsHistoryOf};
     ghost use Rattle.dg_session.specs.State.{EntriesSoFarView};
 
     ghost Value = { EntriesSoFarView };
 
     ghost view = { λ c. record { latest = c.latest; entered = c.entered } };
 
-    ghost invariant = { λ c. IsHistoryOfTable N.table c.latest };
+    ghost invariant = { λ c. IsHistoryOf N.table c.latest };
 }
 
 impl<N: Name> EntriesSoFar<N> {
@@ -40,13 +40,13 @@ impl<N: Name> EntriesSoFar<N> {
 
     /// Tells the seat of the history as the last line left it.
     pub(crate) fn tell(&self, seat: &mut Seat<N>)
-        ensures { SeatMeetsHistory self.now.latest seat.old seat.new }
+        ensures { HasMet self.now.latest seat.old seat.new }
     {
         seat.meet(&self.latest);
     }
 
     /// Follows one more line, of the seat, which had made so many calls before it.
-    pub(crate) fn follow_line(&mut self, seat: &Seat<N>, calls: u64)
+    pub(crate) fn follow(&mut self, seat: &Seat<N>, calls: u64)
         ensures latest { self.new.latest ≡ seat.now.met }
         ensures entered { (before made : List (ℕ × EntryData)) → length before ≡ calls →
             seat.now.mine ≡ before ++ made → length made ≤ 1 →
@@ -55,7 +55,7 @@ impl<N: Name> EntriesSoFar<N> {
         self.latest = seat.met().copy();
         if seat.calls() > calls {
             if let Some(receipt) = seat.last_call() {
-                self.entered = self.entered.and(receipt);
+                self.entered = self.entered.with(receipt);
             }
         }
     }

@@ -2,6 +2,6 @@
 ghost use Rattle.dg_session.specs.Streams.{CutOneWay};
 
 /// A stream is cut into lines in one way.
-pub fn sessions_cut_one_way()
+pub fn cut_one_way()
     ensures { CutOneWay }
 {}

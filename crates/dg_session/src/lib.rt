@@ -19,9 +19,9 @@ pub use dg_lines::{LineFault, OutOfMemory, parse_line, parse_step, reply_text};
 /// Why sessions are not held, or what they came to is not told.
 pub use dg_system::Shortage as PartyFault;
 pub use ends::{MAX_LINE, MAX_LINES, READ_SIZE, SessionEnd};
-pub use laws::sessions_cut_one_way;
+pub use laws::cut_one_way;
 pub use line_format::LineFormat;
 pub use parties::party;
-pub use played::{PartyRefusal, Played};
+pub use played::{PartyOutcome, PartyRefusal};
 pub use serving::{serve, serve_seats};
 pub use threads::sessions;

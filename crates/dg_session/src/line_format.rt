@@ -2,7 +2,7 @@
 ghost use Rattle.std.specs.Prelude.{◌≡◌, ◌<◌, ◌≤◌, None, IfSome};
 ghost use Rattle.dg_session.specs.State.{IsFor, IsForNobody};
 
-use dg_lines::split_seat_off_line;
+use dg_lines::split_seat;
 
 /// How the lines of a session name the seat that makes their calls.
 #[derive(Clone, Copy)]
@@ -31,7 +31,7 @@ fn seat_of_line(count: usize, line: &[u8]) -> Option<(usize, &[u8])>
     ensures there { IfSome result (λ p. p.0 < count) }
     ensures none { result ≡ None → IsForNobody LineFormat.BySeat count line.now }
 {
-    let Some((seat, text)) = split_seat_off_line(line) else {
+    let Some((seat, text)) = split_seat(line) else {
         return None;
     };
     let seat = usize::from(seat);

@@ -1,12 +1,12 @@
 //! Parties: a table is opened, played by many seats at once, and closed.
 ghost use Rattle.std.specs.Prelude.{◌≡◌, length, IfOk, IfErr};
-ghost use Rattle.dg_log.specs.Rows.{IsLogCapacity};
+ghost use Rattle.dg_log.specs.Rows.{IsCapacity};
 ghost use Rattle.dg_log.specs.Tables.{table_data_of};
-ghost use Rattle.dg_table.specs.Opened.{TableMayHaveSeats};
-ghost use Rattle.dg_session.specs.Parties.{script_contents, IsParty, IsPartyRefused};
+ghost use Rattle.dg_table.specs.Opened.{IsSeatCount};
+ghost use Rattle.dg_session.specs.Parties.{script_bytes, IsParty, IsPartyRefused};
 
-use crate::closing::closed_party_text;
-use crate::played::{PartyRefusal, Played};
+use crate::closing::party_text;
+use crate::played::{PartyOutcome, PartyRefusal};
 use crate::threads::sessions;
 use dg_chips::Start;
 use dg_log::{LogFault, Name, Row};
@@ -33,15 +33,15 @@ pub fn party<R: Threads + Wait + Sync, G: Gate>(
     names: &Names,
     scripts: &[Vec<u8>],
     gate: &G,
-) -> Result<Played, PartyRefusal>
-    requires cap { IsLogCapacity cap }
-    requires scripts { TableMayHaveSeats (length scripts.now) }
+) -> Result<PartyOutcome, PartyRefusal>
+    requires cap { IsCapacity cap }
+    requires scripts { IsSeatCount (length scripts.now) }
     requires names { length names.now ≡ start.now.graph.size }
     ensures played { IfOk result
-        (λ p. IsParty (table_data_of start.now (length scripts.now) cap) names.now (script_contents scripts.now)
+        (λ p. IsParty (table_data_of start.now (length scripts.now) cap) names.now (script_bytes scripts.now)
         p.ends.items p.text.items) }
     ensures refused { IfErr result
-        (IsPartyRefused (table_data_of start.now (length scripts.now) cap) names.now (script_contents scripts.now)) }
+        (IsPartyRefused (table_data_of start.now (length scripts.now) cap) names.now (script_bytes scripts.now)) }
 {
     let row = match Row::new(alloc, cap) {
         Ok(row) => row,
@@ -60,16 +60,16 @@ fn party_of<N: Name + Send + Sync, R: Threads + Wait + Sync, G: Gate>(
     names: &Names,
     scripts: &[Vec<u8>],
     gate: &G,
-) -> Result<Played, PartyRefusal>
+) -> Result<PartyOutcome, PartyRefusal>
     requires row { row ≡ N.names }
     requires table { N.table ≡ table_data_of start.now (length scripts.now) (length row.cells) }
-    requires scripts { TableMayHaveSeats (length scripts.now) }
+    requires scripts { IsSeatCount (length scripts.now) }
     requires names { length names.now ≡ start.now.graph.size }
     ensures played { IfOk result
-        (λ p. IsParty N.table names.now (script_contents scripts.now) p.ends.items
+        (λ p. IsParty N.table names.now (script_bytes scripts.now) p.ends.items
         p.text.items) }
     ensures refused { IfErr result
-        (IsPartyRefused N.table names.now (script_contents scripts.now)) }
+        (IsPartyRefused N.table names.now (script_bytes scripts.now)) }
 {
     let count = scripts.len();
     let (table, mut seats) = match Table::<N>::open(alloc, row, start, count as u8) {
@@ -86,8 +86,8 @@ fn party_of<N: Name + Send + Sync, R: Threads + Wait + Sync, G: Gate>(
     let Ok(audit) = table.close(seats) else {
         return Err(PartyRefusal::Log);
     };
-    match closed_party_text(alloc, names, &audit, count) {
-        Ok(text) => Ok(Played { ends, text }),
+    match party_text(alloc, names, &audit, count) {
+        Ok(text) => Ok(PartyOutcome { ends, text }),
         Err(_) => Err(PartyRefusal::Shortage(Shortage::OutOfMemory)),
     }
 }

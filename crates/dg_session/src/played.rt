@@ -6,7 +6,7 @@ use thiserror::Error;
 
 /// What a party came to.
 #[derive(Drop)]
-pub struct Played {
+pub struct PartyOutcome {
     /// What each session came to, in the order of the scripts.
     pub ends: Vec<Result<u32, SessionEnd>>,
     /// The lines of the history's entries, each with its number and its seat, and then its totals.

@@ -1,7 +1,7 @@
 //! Serving a stream of lines.
 ghost use Rattle.std.specs.Prelude.{◌≡◌, ◌≢◌, ◌≤◌, List, ℕ, [], ◌∷◌, length, Option, None, Some, Err, OnOk, All, true};
-ghost use Rattle.dg_rank.specs.Ranks.{MayHaveRankWorkers};
-ghost use Rattle.dg_table.specs.Histories.{SeatHasPrefix};
+ghost use Rattle.dg_rank.specs.Ranks.{IsWorkerCount};
+ghost use Rattle.dg_table.specs.Histories.{HasPrefix};
 ghost use Rattle.dg_session.specs.Ends.{IsOver, IsSession};
 ghost use Rattle.dg_session.specs.Commands.{setup_of};
 ghost use Rattle.dg_session.specs.Streams.{passage};
@@ -42,7 +42,7 @@ pub fn serve<N: Name, R: Threads + Wait, I: Read + Drop, O: Write + Drop>(
     workers: u32,
 ) -> Result<u32, SessionEnd>
     requires names { length names.now ≡ N.table.start.graph.size }
-    requires workers { MayHaveRankWorkers workers }
+    requires workers { IsWorkerCount workers }
     ensures session { (left said : Option (List ℕ)) × IsSession (setup_of OneSeat N.table names.now workers)
         (passage (I.remaining reader) left) (passage (O.contents writer) said)
         (seat.old ∷ []) (seat.new ∷ []) result }
@@ -77,7 +77,7 @@ pub fn serve_seats<N: Name, R: Threads + Wait, I: Read, O: Write>(
     how: LineFormat,
 ) -> Result<u32, SessionEnd>
     requires names { length names.now ≡ N.table.start.graph.size }
-    requires workers { MayHaveRankWorkers workers }
+    requires workers { IsWorkerCount workers }
     requires some { 1 ≤ length seats.old }
     ensures session { IsSession (setup_of how N.table names.now workers)
         (passage reader.old.remaining reader.new.remaining)
@@ -110,7 +110,7 @@ pub(crate) fn serve_unheard<N: Name, R: Threads + Wait>(
     workers: u32,
 ) -> Result<u32, SessionEnd>
     requires names { length names.now ≡ N.table.start.graph.size }
-    requires workers { MayHaveRankWorkers workers }
+    requires workers { IsWorkerCount workers }
     ensures session { IsSession (setup_of OneSeat N.table names.now workers)
         (passage (Some script.now) (Some [])) (passage None None)
         (seat.old ∷ []) (seat.new ∷ []) result }
@@ -140,7 +140,7 @@ pub(crate) fn serve_unheard<N: Name, R: Threads + Wait>(
 
 /// Each seat has found a history of its table. Nothing is done.
 fn seats_have_prefixes<N: Name>(seats: &[Seat<N>])
-    ensures { All (SeatHasPrefix N.table) seats.now }
+    ensures { All (HasPrefix N.table) seats.now }
 {
     for seat in seats {
         let _prefix = seat.prefix();

@@ -43,7 +43,7 @@ pub(crate) fn answer_line<N: Name, R: Threads + Wait>(
     let calls = seat.calls();
     entries_so_far.tell(seat);
     let answered = answer_seat(shared, &mut kept[place], &mut said.inverse, seat, text);
-    entries_so_far.follow_line(seat, calls);
+    entries_so_far.follow(seat, calls);
     match answered {
         Ok(answer) => said.say(shared.table, shared.names, &answer),
         Err(end) => Err(end),

@@ -1,6 +1,6 @@
 //! Sessions side by side, each with a seat and a thread of its own.
 ghost use Rattle.std.specs.Prelude.{◌≡◌, ◌≤◌, length, IfErr, IfOk, OnOk};
-ghost use Rattle.dg_session.specs.Parties.{AreSessions, IsScriptOver, IsSessionsFault, script_contents};
+ghost use Rattle.dg_session.specs.Parties.{AreSessions, IsScriptOver, IsSessionsFault, script_bytes};
 
 use crate::ends::SessionEnd;
 use crate::serving::serve_unheard;
@@ -42,10 +42,10 @@ pub fn sessions<N: Name + Send + Sync, R: Threads + Wait + Sync, G: Gate>(
     requires scripts { length scripts.now ≡ length seats.old }
     requires names { length names.now ≡ N.table.start.graph.size }
     ensures ok { IfOk result
-        (λ v. AreSessions N.table names.now (script_contents scripts.now)
+        (λ v. AreSessions N.table names.now (script_bytes scripts.now)
         seats.old seats.new v.items) }
     ensures fault { IfErr result
-        (IsSessionsFault N.table names.now (script_contents scripts.now) seats.old
+        (IsSessionsFault N.table names.now (script_bytes scripts.now) seats.old
         seats.new) }
 {
     let context = PartyContext {
@@ -73,10 +73,10 @@ fn run_scripts<'a, N: Name + Send + Sync, R: Threads + Wait + Sync, G: Gate>(
 ) -> Result<(), Shortage>
     requires scripts { length scripts.now ≡ length seats.old }
     requires ends { length scripts.now ≡ length ends.old }
-    ensures ok { OnOk result (AreSessions N.table context.now.names.now (script_contents scripts.now)
+    ensures ok { OnOk result (AreSessions N.table context.now.names.now (script_bytes scripts.now)
         seats.old seats.new ends.new) }
     ensures fault { IfErr result (λ shortage. (shortage ≡ Shortage.Spawn)
-        × IsSessionsFault N.table context.now.names.now (script_contents scripts.now) seats.old seats.new Shortage.Spawn) }
+        × IsSessionsFault N.table context.now.names.now (script_bytes scripts.now) seats.old seats.new Shortage.Spawn) }
 {
     let Some((seat, rest)) = seats.split_first_mut() else {
         return Ok(());
@@ -99,9 +99,9 @@ fn run_scripts<'a, N: Name + Send + Sync, R: Threads + Wait + Sync, G: Gate>(
     let mut others = || -> Result<(), Shortage>
         requires { (length left.now ≡ length rest.now) × (length left.now ≡ length later.now) }
         ensures { OnOk result (AreSessions N.table context.entry.now.names.now
-            (script_contents left.entry.now) rest.entry.now rest.exit.now later.exit.now)
+            (script_bytes left.entry.now) rest.entry.now rest.exit.now later.exit.now)
             × IfErr result (λ shortage. (shortage ≡ Shortage.Spawn)
-            × IsSessionsFault N.table context.entry.now.names.now (script_contents left.entry.now)
+            × IsSessionsFault N.table context.entry.now.names.now (script_bytes left.entry.now)
             rest.entry.now rest.exit.now Shortage.Spawn) }
     { run_scripts(context, left, rest, later) };
     match in_parallel(context.rt, &mut first, &mut others) {
@@ -123,7 +123,7 @@ fn run_script<'a, N: Name, R: Threads + Wait, G: Gate>(
         seat.new result }
 {
     context.gate.enter(u32::from(seat.number()));
-    ask_ahead_for_sessions(context.alloc, script.len());
+    grow_heap(context.alloc, script.len());
     serve_unheard(
         context.rt,
         context.alloc,
@@ -136,20 +136,20 @@ fn run_script<'a, N: Name, R: Threads + Wait, G: Gate>(
 }
 
 // The bytes of a piece of memory. The C library maps one of 128 KB or more by itself, and unmaps it if it is given back.
-const PIECE: usize = 122_880;
+const GROWTH_SIZE: usize = 122_880;
 
 // How many bytes an entry in its box takes for each byte of its line: 496 for the five of a look.
 const SHARE: usize = 100;
 
 // The most pieces that are asked for at once.
-const MAX_PIECES: usize = 16;
+const MAX_GROWTHS: usize = 16;
 
 // Asks for the space of a script's entries at once, and gives it back, which leaves it to them. Otherwise the C library asks the
 // system for each page of it, and all other threads wait meanwhile. If it is refused, that is what happens.
-fn ask_ahead_for_sessions(alloc: Global, bytes: usize) {
+fn grow_heap(alloc: Global, bytes: usize) {
     let mut pieces = Vec::new(alloc);
-    for _ in 0..(bytes / (PIECE / SHARE) + 1).min(MAX_PIECES) {
-        let Ok(piece) = Vec::<u8>::with_capacity(alloc, PIECE) else {
+    for _ in 0..(bytes / (GROWTH_SIZE / SHARE) + 1).min(MAX_GROWTHS) {
+        let Ok(piece) = Vec::<u8>::with_capacity(alloc, GROWTH_SIZE) else {
             return;
         };
         let Ok(()) = pieces.push(piece) else {

@@ -10,12 +10,12 @@ pub use Rattle.dg_rules.proofs.LegalLaws.{legal_more, legal_none, legal_part, ri
 pub use Rattle.dg_rules.proofs.ListLaws.{slice_get-append, slice_get-seam}
 pub use Rattle.dg_rules.proofs.OneReply.{empty_playable, move_once, no_vertex_playable, script_playable}
 pub use Rattle.dg_rules.proofs.StateLaws.{shown_once}
-pub use Rattle.dg_rules.specs.History.{gifts_by_reply, gifts_in, position_after}
+pub use Rattle.dg_rules.specs.History.{change_count, gifts_in, position_after}
 pub use Rattle.dg_rules.specs.Legal.{IsLegal, LooksBack}
 pub use Rattle.dg_rules.specs.MoveReplies.{RepliesToMove}
 pub use Rattle.dg_rules.specs.Position.{Position}
 pub use Rattle.dg_rules.specs.Replies.{Replies, RepliesAt, RepliesToClaim}
-pub use Rattle.dg_rules.specs.State.{HistoryLeadsTo, GameState}
+pub use Rattle.dg_rules.specs.State.{LeadsTo, GameState}
 pub use Rattle.dg_rules.specs.declared.entry.Entry.{Entry}
 pub use Rattle.dg_rules.specs.declared.entry.Refusal.TheVariants.{Empty, NoVertex, Range}
 pub use Rattle.dg_rules.specs.declared.entry.Reply.{Reply}
@@ -24,16 +24,16 @@ pub use Rattle.dg_rules.specs.declared.entry.Request.{Request}
 pub use Rattle.dg_rules.specs.declared.entry.Request.TheVariants.{Claim}
 pub use Rattle.dg_graph.specs.Graph.{IsGraph}
 pub use Rattle.dg_log.specs.Tables.{TableData}
-pub use Rattle.dg_strategy.specs.Choices.{GreedyBorrowsAtLeast, BorrowsInDebt, Choosing, IsLeastInDebt}
-pub use Rattle.dg_strategy.specs.Greedy.{AllChosenMoves, AreGreedy, EndsGreedyGame, EndsStrategyTurn, IsGreedyCall, IsGreedyGame, IsGreedyTurn}
-pub use Rattle.dg_strategy.specs.GreedyLaws.{GreedyGameIsOne, IsGreedyChoice, StrategyIsAloneAt, SettlingOutIsGreedy}
-pub use Rattle.dg_strategy.specs.Plays.{AreStrategyMoves, Gains, IsClaimed, ChoiceIsMadeOrPastRange, IsChosenMove, IsPlayed, IsPlayedOut, IsSettlerTurn, IsStopped, IsStrategyTurn, IsTurnByStrategy, Plays}
+pub use Rattle.dg_strategy.specs.Choices.{IsGreedyMove, BorrowsInDebt, Choosing, IsLeastInDebt}
+pub use Rattle.dg_strategy.specs.Greedy.{AreMoves, AreGreedy, EndsGame, EndsTurn, IsGreedyCall, IsGreedyGame, IsGreedyTurn}
+pub use Rattle.dg_strategy.specs.GreedyLaws.{GreedyIsUnique, IsGreedyChoice, IsAloneAt, SettlerIsGreedy}
+pub use Rattle.dg_strategy.specs.Plays.{AreNumberedMoves, Gains, IsClaimed, IsMovedOrPastRange, IsMoveRequest, IsPlayed, IsPlayedOut, IsSettlerTurn, IsStopped, IsStrategyTurn, IsTurnBy, Plays}
 pub use Rattle.dg_strategy.specs.declared.playing.Ended.{Ended}
 pub use Rattle.dg_strategy.specs.declared.playing.Ended.TheVariants.{Settled, Turns}
 pub use Rattle.dg_table.proofs.Entries.{entries_enumerated, enumerate_from-more, own_alone}
-pub use Rattle.dg_table.specs.Faults.{RefusesCallAtTable, KeepsAfterRefusal}
-pub use Rattle.dg_table.specs.Seats.{AreOfTableSeats, Keeps, SeatView, entries_of_seat}
-pub use Rattle.dg_rules.specs.Requests.{request_for}
+pub use Rattle.dg_table.specs.Faults.{RefusesCall, KeepsAfterRefusal}
+pub use Rattle.dg_table.specs.Seats.{AreOfSeats, Keeps, SeatView, entries_of}
+pub use Rattle.dg_rules.specs.Requests.{choice_request}
 pub use Rattle.dg_table.specs.declared.fault.Fault.{Fault}
 pub use Rattle.dg_theory.specs.Firing.{IsEffective}
 pub use Rattle.std.proofs.Common.{Bool, List, None, Option, Some, [], ap, append-nil, append_assoc, arith, false, inl, inr, is_some, length, length-append, map, not, refl, rules, subst, sym, take, true, ℕ, ⊎_elim, ◌++◌, ◌+◌, ◌-◌, ◌<◌, ◌∙◌, ◌∷◌, ◌≡◌, ◌≤◌, ◌⊎◌, Result, Ok, Err}

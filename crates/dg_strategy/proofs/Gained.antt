@@ -1,13 +1,13 @@
 -- What a seat gains by turns in a row.
 --   left_by          what turns in a row leave of a seat
---   gained_by        what is gained by turns in a row, whatever the seat's space after them
+--   gains        what is gained by turns in a row, whatever the seat's space after them
 --   a_move           a turn that is no claim is a move
 --   one_more         one more turn that is a move
 --   claimed_by       a turn that is a claim
 --   stopped_by       a turn that is refused
 --   played_out       turns that were all moves
 --   gained_as, plays_as   turns that are each of another kind too
-use Rattle.dg_strategy.proofs.Common.{◌≡◌, ℕ, ◌+◌, ◌<◌, List, [], ◌∷◌, ◌++◌, length, length-append, Option, Some, None, append_assoc, append-nil, arith, refl, sym, ap, subst, ◌∙◌, FoldsTo-push, FoldsTo, Move, Entry, Claim, RefusesCallAtTable, KeepsAfterRefusal, request_for, SeatView, Keeps, Fault, Choosing, IsTurnByStrategy, IsChosenMove, AreStrategyMoves, Gains, IsPlayedOut, IsClaimed, IsStopped, Plays, Result, Ok, Err, Ended, Settled, Turns, TableData}
+use Rattle.dg_strategy.proofs.Common.{◌≡◌, ℕ, ◌+◌, ◌<◌, List, [], ◌∷◌, ◌++◌, length, length-append, Option, Some, None, append_assoc, append-nil, arith, refl, sym, ap, subst, ◌∙◌, FoldsTo-push, FoldsTo, Move, Entry, Claim, RefusesCall, KeepsAfterRefusal, choice_request, SeatView, Keeps, Fault, Choosing, IsTurnBy, IsMoveRequest, AreNumberedMoves, Gains, IsPlayedOut, IsClaimed, IsStopped, Plays, Result, Ok, Err, Ended, Settled, Turns, TableData}
 
 -- the seat y is the seat x with the entries es
 pub record Left (x : SeatView) (es : List (ℕ × Entry)) (y : SeatView) : Type 0 where
@@ -16,7 +16,7 @@ pub record Left (x : SeatView) (es : List (ℕ × Entry)) (y : SeatView) : Type 
   pub told : y.told ≡ x.told
 
 pub left_by : (A : Choosing) (table : TableData) (x : SeatView) (es : List (ℕ × Entry)) (y : SeatView) →
-    FoldsTo (IsTurnByStrategy A table) x es y → Left x es y
+    FoldsTo (IsTurnBy A table) x es y → Left x es y
 left_by A table x [] y same =
     subst (Left x []) same (record { number = refl; mine = sym (append-nil x.mine); told = refl })
 left_by A table x (r ∷ es) y (z, turn, rest) =
@@ -27,9 +27,9 @@ left_by A table x (r ∷ es) y (z, turn, rest) =
       told = left.told ∙ turn.answered.told;
     }
 
-pub gained_by : (A : Choosing) (table : TableData) (x : SeatView) (es : List (ℕ × Entry)) (y z : SeatView) →
-    FoldsTo (IsTurnByStrategy A table) x es y → Keeps y z → Gains (IsTurnByStrategy A table) x es z
-gained_by A table x es y z steps kept =
+pub gains : (A : Choosing) (table : TableData) (x : SeatView) (es : List (ℕ × Entry)) (y z : SeatView) →
+    FoldsTo (IsTurnBy A table) x es y → Keeps y z → Gains (IsTurnBy A table) x es z
+gains A table x es y z steps kept =
     let left = left_by A table x es y steps in
     record {
       last = y;
@@ -40,8 +40,8 @@ gained_by A table x es y z steps kept =
       told = kept.told ∙ left.told;
     }
 
-moves_more : (es : List (ℕ × Entry)) (r : ℕ × Entry) → AreStrategyMoves es → IsChosenMove r.1.request
-    → AreStrategyMoves (es ++ r ∷ [])
+moves_more : (es : List (ℕ × Entry)) (r : ℕ × Entry) → AreNumberedMoves es → IsMoveRequest r.1.request
+    → AreNumberedMoves (es ++ r ∷ [])
 moves_more [] r moves move = (move, tt)
 moves_more (p ∷ es) r moves move = (moves.0, moves_more es r moves.1 move)
 
@@ -49,32 +49,32 @@ keeps_itself : (x : SeatView) → Keeps x x
 keeps_itself x = record { number = refl; mine = refl; told = refl; prefix = refl; met = ([], sym (append-nil x.met)) }
 
 module _ (A : Choosing) (table : TableData) where
-  pub a_move : (x : SeatView) (r : ℕ × Entry) (y : SeatView) → IsTurnByStrategy A table x r y → ¬ (r.1.request ≡ Claim) →
-      IsChosenMove r.1.request
+  pub a_move : (x : SeatView) (r : ℕ × Entry) (y : SeatView) → IsTurnBy A table x r y → ¬ (r.1.request ≡ Claim) →
+      IsMoveRequest r.1.request
   a_move x r y turn other = asks turn.answer turn.answered.request'
     where
-      asks : (m : Option Move) → r.1.request ≡ request_for m → IsChosenMove r.1.request
-      asks (Some m) is = subst IsChosenMove (sym is) tt
+      asks : (m : Option Move) → r.1.request ≡ choice_request m → IsMoveRequest r.1.request
+      asks (Some m) is = subst IsMoveRequest (sym is) tt
       asks None is = absurd (other is)
 
   -- what turns that are moves leave of a seat, and how many they are
   abbrev pub Moved : SeatView → SeatView → ℕ → Type 0
-  Moved x y n = (es : List (ℕ × Entry)) × FoldsTo (IsTurnByStrategy A table) x es y × AreStrategyMoves es × (length es ≡ n)
+  Moved x y n = (es : List (ℕ × Entry)) × FoldsTo (IsTurnBy A table) x es y × AreNumberedMoves es × (length es ≡ n)
 
-  pub one_more : (x y z : SeatView) (r : ℕ × Entry) (n : ℕ) → Moved x y n → IsTurnByStrategy A table y r z →
+  pub one_more : (x y z : SeatView) (r : ℕ × Entry) (n : ℕ) → Moved x y n → IsTurnBy A table y r z →
       ¬ (r.1.request ≡ Claim) → Moved x z (n + 1)
   one_more x y z r n (es, steps, moves, count) turn other = (
     es ++ r ∷ [],
-    FoldsTo-push (IsTurnByStrategy A table) x es y r z steps turn,
+    FoldsTo-push (IsTurnBy A table) x es y r z steps turn,
     moves_more es r moves (a_move y r z turn other),
     omega (arith, count, length-append es (r ∷ [])),
   )
 
-  pub claimed_by : (x y z : SeatView) (r : ℕ × Entry) (i n : ℕ) → Moved x y i → i < n → IsTurnByStrategy A table y r z →
-      r.1.request ≡ Claim → IsClaimed (IsTurnByStrategy A table) n x z r
+  pub claimed_by : (x y z : SeatView) (r : ℕ × Entry) (i n : ℕ) → Moved x y i → i < n → IsTurnBy A table y r z →
+      r.1.request ≡ Claim → IsClaimed (IsTurnBy A table) n x z r
   claimed_by x y z r i n (es, steps, moves, count) few turn claim = record {
     entries = es;
-    gained = gained_by A table x (es ++ r ∷ []) z z (FoldsTo-push (IsTurnByStrategy A table) x es y r z steps turn)
+    gained = gains A table x (es ++ r ∷ []) z z (FoldsTo-push (IsTurnBy A table) x es y r z steps turn)
         (keeps_itself z);
     moves = moves;
     few = omega (arith, count, few);
@@ -82,21 +82,21 @@ module _ (A : Choosing) (table : TableData) where
   }
 
   pub stopped_by : (i n : ℕ) (x y z : SeatView) (fault : Fault) → Moved x y i → i < n → KeepsAfterRefusal fault y z →
-      RefusesCallAtTable table z fault → IsStopped (IsTurnByStrategy A table) table n x z fault
-  unfolding gained_by
+      RefusesCall table z fault → IsStopped (IsTurnBy A table) table n x z fault
+  unfolding gains
   stopped_by i n x y z fault (es, steps, moves, count) few kept refused = record {
     entries = es;
-    gained = gained_by A table x es y z steps kept.0;
+    gained = gains A table x es y z steps kept.0;
     moves = moves;
     few = omega (arith, count, few);
     kept = kept;
     refused = refused;
   }
 
-  pub played_out : (n : ℕ) (x y : SeatView) → Moved x y n → IsPlayedOut (IsTurnByStrategy A table) n x y
+  pub played_out : (n : ℕ) (x y : SeatView) → Moved x y n → IsPlayedOut (IsTurnBy A table) n x y
   played_out n x y (es, steps, moves, count) = record {
     entries = es;
-    gained = gained_by A table x es y y steps (keeps_itself y);
+    gained = gains A table x es y y steps (keeps_itself y);
     moves = moves;
     count = count;
   }

@@ -6,17 +6,17 @@
 --   went_on        with one more turn that is a move
 --   settled_game   with one more turn that is the claim the game is settled
 --   used_up        or its turns are used up
-use Rattle.dg_strategy.proofs.Common.{◌≡◌, ℕ, ◌<◌, Bool, true, false, not, is_some, List, [], ◌∷◌, ◌++◌, length, Option, Some, None, arith, refl, sym, subst, append_assoc, append-nil, IsEffective, StartData, Move, position_after, IsLegal, LooksBack, Position, Replies, GameState, HistoryLeadsTo, Entry, Request, legal_none, legal_more, request_for, GreedyBorrowsAtLeast, IsGreedyCall, AreGreedy, AllChosenMoves, EndsStrategyTurn, IsGreedyGame, IsGreedyTurn, IsChosenMove}
+use Rattle.dg_strategy.proofs.Common.{◌≡◌, ℕ, ◌<◌, Bool, true, false, not, is_some, List, [], ◌∷◌, ◌++◌, length, Option, Some, None, arith, refl, sym, subst, append_assoc, append-nil, IsEffective, StartData, Move, position_after, IsLegal, LooksBack, Position, Replies, GameState, LeadsTo, Entry, Request, legal_none, legal_more, choice_request, IsGreedyMove, IsGreedyCall, AreGreedy, AreMoves, EndsTurn, IsGreedyGame, IsGreedyTurn, IsMoveRequest}
 use Rattle.dg_strategy.proofs.Turned.{claim_won}
 
 pub record IsUnderWay (o : StartData) (H : List Entry) (s : GameState) : Type 0 where
-  pub leads : HistoryLeadsTo o H s
+  pub leads : LeadsTo o H s
   pub legal : IsLegal o H
   pub greedy : AreGreedy o [] H
-  pub moves : AllChosenMoves H
+  pub moves : AreMoves H
 
 pub turn_made : (o : StartData) (H : List Entry) (s : GameState) (answer : Option Move) (e : Entry) (settled : Bool) →
-    HistoryLeadsTo o H s → GreedyBorrowsAtLeast s.amounts answer → e.seat ≡ 1 → e.request ≡ request_for answer →
+    LeadsTo o H s → IsGreedyMove s.amounts answer → e.seat ≡ 1 → e.request ≡ choice_request answer →
     Replies o H e.request e.reply → is_some answer ≡ not settled → IsGreedyTurn o H e settled
 turn_made o H s answer e settled leads least seat asked right there = record {
   seat = seat;
@@ -28,9 +28,9 @@ turn_made o H s answer e settled leads least seat asked right there = record {
     p : Position
     p = position_after o H
 
-    ends : (b : Bool) (m : Option Move) → is_some m ≡ not b → e.request ≡ request_for m → GreedyBorrowsAtLeast s.amounts m →
-        EndsStrategyTurn b e
-    ends false (Some m) there is at_least = subst IsChosenMove (sym is) tt
+    ends : (b : Bool) (m : Option Move) → is_some m ≡ not b → e.request ≡ choice_request m → IsGreedyMove s.amounts m →
+        EndsTurn b e
+    ends false (Some m) there is at_least = subst IsMoveRequest (sym is) tt
     ends false None there is effective = absurd (cc)
     ends true (Some m) there is at_least = absurd (cc)
     ends true None there is effective =
@@ -41,11 +41,11 @@ turn_made o H s answer e settled leads least seat asked right there = record {
           claim_won p e.reply everywhere (subst (λ (q : Request). Replies o H q e.reply) is right),
         )
 
-pub begun : (o : StartData) (s : GameState) → HistoryLeadsTo o [] s → IsUnderWay o [] s
+pub begun : (o : StartData) (s : GameState) → LeadsTo o [] s → IsUnderWay o [] s
 begun o s leads = record { leads = leads; legal = legal_none o; greedy = tt; moves = tt }
 
 -- a move and a claim look back to nothing
-back_for : (H : List Entry) (request : Request) (answer : Option Move) → request ≡ request_for answer →
+back_for : (H : List Entry) (request : Request) (answer : Option Move) → request ≡ choice_request answer →
     LooksBack H request
 back_for H request (Some m) is = subst (LooksBack H) (sym is) tt
 back_for H request None is = subst (LooksBack H) (sym is) tt
@@ -75,12 +75,12 @@ greedy_turns : (o : StartData) (H : List Entry) (e : Entry) (settled : Bool) →
     IsGreedyTurn o H e settled → AreGreedy o [] (H ++ e ∷ [])
 greedy_turns o H e settled greedy turn = greedy_more o [] H e turn.seat turn.call greedy
 
-moves_more : (H : List Entry) (e : Entry) → AllChosenMoves H → IsChosenMove e.request → AllChosenMoves (H ++ e ∷ [])
+moves_more : (H : List Entry) (e : Entry) → AreMoves H → IsMoveRequest e.request → AreMoves (H ++ e ∷ [])
 moves_more [] e moves move = (move, tt)
 moves_more (x ∷ H) e moves move = (moves.0, moves_more H e moves.1 move)
 
 pub went_on : (o : StartData) (H : List Entry) (e : Entry) (s t : GameState) (settled : Bool) → settled ≡ false →
-    IsGreedyTurn o H e settled → HistoryLeadsTo o (H ++ e ∷ []) t → IsUnderWay o H s → IsUnderWay o (H ++ e ∷ []) t
+    IsGreedyTurn o H e settled → LeadsTo o (H ++ e ∷ []) t → IsUnderWay o H s → IsUnderWay o (H ++ e ∷ []) t
 went_on o H e s t false is turn leads known = record {
   leads = leads;
   legal = legal_turn o H e false known.legal turn;

@@ -6,7 +6,7 @@
 --   settles_given    so it is of a settler's
 use Rattle.std.specs.Borrow.{Bor}
 use Rattle.dg_theory.specs.Multigraph.{Multigraph}
-use Rattle.dg_strategy.specs.Choices.{Chooses, StrategyGivesPlayable, ChoosesBorrowings, StrategyGivesClaims}
+use Rattle.dg_strategy.specs.Choices.{Chooses, GivesPlayable, ChoosesBorrowings, GivesClaims}
 use Rattle.dg_strategy.proofs.Common.{◌≡◌, Option, Some, None, sym, subst, at, IsEffective, IsGraph, IsApplicableMove, Move, Vector, Choosing, BorrowsInDebt}
 
 abbrev pub GivesMoves : Choosing → Type 0
@@ -23,12 +23,12 @@ module _ (post : Bor Multigraph → Bor Vector → Option Move → Type 0) where
       d.size ≡ g.size → q.now.size ≡ p.now.size
   sizes g d p q at_g at_d size = rw (at_g, at_d) size
 
-  pub moves_given : StrategyGivesPlayable post → GivesMoves (Chooses post)
+  pub moves_given : GivesPlayable post → GivesMoves (Chooses post)
   moves_given gives g d m graph size (p, q, at_g, at_d, may) =
       subst (λ (h : Multigraph). IsApplicableMove h.size m) at_g
       (gives p q m (subst IsGraph (sym at_g) graph) (sizes g d p q at_g at_d size) may)
 
-  pub settles_given : ChoosesBorrowings post → StrategyGivesClaims post → SettlesDebts (Chooses post)
+  pub settles_given : ChoosesBorrowings post → GivesClaims post → SettlesDebts (Chooses post)
   settles_given borrows claims = record {
     moves = λ g d m graph size (p, q, at_g, at_d, may). subst (λ (x : Vector). BorrowsInDebt x m) at_d
         (borrows p q m (subst IsGraph (sym at_g) graph) (sizes g d p q at_g at_d size) may);

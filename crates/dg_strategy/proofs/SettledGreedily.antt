@@ -14,12 +14,12 @@
 --   least_settling_out   a greedy game is made
 --   least_turn       a turn of a settler whose choices are greedy is one of the greedy settler
 --   settling_out_is_greedy   a greedy game is made by each such settler
-use Rattle.dg_strategy.proofs.Common.{Ok, ◌≡◌, ℕ, ◌+◌, ◌<◌, List, [], ◌∷◌, ◌++◌, length, map, Some, Option, None, arith, refl, sym, ap, subst, ◌∙◌, append_assoc, append-nil, FoldsTo, enumerate_from, take-append_seam, slice_get_within, IsEffective, StartData, Move, position_after, IsLegal, Position, Replies, Entry, Request, Claim, Won, legal_none, slice_get-append, slice_get-seam, TableData, SeatView, AreOfTableSeats, entries_of_seat, request_for, enumerate_from-more, entries_enumerated, own_alone, GreedyBorrowsAtLeast, Choosing, IsGreedyChoice, IsGreedyCall, AreGreedy, AllChosenMoves, StrategyIsAloneAt, SettlingOutIsGreedy, AreStrategyMoves, IsTurnByStrategy, IsSettlerTurn, Gains, Settled, Turns}
+use Rattle.dg_strategy.proofs.Common.{Ok, ◌≡◌, ℕ, ◌+◌, ◌<◌, List, [], ◌∷◌, ◌++◌, length, map, Some, Option, None, arith, refl, sym, ap, subst, ◌∙◌, append_assoc, append-nil, FoldsTo, enumerate_from, take-append_seam, slice_get_within, IsEffective, StartData, Move, position_after, IsLegal, Position, Replies, Entry, Request, Claim, Won, legal_none, slice_get-append, slice_get-seam, TableData, SeatView, AreOfSeats, entries_of, choice_request, enumerate_from-more, entries_enumerated, own_alone, IsGreedyMove, Choosing, IsGreedyChoice, IsGreedyCall, AreGreedy, AreMoves, IsAloneAt, SettlerIsGreedy, AreNumberedMoves, IsTurnBy, IsSettlerTurn, Gains, Settled, Turns}
 use Rattle.dg_strategy.proofs.Gained.{plays_as}
 use Rattle.dg_strategy.proofs.Turned.{claim_won}
 
 abbrev LeastDebtors : Choosing
-LeastDebtors g d answer = GreedyBorrowsAtLeast d answer
+LeastDebtors g d answer = IsGreedyMove d answer
 
 pub bare : List (ℕ × Entry) → List Entry
 bare es = map (λ (p : ℕ × Entry). p.1) es
@@ -34,7 +34,7 @@ unfolding bare
 bare_count [] = refl
 bare_count (e ∷ es) = omega (arith, bare_count es)
 
-bare_moves : (es : List (ℕ × Entry)) → AreStrategyMoves es → AllChosenMoves (bare es)
+bare_moves : (es : List (ℕ × Entry)) → AreNumberedMoves es → AreMoves (bare es)
 unfolding bare
 bare_moves [] moves = tt
 bare_moves (e ∷ es) moves = (moves.0, bare_moves es moves.1)
@@ -43,7 +43,7 @@ asked_claim : (p : Position) (request : Request) → IsGreedyCall p request → 
     IsEffective p.graph.size p.amounts
 asked_claim p request call claim = finds call.answer call.least call.asked
   where
-    finds : (m : Option Move) → GreedyBorrowsAtLeast call.amounts m → request ≡ request_for m →
+    finds : (m : Option Move) → IsGreedyMove call.amounts m → request ≡ choice_request m →
         IsEffective p.graph.size p.amounts
     finds (Some m) least asked = absurd (cc)
     finds None effective asked = λ v below.
@@ -58,17 +58,17 @@ pub record NextTurn (table : TableData) (K : List Entry) (r : ℕ × Entry) (y :
 
 module _ (table : TableData) (alone : table.seats ≡ 1) where
   next_turn : (K : List Entry) (x : SeatView) (r : ℕ × Entry) (y : SeatView) → x.mine ≡ enumerate_from 0 K →
-      IsTurnByStrategy LeastDebtors table x r y → NextTurn table K r y
+      IsTurnBy LeastDebtors table x r y → NextTurn table K r y
   next_turn K x r y known turn =
       let H = turn.history in
-      let seated : AreOfTableSeats 1 (H ++ r.1 ∷ []) =
-      subst (λ (n : ℕ). AreOfTableSeats n (H ++ r.1 ∷ [])) alone turn.answered.history.seated in
+      let seated : AreOfSeats 1 (H ++ r.1 ∷ []) =
+      subst (λ (n : ℕ). AreOfSeats n (H ++ r.1 ∷ [])) alone turn.answered.history.seated in
       let bounds = seated (length H) r.1 (slice_get-seam H r.1 []) in
       let seat : r.1.seat ≡ 1 = omega (arith, bounds.0, bounds.1) in
       let number : x.number ≡ 1 = sym turn.answered.seat ∙ seat in
-      let before : AreOfTableSeats 1 H = λ k e at.
+      let before : AreOfSeats 1 H = λ k e at.
       seated k e (slice_get-append H (r.1 ∷ []) k (slice_get_within H k e at) ∙ at) in
-      let own : entries_of_seat 1 H ≡ x.mine = ap (λ (s : ℕ). entries_of_seat s H) (sym number) ∙ turn.answered.before.mine in
+      let own : entries_of 1 H ≡ x.mine = ap (λ (s : ℕ). entries_of s H) (sym number) ∙ turn.answered.before.mine in
       let all : enumerate_from 0 H ≡ enumerate_from 0 K = sym (own_alone H before) ∙ own ∙ known in
       let same : H ≡ K = sym (entries_enumerated 0 H) ∙ ap (map (λ (p : ℕ × Entry). p.1)) all ∙ entries_enumerated 0 K in
       let call : IsGreedyCall (position_after table.start H) r.1.request =
@@ -126,14 +126,14 @@ claim_at_end o H e legal greedy claim =
     (subst (λ (q : Request). Replies o H q e.reply) claim here)
 
 -- what turns leave of a seat that had no call
-gained : (table : TableData) (x : SeatView) (es : List (ℕ × Entry)) (y : SeatView) → StrategyIsAloneAt table x →
+gained : (table : TableData) (x : SeatView) (es : List (ℕ × Entry)) (y : SeatView) → IsAloneAt table x →
     Gains (IsSettlerTurn LeastDebtors table) x es y →
     AreGreedy table.start [] (bare es) × IsLegal table.start (bare es) × (y.mine ≡ enumerate_from 0 (bare es))
 gained table x es y (alone, none) gains =
     let (greedy, legal, mine) = turns_after table alone [] x es gains.last none (legal_none table.start) gains.steps in
     (greedy, legal, gains.kept.mine ∙ mine)
 
-least_settling_out : (N : Type 0) (table : TableData) → SettlingOutIsGreedy N LeastDebtors table
+least_settling_out : (N : Type 0) (table : TableData) → SettlerIsGreedy N LeastDebtors table
 least_settling_out N table n x y Turns greedy new played =
     let (greedy, legal, mine) = gained table x played.entries y new played.gained in (
       bare played.entries,
@@ -188,7 +188,7 @@ least_turn A table greedy x r y settles =
       won = settles.won;
     }
 
-pub settling_out_is_greedy : (N : Type 0) (A : Choosing) (table : TableData) → SettlingOutIsGreedy N A table
+pub settling_out_is_greedy : (N : Type 0) (A : Choosing) (table : TableData) → SettlerIsGreedy N A table
 settling_out_is_greedy N A table n x y ended greedy new played =
     least_settling_out N table n x y ended (λ g d m size least. least) new
     (plays_as (IsSettlerTurn A table) (IsSettlerTurn LeastDebtors table) (least_turn A table greedy) table n x y (Ok ended)

@@ -4,13 +4,13 @@
 --   settler_moves    a settler's moves can be made
 --   strategy_turn    a turn by a choice whose moves can be made
 --   settler_turn     a turn by a choice that settles debts
-use Rattle.dg_strategy.proofs.Common.{◌≡◌, ℕ, ◌<◌, [], ◌∷◌, Option, Some, None, arith, refl, ap, subst, ◌∙◌, IsEffective, IsGraph, at, IsApplicableMove, Move, Borrow, no_vertex_playable, empty_playable, script_playable, position_after, gifts_by_reply, Position, RepliesToMove, Replies, RepliesToClaim, Entry, NoVertex, Empty, Range, Reply, Moved, Refused, Won, NotWon, gifts_in-more, legal_part, graphs_hold, SeatView, request_for, Choosing, BorrowsInDebt, IsTurnByStrategy, IsChosenMove, ChoiceIsMadeOrPastRange, IsStrategyTurn, IsSettlerTurn, TableData}
+use Rattle.dg_strategy.proofs.Common.{◌≡◌, ℕ, ◌<◌, [], ◌∷◌, Option, Some, None, arith, refl, ap, subst, ◌∙◌, IsEffective, IsGraph, at, IsApplicableMove, Move, Borrow, no_vertex_playable, empty_playable, script_playable, position_after, change_count, Position, RepliesToMove, Replies, RepliesToClaim, Entry, NoVertex, Empty, Range, Reply, Moved, Refused, Won, NotWon, gifts_in-more, legal_part, graphs_hold, SeatView, choice_request, Choosing, BorrowsInDebt, IsTurnBy, IsMoveRequest, IsMovedOrPastRange, IsStrategyTurn, IsSettlerTurn, TableData}
 use Rattle.dg_strategy.proofs.Kept.{GivesMoves, SettlesDebts}
 use Rattle.dg_rules.specs.declared.entry.Refusal.TheVariants.{Script}
 use Rattle.dg_rules.specs.declared.entry.Request.TheVariants as request
 
 pub move_answered : (p : Position) (m : Move) (reply : Reply) → IsApplicableMove p.graph.size m → RepliesToMove p m reply →
-    ChoiceIsMadeOrPastRange reply × (gifts_by_reply reply ≡ 0)
+    IsMovedOrPastRange reply × (change_count reply ≡ 0)
 move_answered p m (Moved d) playable replies = (tt, refl)
 move_answered p m (Refused NoVertex) playable replies = absurd (no_vertex_playable p m replies playable)
 move_answered p m (Refused Empty) playable replies = absurd (empty_playable p m replies playable)
@@ -20,7 +20,7 @@ move_answered p m (Refused refusal) playable replies = absurd replies
 move_answered p m reply playable replies = absurd replies
 
 -- a claim gives nothing
-claim_answered : (p : Position) (reply : Reply) → RepliesToClaim p reply → gifts_by_reply reply ≡ 0
+claim_answered : (p : Position) (reply : Reply) → RepliesToClaim p reply → change_count reply ≡ 0
 claim_answered p Won replies = refl
 claim_answered p NotWon replies = refl
 claim_answered p reply replies = absurd replies
@@ -40,34 +40,34 @@ settler_moves A settles g d m graph size may = borrows m (settles.moves g d m gr
 
 -- the graph that a turn finds is within the limits
 graph_found : (A : Choosing) (table : TableData) (x : SeatView) (r : ℕ × Entry) (y : SeatView) →
-    IsGraph table.start.graph → (turn : IsTurnByStrategy A table x r y) → IsGraph (position_after table.start turn.history).graph
+    IsGraph table.start.graph → (turn : IsTurnBy A table x r y) → IsGraph (position_after table.start turn.history).graph
 graph_found A table x r y graph turn =
     graphs_hold table.start turn.history graph (legal_part table.start turn.history (r.1 ∷ []) turn.answered.history.legal)
 
 module _ (A : Choosing) (table : TableData) (start : IsGraph table.start.graph) (x : SeatView) (r : ℕ × Entry)
     (y : SeatView) where
   -- the reply to what was answered, and what is known of it where the answer is a move that can be made
-  answered : (gives : GivesMoves A) (turn : IsTurnByStrategy A table x r y) (m : Option Move) → turn.answer ≡ m →
-      (IsChosenMove r.1.request → ChoiceIsMadeOrPastRange r.1.reply) × (gifts_by_reply r.1.reply ≡ 0)
+  answered : (gives : GivesMoves A) (turn : IsTurnBy A table x r y) (m : Option Move) → turn.answer ≡ m →
+      (IsMoveRequest r.1.request → IsMovedOrPastRange r.1.reply) × (change_count r.1.reply ≡ 0)
   answered gives turn (Some m) is =
       let graph = graph_found A table x r y start turn in
       let chosen = rw is at turn.chosen in
-      let asked : r.1.request ≡ request.Move m = turn.answered.request' ∙ ap request_for is in
+      let asked : r.1.request ≡ request.Move m = turn.answered.request' ∙ ap choice_request is in
       let replies : Replies table.start turn.history (request.Move m) r.1.reply =
-      subst (λ q. Replies table.start turn.history q r.1.reply) (ap request_for is) turn.answered.reply in
+      subst (λ q. Replies table.start turn.history q r.1.reply) (ap choice_request is) turn.answered.reply in
       let playable = gives (position_after table.start turn.history).graph turn.amounts m graph turn.shown.size chosen in
       let found = move_answered (position_after table.start turn.history) m r.1.reply playable replies in
       ((λ move. found.0), found.1)
   answered gives turn None is =
-      let asked : r.1.request ≡ request.Claim = turn.answered.request' ∙ ap request_for is in
+      let asked : r.1.request ≡ request.Claim = turn.answered.request' ∙ ap choice_request is in
       let replies : Replies table.start turn.history request.Claim r.1.reply =
-      subst (λ q. Replies table.start turn.history q r.1.reply) (ap request_for is) turn.answered.reply in (
-        (λ move. absurd (subst IsChosenMove asked move)),
+      subst (λ q. Replies table.start turn.history q r.1.reply) (ap choice_request is) turn.answered.reply in (
+        (λ move. absurd (subst IsMoveRequest asked move)),
         claim_answered (position_after table.start turn.history)
             r.1.reply replies,
       )
 
-  pub strategy_turn : GivesMoves A → IsTurnByStrategy A table x r y → IsStrategyTurn A table x r y
+  pub strategy_turn : GivesMoves A → IsTurnBy A table x r y → IsStrategyTurn A table x r y
   strategy_turn gives turn =
       let found = answered gives turn turn.answer refl in
       record {
@@ -76,7 +76,7 @@ module _ (A : Choosing) (table : TableData) (start : IsGraph table.start.graph) 
         moved = found.0;
       }
 
-  pub settler_turn : SettlesDebts A → IsTurnByStrategy A table x r y → IsSettlerTurn A table x r y
+  pub settler_turn : SettlesDebts A → IsTurnBy A table x r y → IsSettlerTurn A table x r y
   unfolding strategy_turn
   settler_turn settles turn =
       let graph = graph_found A table x r y start turn in
@@ -87,7 +87,7 @@ module _ (A : Choosing) (table : TableData) (start : IsGraph table.start.graph) 
       let effective : IsEffective p.graph.size (at turn.amounts) =
       settles.claims p.graph turn.amounts graph turn.shown.size chosen in
       let replies : RepliesToClaim p r.1.reply =
-      subst (λ q. Replies table.start turn.history q r.1.reply) (ap request_for is) turn.answered.reply in
+      subst (λ q. Replies table.start turn.history q r.1.reply) (ap choice_request is) turn.answered.reply in
       claim_won p r.1.reply (λ v below. rw (← turn.shown.amounts v below) (effective v below)) replies in
       record {
         strategy = kept;

@@ -16,10 +16,10 @@ pub use Rattle.dg_rules.specs.declared.entry.Request.{Request}
 pub use Rattle.dg_rules.specs.declared.entry.Request.TheVariants.{Claim}
 pub use Rattle.dg_graph.specs.Graph.{IsGraph}
 pub use Rattle.dg_log.specs.Tables.{TableData}
-pub use Rattle.dg_table.specs.Answered.{IsAnsweredAtTableAfter, entering_at_table}
-pub use Rattle.dg_table.specs.Faults.{RefusesCallAtTable, KeepsAfterRefusal}
+pub use Rattle.dg_table.specs.Answered.{IsAnsweredAfter, entering}
+pub use Rattle.dg_table.specs.Faults.{RefusesCall, KeepsAfterRefusal}
 pub use Rattle.dg_table.specs.Seats.{Keeps, SeatView}
-pub use Rattle.dg_rules.specs.Requests.{request_for}
+pub use Rattle.dg_rules.specs.Requests.{choice_request}
 pub use Rattle.dg_table.specs.declared.fault.Fault.{Fault}
 pub use Rattle.dg_theory.specs.Firing.{IsEffective}
 pub use Rattle.dg_theory.specs.Multigraph.{Multigraph}

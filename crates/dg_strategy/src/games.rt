@@ -1,7 +1,7 @@
 //! The greedy game, turn by turn on a game alone.
 ghost use Rattle.std.specs.Prelude.{◌<◌, ◌++◌, [], ◌∷◌, List};
 ghost use Rattle.dg_chips.specs.Starts.{StartData};
-ghost use Rattle.dg_rules.specs.State.{HistoryLeadsTo};
+ghost use Rattle.dg_rules.specs.State.{LeadsTo};
 ghost use Rattle.dg_rules.specs.declared.entry.Entry.{Entry as EntryData};
 ghost use Rattle.dg_rules.specs.declared.game.TheConstants.{MAX_ENTRIES};
 ghost use Rattle.dg_strategy.specs.Greedy.{IsGreedyTurn};
@@ -14,13 +14,13 @@ use dg_rules::{Entry, Game, Plain};
 /// for the one seat of a new table. The condition is that the history has room for one more entry.
 pub fn greedy_turn(game: &mut Game, entry: &mut Entry) -> bool
     requires { game.old.entries < MAX_ENTRIES }
-    ensures turn { (o : StartData) (H : List EntryData) → HistoryLeadsTo o H game.old → IsGreedyTurn o H entry.new result }
-    ensures leads { (o : StartData) (H : List EntryData) → HistoryLeadsTo o H game.old →
-        HistoryLeadsTo o (H ++ entry.new ∷ []) game.new }
+    ensures turn { (o : StartData) (H : List EntryData) → LeadsTo o H game.old → IsGreedyTurn o H entry.new result }
+    ensures leads { (o : StartData) (H : List EntryData) → LeadsTo o H game.old →
+        LeadsTo o (H ++ entry.new ∷ []) game.new }
 {
     let choice = greedy_choice(game.position());
     let settled = choice.is_none();
-    game.reply_to_call(1, &Plain::of(choice), entry);
-    game.follow_entry(entry);
+    game.reply_to_call(1, &Plain::from_choice(choice), entry);
+    game.follow(entry);
     settled
 }

@@ -2,13 +2,13 @@
 ghost use Rattle.std.specs.Prelude.{MatchOption};
 ghost use Rattle.dg_theory.specs.Firing.{IsEffective};
 ghost use Rattle.dg_chips.specs.Vector.{at};
-ghost use Rattle.dg_strategy.specs.Choices.{GreedyBorrowsAtLeast, IsLeastInDebt};
+ghost use Rattle.dg_strategy.specs.Choices.{IsGreedyMove, IsLeastInDebt};
 
 use dg_chips::{Divisor, Move};
 
 /// What the greedy settler chooses: the least vertex in debt borrows, and there is a claim if nobody is in debt.
 pub fn greedy_choice(position: &Divisor) -> Option<Move>
-    ensures { GreedyBorrowsAtLeast position.now result }
+    ensures { IsGreedyMove position.now result }
 {
     match least_debtor(position) {
         Some(v) => Some(Move::Borrow(v)),

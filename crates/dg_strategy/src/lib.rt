@@ -9,7 +9,7 @@ mod settler;
 mod strategy;
 
 pub use games::greedy_turn;
-pub use laws::greedy_is_settling_out;
+pub use laws::settler_is_greedy;
 pub use least_debtor::greedy_choice;
 pub use playing::{Ended, play, settle_out};
 pub use settler::Settler;

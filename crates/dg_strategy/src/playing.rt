@@ -1,9 +1,9 @@
 //! Turns in a row.
 ghost use Rattle.std.specs.Prelude.{◌≡◌, length, IfOk, IfErr, true, IsTrue, ◌↔◌};
-ghost use Rattle.dg_table.specs.Faults.{RefusesCallAtTable, KeepsAfterRefusal};
+ghost use Rattle.dg_table.specs.Faults.{RefusesCall, KeepsAfterRefusal};
 ghost use Rattle.dg_rules.specs.declared.entry.Request.TheVariants.{Claim as ClaimRequest};
-ghost use Rattle.dg_strategy.specs.Choices.{Chooses, MayChooseAnywhere, StrategyGivesPlayable, ChoosesBorrowings, StrategyGivesClaims};
-ghost use Rattle.dg_strategy.specs.Plays.{IsTurnByStrategy, IsStrategyTurn, IsSettlerTurn, Plays};
+ghost use Rattle.dg_strategy.specs.Choices.{Chooses, MayCallAnywhere, GivesPlayable, ChoosesBorrowings, GivesClaims};
+ghost use Rattle.dg_strategy.specs.Plays.{IsTurnBy, IsStrategyTurn, IsSettlerTurn, Plays};
 
 use crate::settler::Settler;
 use crate::strategy::Strategy;
@@ -26,8 +26,8 @@ pub enum Ended<N: Name> {
 
 impl<N: Name> Ended<N> {
     /// Whether it ended with a claim.
-    pub fn ended_with_claim(&self) -> bool
-        ensures { result ≡ Rattle.dg_strategy.specs.Plays.ended_with_claim self.now }
+    pub fn is_settled(&self) -> bool
+        ensures { result ≡ Rattle.dg_strategy.specs.Plays.is_settled self.now }
     {
         match self {
             Ended::Settled(_) => true,
@@ -49,13 +49,13 @@ pub fn play<N: Name, F: Fn(&Graph, &Divisor) -> Option<Move>>(
     strategy: &Strategy<F>,
     turns: u32,
 ) -> Result<Ended<N>, Fault>
-    requires asked { MayChooseAnywhere (F.pre strategy.now.choice) }
-    requires moves { StrategyGivesPlayable (F.post strategy.now.choice) }
+    requires asked { MayCallAnywhere (F.pre strategy.now.choice) }
+    requires moves { GivesPlayable (F.post strategy.now.choice) }
     ensures { Plays (IsStrategyTurn (Chooses (F.post strategy.now.choice)) N.table)
         N.table turns seat.old seat.new result }
 {
     let _graph = table.start().graph();
-    strategy_turns_by(rt, alloc, table, seat, &strategy.choice, turns)
+    play_turns(rt, alloc, table, seat, &strategy.choice, turns)
 }
 
 /// Plays so many turns as the settler says, or until it claims: each move is a borrowing by a vertex in debt, and the claim is
@@ -70,18 +70,18 @@ pub fn settle_out<N: Name, F: Fn(&Graph, &Divisor) -> Option<Move>>(
     settler: &Settler<F>,
     turns: u32,
 ) -> Result<Ended<N>, Fault>
-    requires asked { MayChooseAnywhere (F.pre settler.now.choice) }
+    requires asked { MayCallAnywhere (F.pre settler.now.choice) }
     requires moves { ChoosesBorrowings (F.post settler.now.choice) }
-    requires claims { StrategyGivesClaims (F.post settler.now.choice) }
+    requires claims { GivesClaims (F.post settler.now.choice) }
     ensures { Plays (IsSettlerTurn (Chooses (F.post settler.now.choice)) N.table)
         N.table turns seat.old seat.new result }
 {
     let _graph = table.start().graph();
-    strategy_turns_by(rt, alloc, table, seat, &settler.choice, turns)
+    play_turns(rt, alloc, table, seat, &settler.choice, turns)
 }
 
 /// So many turns as the choice says, or until it claims.
-fn strategy_turns_by<N: Name, F: Fn(&Graph, &Divisor) -> Option<Move>>(
+fn play_turns<N: Name, F: Fn(&Graph, &Divisor) -> Option<Move>>(
     rt: &impl Wait,
     alloc: Global,
     table: &Table<N>,
@@ -89,12 +89,12 @@ fn strategy_turns_by<N: Name, F: Fn(&Graph, &Divisor) -> Option<Move>>(
     choice: &F,
     turns: u32,
 ) -> Result<Ended<N>, Fault>
-    requires { MayChooseAnywhere (F.pre choice.now) }
-    ensures { Plays (IsTurnByStrategy (Chooses (F.post choice.now)) N.table) N.table turns seat.old seat.new result }
+    requires { MayCallAnywhere (F.pre choice.now) }
+    ensures { Plays (IsTurnBy (Chooses (F.post choice.now)) N.table) N.table turns seat.old seat.new result }
 {
     for _ in 0..turns {
-        let receipt = strategy_turn_by(rt, alloc, table, seat, choice)?;
-        if is_claim_of_strategy(table.log().entry(&receipt)) {
+        let receipt = play_turn(rt, alloc, table, seat, choice)?;
+        if is_claim(table.log().entry(&receipt)) {
             return Ok(Ended::Settled(receipt));
         }
     }
@@ -102,18 +102,18 @@ fn strategy_turns_by<N: Name, F: Fn(&Graph, &Divisor) -> Option<Move>>(
 }
 
 /// One turn, as the choice says.
-fn strategy_turn_by<N: Name, F: Fn(&Graph, &Divisor) -> Option<Move>>(
+fn play_turn<N: Name, F: Fn(&Graph, &Divisor) -> Option<Move>>(
     rt: &impl Wait,
     alloc: Global,
     table: &Table<N>,
     seat: &mut Seat<N>,
     choice: &F,
 ) -> Result<Receipt<N>, Fault>
-    requires { MayChooseAnywhere (F.pre choice.now) }
+    requires { MayCallAnywhere (F.pre choice.now) }
     ensures turn { IfOk result
-        (λ r. IsTurnByStrategy (Chooses (F.post choice.now)) N.table seat.old r seat.new) }
+        (λ r. IsTurnBy (Chooses (F.post choice.now)) N.table seat.old r seat.new) }
     ensures fault { IfErr result
-        (λ f. KeepsAfterRefusal f seat.old seat.new × RefusesCallAtTable N.table seat.new f) }
+        (λ f. KeepsAfterRefusal f seat.old seat.new × RefusesCall N.table seat.new f) }
 {
     let mut choose = |graph: &Graph, position: &Divisor| -> Option<Move>
         requires { F.pre choice.now graph position }
@@ -122,7 +122,7 @@ fn strategy_turn_by<N: Name, F: Fn(&Graph, &Divisor) -> Option<Move>>(
     table.turn(rt, alloc, seat, &mut choose)
 }
 
-fn is_claim_of_strategy(entry: &Entry) -> bool
+fn is_claim(entry: &Entry) -> bool
     ensures { IsTrue result ↔ (entry.now.request ≡ ClaimRequest) }
 {
     matches!(entry.request, Request::Claim)

@@ -1,6 +1,6 @@
 //! Settlers, which borrow until nobody is in debt.
 ghost use Rattle.std.specs.Prelude.{◌≡◌};
-ghost use Rattle.dg_strategy.specs.Choices.{MayChooseAnywhere, ChoosesBorrowings, StrategyGivesClaims};
+ghost use Rattle.dg_strategy.specs.Choices.{MayCallAnywhere, ChoosesBorrowings, GivesClaims};
 
 use dg_chips::{Divisor, Move};
 use dg_graph::Graph;
@@ -21,9 +21,9 @@ where
     /// many vertices, that each move that it gives is a borrowing by a vertex in debt, and that it gives none only if nobody is
     /// in debt.
     pub fn new(choice: F) -> Settler<F>
-        requires asked { MayChooseAnywhere (F.pre choice) }
+        requires asked { MayCallAnywhere (F.pre choice) }
         requires moves { ChoosesBorrowings (F.post choice) }
-        requires claims { StrategyGivesClaims (F.post choice) }
+        requires claims { GivesClaims (F.post choice) }
         ensures { result.choice ≡ choice }
     {
         Settler { choice }

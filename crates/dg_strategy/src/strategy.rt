@@ -1,6 +1,6 @@
 //! Strategies, each move of which can be made.
 ghost use Rattle.std.specs.Prelude.{◌≡◌};
-ghost use Rattle.dg_strategy.specs.Choices.{MayChooseAnywhere, StrategyGivesPlayable};
+ghost use Rattle.dg_strategy.specs.Choices.{MayCallAnywhere, GivesPlayable};
 
 use dg_chips::{Divisor, Move};
 use dg_graph::Graph;
@@ -20,8 +20,8 @@ where
     /// The strategy that plays as the closure says. The conditions are that it may be asked at every graph and amounts of as
     /// many vertices, and that each move that it gives names vertices that exist, is no empty set and has the right size.
     pub fn new(choice: F) -> Strategy<F>
-        requires asked { MayChooseAnywhere (F.pre choice) }
-        requires moves { StrategyGivesPlayable (F.post choice) }
+        requires asked { MayCallAnywhere (F.pre choice) }
+        requires moves { GivesPlayable (F.post choice) }
         ensures { result.choice ≡ choice }
     {
         Strategy { choice }

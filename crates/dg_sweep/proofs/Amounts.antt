@@ -2,7 +2,7 @@
 --   IsReadTo line left xs     the words of the line are the decimals of the numbers xs, and then those that are left
 --   read_none, read_one, read_all   none are read; one more; all are
 --   none_read                 where a word is no decimal, the line spells no numbers
-use Rattle.dg_sweep.proofs.Common.{◌≡◌, ◌≢◌, ℕ, ℤ, List, [], ◌∷◌, ◌++◌, map, All, FitsSigned, w64, refl, sym, ap, ◌∙◌, append-nil, arith, length, signed_decimal, All-nil, All-push, All-head, All-tail, words, SpellsSweptAmounts, SpellsNoSweptAmounts}
+use Rattle.dg_sweep.proofs.Common.{◌≡◌, ◌≢◌, ℕ, ℤ, List, [], ◌∷◌, ◌++◌, map, All, FitsSigned, w64, refl, sym, ap, ◌∙◌, append-nil, arith, length, signed_decimal, All-nil, All-push, All-head, All-tail, words, SpellsAmounts, SpellsNoAmounts}
 
 pub record IsReadTo (line : List ℕ) (left : List (List ℕ)) (xs : List ℤ) : Type 0 where
   pub spelled : words line ≡ map signed_decimal xs ++ left
@@ -25,7 +25,7 @@ read_one {xs = xs} word more x far next is fits = record {
 }
 
 pub read_all : {line : List ℕ} {left : List (List ℕ)} {xs : List ℤ} → IsReadTo line left xs → left ≡ []
-    → SpellsSweptAmounts line xs
+    → SpellsAmounts line xs
 read_all {xs = xs} far none = record {
   spelled = far.spelled ∙ ap (λ l. map signed_decimal xs ++ l) none ∙ append-nil (map signed_decimal xs);
   held = far.held;
@@ -49,7 +49,7 @@ no_others word more never (x ∷ xs) (y ∷ ys) e fits = no_others word more nev
 
 pub none_read : {line : List ℕ} {left : List (List ℕ)} {xs : List ℤ} (word : List ℕ) (more : List (List ℕ))
     → IsReadTo line left xs → left ≡ word ∷ more → ((z : ℤ) → FitsSigned w64 z → word ≢ signed_decimal z)
-    → SpellsNoSweptAmounts line
+    → SpellsNoAmounts line
 none_read {xs = xs} word more far next never ys spells =
     no_others word more never xs ys
     (sym (ap (λ l. map signed_decimal xs ++ l) next) ∙ sym far.spelled ∙ spells.spelled) spells.held

@@ -1,13 +1,13 @@
 -- The names that the proofs of this crate cite, passed on from one place. Declares nothing.
 pub use Rattle.dg_chips.proofs.VectorLaws.{held_once}
-pub use Rattle.dg_chips.specs.DivisorFaults.{IsFirstChipFault}
+pub use Rattle.dg_chips.specs.DivisorFaults.{IsChipFault}
 pub use Rattle.dg_chips.specs.Starts.{IsStart, StartData}
 pub use Rattle.dg_chips.specs.Vector.{HoldsNumbers, Vector, at}
 pub use Rattle.dg_chips.specs.declared.divisor.ChipFault.{ChipFault}
 pub use Rattle.dg_file.specs.Content.{Content}
-pub use Rattle.dg_file.specs.FileFaults.{RefusesTableFile, RefusesTableContent}
-pub use Rattle.dg_file.specs.FileLaws.{FilesHaveOneMeaning}
-pub use Rattle.dg_file.specs.TableFiles.{IsTableInFile}
+pub use Rattle.dg_file.specs.FileFaults.{IsFileFault, IsContentFault}
+pub use Rattle.dg_file.specs.FileLaws.{FileMeaningIsUnique}
+pub use Rattle.dg_file.specs.TableFiles.{ContentDescribes}
 pub use Rattle.dg_file.specs.declared.fault.FileFault.TheVariants.{Chip}
 pub use Rattle.dg_file.specs.declared.fault.FileFault.{FileFault}
 pub use Rattle.dg_invocation.specs.declared.question.Form.TheVariants.{Numbers, Words}
@@ -19,36 +19,36 @@ pub use Rattle.dg_lines.proofs.Integers.{fits_within}
 pub use Rattle.dg_lines.proofs.Judging.{judged-named}
 pub use Rattle.dg_lines.proofs.Streams.{begins_more, begins_none, begins_one, begins_then, come_last, come_then, line_shorter, one_cutting, part_line, part_plain, part_whole}
 pub use Rattle.dg_lines.specs.CommandWords.{IsNumeralWithin}
-pub use Rattle.dg_lines.specs.Cuts.{lines, text_pieces_after, words}
+pub use Rattle.dg_lines.specs.Cuts.{lines, pieces_after, words}
 unfoldable pub use Rattle.dg_lines.specs.Cuts.{after, before}
 pub use Rattle.dg_lines.specs.Judgements.{burning_text, judgement_text}
-pub use Rattle.dg_lines.specs.Streams.{BeginsWithLines, HasNoNewline, LinesOfTextHaveCome, last_line, with_newline}
+pub use Rattle.dg_lines.specs.Streams.{BeginsWithLines, HasNoNewline, LinesHaveCome, last_line, with_newline}
 pub use Rattle.dg_lines.specs.Texts.{verdict_text}
 pub use Rattle.dg_rank.proofs.Numbering.{past_within}
-pub use Rattle.dg_sweep.specs.AnswerLaws.{AmountsHaveOneAnswer, SweptAmountsHaveOneMeaning, TablesHaveOneAnswer}
-pub use Rattle.dg_sweep.specs.Answers.{AnswersLine, AnswersRankLine, AnswersTable, AnswersTableWithin, AreSweptRanks, IsSweptRankBelow, IsSweptLineRefused, IsSweptRankTested, sweep_rank_line, sweep_ranks_line, sweep_refusal_line}
-pub use Rattle.dg_sweep.specs.DivisorLaws.{with_swept_amounts}
-pub use Rattle.dg_sweep.specs.Divisors.{AnswersAmounts, HasSweptAmounts, RefusesSweptAmounts, SpellsSweptAmounts, SpellsNoSweptAmounts}
-pub use Rattle.dg_sweep.specs.FaultTexts.{sweep_file_fault_words}
-pub use Rattle.dg_sweep.specs.Pieces.{AnswersPiece, IsAnswered, LeadsSweptPiece}
-pub use Rattle.dg_sweep.specs.Steps.{AnswersSweptFront, AnswersLastSweptLine, EndsSweptPiece, KeepsPartOfPiece, PassesSweptAnswers, StandsForSweptPart, TakesSweptBytes}
-pub use Rattle.dg_sweep.specs.Sweeps.{EndsSweepAfter, IsSweep, WritesSweptAnswers}
+pub use Rattle.dg_sweep.specs.AnswerLaws.{AmountsHaveOneAnswer, AmountsMeaningIsUnique, TablesHaveOneAnswer}
+pub use Rattle.dg_sweep.specs.Answers.{AnswersLine, AnswersRankLine, AnswersTable, AnswersTableWithin, AreRanks, IsBelow, IsRefusalOf, IsTested, rank_line, ranks_line, refusal_line}
+pub use Rattle.dg_sweep.specs.DivisorLaws.{with_amounts}
+pub use Rattle.dg_sweep.specs.Divisors.{AnswersAmounts, LineStandsFor, IsAmountsFault, SpellsAmounts, SpellsNoAmounts}
+pub use Rattle.dg_sweep.specs.FaultTexts.{file_fault_words}
+pub use Rattle.dg_sweep.specs.Pieces.{AnswersPiece, IsAnswered, LeadsPiece}
+pub use Rattle.dg_sweep.specs.Steps.{AnswersFront, AnswersLast, EndsWithNewline, KeepsPart, PassesAnswers, StandsForPart, TakesBytes}
+pub use Rattle.dg_sweep.specs.Sweeps.{EndsAfter, IsSweep, WritesAnswers}
 pub use Rattle.dg_sweep.specs.declared.ends.SweepEnd.TheVariants.{Read, Shortage, Write}
 pub use Rattle.dg_sweep.specs.declared.ends.SweepEnd.{SweepEnd}
 pub use Rattle.dg_sweep.specs.declared.ends.TheConstants.{READ_SIZE}
 pub use Rattle.dg_system.proofs.Growing.{appends_more, appends_none}
 pub use Rattle.dg_system.proofs.InputReads.{chunk_size, consumes_kept, consumes_more, consumes_none, read_chunk, read_nothing}
-pub use Rattle.dg_system.specs.Growth.{AppendsFrontToStream}
+pub use Rattle.dg_system.specs.Growth.{AppendsFront}
 pub use Rattle.dg_system.specs.declared.shortage.Shortage.TheVariants.{OutOfMemory}
 pub use Rattle.dg_theory.proofs.LossLaws.{loss_bounds_rank}
 pub use Rattle.dg_theory.proofs.RankNumbers.{rank_once}
-pub use Rattle.dg_theory.specs.Burning.{BurnsInOrder, BurnsNext, MayBurn, among, edges_into}
+pub use Rattle.dg_theory.specs.Burning.{IsLeastBurningOrder, BurnsNext, MayBurn, list_contains, edges_into}
 pub use Rattle.dg_theory.specs.Firing.{DivisorsAgreeOn, Amounts}
 pub use Rattle.dg_theory.specs.Multigraph.{IsMultigraph, Multigraph}
-pub use Rattle.dg_theory.specs.Rank.{canonical, less}
+pub use Rattle.dg_theory.specs.Rank.{canonical, minus}
 pub use Rattle.dg_tokens.proofs.Signs.{one_rest}
-pub use Rattle.dg_tokens.specs.Decimals.{BeginsWithDecimal, HasDigitFirst}
-pub use Rattle.dg_verdict.specs.RankTests.{IsRightRankVerdict}
+pub use Rattle.dg_tokens.specs.Decimals.{BeginsWithDecimal, StartsWithDigit}
+pub use Rattle.dg_verdict.specs.RankTests.{IsRightRank}
 pub use Rattle.dg_verdict.specs.Right.{IsVerdictOn}
 pub use Rattle.dg_verdict.specs.declared.rank_verdict.RankVerdict.TheVariants.{AtLeast, Below}
 pub use Rattle.dg_verdict.specs.declared.rank_verdict.RankVerdict.{RankVerdict}

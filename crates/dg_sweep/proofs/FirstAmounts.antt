@@ -2,7 +2,7 @@
 --   word_alone, word_before   the word of a number that nothing follows, or a space
 --   word_none                 where the text begins with no number, the word is none
 --   word_other                where another byte follows the number, the word is none
-use Rattle.dg_sweep.proofs.Common.{◌≡◌, ◌≢◌, ℕ, suc, ℤ, pos, negsuc, true, false, List, [], ◌∷◌, ◌++◌, length, Option, Some, None, get_or, FitsSigned, w64, refl, sym, ap, ◌∙◌, inl, inr, arith, append-nil, decimal, signed_decimal, ◌==◌, ◌≤◌, ◌⊎◌, ◌-◌, take, drop, decimal_is_IsNumeral, digit_from_value, ne_eqb, eqb-true, AllDigits, BeginsWithDecimal, HasDigitFirst, one_rest, before, after, false≢true, take_rest}
+use Rattle.dg_sweep.proofs.Common.{◌≡◌, ◌≢◌, ℕ, suc, ℤ, pos, negsuc, true, false, List, [], ◌∷◌, ◌++◌, length, Option, Some, None, get_or, FitsSigned, w64, refl, sym, ap, ◌∙◌, inl, inr, arith, append-nil, decimal, signed_decimal, ◌==◌, ◌≤◌, ◌⊎◌, ◌-◌, take, drop, decimal_is_IsNumeral, digit_from_value, ne_eqb, eqb-true, AllDigits, BeginsWithDecimal, StartsWithDigit, one_rest, before, after, false≢true, take_rest}
 
 -- bytes that are no space
 abbrev HasNoSpace : List ℕ → Type 0
@@ -68,7 +68,7 @@ tail (x ∷ xs) =
       }
     ] refl
 
-no_digit : (rest : List ℕ) → (rest ≡ []) ⊎ ((1 ≤ length rest) × (get_or rest 0 0 ≡ 32)) → ¬ HasDigitFirst rest
+no_digit : (rest : List ℕ) → (rest ≡ []) ⊎ ((1 ≤ length rest) × (get_or rest 0 0 ≡ 32)) → ¬ StartsWithDigit rest
 no_digit [] ends digit = digit
 no_digit (x ∷ xs) (inl none) digit = absurd (omega (arith, ap length none))
 no_digit (x ∷ xs) (inr space) digit = omega (arith, space.1)

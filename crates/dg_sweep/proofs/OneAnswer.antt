@@ -1,27 +1,27 @@
 -- A line has just one answer.
 --   answer_once    a table has one answer
 --   table_once, amounts_once   so has a line of a table, and one of amounts
---   tables_have_one_answer, amounts_have_one_answer   the laws of dg_sweep
-use Rattle.dg_sweep.proofs.Common.{◌≡◌, ℕ, ◌<◌, inl, inr, List, ◌++◌, length, codes, sym, ap, ◌∙◌, arith, subst, Multigraph, IsMultigraph, less, canonical, rank_once, StartData, IsStart, at, IsRightRankVerdict, RankVerdict, AtLeast, Below, false, refl, loss_bounds_rank, past_within, FilesHaveOneMeaning, RefusesTableFile, FileFault, Form, Words, Numbers, Question, Judge, Rank, RiemannRoch, TablesHaveOneAnswer, AmountsHaveOneAnswer, IsSweptRankTested, IsSweptRankBelow, AnswersRankLine, sweep_rank_line, sweep_ranks_line, AreSweptRanks, AnswersTable, sweep_refusal_line, IsSweptLineRefused, AnswersTableWithin, AnswersLine, RefusesSweptAmounts, AnswersAmounts, sweep_file_fault_words}
+--   tables_have_one_answer, amounts_answer_is_unique   the laws of dg_sweep
+use Rattle.dg_sweep.proofs.Common.{◌≡◌, ℕ, ◌<◌, inl, inr, List, ◌++◌, length, codes, sym, ap, ◌∙◌, arith, subst, Multigraph, IsMultigraph, minus, canonical, rank_once, StartData, IsStart, at, IsRightRank, RankVerdict, AtLeast, Below, false, refl, loss_bounds_rank, past_within, FileMeaningIsUnique, IsFileFault, FileFault, Form, Words, Numbers, Question, Judge, Rank, RiemannRoch, TablesHaveOneAnswer, AmountsHaveOneAnswer, IsTested, IsBelow, AnswersRankLine, rank_line, ranks_line, AreRanks, AnswersTable, refusal_line, IsRefusalOf, AnswersTableWithin, AnswersLine, IsAmountsFault, AnswersAmounts, file_fault_words}
 use Rattle.std.proofs.Math.IntN.{ℤ}
 use Rattle.dg_lines.proofs.Given.{vertex_named}
-use Rattle.dg_sweep.proofs.OneMeaning.{swept_amounts_have_one_meaning}
+use Rattle.dg_sweep.proofs.OneMeaning.{amounts_meaning_is_unique}
 use Rattle.dg_lines.proofs.OneText.{loss_row_same, test_same, verdict_row_same}
 use Rattle.dg_invocation.specs.declared.question.VerdictForm.TheVariants as verdict
 use Rattle.dg_sweep.proofs.OneText.{judgement_same}
 
 module _ (o : StartData) (names : List (List ℕ)) (graph : IsMultigraph o.graph) (vertex : o.q < o.graph.size)
     (fit : length names ≡ o.graph.size) where
-  tested_below : (k : ℕ) (form : Form) (text other : List ℕ) → IsSweptRankTested o k form names text → IsSweptRankBelow o k
+  tested_below : (k : ℕ) (form : Form) (text other : List ℕ) → IsTested o k form names text → IsBelow o k
       form other → ⊥
   tested_below k form text other tested below = elim tested.named [
     | inl within ↦ past_within o.graph.size k below.past within
     | inr most ↦
-        below.below (subst (λ (x : RankVerdict). IsRightRankVerdict o.graph (at o.divisor) k x) most tested.right).1
+        below.below (subst (λ (x : RankVerdict). IsRightRank o.graph (at o.divisor) k x) most tested.right).1
   ]
 
-  line_same : (k : ℕ) (form : Form) (x y : RankVerdict) → IsRightRankVerdict o.graph (at o.divisor) k x
-      → IsRightRankVerdict o.graph (at o.divisor) k y → sweep_rank_line form names x ≡ sweep_rank_line form names y
+  line_same : (k : ℕ) (form : Form) (x y : RankVerdict) → IsRightRank o.graph (at o.divisor) k x
+      → IsRightRank o.graph (at o.divisor) k y → rank_line form names x ≡ rank_line form names y
   line_same k Words x y first second =
       ap (λ (t : List ℕ). t ++ codes "\n") (test_same names o.graph (at o.divisor) fit k x y first second)
   line_same k Numbers (AtLeast i) (AtLeast j) first second = refl
@@ -40,13 +40,13 @@ module _ (o : StartData) (names : List (List ℕ)) (graph : IsMultigraph o.graph
   rank_once_more k form text other (inr a) (inl b) = absurd (tested_below k form other text b a)
   rank_once_more k form text other (inr a) (inr b) = a.printed ∙ sym b.printed
 
-  ranks_once : (form : Form) (text other : List ℕ) → AreSweptRanks o form text → AreSweptRanks o form other → text ≡ other
+  ranks_once : (form : Form) (text other : List ℕ) → AreRanks o form text → AreRanks o form other → text ≡ other
   ranks_once form text other a b =
       a.printed
-      ∙ ap (λ (z : ℤ). sweep_ranks_line form o z a.dual_rank)
+      ∙ ap (λ (z : ℤ). ranks_line form o z a.dual_rank)
       (rank_once o.graph (at o.divisor) a.rank b.rank a.of_divisor b.of_divisor)
-      ∙ ap (λ (z : ℤ). sweep_ranks_line form o b.rank z)
-      (rank_once o.graph (less (canonical o.graph) (at o.divisor)) a.dual_rank b.dual_rank a.of_dual b.of_dual)
+      ∙ ap (λ (z : ℤ). ranks_line form o b.rank z)
+      (rank_once o.graph (minus (canonical o.graph) (at o.divisor)) a.dual_rank b.dual_rank a.of_dual b.of_dual)
       ∙ sym b.printed
 
   answer_once : (question : Question) (text other : List ℕ) → AnswersTable question o names text
@@ -63,10 +63,10 @@ module _ (o : StartData) (names : List (List ℕ)) (graph : IsMultigraph o.graph
   answer_once (Rank k form) text other a b = rank_once_more k form text other a b
   answer_once (RiemannRoch form) text other a b = ranks_once form text other a b
 
-refused_once : (refuses : FileFault → Type 0) (text other : List ℕ) (a : IsSweptLineRefused refuses text)
-    (b : IsSweptLineRefused refuses other) → a.fault ≡ b.fault → text ≡ other
+refused_once : (refuses : FileFault → Type 0) (text other : List ℕ) (a : IsRefusalOf refuses text)
+    (b : IsRefusalOf refuses other) → a.fault ≡ b.fault → text ≡ other
 refused_once refuses text other a b same =
-    a.printed ∙ ap (λ (f : FileFault). sweep_refusal_line (sweep_file_fault_words f)) same ∙ sym b.printed
+    a.printed ∙ ap (λ (f : FileFault). refusal_line (file_fault_words f)) same ∙ sym b.printed
 
 line_once : (right : List ℕ → List ℕ → Type 0) (line : List ℕ)
     → ((text other : List ℕ) → right line text → right line other → text ≡ other) → (text other : List ℕ)
@@ -77,10 +77,10 @@ line_once right line once text other (inr (short, a)) (inl (long, b)) = absurd (
 line_once right line once text other (inr (short, a)) (inr (short', b)) = once text other a b
 
 module _ (question : Question) where
-  table_once : FilesHaveOneMeaning → (line text other : List ℕ) → AnswersTableWithin question line text
+  table_once : FileMeaningIsUnique → (line text other : List ℕ) → AnswersTableWithin question line text
       → AnswersTableWithin question line other → text ≡ other
   table_once files line text other (inl a) (inl b) =
-      refused_once (RefusesTableFile line) text other a b
+      refused_once (IsFileFault line) text other a b
       (files.fault line a.fault b.fault a.found b.found a.refused b.refused)
   table_once files line text other (inl a) (inr b) =
       absurd (files.refused line a.fault b.start b.names a.found a.refused b.table)
@@ -99,14 +99,14 @@ module _ (question : Question) where
   amounts_once : (o : StartData) (names : List (List ℕ)) (line text other : List ℕ) → IsStart o → length names ≡ o.graph.size
       → AnswersAmounts question o names line text → AnswersAmounts question o names line other → text ≡ other
   amounts_once o names line text other start fit (inl a) (inl b) =
-      refused_once (RefusesSweptAmounts o.graph.size line) text other a b
-      (swept_amounts_have_one_meaning.fault o.graph.size line a.fault b.fault a.found b.found a.refused b.refused)
+      refused_once (IsAmountsFault o.graph.size line) text other a b
+      (amounts_meaning_is_unique.fault o.graph.size line a.fault b.fault a.found b.found a.refused b.refused)
   amounts_once o names line text other start fit (inl a) (inr b) =
-      absurd (swept_amounts_have_one_meaning.refused o b.start line a.fault a.found a.refused b.stands)
+      absurd (amounts_meaning_is_unique.refused o b.start line a.fault a.found a.refused b.stands)
   amounts_once o names line text other start fit (inr a) (inl b) =
-      absurd (swept_amounts_have_one_meaning.refused o a.start line b.fault b.found b.refused a.stands)
+      absurd (amounts_meaning_is_unique.refused o a.start line b.fault b.found b.refused a.stands)
   amounts_once o names line text other start fit (inr a) (inr b) =
-      let same = swept_amounts_have_one_meaning.start o b.start a.start line b.stands a.stands in
+      let same = amounts_meaning_is_unique.start o b.start a.start line b.stands a.stands in
       let graph : a.start.graph ≡ o.graph = ap (λ (s : StartData). s.graph) a.stands.rest in
       let q : a.start.q ≡ o.q = ap (λ (s : StartData). s.q) a.stands.rest in
       let size : a.start.graph.size ≡ o.graph.size = ap (λ (g : Multigraph). g.size) graph in
@@ -114,11 +114,11 @@ module _ (question : Question) where
       (omega (arith, q, size, start.vertex)) (fit ∙ sym size) question text other a.answer
       (subst (λ (p : StartData). AnswersTable question p names other) same b.answer)
 
-pub tables_have_one_answer : FilesHaveOneMeaning → TablesHaveOneAnswer
+pub tables_have_one_answer : FileMeaningIsUnique → TablesHaveOneAnswer
 tables_have_one_answer files question line text other =
     line_once (AnswersTableWithin question) line (table_once question files line) text other
 
-pub amounts_have_one_answer : AmountsHaveOneAnswer
-amounts_have_one_answer question o names line text other start fit =
+pub amounts_answer_is_unique : AmountsHaveOneAnswer
+amounts_answer_is_unique question o names line text other start fit =
     line_once (AnswersAmounts question o names) line
     (λ text other. amounts_once question o names line text other start fit) text other

@@ -1,7 +1,7 @@
 -- A line of amounts has one meaning.
 --   spelled_once      numbers are spelled in one way
---   swept_amounts_have_one_meaning
-use Rattle.dg_sweep.proofs.Common.{◌≡◌, ◌≢◌, ℕ, ℤ, pos, List, [], ◌∷◌, length, map, All, FitsSigned, w64, refl, sym, ap, ◌∙◌, arith, subst, ◌^◌, ◌-◌, neg_ℤ, signed_decimal, signed_decimal_injective, All-head, All-tail, StartData, Vector, HoldsNumbers, IsFirstChipFault, IsNumeralWithin, held_once, fits_within, FileFault, SweptAmountsHaveOneMeaning, SpellsSweptAmounts, HasSweptAmounts, RefusesSweptAmounts}
+--   amounts_meaning_is_unique
+use Rattle.dg_sweep.proofs.Common.{◌≡◌, ◌≢◌, ℕ, ℤ, pos, List, [], ◌∷◌, length, map, All, FitsSigned, w64, refl, sym, ap, ◌∙◌, arith, subst, ◌^◌, ◌-◌, neg_ℤ, signed_decimal, signed_decimal_injective, All-head, All-tail, StartData, Vector, HoldsNumbers, IsChipFault, IsNumeralWithin, held_once, fits_within, FileFault, AmountsMeaningIsUnique, SpellsAmounts, LineStandsFor, IsAmountsFault}
 use Rattle.dg_lines.proofs.Meaning.{same_words}
 use Rattle.dg_file.proofs.OneTable.{chip-one, chip-none}
 use Rattle.dg_file.specs.declared.fault.FileFault.TheVariants as fault
@@ -25,25 +25,25 @@ spelled_once (x ∷ xs) (y ∷ ys) e first second =
     let rest : xs ≡ ys = spelled_once xs ys tail (All-tail Fits x xs first) (All-tail Fits y ys second) in
     ap (λ (z : ℤ). z ∷ xs) same ∙ ap (λ (zs : List ℤ). y ∷ zs) rest
 
-abbrev AreNumbersOnLine : List (List ℕ) → Type 0
-AreNumbersOnLine ws = (xs : List ℤ) × (ws ≡ map signed_decimal xs) × All Fits xs
+abbrev AreNumbers : List (List ℕ) → Type 0
+AreNumbers ws = (xs : List ℤ) × (ws ≡ map signed_decimal xs) × All Fits xs
 
 fits : (word : List ℕ) → (known : IsWord word) → Fits known.number
 fits word known = fits_within known.number known.not_less known.not_more
 
-no_others : (w : List ℕ) (ws : List (List ℕ)) → ((z : ℤ) → Fits z → w ≡ signed_decimal z → AreNumbersOnLine ws → ⊥)
-    → AreNumbersOnLine (w ∷ ws) → ⊥
+no_others : (w : List ℕ) (ws : List (List ℕ)) → ((z : ℤ) → Fits z → w ≡ signed_decimal z → AreNumbers ws → ⊥)
+    → AreNumbers (w ∷ ws) → ⊥
 no_others w ws never ([], e, held) = absurd (omega (arith, ap length e))
 no_others w ws never (y ∷ ys, e, held) =
     let (head, tail) = same_words w (signed_decimal y) ws (map signed_decimal ys) e in
     never y (All-head Fits y ys held) head (ys, tail, All-tail Fits y ys held)
 
-line_once : (line : List ℕ) (xs ys : List ℤ) → SpellsSweptAmounts line xs → SpellsSweptAmounts line ys → xs ≡ ys
+line_once : (line : List ℕ) (xs ys : List ℤ) → SpellsAmounts line xs → SpellsAmounts line ys → xs ≡ ys
 line_once line xs ys first second =
     spelled_once xs ys (sym first.spelled ∙ second.spelled) first.held second.held
 
 fault_once : (n : ℕ) (line : List ℕ) (f h : FileFault) → f ≢ fault.OutOfMemory → h ≢ fault.OutOfMemory
-    → RefusesSweptAmounts n line f → RefusesSweptAmounts n line h → f ≡ h
+    → IsAmountsFault n line f → IsAmountsFault n line h → f ≡ h
 fault_once n line fault.OutOfMemory h known known' a b = absurd (known refl)
 fault_once n line f fault.OutOfMemory known known' a b = absurd (known' refl)
 fault_once n line (fault.Shape shape.Amounts) (fault.Shape shape.Amounts) known known' a b = refl
@@ -51,22 +51,22 @@ fault_once n line (fault.Shape shape.Amounts) (fault.Chip d) known known' a (ys,
 fault_once n line (fault.Chip c) (fault.Shape shape.Amounts) known known' (xs, spells, a) b = absurd (b xs spells)
 fault_once n line (fault.Chip c) (fault.Chip d) known known' (xs, spells, a) (ys, spells', b) =
     let same : xs ≡ ys = line_once line xs ys spells spells' in
-    ap fault.Chip (chip-one n ys c d (subst (λ (zs : List ℤ). IsFirstChipFault n zs c) same a) b)
+    ap fault.Chip (chip-one n ys c d (subst (λ (zs : List ℤ). IsChipFault n zs c) same a) b)
 fault_once n line (fault.Shape shape.Amounts) h known known' a b = absurd b
 fault_once n line (fault.Chip c) h known known' a b = absurd b
 fault_once n line f h known known' a b = absurd a
 
 no_start : (o p : StartData) (line : List ℕ) (f : FileFault) → f ≢ fault.OutOfMemory
-    → RefusesSweptAmounts o.graph.size line f → HasSweptAmounts o line p → ⊥
+    → IsAmountsFault o.graph.size line f → LineStandsFor o line p → ⊥
 no_start o p line fault.OutOfMemory known a has = known refl
 no_start o p line (fault.Shape shape.Amounts) known a has = a has.xs has.spelled
 no_start o p line (fault.Chip c) known (xs, spells, a) has =
     let same : xs ≡ has.xs = line_once line xs has.xs spells has.spelled in
     chip-none o.graph.size has.xs has.divisor has.size has.amounts has.within c
-    (subst (λ (zs : List ℤ). IsFirstChipFault o.graph.size zs c) same a)
+    (subst (λ (zs : List ℤ). IsChipFault o.graph.size zs c) same a)
 no_start o p line f known a has = absurd a
 
-start_once : (o p r : StartData) (line : List ℕ) → HasSweptAmounts o line p → HasSweptAmounts o line r → p ≡ r
+start_once : (o p r : StartData) (line : List ℕ) → LineStandsFor o line p → LineStandsFor o line r → p ≡ r
 start_once o p r line a b =
     let same : a.xs ≡ b.xs = line_once line a.xs b.xs a.spelled b.spelled in
     let amounts : HoldsNumbers b.xs a.divisor = subst (λ (zs : List ℤ). HoldsNumbers zs a.divisor) same a.amounts in
@@ -74,8 +74,8 @@ start_once o p r line a b =
     held_once 1_000_000 b.xs a.divisor b.divisor amounts b.amounts a.within b.within in
     a.rest ∙ ap {B = StartData} (λ (d : Vector). record o { divisor = d }) divisor ∙ sym b.rest
 
-pub swept_amounts_have_one_meaning : SweptAmountsHaveOneMeaning
-swept_amounts_have_one_meaning = record {
+pub amounts_meaning_is_unique : AmountsMeaningIsUnique
+amounts_meaning_is_unique = record {
   start = start_once;
   refused = no_start;
   fault = fault_once;

@@ -1,7 +1,7 @@
 -- Verdicts with the order in which the vertices burn have one text.
 --   order_same     vertices burn in one order, the least first
 --   judgement_same verdicts on one divisor are printed alike, with the order of burning or without
-use Rattle.dg_sweep.proofs.Common.{◌≡◌, ℕ, zero, suc, ◌+◌, ◌<◌, Bool, true, false, List, [], ◌∷◌, ◌++◌, length, take, get_or, inl, inr, arith, sym, ap, ◌∙◌, subst, ◌<ℤ◌, slice_get, Some, cases_eq, cases_lt, take_all, take_more, slice_get-get_or, slice_get_within, get_or_from_slice_get, Multigraph, IsMultigraph, Amounts, DivisorsAgreeOn, among, edges_into, MayBurn, BurnsNext, BurnsInOrder, at, IsVerdictOn, Verdict, verdict_text, burning_text, judgement_text}
+use Rattle.dg_sweep.proofs.Common.{◌≡◌, ℕ, zero, suc, ◌+◌, ◌<◌, Bool, true, false, List, [], ◌∷◌, ◌++◌, length, take, get_or, inl, inr, arith, sym, ap, ◌∙◌, subst, ◌<ℤ◌, slice_get, Some, cases_eq, cases_lt, take_all, take_more, slice_get-get_or, slice_get_within, get_or_from_slice_get, Multigraph, IsMultigraph, Amounts, DivisorsAgreeOn, list_contains, edges_into, MayBurn, BurnsNext, IsLeastBurningOrder, at, IsVerdictOn, Verdict, verdict_text, burning_text, judgement_text}
 use Rattle.std.proofs.Math.IntN.{ℤ, pos}
 use Rattle.dg_lines.proofs.OneText.{verdict_same, reduced_same}
 
@@ -27,11 +27,11 @@ module _ (g : Multigraph) (q : ℕ) (D E : Amounts) (same : DivisorsAgreeOn g.si
     ]
   ]
 
-  module _ (l m : List ℕ) (first : BurnsInOrder g q D l) (second : BurnsInOrder g q E m) where
-    next_first : (i : ℕ) → suc i < length l → BurnsNext g D (among (take (suc i) l)) (get_or l (suc i) 0)
+  module _ (l m : List ℕ) (first : IsLeastBurningOrder g q D l) (second : IsLeastBurningOrder g q E m) where
+    next_first : (i : ℕ) → suc i < length l → BurnsNext g D (list_contains (take (suc i) l)) (get_or l (suc i) 0)
     next_first i inside = first.begun.next i (get_or l (suc i) 0) (slice_get-get_or l (suc i) 0 inside)
 
-    next_second : (i : ℕ) → suc i < length m → BurnsNext g E (among (take (suc i) m)) (get_or m (suc i) 0)
+    next_second : (i : ℕ) → suc i < length m → BurnsNext g E (list_contains (take (suc i) m)) (get_or m (suc i) 0)
     next_second i inside = second.begun.next i (get_or m (suc i) 0) (slice_get-get_or m (suc i) 0 inside)
 
     one_more : (i : ℕ) → take (suc i) l ≡ take (suc i) m → take (suc (suc i)) l ≡ take (suc (suc i)) m
@@ -43,19 +43,19 @@ module _ (g : Multigraph) (q : ℕ) (D E : Amounts) (same : DivisorsAgreeOn g.si
             (take_more l (suc i) 0 here
             ∙ ap (λ (t : List ℕ). t ++ get_or l (suc i) 0 ∷ []) before
             ∙ ap (λ (x : ℕ). take (suc i) m ++ x ∷ [])
-            (next_same (among (take (suc i) m)) (get_or l (suc i) 0) (get_or m (suc i) 0)
-            (subst (λ (t : List ℕ). BurnsNext g D (among t) (get_or l (suc i) 0)) before (next_first i here))
+            (next_same (list_contains (take (suc i) m)) (get_or l (suc i) 0) (get_or m (suc i) 0)
+            (subst (λ (t : List ℕ). BurnsNext g D (list_contains t) (get_or l (suc i) 0)) before (next_first i here))
             (next_second i there))
             ∙ sym (take_more m (suc i) 0 there))
         | inr past ↦
-            absurd (second.last (get_or l (suc i) 0) (may_cong g D E (among m) (get_or l (suc i) 0) same
-            (subst (λ (t : List ℕ). MayBurn g D (among t) (get_or l (suc i) 0)) (before ∙ take_all (suc i) m past)
+            absurd (second.last (get_or l (suc i) 0) (may_cong g D E (list_contains m) (get_or l (suc i) 0) same
+            (subst (λ (t : List ℕ). MayBurn g D (list_contains t) (get_or l (suc i) 0)) (before ∙ take_all (suc i) m past)
             (next_first i here).may)))
       ]
       | inr past ↦ elim (cases_lt (suc i) (length m)) [
         | inl there ↦
-            absurd (first.last (get_or m (suc i) 0) (may_cong g E D (among l) (get_or m (suc i) 0) back
-            (subst (λ (t : List ℕ). MayBurn g E (among t) (get_or m (suc i) 0)) (sym before ∙ take_all (suc i) l past)
+            absurd (first.last (get_or m (suc i) 0) (may_cong g E D (list_contains l) (get_or m (suc i) 0) back
+            (subst (λ (t : List ℕ). MayBurn g E (list_contains t) (get_or m (suc i) 0)) (sym before ∙ take_all (suc i) l past)
             (next_second i there).may)))
         | inr past' ↦
             take_all (suc (suc i)) l (omega (arith, past))

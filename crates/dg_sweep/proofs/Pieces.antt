@@ -6,7 +6,7 @@
 --   puts_piece                 the text has the answers to one piece more
 --   puts_all                   it has those to all
 --   leads_rest                 pieces, and then what follows them
-use Rattle.dg_sweep.proofs.Common.{◌≡◌, ℕ, ◌+◌, ◌<◌, ◌≤◌, List, [], ◌∷◌, ◌++◌, length, map, get_or, All, Bor, Result, Ok, Err, IfOk, IsOkAnd, refl, sym, ap, subst, ◌∙◌, arith, append_assoc, append-nil, flat_map, take, get_or-map, take_more, take_all, All-append, All-cons, All-nil, All-get_or, flat_map-append, AnswersSweptFront, EndsSweptPiece, AnswersPiece, LeadsSweptPiece}
+use Rattle.dg_sweep.proofs.Common.{◌≡◌, ℕ, ◌+◌, ◌<◌, ◌≤◌, List, [], ◌∷◌, ◌++◌, length, map, get_or, All, Bor, Result, Ok, Err, IfOk, IsOkAnd, refl, sym, ap, subst, ◌∙◌, arith, append_assoc, append-nil, flat_map, take, get_or-map, take_more, take_all, All-append, All-cons, All-nil, All-get_or, flat_map-append, AnswersFront, EndsWithNewline, AnswersPiece, LeadsPiece}
 use Rattle.dg_sweep.proofs.Taken.{pieces_both}
 
 pub all_both : {X : Type 0} (P : X → Type 0) (xs ys zs : List X) → All P xs → All P ys → zs ≡ xs ++ ys → All P zs
@@ -46,38 +46,38 @@ pieces_more pieces pieces' piece bytes rest after whole cut grown =
     whole ∙ ap (λ l. flat ++ l) cut ∙ sym (append_assoc flat piece.now after)
     ∙ ap (λ l. l ++ after) (sym (ap (flat_map (λ (p : Bor (List ℕ)). p.now)) grown ∙ flat_more pieces piece))
 
-pub leads_none : (right : List ℕ → List ℕ → Type 0) → LeadsSweptPiece right [] []
+pub leads_none : (right : List ℕ → List ℕ → Type 0) → LeadsPiece right [] []
 leads_none right back rest text answers = answers
 
-pub leads_piece : (right : List ℕ → List ℕ → Type 0) (front piece said text : List ℕ) → LeadsSweptPiece right front said →
-    EndsSweptPiece piece
+pub leads_piece : (right : List ℕ → List ℕ → Type 0) (front piece said text : List ℕ) → LeadsPiece right front said →
+    EndsWithNewline piece
     → AnswersPiece right piece text
-    → LeadsSweptPiece right (front ++ piece) (said ++ text)
+    → LeadsPiece right (front ++ piece) (said ++ text)
 leads_piece right front piece said text leads ends answered back rest more answers =
-    subst (λ l. AnswersSweptFront right l rest ((said ++ text) ++ more)) (sym (append_assoc front piece back))
-    (subst (λ l. AnswersSweptFront right (front ++ (piece ++ back)) rest l) (sym (append_assoc said text more))
+    subst (λ l. AnswersFront right l rest ((said ++ text) ++ more)) (sym (append_assoc front piece back))
+    (subst (λ l. AnswersFront right (front ++ (piece ++ back)) rest l) (sym (append_assoc said text more))
     (leads (piece ++ back) rest (text ++ more)
     (pieces_both right (piece ++ back) piece back answered.0 rest rest text more (text ++ more) ends refl answered.1 answers
     refl refl)))
 
 pub leads_rest : (right : List ℕ → List ℕ → Type 0) (bytes front back rest old mid new : List ℕ)
-    → (said : List ℕ) × LeadsSweptPiece right front said × (mid ≡ old ++ said)
+    → (said : List ℕ) × LeadsPiece right front said × (mid ≡ old ++ said)
     → bytes ≡ front ++ back
-    → (more : List ℕ) × AnswersSweptFront right back rest more × (new ≡ mid ++ more)
-    → (said : List ℕ) × AnswersSweptFront right bytes rest said × (new ≡ old ++ said)
+    → (more : List ℕ) × AnswersFront right back rest more × (new ≡ mid ++ more)
+    → (said : List ℕ) × AnswersFront right bytes rest said × (new ≡ old ++ said)
 leads_rest right bytes front back rest old mid new first whole second =
     let (said, leads, grown) = first in
     let (more, answers, grown') = second in (
       said ++ more,
-      subst (λ l. AnswersSweptFront right l rest (said ++ more)) (sym whole) (leads back rest more answers),
+      subst (λ l. AnswersFront right l rest (said ++ more)) (sym whole) (leads back rest more answers),
       grown' ∙ ap (λ l. l ++ more) grown ∙ append_assoc old said more,
     )
 
 pub puts_piece : (right : List ℕ → List ℕ → Type 0) (pieces : List (Bor (List ℕ))) (n : ℕ) (old mid new : List ℕ)
-    → n < length pieces → All (λ (p : Bor (List ℕ)). EndsSweptPiece p.now) pieces
-    → (said : List ℕ) × LeadsSweptPiece right (flat_map (λ (p : Bor (List ℕ)). p.now) (take n pieces)) said × (mid ≡ old ++ said)
+    → n < length pieces → All (λ (p : Bor (List ℕ)). EndsWithNewline p.now) pieces
+    → (said : List ℕ) × LeadsPiece right (flat_map (λ (p : Bor (List ℕ)). p.now) (take n pieces)) said × (mid ≡ old ++ said)
     → (said : List ℕ) × AnswersPiece right (get_or (map (λ (p : Bor (List ℕ)). p.now) pieces) n []) said × (new ≡ mid ++ said)
-    → (said : List ℕ) × LeadsSweptPiece right (flat_map (λ (p : Bor (List ℕ)). p.now) (take (n + 1) pieces)) said × (new ≡
+    → (said : List ℕ) × LeadsPiece right (flat_map (λ (p : Bor (List ℕ)). p.now) (take (n + 1) pieces)) said × (new ≡
     old ++ said)
 puts_piece right [] n old mid new within ends first second = absurd (omega (arith, within))
 puts_piece right (p ∷ ps) n old mid new within ends first second =
@@ -91,15 +91,15 @@ puts_piece right (p ∷ ps) n old mid new within ends first second =
     let longer : flat_map (λ (p : Bor (List ℕ)). p.now) (take (n + 1) pieces) ≡ front ++ piece.now =
     ap (flat_map (λ (p : Bor (List ℕ)). p.now)) (take_more pieces n p within) ∙ flat_more (take n pieces) piece in (
       said ++ more,
-      subst (λ l. LeadsSweptPiece right l (said ++ more)) (sym longer)
+      subst (λ l. LeadsPiece right l (said ++ more)) (sym longer)
           (leads_piece right front piece.now said more leads
-          (All-get_or (λ (p : Bor (List ℕ)). EndsSweptPiece p.now) pieces n p within ends) answers),
+          (All-get_or (λ (p : Bor (List ℕ)). EndsWithNewline p.now) pieces n p within ends) answers),
       grown' ∙ ap (λ l. l ++ more) grown ∙ append_assoc old said more,
     )
 
 pub puts_all : (right : List ℕ → List ℕ → Type 0) (pieces : List (Bor (List ℕ))) (n : ℕ) (old new : List ℕ) → length pieces ≤ n
-    → (said : List ℕ) × LeadsSweptPiece right (flat_map (λ (p : Bor (List ℕ)). p.now) (take n pieces)) said × (new ≡ old ++ said)
-    → (said : List ℕ) × LeadsSweptPiece right (flat_map (λ (p : Bor (List ℕ)). p.now) pieces) said × (new ≡ old ++ said)
+    → (said : List ℕ) × LeadsPiece right (flat_map (λ (p : Bor (List ℕ)). p.now) (take n pieces)) said × (new ≡ old ++ said)
+    → (said : List ℕ) × LeadsPiece right (flat_map (λ (p : Bor (List ℕ)). p.now) pieces) said × (new ≡ old ++ said)
 puts_all right pieces n old new all put =
-    subst (λ l. (said : List ℕ) × LeadsSweptPiece right (flat_map (λ (p : Bor (List ℕ)). p.now) l) said × (new ≡ old ++ said))
+    subst (λ l. (said : List ℕ) × LeadsPiece right (flat_map (λ (p : Bor (List ℕ)). p.now) l) said × (new ≡ old ++ said))
     (take_all n pieces all) put

@@ -9,7 +9,7 @@
 --   sweep_unsaid     it ends before it reads, for want of memory
 --   sweep_halts      it ends early in what was read
 --   sweep_over       it ends where its input does, or early at the last line
-use Rattle.dg_sweep.proofs.Common.{◌≡◌, ◌≢◌, ℕ, ◌≤◌, inl, List, [], ◌∷◌, ◌++◌, length, take, Option, Result, Ok, Err, sym, subst, arith, append-nil, All-nil, Appends, Consumes, Keeps, IsAtEnd, lines, HasNoNewline, BeginsWithLines, LinesOfTextHaveCome, last_line, begins_none, begins_more, begins_then, one_cutting, come_then, come_last, AppendsFrontToStream, appends_none, appends_more, consumes_none, consumes_more, consumes_kept, IsSweep, EndsSweepAfter, WritesSweptAnswers, StandsForSweptPart, TakesSweptBytes, AnswersLastSweptLine, PassesSweptAnswers, READ_SIZE, SweepEnd, Read, Write, Shortage, OutOfMemory}
+use Rattle.dg_sweep.proofs.Common.{◌≡◌, ◌≢◌, ℕ, ◌≤◌, inl, List, [], ◌∷◌, ◌++◌, length, take, Option, Result, Ok, Err, sym, subst, arith, append-nil, All-nil, Appends, Consumes, Keeps, IsAtEnd, lines, HasNoNewline, BeginsWithLines, LinesHaveCome, last_line, begins_none, begins_more, begins_then, one_cutting, come_then, come_last, AppendsFront, appends_none, appends_more, consumes_none, consumes_more, consumes_kept, IsSweep, EndsAfter, WritesAnswers, StandsForPart, TakesBytes, AnswersLast, PassesAnswers, READ_SIZE, SweepEnd, Read, Write, Shortage, OutOfMemory}
 use Rattle.dg_sweep.specs.Answers.{AnswersLines}
 use Rattle.dg_sweep.proofs.Taken.{answers_none, answers_more}
 
@@ -19,7 +19,7 @@ pub record HasSwept (right : List ℕ → List ℕ → Type 0) (input rest old n
   pub ls : List (List ℕ)
   pub part : List ℕ
   pub cut : BeginsWithLines HasNoNewline stream ls part
-  pub stands : StandsForSweptPart pending part
+  pub stands : StandsForPart pending part
   pub text : List ℕ
   pub answers : AnswersLines right ls text
   pub written : Appends old new text
@@ -47,7 +47,7 @@ module _ {right : List ℕ → List ℕ → Type 0} {input rest old mid : Option
   grown new text passed = appends_more old mid new far.text text far.written passed
 
   pub swept_more : {rest' new : Option (List ℕ)} (bytes pending' : List ℕ) → Consumes rest rest' bytes
-      → (text : List ℕ) × TakesSweptBytes right pending bytes pending' text × Appends mid new text
+      → (text : List ℕ) × TakesBytes right pending bytes pending' text × Appends mid new text
       → HasSwept right input rest' old new pending'
   swept_more {rest'} {new} bytes pending' read passed =
       let taken = passed.1 far.part far.stands in
@@ -65,9 +65,9 @@ module _ {right : List ℕ → List ℕ → Type 0} {input rest old mid : Option
 
   is_sweep : {rest' new : Option (List ℕ)} (result : Result (Unit {0}) SweepEnd) (bytes text : List ℕ)
       (last : List (List ℕ)) → Consumes rest rest' bytes
-      → LinesOfTextHaveCome HasNoNewline (IsAtEnd rest') (far.part ++ bytes) last → length last ≤ READ_SIZE
-      → AnswersLines right last text → WritesSweptAnswers result old new far.text text
-      → EndsSweepAfter (IsAtEnd rest') (far.stream ++ bytes) (far.ls ++ last) result
+      → LinesHaveCome HasNoNewline (IsAtEnd rest') (far.part ++ bytes) last → length last ≤ READ_SIZE
+      → AnswersLines right last text → WritesAnswers result old new far.text text
+      → EndsAfter (IsAtEnd rest') (far.stream ++ bytes) (far.ls ++ last) result
       → IsSweep right input rest' old new result
   is_sweep {rest'} result bytes text last read came few answered written ends = record {
     stream = far.stream ++ bytes;
@@ -85,8 +85,8 @@ module _ {right : List ℕ → List ℕ → Type 0} {input rest old mid : Option
   }
 
   unwritten : {rest' new : Option (List ℕ)} (end : SweepEnd) (bytes : List ℕ) → Consumes rest rest' bytes
-      → WritesSweptAnswers (Err end) old new far.text []
-      → EndsSweepAfter (IsAtEnd rest') (far.stream ++ bytes) (far.ls ++ []) (Err end)
+      → WritesAnswers (Err end) old new far.text []
+      → EndsAfter (IsAtEnd rest') (far.stream ++ bytes) (far.ls ++ []) (Err end)
       → IsSweep right input rest' old new (Err end)
   unwritten end bytes read written ends =
       is_sweep (Err end) bytes [] [] read (inl (far.part ++ bytes, begins_none (far.part ++ bytes))) (omega arith)
@@ -104,13 +104,13 @@ module _ {right : List ℕ → List ℕ → Type 0} {input rest old mid : Option
       )
 
   over_last : {rest' new : Option (List ℕ)} (result : Result (Unit {0}) SweepEnd) (text : List ℕ)
-      → Consumes rest rest' [] → IsAtEnd rest' → AnswersLastSweptLine right pending text
-      → WritesSweptAnswers result old new far.text text
-      → EndsSweepAfter (IsAtEnd rest') (far.stream ++ []) (far.ls ++ last_line far.part) result
+      → Consumes rest rest' [] → IsAtEnd rest' → AnswersLast right pending text
+      → WritesAnswers result old new far.text text
+      → EndsAfter (IsAtEnd rest') (far.stream ++ []) (far.ls ++ last_line far.part) result
       → IsSweep right input rest' old new result
   over_last {rest'} result text read over answered written ends =
       is_sweep result [] text (last_line far.part) read
-      (subst (λ l. LinesOfTextHaveCome HasNoNewline (IsAtEnd rest') l (last_line far.part)) (sym (append-nil far.part))
+      (subst (λ l. LinesHaveCome HasNoNewline (IsAtEnd rest') l (last_line far.part)) (sym (append-nil far.part))
       (come_last plain far.part over far.stands.no_newline)) (few_last far.part) (answered far.part far.stands) written
       ends
     where
@@ -125,12 +125,12 @@ module _ {right : List ℕ → List ℕ → Type 0} {input rest old mid : Option
       far.stands.no_newline
 
   -- what was written, where a front is written of what came last
-  front : (new : Option (List ℕ)) (text : List ℕ) → AppendsFrontToStream mid new [] text → AppendsFrontToStream old new
+  front : (new : Option (List ℕ)) (text : List ℕ) → AppendsFront mid new [] text → AppendsFront old new
       far.text text
   front new text passed = (passed.0, passed.1, grown new (take passed.0 text) passed.2)
 
   pub sweep_halts : {rest' new : Option (List ℕ)} (bytes pending' : List ℕ) (end : SweepEnd) → Consumes rest rest' bytes
-      → length bytes ≤ READ_SIZE → PassesSweptAnswers (TakesSweptBytes right pending bytes pending') mid new (Err end)
+      → length bytes ≤ READ_SIZE → PassesAnswers (TakesBytes right pending bytes pending') mid new (Err end)
       → IsSweep right input rest' old new (Err end)
   sweep_halts bytes pending' Read read small passed = absurd passed
   sweep_halts {new = new} bytes pending' Write read small passed =
@@ -141,7 +141,7 @@ module _ {right : List ℕ → List ℕ → Type 0} {input rest old mid : Option
       unwritten (Shortage lack) bytes read (grown new [] passed) tt
 
   pub sweep_over : {rest' new : Option (List ℕ)} (result : Result (Unit {0}) SweepEnd) → Consumes rest rest' []
-      → IsAtEnd rest' → PassesSweptAnswers (AnswersLastSweptLine right pending) mid new result → IsSweep right input rest' old new
+      → IsAtEnd rest' → PassesAnswers (AnswersLast right pending) mid new result → IsSweep right input rest' old new
       result
   sweep_over {new = new} (Ok done) read over passed =
       over_last (Ok tt) passed.0 read over passed.1 (grown new passed.0 passed.2) (over, sym all_lines)

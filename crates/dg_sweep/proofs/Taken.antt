@@ -7,7 +7,7 @@
 --   takes_part, takes_lines    bytes without a newline, and with one
 --   nothing                    a list of length 0
 --   takes_no_end, takes_end    the end
-use Rattle.dg_sweep.proofs.Common.{◌≡◌, ◌≢◌, ℕ, ◌+◌, ◌-◌, ◌≤◌, take, drop, inl, inr, List, [], ◌∷◌, ◌++◌, length, refl, sym, ap, subst, ◌∙◌, arith, append_assoc, append-nil, flat_map, All-append, All-head, All-tail, take-append_seam, take-append-drop, AnswersLine, HasNoNewline, BeginsWithLines, with_newline, last_line, begins_none, begins_one, begins_more, begins_then, StandsForSweptPart, KeepsPartOfPiece, AnswersSweptFront, EndsSweptPiece, TakesSweptBytes, AnswersLastSweptLine}
+use Rattle.dg_sweep.proofs.Common.{◌≡◌, ◌≢◌, ℕ, ◌+◌, ◌-◌, ◌≤◌, take, drop, inl, inr, List, [], ◌∷◌, ◌++◌, length, refl, sym, ap, subst, ◌∙◌, arith, append_assoc, append-nil, flat_map, All-append, All-head, All-tail, take-append_seam, take-append-drop, AnswersLine, HasNoNewline, BeginsWithLines, with_newline, last_line, begins_none, begins_one, begins_more, begins_then, StandsForPart, KeepsPart, AnswersFront, EndsWithNewline, TakesBytes, AnswersLast}
 use Rattle.std.proofs.Common.{length-append}
 use Rattle.dg_sweep.specs.Answers.{AnswersLines}
 
@@ -74,7 +74,7 @@ so_far_line right bytes rest old new line rest' answer new' far none e answered 
 }
 
 pub so_far_rest : (right : List ℕ → List ℕ → Type 0) (bytes rest old new line : List ℕ) → IsSoFar right bytes rest old new
-    → HasNoNewline line → rest ≡ line ++ [] → (said : List ℕ) × AnswersSweptFront right bytes line said
+    → HasNoNewline line → rest ≡ line ++ [] → (said : List ℕ) × AnswersFront right bytes line said
     × (new ≡ old ++ said)
 so_far_rest right bytes rest old new line far none e = (
   far.said,
@@ -100,7 +100,7 @@ ends_with (x ∷ xs) ys (z ∷ front) y byte e = ends_with xs ys front y byte (a
     tail (h ∷ t) = t
 
 pub nothing_left : (bytes rest : List ℕ) (ls : List (List ℕ)) → BeginsWithLines HasNoNewline bytes ls rest → HasNoNewline rest
-    → EndsSweptPiece bytes → rest ≡ []
+    → EndsWithNewline bytes → rest ≡ []
 nothing_left bytes [] ls cut none ends = refl
 nothing_left bytes (y ∷ ys) ls cut none ends =
     let (more, e) = ends_with (flat_map with_newline ls) ys ends.0 y 10 (sym cut.whole ∙ ends.1) in
@@ -112,7 +112,7 @@ nothing_left bytes (y ∷ ys) ls cut none ends =
 
 pub front_ends : (bytes early later part after : List ℕ) (n : ℕ) → early ≡ take n bytes → later ≡ drop n bytes
     → later ≡ part ++ 10 ∷ after
-    → (length after ≤ length bytes) × EndsSweptPiece (take (length bytes - length after) bytes)
+    → (length after ≤ length bytes) × EndsWithNewline (take (length bytes - length after) bytes)
     × (bytes ≡ take (length bytes - length after) bytes ++ after)
 front_ends bytes early later part after n e1 e2 e =
     let split : early ++ later ≡ bytes = ap (λ l. l ++ later) e1 ∙ ap (λ l. take n bytes ++ l) e2
@@ -128,11 +128,11 @@ front_ends bytes early later part after n e1 e2 e =
     (omega (arith, ap length whole, sum), (early ++ part, same), whole ∙ ap (λ l. l ++ after) (sym same))
 
 pub pieces_both : (right : List ℕ → List ℕ → Type 0) (bytes front back rest rest' last said said' text : List ℕ)
-    → EndsSweptPiece front
+    → EndsWithNewline front
     → bytes ≡ front ++ back
-    → AnswersSweptFront right front rest said → AnswersSweptFront right back rest' said' → last ≡ rest'
+    → AnswersFront right front rest said → AnswersFront right back rest' said' → last ≡ rest'
     → text ≡ said ++ said'
-    → AnswersSweptFront right bytes last text
+    → AnswersFront right bytes last text
 pieces_both right bytes front back rest rest' last said said' text ends e here there left both =
     let none : rest ≡ [] = nothing_left front rest here.ls here.cut here.no_newline ends in
     let cut : BeginsWithLines HasNoNewline front here.ls [] = subst
@@ -151,8 +151,8 @@ pieces_both right bytes front back rest rest' last said said' text ends e here t
     }
 
 -- what is pending still stands for the part of the line, with more of it
-stands_more : (old more new part : List ℕ) → StandsForSweptPart old part → HasNoNewline more → KeepsPartOfPiece old more new
-    → StandsForSweptPart new (part ++ more)
+stands_more : (old more new part : List ℕ) → StandsForPart old part → HasNoNewline more → KeepsPart old more new
+    → StandsForPart new (part ++ more)
 stands_more old more new part stands none kept = record {
   no_newline = All-append (λ byte. byte ≢ 10) part more stands.no_newline none;
   same =
@@ -171,7 +171,7 @@ stands_more old more new part stands none kept = record {
 }
 
 -- what stands for a line is answered as it
-same_answer : (right : List ℕ → List ℕ → Type 0) (pending part text : List ℕ) → StandsForSweptPart pending part
+same_answer : (right : List ℕ → List ℕ → Type 0) (pending part text : List ℕ) → StandsForPart pending part
     → AnswersLine right pending text
     → AnswersLine right part text
 same_answer right pending part text stands answered = elim stands.same [
@@ -183,36 +183,36 @@ same_answer right pending part text stands answered = elim stands.same [
 ]
 
 pub takes_part : (right : List ℕ → List ℕ → Type 0) (old bytes part new text : List ℕ) → text ≡ [] → HasNoNewline part
-    → bytes ≡ part ++ [] → KeepsPartOfPiece old part new
-    → TakesSweptBytes right old bytes new text
+    → bytes ≡ part ++ [] → KeepsPart old part new
+    → TakesBytes right old bytes new text
 takes_part right old bytes part new text unsaid none e kept p stands =
     let whole : part ≡ bytes = sym (e ∙ append-nil part) in
     record {
       ls = [];
       part = p ++ bytes;
       cut = begins_none (p ++ bytes);
-      stands = subst (λ l. StandsForSweptPart new (p ++ l)) whole (stands_more old part new p stands none kept);
+      stands = subst (λ l. StandsForPart new (p ++ l)) whole (stands_more old part new p stands none kept);
       few = omega arith;
       answers = subst (AnswersLines right []) (sym unsaid) (answers_none right);
     }
 
 pub takes_lines : (right : List ℕ → List ℕ → Type 0) (old bytes part after mid first text rest new : List ℕ) → HasNoNewline part
     → bytes ≡ part ++ 10 ∷ after
-    → KeepsPartOfPiece old part mid → (line : List ℕ) → line ≡ mid → AnswersLine right line first
-    → (said : List ℕ) × AnswersSweptFront right after rest said × (text ≡ first ++ said) → (empty : List ℕ) → empty ≡ []
-    → KeepsPartOfPiece empty rest new
-    → TakesSweptBytes right old bytes new text
+    → KeepsPart old part mid → (line : List ℕ) → line ≡ mid → AnswersLine right line first
+    → (said : List ℕ) × AnswersFront right after rest said × (text ≡ first ++ said) → (empty : List ℕ) → empty ≡ []
+    → KeepsPart empty rest new
+    → TakesBytes right old bytes new text
 takes_lines right old bytes part after mid first text rest new none e kept shown is_mid answered lines empty is_empty
     kept' p stands =
     let (said, front, grown) = lines in
     let line = p ++ part in
-    let is_line : StandsForSweptPart mid line = stands_more old part mid p stands none kept in
+    let is_line : StandsForPart mid line = stands_more old part mid p stands none kept in
     let cut : p ++ bytes ≡ line ++ 10 ∷ after = ap (λ l. p ++ l) e ∙ sym (append_assoc p part (10 ∷ after)) in
     record {
       ls = line ∷ front.ls;
       part = rest;
       cut = begins_then (begins_line (p ++ bytes) line after is_line.no_newline cut) front.cut;
-      stands = stands_alone rest new front.no_newline (subst (λ l. KeepsPartOfPiece l rest new) is_empty kept');
+      stands = stands_alone rest new front.no_newline (subst (λ l. KeepsPart l rest new) is_empty kept');
       few = let size = length-append part (10 ∷ after) in omega (arith, ap length e, size, front.few);
       answers = subst (AnswersLines right (line ∷ front.ls)) (sym grown)
           (answers_more right (line ∷ []) front.ls first said
@@ -221,7 +221,7 @@ takes_lines right old bytes part after mid first text rest new none e kept shown
           (subst (λ l. AnswersLine right l first) is_mid answered))) front.answers);
     }
   where
-    stands_alone : (rest new : List ℕ) → HasNoNewline rest → KeepsPartOfPiece [] rest new → StandsForSweptPart new rest
+    stands_alone : (rest new : List ℕ) → HasNoNewline rest → KeepsPart [] rest new → StandsForPart new rest
     stands_alone rest new none kept = record {
       no_newline = none;
       same = elim kept [ inl grown ↦ inl grown.1 | inr full ↦ absurd (omega (arith, full.0)) ];
@@ -232,7 +232,7 @@ nothing [] e = refl
 nothing (x ∷ xs) e = absurd (omega (arith, e))
 
 pub takes_no_end : (right : List ℕ → List ℕ → Type 0) (pending text : List ℕ) → text ≡ [] → pending ≡ []
-    → AnswersLastSweptLine right pending text
+    → AnswersLast right pending text
 takes_no_end right pending text unsaid e part stands = elim stands.same [
   | inl same ↦
       subst (λ l. AnswersLines right (last_line l) text) (sym e ∙ same)
@@ -242,7 +242,7 @@ takes_no_end right pending text unsaid e part stands = elim stands.same [
 
 pub takes_end : (right : List ℕ → List ℕ → Type 0) (pending text shown : List ℕ) → pending ≢ [] → shown ≡ pending
     → AnswersLine right shown text
-    → AnswersLastSweptLine right pending text
+    → AnswersLast right pending text
 takes_end right pending text shown some is_pending answered [] stands = elim stands.same [
   | inl same ↦ absurd (some same)
   | inr long ↦ absurd (omega (arith, long.1))

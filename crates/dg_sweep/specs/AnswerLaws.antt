@@ -1,13 +1,13 @@
 -- Laws of answers and of amounts.
---   TablesHaveOneAnswer        == no two texts answer a line of a table
---   AmountsHaveOneAnswer       == no two texts answer a line of amounts for a start and its names
---   SweptAmountsHaveOneMeaning == a line of amounts that stands for a start has no such fault and stands for
---                                 no other start, and no line has two such faults
+--   TablesHaveOneAnswer    == no two texts answer a line of a table
+--   AmountsHaveOneAnswer   == no two texts answer a line of amounts for a start and its names
+--   AmountsMeaningIsUnique == a line of amounts that stands for a start has no such fault and stands for
+--                             no other start, and no line has two such faults
 use Rattle.std.specs.Prelude.{◌≡◌, ◌≢◌, ℕ, List, length}
 use Rattle.dg_chips.specs.Starts.{IsStart}
 use Rattle.dg_sweep.specs.Common.{StartData, FileFault, OutOfMemory, Question}
 use Rattle.dg_sweep.specs.Answers.{AnswersLine, AnswersTableLine}
-use Rattle.dg_sweep.specs.Divisors.{HasSweptAmounts, RefusesSweptAmounts, AnswersAmounts}
+use Rattle.dg_sweep.specs.Divisors.{LineStandsFor, IsAmountsFault, AnswersAmounts}
 
 abbrev pub TablesHaveOneAnswer : Type 0
 TablesHaveOneAnswer =
@@ -21,11 +21,11 @@ AmountsHaveOneAnswer =
     → AnswersLine (AnswersAmounts question o names) line text
     → AnswersLine (AnswersAmounts question o names) line other → text ≡ other
 
-pub record SweptAmountsHaveOneMeaning : Type 0 where
-  pub start : (o p r : StartData) (line : List ℕ) → HasSweptAmounts o line p → HasSweptAmounts o line r
+pub record AmountsMeaningIsUnique : Type 0 where
+  pub start : (o p r : StartData) (line : List ℕ) → LineStandsFor o line p → LineStandsFor o line r
       → p ≡ r
   pub refused : (o p : StartData) (line : List ℕ) (fault : FileFault) → fault ≢ OutOfMemory
-      → RefusesSweptAmounts o.graph.size line fault → ¬ HasSweptAmounts o line p
+      → IsAmountsFault o.graph.size line fault → ¬ LineStandsFor o line p
   pub fault : (n : ℕ) (line : List ℕ) (one other : FileFault)
-      → one ≢ OutOfMemory → other ≢ OutOfMemory → RefusesSweptAmounts n line one
-      → RefusesSweptAmounts n line other → one ≡ other
+      → one ≢ OutOfMemory → other ≢ OutOfMemory → IsAmountsFault n line one
+      → IsAmountsFault n line other → one ≡ other

@@ -1,25 +1,25 @@
 -- What the line of a table is answered.
 -- In words it is as for one table; in numbers it has one column for each number.
---   IsSweptVerdictRow o text              == the text is the row of the verdict on the amounts of o, computed
+--   IsVerdictRow o text                   == the text is the row of the verdict on the amounts of o, computed
 --                                            from its vertex q
---   sweep_rank_line form names x          == the answer that is a rank verdict, and a newline
---   swept_unnamed_line form n k           == the answer that the rank is below k, without the first loss
---   IsSweptRankTested o k form names text == the text is that of a rank verdict of degree k which is right
+--   rank_line form names x                == the answer that is a rank verdict, and a newline
+--   unnamed_loss_line form n k            == the answer that the rank is below k, without the first loss
+--   IsTested o k form names text          == the text is that of a rank verdict of degree k which is right
 --                                            for the amounts of o, and a newline; if it names a loss, the
 --                                            test is within the limits
---   IsSweptRankBelow o k form text        == the rank of the amounts is below k, and that the text says; but
+--   IsBelow o k form text                 == the rank of the amounts is below k, and that the text says; but
 --                                            there are too many trials to name the first loss
 --   AnswersRankLine o k form names text   == one of these
 --   label form words                      == the words, if the answer is in words
---   sweep_field form words z              == the label and the number, and a space
---   swept_front form o                    == the degree of the amounts and the genus of the graph
---   sweep_ranks_line form o rank dual     == these, and two numbers for the ranks
---   AreSweptRanks o form text             == the text is that of the rank of the amounts and that of their
+--   field_text form words z               == the label and the number, and a space
+--   degree_genus_text form o              == the degree of the amounts and the genus of the graph
+--   ranks_line form o rank dual           == these, and two numbers for the ranks
+--   AreRanks o form text                  == the text is that of the rank of the amounts and that of their
 --                                            residual
 --   AnswersTable question o names text    == the text answers the question for the start o with these names
---   sweep_refusal_line words              == `refused`, the words and a newline
---   IsSweptLineRefused refuses text       == there is a fault that refuses, and the text says which
---   IsOfSweptTable question line text     == the line describes a table, and the text answers the question
+--   refusal_line words                    == `refused`, the words and a newline
+--   IsRefusalOf refuses text              == there is a fault that refuses, and the text says which
+--   AnswersDescribed question line text   == the line describes a table, and the text answers the question
 --                                            for it
 --   AnswersTableWithin question line text == the line describes a table, and the text answers the question
 --                                            for it; or it is refused as a table, and the text says why
@@ -29,82 +29,82 @@
 --   AnswersLines right ls text            == the text is the answers to the lines ls, one after another
 use Rattle.std.specs.Prelude.{◌≡◌, ◌≢◌, ℕ, ◌<◌, ◌≤◌, ◌⊎◌, ℤ, true, false, List, [], ◌∷◌, ◌++◌, None, Some, length, codes, decimal}
 use Rattle.std.specs.Fmt.{signed_decimal}
-use Rattle.dg_sweep.specs.Common.{genus, degree, less, canonical, HasRankAtLeast, IsRank, StartData, at, ArePastTrialLimits, IsRightRankVerdict, IsRankTestWithinLimits, RankVerdict, AtLeast, Below, IsJudgementText, IsVerdictOn, Verdict, rank_row, verdict_row, text_of, IsTableFile, RefusesTableFile, FileFault, OutOfMemory, Form, Words, Numbers, Question, Judge, Rank, RiemannRoch}
+use Rattle.dg_sweep.specs.Common.{genus, degree, minus, canonical, HasRankAtLeast, IsRank, StartData, at, IsPastLimits, IsRightRank, IsTestable, RankVerdict, AtLeast, Below, IsJudgementText, IsVerdictOn, Verdict, rank_row, verdict_row, text_of, IsTableFile, IsFileFault, FileFault, OutOfMemory, Form, Words, Numbers, Question, Judge, Rank, RiemannRoch}
 use Rattle.dg_invocation.specs.declared.question.VerdictForm.TheVariants as verdict
 use Rattle.dg_rules.specs.declared.entry.Reply.TheVariants.{Rank as Tested}
-use Rattle.dg_sweep.specs.FaultTexts.{sweep_file_fault_words}
+use Rattle.dg_sweep.specs.FaultTexts.{file_fault_words}
 use Rattle.dg_sweep.specs.declared.ends.TheConstants.{MAX_LINE}
 
-pub record IsSweptVerdictRow (o : StartData) (text : List ℕ) : Type 0 where
+pub record IsVerdictRow (o : StartData) (text : List ℕ) : Type 0 where
   pub verdict : Verdict
   pub found : IsVerdictOn o.graph o.q (at o.divisor) verdict
   pub printed : text ≡ verdict_row verdict
 
-abbrev pub sweep_rank_line : Form → List (List ℕ) → RankVerdict → List ℕ
-sweep_rank_line Words names x = text_of names (Tested x) ++ codes "\n"
-sweep_rank_line Numbers names (AtLeast k) = rank_row (length names) true None
-sweep_rank_line Numbers names (Below k loss) = rank_row (length names) false (Some loss)
+abbrev pub rank_line : Form → List (List ℕ) → RankVerdict → List ℕ
+rank_line Words names x = text_of names (Tested x) ++ codes "\n"
+rank_line Numbers names (AtLeast k) = rank_row (length names) true None
+rank_line Numbers names (Below k loss) = rank_row (length names) false (Some loss)
 
-abbrev pub swept_unnamed_line : Form → ℕ → ℕ → List ℕ
-swept_unnamed_line Words n k = codes "rank below " ++ decimal k ++ codes " at ?\n"
-swept_unnamed_line Numbers n k = rank_row n false None
+abbrev pub unnamed_loss_line : Form → ℕ → ℕ → List ℕ
+unnamed_loss_line Words n k = codes "rank below " ++ decimal k ++ codes " at ?\n"
+unnamed_loss_line Numbers n k = rank_row n false None
 
-pub record IsSweptRankTested (o : StartData) (k : ℕ) (form : Form) (names : List (List ℕ)) (text : List ℕ)
+pub record IsTested (o : StartData) (k : ℕ) (form : Form) (names : List (List ℕ)) (text : List ℕ)
     : Type 0 where
   pub verdict : RankVerdict
-  pub right : IsRightRankVerdict o.graph (at o.divisor) k verdict
-  pub named : IsRankTestWithinLimits o.graph.size k ⊎ (verdict ≡ AtLeast k)
-  pub printed : text ≡ sweep_rank_line form names verdict
+  pub right : IsRightRank o.graph (at o.divisor) k verdict
+  pub named : IsTestable o.graph.size k ⊎ (verdict ≡ AtLeast k)
+  pub printed : text ≡ rank_line form names verdict
 
-pub record IsSweptRankBelow (o : StartData) (k : ℕ) (form : Form) (text : List ℕ) : Type 0 where
-  pub past : ArePastTrialLimits o.graph.size k
+pub record IsBelow (o : StartData) (k : ℕ) (form : Form) (text : List ℕ) : Type 0 where
+  pub past : IsPastLimits o.graph.size k
   pub below : ¬ HasRankAtLeast o.graph (at o.divisor) k
-  pub printed : text ≡ swept_unnamed_line form o.graph.size k
+  pub printed : text ≡ unnamed_loss_line form o.graph.size k
 
 abbrev pub AnswersRankLine : StartData → ℕ → Form → List (List ℕ) → List ℕ → Type 0
 AnswersRankLine o k form names text =
-    IsSweptRankTested o k form names text ⊎ IsSweptRankBelow o k form text
+    IsTested o k form names text ⊎ IsBelow o k form text
 
 abbrev pub label : Form → List ℕ → List ℕ
 label Words words = words
 label Numbers words = []
 
-abbrev pub sweep_field : Form → List ℕ → ℤ → List ℕ
-sweep_field form words z = label form words ++ signed_decimal z ++ codes " "
+abbrev pub field_text : Form → List ℕ → ℤ → List ℕ
+field_text form words z = label form words ++ signed_decimal z ++ codes " "
 
-abbrev pub swept_front : Form → StartData → List ℕ
-swept_front form o =
-    sweep_field form (codes "degree ") (degree o.graph.size (at o.divisor))
-    ++ sweep_field form (codes "genus ") (genus o.graph)
+abbrev pub degree_genus_text : Form → StartData → List ℕ
+degree_genus_text form o =
+    field_text form (codes "degree ") (degree o.graph.size (at o.divisor))
+    ++ field_text form (codes "genus ") (genus o.graph)
 
-abbrev pub sweep_ranks_line : Form → StartData → ℤ → ℤ → List ℕ
-sweep_ranks_line form o rank dual =
-    swept_front form o ++ sweep_field form (codes "rank ") rank
+abbrev pub ranks_line : Form → StartData → ℤ → ℤ → List ℕ
+ranks_line form o rank dual =
+    degree_genus_text form o ++ field_text form (codes "rank ") rank
     ++ (label form (codes "dual ") ++ signed_decimal dual ++ codes "\n")
 
-pub record AreSweptRanks (o : StartData) (form : Form) (text : List ℕ) : Type 0 where
+pub record AreRanks (o : StartData) (form : Form) (text : List ℕ) : Type 0 where
   pub rank : ℤ
   pub of_divisor : IsRank o.graph (at o.divisor) rank
   pub dual_rank : ℤ
-  pub of_dual : IsRank o.graph (less (canonical o.graph) (at o.divisor)) dual_rank
-  pub printed : text ≡ sweep_ranks_line form o rank dual_rank
+  pub of_dual : IsRank o.graph (minus (canonical o.graph) (at o.divisor)) dual_rank
+  pub printed : text ≡ ranks_line form o rank dual_rank
 
 abbrev pub AnswersTable : Question → StartData → List (List ℕ) → List ℕ → Type 0
 AnswersTable (Judge (verdict.Words ordered)) o names text = IsJudgementText o names ordered text
-AnswersTable (Judge verdict.Numbers) o names text = IsSweptVerdictRow o text
+AnswersTable (Judge verdict.Numbers) o names text = IsVerdictRow o text
 AnswersTable (Rank k form) o names text = AnswersRankLine o k form names text
-AnswersTable (RiemannRoch form) o names text = AreSweptRanks o form text
+AnswersTable (RiemannRoch form) o names text = AreRanks o form text
 
-abbrev pub sweep_refusal_line : List ℕ → List ℕ
-sweep_refusal_line words = codes "refused " ++ words ++ codes "\n"
+abbrev pub refusal_line : List ℕ → List ℕ
+refusal_line words = codes "refused " ++ words ++ codes "\n"
 
-pub record IsSweptLineRefused (refuses : FileFault → Type 0) (text : List ℕ) : Type 0 where
+pub record IsRefusalOf (refuses : FileFault → Type 0) (text : List ℕ) : Type 0 where
   pub fault : FileFault
   pub found : fault ≢ OutOfMemory
   pub refused : refuses fault
-  pub printed : text ≡ sweep_refusal_line (sweep_file_fault_words fault)
+  pub printed : text ≡ refusal_line (file_fault_words fault)
 
-pub record IsOfSweptTable (question : Question) (line text : List ℕ) : Type 0 where
+pub record AnswersDescribed (question : Question) (line text : List ℕ) : Type 0 where
   pub start : StartData
   pub names : List (List ℕ)
   pub table : IsTableFile line start names
@@ -112,11 +112,11 @@ pub record IsOfSweptTable (question : Question) (line text : List ℕ) : Type 0 
 
 abbrev pub AnswersTableWithin : Question → List ℕ → List ℕ → Type 0
 AnswersTableWithin question line text =
-    IsSweptLineRefused (RefusesTableFile line) text ⊎ IsOfSweptTable question line text
+    IsRefusalOf (IsFileFault line) text ⊎ AnswersDescribed question line text
 
 abbrev pub AnswersLine : (List ℕ → List ℕ → Type 0) → List ℕ → List ℕ → Type 0
 AnswersLine right line text =
-    ((MAX_LINE < length line) × (text ≡ sweep_refusal_line (codes "file too long")))
+    ((MAX_LINE < length line) × (text ≡ refusal_line (codes "file too long")))
     ⊎ ((length line ≤ MAX_LINE) × right line text)
 
 abbrev pub AnswersTableLine : Question → List ℕ → List ℕ → Type 0

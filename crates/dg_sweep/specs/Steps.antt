@@ -1,65 +1,65 @@
 -- The steps of a sweep. What is pending stands for the part of a line that was read last.
---   StandsForSweptPart pending part          == the part has no newline, and it is what is pending, or both
---                                               are longer than a line may be
---   KeepsPartOfPiece old part new            == the part is put after what is pending, if that is no longer
---                                               than a line may be; else nothing is
---   AnswersSweptFront right bytes rest text  == the bytes are lines, each with its newline, and then the
---                                               rest, which has none; and the text is the answers to the
---                                               lines
---   EndsSweptPiece bytes                     == the last of the bytes is a newline
---   TakesSweptBytes right old bytes new text == whatever part of a line was pending, it and the bytes are
---                                               lines and then a part of a line, which then is pending; there
---                                               are no more lines than bytes; and the text is their answers
---   AnswersLastSweptLine right pending text  == whatever part of a line was pending, it is the last line, if
---                                               it has a byte, and the text its answer
---   PassesSweptAnswers T old new result      == such a text, of which T holds, was written; or memory or a
---                                               thread was refused, and nothing was written; or a front of it
---                                               was written, and the writer took no more
+--   StandsForPart pending part          == the part has no newline, and it is what is pending, or both
+--                                          are longer than a line may be
+--   KeepsPart old part new              == the part is put after what is pending, if that is no longer
+--                                          than a line may be; else nothing is
+--   AnswersFront right bytes rest text  == the bytes are lines, each with its newline, and then the
+--                                          rest, which has none; and the text is the answers to the
+--                                          lines
+--   EndsWithNewline bytes               == the last of the bytes is a newline
+--   TakesBytes right old bytes new text == whatever part of a line was pending, it and the bytes are
+--                                          lines and then a part of a line, which then is pending; there
+--                                          are no more lines than bytes; and the text is their answers
+--   AnswersLast right pending text      == whatever part of a line was pending, it is the last line, if
+--                                          it has a byte, and the text its answer
+--   PassesAnswers T old new result      == such a text, of which T holds, was written; or memory or a
+--                                          thread was refused, and nothing was written; or a front of it
+--                                          was written, and the writer took no more
 use Rattle.std.specs.Prelude.{◌≡◌, ℕ, ◌<◌, ◌≤◌, ◌⊎◌, List, [], ◌∷◌, ◌++◌, length, Option, Result, Ok, Err}
 use Rattle.std.specs.Io.KnownBytes.{Appends}
-use Rattle.dg_sweep.specs.Common.{HasNoNewline, BeginsWithLines, last_line, AppendsFrontToStream}
+use Rattle.dg_sweep.specs.Common.{HasNoNewline, BeginsWithLines, last_line, AppendsFront}
 use Rattle.dg_sweep.specs.Answers.{AnswersLines}
 use Rattle.dg_sweep.specs.declared.ends.TheConstants.{MAX_LINE}
 use Rattle.dg_sweep.specs.declared.ends.SweepEnd.{SweepEnd}
 use Rattle.dg_sweep.specs.declared.ends.SweepEnd.TheVariants.{Read, Write, Shortage}
 
-pub record StandsForSweptPart (pending part : List ℕ) : Type 0 where
+pub record StandsForPart (pending part : List ℕ) : Type 0 where
   pub no_newline : HasNoNewline part
   pub same : (pending ≡ part) ⊎ ((MAX_LINE < length pending) × (MAX_LINE < length part))
 
-abbrev pub KeepsPartOfPiece : List ℕ → List ℕ → List ℕ → Type 0
-KeepsPartOfPiece old part new =
+abbrev pub KeepsPart : List ℕ → List ℕ → List ℕ → Type 0
+KeepsPart old part new =
     ((length old ≤ MAX_LINE) × (new ≡ old ++ part)) ⊎ ((MAX_LINE < length old) × (new ≡ old))
 
-pub record AnswersSweptFront (right : List ℕ → List ℕ → Type 0) (bytes rest text : List ℕ) : Type 0 where
+pub record AnswersFront (right : List ℕ → List ℕ → Type 0) (bytes rest text : List ℕ) : Type 0 where
   pub ls : List (List ℕ)
   pub cut : BeginsWithLines HasNoNewline bytes ls rest
   pub no_newline : HasNoNewline rest
   pub few : length ls ≤ length bytes
   pub answers : AnswersLines right ls text
 
-abbrev pub EndsSweptPiece : List ℕ → Type 0
-EndsSweptPiece bytes = (front : List ℕ) × (bytes ≡ front ++ 10 ∷ [])
+abbrev pub EndsWithNewline : List ℕ → Type 0
+EndsWithNewline bytes = (front : List ℕ) × (bytes ≡ front ++ 10 ∷ [])
 
-pub record TakenBySweep (right : List ℕ → List ℕ → Type 0) (bytes new text : List ℕ) (n : ℕ) : Type 0 where
+pub record Taken (right : List ℕ → List ℕ → Type 0) (bytes new text : List ℕ) (n : ℕ) : Type 0 where
   pub ls : List (List ℕ)
   pub part : List ℕ
   pub cut : BeginsWithLines HasNoNewline bytes ls part
-  pub stands : StandsForSweptPart new part
+  pub stands : StandsForPart new part
   pub few : length ls ≤ n
   pub answers : AnswersLines right ls text
 
-abbrev pub TakesSweptBytes : (List ℕ → List ℕ → Type 0) → List ℕ → List ℕ → List ℕ → List ℕ → Type 0
-TakesSweptBytes right old bytes new text =
-    (part : List ℕ) → StandsForSweptPart old part → TakenBySweep right (part ++ bytes) new text (length bytes)
+abbrev pub TakesBytes : (List ℕ → List ℕ → Type 0) → List ℕ → List ℕ → List ℕ → List ℕ → Type 0
+TakesBytes right old bytes new text =
+    (part : List ℕ) → StandsForPart old part → Taken right (part ++ bytes) new text (length bytes)
 
-abbrev pub AnswersLastSweptLine : (List ℕ → List ℕ → Type 0) → List ℕ → List ℕ → Type 0
-AnswersLastSweptLine right pending text = (part : List ℕ) → StandsForSweptPart pending part
+abbrev pub AnswersLast : (List ℕ → List ℕ → Type 0) → List ℕ → List ℕ → Type 0
+AnswersLast right pending text = (part : List ℕ) → StandsForPart pending part
     → AnswersLines right (last_line part) text
 
-abbrev pub PassesSweptAnswers : (List ℕ → Type 0) → Option (List ℕ) → Option (List ℕ)
+abbrev pub PassesAnswers : (List ℕ → Type 0) → Option (List ℕ) → Option (List ℕ)
     → Result (Unit {0}) SweepEnd → Type 0
-PassesSweptAnswers T old new (Ok done) = (text : List ℕ) × T text × Appends old new text
-PassesSweptAnswers T old new (Err Write) = (text : List ℕ) × T text × AppendsFrontToStream old new [] text
-PassesSweptAnswers T old new (Err (Shortage lack)) = Appends old new []
-PassesSweptAnswers T old new (Err Read) = ⊥
+PassesAnswers T old new (Ok done) = (text : List ℕ) × T text × Appends old new text
+PassesAnswers T old new (Err Write) = (text : List ℕ) × T text × AppendsFront old new [] text
+PassesAnswers T old new (Err (Shortage lack)) = Appends old new []
+PassesAnswers T old new (Err Read) = ⊥

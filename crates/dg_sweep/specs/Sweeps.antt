@@ -1,32 +1,32 @@
 -- How a sweep ends. `stream` is what was read, and `ended` says that no more is to come; `old` and
 -- `new` are what the writer held, if that is known.
---   EndsSweepAfter ended stream ls result       == what each end says, if just the lines ls are answered:
---                                                  they are all, and no more are to come; or, if reading
---                                                  failed, all whole lines
---   WritesSweptAnswers result old new said text == the writer took what was said and the text, or, if it took
---                                                  no more, all that was said and a front of the text
---   IsSweep right input rest old new result     == a sweep is over. A stream was read, by which the reader's
---                                                  bytes, if known, have become the rest. The lines of `told`
---                                                  are answered by what was said, and then those of `last` by
---                                                  the text; these are no more than the bytes of one read
+--   EndsAfter ended stream ls result        == what each end says, if just the lines ls are answered:
+--                                              they are all, and no more are to come; or, if reading
+--                                              failed, all whole lines
+--   WritesAnswers result old new said text  == the writer took what was said and the text, or, if it took
+--                                              no more, all that was said and a front of the text
+--   IsSweep right input rest old new result == a sweep is over. A stream was read, by which the reader's
+--                                              bytes, if known, have become the rest. The lines of `told`
+--                                              are answered by what was said, and then those of `last` by
+--                                              the text; these are no more than the bytes of one read
 use Rattle.std.specs.Prelude.{◌≡◌, ℕ, ◌≤◌, List, ◌++◌, length, Option, Result, Ok, Err, ⊤}
 use Rattle.std.specs.Io.KnownBytes.{Appends, Consumes, IsAtEnd}
-use Rattle.dg_sweep.specs.Common.{lines, HasNoNewline, BeginsWithLines, LinesOfTextHaveCome, AppendsFrontToStream}
+use Rattle.dg_sweep.specs.Common.{lines, HasNoNewline, BeginsWithLines, LinesHaveCome, AppendsFront}
 use Rattle.dg_sweep.specs.Answers.{AnswersLines}
 use Rattle.dg_sweep.specs.declared.ends.TheConstants.{READ_SIZE}
 use Rattle.dg_sweep.specs.declared.ends.SweepEnd.{SweepEnd}
 use Rattle.dg_sweep.specs.declared.ends.SweepEnd.TheVariants.{Read, Write}
 
-abbrev pub EndsSweepAfter : Type 0 → List ℕ → List (List ℕ) → Result (Unit {0}) SweepEnd → Type 0
-EndsSweepAfter ended stream ls (Ok done) = ended × (ls ≡ lines stream)
-EndsSweepAfter ended stream ls (Err Read) =
+abbrev pub EndsAfter : Type 0 → List ℕ → List (List ℕ) → Result (Unit {0}) SweepEnd → Type 0
+EndsAfter ended stream ls (Ok done) = ended × (ls ≡ lines stream)
+EndsAfter ended stream ls (Err Read) =
     (rest : List ℕ) × BeginsWithLines HasNoNewline stream ls rest × HasNoNewline rest
-EndsSweepAfter ended stream ls (Err end) = ⊤
+EndsAfter ended stream ls (Err end) = ⊤
 
-abbrev pub WritesSweptAnswers : Result (Unit {0}) SweepEnd → Option (List ℕ) → Option (List ℕ) → List ℕ
+abbrev pub WritesAnswers : Result (Unit {0}) SweepEnd → Option (List ℕ) → Option (List ℕ) → List ℕ
     → List ℕ → Type 0
-WritesSweptAnswers (Err Write) old new said text = AppendsFrontToStream old new said text
-WritesSweptAnswers result old new said text = Appends old new (said ++ text)
+WritesAnswers (Err Write) old new said text = AppendsFront old new said text
+WritesAnswers result old new said text = Appends old new (said ++ text)
 
 pub record IsSweep (right : List ℕ → List ℕ → Type 0) (input rest : Option (List ℕ)) (old new : Option (List ℕ))
     (result : Result (Unit {0}) SweepEnd) : Type 0 where
@@ -34,11 +34,11 @@ pub record IsSweep (right : List ℕ → List ℕ → Type 0) (input rest : Opti
   pub read : Consumes input rest stream
   pub told : List (List ℕ)
   pub last : List (List ℕ)
-  pub came : LinesOfTextHaveCome HasNoNewline (IsAtEnd rest) stream (told ++ last)
+  pub came : LinesHaveCome HasNoNewline (IsAtEnd rest) stream (told ++ last)
   pub few : length last ≤ READ_SIZE
   pub said : List ℕ
   pub text : List ℕ
   pub first : AnswersLines right told said
   pub second : AnswersLines right last text
-  pub written : WritesSweptAnswers result old new said text
-  pub ends : EndsSweepAfter (IsAtEnd rest) stream (told ++ last) result
+  pub written : WritesAnswers result old new said text
+  pub ends : EndsAfter (IsAtEnd rest) stream (told ++ last) result

@@ -4,16 +4,16 @@ ghost use Rattle.dg_chips.specs.Starts.{IsStart};
 ghost use Rattle.dg_chips.specs.Vector.{at};
 ghost use Rattle.dg_verdict.specs.Right.{IsVerdictOn};
 ghost use Rattle.dg_lines.specs.Judgements.{IsJudgementText};
-ghost use Rattle.dg_lines.specs.Texts.{TextHasNames, text_of};
-ghost use Rattle.dg_sweep.specs.FaultTexts.{sweep_file_fault_words};
-ghost use Rattle.dg_sweep.specs.Subjects.{swept_start};
-ghost use Rattle.dg_sweep.specs.Answers.{AnswersLine, AnswersTable, IsSweptVerdictRow, sweep_refusal_line};
+ghost use Rattle.dg_lines.specs.Texts.{HasNames, text_of};
+ghost use Rattle.dg_sweep.specs.FaultTexts.{file_fault_words};
+ghost use Rattle.dg_sweep.specs.Subjects.{subject_start};
+ghost use Rattle.dg_sweep.specs.Answers.{AnswersLine, AnswersTable, IsVerdictRow, refusal_line};
 ghost use Rattle.dg_sweep.specs.Kinds.{answers_of};
 
 use crate::ends::MAX_LINE;
-use crate::fault_words::push_swept_fault;
+use crate::fault_words::push_fault;
 use crate::kinds::LineKind;
-use crate::ranking::{push_rank, push_swept_ranks};
+use crate::ranking::{push_rank, push_ranks};
 use dg_chips::Divisor;
 use dg_file::FileFault;
 use dg_graph::Graph;
@@ -49,13 +49,13 @@ pub fn answer_line(
 pub(crate) fn push_refusal(fault: &FileFault, answer: &mut Vec<u8>) -> Result<(), AllocError>
     requires { answer.old.items ≡ [] }
     ensures { OnOk result ((fault.now ≢ FileFault.OutOfMemory)
-        × (answer.new.items ≡ sweep_refusal_line (sweep_file_fault_words fault.now))) }
+        × (answer.new.items ≡ refusal_line (file_fault_words fault.now))) }
 {
     if let FileFault::OutOfMemory = fault {
         return Err(AllocError);
     }
     answer.extend_from_slice(b"refused ")?;
-    push_swept_fault(answer, fault)?;
+    push_fault(answer, fault)?;
     answer.extend_from_slice(b"\n")
 }
 
@@ -70,16 +70,16 @@ pub(crate) struct Subject<'a> {
 }
 
 /// The answer for a subject whose vertices have these names, into an empty buffer.
-pub(crate) fn push_swept_answer(
+pub(crate) fn push_answer(
     question: Question,
     subject: &Subject<'_>,
     names: &Names,
     answer: &mut Vec<u8>,
 ) -> Result<(), AllocError>
-    requires start { IsStart (swept_start subject.now) }
+    requires start { IsStart (subject_start subject.now) }
     requires names { length names.now ≡ subject.now.graph.now.size }
     requires empty { answer.old.items ≡ [] }
-    ensures { OnOk result (AnswersTable question (swept_start subject.now) names.now answer.new.items) }
+    ensures { OnOk result (AnswersTable question (subject_start subject.now) names.now answer.new.items) }
 {
     match question {
         Question::Judge(VerdictForm::Words { ordered }) => {
@@ -87,7 +87,7 @@ pub(crate) fn push_swept_answer(
         }
         Question::Judge(VerdictForm::Numbers) => push_columns(subject, answer),
         Question::Rank(k, form) => push_rank(subject, names, k, form, answer),
-        Question::RiemannRoch(form) => push_swept_ranks(subject, form, answer),
+        Question::RiemannRoch(form) => push_ranks(subject, form, answer),
     }
 }
 
@@ -98,40 +98,40 @@ fn push_verdict(
     ordered: bool,
     answer: &mut Vec<u8>,
 ) -> Result<(), AllocError>
-    requires start { IsStart (swept_start subject.now) }
+    requires start { IsStart (subject_start subject.now) }
     requires names { length names.now ≡ subject.now.graph.now.size }
     requires empty { answer.old.items ≡ [] }
-    ensures { OnOk result (IsJudgementText (swept_start subject.now) names.now ordered answer.new.items) }
+    ensures { OnOk result (IsJudgementText (subject_start subject.now) names.now ordered answer.new.items) }
 {
-    let verdict = swept_verdict(subject);
+    let verdict = judge_subject(subject);
     push_judgement(answer, names, &verdict, ordered)
 }
 
 /// The verdict on a subject in columns of numbers, into an empty buffer.
 fn push_columns(subject: &Subject<'_>, answer: &mut Vec<u8>) -> Result<(), AllocError>
-    requires start { IsStart (swept_start subject.now) }
+    requires start { IsStart (subject_start subject.now) }
     requires empty { answer.old.items ≡ [] }
-    ensures { OnOk result (IsSweptVerdictRow (swept_start subject.now) answer.new.items) }
+    ensures { OnOk result (IsVerdictRow (subject_start subject.now) answer.new.items) }
 {
-    let verdict = swept_verdict(subject);
+    let verdict = judge_subject(subject);
     push_verdict_row(answer, &verdict)
 }
 
 /// The verdict on a subject.
-fn swept_verdict(subject: &Subject<'_>) -> Verdict
-    requires { IsStart (swept_start subject.now) }
+fn judge_subject(subject: &Subject<'_>) -> Verdict
+    requires { IsStart (subject_start subject.now) }
     ensures { IsVerdictOn subject.now.graph.now subject.now.q (at subject.now.divisor.now) result }
 {
     judge_with_inverse(subject.graph, subject.inverse, subject.q, subject.divisor)
 }
 
 /// The text of a reply and a newline, into an empty buffer.
-pub(crate) fn push_swept_verdict_line(
+pub(crate) fn push_reply_line(
     answer: &mut Vec<u8>,
     reply: &Reply,
     names: &Names,
 ) -> Result<(), AllocError>
-    requires names { TextHasNames names.now reply.now }
+    requires names { HasNames names.now reply.now }
     requires empty { answer.old.items ≡ [] }
     ensures { OnOk result (answer.new.items ≡ text_of names.now reply.now ++ codes "\n") }
 {

@@ -4,7 +4,7 @@ ghost use Rattle.std.specs.Option.{option_copied};
 ghost use Rattle.std.specs.Fmt.{signed_decimal};
 ghost use Rattle.std.specs.Int.{w64};
 ghost use Rattle.dg_lines.specs.Cuts.{before, after};
-ghost use Rattle.dg_sweep.specs.Divisors.{IsSweptDivisor, RefusesSweptAmounts, SpellsSweptAmounts, SpellsNoSweptAmounts};
+ghost use Rattle.dg_sweep.specs.Divisors.{SpellsDivisor, IsAmountsFault, SpellsAmounts, SpellsNoAmounts};
 
 use dg_chips::Divisor;
 use dg_file::{FileFault, Shape};
@@ -16,29 +16,25 @@ use std::alloc::{AllocError, Global};
 ///
 /// Refused with `Shape(Amounts)` if a word is no whole number within 64 bits, and then with `Chip`. `OutOfMemory` comes if a
 /// growth is refused.
-pub(crate) fn divisor_of_swept_line(
-    alloc: Global,
-    graph: &Graph,
-    line: &[u8],
-) -> Result<Divisor, FileFault>
-    ensures divisor { IfOk result (IsSweptDivisor graph.now.size line.now) }
-    ensures refused { IfErr result (RefusesSweptAmounts graph.now.size line.now) }
+pub(crate) fn parse_divisor(alloc: Global, graph: &Graph, line: &[u8]) -> Result<Divisor, FileFault>
+    ensures divisor { IfOk result (SpellsDivisor graph.now.size line.now) }
+    ensures refused { IfErr result (IsAmountsFault graph.now.size line.now) }
 {
-    let Some(amounts) = amounts_of_swept_line(alloc, line)? else {
+    let Some(amounts) = parse_amounts(alloc, line)? else {
         return Err(FileFault::Shape(Shape::Amounts));
     };
     Divisor::new(graph, amounts.as_slice()).map_err(FileFault::Chip)
 }
 
 /// The whole numbers that the words of a line are, with one space between two; `None` if a word is none within 64 bits.
-fn amounts_of_swept_line(alloc: Global, line: &[u8]) -> Result<Option<Vec<i64>>, AllocError>
-    ensures { IfOk result (λ amounts. MatchOption amounts (SpellsNoSweptAmounts line.now)
-        (λ amounts. SpellsSweptAmounts line.now amounts.items)) }
+fn parse_amounts(alloc: Global, line: &[u8]) -> Result<Option<Vec<i64>>, AllocError>
+    ensures { IfOk result (λ amounts. MatchOption amounts (SpellsNoAmounts line.now)
+        (λ amounts. SpellsAmounts line.now amounts.items)) }
 {
     let mut amounts = Vec::with_capacity(alloc, MAX_VERTICES)?;
     let mut rest = Some(line);
     'words: while let Some(text) = rest {
-        let Some((amount, after)) = first_amount_of_swept_line(text) else {
+        let Some((amount, after)) = parse_first_amount(text) else {
             return Ok(None);
         };
         amounts.push(amount)?;
@@ -49,7 +45,7 @@ fn amounts_of_swept_line(alloc: Global, line: &[u8]) -> Result<Option<Vec<i64>>,
 
 /// The whole number that the first word is, if 64 bits hold it, and what stands after the space that ends the word, if one does.
 #[inline(always)]
-fn first_amount_of_swept_line(text: &[u8]) -> Option<(i64, Option<&[u8]>)>
+fn parse_first_amount(text: &[u8]) -> Option<(i64, Option<&[u8]>)>
     ensures { MatchOption result
         ((z : ℤ) → FitsSigned w64 z → before 32 text.now ≢ signed_decimal z)
         (λ r. (before 32 text.now ≡ signed_decimal r.0)

@@ -1,6 +1,6 @@
 //! What is said of bytes that are refused as a table.
 ghost use Rattle.std.specs.Prelude.{◌≡◌, ◌++◌, decimal, OnOk};
-ghost use Rattle.dg_sweep.specs.FaultTexts.{text_of_fault_words, sweep_file_fault_words, sweep_shape_fault_words, sweep_graph_fault_words, sweep_chip_fault_words};
+ghost use Rattle.dg_sweep.specs.FaultTexts.{fault_words_text, file_fault_words, shape_fault_words, graph_fault_words, chip_fault_words};
 
 use dg_chips::ChipFault;
 use dg_file::{FileFault, Shape};
@@ -16,21 +16,21 @@ enum FaultWords {
 }
 
 /// What is said of a fault, after the text.
-pub(crate) fn push_swept_fault(text: &mut Vec<u8>, fault: &FileFault) -> Result<(), AllocError>
-    ensures { OnOk result (text.new.items ≡ text.old.items ++ sweep_file_fault_words fault.now) }
+pub(crate) fn push_fault(text: &mut Vec<u8>, fault: &FileFault) -> Result<(), AllocError>
+    ensures { OnOk result (text.new.items ≡ text.old.items ++ file_fault_words fault.now) }
 {
     match words_of_fault(fault) {
         FaultWords::Alone(words) => text.extend_from_slice(words.as_bytes()),
-        FaultWords::Before(label, number) => push_swept_number(text, label, number),
+        FaultWords::Before(label, number) => push_words_and_number(text, label, number),
         FaultWords::Around(label, number, words) => {
-            push_swept_number(text, label, number)?;
+            push_words_and_number(text, label, number)?;
             text.extend_from_slice(words.as_bytes())
         }
     }
 }
 
 fn words_of_fault(fault: &FileFault) -> FaultWords
-    ensures { text_of_fault_words result ≡ sweep_file_fault_words fault.now }
+    ensures { fault_words_text result ≡ file_fault_words fault.now }
 {
     match fault {
         FileFault::Json => FaultWords::Alone("not JSON"),
@@ -45,7 +45,7 @@ fn words_of_fault(fault: &FileFault) -> FaultWords
 }
 
 fn words_of_shape_fault(shape: Shape) -> FaultWords
-    ensures { text_of_fault_words result ≡ sweep_shape_fault_words shape }
+    ensures { fault_words_text result ≡ shape_fault_words shape }
 {
     match shape {
         Shape::Top => FaultWords::Alone("shape of top"),
@@ -58,7 +58,7 @@ fn words_of_shape_fault(shape: Shape) -> FaultWords
 }
 
 fn words_of_graph_fault(fault: GraphFault) -> FaultWords
-    ensures { text_of_fault_words result ≡ sweep_graph_fault_words fault }
+    ensures { fault_words_text result ≡ graph_fault_words fault }
 {
     match fault {
         GraphFault::Size => FaultWords::Alone("number of vertices"),
@@ -71,7 +71,7 @@ fn words_of_graph_fault(fault: GraphFault) -> FaultWords
 }
 
 fn words_of_chip_fault(fault: ChipFault) -> FaultWords
-    ensures { text_of_fault_words result ≡ sweep_chip_fault_words fault }
+    ensures { fault_words_text result ≡ chip_fault_words fault }
 {
     match fault {
         ChipFault::Length => FaultWords::Alone("number of amounts"),
@@ -80,7 +80,7 @@ fn words_of_chip_fault(fault: ChipFault) -> FaultWords
 }
 
 /// Words and a number, after the text.
-fn push_swept_number(text: &mut Vec<u8>, label: &str, number: usize) -> Result<(), AllocError>
+fn push_words_and_number(text: &mut Vec<u8>, label: &str, number: usize) -> Result<(), AllocError>
     ensures { OnOk result (text.new.items ≡ text.old.items ++ (label.now ++ decimal number)) }
 {
     text.extend_from_slice(label.as_bytes())?;

@@ -2,8 +2,8 @@
 ghost use Rattle.std.specs.Prelude.{◌≡◌, [], OnOk};
 ghost use Rattle.dg_sweep.specs.Kinds.{answers_of};
 
-use crate::answering::{Subject, push_refusal, push_swept_answer};
-use crate::divisors::divisor_of_swept_line;
+use crate::answering::{Subject, push_answer, push_refusal};
+use crate::divisors::parse_divisor;
 use dg_chips::Start;
 use dg_file::{TableFile, read_table};
 use dg_invocation::Question;
@@ -31,7 +31,7 @@ impl<'a> LineKind<'a> {
     pub fn divisors(question: Question, table: &'a TableFile) -> LineKind<'a>
         ensures { (inverse : InverseLaplacian) × (result ≡ LineKind.Divisors question table.entry inverse) }
     {
-        let inverse = inverse_for_sweep(question, table.start());
+        let inverse = inverse_for(question, table.start());
         LineKind::Divisors {
             question,
             table,
@@ -61,7 +61,7 @@ impl<'a> LineKind<'a> {
                         q: start.q(),
                         inverse: None,
                     };
-                    push_swept_answer(*question, &subject, table.names(), answer)
+                    push_answer(*question, &subject, table.names(), answer)
                 }
                 Err(fault) => push_refusal(&fault, answer),
             },
@@ -71,7 +71,7 @@ impl<'a> LineKind<'a> {
                 inverse,
             } => {
                 let start = table.start();
-                match divisor_of_swept_line(alloc, start.graph(), line) {
+                match parse_divisor(alloc, start.graph(), line) {
                     Ok(divisor) => {
                         let subject = Subject {
                             graph: start.graph(),
@@ -79,7 +79,7 @@ impl<'a> LineKind<'a> {
                             q: start.q(),
                             inverse: Some(inverse),
                         };
-                        push_swept_answer(*question, &subject, table.names(), answer)
+                        push_answer(*question, &subject, table.names(), answer)
                     }
                     Err(fault) => push_refusal(&fault, answer),
                 }
@@ -89,7 +89,7 @@ impl<'a> LineKind<'a> {
 }
 
 /// The inverse by which a question for a start is answered soonest: verdicts are computed from q, ranks from the first vertex.
-fn inverse_for_sweep(question: Question, start: &Start) -> InverseLaplacian {
+fn inverse_for(question: Question, start: &Start) -> InverseLaplacian {
     let vertex = match question {
         Question::Judge(_) => start.q(),
         Question::Rank(_, _) | Question::RiemannRoch(_) => 0,

@@ -16,7 +16,7 @@ pub use answering::answer_line;
 pub use ends::{MAX_LINE, READ_SIZE, SweepEnd};
 pub use kinds::LineKind;
 pub use laws::{
-    amounts_have_one_answer, lines_stand_for_tables, swept_amounts_have_one_meaning,
-    swept_lines_have_one_answer,
+    amounts_answer_is_unique, amounts_meaning_is_unique, lines_stand_for_tables,
+    table_answer_is_unique,
 };
 pub use sweeping::sweep;

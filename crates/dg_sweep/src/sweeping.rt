@@ -69,9 +69,9 @@ fn sweep_reads<R: Threads + Wait + Sync, I: Read, O: Write>(
             return Err(SweepEnd::Read);
         };
         if size == 0 {
-            return progress.sweep_end(context.alloc, context.kind, writer);
+            return progress.finish(context.alloc, context.kind, writer);
         }
-        match progress.sweep_bytes(context, writer, &buffer[..size]) {
+        match progress.feed(context, writer, &buffer[..size]) {
             Ok(()) => {}
             Err(end) => return Err(end),
         }

@@ -1,12 +1,12 @@
 //! Lines answered among workers, each with a thread of its own.
 ghost use Rattle.std.specs.Prelude.{◌≡◌, ◌<◌, ◌≤◌, ◌++◌, ℕ, List, [], length, get_or, map, flat_map, All, Contains, IfOk, IfSome, IsOkAnd, OnOk, Err};
 ghost use Rattle.dg_sweep.specs.Kinds.{answers_of};
-ghost use Rattle.dg_sweep.specs.Steps.{AnswersSweptFront, EndsSweptPiece};
-ghost use Rattle.dg_sweep.specs.Pieces.{AnswersPiece, IsAnswered, LeadsSweptPiece};
+ghost use Rattle.dg_sweep.specs.Steps.{AnswersFront, EndsWithNewline};
+ghost use Rattle.dg_sweep.specs.Pieces.{AnswersPiece, IsAnswered, LeadsPiece};
 ghost use Rattle.dg_system.specs.declared.shortage.Shortage.TheVariants.{Spawn};
 
 use crate::kinds::LineKind;
-use crate::taking::answer_swept_lines;
+use crate::taking::answer_lines;
 use dg_lines::cut;
 use dg_system::{Shortage, in_parallel};
 use std::alloc::{AllocError, Global};
@@ -43,58 +43,58 @@ impl<'a, R> Drop for SweepContext<'a, R> {
 
 /// The answers to the piece at a place.
 #[derive(Drop)]
-struct Answered {
+struct PieceAnswer {
     place: usize,
     text: Vec<u8>,
 }
 
 /// Puts the answers to the lines of the bytes after the text, and gives what follows the last newline. The lines are shared
 /// among the workers, if there are enough lines.
-pub(crate) fn answer_swept_batch<'a, R: Threads + Wait + Sync>(
+pub(crate) fn answer_batch<'a, R: Threads + Wait + Sync>(
     context: &SweepContext<'_, R>,
     bytes: &'a [u8],
     text: &mut Vec<u8>,
     answer: &mut Vec<u8>,
 ) -> Result<&'a [u8], Shortage>
     ensures answered { IfOk result (λ rest. (said : List ℕ)
-        × AnswersSweptFront (answers_of context.now.kind.now) bytes.now rest.now said
+        × AnswersFront (answers_of context.now.kind.now) bytes.now rest.now said
         × (text.new.items ≡ text.old.items ++ said)) }
     ensures spawn { result ≡ Err Spawn → 2 ≤ context.now.workers }
 {
     let workers = context.workers.min(bytes.len() / SHARE_SIZE);
     if workers < 2 {
-        return answer_swept_lines(context.alloc, context.kind, bytes, text, answer);
+        return answer_lines(context.alloc, context.kind, bytes, text, answer);
     }
     let (pieces, rest) = cut_pieces(context.alloc, bytes)?;
     let next = AtomicUsize::new(0);
-    let done = sweep_among_workers(context, workers.min(pieces.len()), &pieces, &next)?;
-    put_swept_answers(context, &pieces, &done, text)?;
-    answer_swept_lines(context.alloc, context.kind, rest, text, answer)
+    let done = answer_among(context, workers.min(pieces.len()), &pieces, &next)?;
+    push_answers(context, &pieces, &done, text)?;
+    answer_lines(context.alloc, context.kind, rest, text, answer)
 }
 
 /// The answers to pieces that so many workers take, each the next that none has taken. The first has a thread of its own, and
 /// the others work beside it.
-fn sweep_among_workers<R: Threads + Wait + Sync>(
+fn answer_among<R: Threads + Wait + Sync>(
     context: &SweepContext<'_, R>,
     workers: usize,
     pieces: &[&[u8]],
     next: &AtomicUsize,
-) -> Result<Vec<Answered>, Shortage>
+) -> Result<Vec<PieceAnswer>, Shortage>
     ensures { IfOk result (λ done.
         All (IsAnswered (answers_of context.now.kind.now) (map (λ piece. piece.now) pieces.now)) done.items) }
 {
     if workers < 2 {
-        return answer_next_piece(context, pieces, next);
+        return answer_pieces(context, pieces, next);
     }
-    let mut first = || -> Result<Vec<Answered>, Shortage>
+    let mut first = || -> Result<Vec<PieceAnswer>, Shortage>
         ensures { IfOk result (λ done. All (IsAnswered (answers_of context.entry.now.kind.now)
             (map (λ piece. piece.now) pieces.entry.now)) done.items) }
-    { answer_next_piece(context, pieces, next) };
-    let mut others = || -> Result<Vec<Answered>, Shortage>
+    { answer_pieces(context, pieces, next) };
+    let mut others = || -> Result<Vec<PieceAnswer>, Shortage>
         requires { 2 ≤ workers }
         ensures { IfOk result (λ done. All (IsAnswered (answers_of context.entry.now.kind.now)
             (map (λ piece. piece.now) pieces.entry.now)) done.items) }
-    { sweep_among_workers(context, workers - 1, pieces, next) };
+    { answer_among(context, workers - 1, pieces, next) };
     match in_parallel(context.rt, &mut first, &mut others) {
         Ok((here, there)) => joined_answers(here, there),
         Err(shortage) => Err(shortage),
@@ -103,9 +103,9 @@ fn sweep_among_workers<R: Threads + Wait + Sync>(
 
 /// All answers, if both have some.
 fn joined_answers(
-    here: Result<Vec<Answered>, Shortage>,
-    there: Result<Vec<Answered>, Shortage>,
-) -> Result<Vec<Answered>, Shortage>
+    here: Result<Vec<PieceAnswer>, Shortage>,
+    there: Result<Vec<PieceAnswer>, Shortage>,
+) -> Result<Vec<PieceAnswer>, Shortage>
     ensures { IfOk result (λ done.
         IsOkAnd here (λ here. IsOkAnd there (λ there. done.items ≡ here.items ++ there.items))) }
 {
@@ -115,11 +115,11 @@ fn joined_answers(
 }
 
 /// The answers to the pieces that one worker takes.
-fn answer_next_piece<R>(
+fn answer_pieces<R>(
     context: &SweepContext<'_, R>,
     pieces: &[&[u8]],
     next: &AtomicUsize,
-) -> Result<Vec<Answered>, Shortage>
+) -> Result<Vec<PieceAnswer>, Shortage>
     ensures { IfOk result (λ done.
         All (IsAnswered (answers_of context.now.kind.now) (map (λ piece. piece.now) pieces.now)) done.items) }
 {
@@ -142,43 +142,43 @@ fn answer_piece<R>(
     context: &SweepContext<'_, R>,
     piece: &[u8],
     place: usize,
-) -> Result<Answered, Shortage>
+) -> Result<PieceAnswer, Shortage>
     ensures text { IfOk result (λ answered.
         AnswersPiece (answers_of context.now.kind.now) piece.now answered.text.items) }
     ensures place { IfOk result (λ answered. answered.place ≡ place) }
 {
     let mut text = Vec::new(context.alloc);
     let mut answer = Vec::new(context.alloc);
-    match answer_swept_lines(context.alloc, context.kind, piece, &mut text, &mut answer) {
-        Ok(_) => Ok(Answered { place, text }),
+    match answer_lines(context.alloc, context.kind, piece, &mut text, &mut answer) {
+        Ok(_) => Ok(PieceAnswer { place, text }),
         Err(shortage) => Err(shortage),
     }
 }
 
 /// Puts the answers to all pieces after the text, in the order of the pieces.
-fn put_swept_answers<R>(
+fn push_answers<R>(
     context: &SweepContext<'_, R>,
     pieces: &[&[u8]],
-    done: &[Answered],
+    done: &[PieceAnswer],
     text: &mut Vec<u8>,
 ) -> Result<(), Shortage>
-    requires lines { All (λ piece. EndsSweptPiece piece.now) pieces.now }
+    requires lines { All (λ piece. EndsWithNewline piece.now) pieces.now }
     requires done { All (IsAnswered (answers_of context.now.kind.now) (map (λ piece. piece.now) pieces.now)) done.now }
     ensures { OnOk result ((said : List ℕ) ×
-        LeadsSweptPiece (answers_of context.now.kind.now) (flat_map (λ piece. piece.now) pieces.now) said
+        LeadsPiece (answers_of context.now.kind.now) (flat_map (λ piece. piece.now) pieces.now) said
         × (text.new.items ≡ text.old.items ++ said)) }
 {
-    let found = indices_of_swept_pieces(context.alloc, done, pieces.len())?;
+    let found = indices_by_piece(context.alloc, done, pieces.len())?;
     for place in 0..pieces.len() {
-        put_swept_answer(context, pieces, place, done, &found, text)?;
+        push_piece_answer(context, pieces, place, done, &found, text)?;
     }
     Ok(())
 }
 
 /// For each of `count` pieces, the index of its answers in `done`, or the length of `done` if they are not there.
-fn indices_of_swept_pieces(
+fn indices_by_piece(
     alloc: Global,
-    done: &[Answered],
+    done: &[PieceAnswer],
     count: usize,
 ) -> Result<Vec<usize>, AllocError> {
     let mut found = vec![in alloc; done.len(); count]?;
@@ -191,11 +191,11 @@ fn indices_of_swept_pieces(
 }
 
 /// Puts the answers to the piece at the place after the text. A piece that is not found among those done is answered here.
-fn put_swept_answer<R>(
+fn push_piece_answer<R>(
     context: &SweepContext<'_, R>,
     pieces: &[&[u8]],
     place: usize,
-    done: &[Answered],
+    done: &[PieceAnswer],
     found: &[usize],
     text: &mut Vec<u8>,
 ) -> Result<(), Shortage>
@@ -210,7 +210,7 @@ fn put_swept_answer<R>(
         return Ok(());
     }
     let mut answer = Vec::new(context.alloc);
-    answer_swept_lines(
+    answer_lines(
         context.alloc,
         context.kind,
         pieces[place],
@@ -221,8 +221,8 @@ fn put_swept_answer<R>(
 }
 
 /// The text of the answer to the piece at the place, if it is found where it should be.
-fn text_of_piece<'a>(done: &'a [Answered], found: &[usize], place: usize) -> Option<&'a [u8]>
-    ensures { IfSome result (λ text. (answered : Answered) × Contains done.now answered
+fn text_of_piece<'a>(done: &'a [PieceAnswer], found: &[usize], place: usize) -> Option<&'a [u8]>
+    ensures { IfSome result (λ text. (answered : PieceAnswer) × Contains done.now answered
         × (answered.place ≡ place) × (text.now ≡ answered.text.items)) }
 {
     let answered = done.get(*found.get(place)?)?;
@@ -234,12 +234,12 @@ fn text_of_piece<'a>(done: &'a [Answered], found: &[usize], place: usize) -> Opt
 
 /// Cuts bytes into pieces, each up to a newline, and what follows them.
 fn cut_pieces(alloc: Global, bytes: &[u8]) -> Result<(Vec<&[u8]>, &[u8]), AllocError>
-    ensures lines { IfOk result (λ r. All (λ piece. EndsSweptPiece piece.now) r.0.items) }
+    ensures lines { IfOk result (λ r. All (λ piece. EndsWithNewline piece.now) r.0.items) }
     ensures whole { IfOk result (λ r. bytes.now ≡ flat_map (λ piece. piece.now) r.0.items ++ r.1.now) }
 {
     let mut pieces = Vec::new(alloc);
     let mut rest = bytes;
-    while let Some((piece, after)) = first_piece_of_sweep(rest) {
+    while let Some((piece, after)) = first_piece(rest) {
         pieces.push(piece)?;
         rest = after;
     }
@@ -248,8 +248,8 @@ fn cut_pieces(alloc: Global, bytes: &[u8]) -> Result<(Vec<&[u8]>, &[u8]), AllocE
 
 /// The first piece, up to a newline, and what follows it; `None` if there is no newline to end it. Near the end a piece is
 /// half of what is left, and then the rest of a line.
-fn first_piece_of_sweep(bytes: &[u8]) -> Option<(&[u8], &[u8])>
-    ensures { IfSome result (λ r. EndsSweptPiece r.0.now × (bytes.now ≡ r.0.now ++ r.1.now)) }
+fn first_piece(bytes: &[u8]) -> Option<(&[u8], &[u8])>
+    ensures { IfSome result (λ r. EndsWithNewline r.0.now × (bytes.now ≡ r.0.now ++ r.1.now)) }
 {
     let (_, later) = bytes.split_at(PIECE_SIZE.min(bytes.len() / 2));
     let (_, after) = cut(later, b'\n');

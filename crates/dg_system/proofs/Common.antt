@@ -1,6 +1,6 @@
 -- The names that the proofs of this crate cite, passed on from one place. Declares nothing.
-pub use Rattle.dg_system.specs.AllHeld.{IsFirstUnreadSource, MayHoldAllSourceBytes}
-pub use Rattle.dg_system.specs.Held.{Held, MayHoldSourceBytes, RefusesSource}
+pub use Rattle.dg_system.specs.AllHeld.{IsFirstUnread, MayHoldAll}
+pub use Rattle.dg_system.specs.Held.{Held, MayHold, IsSourceFault}
 pub use Rattle.dg_system.specs.declared.sources.SourceFault.{SourceFault}
 pub use Rattle.dg_system.specs.declared.sources.SourceFault.TheVariants.{OutOfMemory}
 pub use Rattle.std.proofs.Common.{Bor, Global, IfSome, List, None, Option, Some, Vec, [], ap, append-nil, append_assoc, arith, drop, length, map, refl, rules, subst, sym, take, ℕ, ◌++◌, ◌+◌, ◌-◌, ◌<◌, ◌∙◌, ◌∷◌, ◌≡◌, ◌≤◌}

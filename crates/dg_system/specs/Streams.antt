@@ -1,10 +1,10 @@
 -- What is known of a file that is read as it comes.
---   stream_remaining known s    == the bytes that it has yet to give, if they are known: those in memory, or
---                                  what is known of the file that was opened
---   MayGiveAsStream h left      == these may be all bytes of the file, of any number: if it is known to have
---                                  other bytes, or to be missing, they are not
---   RefusesSourceStream h fault == the file may be refused so: as unreadable if it is not known to be in
---                                  memory; of want of memory nothing is said
+--   stream_remaining known s == the bytes that it has yet to give, if they are known: those in memory, or
+--                               what is known of the file that was opened
+--   MayGive h left           == these may be all bytes of the file, of any number: if it is known to have
+--                               other bytes, or to be missing, they are not
+--   IsStreamFault h fault    == the file may be refused so: as unreadable if it is not known to be in
+--                               memory; of want of memory nothing is said
 use Rattle.std.specs.Prelude.{◌≡◌, ℕ, List, Option, Some, ⊤}
 use Rattle.dg_system.specs.Held.{Held, unknown, missing, bytes}
 use Rattle.dg_system.specs.declared.sources.SourceFault.{SourceFault}
@@ -16,14 +16,14 @@ abbrev pub stream_remaining : {F : Type 0} → (F → Option (List ℕ)) → Str
 stream_remaining known (Opened file) = known file
 stream_remaining known (Kept left) = Some left.now
 
-abbrev pub MayGiveAsStream : Held → Option (List ℕ) → Type 0
-MayGiveAsStream unknown left = ⊤
-MayGiveAsStream missing left = ⊥
-MayGiveAsStream (bytes known) left = left ≡ Some known
+abbrev pub MayGive : Held → Option (List ℕ) → Type 0
+MayGive unknown left = ⊤
+MayGive missing left = ⊥
+MayGive (bytes known) left = left ≡ Some known
 
-abbrev pub RefusesSourceStream : Held → SourceFault → Type 0
-RefusesSourceStream h OutOfMemory = ⊤
-RefusesSourceStream unknown Unreadable = ⊤
-RefusesSourceStream missing Unreadable = ⊤
-RefusesSourceStream (bytes known) Unreadable = ⊥
-RefusesSourceStream h TooLong = ⊥
+abbrev pub IsStreamFault : Held → SourceFault → Type 0
+IsStreamFault h OutOfMemory = ⊤
+IsStreamFault unknown Unreadable = ⊤
+IsStreamFault missing Unreadable = ⊤
+IsStreamFault (bytes known) Unreadable = ⊥
+IsStreamFault h TooLong = ⊥

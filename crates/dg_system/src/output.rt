@@ -1,7 +1,7 @@
 //! Writers that remember whether they failed.
 ghost use Rattle.std.specs.Prelude.{◌≡◌, OnOk, OnErr, true, false, []};
 ghost use Rattle.std.specs.Io.KnownBytes.{Appends};
-ghost use Rattle.dg_system.specs.Growth.{AppendsFrontToStream};
+ghost use Rattle.dg_system.specs.Growth.{AppendsFront};
 
 use crate::retry::{retry_flush, retry_write};
 use std::io::Write;
@@ -61,7 +61,7 @@ impl<O: Write> Output<O> {
     pub fn write_whole(&mut self, text: &[u8]) -> Result<(), WriteFailed>
         ensures written { OnOk result (Appends self.old.contents self.new.contents text.now) }
         ensures front { OnErr result
-            (AppendsFrontToStream self.old.contents self.new.contents [] text.now) }
+            (AppendsFront self.old.contents self.new.contents [] text.now) }
         ensures failed { OnErr result (self.new.has_failed ≡ true) }
         ensures kept { OnOk result (self.new.has_failed ≡ self.old.has_failed) }
     {
@@ -79,7 +79,7 @@ impl<O: Write> Output<O> {
 fn write_and_flush<O: Write>(writer: &mut O, text: &[u8]) -> Result<(), WriteFailed>
     ensures written { OnOk result (Appends (O.contents writer.old) (O.contents writer.new) text.now) }
     ensures front { OnErr result
-        (AppendsFrontToStream (O.contents writer.old) (O.contents writer.new) [] text.now) }
+        (AppendsFront (O.contents writer.old) (O.contents writer.new) [] text.now) }
 {
     let mut at = 0;
     'writes: while at < text.len() {

@@ -1,6 +1,6 @@
 //! Files that are read one after another.
 ghost use Rattle.std.specs.Prelude.{map, IfOk, IfErr};
-ghost use Rattle.dg_system.specs.AllHeld.{MayHoldAllSourceBytes, IsFirstUnreadSource};
+ghost use Rattle.dg_system.specs.AllHeld.{MayHoldAll, IsFirstUnread};
 
 use crate::sources::{SourceFault, Sources};
 use std::rt::Files;
@@ -13,10 +13,10 @@ where
     R: Files + AllocGlobal,
     S: Sources,
     ensures read { IfOk result
-        (λ all. MayHoldAllSourceBytes (S.held sources.now) (map (λ name. name.now) names.now)
+        (λ all. MayHoldAll (S.held sources.now) (map (λ name. name.now) names.now)
         (map (λ file. file.items) all.items)) }
     ensures refused { IfErr result
-        (IsFirstUnreadSource (S.held sources.now) (map (λ name. name.now) names.now)) }
+        (IsFirstUnread (S.held sources.now) (map (λ name. name.now) names.now)) }
 {
     let mut all = Vec::new(rt.alloc());
     'names: for name in names {

@@ -26,7 +26,7 @@ pub(crate) fn retry_read<I: Read>(reader: &mut I, buffer: &mut [u8]) -> io::Resu
             }
         }
     }
-    Err(retry_given_up())
+    Err(interrupted_error())
 }
 
 /// One write of a front of the text, asked for again as long as it is interrupted.
@@ -47,7 +47,7 @@ pub(crate) fn retry_write<O: Write>(writer: &mut O, text: &[u8]) -> io::Result<u
             }
         }
     }
-    Err(retry_given_up())
+    Err(interrupted_error())
 }
 
 /// A flush, asked for again as long as it is interrupted.
@@ -67,11 +67,11 @@ pub(crate) fn retry_flush<O: Write>(writer: &mut O) -> io::Result<()>
             }
         }
     }
-    Err(retry_given_up())
+    Err(interrupted_error())
 }
 
 /// That 2^64 - 1 tries were interrupted, which nobody will see.
-fn retry_given_up() -> Error
+fn interrupted_error() -> Error
     ensures { error_kind result ≢ ErrorKind.Interrupted }
 {
     Error::from(ErrorKind::TimedOut)

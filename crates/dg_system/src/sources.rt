@@ -1,7 +1,7 @@
 //! Where the bytes of files come from.
 ghost use Rattle.std.specs.Prelude.{◌≡◌, ◌≢◌, ◌<◌, ◌≤◌, ℕ, List, length, map, vec_len, IfOk, IfErr, IfSome};
-ghost use Rattle.dg_system.specs.Held.{Held, MayHoldSourceBytes, RefusesSource, held_among_sources, held_by_source, unknown};
-ghost use Rattle.dg_system.specs.Streams.{MayGiveAsStream, RefusesSourceStream, stream_remaining};
+ghost use Rattle.dg_system.specs.Held.{Held, MayHold, IsSourceFault, held_among, held_from_read, unknown};
+ghost use Rattle.dg_system.specs.Streams.{MayGive, IsStreamFault, stream_remaining};
 ghost use Rattle.std.specs.Option.{option_copied};
 
 use crate::shortage::Shortage;
@@ -52,16 +52,16 @@ pub trait Sources {
     /// Refused with `Unreadable` if there is no such file or a read fails, with `TooLong` if one more byte can be
     /// read, and with `OutOfMemory` at the growth that was refused.
     fn bytes<R: Files + AllocGlobal>(&self, rt: &R, name: &str) -> Result<Vec<u8>, SourceFault>
-        ensures read { IfOk result (λ bytes. MayHoldSourceBytes (held self.now name.now) bytes.items) }
-        ensures refused { IfErr result (RefusesSource (held self.now name.now)) };
+        ensures read { IfOk result (λ bytes. MayHold (held self.now name.now) bytes.items) }
+        ensures refused { IfErr result (IsSourceFault (held self.now name.now)) };
 
     /// The file with this name, to be read as it comes; it may have any number of bytes, and need have no end.
     ///
     /// Refused with `Unreadable` if there is no such file, and with `OutOfMemory`.
     fn open<'s, R: Files>(&'s self, rt: &R, name: &str) -> Result<Stream<'s, R::File>, SourceFault>
         ensures opened { IfOk result
-            (λ s. MayGiveAsStream (held self.now name.now) (stream_remaining R.File.remaining s)) }
-        ensures refused { IfErr result (RefusesSourceStream (held self.now name.now)) };
+            (λ s. MayGive (held self.now name.now) (stream_remaining R.File.remaining s)) }
+        ensures refused { IfErr result (IsStreamFault (held self.now name.now)) };
 }
 
 /// The files of the machine.
@@ -95,13 +95,13 @@ pub struct MemoryFiles<'a> {
 
 impl Sources for MemoryFiles<'_> {
     ghost use Rattle.std.specs.Prelude.{map};
-    ghost use Rattle.dg_system.specs.Held.{held_among_sources};
+    ghost use Rattle.dg_system.specs.Held.{held_among};
 
-    ghost held = { λ shelf. held_among_sources (map (λ file. (file.0.now, file.1.now)) shelf.files.now) };
+    ghost held = { λ shelf. held_among (map (λ file. (file.0.now, file.1.now)) shelf.files.now) };
 
     fn bytes<R: Files + AllocGlobal>(&self, rt: &R, name: &str) -> Result<Vec<u8>, SourceFault> {
-        match source_found(self.files, name) {
-            Some(bytes) => copied_source(rt.alloc(), bytes),
+        match find_file(self.files, name) {
+            Some(bytes) => copy_within_limit(rt.alloc(), bytes),
             None => Err(SourceFault::Unreadable),
         }
     }
@@ -111,7 +111,7 @@ impl Sources for MemoryFiles<'_> {
         _rt: &R,
         name: &str,
     ) -> Result<Stream<'s, R::File>, SourceFault> {
-        match source_found(self.files, name) {
+        match find_file(self.files, name) {
             Some(bytes) => Ok(Stream::Kept(bytes)),
             None => Err(SourceFault::Unreadable),
         }
@@ -119,21 +119,21 @@ impl Sources for MemoryFiles<'_> {
 }
 
 /// The bytes of the first of the files with that name.
-#[tactic(auto, unfolding(crate::specs::Held::held_among_sources))]
-fn source_found<'a>(files: &[(&'a str, &'a [u8])], name: &str) -> Option<&'a [u8]>
-    ensures { held_among_sources (map (λ file. (file.0.now, file.1.now)) files.now) name.now
-        ≡ held_by_source (option_copied result) }
+#[tactic(auto, unfolding(crate::specs::Held::held_among))]
+fn find_file<'a>(files: &[(&'a str, &'a [u8])], name: &str) -> Option<&'a [u8]>
+    ensures { held_among (map (λ file. (file.0.now, file.1.now)) files.now) name.now
+        ≡ held_from_read (option_copied result) }
 {
     let (file, after) = files.split_first()?;
     if file.0 == name {
         Some(file.1)
     } else {
-        source_found(after, name)
+        find_file(after, name)
     }
 }
 
 /// A copy of the bytes, if they are at most 1,048,576.
-fn copied_source(alloc: Global, bytes: &[u8]) -> Result<Vec<u8>, SourceFault>
+fn copy_within_limit(alloc: Global, bytes: &[u8]) -> Result<Vec<u8>, SourceFault>
     ensures read { IfOk result (λ copy. (copy.items ≡ bytes.now) × (length bytes.now ≤ MAX_FILE)) }
     ensures refused { IfErr result (λ fault. fault ≢ SourceFault.Unreadable) }
     ensures long { result ≡ Err SourceFault.TooLong → MAX_FILE < length bytes.now }

@@ -23,13 +23,13 @@ pub fn in_parallel<R: Threads + Wait, F: FnMut() -> A + Send, G: FnMut() -> B, A
 {
     match run_both(rt, BorrowedTask { f }, BorrowedTask { f: g }) {
         Ok(((f, a), (g, b))) => {
-            end_borrow_of_thread(f);
-            end_borrow_of_thread(g);
+            end_borrow(f);
+            end_borrow(g);
             Ok((a, b))
         }
         Err((BorrowedTask { f }, BorrowedTask { f: g })) => {
-            end_borrow_of_thread(f);
-            end_borrow_of_thread(g);
+            end_borrow(f);
+            end_borrow(g);
             Err(Shortage::Spawn)
         }
     }
@@ -136,6 +136,6 @@ fn run_both<
 }
 
 /// Does nothing. This use of a reference that came back ties it, for the borrow checker, to the parameter that lent it.
-fn end_borrow_of_thread<T>(x: &mut T)
+fn end_borrow<T>(x: &mut T)
     ensures { x.new ≡ x.old }
 {}

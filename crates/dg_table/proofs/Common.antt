@@ -8,10 +8,10 @@ pub use Rattle.dg_rules.proofs.StateLaws.{right_in}
 pub use Rattle.dg_rules.proofs.StepLaw.{vertices_stay}
 pub use Rattle.dg_rules.specs.History.{gifts_in, position_after}
 pub use Rattle.dg_rules.specs.Legal.{IsLegal}
-pub use Rattle.dg_rules.specs.Look.{IsLookAt, ReplyKeepsFinding, request_for_finding, request_for_question}
+pub use Rattle.dg_rules.specs.Look.{IsLookAt, KeepsFinding, request_for_finding, request_for_question}
 pub use Rattle.dg_rules.specs.Position.{ShowsPosition}
 pub use Rattle.dg_rules.specs.Replies.{Replies}
-pub use Rattle.dg_rules.specs.State.{HistoryLeadsTo, GameState}
+pub use Rattle.dg_rules.specs.State.{LeadsTo, GameState}
 pub use Rattle.dg_rules.specs.declared.entry.Entry.{Entry}
 pub use Rattle.dg_rules.specs.declared.entry.Reply.{Reply}
 pub use Rattle.dg_rules.specs.declared.entry.Reply.TheVariants.{Looked, Rank as RankReply, Stale, Verdict}
@@ -22,21 +22,21 @@ pub use Rattle.dg_rules.specs.declared.finding.Finding.{Finding}
 pub use Rattle.dg_rules.specs.declared.finding.Finding.TheVariants.{Judged, Ranked}
 pub use Rattle.dg_rules.specs.declared.finding.Question.{Question}
 pub use Rattle.dg_rules.specs.declared.look.LookData.{LookData}
-pub use Rattle.dg_log.specs.Numbered.{IsPrefixOf, IsLongerPrefix, StandInLog}
+pub use Rattle.dg_log.specs.Numbered.{IsPrefixOf, IsLongerPrefix, StandIn}
 pub use Rattle.dg_log.specs.Tables.{TableData}
 pub use Rattle.dg_log.specs.Written.{Written}
 pub use Rattle.dg_log.specs.declared.name.Name.{Ghosts}
-pub use Rattle.dg_table.specs.Answered.{IsAnsweredAtTableAfter, IsEnteredAfter, entering_at_table}
-pub use Rattle.dg_table.specs.Closing.{AllSeatsAttested, AllSeatsHeld, AttestedTablesAreOne, AreAuditTotals, TableHasSeat, SeatsHaveMetHistory, IsCloseRefused, IsTableComplete}
-pub use Rattle.dg_table.specs.Faults.{RefusesSettlingAtTable, RefusesSeatAtTable}
-pub use Rattle.dg_table.specs.Histories.{IsHistoryOfTable}
-pub use Rattle.dg_table.specs.Lock.{AreSeatCounts, IsLookKeptBySeat, IsReady, IsRollAfter, IsSeatState, IsTallyShown, IsTallySigned, IsUnderLock, tally_of_seat}
-pub use Rattle.dg_table.specs.Looks.{KeptLookHasVertices, IsLastLookOfSeat, IsLookOfSeat, SeatKeepsLastLook, asks_for_look, is_look_of_seat, last_look_of_seat}
-pub use Rattle.dg_table.specs.Opened.{AreFreshSeats}
-pub use Rattle.dg_table.specs.SeatLaws.{SeatEntriesStand, SeatHasNoEntries, OneSeatHasAll, OtherSeatsEntry, OwnSeatsEntry}
-pub use Rattle.dg_table.specs.Seats.{AreOfTableSeats, HoldsSeat, IsAdmissibleSeat, IsSeatAttested, SeatMeetsHistory, SeatView, entries_of_seat}
-pub use Rattle.dg_table.specs.Settled.{IsSettledForSeat, IsNotStaleAtTableAfter, IsSettledAtTableAfter, IsStaleAtTableAfter}
-pub use Rattle.dg_table.specs.Turns.{IsAskedToEnter, asking_at_table}
+pub use Rattle.dg_table.specs.Answered.{IsAnsweredAfter, IsEnteredAfter, entering}
+pub use Rattle.dg_table.specs.Closing.{AttestsAll, HoldsAllSeats, AttestedIsUnique, AreAuditTotals, HasSeat, HaveMet, IsCloseRefused, AreAllSeats}
+pub use Rattle.dg_table.specs.Faults.{RefusesSettling, RefusesStep}
+pub use Rattle.dg_table.specs.Histories.{IsHistoryOf}
+pub use Rattle.dg_table.specs.Lock.{AreSeatCounts, IsKeptLook, IsReady, IsRollAfter, IsSeatState, IsTallyShown, IsTallySigned, IsUnderLock, tally_of}
+pub use Rattle.dg_table.specs.Looks.{IsSizedLook, IsLastLook, IsLookOf, KeepsLastLook, asks_for_look, is_look, last_look}
+pub use Rattle.dg_table.specs.Opened.{AreFresh}
+pub use Rattle.dg_table.specs.SeatLaws.{SeatEntriesStand, SeatStartsEmpty, AloneHasAll, OtherSeatsEntry, OwnSeatsEntry}
+pub use Rattle.dg_table.specs.Seats.{AreOfSeats, HoldsKnown, IsAdmissible, Attests, HasMet, SeatView, entries_of}
+pub use Rattle.dg_table.specs.Settled.{IsSettledReply, IsNotStaleAfter, IsSettledAfter, IsStaleAfter}
+pub use Rattle.dg_table.specs.Turns.{IsAskedToEnter, asking}
 pub use Rattle.dg_table.specs.declared.audit.Audit.{Audit}
 pub use Rattle.dg_table.specs.declared.fault.Fault.{Fault}
 pub use Rattle.dg_table.specs.declared.fault.Fault.TheVariants.{Full, Log, OutOfMemory}

@@ -6,11 +6,11 @@
 --   none_past        a history of the seats 1 to n has no entry of a seat past n
 --   seats_counted    the numbers of the entries of the seats 1 to n add up to the length of their history
 --   all_counted      the counts of all seats add up to the length of the history
-use Rattle.dg_table.proofs.Common.{◌≡◌, ◌≢◌, ℕ, zero, suc, ◌+◌, ◌<◌, ◌≤◌, ◌==◌, Bool, true, false, cond, List, [], ◌∷◌, ◌++◌, length, get_or, set, slice_get, Some, sum, arith, refl, sym, ap, ◌∙◌, inl, inr, eq-eqb, get_or-set_same, get_or-set_other, length_push, sum_by-cons, ne_eqb, cases_eq, Entry, MAX_SEATS, more_holds, AreSeatCounts, AreOfTableSeats, entries_of_seat}
+use Rattle.dg_table.proofs.Common.{◌≡◌, ◌≢◌, ℕ, zero, suc, ◌+◌, ◌<◌, ◌≤◌, ◌==◌, Bool, true, false, cond, List, [], ◌∷◌, ◌++◌, length, get_or, set, slice_get, Some, sum, arith, refl, sym, ap, ◌∙◌, inl, inr, eq-eqb, get_or-set_same, get_or-set_other, length_push, sum_by-cons, ne_eqb, cases_eq, Entry, MAX_SEATS, more_holds, AreSeatCounts, AreOfSeats, entries_of}
 use Rattle.dg_table.proofs.Entries.{entries_from, own_more, other_more}
 
-pub seated_more : (n : ℕ) (H : List Entry) (e : Entry) → AreOfTableSeats n H → 1 ≤ e.seat → e.seat ≤ n →
-    AreOfTableSeats n (H ++ e ∷ [])
+pub seated_more : (n : ℕ) (H : List Entry) (e : Entry) → AreOfSeats n H → 1 ≤ e.seat → e.seat ≤ n →
+    AreOfSeats n (H ++ e ∷ [])
 seated_more n H e seated least most k x at = elim (more_holds H e k x at) [
   | inl old ↦ seated k x old.1
   | inr last ↦ rw last.1 (least, most)
@@ -26,8 +26,8 @@ counted_more counts H e s c counted places own inside more t below = elim (cases
       let within : s < length counts = omega arith in
       let now : get_or (set counts s c) t 0 ≡ c =
       ap (λ i. get_or (set counts s c) i 0) same ∙ get_or-set_same counts s c 0 within in
-      let size : length (entries_of_seat (t + 1) (H ++ e ∷ [])) ≡ length (entries_of_seat (t + 1) H) + 1 =
-      ap length mine ∙ length_push (entries_of_seat (t + 1) H) (length H, e) in
+      let size : length (entries_of (t + 1) (H ++ e ∷ [])) ≡ length (entries_of (t + 1) H) + 1 =
+      ap length mine ∙ length_push (entries_of (t + 1) H) (length H, e) in
       let at : get_or counts s 0 ≡ get_or counts t 0 = ap (λ i. get_or counts i 0) (sym same) in
       omega arith
   | inr apart ↦
@@ -45,7 +45,7 @@ none_from s n (e ∷ H) others =
     ap (λ b. cond b ((n, e) ∷ entries_from s (n + 1) H) (entries_from s (n + 1) H)) (ne_eqb e.seat s (others 0 e refl))
     ∙ none_from s (n + 1) H (λ k x at. others (suc k) x at)
 
-pub none_past : (n s : ℕ) (H : List Entry) → AreOfTableSeats n H → n < s → entries_of_seat s H ≡ []
+pub none_past : (n s : ℕ) (H : List Entry) → AreOfSeats n H → n < s → entries_of s H ≡ []
 none_past n s H seated prefix = none_from s 0 H (λ k e at is. let few = (seated k e at).1 in omega arith)
 
 -- the sum of m values of f, from that at a on
@@ -103,7 +103,7 @@ length-cond : {X : Type 0} (b : Bool) (x : X) (xs : List X) → length (cond b (
 length-cond true x xs = omega arith
 length-cond false x xs = omega arith
 
-counted_from : (m n : ℕ) (H : List Entry) → AreOfTableSeats m H →
+counted_from : (m n : ℕ) (H : List Entry) → AreOfSeats m H →
     total (λ s. length (entries_from (s + 1) n H)) 0 m ≡ length H
 counted_from m n [] seated = total-zero 0 m
 counted_from m n (e ∷ H) seated =
@@ -117,13 +117,13 @@ counted_from m n (e ∷ H) seated =
     omega arith
 
 pub seats_counted : (n : ℕ) (counts : List ℕ) (H : List Entry) → length counts ≡ n →
-    ((i : ℕ) → i < n → get_or counts i 0 ≡ length (entries_of_seat (i + 1) H)) → AreOfTableSeats n H → sum counts ≡ length H
+    ((i : ℕ) → i < n → get_or counts i 0 ≡ length (entries_of (i + 1) H)) → AreOfSeats n H → sum counts ≡ length H
 seats_counted n counts H places counted seated =
-    let own : ℕ → ℕ = λ s. length (entries_of_seat (s + 1) H) in
+    let own : ℕ → ℕ = λ s. length (entries_of (s + 1) H) in
     let start : (i : ℕ) → 0 + i ≡ i = λ i. omega arith in
     sum_is-total own 0 counts (λ i below. counted i (omega arith) ∙ ap own (sym (start i)))
     ∙ ap (total own 0) places ∙ counted_from n 0 H seated
 
 pub all_counted : (counts : List ℕ) (H : List Entry) → AreSeatCounts counts H → length counts ≡ MAX_SEATS →
-    AreOfTableSeats MAX_SEATS H → sum counts ≡ length H
+    AreOfSeats MAX_SEATS H → sum counts ≡ length H
 all_counted counts H counted places seated = seats_counted MAX_SEATS counts H places counted seated

@@ -9,42 +9,42 @@
 --   stale_both       the reply to a finding on an entry is stale just where a gift was accepted after it
 --   carried_over     where none was, the finding is carried to the position now
 --   look_stands      what is kept of an entry of a legal history that is a look, is of a look of it
-use Rattle.dg_table.proofs.Common.{◌≡◌, ◌≢◌, ◌↔◌, ℕ, Bool, true, false, cond, List, [], ◌∷◌, ◌++◌, take, slice_get, Option, Some, None, refl, sym, ap, subst, ◌∙◌, filter, last_or, append-nil, same_Some, filter-append, Multigraph, StartData, Vector, position_after, gifts_in, IsLegal, IsLookAt, request_for_finding, ReplyKeepsFinding, Replies, Entry, Request, Look, Reply, Looked, Verdict, Stale, Finding, Judged, Ranked, LookData, legal_looks, vertices_stay, IsLookKeptBySeat, SeatKeepsLastLook, KeptLookHasVertices, IsLastLookOfSeat, IsLookOfSeat, is_look_of_seat, last_look_of_seat, asks_for_look, IsSettledForSeat, RankReply}
+use Rattle.dg_table.proofs.Common.{◌≡◌, ◌≢◌, ◌↔◌, ℕ, Bool, true, false, cond, List, [], ◌∷◌, ◌++◌, take, slice_get, Option, Some, None, refl, sym, ap, subst, ◌∙◌, filter, last_or, append-nil, same_Some, filter-append, Multigraph, StartData, Vector, position_after, gifts_in, IsLegal, IsLookAt, request_for_finding, KeepsFinding, Replies, Entry, Request, Look, Reply, Looked, Verdict, Stale, Finding, Judged, Ranked, LookData, legal_looks, vertices_stay, IsKeptLook, KeepsLastLook, IsSizedLook, IsLastLook, IsLookOf, is_look, last_look, asks_for_look, IsSettledReply, RankReply}
 
 last_or-snoc : {A : Type 0} (o : Option A) (xs : List A) (x : A) → last_or o (xs ++ x ∷ []) ≡ Some x
 last_or-snoc o [] x = refl
 last_or-snoc o (y ∷ xs) x = last_or-snoc (Some y) xs x
 
-pub last_after : SeatKeepsLastLook
+pub last_after : KeepsLastLook
 last_after ps p look =
-    let test : is_look_of_seat p ≡ true = ap asks_for_look look in
-    ap (last_or None) (filter-append is_look_of_seat ps (p ∷ [])
-    ∙ ap (λ (b : Bool). filter is_look_of_seat ps ++ cond b (p ∷ []) []) test)
-    ∙ last_or-snoc None (filter is_look_of_seat ps) p
+    let test : is_look p ≡ true = ap asks_for_look look in
+    ap (last_or None) (filter-append is_look ps (p ∷ [])
+    ∙ ap (λ (b : Bool). filter is_look ps ++ cond b (p ∷ []) []) test)
+    ∙ last_or-snoc None (filter is_look ps) p
 
-pub last_kept : (ps : List (ℕ × Entry)) (p : ℕ × Entry) → is_look_of_seat p ≡ false → last_look_of_seat (ps ++ p ∷ [])
-    ≡ last_look_of_seat ps
+pub last_kept : (ps : List (ℕ × Entry)) (p : ℕ × Entry) → is_look p ≡ false → last_look (ps ++ p ∷ [])
+    ≡ last_look ps
 last_kept ps p test =
-    ap (last_or None) (filter-append is_look_of_seat ps (p ∷ [])
-    ∙ ap (λ (b : Bool). filter is_look_of_seat ps ++ cond b (p ∷ []) []) test ∙ append-nil (filter is_look_of_seat ps))
+    ap (last_or None) (filter-append is_look ps (p ∷ [])
+    ∙ ap (λ (b : Bool). filter is_look ps ++ cond b (p ∷ []) []) test ∙ append-nil (filter is_look ps))
 
-pub look_kept : (o : StartData) (ps : List (ℕ × Entry)) (p : ℕ × Entry) (look : Option LookData) → is_look_of_seat p ≡ false →
-    IsLookKeptBySeat o ps look →
-    IsLookKeptBySeat o (ps ++ p ∷ []) look
+pub look_kept : (o : StartData) (ps : List (ℕ × Entry)) (p : ℕ × Entry) (look : Option LookData) → is_look p ≡ false →
+    IsKeptLook o ps look →
+    IsKeptLook o (ps ++ p ∷ []) look
 look_kept o ps p None test kept = record { last = last_kept ps p test ∙ kept.last; vertices = tt }
 look_kept o ps p (Some x) test kept =
     let (q, last, of) = kept.last in
     record { last = (q, last_kept ps p test ∙ last, of); vertices = kept.vertices }
 
-pub look_seen : (o : StartData) (ps : List (ℕ × Entry)) (p : ℕ × Entry) (x : LookData) → IsLookOfSeat p x →
-    KeptLookHasVertices o.graph.size x →
-    IsLookKeptBySeat o (ps ++ p ∷ []) (Some x)
+pub look_seen : (o : StartData) (ps : List (ℕ × Entry)) (p : ℕ × Entry) (x : LookData) → IsLookOf p x →
+    IsSizedLook o.graph.size x →
+    IsKeptLook o (ps ++ p ∷ []) (Some x)
 look_seen o ps p x of vertices = record { last = (p, last_after ps p of.look, of); vertices = vertices }
 
 pub look_of : (ps : List (ℕ × Entry)) (p : ℕ × Entry) (x : LookData) → p.1.request ≡ Look →
-    IsLastLookOfSeat (ps ++ p ∷ []) (Some x) → IsLookOfSeat p x
+    IsLastLook (ps ++ p ∷ []) (Some x) → IsLookOf p x
 look_of ps p x look (q, last, of) =
-    subst (λ (r : ℕ × Entry). IsLookOfSeat r x) (same_Some q p (sym last ∙ last_after ps p look)) of
+    subst (λ (r : ℕ × Entry). IsLookOf r x) (same_Some q p (sym last ∙ last_after ps p look)) of
 
 pub look_asked : (o : StartData) (H : List Entry) (request : Request) (n : ℕ) (d : Vector) (g : Multigraph) →
     Replies o H request (Looked n d g) → request ≡ Look
@@ -53,7 +53,7 @@ look_asked o H request n d g right = absurd right
 
 pub looked_vertices : (o : StartData) (H : List Entry) (x : LookData) →
     Replies o H Look (Looked x.gifts x.position x.graph) →
-    KeptLookHasVertices o.graph.size x
+    IsSizedLook o.graph.size x
 looked_vertices o H x right =
     let (count, shows, graph) = right in
     let size : x.graph.size ≡ o.graph.size = ap (λ (g : Multigraph). g.size) graph ∙ vertices_stay o H in
@@ -68,16 +68,16 @@ stale_both o H i (Ranked v) (RankReply w) right = ((λ other. absurd (other righ
 stale_both o H i (Ranked v) (Stale count) right = ((λ other. ap Stale right.1), (λ is. right.0))
 stale_both o H i f reply right = absurd right
 
-pub carried_over : (o : StartData) (H : List Entry) (i : ℕ) (f : Finding) (reply : Reply) → ReplyKeepsFinding f reply →
+pub carried_over : (o : StartData) (H : List Entry) (i : ℕ) (f : Finding) (reply : Reply) → KeepsFinding f reply →
     Replies o H (request_for_finding i f) reply → gifts_in (take i H) ≡ gifts_in H
-    → IsSettledForSeat (position_after o H) o.q f reply
+    → IsSettledReply (position_after o H) o.q f reply
 carried_over o H i (Judged v) (Verdict w) kept right same = (right.1, rw kept.0 at right.1.led)
 carried_over o H i (Judged v) (Stale count) kept right same = right.0 same
 carried_over o H i (Ranked v) (RankReply w) kept right same = right.1
 carried_over o H i (Ranked v) (Stale count) kept right same = right.0 same
 carried_over o H i f reply kept right same = absurd right
 
-pub look_stands : (o : StartData) (H : List Entry) (p : ℕ × Entry) (x : LookData) → IsLegal o H → IsLookOfSeat p x →
+pub look_stands : (o : StartData) (H : List Entry) (p : ℕ × Entry) (x : LookData) → IsLegal o H → IsLookOf p x →
     slice_get H p.0 ≡ Some p.1 → IsLookAt o H x
 look_stands o H p x legal of stands =
     legal_looks o H p.1 x legal (ap (slice_get H) of.number ∙ stands) of.look of.shown

@@ -3,14 +3,14 @@
 --   stand_longer   entries that stand in a history stand in a longer one
 --   begins_on      what begins the beginning of a history begins the history
 --   begins_length  and has no more entries
-use Rattle.dg_table.proofs.Common.{◌≡◌, ℕ, ◌≤◌, List, [], ◌∷◌, ◌++◌, length, length-append, slice_get, Some, ap, arith, append_assoc, ◌∙◌, slice_get_within, Entry, slice_get-append, StandInLog, IsPrefixOf}
+use Rattle.dg_table.proofs.Common.{◌≡◌, ℕ, ◌≤◌, List, [], ◌∷◌, ◌++◌, length, length-append, slice_get, Some, ap, arith, append_assoc, ◌∙◌, slice_get_within, Entry, slice_get-append, StandIn, IsPrefixOf}
 
-pub stand_more : (H : List Entry) (ps : List (ℕ × Entry)) (p : ℕ × Entry) → StandInLog H ps → slice_get H p.0 ≡ Some p.1 →
-    StandInLog H (ps ++ p ∷ [])
+pub stand_more : (H : List Entry) (ps : List (ℕ × Entry)) (p : ℕ × Entry) → StandIn H ps → slice_get H p.0 ≡ Some p.1 →
+    StandIn H (ps ++ p ∷ [])
 stand_more H [] p stand at = (at, tt)
 stand_more H (q ∷ ps) p (first, stand) at = (first, stand_more H ps p stand at)
 
-pub stand_longer : (H L : List Entry) (ps : List (ℕ × Entry)) → StandInLog H ps → StandInLog (H ++ L) ps
+pub stand_longer : (H L : List Entry) (ps : List (ℕ × Entry)) → StandIn H ps → StandIn (H ++ L) ps
 stand_longer H L [] stand = tt
 stand_longer H L (p ∷ ps) (at, stand) =
     (slice_get-append H L p.0 (slice_get_within H p.0 p.1 at) ∙ at, stand_longer H L ps stand)

@@ -4,7 +4,7 @@
 --   tally_more   the tally of a seat after one more call of its own
 --   tally_shown  a tally that is set to what a seat's is
 --   set_same     a place that is set to what it holds
-use Rattle.dg_table.proofs.Common.{◌≡◌, ◌≢◌, ℕ, zero, suc, ◌+◌, List, [], ◌∷◌, ◌++◌, length, map, slice_get, Some, arith, sym, ap, ◌∙◌, inl, inr, length_push, cases_eq, same_Some, slice_set, Entry, SeatView, entries_of_seat, IsRollAfter, IsTallySigned, tally_of_seat}
+use Rattle.dg_table.proofs.Common.{◌≡◌, ◌≢◌, ℕ, zero, suc, ◌+◌, List, [], ◌∷◌, ◌++◌, length, map, slice_get, Some, arith, sym, ap, ◌∙◌, inl, inr, length_push, cases_eq, same_Some, slice_set, Entry, SeatView, entries_of, IsRollAfter, IsTallySigned, tally_of}
 use Rattle.dg_table.proofs.Entries.{own_more, other_more}
 use Rattle.dg_table.proofs.Placed.{get_set, get_other}
 
@@ -21,21 +21,21 @@ pub roll_more : {ts ts' : List (ℕ × ℕ)} {x y : SeatView} (H : List Entry) (
     IsRollAfter (H ++ e ∷ []) ts'
 roll_more {ts} {ts'} {x} {y} H e roll own prefix mine signed i t at = elim (cases_eq i signed.place) [
   | inl same ↦
-      let tally : t ≡ tally_of_seat y = same_Some t (tally_of_seat y)
+      let tally : t ≡ tally_of y = same_Some t (tally_of y)
       (sym at ∙ ap (λ (us : List (ℕ × ℕ)). slice_get us i) signed.now
-      ∙ ap (slice_get (slice_set ts signed.place (tally_of_seat y))) same
-      ∙ get_set ts signed.place (tally_of_seat x) (tally_of_seat y) signed.was) in
+      ∙ ap (slice_get (slice_set ts signed.place (tally_of y))) same
+      ∙ get_set ts signed.place (tally_of x) (tally_of y) signed.was) in
       let found : t.0 ≡ length (H ++ e ∷ []) = ap (λ (q : ℕ × ℕ). q.0) tally ∙ ap length prefix in
       let number : i + 1 ≡ x.number = ap (λ k. k + 1) same ∙ signed.number in
       let now : t.1 ≡ length x.mine + 1 =
       ap (λ (q : ℕ × ℕ). q.1) tally ∙ ap length mine ∙ length_push x.mine (length H, e) in
-      let more : length (entries_of_seat (i + 1) (H ++ e ∷ [])) ≡ length (entries_of_seat (i + 1) H) + 1 =
-      ap length (own_more (i + 1) H e (own ∙ sym number)) ∙ length_push (entries_of_seat (i + 1) H) (length H, e) in
-      let was : length x.mine ≡ length (entries_of_seat (i + 1) H) =
-      (roll signed.place (tally_of_seat x) signed.was).1 ∙ ap (λ k. length (entries_of_seat (k + 1) H)) (sym same) in
+      let more : length (entries_of (i + 1) (H ++ e ∷ [])) ≡ length (entries_of (i + 1) H) + 1 =
+      ap length (own_more (i + 1) H e (own ∙ sym number)) ∙ length_push (entries_of (i + 1) H) (length H, e) in
+      let was : length x.mine ≡ length (entries_of (i + 1) H) =
+      (roll signed.place (tally_of x) signed.was).1 ∙ ap (λ k. length (entries_of (k + 1) H)) (sym same) in
       (omega (arith, found), omega (arith, now, more, was))
   | inr apart ↦
-      let there : slice_get ts i ≡ Some t = sym (get_other ts signed.place i (tally_of_seat y) apart)
+      let there : slice_get ts i ≡ Some t = sym (get_other ts signed.place i (tally_of y) apart)
       ∙ ap (λ (us : List (ℕ × ℕ)). slice_get us i) (sym signed.now) ∙ at in
       let was = roll i t there in
       let another : e.seat ≢ i + 1 = λ is. apart (omega (arith, is, own, signed.number)) in (

@@ -13,26 +13,26 @@
 --                 is refused
 --   held_none     what the lock holds at the start
 --   held_more     what the lock holds after one more entry
-use Rattle.dg_table.proofs.Common.{inl, inr, ◌≡◌, ◌≢◌, Option, take, ℕ, ◌+◌, ◌<◌, ◌≤◌, List, [], ◌∷◌, ◌++◌, length, get_or, set, slice_get, Some, arith, refl, sym, ap, subst, ◌∙◌, length-set, length_push, append-nil, slice_get_within, StartData, IsLegal, gifts_in, IsLookAt, request_for_finding, request_for_question, ReplyKeepsFinding, Replies, GameState, HistoryLeadsTo, Entry, MAX_SEATS, Stale, Request, Finding, Question, LookData, legal_none, slice_get-append, entering_at_table, IsEnteredAfter, IsAnsweredAtTableAfter, RefusesSeatAtTable, RefusesSettlingAtTable, Fault, OutOfMemory, Full, Log, IsUnderLock, IsReady, IsLookKeptBySeat, IsSeatState, IsPrefixOf, IsHistoryOfTable, IsLookOfSeat, SeatView, HoldsSeat, IsAdmissibleSeat, SeatMeetsHistory, AreOfTableSeats, entries_of_seat, IsSettledAtTableAfter, IsStaleAtTableAfter, IsNotStaleAtTableAfter, TableData, Written}
+use Rattle.dg_table.proofs.Common.{inl, inr, ◌≡◌, ◌≢◌, Option, take, ℕ, ◌+◌, ◌<◌, ◌≤◌, List, [], ◌∷◌, ◌++◌, length, get_or, set, slice_get, Some, arith, refl, sym, ap, subst, ◌∙◌, length-set, length_push, append-nil, slice_get_within, StartData, IsLegal, gifts_in, IsLookAt, request_for_finding, request_for_question, KeepsFinding, Replies, GameState, LeadsTo, Entry, MAX_SEATS, Stale, Request, Finding, Question, LookData, legal_none, slice_get-append, entering, IsEnteredAfter, IsAnsweredAfter, RefusesStep, RefusesSettling, Fault, OutOfMemory, Full, Log, IsUnderLock, IsReady, IsKeptLook, IsSeatState, IsPrefixOf, IsHistoryOf, IsLookOf, SeatView, HoldsKnown, IsAdmissible, HasMet, AreOfSeats, entries_of, IsSettledAfter, IsStaleAfter, IsNotStaleAfter, TableData, Written}
 use Rattle.dg_table.proofs.Entries.{own_more}
 use Rattle.dg_table.proofs.Findings.{stale_both, carried_over}
 use Rattle.dg_table.proofs.Numbered.{stand_more, stand_longer}
 use Rattle.dg_table.proofs.Counts.{seated_more, counted_more, counted_none}
 
-pub holds_more : (H : List Entry) (e : Entry) (x y : SeatView) → HoldsSeat H x → e.seat ≡ x.number → y.number ≡ x.number →
+pub holds_more : (H : List Entry) (e : Entry) (x y : SeatView) → HoldsKnown H x → e.seat ≡ x.number → y.number ≡ x.number →
     y.mine ≡ x.mine ++ (length H, e) ∷ [] → y.told ≡ x.told → y.prefix ≡ H ++ e ∷ [] → y.met ≡ H ++ e ∷ [] →
-    HoldsSeat (H ++ e ∷ []) y
+    HoldsKnown (H ++ e ∷ []) y
 holds_more H e x y holds own number mine told prefix met = record {
   prefix = ([], sym (append-nil (H ++ e ∷ [])) ∙ ap (λ K. K ++ []) (sym prefix));
   met = ([], sym (append-nil (H ++ e ∷ [])) ∙ ap (λ K. K ++ []) (sym met));
-  mine = ap (λ s. entries_of_seat s (H ++ e ∷ [])) number ∙ own_more x.number H e own
+  mine = ap (λ s. entries_of s (H ++ e ∷ [])) number ∙ own_more x.number H e own
       ∙ ap (λ ps. ps ++ (length H, e) ∷ []) holds.mine ∙ sym mine;
   told = rw told (stand_longer H (e ∷ []) x.told holds.told);
 }
 
-pub history_more : (table : TableData) (H : List Entry) (e : Entry) → AreOfTableSeats table.seats H → 1 ≤ e.seat →
+pub history_more : (table : TableData) (H : List Entry) (e : Entry) → AreOfSeats table.seats H → 1 ≤ e.seat →
     e.seat ≤ table.seats →
-    length H < table.capacity → IsLegal table.start (H ++ e ∷ []) → IsHistoryOfTable table (H ++ e ∷ [])
+    length H < table.capacity → IsLegal table.start (H ++ e ∷ []) → IsHistoryOf table (H ++ e ∷ [])
 history_more table H e seated least most room legal = record {
   legal = legal;
   few = omega (arith, length_push H e);
@@ -40,8 +40,8 @@ history_more table H e seated least most room legal = record {
 }
 
 pub kept_more : {table : TableData} {x y : SeatView} {told : List (ℕ × Entry)} {look next : Option LookData}
-    (H : List Entry) (e : Entry) → IsSeatState table x told look → IsHistoryOfTable table (H ++ e ∷ []) →
-    entries_of_seat x.number H ≡ x.mine → e.seat ≡ x.number → IsLookKeptBySeat table.start (x.mine ++ (length H, e) ∷ []) next →
+    (H : List Entry) (e : Entry) → IsSeatState table x told look → IsHistoryOf table (H ++ e ∷ []) →
+    entries_of x.number H ≡ x.mine → e.seat ≡ x.number → IsKeptLook table.start (x.mine ++ (length H, e) ∷ []) next →
     y.number ≡ x.number → y.mine ≡ x.mine ++ (length H, e) ∷ [] → y.told ≡ x.told → y.prefix ≡ H ++ e ∷ [] →
     y.met ≡ H ++ e ∷ [] → IsSeatState table y told next
 kept_more {table} {x} {y} {told} {look} {next} H e seated found held own last number mine heard prefix met = record {
@@ -56,10 +56,10 @@ kept_more {table} {x} {y} {told} {look} {next} H e seated found held own last nu
 }
 
 pub answered : {table : TableData} {H : List Entry} {x : SeatView} (e : Entry) (y : SeatView) →
-    Replies table.start H e.request e.reply → IsHistoryOfTable table (H ++ e ∷ []) → HoldsSeat H x → e.seat ≡ x.number →
+    Replies table.start H e.request e.reply → IsHistoryOf table (H ++ e ∷ []) → HoldsKnown H x → e.seat ≡ x.number →
     y.number ≡ x.number →
     y.mine ≡ x.mine ++ (length H, e) ∷ [] → y.told ≡ x.told → y.prefix ≡ H ++ e ∷ [] → y.met ≡ H ++ e ∷ [] →
-    IsAnsweredAtTableAfter table e.request (entering_at_table H (length H, e) x y)
+    IsAnsweredAfter table e.request (entering H (length H, e) x y)
 answered {table} {H} {x} e y replies history holds own number mine told prefix met = record {
   place = refl;
   seat = own;
@@ -77,10 +77,10 @@ answered {table} {H} {x} e y replies history holds own number mine told prefix m
 
 pub told_of : {table : TableData} {H : List Entry} {request : Request} {r : ℕ × Entry} {s m : SeatView}
     (look : ℕ × Entry) (t : SeatView) →
-    IsAnsweredAtTableAfter table request (entering_at_table H r s m) → slice_get H look.0 ≡ Some look.1 →
+    IsAnsweredAfter table request (entering H r s m) → slice_get H look.0 ≡ Some look.1 →
     t.number ≡ m.number → t.mine ≡ m.mine → t.told ≡ m.told ++ look ∷ [] → t.prefix ≡ m.prefix →
     t.met ≡ m.met →
-    IsEnteredAfter table request (s.told ++ look ∷ []) (entering_at_table H r s t)
+    IsEnteredAfter table request (s.told ++ look ∷ []) (entering H r s t)
 told_of {table} {H} {request} {r} {s} {m} look t answered stands number mine told prefix met =
     let hears : t.told ≡ s.told ++ look ∷ [] = told ∙ ap (λ ps. ps ++ look ∷ []) answered.told in
     let there : slice_get (H ++ r.1 ∷ []) look.0 ≡ Some look.1 =
@@ -95,7 +95,7 @@ told_of {table} {H} {request} {r} {s} {m} look t answered stands number mine tol
       holds = record {
         prefix = subst (λ K. IsPrefixOf K (H ++ r.1 ∷ [])) (sym prefix) answered.holds.prefix;
         met = subst (λ K. IsPrefixOf K (H ++ r.1 ∷ [])) (sym met) answered.holds.met;
-        mine = ap (λ s. entries_of_seat s (H ++ r.1 ∷ [])) number ∙ answered.holds.mine ∙ sym mine;
+        mine = ap (λ s. entries_of s (H ++ r.1 ∷ [])) number ∙ answered.holds.mine ∙ sym mine;
         told = rw told (stand_more (H ++ r.1 ∷ []) m.told look answered.holds.told there);
       };
       number = number ∙ answered.number;
@@ -107,17 +107,17 @@ told_of {table} {H} {request} {r} {s} {m} look t answered stands number mine tol
 
 pub settled : (table : TableData) (H : List Entry) (look : ℕ × Entry) (x : LookData) (f : Finding) (r : ℕ × Entry)
     (s m t : SeatView) →
-    IsAnsweredAtTableAfter table (request_for_finding x.number f) (entering_at_table H r s m) → IsLookOfSeat look x →
+    IsAnsweredAfter table (request_for_finding x.number f) (entering H r s m) → IsLookOf look x →
     slice_get H look.0 ≡ Some look.1 →
-    ReplyKeepsFinding f r.1.reply →
+    KeepsFinding f r.1.reply →
     t.number ≡ m.number → t.mine ≡ m.mine → t.told ≡ m.told ++ look ∷ [] → t.prefix ≡ m.prefix →
     t.met ≡ m.met →
-    IsSettledAtTableAfter table look f (entering_at_table H r s t)
+    IsSettledAfter table look f (entering H r s t)
 settled table H look x f r s m t answered of stands kept number mine told prefix met =
     let replies : Replies table.start H (request_for_finding look.0 f) r.1.reply =
     subst (λ i. Replies table.start H (request_for_finding i f) r.1.reply) of.number answered.reply in
     let answered_on = subst
-    (λ i. IsAnsweredAtTableAfter table (request_for_finding i f) (entering_at_table H r s m)) of.number answered in
+    (λ i. IsAnsweredAfter table (request_for_finding i f) (entering H r s m)) of.number answered in
     record {
       entered = told_of look t answered_on stands number mine told prefix met;
       stands = stands;
@@ -129,15 +129,15 @@ settled table H look x f r s m t answered of stands kept number mine told prefix
 pub staled : (table : TableData) (H : List Entry) (look : ℕ × Entry) (x : LookData) (asks : Question)
     (game : GameState) (r : ℕ × Entry)
     (s m t : SeatView) →
-    IsAnsweredAtTableAfter table (request_for_question x.number asks) (entering_at_table H r s m) → IsLookOfSeat look x →
+    IsAnsweredAfter table (request_for_question x.number asks) (entering H r s m) → IsLookOf look x →
     slice_get H look.0 ≡ Some look.1 →
-    HistoryLeadsTo table.start H game → IsLookAt table.start H x → x.gifts ≢ game.gifts → r.1.reply ≡ Stale game.gifts →
+    LeadsTo table.start H game → IsLookAt table.start H x → x.gifts ≢ game.gifts → r.1.reply ≡ Stale game.gifts →
     t.number ≡ m.number → t.mine ≡ m.mine → t.told ≡ m.told ++ look ∷ [] → t.prefix ≡ m.prefix →
     t.met ≡ m.met →
-    IsStaleAtTableAfter table look asks (entering_at_table H r s t)
+    IsStaleAfter table look asks (entering H r s t)
 staled table H look x asks game r s m t answered of stands leads at other reply number mine told prefix met =
     let answered_on = subst
-    (λ i. IsAnsweredAtTableAfter table (request_for_question i asks) (entering_at_table H r s m)) of.number answered in
+    (λ i. IsAnsweredAfter table (request_for_question i asks) (entering H r s m)) of.number answered in
     record {
       entered = told_of look t answered_on stands number mine told prefix met;
       stands = stands;
@@ -146,9 +146,9 @@ staled table H look x asks game r s m t answered of stands leads at other reply 
     }
 
 pub not_stale : {table : TableData} {H : List Entry} {look : ℕ × Entry} {x : LookData} {game : GameState} {s t : SeatView} →
-    IsHistoryOfTable table H → IsReady table.capacity H s → slice_get H look.0 ≡ Some look.1 → IsLookOfSeat look x →
-    IsLookAt table.start H x → HistoryLeadsTo table.start H game → game.gifts ≡ x.gifts → SeatMeetsHistory H s t →
-    IsNotStaleAtTableAfter table look H s t
+    IsHistoryOf table H → IsReady table.capacity H s → slice_get H look.0 ≡ Some look.1 → IsLookOf look x →
+    IsLookAt table.start H x → LeadsTo table.start H game → game.gifts ≡ x.gifts → HasMet H s t →
+    IsNotStaleAfter table look H s t
 not_stale {H = H} history ready stands of at leads same met = record {
   history = history;
   holds = ready.holds;
@@ -165,8 +165,8 @@ not_stale {H = H} history ready stands of at leads same met = record {
 }
 
 pub settling_refused : (table : TableData) (p q : Written) (i : ℕ) (x : SeatView) (f : Fault) →
-    IsAdmissibleSeat p.entries x → i < length p.entries → RefusesSeatAtTable table p q x f
-    → RefusesSettlingAtTable table p q i x f
+    IsAdmissible p.entries x → i < length p.entries → RefusesStep table p q x f
+    → RefusesSettling table p q i x f
 settling_refused table p q i x OutOfMemory admissible read refused = refused
 settling_refused table p q i x Full admissible read refused = refused
 settling_refused table p q i x Log admissible read (room, refused) = (
@@ -177,7 +177,7 @@ settling_refused table p q i x Log admissible read (room, refused) = (
   ],
 )
 
-pub held_none : {o : StartData} {game : GameState} (seats : ℕ) (counts : List ℕ) → HistoryLeadsTo o [] game →
+pub held_none : {o : StartData} {game : GameState} (seats : ℕ) (counts : List ℕ) → LeadsTo o [] game →
     length counts ≡ MAX_SEATS → ((s : ℕ) → s < MAX_SEATS → get_or counts s 0 ≡ 0) → seats ≤ MAX_SEATS →
     IsUnderLock o seats [] game counts
 held_none {o} {game} seats counts leads places zeros few = record {
@@ -190,7 +190,7 @@ held_none {o} {game} seats counts leads places zeros few = record {
 }
 
 pub held_more : {o : StartData} {seats : ℕ} {H : List Entry} {game next : GameState} {counts : List ℕ} (e : Entry) (s c : ℕ) →
-    IsUnderLock o seats H game counts → IsLegal o (H ++ e ∷ []) → HistoryLeadsTo o (H ++ e ∷ []) next → e.seat ≡ s + 1 →
+    IsUnderLock o seats H game counts → IsLegal o (H ++ e ∷ []) → LeadsTo o (H ++ e ∷ []) next → e.seat ≡ s + 1 →
     e.seat ≤ seats → c ≡ get_or counts s 0 + 1 → IsUnderLock o seats (H ++ e ∷ []) next (set counts s c)
 held_more {o} {seats} {H} {game} {next} {counts} e s c held legal leads own few more = record {
   legal = legal;

@@ -1,10 +1,10 @@
 -- Closing a table.
---   TableHasSeat xs s            == the seat s is among the seats xs
---   IsTableComplete n xs         == each of the seats 1 to n is among the seats xs
---   AllSeatsHeld H xs            == the history H holds what each of the seats xs knows
---   AllSeatsAttested H xs        == each of the seats xs is attested by the history H
---   IsTableAttested table xs H   == H is a history of the table, and attests each of the seats xs
---   AttestedTablesAreOne         == no two histories of a table attest seats among which are all of the table's
+--   HasSeat xs s                 == the seat s is among the seats xs
+--   AreAllSeats n xs             == each of the seats 1 to n is among the seats xs
+--   HoldsAllSeats H xs           == the history H holds what each of the seats xs knows
+--   AttestsAll H xs              == each of the seats xs is attested by the history H
+--   IsAttested table xs H        == H is a history of the table, and attests each of the seats xs
+--   AttestedIsUnique             == no two histories of a table attest seats among which are all of the table's
 --   IsClosed table xs H          == H is a history of the table, and holds what each of the seats xs knows,
 --                                   among which are all of the table's
 --   AreAuditTotals table xs a    == what the audit a says of its history is so: the number of entries, the
@@ -15,40 +15,40 @@
 --   HasInadmissibleSeat H xs     == one of the seats xs is not admissible after H
 --   RefusesClose H n xs s        == s is the least seat that is missing; or s is 0, none is missing, and one
 --                                   of the seats is not admissible after H
---   SeatsHaveMetHistory H xs ys  == the seats ys are the seats xs, each of which has met H
+--   HaveMet H xs ys              == the seats ys are the seats xs, each of which has met H
 --   IsCloseRefused table xs ys s == after some history of the table the close with the seats xs is refused
 --                                   with s; they come back as ys, and have met that history
 use Rattle.std.specs.Prelude.{◌≡◌, ℕ, ◌+◌, ◌<◌, ◌≤◌, List, length, slice_get, Some, ◌⊎◌, sum}
 use Rattle.std.specs.List.{slice_index}
 use Rattle.dg_table.specs.Common.{ShowsPosition, position_after, gifts_in, Entry, MAX_SEATS, Ghosts, TableData}
-use Rattle.dg_table.specs.Histories.{IsHistoryOfTable}
-use Rattle.dg_table.specs.Seats.{SeatView, HoldsSeat, IsAdmissibleSeat, IsSeatAttested, SeatMeetsHistory}
+use Rattle.dg_table.specs.Histories.{IsHistoryOf}
+use Rattle.dg_table.specs.Seats.{SeatView, HoldsKnown, IsAdmissible, Attests, HasMet}
 use Rattle.dg_table.specs.declared.audit.Audit.{Audit}
 
-abbrev pub TableHasSeat : List SeatView → ℕ → Type 0
-TableHasSeat xs s = (i : ℕ) × (x : SeatView) × (slice_get xs i ≡ Some x) × (x.number ≡ s)
+abbrev pub HasSeat : List SeatView → ℕ → Type 0
+HasSeat xs s = (i : ℕ) × (x : SeatView) × (slice_get xs i ≡ Some x) × (x.number ≡ s)
 
-abbrev pub IsTableComplete : ℕ → List SeatView → Type 0
-IsTableComplete n xs = (s : ℕ) → 1 ≤ s → s ≤ n → TableHasSeat xs s
+abbrev pub AreAllSeats : ℕ → List SeatView → Type 0
+AreAllSeats n xs = (s : ℕ) → 1 ≤ s → s ≤ n → HasSeat xs s
 
-abbrev pub AllSeatsHeld : List Entry → List SeatView → Type 0
-AllSeatsHeld H xs = (i : ℕ) (x : SeatView) → slice_get xs i ≡ Some x → HoldsSeat H x
+abbrev pub HoldsAllSeats : List Entry → List SeatView → Type 0
+HoldsAllSeats H xs = (i : ℕ) (x : SeatView) → slice_get xs i ≡ Some x → HoldsKnown H x
 
-abbrev pub AllSeatsAttested : List Entry → List SeatView → Type 0
-AllSeatsAttested H xs = (i : ℕ) (x : SeatView) → slice_get xs i ≡ Some x → IsSeatAttested H x
+abbrev pub AttestsAll : List Entry → List SeatView → Type 0
+AttestsAll H xs = (i : ℕ) (x : SeatView) → slice_get xs i ≡ Some x → Attests H x
 
-pub record IsTableAttested (table : TableData) (xs : List SeatView) (H : List Entry) : Type 0 where
-  pub history : IsHistoryOfTable table H
-  pub attested : AllSeatsAttested H xs
+pub record IsAttested (table : TableData) (xs : List SeatView) (H : List Entry) : Type 0 where
+  pub history : IsHistoryOf table H
+  pub attested : AttestsAll H xs
 
-abbrev pub AttestedTablesAreOne : Type 0
-AttestedTablesAreOne = (table : TableData) (xs : List SeatView) (H K : List Entry) → IsTableComplete table.seats xs →
-    IsTableAttested table xs H → IsTableAttested table xs K → H ≡ K
+abbrev pub AttestedIsUnique : Type 0
+AttestedIsUnique = (table : TableData) (xs : List SeatView) (H K : List Entry) → AreAllSeats table.seats xs →
+    IsAttested table xs H → IsAttested table xs K → H ≡ K
 
 pub record IsClosed (table : TableData) (xs : List SeatView) (H : List Entry) : Type 0 where
-  pub history : IsHistoryOfTable table H
-  pub complete : IsTableComplete table.seats xs
-  pub held : AllSeatsHeld H xs
+  pub history : IsHistoryOf table H
+  pub complete : AreAllSeats table.seats xs
+  pub held : HoldsAllSeats H xs
 
 pub record AreAuditTotals {N : Type 0} {named : Ghosts N} (table : TableData) (xs : List SeatView)
     (a : Audit N named) : Type 0 where
@@ -63,21 +63,21 @@ pub record AreAuditTotals {N : Type 0} {named : Ghosts N} (table : TableData) (x
 
 pub record IsMissingSeat (n : ℕ) (xs : List SeatView) (s : ℕ) : Type 0 where
   pub seat : (1 ≤ s) × (s ≤ n)
-  pub missing : ¬ TableHasSeat xs s
-  pub least : (t : ℕ) → 1 ≤ t → t < s → TableHasSeat xs t
+  pub missing : ¬ HasSeat xs s
+  pub least : (t : ℕ) → 1 ≤ t → t < s → HasSeat xs t
 
 abbrev pub HasInadmissibleSeat : List Entry → List SeatView → Type 0
-HasInadmissibleSeat H xs = (i : ℕ) × (x : SeatView) × (slice_get xs i ≡ Some x) × (¬ IsAdmissibleSeat H x)
+HasInadmissibleSeat H xs = (i : ℕ) × (x : SeatView) × (slice_get xs i ≡ Some x) × (¬ IsAdmissible H x)
 
 abbrev pub RefusesClose : List Entry → ℕ → List SeatView → ℕ → Type 0
-RefusesClose H n xs s = IsMissingSeat n xs s ⊎ ((s ≡ 0) × IsTableComplete n xs × HasInadmissibleSeat H xs)
+RefusesClose H n xs s = IsMissingSeat n xs s ⊎ ((s ≡ 0) × AreAllSeats n xs × HasInadmissibleSeat H xs)
 
-pub record SeatsHaveMetHistory (H : List Entry) (xs ys : List SeatView) : Type 0 where
+pub record HaveMet (H : List Entry) (xs ys : List SeatView) : Type 0 where
   pub count : length ys ≡ length xs
-  pub each : (i : ℕ) (x y : SeatView) → slice_get xs i ≡ Some x → slice_get ys i ≡ Some y → SeatMeetsHistory H x y
+  pub each : (i : ℕ) (x y : SeatView) → slice_get xs i ≡ Some x → slice_get ys i ≡ Some y → HasMet H x y
 
 pub record IsCloseRefused (table : TableData) (xs ys : List SeatView) (s : ℕ) : Type 0 where
   pub history : List Entry
-  pub is : IsHistoryOfTable table history
+  pub is : IsHistoryOf table history
   pub refused : RefusesClose history table.seats xs s
-  pub met : SeatsHaveMetHistory history xs ys
+  pub met : HaveMet history xs ys

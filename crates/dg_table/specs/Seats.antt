@@ -1,31 +1,31 @@
 -- What a seat knows of the history.
---   entries_of_seat s H    == the entries of the seat s in the history H, each with its number, in order
---   AreOfTableSeats n H    == each entry of the history H is one of the seats 1 to n
---   SeatView               == a seat's number, the entries of its own calls, the entries that it was told of,
---                             the history as it found it at its last call, the longest history that it has
---                             met, whether it has space for one more call, and whether it has space to be
---                             told of one more entry
---   HoldsSeat H x          == the history H holds what the seat x knows: H begins with the histories that it
---                             found and has met; its entries in H are just those of its own calls, each once
---                             and in order; and every entry that it was told of stands in H at its number
---   IsAdmissibleSeat H x   == H has as many entries as the history that the seat x has met, or more, an entry
---                             of each number that it was told of, and as many of the seat's entries as it
---                             keeps
---   IsSeatAttested H x     == the history H attests the seat x: H begins with the one that the seat found at its last
---                             call, and its entries in H are just those of its own calls
---   Keeps x y              == the seat y is the seat x and knows the same, but that it may have met a longer
---                             history
---   SeatMeetsHistory H x y == the seat y is the seat x as it was, but that it has met the history H: of H and
---                             what it had met it keeps the longer
+--   entries_of s H   == the entries of the seat s in the history H, each with its number, in order
+--   AreOfSeats n H   == each entry of the history H is one of the seats 1 to n
+--   SeatView         == a seat's number, the entries of its own calls, the entries that it was told of,
+--                       the history as it found it at its last call, the longest history that it has
+--                       met, whether it has space for one more call, and whether it has space to be
+--                       told of one more entry
+--   HoldsKnown H x   == the history H holds what the seat x knows: H begins with the histories that it
+--                       found and has met; its entries in H are just those of its own calls, each once
+--                       and in order; and every entry that it was told of stands in H at its number
+--   IsAdmissible H x == H has as many entries as the history that the seat x has met, or more, an entry
+--                       of each number that it was told of, and as many of the seat's entries as it
+--                       keeps
+--   Attests H x      == the history H attests the seat x: H begins with the one that the seat found at its last
+--                       call, and its entries in H are just those of its own calls
+--   Keeps x y        == the seat y is the seat x and knows the same, but that it may have met a longer
+--                       history
+--   HasMet H x y     == the seat y is the seat x as it was, but that it has met the history H: of H and
+--                       what it had met it keeps the longer
 use Rattle.std.specs.Prelude.{◌≡◌, ℕ, ◌==◌, ◌≤◌, List, Bool, Some, length, slice_get}
 use Rattle.std.specs.List.{filter, enumerate_from}
-use Rattle.dg_table.specs.Common.{Entry, ReceiptsAreBelow, StandInLog, IsPrefixOf, IsLongerPrefix}
+use Rattle.dg_table.specs.Common.{Entry, AreBelow, StandIn, IsPrefixOf, IsLongerPrefix}
 
-abbrev pub entries_of_seat : ℕ → List Entry → List (ℕ × Entry)
-entries_of_seat s H = filter (λ p. p.1.seat == s) (enumerate_from 0 H)
+abbrev pub entries_of : ℕ → List Entry → List (ℕ × Entry)
+entries_of s H = filter (λ p. p.1.seat == s) (enumerate_from 0 H)
 
-abbrev pub AreOfTableSeats : ℕ → List Entry → Type 0
-AreOfTableSeats n H = (k : ℕ) (e : Entry) → slice_get H k ≡ Some e → (1 ≤ e.seat) × (e.seat ≤ n)
+abbrev pub AreOfSeats : ℕ → List Entry → Type 0
+AreOfSeats n H = (k : ℕ) (e : Entry) → slice_get H k ≡ Some e → (1 ≤ e.seat) × (e.seat ≤ n)
 
 pub record SeatView : Type 0 where
   pub number : ℕ
@@ -36,20 +36,20 @@ pub record SeatView : Type 0 where
   pub space : Bool
   pub hears : Bool
 
-pub record HoldsSeat (H : List Entry) (x : SeatView) : Type 0 where
+pub record HoldsKnown (H : List Entry) (x : SeatView) : Type 0 where
   pub prefix : IsPrefixOf x.prefix H
   pub met : IsPrefixOf x.met H
-  pub mine : entries_of_seat x.number H ≡ x.mine
-  pub told : StandInLog H x.told
+  pub mine : entries_of x.number H ≡ x.mine
+  pub told : StandIn H x.told
 
-pub record IsAdmissibleSeat (H : List Entry) (x : SeatView) : Type 0 where
+pub record IsAdmissible (H : List Entry) (x : SeatView) : Type 0 where
   pub met : length x.met ≤ length H
-  pub told : ReceiptsAreBelow (length H) x.told
-  pub count : length x.mine ≡ length (entries_of_seat x.number H)
+  pub told : AreBelow (length H) x.told
+  pub count : length x.mine ≡ length (entries_of x.number H)
 
-pub record IsSeatAttested (H : List Entry) (x : SeatView) : Type 0 where
+pub record Attests (H : List Entry) (x : SeatView) : Type 0 where
   pub prefix : IsPrefixOf x.prefix H
-  pub mine : entries_of_seat x.number H ≡ x.mine
+  pub mine : entries_of x.number H ≡ x.mine
 
 pub record Keeps (x y : SeatView) : Type 0 where
   pub number : y.number ≡ x.number
@@ -58,7 +58,7 @@ pub record Keeps (x y : SeatView) : Type 0 where
   pub prefix : y.prefix ≡ x.prefix
   pub met : IsPrefixOf x.met y.met
 
-pub record SeatMeetsHistory (H : List Entry) (x y : SeatView) : Type 0 where
+pub record HasMet (H : List Entry) (x y : SeatView) : Type 0 where
   pub number : y.number ≡ x.number
   pub mine : y.mine ≡ x.mine
   pub told : y.told ≡ x.told

@@ -1,24 +1,24 @@
 //! What the lock of a table holds.
 ghost use Rattle.std.specs.Prelude.{ℕ, List, Some, slice_get, ◌≡◌, ◌<◌, ◌≤◌, ◌↔◌, [], ◌∷◌, ◌++◌, true, false, length, IsTrue, IfOk, IfSome, IfErr, MatchOption, MatchResult, MatchBool, OnErr};
 ghost use Rattle.dg_chips.specs.Starts.{StartData};
-ghost use Rattle.dg_rules.specs.Legal.{IsSeatInGame, IsLegal};
+ghost use Rattle.dg_rules.specs.Legal.{IsSeatNumber, IsLegal};
 ghost use Rattle.dg_rules.specs.Look.{IsRightFinding};
 ghost use Rattle.dg_rules.specs.Replies.{Replies};
-ghost use Rattle.dg_rules.specs.Requests.{asked};
-ghost use Rattle.dg_rules.specs.State.{HistoryLeadsTo};
-ghost use Rattle.dg_log.specs.Written.{nothing_written, with_entry, written_after_refusal};
-ghost use Rattle.dg_table.specs.Answered.{entering_at_table, IsAnsweredAtTableAfter};
-ghost use Rattle.dg_table.specs.Closing.{AllSeatsAttested, TableHasSeat, IsTableComplete, AllSeatsHeld, AreAuditTotals, IsMissingSeat, HasInadmissibleSeat, RefusesClose, SeatsHaveMetHistory};
-ghost use Rattle.dg_table.specs.Faults.{RefusesSeatAtTable, RefusesSettlingAtTable};
+ghost use Rattle.dg_rules.specs.Requests.{call_request};
+ghost use Rattle.dg_rules.specs.State.{LeadsTo};
+ghost use Rattle.dg_log.specs.Written.{nothing_written, with_entry, after_refusal};
+ghost use Rattle.dg_table.specs.Answered.{entering, IsAnsweredAfter};
+ghost use Rattle.dg_table.specs.Closing.{AttestsAll, HasSeat, AreAllSeats, HoldsAllSeats, AreAuditTotals, IsMissingSeat, HasInadmissibleSeat, RefusesClose, HaveMet};
+ghost use Rattle.dg_table.specs.Faults.{RefusesStep, RefusesSettling};
 ghost use Rattle.dg_table.specs.declared.fault.Fault.TheVariants.{Log as LogFault};
 ghost use Rattle.dg_rules.specs.declared.entry.Entry.{Entry as EntryData};
-ghost use Rattle.dg_table.specs.Histories.{IsHistoryOfTable};
+ghost use Rattle.dg_table.specs.Histories.{IsHistoryOf};
 ghost use Rattle.dg_table.specs.Lock.{IsReady, IsRollAfter};
-ghost use Rattle.dg_table.specs.Looks.{IsLookOfSeat};
-ghost use Rattle.dg_table.specs.Opened.{TableMayHaveSeats};
-ghost use Rattle.dg_table.specs.Seats.{SeatView, HoldsSeat, IsAdmissibleSeat, IsSeatAttested, SeatMeetsHistory};
-ghost use Rattle.dg_table.specs.Settled.{IsSettledAtTableAfter, IsStaleAtTableAfter, IsNotStaleAtTableAfter};
-ghost use Rattle.dg_table.specs.Turns.{MayBeAsked, asking_at_table, IsTurnAfter, IsAskedToEnter};
+ghost use Rattle.dg_table.specs.Looks.{IsLookOf};
+ghost use Rattle.dg_table.specs.Opened.{IsSeatCount};
+ghost use Rattle.dg_table.specs.Seats.{SeatView, HoldsKnown, IsAdmissible, Attests, HasMet};
+ghost use Rattle.dg_table.specs.Settled.{IsSettledAfter, IsStaleAfter, IsNotStaleAfter};
+ghost use Rattle.dg_table.specs.Turns.{MayBeAsked, asking, IsTurnAfter, IsAskedToEnter};
 
 use crate::audit::Audit;
 use crate::fault::Fault;
@@ -60,7 +60,7 @@ impl<N: Name> Held<N> {
         requires pen { pen ≡ nothing_written }
         requires start { start.now ≡ N.table.start }
         requires seats { seats ≡ N.table.seats }
-        requires count { TableMayHaveSeats seats }
+        requires count { IsSeatCount seats }
         requires roll { (roll.names ≡ N.names.tallies) × IsRollAfter [] roll.tallies }
         ensures { result ≡ nothing_written }
     {
@@ -76,17 +76,17 @@ impl<N: Name> Held<N> {
     /// Whether the history has as many entries as the one that the seat has met, or more, an entry of each number that it
     /// was told of, and as many entries of the seat as it keeps. Then the history holds what the seat knows.
     pub fn admits(&self, seat: &Seat<N>) -> bool
-        ensures admits { IsTrue result ↔ IsAdmissibleSeat self.now.entries seat.now }
-        ensures holds { IsTrue result → HoldsSeat self.now.entries seat.now }
-        ensures number { IsSeatInGame seat.now.number }
+        ensures admits { IsTrue result ↔ IsAdmissible self.now.entries seat.now }
+        ensures holds { IsTrue result → HoldsKnown self.now.entries seat.now }
+        ensures number { IsSeatNumber seat.now.number }
     {
         let count = self.counts[usize::from(seat.place())];
         let len = self.pen.len();
-        if seat.calls() != count || seat.met().len() > len || !seat.told_to_seat().below(len) {
+        if seat.calls() != count || seat.met().len() > len || !seat.told_set().all_below(len) {
             return false;
         }
         self.pen.began(seat.met());
-        self.pen.holds(seat.told_to_seat());
+        self.pen.holds(seat.told_set());
         true
     }
 
@@ -94,7 +94,7 @@ impl<N: Name> Held<N> {
     /// just those of its own calls. It does nothing else.
     pub fn attest(&mut self, seat: &mut Seat<N>)
         ensures same { (self.new ≡ self.old) × (seat.new ≡ seat.old) }
-        ensures attested { IsSeatAttested self.old.entries seat.old }
+        ensures attested { Attests self.old.entries seat.old }
     {
         seat.show_claim(&mut self.roll);
         self.pen.began(seat.prefix());
@@ -103,8 +103,8 @@ impl<N: Name> Held<N> {
     /// Shows the same of each of these seats.
     pub fn attest_all(&mut self, seats: &mut [Seat<N>])
         ensures same { (self.new ≡ self.old) × (seats.new ≡ seats.old) }
-        ensures history { IsHistoryOfTable N.table self.old.entries }
-        ensures attested { AllSeatsAttested self.old.entries seats.old }
+        ensures history { IsHistoryOf N.table self.old.entries }
+        ensures attested { AttestsAll self.old.entries seats.old }
     {
         let _len = self.pen.len();
         for seat in seats.iter_mut() {
@@ -114,15 +114,15 @@ impl<N: Name> Held<N> {
 
     /// Tells the seat of the history as it stands.
     fn meet(&self, seat: &mut Seat<N>)
-        ensures { SeatMeetsHistory self.now.entries seat.old seat.new }
+        ensures { HasMet self.now.entries seat.old seat.new }
     {
         let _len = self.pen.len();
         seat.meet(&self.pen.prefix());
     }
 
     /// Tells each of these seats of the history as it stands.
-    pub(crate) fn meet_all_seats(&self, seats: &mut [Seat<N>])
-        ensures { SeatsHaveMetHistory self.now.entries seats.old seats.new }
+    pub(crate) fn meet_all(&self, seats: &mut [Seat<N>])
+        ensures { HaveMet self.now.entries seats.old seats.new }
     {
         for seat in seats.iter_mut() {
             self.meet(seat);
@@ -133,15 +133,15 @@ impl<N: Name> Held<N> {
     fn ready(&self, log: &Log<N>, seat: &Seat<N>) -> Result<(), Fault>
         ensures stands { MatchResult result
             (λ _. IsReady N.table.capacity self.now.entries seat.now)
-            (RefusesSeatAtTable N.table self.now self.now seat.now) }
+            (RefusesStep N.table self.now self.now seat.now) }
         ensures barred { IfErr result
-            (λ f. f ≡ LogFault → ¬ IsAdmissibleSeat self.now.entries seat.now) }
+            (λ f. f ≡ LogFault → ¬ IsAdmissible self.now.entries seat.now) }
     {
         let len = self.pen.len();
         if len == log.len() {
             self.pen.began(seat.met());
-            if seat.told_to_seat().below(len) {
-                self.pen.holds(seat.told_to_seat());
+            if seat.told_set().all_below(len) {
+                self.pen.holds(seat.told_set());
             }
             return Err(Fault::Full);
         }
@@ -166,14 +166,14 @@ impl<N: Name> Held<N> {
     ) -> Result<Receipt<N>, Fault>
         requires { seat.old.space ≡ true }
         ensures entered { IfOk result
-            (λ r. IsAnsweredAtTableAfter N.table (asked plain) (entering_at_table self.old.entries r seat.old seat.new) ×
+            (λ r. IsAnsweredAfter N.table (call_request plain) (entering self.old.entries r seat.old seat.new) ×
             (self.new ≡ with_entry self.old r.1)) }
         ensures refused { IfErr result
-            (λ f. (self.new.entries ≡ self.old.entries) × SeatMeetsHistory self.old.entries seat.old seat.new ×
-            RefusesSeatAtTable N.table self.old self.new seat.old f) }
+            (λ f. (self.new.entries ≡ self.old.entries) × HasMet self.old.entries seat.old seat.new ×
+            RefusesStep N.table self.old self.new seat.old f) }
     {
         match self.ready(log, seat) {
-            Ok(()) => self.answer_under_lock(log, slot, seat, &plain),
+            Ok(()) => self.answer_ready(log, slot, seat, &plain),
             Err(fault) => {
                 self.meet(seat);
                 Err(fault)
@@ -196,19 +196,19 @@ impl<N: Name> Held<N> {
         requires space { seat.old.space ≡ true }
         requires asked { MayBeAsked F.FnMut choose.old }
         ensures entered { IfOk result (λ r.
-            IsTurnAfter F.FnMut N.table (asking_at_table choose.old choose.new)
-            (entering_at_table self.old.entries r seat.old seat.new) ×
+            IsTurnAfter F.FnMut N.table (asking choose.old choose.new)
+            (entering self.old.entries r seat.old seat.new) ×
             (self.new ≡ with_entry self.old r.1)) }
         ensures refused { IfErr result
-            (λ f. (self.new.entries ≡ self.old.entries) × SeatMeetsHistory self.old.entries seat.old seat.new ×
-            RefusesSeatAtTable N.table self.old self.new seat.old f) }
+            (λ f. (self.new.entries ≡ self.old.entries) × HasMet self.old.entries seat.old seat.new ×
+            RefusesStep N.table self.old self.new seat.old f) }
         ensures asked { OnErr result
-            (IsAskedToEnter F.FnMut N.table self.old.entries seat.old (asking_at_table choose.old choose.new)) }
+            (IsAskedToEnter F.FnMut N.table self.old.entries seat.old (asking choose.old choose.new)) }
     {
         match self.ready(log, seat) {
             Ok(()) => {
-                let chosen = Plain::of(choose(self.game.graph(), self.game.position()));
-                self.answer_under_lock(log, slot, seat, &chosen)
+                let chosen = Plain::from_choice(choose(self.game.graph(), self.game.position()));
+                self.answer_ready(log, slot, seat, &chosen)
             }
             Err(fault) => {
                 self.meet(seat);
@@ -218,7 +218,7 @@ impl<N: Name> Held<N> {
     }
 
     /// Answers a call of a seat that is ready, and enters it as the last of the history.
-    fn answer_under_lock(
+    fn answer_ready(
         &mut self,
         log: &Log<N>,
         slot: Box<Entry>,
@@ -228,11 +228,11 @@ impl<N: Name> Held<N> {
         requires space { seat.old.space ≡ true }
         requires ready { IsReady N.table.capacity self.old.entries seat.old }
         ensures entered { IfOk result
-            (λ r. IsAnsweredAtTableAfter N.table (asked plain.now) (entering_at_table self.old.entries r seat.old seat.new) ×
+            (λ r. IsAnsweredAfter N.table (call_request plain.now) (entering self.old.entries r seat.old seat.new) ×
             (self.new ≡ with_entry self.old r.1)) }
         ensures refused { IfErr result
-            (λ f. (self.new.entries ≡ self.old.entries) × SeatMeetsHistory self.old.entries seat.old seat.new ×
-            RefusesSeatAtTable N.table self.old self.new seat.old f) }
+            (λ f. (self.new.entries ≡ self.old.entries) × HasMet self.old.entries seat.old seat.new ×
+            RefusesStep N.table self.old self.new seat.old f) }
     {
         let mut slot = slot;
         self.game.reply_to_call(seat.number(), plain, &mut *slot);
@@ -254,16 +254,16 @@ impl<N: Name> Held<N> {
         finding: &Finding,
     ) -> Result<Receipt<N>, Fault>
         requires space { seat.old.space ≡ true }
-        requires look { IsLookOfSeat look.now shown.now }
+        requires look { IsLookOf look.now shown.now }
         requires found { IsRightFinding N.table.start.q shown.now finding.now }
         ensures settled { IfOk result (λ r.
-            IsSettledAtTableAfter N.table look.now finding.now (entering_at_table self.old.entries r seat.old seat.new) ×
+            IsSettledAfter N.table look.now finding.now (entering self.old.entries r seat.old seat.new) ×
             (self.new ≡ with_entry self.old r.1)) }
         ensures refused { IfErr result
-            (λ f. (self.new.entries ≡ self.old.entries) × SeatMeetsHistory self.old.entries seat.old seat.new ×
-            RefusesSettlingAtTable N.table self.old self.new look.now.0 seat.old f) }
+            (λ f. (self.new.entries ≡ self.old.entries) × HasMet self.old.entries seat.old seat.new ×
+            RefusesSettling N.table self.old self.new look.now.0 seat.old f) }
     {
-        match self.seat_is_ready_on(log, seat, look) {
+        match self.ready_on(log, seat, look) {
             Ok(()) => {}
             Err(fault) => {
                 self.meet(seat);
@@ -274,7 +274,7 @@ impl<N: Name> Held<N> {
         self.game
             .reply_to_finding(seat.number(), shown, finding, &mut *slot);
         let receipt = self.enter(log, slot, seat)?;
-        seat.hear_at_table(look);
+        seat.learn_reserved(look);
         Ok(receipt)
     }
 
@@ -293,16 +293,16 @@ impl<N: Name> Held<N> {
         asks: &Question,
     ) -> Result<Option<Receipt<N>>, Fault>
         requires space { seat.old.space ≡ true }
-        requires look { IsLookOfSeat taken.now shown.now }
+        requires look { IsLookOf taken.now shown.now }
         ensures settled { IfOk result (λ found. MatchOption found
-            ((self.new ≡ self.old) × IsNotStaleAtTableAfter N.table taken.now self.old.entries seat.old seat.new)
-            (λ r. IsStaleAtTableAfter N.table taken.now asks.now (entering_at_table self.old.entries r seat.old seat.new) ×
+            ((self.new ≡ self.old) × IsNotStaleAfter N.table taken.now self.old.entries seat.old seat.new)
+            (λ r. IsStaleAfter N.table taken.now asks.now (entering self.old.entries r seat.old seat.new) ×
             (self.new ≡ with_entry self.old r.1))) }
         ensures refused { IfErr result
-            (λ f. (self.new.entries ≡ self.old.entries) × SeatMeetsHistory self.old.entries seat.old seat.new ×
-            RefusesSettlingAtTable N.table self.old self.new taken.now.0 seat.old f) }
+            (λ f. (self.new.entries ≡ self.old.entries) × HasMet self.old.entries seat.old seat.new ×
+            RefusesSettling N.table self.old self.new taken.now.0 seat.old f) }
     {
-        match self.seat_is_ready_on(log, seat, taken) {
+        match self.ready_on(log, seat, taken) {
             Ok(()) => {}
             Err(fault) => {
                 self.meet(seat);
@@ -315,19 +315,19 @@ impl<N: Name> Held<N> {
         }
         let mut slot = slot;
         self.game
-            .reply_as_stale(seat.number(), shown, asks, &mut *slot);
+            .reply_stale(seat.number(), shown, asks, &mut *slot);
         let receipt = self.enter(log, slot, seat)?;
-        seat.hear_at_table(taken);
+        seat.learn_reserved(taken);
         Ok(Some(receipt))
     }
 
     /// Whether the history has room for an entry of the seat, which knows nothing that the history does not hold, and
     /// has the entry of the receipt; or why not.
-    fn seat_is_ready_on(&self, log: &Log<N>, seat: &Seat<N>, look: &Receipt<N>) -> Result<(), Fault>
+    fn ready_on(&self, log: &Log<N>, seat: &Seat<N>, look: &Receipt<N>) -> Result<(), Fault>
         ensures { MatchResult result
             (λ _. IsReady N.table.capacity self.now.entries seat.now ×
             (slice_get self.now.entries look.now.0 ≡ Some look.now.1))
-            (RefusesSettlingAtTable N.table self.now self.now look.now.0 seat.now) }
+            (RefusesSettling N.table self.now self.now look.now.0 seat.now) }
     {
         self.ready(log, seat)?;
         let number = look.number();
@@ -352,14 +352,14 @@ impl<N: Name> Held<N> {
         requires replies { Replies N.table.start self.old.entries slot.value.request slot.value.reply }
         requires legal { IsLegal N.table.start (self.old.entries ++ slot.value ∷ []) }
         ensures entered { IfOk result (λ r.
-            IsAnsweredAtTableAfter N.table slot.value.request (entering_at_table self.old.entries r seat.old seat.new) ×
+            IsAnsweredAfter N.table slot.value.request (entering self.old.entries r seat.old seat.new) ×
             (self.new ≡ with_entry self.old r.1)) }
         ensures reply { IfOk result (λ r. r.1.reply ≡ slot.value.reply) }
         ensures hears { IfOk result (λ _. seat.new.hears ≡ true) }
         ensures refused { IfErr result
-            (λ f. (self.new ≡ written_after_refusal self.old) ×
-            SeatMeetsHistory self.old.entries seat.old seat.new ×
-            RefusesSeatAtTable N.table self.old self.new seat.old f) }
+            (λ f. (self.new ≡ after_refusal self.old) ×
+            HasMet self.old.entries seat.old seat.new ×
+            RefusesStep N.table self.old self.new seat.old f) }
     {
         let Ok(receipt) = self.pen.put(log, slot) else {
             self.meet(seat);
@@ -367,14 +367,14 @@ impl<N: Name> Held<N> {
         };
         let place = usize::from(seat.place());
         let entry = log.entry(&receipt);
-        seat.take_receipt_at_table(
+        seat.take_receipt(
             &self.game,
             &self.pen.prefix(),
             entry,
             &receipt,
             &mut self.roll,
         );
-        self.game.follow_entry(entry);
+        self.game.follow(entry);
         self.counts[place] += 1;
         Ok(receipt)
     }
@@ -383,15 +383,15 @@ impl<N: Name> Held<N> {
     /// 0 if none is missing.
     pub fn missing(&self, seats: &[Seat<N>]) -> Option<u8>
         ensures missing { MatchOption result
-            (IsTableComplete N.table.seats seats.now × AllSeatsHeld self.now.entries seats.now)
+            (AreAllSeats N.table.seats seats.now × HoldsAllSeats self.now.entries seats.now)
             (RefusesClose self.now.entries N.table.seats seats.now) }
-        ensures history { IsHistoryOfTable N.table self.now.entries }
+        ensures history { IsHistoryOf N.table self.now.entries }
     {
         let _entries = self.pen.len();
-        if let Some(number) = first_missing_seat(seats, self.seats) {
+        if let Some(number) = first_missing(seats, self.seats) {
             return Some(number);
         }
-        if self.held_admits_all_seats(seats) {
+        if self.admits_all(seats) {
             None
         } else {
             Some(0)
@@ -399,9 +399,9 @@ impl<N: Name> Held<N> {
     }
 
     /// Whether each of these seats is admitted.
-    fn held_admits_all_seats(&self, seats: &[Seat<N>]) -> bool
+    fn admits_all(&self, seats: &[Seat<N>]) -> bool
         ensures { MatchBool result
-            (AllSeatsHeld self.now.entries seats.now)
+            (HoldsAllSeats self.now.entries seats.now)
             (HasInadmissibleSeat self.now.entries seats.now) }
     {
         for seat in seats {
@@ -415,7 +415,7 @@ impl<N: Name> Held<N> {
     /// What was counted, with the log and the pen of the history.
     pub(crate) fn audit(self, log: Log<N>) -> Audit<N>
         ensures history { result.pen.entries ≡ self.entries }
-        ensures totals { (xs : List SeatView) → AllSeatsHeld self.entries xs →
+        ensures totals { (xs : List SeatView) → HoldsAllSeats self.entries xs →
             AreAuditTotals N.table xs result }
     {
         let Held {
@@ -438,11 +438,11 @@ impl<N: Name> Held<N> {
 }
 
 /// The least of the seats 1 to `count` that is not among these.
-fn first_missing_seat<N: Name>(seats: &[Seat<N>], count: u8) -> Option<u8>
-    ensures { MatchOption result (IsTableComplete count seats.now) (IsMissingSeat count seats.now) }
+fn first_missing<N: Name>(seats: &[Seat<N>], count: u8) -> Option<u8>
+    ensures { MatchOption result (AreAllSeats count seats.now) (IsMissingSeat count seats.now) }
 {
     for i in 0..count {
-        if !table_has_seat(seats, i + 1) {
+        if !has_seat(seats, i + 1) {
             return Some(i + 1);
         }
     }
@@ -450,8 +450,8 @@ fn first_missing_seat<N: Name>(seats: &[Seat<N>], count: u8) -> Option<u8>
 }
 
 /// Whether the seat with this number is among these.
-fn table_has_seat<N: Name>(seats: &[Seat<N>], number: u8) -> bool
-    ensures { IsTrue result ↔ TableHasSeat seats.now number }
+fn has_seat<N: Name>(seats: &[Seat<N>], number: u8) -> bool
+    ensures { IsTrue result ↔ HasSeat seats.now number }
 {
     for seat in seats {
         if seat.number() == number {

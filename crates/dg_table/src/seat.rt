@@ -2,16 +2,16 @@
 ghost use Rattle.std.specs.Prelude.{ℕ, List, ◌≡◌, ◌+◌, ◌-◌, ◌<◌, ◌≤◌, [], ◌∷◌, ◌++◌, length, slice_get, true, None, Some, IfOk, IfSome, MatchBool, MatchOption, MatchResult};
 ghost use Rattle.dg_chips.specs.Starts.{StartData};
 ghost use Rattle.dg_rules.specs.Replies.{Replies};
-ghost use Rattle.dg_rules.specs.State.{HistoryLeadsTo};
+ghost use Rattle.dg_rules.specs.State.{LeadsTo};
 ghost use Rattle.dg_rules.specs.declared.entry.Entry.{Entry as EntryData};
 ghost use Rattle.std.specs.Vec.{vec_capacity, vec_len};
-ghost use Rattle.dg_table.specs.Faults.{TableStandsFull};
-ghost use Rattle.dg_table.specs.Histories.{SeatHasPrefix, IsHistoryOfTable};
-ghost use Rattle.dg_table.specs.Lock.{IsLookKeptBySeat, IsRollAfter, IsTallyShown, IsTallySigned};
+ghost use Rattle.dg_table.specs.Faults.{IsFull};
+ghost use Rattle.dg_table.specs.Histories.{HasPrefix, IsHistoryOf};
+ghost use Rattle.dg_table.specs.Lock.{IsKeptLook, IsRollAfter, IsTallyShown, IsTallySigned};
 ghost use Rattle.dg_log.specs.Rolls.{IsBlankRoll};
-ghost use Rattle.dg_table.specs.Looks.{KeptLookHasVertices, IsLastLookOfSeat};
-ghost use Rattle.dg_table.specs.Opened.{TableMayHaveSeats, AreFreshSeats};
-ghost use Rattle.dg_table.specs.Seats.{HoldsSeat, Keeps, SeatMeetsHistory};
+ghost use Rattle.dg_table.specs.Looks.{IsSizedLook, IsLastLook};
+ghost use Rattle.dg_table.specs.Opened.{IsSeatCount, AreFresh};
+ghost use Rattle.dg_table.specs.Seats.{HoldsKnown, Keeps, HasMet};
 
 use crate::OutOfMemory;
 use dg_log::{Claim, Log, Name, Prefix, Receipt, ReceiptSet, Roll};
@@ -29,7 +29,7 @@ pub struct Seat<N: Name> {
     told: Vec<Receipt<N>>,
     prefix: Prefix<N>,
     met: Prefix<N>,
-    told_to_seat: ReceiptSet<N>,
+    told_set: ReceiptSet<N>,
     look: Option<LookData>,
     // The lock's roll has the same tally: so the history has just the calls of the seat that it knows.
     claim: Claim,
@@ -41,30 +41,30 @@ impl<N: Name> Model for Seat<N> {
 
     ghost Value = { SeatView };
 
-    ghost use Rattle.dg_table.specs.Lock.{seat_view, IsSeatState, IsClaimOfSeat};
+    ghost use Rattle.dg_table.specs.Lock.{seat_view, IsSeatState, IsClaimOf};
 
     ghost view = { seat_view };
 
-    ghost invariant = { λ x. IsSeatState N.table (seat_view x) x.told_to_seat x.look ×
-        IsClaimOfSeat N.names.tallies (seat_view x) x.claim.names x.claim.place x.claim.tally };
+    ghost invariant = { λ x. IsSeatState N.table (seat_view x) x.told_set x.look ×
+        IsClaimOf N.names.tallies (seat_view x) x.claim.names x.claim.place x.claim.tally };
 }
 
 impl<N: Name> Seat<N> {
     /// The seats 1 to `count`, which know of no entry, each with the claim to its tally, and the roll. The conditions are that
     /// they are those of the table, that there is space for them, which has none, and that the roll is the table's, of which
     /// nobody has claimed a tally.
-    pub(crate) fn all_seats(
+    pub(crate) fn numbered(
         alloc: Global,
         space: Vec<Seat<N>>,
         count: u8,
         roll: Roll,
     ) -> (Vec<Seat<N>>, Roll)
         requires count { count ≡ N.table.seats }
-        requires seats { TableMayHaveSeats count }
+        requires seats { IsSeatCount count }
         requires empty { space.items ≡ [] }
         requires room { count ≤ vec_capacity space }
         requires roll { (roll.names ≡ N.names.tallies) × IsBlankRoll roll.names roll.tallies roll.claimed }
-        ensures seats { AreFreshSeats count result.0.items }
+        ensures seats { AreFresh count result.0.items }
         ensures roll { (result.1.names ≡ N.names.tallies) × IsRollAfter [] result.1.tallies }
     {
         let mut seats = space;
@@ -92,7 +92,7 @@ impl<N: Name> Seat<N> {
             told: Vec::new(alloc),
             prefix: Prefix::new(),
             met: Prefix::new(),
-            told_to_seat: ReceiptSet::new(),
+            told_set: ReceiptSet::new(),
             look: None,
             claim,
             of: PhantomData,
@@ -125,7 +125,7 @@ impl<N: Name> Seat<N> {
     /// history of the table, and the seat's entries in it are just those of its own calls.
     pub fn prefix(&self) -> &Prefix<N>
         ensures prefix { result.now ≡ self.now.prefix }
-        ensures found { SeatHasPrefix N.table self.now }
+        ensures found { HasPrefix N.table self.now }
     {
         &self.prefix
     }
@@ -134,7 +134,7 @@ impl<N: Name> Seat<N> {
     /// was told of. It is a history of the table.
     pub fn met(&self) -> &Prefix<N>
         ensures met { result.now ≡ self.now.met }
-        ensures found { SeatHasPrefix N.table self.now }
+        ensures found { HasPrefix N.table self.now }
     {
         &self.met
     }
@@ -142,24 +142,24 @@ impl<N: Name> Seat<N> {
     /// Tells the seat of a history; each later call then comes after all its entries. It takes no memory. The condition is
     /// that it is a history of the table, as what a seat has met is.
     pub fn meet(&mut self, met: &Prefix<N>)
-        requires { IsHistoryOfTable N.table met.now }
-        ensures { SeatMeetsHistory met.now self.old self.new }
+        requires { IsHistoryOf N.table met.now }
+        ensures { HasMet met.now self.old self.new }
     {
         self.met = self.met.longer(met);
     }
 
     /// Whether the history that the seat has met has as many entries as there may be.
-    pub(crate) fn seat_has_met_full(&self, log: &Log<N>) -> bool
+    pub(crate) fn has_met_full(&self, log: &Log<N>) -> bool
         ensures { MatchBool result
-            (TableStandsFull N.table self.now.met self.now)
+            (IsFull N.table self.now.met self.now)
             (length self.now.met < N.table.capacity) }
     {
         let len = self.met.len();
         if len < log.len() {
             return false;
         }
-        if self.told_to_seat.below(len) {
-            self.met.holds(&self.told_to_seat);
+        if self.told_set.all_below(len) {
+            self.met.holds(&self.told_set);
         }
         true
     }
@@ -176,16 +176,16 @@ impl<N: Name> Seat<N> {
     /// What the seat keeps of the last look that it took; `None` if it took none. Its graph has the
     /// vertices of the start, and there is an amount for each.
     pub fn look_data(&self) -> Option<LookData>
-        ensures look { IsLastLookOfSeat self.now.mine result }
-        ensures vertices { IfSome result (KeptLookHasVertices N.table.start.graph.size) }
+        ensures look { IsLastLook self.now.mine result }
+        ensures vertices { IfSome result (IsSizedLook N.table.start.graph.size) }
     {
         self.look
     }
 
     /// The same where it lies.
-    pub fn last_look_of_seat(&self) -> Option<&LookData>
-        ensures { MatchOption result (IsLastLookOfSeat self.now.mine None)
-            (λ x. IsLastLookOfSeat self.now.mine (Some x.now) × KeptLookHasVertices N.table.start.graph.size x.now) }
+    pub fn last_look(&self) -> Option<&LookData>
+        ensures { MatchOption result (IsLastLook self.now.mine None)
+            (λ x. IsLastLook self.now.mine (Some x.now) × IsSizedLook N.table.start.graph.size x.now) }
     {
         self.look.as_ref()
     }
@@ -203,12 +203,12 @@ impl<N: Name> Seat<N> {
         ensures met { self.new.met ≡ self.old.met }
     {
         self.told.reserve(1)?;
-        self.hear_at_table(receipt);
+        self.learn_reserved(receipt);
         Ok(())
     }
 
     /// Tells the seat of an entry. The condition is that it has space to be told.
-    pub(crate) fn hear_at_table(&mut self, receipt: &Receipt<N>)
+    pub(crate) fn learn_reserved(&mut self, receipt: &Receipt<N>)
         requires { self.old.hears ≡ true }
         ensures number { self.new.number ≡ self.old.number }
         ensures mine { self.new.mine ≡ self.old.mine }
@@ -216,21 +216,21 @@ impl<N: Name> Seat<N> {
         ensures prefix { self.new.prefix ≡ self.old.prefix }
         ensures met { self.new.met ≡ self.old.met }
     {
-        self.told_to_seat = self.told_to_seat.and(receipt);
+        self.told_set = self.told_set.with(receipt);
         self.told.push(receipt.again()).unwrap();
     }
 
     /// The receipts of the entries that the seat was told of, as a set.
-    pub(crate) fn told_to_seat(&self) -> &ReceiptSet<N>
+    pub(crate) fn told_set(&self) -> &ReceiptSet<N>
         ensures { result.now ≡ self.now.told }
     {
-        &self.told_to_seat
+        &self.told_set
     }
 
     /// Gives the seat the receipt of its next call, whose entry is the last of a history, and keeps the look that it takes. The
     /// conditions are that the seat has the space, that the roll is the table's, that the history is one of the table, which
     /// before the entry holds what the seat knows, and that the game stands there.
-    pub(crate) fn take_receipt_at_table(
+    pub(crate) fn take_receipt(
         &mut self,
         game: &Game,
         history: &Prefix<N>,
@@ -240,10 +240,10 @@ impl<N: Name> Seat<N> {
     )
         requires space { self.old.space ≡ true }
         requires roll { roll.old.names ≡ N.names.tallies }
-        requires found { IsHistoryOfTable N.table history.now }
+        requires found { IsHistoryOf N.table history.now }
         requires next { (H : List EntryData) × (history.now ≡ H ++ entry.now ∷ []) ×
-            (receipt.now ≡ (length H, entry.now)) × (entry.now.seat ≡ self.old.number) × HoldsSeat H self.old ×
-            HistoryLeadsTo N.table.start H game.now × Replies N.table.start H entry.now.request entry.now.reply }
+            (receipt.now ≡ (length H, entry.now)) × (entry.now.seat ≡ self.old.number) × HoldsKnown H self.old ×
+            LeadsTo N.table.start H game.now × Replies N.table.start H entry.now.request entry.now.reply }
         ensures number { self.new.number ≡ self.old.number }
         ensures mine { self.new.mine ≡ self.old.mine ++ receipt.now ∷ [] }
         ensures told { self.new.told ≡ self.old.told }
@@ -254,7 +254,7 @@ impl<N: Name> Seat<N> {
         ensures signed { IsTallySigned self.old self.new roll.old.tallies roll.new.tallies }
     {
         roll.sign(&mut self.claim, history.len(), 1);
-        keep_look_at_table(&mut self.look, game, entry);
+        keep_look(&mut self.look, game, entry);
         self.prefix = history.copy();
         self.met = history.copy();
         self.mine.push(receipt.again()).unwrap();
@@ -278,16 +278,16 @@ impl<N: Name> Seat<N> {
         ensures met { self.new.met ≡ self.old.met }
         ensures space { IfOk result (λ _. self.new.space ≡ true) }
     {
-        reserve_for_seat(&mut self.mine, &mut self.told)?;
-        blank_entry_at_table(alloc)
+        reserve_both(&mut self.mine, &mut self.told)?;
+        blank_entry(alloc)
     }
 }
 
 /// Keeps the look that an entry after the game's history takes, if it takes one, in place of an older look.
-fn keep_look_at_table(look: &mut Option<LookData>, game: &Game, entry: &Entry)
+fn keep_look(look: &mut Option<LookData>, game: &Game, entry: &Entry)
     ensures { (o : StartData) (H : List EntryData) (ps : List (ℕ × EntryData)) →
-        HistoryLeadsTo o H game.now → Replies o H entry.now.request entry.now.reply →
-        IsLookKeptBySeat o ps look.old → IsLookKeptBySeat o (ps ++ (length H, entry.now) ∷ []) look.new }
+        LeadsTo o H game.now → Replies o H entry.now.request entry.now.reply →
+        IsKeptLook o ps look.old → IsKeptLook o (ps ++ (length H, entry.now) ∷ []) look.new }
 {
     match &entry.reply {
         Reply::Looked(gifts, position, graph) => {
@@ -311,7 +311,7 @@ fn keep_look_at_table(look: &mut Option<LookData>, game: &Game, entry: &Entry)
 }
 
 /// Makes space for one more receipt in each list.
-fn reserve_for_seat<N: Name>(
+fn reserve_both<N: Name>(
     mine: &mut Vec<Receipt<N>>,
     told: &mut Vec<Receipt<N>>,
 ) -> Result<(), OutOfMemory>
@@ -325,6 +325,6 @@ fn reserve_for_seat<N: Name>(
 }
 
 /// A box for an entry; what is in it means nothing.
-fn blank_entry_at_table(alloc: Global) -> Result<Box<Entry>, OutOfMemory> {
+fn blank_entry(alloc: Global) -> Result<Box<Entry>, OutOfMemory> {
     Ok(Box::new(alloc, BLANK)?)
 }

@@ -1,17 +1,17 @@
 //! The table that seats call.
 ghost use Rattle.std.specs.Prelude.{◌≡◌, ◌≢◌, ◌<◌, List, length, true, IfOk, IfErr, MatchOption, MatchResult};
 ghost use Rattle.dg_rules.specs.Look.{IsRightFinding};
-ghost use Rattle.dg_rules.specs.Requests.{asked};
+ghost use Rattle.dg_rules.specs.Requests.{call_request};
 ghost use Rattle.dg_rules.specs.declared.entry.Entry.{Entry as EntryData};
 ghost use Rattle.dg_log.specs.Tables.{table_data_of};
 ghost use Rattle.dg_table.specs.Answered.{IsAnswered};
-ghost use Rattle.dg_table.specs.Closing.{IsClosed, IsTableAttested, AreAuditTotals, IsCloseRefused};
-ghost use Rattle.dg_table.specs.Faults.{RefusesCallAtTable, KeepsAfterRefusal};
-ghost use Rattle.dg_table.specs.Looks.{IsLookOfSeat};
-ghost use Rattle.dg_table.specs.Opened.{AreFreshSeats, RefusesOpening};
+ghost use Rattle.dg_table.specs.Closing.{IsClosed, IsAttested, AreAuditTotals, IsCloseRefused};
+ghost use Rattle.dg_table.specs.Faults.{RefusesCall, KeepsAfterRefusal};
+ghost use Rattle.dg_table.specs.Looks.{IsLookOf};
+ghost use Rattle.dg_table.specs.Opened.{AreFresh, RefusesOpening};
 ghost use Rattle.dg_table.specs.Seats.{Keeps};
-ghost use Rattle.dg_table.specs.Settled.{IsSettledAtTable, IsStaleAtTable, IsNotStaleAtTable};
-ghost use Rattle.dg_table.specs.Turns.{MayBeAsked, asking_at_table, IsTurn, RefusesTurn};
+ghost use Rattle.dg_table.specs.Settled.{IsSettled, IsStale, IsNotStale};
+ghost use Rattle.dg_table.specs.Turns.{MayBeAsked, asking, IsTurn, RefusesTurn};
 ghost use Rattle.dg_table.specs.declared.fault.Fault.TheVariants.{Log as LogFault};
 
 use crate::audit::Audit;
@@ -71,7 +71,7 @@ impl<N: Name> Table<N> {
         requires row { row ≡ N.names }
         requires table { N.table ≡ table_data_of start.now seats (length row.cells) }
         ensures { MatchResult result
-            (λ r. AreFreshSeats seats r.1.items)
+            (λ r. AreFresh seats r.1.items)
             (λ e. (e.0 ≡ row) × RefusesOpening seats e.1) }
     {
         if seats < 1 || seats > MAX_SEATS {
@@ -81,7 +81,7 @@ impl<N: Name> Table<N> {
             return Err((row, TableFault::OutOfMemory));
         };
         let (log, pen, roll) = Log::with_roll(row);
-        let (all, roll) = Seat::all_seats(alloc, space, seats, roll);
+        let (all, roll) = Seat::numbered(alloc, space, seats, roll);
         let held = Mutex::new(Held::new(pen, start, seats, roll));
         let table = Table {
             held,
@@ -100,12 +100,12 @@ impl<N: Name> Table<N> {
         ensures space { IfOk result (λ _. seat.new.space ≡ true) }
         ensures room { IfOk result (λ _. length seat.new.met < N.table.capacity) }
         ensures refused { IfErr result (λ f. (f ≢ LogFault) ×
-            RefusesCallAtTable N.table seat.new f) }
+            RefusesCall N.table seat.new f) }
     {
         let Ok(slot) = seat.room(alloc) else {
             return Err(Fault::OutOfMemory);
         };
-        if seat.seat_has_met_full(&self.log) {
+        if seat.has_met_full(&self.log) {
             return Err(Fault::Full);
         }
         Ok(slot)
@@ -126,9 +126,9 @@ impl<N: Name> Table<N> {
         plain: Plain,
     ) -> Result<Receipt<N>, Fault>
         ensures answered { IfOk result
-            (λ r. IsAnswered N.table (asked plain) r seat.old seat.new) }
+            (λ r. IsAnswered N.table (call_request plain) r seat.old seat.new) }
         ensures fault { IfErr result (λ f. KeepsAfterRefusal f seat.old seat.new ×
-            RefusesCallAtTable N.table seat.new f) }
+            RefusesCall N.table seat.new f) }
     {
         let slot = self.room(alloc, seat)?;
         self.held.lock(rt).call(&self.log, slot, seat, plain)
@@ -148,9 +148,9 @@ impl<N: Name> Table<N> {
     ) -> Result<Receipt<N>, Fault>
         requires { MayBeAsked F.FnMut choose.old }
         ensures turned { IfOk result
-            (λ r. IsTurn F.FnMut N.table (asking_at_table choose.old choose.new) r seat.old seat.new) }
+            (λ r. IsTurn F.FnMut N.table (asking choose.old choose.new) r seat.old seat.new) }
         ensures fault { IfErr result (λ f. KeepsAfterRefusal f seat.old seat.new ×
-            RefusesTurn F.FnMut N.table seat.new (asking_at_table choose.old choose.new) f) }
+            RefusesTurn F.FnMut N.table seat.new (asking choose.old choose.new) f) }
     {
         let slot = self.room(alloc, seat)?;
         self.held.lock(rt).turn(&self.log, slot, seat, choose)
@@ -172,12 +172,12 @@ impl<N: Name> Table<N> {
         shown: &LookData,
         finding: &Finding,
     ) -> Result<Receipt<N>, Fault>
-        requires look { IsLookOfSeat look.now shown.now }
+        requires look { IsLookOf look.now shown.now }
         requires found { IsRightFinding N.table.start.q shown.now finding.now }
         ensures settled { IfOk result
-            (λ r. IsSettledAtTable N.table look.now finding.now r seat.old seat.new) }
+            (λ r. IsSettled N.table look.now finding.now r seat.old seat.new) }
         ensures fault { IfErr result (λ f. KeepsAfterRefusal f seat.old seat.new ×
-            RefusesCallAtTable N.table seat.new f) }
+            RefusesCall N.table seat.new f) }
     {
         let slot = self.room(alloc, seat)?;
         self.held
@@ -200,12 +200,12 @@ impl<N: Name> Table<N> {
         shown: &LookData,
         asks: &Question,
     ) -> Result<Option<Receipt<N>>, Fault>
-        requires { IsLookOfSeat look.now shown.now }
+        requires { IsLookOf look.now shown.now }
         ensures settled { IfOk result (λ found. MatchOption found
-            (IsNotStaleAtTable N.table look.now seat.old seat.new)
-            (λ r. IsStaleAtTable N.table look.now asks.now r seat.old seat.new)) }
+            (IsNotStale N.table look.now seat.old seat.new)
+            (λ r. IsStale N.table look.now asks.now r seat.old seat.new)) }
         ensures fault { IfErr result (λ f. KeepsAfterRefusal f seat.old seat.new ×
-            RefusesCallAtTable N.table seat.new f) }
+            RefusesCall N.table seat.new f) }
     {
         let slot = self.room(alloc, seat)?;
         self.held
@@ -235,7 +235,7 @@ impl<N: Name> Table<N> {
     /// waits for the lock.
     pub fn attest(&self, rt: &impl Wait, seats: &mut [Seat<N>])
         ensures same { seats.new ≡ seats.old }
-        ensures attested { (H : List EntryData) × IsTableAttested N.table seats.old H }
+        ensures attested { (H : List EntryData) × IsAttested N.table seats.old H }
     {
         self.held.lock(rt).attest_all(seats)
     }
@@ -261,7 +261,7 @@ impl<N: Name> Table<N> {
         match held.missing(&seats) {
             Some(missing) => {
                 let mut seats = seats;
-                held.meet_all_seats(&mut seats);
+                held.meet_all(&mut seats);
                 let held = Mutex::new(held);
                 Err(CloseFault {
                     missing,

@@ -1,6 +1,6 @@
 //! What the lock of a table holds can be had under that lock alone. So nobody calls these functions, and no test runs: they are
 //! proved, and show the forms of the calls.
-ghost use Rattle.dg_table.specs.Looks.{IsLookOfSeat};
+ghost use Rattle.dg_table.specs.Looks.{IsLookOf};
 ghost use Rattle.dg_rules.specs.Look.{IsRightFinding};
 
 use dg_chips::{Divisor, Move};
@@ -41,7 +41,7 @@ pub fn settles_under_the_lock<N: Name>(
     shown: &LookData,
     finding: &Finding,
 ) -> Result<Receipt<N>, Fail>
-    requires look { IsLookOfSeat look.now shown.now }
+    requires look { IsLookOf look.now shown.now }
     requires found { IsRightFinding N.table.start.q shown.now finding.now }
 {
     let slot = seat.room(alloc)?;

@@ -1,6 +1,6 @@
 //! A verdict that is entered by hand, with a drift that leads nowhere.
 ghost use Rattle.std.specs.Prelude.{◌≡◌, ◌<◌, IfOk};
-ghost use Rattle.dg_table.specs.Looks.{IsLookOfSeat};
+ghost use Rattle.dg_table.specs.Looks.{IsLookOf};
 
 use crate::analyst_tests::settled;
 use dg_chips::{Divisor, Drift, Move};
@@ -43,7 +43,7 @@ fn look_at<N: Name>(
     table: &Table<N>,
     seat: &mut Seat<N>,
 ) -> Result<(Receipt<N>, LookData), Fail>
-    ensures look { IfOk result (λ r. IsLookOfSeat r.0 r.1) }
+    ensures look { IfOk result (λ r. IsLookOf r.0 r.1) }
     ensures size { IfOk result (λ r. r.1.position.size ≡ r.1.graph.size) }
     ensures vertex { IfOk result (λ r. N.table.start.q < r.1.graph.size) }
 {

@@ -6,11 +6,11 @@ pub use Rattle.dg_rules.proofs.LegalLaws.{legal_part, right_here}
 pub use Rattle.dg_rules.proofs.OneReply.{claim_once, gift_once, join_once, look_once, move_once}
 pub use Rattle.dg_rules.proofs.ListLaws.{slice_get-seam}
 pub use Rattle.dg_rules.proofs.StepLaw.{one_more_entry, vertices_stay}
-pub use Rattle.dg_rules.specs.History.{gifts_by_reply, gifts_in, position_after}
+pub use Rattle.dg_rules.specs.History.{change_count, gifts_in, position_after}
 pub use Rattle.dg_rules.specs.Legal.{IsLegal}
 pub use Rattle.dg_rules.specs.Position.{Position}
 pub use Rattle.dg_rules.specs.Replies.{Replies, RepliesAt, RepliesToJudge, RepliesToRank}
-pub use Rattle.dg_rules.specs.State.{HistoryLeadsTo, GameState}
+pub use Rattle.dg_rules.specs.State.{LeadsTo, GameState}
 pub use Rattle.dg_rules.specs.Step.{after_reply}
 pub use Rattle.dg_rules.specs.declared.entry.Entry.{Entry}
 pub use Rattle.dg_rules.specs.declared.entry.Reply.{Reply}
@@ -24,27 +24,27 @@ pub use Rattle.dg_graph.specs.Graph.{IsGraph}
 pub use Rattle.dg_lines.proofs.Judging.{judged-named}
 pub use Rattle.dg_lines.proofs.Printing.{history_more, legal_named}
 pub use Rattle.dg_lines.proofs.Schedule.{AreRead, all_read, none_read, one_more, steps_seated}
-pub use Rattle.dg_lines.specs.Cuts.{onto_first_piece}
+pub use Rattle.dg_lines.specs.Cuts.{cons_to_first}
 pub use Rattle.dg_lines.specs.Steps.{IsStepLine}
-pub use Rattle.dg_lines.specs.Texts.{TextHasNames, entry_text, text_of}
+pub use Rattle.dg_lines.specs.Texts.{HasNames, entry_text, text_of}
 pub use Rattle.dg_lines.specs.declared.lines.Lines.{Lines}
-pub use Rattle.dg_rank.specs.Ranks.{RefusesBothRanks, IsRankInLimits}
-pub use Rattle.dg_game.specs.Rehearsal.{IsPlayingSchedule, PlaysScheduleOn, StopsSchedule}
-pub use Rattle.dg_game.specs.Schedule.{IsAskedInSchedule, IsEntryOfSchedule, IsKeptInSchedule}
-pub use Rattle.dg_game.specs.ScheduleFaults.{IsFirstRehearsalFault}
+pub use Rattle.dg_rank.specs.Ranks.{RefusesBothRanks, IsTestedRank}
+pub use Rattle.dg_game.specs.Rehearsal.{IsRehearsalAfter, PlaysStep, RefusesStep}
+pub use Rattle.dg_game.specs.Schedule.{IsStepRequest, IsStepEntry, KeepsLookAt}
+pub use Rattle.dg_game.specs.ScheduleFaults.{IsRehearsalFault}
 pub use Rattle.dg_game.specs.declared.schedule.Rehearsal.{Rehearsal}
 pub use Rattle.dg_game.specs.declared.schedule.RehearseFault.{RehearseFault}
 pub use Rattle.dg_game.specs.declared.schedule.RehearseFault.TheVariants.{Seat}
 pub use Rattle.dg_strategy.proofs.Greedily.{IsUnderWay, begun, legal_turn, settled_game, used_up, went_on}
 pub use Rattle.dg_strategy.proofs.OneGame.{greedy_game_is_one}
 pub use Rattle.dg_strategy.specs.Greedy.{IsGreedyTurn}
-pub use Rattle.dg_tasks.specs.Games.{IsGreedyAnswer, greedy_turns_text}
-pub use Rattle.dg_tasks.specs.OneText.{GreedyHasOneText, TaskAnswersAreOneText, RehearsalsHaveOneText, requests_in_task}
-pub use Rattle.dg_tasks.specs.RankTests.{IsRiemannRochTask, riemann_roch_text}
-pub use Rattle.dg_tasks.specs.Refusals.{IsTaskFaultOfSteps}
-pub use Rattle.dg_tasks.specs.Rehearsals.{IsPlayedInTask, IsPrintedInTask, StopsRehearsalTask}
+pub use Rattle.dg_tasks.specs.Games.{IsGreedyAnswer, turns_text}
+pub use Rattle.dg_tasks.specs.OneText.{GreedyHasOneText, HistoryTextIsUnique, RehearsalsHaveOneText, requests_of}
+pub use Rattle.dg_tasks.specs.RankTests.{IsRiemannRochAnswer, riemann_roch_text}
+pub use Rattle.dg_tasks.specs.Refusals.{IsStepsFaultOn}
+pub use Rattle.dg_tasks.specs.Rehearsals.{IsPlayedSoFar, IsRehearsalAnswer, StopsRehearsal}
 pub use Rattle.dg_theory.proofs.RankNumbers.{riemann_roch}
-pub use Rattle.dg_theory.specs.Rank.{canonical, less}
+pub use Rattle.dg_theory.specs.Rank.{canonical, minus}
 pub use Rattle.std.proofs.Common.{Bool, List, None, Option, Some, [], ap, append-nil, append_assoc, arith, codes, cond, false, length, length-append, not, of_z, refl, rules, slice_get, subst, suc, sym, take, to_z, true, w64, zero, ℕ, ⊎_elim, ◌++◌, ◌+◌, ◌<◌, ◌==◌, ◌∙◌, ◌∷◌, ◌≡◌, ◌≤◌}
 pub use Rattle.std.proofs.lemmas.Bool.{cases_lt}
 pub use Rattle.std.proofs.lemmas.Int.{ints, to_z-of_z}

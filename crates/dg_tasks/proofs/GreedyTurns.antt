@@ -6,7 +6,7 @@
 --   one_played     with one more turn that is a move
 --   all_settled    with one more turn that is the claim the text is the answer
 --   all_used_up    and with `turns` where its turns are used up
-use Rattle.dg_tasks.proofs.Common.{◌≡◌, ℕ, ◌+◌, ◌<◌, Bool, true, false, List, [], ◌∷◌, ◌++◌, length, arith, refl, sym, ap, ◌∙◌, append-nil, length-append, StartData, GameState, HistoryLeadsTo, Entry, slice_get-seam, IsGreedyTurn, IsUnderWay, begun, legal_turn, went_on, settled_game, used_up, TextHasNames, entry_text, legal_named, history_more, IsGreedyAnswer, greedy_turns_text}
+use Rattle.dg_tasks.proofs.Common.{◌≡◌, ℕ, ◌+◌, ◌<◌, Bool, true, false, List, [], ◌∷◌, ◌++◌, length, arith, refl, sym, ap, ◌∙◌, append-nil, length-append, StartData, GameState, LeadsTo, Entry, slice_get-seam, IsGreedyTurn, IsUnderWay, begun, legal_turn, went_on, settled_game, used_up, HasNames, entry_text, legal_named, history_more, IsGreedyAnswer, turns_text}
 use Rattle.dg_lines.specs.Texts.{history_text}
 
 pub record IsPlayedTo (o : StartData) (names : List (List ℕ)) (s : GameState) (n : ℕ) (text : List ℕ) : Type 0 where
@@ -15,7 +15,7 @@ pub record IsPlayedTo (o : StartData) (names : List (List ℕ)) (s : GameState) 
   pub count : n ≡ length history
   pub printed : text ≡ history_text names 0 history
 
-pub none_played : (o : StartData) (names : List (List ℕ)) (s : GameState) (text : List ℕ) → HistoryLeadsTo o [] s → text ≡ [] →
+pub none_played : (o : StartData) (names : List (List ℕ)) (s : GameState) (text : List ℕ) → LeadsTo o [] s → text ≡ [] →
     IsPlayedTo o names s 0 text
 unfolding history_text
 none_played o names s text leads empty = record {
@@ -27,17 +27,17 @@ none_played o names s text leads empty = record {
 
 -- what a turn from the state s does, whatever its history
 abbrev pub IsTurnFrom : GameState → Entry → Bool → Type 0
-IsTurnFrom s e settled = (o : StartData) (H : List Entry) → HistoryLeadsTo o H s → IsGreedyTurn o H e settled
+IsTurnFrom s e settled = (o : StartData) (H : List Entry) → LeadsTo o H s → IsGreedyTurn o H e settled
 
 abbrev pub LeadsOn : GameState → Entry → GameState → Type 0
-LeadsOn s e t = (o : StartData) (H : List Entry) → HistoryLeadsTo o H s → HistoryLeadsTo o (H ++ e ∷ []) t
+LeadsOn s e t = (o : StartData) (H : List Entry) → LeadsTo o H s → LeadsTo o (H ++ e ∷ []) t
 
 module _ (o : StartData) (names : List (List ℕ)) (s : GameState) (n : ℕ) (text : List ℕ) (e : Entry) (settled : Bool)
     (turn : IsTurnFrom s e settled) (known : IsPlayedTo o names s n text) where
   made : IsGreedyTurn o known.history e settled
   made = turn o known.history known.under_way.leads
 
-  pub turn_named : length names ≡ o.graph.size → TextHasNames names e.reply
+  pub turn_named : length names ≡ o.graph.size → HasNames names e.reply
   turn_named fit =
       legal_named names o (known.history ++ e ∷ []) fit
       (legal_turn o known.history e settled known.under_way.legal made) (length known.history) e
@@ -72,10 +72,10 @@ module _ (o : StartData) (names : List (List ℕ)) (s : GameState) (n : ℕ) (te
   }
 
 pub all_used_up : (o : StartData) (names : List (List ℕ)) (s : GameState) (n : ℕ) (text longer : List ℕ) →
-    longer ≡ text ++ greedy_turns_text false → IsPlayedTo o names s n text → IsGreedyAnswer o n names longer
+    longer ≡ text ++ turns_text false → IsPlayedTo o names s n text → IsGreedyAnswer o n names longer
 all_used_up o names s n text longer written known = record {
   history = known.history;
   settled = false;
   game = used_up o n known.history s (sym known.count) known.under_way;
-  printed = written ∙ ap (λ (start : List ℕ). start ++ greedy_turns_text false) known.printed;
+  printed = written ∙ ap (λ (start : List ℕ). start ++ turns_text false) known.printed;
 }

@@ -1,19 +1,19 @@
 -- At one position replies to a request are alike: there is one to a call, and the order of a verdict shows in no text.
 --   Alike        two replies to a request count alike, lead to one position and have one text
 --   reply_once   replies to a request are alike
-use Rattle.dg_tasks.proofs.Common.{◌≡◌, ℕ, ◌<◌, List, length, refl, sym, ap, ◌∙◌, IsGraph, gifts_by_reply, Position, RepliesAt, RepliesToJudge, RepliesToRank, after_reply, Request, Reply, Verdict, Rank, Stale, text_of, move_once, gift_once, join_once, look_once, claim_once}
+use Rattle.dg_tasks.proofs.Common.{◌≡◌, ℕ, ◌<◌, List, length, refl, sym, ap, ◌∙◌, IsGraph, change_count, Position, RepliesAt, RepliesToJudge, RepliesToRank, after_reply, Request, Reply, Verdict, Rank, Stale, text_of, move_once, gift_once, join_once, look_once, claim_once}
 use Rattle.dg_rules.specs.declared.entry.Request.TheVariants as request
 use Rattle.dg_lines.proofs.OneText.{verdict_same, test_same}
 
 pub record Alike (names : List (List ℕ)) (p : Position) (r : Request) (a b : Reply) : Type 0 where
-  pub counted : gifts_by_reply a ≡ gifts_by_reply b
+  pub counted : change_count a ≡ change_count b
   pub leads : after_reply p r a ≡ after_reply p r b
   pub text : text_of names a ≡ text_of names b
 
 module _ (names : List (List ℕ)) (p : Position) (fit : length names ≡ p.graph.size) where
   same_alike : (r : Request) (a b : Reply) → a ≡ b → Alike names p r a b
   same_alike r a b same = record {
-    counted = ap gifts_by_reply same;
+    counted = ap change_count same;
     leads = ap (after_reply p r) same;
     text = ap (text_of names) same;
   }

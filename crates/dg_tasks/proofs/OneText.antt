@@ -8,9 +8,9 @@
 --   asked_alike       histories whose requests are the same at each place ask for the same
 --   kept_once         a seat keeps one look
 --   asked_once        so a step makes one request
---   rehearsal_tasks_have_one_text   histories of the same steps have one text
+--   rehearsal_text_is_unique   histories of the same steps have one text
 --   greedy_has_one_text   what is printed of a greedy game
-use Rattle.dg_tasks.proofs.Common.{◌≡◌, ℕ, zero, suc, ◌+◌, ◌<◌, ◌≤◌, Bool, List, [], ◌∷◌, ◌++◌, length, take, slice_get, Some, arith, refl, sym, ap, subst, ◌∙◌, append_assoc, ⊎_elim, codes, decimal, slice_get_within, cases_lt, StartData, IsStart, position_after, gifts_in, gifts_by_reply, IsLegal, Position, Replies, RepliesAt, after_reply, Entry, Request, Reply, Command, Call, Commit, Step, graphs_hold, legal_part, right_here, one_more_entry, vertices_stay, IsKeptInSchedule, IsAskedInSchedule, IsEntryOfSchedule, greedy_game_is_one, entry_text, greedy_turns_text, requests_in_task, TaskAnswersAreOneText, RehearsalsHaveOneText, GreedyHasOneText}
+use Rattle.dg_tasks.proofs.Common.{◌≡◌, ℕ, zero, suc, ◌+◌, ◌<◌, ◌≤◌, Bool, List, [], ◌∷◌, ◌++◌, length, take, slice_get, Some, arith, refl, sym, ap, subst, ◌∙◌, append_assoc, ⊎_elim, codes, decimal, slice_get_within, cases_lt, StartData, IsStart, position_after, gifts_in, change_count, IsLegal, Position, Replies, RepliesAt, after_reply, Entry, Request, Reply, Command, Call, Commit, Step, graphs_hold, legal_part, right_here, one_more_entry, vertices_stay, KeepsLookAt, IsStepRequest, IsStepEntry, greedy_game_is_one, entry_text, turns_text, requests_of, HistoryTextIsUnique, RehearsalsHaveOneText, GreedyHasOneText}
 use Rattle.dg_rules.specs.declared.entry.Request.TheVariants as request
 use Rattle.dg_rules.specs.declared.step.Command.TheVariants.{Rank}
 use Rattle.dg_lines.specs.Texts.{history_text}
@@ -18,12 +18,12 @@ use Rattle.dg_tasks.proofs.OneReply.{Alike, reply_once}
 
 pub counts : List Entry → List ℕ
 counts [] = []
-counts (e ∷ H) = gifts_by_reply e.reply ∷ counts H
+counts (e ∷ H) = change_count e.reply ∷ counts H
 
-counts_more : (H : List Entry) (e : Entry) → counts (H ++ e ∷ []) ≡ counts H ++ gifts_by_reply e.reply ∷ []
+counts_more : (H : List Entry) (e : Entry) → counts (H ++ e ∷ []) ≡ counts H ++ change_count e.reply ∷ []
 unfolding counts
 counts_more [] e = refl
-counts_more (x ∷ H) e = ap (λ (ns : List ℕ). gifts_by_reply x.reply ∷ ns) (counts_more H e)
+counts_more (x ∷ H) e = ap (λ (ns : List ℕ). change_count x.reply ∷ ns) (counts_more H e)
 
 added : List ℕ → ℕ
 added [] = 0
@@ -55,7 +55,7 @@ module _ (o : StartData) (start : IsStart o) (names : List (List ℕ)) (fit : le
       (subst (λ (p : Position). RepliesAt p o.q (λ i. gifts_in (take i L)) (gifts_in L) r b) (sym same) right'))
 
   seen_on : (K L H M : List Entry) (n : ℕ) → position_after o K ≡ position_after o L → counts K ≡ counts L →
-      IsLegal o (K ++ H) → IsLegal o (L ++ M) → requests_in_task H ≡ requests_in_task M →
+      IsLegal o (K ++ H) → IsLegal o (L ++ M) → requests_of H ≡ requests_of M →
       history_text names n H ≡ history_text names n M
   unfolding history_text
   seen_on K L [] [] n same counted legal legal' asks = refl
@@ -95,29 +95,29 @@ module _ (o : StartData) (start : IsStart o) (names : List (List ℕ)) (fit : le
 
       counted' : counts (K ++ d ∷ []) ≡ counts (L ++ e ∷ [])
       counted' =
-          counts_more K d ∙ ap (λ (ns : List ℕ). ns ++ gifts_by_reply d.reply ∷ []) counted
+          counts_more K d ∙ ap (λ (ns : List ℕ). ns ++ change_count d.reply ∷ []) counted
           ∙ ap (λ (i : ℕ). counts L ++ i ∷ []) alike.counted ∙ sym (counts_more L e)
 
-pub legal_have_one_text : TaskAnswersAreOneText
+pub legal_have_one_text : HistoryTextIsUnique
 legal_have_one_text o names H K start fit legal legal' asks =
     seen_on o start names fit [] [] H K 0 refl refl legal legal' asks
 
 asked_alike : (H K : List Entry) → length H ≡ length K →
     ((i : ℕ) (d e : Entry) → slice_get H i ≡ Some d → slice_get K i ≡ Some e → d.request ≡ e.request) →
-    requests_in_task H ≡ requests_in_task K
+    requests_of H ≡ requests_of K
 asked_alike [] [] count same = refl
 asked_alike [] (e ∷ K) count same = absurd (omega (arith, count))
 asked_alike (d ∷ H) [] count same = absurd (omega (arith, count))
 asked_alike (d ∷ H) (e ∷ K) count same =
-    ap (λ (r : Request). r ∷ requests_in_task H) (same 0 d e refl refl)
+    ap (λ (r : Request). r ∷ requests_of H) (same 0 d e refl refl)
     ∙ ap (λ (rs : List Request). e.request ∷ rs)
     (asked_alike H K (omega (arith, count)) (λ i x y here there. same (suc i) x y here there))
 
 -- of two looks that a seat would keep, none is the earlier
-not_earlier : (steps : List Step) (seat j i k : ℕ) → IsKeptInSchedule steps seat j i → IsKeptInSchedule steps seat j k → i < k → ⊥
+not_earlier : (steps : List Step) (seat j i k : ℕ) → KeepsLookAt steps seat j i → KeepsLookAt steps seat j k → i < k → ⊥
 not_earlier steps seat j i k first second earlier = first.last k _ earlier second.before second.look refl tt
 
-kept_once : (steps : List Step) (seat j i k : ℕ) → IsKeptInSchedule steps seat j i → IsKeptInSchedule steps seat j k → i ≡ k
+kept_once : (steps : List Step) (seat j i k : ℕ) → KeepsLookAt steps seat j i → KeepsLookAt steps seat j k → i ≡ k
 kept_once steps seat j i k first second = ⊎_elim
     (λ (earlier : i < k). absurd (not_earlier steps seat j i k first second earlier))
     (λ (least : k ≤ i). ⊎_elim
@@ -126,8 +126,8 @@ kept_once steps seat j i k first second = ⊎_elim
     (cases_lt k i))
     (cases_lt i k)
 
-asked_once : (steps : List Step) (seat j : ℕ) (c : Command) (r s : Request) → IsAskedInSchedule steps seat j c r →
-    IsAskedInSchedule steps seat j c s → r ≡ s
+asked_once : (steps : List Step) (seat j : ℕ) (c : Command) (r s : Request) → IsStepRequest steps seat j c r →
+    IsStepRequest steps seat j c s → r ≡ s
 asked_once steps seat j (Call p) r s first second = first ∙ sym second
 asked_once steps seat j Commit r s (i, kept, is) (k, kept', is') =
     is ∙ ap request.Judge (kept_once steps seat j i k kept kept') ∙ sym is'
@@ -139,19 +139,19 @@ step_at [] i inside = absurd (omega (arith, inside))
 step_at (step ∷ steps) zero inside = (step, refl)
 step_at (step ∷ steps) (suc i) inside = step_at steps i (omega (arith, inside))
 
-pub rehearsal_tasks_have_one_text : RehearsalsHaveOneText
-rehearsal_tasks_have_one_text o names steps H K start fit first second =
+pub rehearsal_text_is_unique : RehearsalsHaveOneText
+rehearsal_text_is_unique o names steps H K start fit first second =
     legal_have_one_text o names H K start fit first.legal second.legal
     (asked_alike H K (first.length' ∙ sym second.length') (λ i d e here there.
     let inside : i < length steps = omega (arith, slice_get_within H i d here, first.length') in
     let (step, at) = step_at steps i inside in
-    let one : IsEntryOfSchedule steps i step d = first.entries i step d at here in
-    let other : IsEntryOfSchedule steps i step e = second.entries i step e at there in
+    let one : IsStepEntry steps i step d = first.entries i step d at here in
+    let other : IsStepEntry steps i step e = second.entries i step e at there in
     asked_once steps step.seat i step.command d.request e.request one.request other.request))
 
 pub greedy_has_one_text : GreedyHasOneText
 greedy_has_one_text o names n text other start fit first second =
     let (same, ended) = greedy_game_is_one o n first.history second.history first.settled second.settled first.game
     second.game in
-    first.printed ∙ ap (λ (H : List Entry). history_text names 0 H ++ greedy_turns_text first.settled) same
-    ∙ ap (λ (b : Bool). history_text names 0 second.history ++ greedy_turns_text b) ended ∙ sym second.printed
+    first.printed ∙ ap (λ (H : List Entry). history_text names 0 H ++ turns_text first.settled) same
+    ∙ ap (λ (b : Bool). history_text names 0 second.history ++ turns_text b) ended ∙ sym second.printed

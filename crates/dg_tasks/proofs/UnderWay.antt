@@ -15,13 +15,13 @@
 --   all_played       after the last line the text is that of the history
 --   first_fault      after the last line the fault is the first one of the steps
 --   never_unseated   a step that a line spells has a seat
-use Rattle.dg_tasks.proofs.Common.{◌≡◌, ℕ, ◌+◌, ◌<◌, ◌≤◌, ◌==◌, cond, true, false, List, [], ◌∷◌, ◌++◌, length, slice_get, Option, Some, None, arith, refl, sym, ap, subst, ◌∙◌, append_assoc, append-nil, length-append, is_none, StartData, IsPlayingSchedule, PlaysScheduleOn, StopsSchedule, IsFirstRehearsalFault, Entry, MAX_ENTRIES, Rehearsal, RehearseFault, Seat, Step, slice_get-seam, onto_first_piece, IsStepLine, entry_text, history_more, AreRead, none_read, one_more, all_read, steps_seated, IsPrintedInTask, IsPlayedInTask, StopsRehearsalTask, IsTaskFaultOfSteps}
+use Rattle.dg_tasks.proofs.Common.{◌≡◌, ℕ, ◌+◌, ◌<◌, ◌≤◌, ◌==◌, cond, true, false, List, [], ◌∷◌, ◌++◌, length, slice_get, Option, Some, None, arith, refl, sym, ap, subst, ◌∙◌, append_assoc, append-nil, length-append, is_none, StartData, IsRehearsalAfter, PlaysStep, RefusesStep, IsRehearsalFault, Entry, MAX_ENTRIES, Rehearsal, RehearseFault, Seat, Step, slice_get-seam, cons_to_first, IsStepLine, entry_text, history_more, AreRead, none_read, one_more, all_read, steps_seated, IsRehearsalAnswer, IsPlayedSoFar, StopsRehearsal, IsStepsFaultOn}
 use Rattle.dg_lines.specs.Cuts.{lines}
 use Rattle.dg_lines.specs.Texts.{history_text}
 
 abbrev pub StandsAt : StartData → List (List ℕ) → List Step → Rehearsal → List ℕ → Option RehearseFault → Type 0
-StandsAt o names steps r text None = IsPlayedInTask o names steps r text
-StandsAt o names steps r text (Some fault) = StopsRehearsalTask o steps fault
+StandsAt o names steps r text None = IsPlayedSoFar o names steps r text
+StandsAt o names steps r text (Some fault) = StopsRehearsal o steps fault
 
 pub record IsUnderWay (o : StartData) (names all left : List (List ℕ)) (line : ℕ) (r : Rehearsal) (text : List ℕ)
     (stopped : Option RehearseFault) : Type 0 where
@@ -38,8 +38,8 @@ together : (steps more : List Step) (step : Step) → (steps ++ step ∷ []) ++ 
 together steps more step = append_assoc steps (step ∷ []) more
 
 pub played_none : (o : StartData) (names : List (List ℕ)) (r : Rehearsal) (text : List ℕ) →
-    ((steps : List Step) → IsPlayingSchedule o steps [] r) → text ≡ []
-    → IsPlayedInTask o names [] r text
+    ((steps : List Step) → IsRehearsalAfter o steps [] r) → text ≡ []
+    → IsPlayedSoFar o names [] r text
 unfolding history_text
 played_none o names r text playing empty = record {
   history = [];
@@ -51,16 +51,16 @@ played_none o names r text playing empty = record {
 
 pub played_more : (o : StartData) (names : List (List ℕ)) (steps : List Step) (step : Step) (e : Entry) (r t : Rehearsal)
     (text longer : List ℕ) (number : ℕ)
-    → PlaysScheduleOn r step e t → r.game.entries < MAX_ENTRIES → number ≡ r.game.entries
+    → PlaysStep r step e t → r.game.entries < MAX_ENTRIES → number ≡ r.game.entries
     → longer ≡ text ++ entry_text names number e.reply
-    → IsPlayedInTask o names steps r text → IsPlayedInTask o names (steps ++ step ∷ []) t longer
+    → IsPlayedSoFar o names steps r text → IsPlayedSoFar o names (steps ++ step ∷ []) t longer
 played_more o names steps step e r t text longer number plays room counted written known =
     let H : List Entry = known.history in
-    let here : (more : List Step) → IsPlayingSchedule o (steps ++ step ∷ more) H r = λ more. known.playing (step ∷ more) in
+    let here : (more : List Step) → IsRehearsalAfter o (steps ++ step ∷ more) H r = λ more. known.playing (step ∷ more) in
     let place : number ≡ 0 + length H = omega (arith, counted, (known.playing []).leads.entries) in
     record {
       history = H ++ e ∷ [];
-      playing = λ more. subst (λ (all : List Step). IsPlayingSchedule o all (H ++ e ∷ []) t) (sym (together steps more step))
+      playing = λ more. subst (λ (all : List Step). IsRehearsalAfter o all (H ++ e ∷ []) t) (sym (together steps more step))
           (plays o H (steps ++ step ∷ more) (here more) (next_is steps more step (length H) known.count));
       few = omega (
         arith,
@@ -76,20 +76,20 @@ played_more o names steps step e r t text longer number plays room counted writt
 
 pub stopped_at : (o : StartData) (names : List (List ℕ)) (steps : List Step) (step : Step) (r : Rehearsal) (text : List ℕ)
     (fault : RehearseFault)
-    → StopsSchedule r step fault → IsPlayedInTask o names steps r text → StopsRehearsalTask o (steps ++ step ∷ []) fault
+    → RefusesStep r step fault → IsPlayedSoFar o names steps r text → StopsRehearsal o (steps ++ step ∷ []) fault
 stopped_at o names steps step r text fault stops known more =
-    subst (λ (all : List Step). IsFirstRehearsalFault o.graph.size all fault) (sym (together steps more step))
+    subst (λ (all : List Step). IsRehearsalFault o.graph.size all fault) (sym (together steps more step))
     (stops.1 o known.history (steps ++ step ∷ more) (known.playing (step ∷ more))
     (next_is steps more step (length known.history) known.count))
 
 -- a fault stays the first
-pub stays_stopped : (o : StartData) (steps : List Step) (step : Step) (fault : RehearseFault) → StopsRehearsalTask o steps fault →
-    StopsRehearsalTask o (steps ++ step ∷ []) fault
+pub stays_stopped : (o : StartData) (steps : List Step) (step : Step) (fault : RehearseFault) → StopsRehearsal o steps fault →
+    StopsRehearsal o (steps ++ step ∷ []) fault
 stays_stopped o steps step fault stopped more =
-    subst (λ (all : List Step). IsFirstRehearsalFault o.graph.size all fault) (sym (together steps more step))
+    subst (λ (all : List Step). IsRehearsalFault o.graph.size all fault) (sym (together steps more step))
     (stopped (step ∷ more))
 
-onto_first_few : (x n : ℕ) (rest : List (List ℕ)) → length rest ≤ n → length (onto_first_piece x rest) ≤ n + 1
+onto_first_few : (x n : ℕ) (rest : List (List ℕ)) → length rest ≤ n → length (cons_to_first x rest) ≤ n + 1
 onto_first_few x n [] few = omega arith
 onto_first_few x n (first ∷ rest) few = omega arith
 
@@ -98,11 +98,11 @@ unfolding lines
 lines_few [] = omega arith
 lines_few (x ∷ xs) =
     let few : length (lines xs) ≤ length xs = lines_few xs in
-    elim (x == 10) as (λ t. length (cond t ([] ∷ lines xs) (onto_first_piece x (lines xs))) ≤ length (x ∷ xs))
+    elim (x == 10) as (λ t. length (cond t ([] ∷ lines xs) (cons_to_first x (lines xs))) ≤ length (x ∷ xs))
     [ true ↦ omega arith | false ↦ omega (arith, onto_first_few x (length xs) (lines xs) few) ]
 
 pub under_way_none : (o : StartData) (names : List (List ℕ)) (bytes left : List ℕ) (r : Rehearsal) (text : List ℕ)
-    → ((steps : List Step) → IsPlayingSchedule o steps [] r) → text ≡ [] → left ≡ bytes →
+    → ((steps : List Step) → IsRehearsalAfter o steps [] r) → text ≡ [] → left ≡ bytes →
     IsUnderWay o names (lines bytes) (lines left) 0 r text None
 under_way_none o names bytes left r text playing empty same = record {
   steps = [];
@@ -127,15 +127,15 @@ pub one_played : (o : StartData) (names own all left back : List (List ℕ)) (by
     (text longer : List ℕ)
     (stopped : Option RehearseFault) (step : Step) → own ≡ names → left ≡ bytes ∷ back → IsStepLine own step bytes →
     is_none stopped ≡ true
-    → ((o : StartData) (steps : List Step) → IsPlayedInTask o own steps r text → IsPlayedInTask o own (steps ++ step ∷ []) t
+    → ((o : StartData) (steps : List Step) → IsPlayedSoFar o own steps r text → IsPlayedSoFar o own (steps ++ step ∷ []) t
     longer)
     → IsUnderWay o names all left line r text stopped → IsUnderWay o names all back (line + 1) t longer stopped
 one_played o names own all left back bytes line r t text longer None step same next accepted none plays known = record {
   steps = known.steps ++ step ∷ [];
   read = one_read names own all left back bytes known.steps step same next accepted known.read;
   count = one_counted known.steps step line known.count;
-  stands = subst (λ (ns : List (List ℕ)). IsPlayedInTask o ns (known.steps ++ step ∷ []) t longer) same
-      (plays o known.steps (subst (λ (ns : List (List ℕ)). IsPlayedInTask o ns known.steps r text) (sym same) known.stands));
+  stands = subst (λ (ns : List (List ℕ)). IsPlayedSoFar o ns (known.steps ++ step ∷ []) t longer) same
+      (plays o known.steps (subst (λ (ns : List (List ℕ)). IsPlayedSoFar o ns known.steps r text) (sym same) known.stands));
 }
 one_played o names own all left back bytes line r t text longer (Some fault) step same next accepted none plays known =
     absurd (cc)
@@ -145,7 +145,7 @@ pub one_refused : (o : StartData) (names own all left back : List (List ℕ)) (b
     (stopped : Option RehearseFault) (step : Step) (fault : RehearseFault) → own ≡ names → left ≡ bytes ∷ back →
     IsStepLine own step bytes
     → is_none stopped ≡ true
-    → ((o : StartData) (steps : List Step) → IsPlayedInTask o own steps r text → StopsRehearsalTask o (steps ++ step ∷ []) fault)
+    → ((o : StartData) (steps : List Step) → IsPlayedSoFar o own steps r text → StopsRehearsal o (steps ++ step ∷ []) fault)
     → IsUnderWay o names all left line r text stopped → IsUnderWay o names all back (line + 1) t longer (Some fault)
 one_refused o names own all left back bytes line r t text longer None step fault same next accepted none stops known =
     record {
@@ -153,7 +153,7 @@ one_refused o names own all left back bytes line r t text longer None step fault
       read = one_read names own all left back bytes known.steps step same next accepted known.read;
       count = one_counted known.steps step line known.count;
       stands = stops o known.steps
-          (subst (λ (ns : List (List ℕ)). IsPlayedInTask o ns known.steps r text) (sym same) known.stands);
+          (subst (λ (ns : List (List ℕ)). IsPlayedSoFar o ns known.steps r text) (sym same) known.stands);
     }
 one_refused o names own all left back bytes line r t text longer
     (Some x) step fault same next accepted none stops known = absurd (cc)
@@ -182,12 +182,12 @@ lines_read o names left back bytes next line r text stopped goes known =
 
 pub all_played : (o : StartData) (names all left : List (List ℕ)) (line : ℕ) (r : Rehearsal) (text : List ℕ)
     (stopped : Option RehearseFault)
-    → left ≡ [] → stopped ≡ None → IsUnderWay o names all left line r text stopped → IsPrintedInTask o names all text
+    → left ≡ [] → stopped ≡ None → IsUnderWay o names all left line r text stopped → IsRehearsalAnswer o names all text
 all_played o names all left line r text None none played known =
     let steps : List Step = known.steps in
     let whole : steps ++ [] ≡ steps = append-nil steps in
-    let playing : IsPlayingSchedule o steps known.stands.history r =
-    subst (λ (s : List Step). IsPlayingSchedule o s known.stands.history r) whole (known.stands.playing []) in
+    let playing : IsRehearsalAfter o steps known.stands.history r =
+    subst (λ (s : List Step). IsRehearsalAfter o s known.stands.history r) whole (known.stands.playing []) in
     record {
       steps = steps;
       spelled = all_read names all left steps none known.read;
@@ -206,17 +206,17 @@ all_played o names all left line r text (Some fault) none played known = absurd 
 pub first_fault : (o : StartData) (names all left : List (List ℕ)) (line : ℕ) (r : Rehearsal) (text : List ℕ)
     (stopped : Option RehearseFault)
     (fault : RehearseFault) → left ≡ [] → stopped ≡ Some fault → IsUnderWay o names all left line r text stopped →
-    IsTaskFaultOfSteps o.graph.size names all fault
+    IsStepsFaultOn o.graph.size names all fault
 first_fault o names all left line r text None fault none told known = absurd (cc)
 first_fault o names all left line r text (Some x) fault none told known =
     let same : x ≡ fault = cc in
-    let first : IsFirstRehearsalFault o.graph.size known.steps x =
-    subst (λ (s : List Step). IsFirstRehearsalFault o.graph.size s x) (append-nil known.steps) (known.stands []) in (
+    let first : IsRehearsalFault o.graph.size known.steps x =
+    subst (λ (s : List Step). IsRehearsalFault o.graph.size s x) (append-nil known.steps) (known.stands []) in (
       known.steps,
       all_read names all left known.steps none known.read,
-      subst (IsFirstRehearsalFault o.graph.size known.steps) same first,
+      subst (IsRehearsalFault o.graph.size known.steps) same first,
     )
 
-pub never_unseated : (n : ℕ) (names all : List (List ℕ)) (i : ℕ) → IsTaskFaultOfSteps n names all (Seat i) → ⊥
+pub never_unseated : (n : ℕ) (names all : List (List ℕ)) (i : ℕ) → IsStepsFaultOn n names all (Seat i) → ⊥
 never_unseated n names all i (steps, spelled, (few, good, (step, there, unseated))) =
     unseated (steps_seated names steps all spelled i step there)

@@ -1,7 +1,7 @@
 //! Greedy games that are played and printed turn by turn: the history is not kept.
 ghost use Rattle.std.specs.Prelude.{◌≤◌, IfOk, IfErr};
 ghost use Rattle.dg_rules.specs.declared.game.TheConstants.{MAX_ENTRIES};
-ghost use Rattle.dg_tasks.specs.Games.{IsGreedyAnswer, RefusesGreedyTask};
+ghost use Rattle.dg_tasks.specs.Games.{IsGreedyAnswer, RefusesGreedy};
 
 use crate::fault::TaskFault;
 use dg_file::TableFile;
@@ -21,7 +21,7 @@ pub fn greedy_answer(alloc: Global, table: &TableFile, turns: u32) -> Result<Vec
     requires { turns ≤ MAX_ENTRIES }
     ensures printed { IfOk result
         (λ text. IsGreedyAnswer table.now.start turns table.now.names text.items) }
-    ensures refused { IfErr result RefusesGreedyTask }
+    ensures refused { IfErr result RefusesGreedy }
 {
     let names = table.names();
     let mut game = Game::new(table.start());

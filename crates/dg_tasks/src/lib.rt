@@ -11,6 +11,6 @@ mod table_source;
 mod tasks;
 
 pub use fault::TaskFault;
-pub use laws::rehearsal_tasks_have_one_text;
+pub use laws::rehearsal_text_is_unique;
 pub use table_source::load_table;
-pub use tasks::{answer, answer_task_alone};
+pub use tasks::{answer, answer_alone};

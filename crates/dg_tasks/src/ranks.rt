@@ -1,9 +1,9 @@
 //! Rank tests that are printed, and both sides of Riemann-Roch.
 ghost use Rattle.std.specs.Prelude.{◌≡◌, ◌≤◌, ℤ, [], ◌++◌, codes, IfOk, IfErr, OnOk};
-ghost use Rattle.dg_rank.specs.Ranks.{MayHaveRankWorkers};
-ghost use Rattle.dg_lines.specs.Texts.{TextHasNames, text_of};
+ghost use Rattle.dg_rank.specs.Ranks.{IsWorkerCount};
+ghost use Rattle.dg_lines.specs.Texts.{HasNames, text_of};
 ghost use Rattle.dg_rules.specs.declared.entry.Reply.TheVariants.{Rank};
-ghost use Rattle.dg_tasks.specs.RankTests.{IsRankTaskAnswer, RefusesRankTask, task_answer_line, riemann_roch_text, IsRiemannRochTask, RefusesRiemannRoch};
+ghost use Rattle.dg_tasks.specs.RankTests.{IsRankAnswer, RefusesRank, labelled_line, riemann_roch_text, IsRiemannRochAnswer, RefusesRiemannRoch};
 
 use crate::fault::TaskFault;
 use dg_chips::{Start, dual};
@@ -28,15 +28,15 @@ pub(crate) fn rank_answer<R: Threads + Wait>(
     workers: u32,
 ) -> Result<Vec<u8>, TaskFault>
     requires some { 2 ≤ workers }
-    requires workers { MayHaveRankWorkers workers }
+    requires workers { IsWorkerCount workers }
     ensures ranked { IfOk result
-        (λ text. IsRankTaskAnswer table.now.start k table.now.names text.items) }
-    ensures refused { IfErr result (RefusesRankTask table.now.start.graph.size k workers) }
+        (λ text. IsRankAnswer table.now.start k table.now.names text.items) }
+    ensures refused { IfErr result (RefusesRank table.now.start.graph.size k workers) }
 {
     let start = table.start();
     let (graph, q, divisor) = (start.graph(), start.q(), start.divisor());
     match rank_with(rt, graph, q, divisor, k, workers, &OpenGate) {
-        Ok(verdict) => rank_task_line(alloc, verdict, table.names()),
+        Ok(verdict) => rank_line(alloc, verdict, table.names()),
         Err(RankFault::TooMany) => Err(TaskFault::TooMany),
         Err(RankFault::Workers) => unreachable!(),
         Err(RankFault::OutOfMemory) => unreachable!(),
@@ -45,26 +45,26 @@ pub(crate) fn rank_answer<R: Threads + Wait>(
 }
 
 /// The rank test of `rank_answer` by the thread that calls alone.
-pub(crate) fn rank_task_alone(
+pub(crate) fn rank_answer_alone(
     alloc: Global,
     table: &TableFile,
     k: u32,
 ) -> Result<Vec<u8>, TaskFault>
     ensures ranked { IfOk result
-        (λ text. IsRankTaskAnswer table.now.start k table.now.names text.items) }
-    ensures refused { IfErr result (RefusesRankTask table.now.start.graph.size k 1) }
+        (λ text. IsRankAnswer table.now.start k table.now.names text.items) }
+    ensures refused { IfErr result (RefusesRank table.now.start.graph.size k 1) }
 {
     let start = table.start();
     let (graph, q, divisor) = (start.graph(), start.q(), start.divisor());
     match rank_at_least(graph, q, divisor, k) {
-        Ok(verdict) => rank_task_line(alloc, verdict, table.names()),
+        Ok(verdict) => rank_line(alloc, verdict, table.names()),
         Err(_) => Err(TaskFault::TooMany),
     }
 }
 
 /// The line of a rank verdict.
-fn rank_task_line(alloc: Global, verdict: RankVerdict, names: &Names) -> Result<Vec<u8>, TaskFault>
-    requires { TextHasNames names.now (Rank verdict) }
+fn rank_line(alloc: Global, verdict: RankVerdict, names: &Names) -> Result<Vec<u8>, TaskFault>
+    requires { HasNames names.now (Rank verdict) }
     ensures printed { IfOk result
         (λ text. text.items ≡ text_of names.now (Rank verdict) ++ codes "\n") }
     ensures refused { IfErr result (λ fault. fault ≡ TaskFault.Shortage Shortage.OutOfMemory) }
@@ -77,7 +77,7 @@ fn rank_task_line(alloc: Global, verdict: RankVerdict, names: &Names) -> Result<
 /// Both sides of Riemann-Roch for a table's amounts, as text: the degree, the genus of the graph, the rank, and the rank
 /// of the canonical divisor less these amounts, each on a line. The rank is -1 if the amounts can't be won.
 pub(crate) fn riemann_roch_answer(alloc: Global, table: &TableFile) -> Result<Vec<u8>, TaskFault>
-    ensures told { IfOk result (λ text. IsRiemannRochTask table.now.start text.items) }
+    ensures told { IfOk result (λ text. IsRiemannRochAnswer table.now.start text.items) }
     ensures refused { IfErr result (RefusesRiemannRoch table.now.start) }
 {
     let start = table.start();
@@ -104,15 +104,15 @@ fn push_riemann_roch(
     requires { text.old.items ≡ [] }
     ensures { OnOk result (text.new.items ≡ riemann_roch_text start.now rank dual_rank) }
 {
-    push_task_line(text, "degree ", start.divisor().degree())?;
-    push_task_line(text, "genus ", i64::from(start.graph().genus()))?;
-    push_task_line(text, "rank ", rank)?;
-    push_task_line(text, "dual ", dual_rank)
+    push_labelled(text, "degree ", start.divisor().degree())?;
+    push_labelled(text, "genus ", i64::from(start.graph().genus()))?;
+    push_labelled(text, "rank ", rank)?;
+    push_labelled(text, "dual ", dual_rank)
 }
 
 /// A label, a number and a newline.
-fn push_task_line(text: &mut Vec<u8>, label: &str, number: i64) -> Result<(), AllocError>
-    ensures { OnOk result (text.new.items ≡ text.old.items ++ task_answer_line label.now number) }
+fn push_labelled(text: &mut Vec<u8>, label: &str, number: i64) -> Result<(), AllocError>
+    ensures { OnOk result (text.new.items ≡ text.old.items ++ labelled_line label.now number) }
 {
     text.extend_from_slice(label.as_bytes())?;
     text.extend_from_slice(Buffer::new().format(number).as_bytes())?;

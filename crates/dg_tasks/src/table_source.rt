@@ -1,6 +1,6 @@
 //! Tables that are read from files.
 ghost use Rattle.std.specs.Prelude.{IfOk, IfErr};
-ghost use Rattle.dg_tasks.specs.Tasks.{RefusesTaskTable, DescribesTaskTable};
+ghost use Rattle.dg_tasks.specs.Tasks.{RefusesTable, DescribesTable};
 
 use crate::fault::TaskFault;
 use dg_file::{TableFile, read_table};
@@ -15,8 +15,8 @@ where
     R: Files + AllocGlobal,
     S: Sources,
     ensures table { IfOk result
-        (λ table. DescribesTaskTable (S.held sources.now file.now) table.start table.names) }
-    ensures refused { IfErr result (RefusesTaskTable (S.held sources.now file.now)) }
+        (λ table. DescribesTable (S.held sources.now file.now) table.start table.names) }
+    ensures refused { IfErr result (RefusesTable (S.held sources.now file.now)) }
 {
     match sources.bytes(rt, file) {
         Ok(bytes) => read_table(rt.alloc(), bytes.as_slice()).map_err(TaskFault::File),

@@ -4,8 +4,8 @@
 --   borrowed_gains   by it everybody off q gets at least a dollar
 --   debts_cleared    from debts of at most k dollars off q, some script leaves none
 --   can_be_cleared   so some script leaves no debt off q
-use Rattle.dg_theory.proofs.Common.{◌≡◌, ◌≢◌, ℕ, zero, suc, ◌<◌, ◌≤◌, arith, ints, ℤ, pos, negsuc, ◌+ℤ◌, ◌≤ℤ◌, down, total_below, Multigraph, Amounts, gain, fired, HasNoDebtOff}
-use Rattle.dg_theory.proofs.TotalLaws.{total_below-term}
+use Rattle.dg_theory.proofs.Common.{◌≡◌, ◌≢◌, ℕ, zero, suc, ◌<◌, ◌≤◌, arith, ints, ℤ, pos, negsuc, ◌+ℤ◌, ◌≤ℤ◌, down, nat_sum_below, Multigraph, Amounts, gain, fired, IsEffectiveOff}
+use Rattle.dg_theory.proofs.TotalLaws.{nat_sum_below-term}
 use Rattle.dg_theory.proofs.FiringLaws.{fired-fired, fired-constant}
 use Rattle.dg_theory.proofs.Bounds.{gain-opposite}
 use Rattle.dg_theory.proofs.Equivalence.{opposite}
@@ -22,7 +22,7 @@ borrowed_gains g q c D v potential inside other =
     omega (arith, ints)
 
 pub debts_cleared : (g : Multigraph) (q : ℕ) (c : ℕ → ℕ) → IsPotential g q c → (k : ℕ) (D : Amounts) →
-    ((v : ℕ) → v < g.size → v ≢ q → pos 0 ≤ℤ (D v +ℤ pos k)) → (s : Amounts) × HasNoDebtOff g q (fired g D s)
+    ((v : ℕ) → v < g.size → v ≢ q → pos 0 ≤ℤ (D v +ℤ pos k)) → (s : Amounts) × IsEffectiveOff g q (fired g D s)
 debts_cleared g q c potential zero D few =
     (λ _. pos 0, λ v inside other. omega (arith, ints, fired-constant g D (pos 0) v, few v inside other))
 debts_cleared g q c potential (suc k) D few =
@@ -39,8 +39,8 @@ within_down (pos n) = omega (arith, ints)
 within_down (negsuc n) = omega (arith, ints)
 
 pub can_be_cleared : (g : Multigraph) (q : ℕ) (c : ℕ → ℕ) (D : Amounts) → IsPotential g q c →
-    (s : Amounts) × HasNoDebtOff g q (fired g D s)
+    (s : Amounts) × IsEffectiveOff g q (fired g D s)
 can_be_cleared g q c D potential =
-    debts_cleared g q c potential (total_below g.size (λ v. down (D v))) D (λ v inside other.
-    let term : down (D v) ≤ total_below g.size (λ w. down (D w)) = total_below-term g.size (λ w. down (D w)) v inside in
+    debts_cleared g q c potential (nat_sum_below g.size (λ v. down (D v))) D (λ v inside other.
+    let term : down (D v) ≤ nat_sum_below g.size (λ w. down (D w)) = nat_sum_below-term g.size (λ w. down (D w)) v inside in
     omega (arith, ints, within_down (D v)))

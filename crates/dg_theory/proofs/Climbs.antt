@@ -1,13 +1,13 @@
 -- How far the entries of a script can lie above its entry at q.
 --   Leaves n e S     an edge that leads from a vertex a of the set S to a vertex b outside it
---   JoinedInMultigraph-leaves  a chain from within a set to outside it has an edge that leaves the set
+--   IsConnectedTo-leaves  a chain from within a set to outside it has an edge that leaves the set
 --   IsGentle g q m K s  g has m + 1 vertices, and by the script s nobody off q gets less than - K
 --   gap_few          by a gentle script, an edge down from a set without q that lends at least as often as the rest
 --                    joins entries that differ by at most m K
 --   not_far_above    no entry of a gentle script lies more than m times m K above that at q: below each level above q
 --                    the next vertex is at most m K lower, and there are m vertices off q
-use Rattle.dg_theory.proofs.Common.{if◌then◌else◌, ◌≡◌, ◌≢◌, ℕ, zero, suc, ◌+◌, ◌*◌, ◌<◌, ◌≤◌, suc-mul, arith, refl, sym, ap, ◌∙◌, ◌⊎◌, inl, inr, ⊎_elim, Bool, true, false, ints, by_lt_z, ℤ, pos, ◌+ℤ◌, ◌-ℤ◌, ◌≤ℤ◌, ◌<ℤ◌, sum_below, Multigraph, IsMultigraph, edges_between, JoinedInMultigraph, here, along, Amounts, gain}
-use Rattle.dg_theory.proofs.Chains.{JoinedInMultigraph-end}
+use Rattle.dg_theory.proofs.Common.{if◌then◌else◌, ◌≡◌, ◌≢◌, ℕ, zero, suc, ◌+◌, ◌*◌, ◌<◌, ◌≤◌, suc-mul, arith, refl, sym, ap, ◌∙◌, ◌⊎◌, inl, inr, ⊎_elim, Bool, true, false, ints, by_lt_z, ℤ, pos, ◌+ℤ◌, ◌-ℤ◌, ◌≤ℤ◌, ◌<ℤ◌, sum_below, Multigraph, IsMultigraph, edges_between, IsConnectedTo, here, along, Amounts, gain}
+use Rattle.dg_theory.proofs.Chains.{IsConnectedTo-end}
 use Rattle.dg_theory.proofs.SumBounds.{sum_below-but_one}
 use Rattle.dg_theory.proofs.Levels.{level, in_level, off_level, level_in, level_off}
 use Rattle.dg_theory.proofs.Cuts.{IsCut, cut_loses}
@@ -28,12 +28,12 @@ leaves_before S v w true in_v vertex below out edge before =
     record { a = v; b = w; from = vertex; to = below; within = in_v; outside = out; edge = edge }
 leaves_before S v w false off_v vertex below out edge before = before off_v
 
-pub JoinedInMultigraph-leaves : {n : ℕ} {e : ℕ → ℕ → ℕ} {u w : ℕ} (S : ℕ → Bool) → u < n → S u ≡ true →
-    JoinedInMultigraph n e u w → S w ≡ false → Leaves n e S
-JoinedInMultigraph-leaves S vertex start here out = let clash : true ≡ false = sym start ∙ out in absurd (cc)
-JoinedInMultigraph-leaves {e = e} S vertex start (along v w chain below edge) out =
-    leaves_before S v w (S v) refl (JoinedInMultigraph-end vertex chain) below out edge
-    (λ off_v. JoinedInMultigraph-leaves S vertex start chain off_v)
+pub IsConnectedTo-leaves : {n : ℕ} {e : ℕ → ℕ → ℕ} {u w : ℕ} (S : ℕ → Bool) → u < n → S u ≡ true →
+    IsConnectedTo n e u w → S w ≡ false → Leaves n e S
+IsConnectedTo-leaves S vertex start here out = let clash : true ≡ false = sym start ∙ out in absurd (cc)
+IsConnectedTo-leaves {e = e} S vertex start (along v w chain below edge) out =
+    leaves_before S v w (S v) refl (IsConnectedTo-end vertex chain) below out edge
+    (λ off_v. IsConnectedTo-leaves S vertex start chain off_v)
 
 pub record IsGentle (g : Multigraph) (q m K : ℕ) (s : Amounts) : Type 0 where
   pub graph : IsMultigraph g
@@ -67,7 +67,7 @@ lower_counts_more : (g : Multigraph) (q m K : ℕ) (s : Amounts) (x y : ℤ) (u 
 lower_counts_more g q m K s x y u gentle vertex high step low =
     let without : level s x q ≡ false = off_level s x q (omega (arith, ints)) in
     let out : Leaves g.size (edges_between g) (level s x) =
-    JoinedInMultigraph-leaves (level s x) vertex (in_level s x u high)
+    IsConnectedTo-leaves (level s x) vertex (in_level s x u high)
     (gentle.graph.connected u q vertex gentle.vertex) without in
     let cut : IsCut g (level s x) s out.a out.b = record {
       from = out.from;

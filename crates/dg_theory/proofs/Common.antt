@@ -1,23 +1,23 @@
 -- The names that the proofs of this crate cite, passed on from one place. Declares nothing.
-pub use Rattle.dg_theory.specs.Burning.{BurnsInOrder, FiresFreely, MayBurn, among, edges_into}
-pub use Rattle.dg_theory.specs.BurningLaws.{BurnsToReduced, BurntIsReduced, GreatestIsOne, UnburntFires, unburnt_by}
-pub use Rattle.dg_theory.specs.Determining.{BearsLosses, HangsLoosely, IsConnectedSet, IsNothingLostOff, MeetsSpecialSets, beside, edges_within}
+pub use Rattle.dg_theory.specs.Burning.{IsLeastBurningOrder, IsLegalSetFiring, MayBurn, list_contains, edges_into}
+pub use Rattle.dg_theory.specs.BurningLaws.{OrderShowsReduced, ReducedIffBurnt, GreatestIsUnique, UnburntIsGreatest, unburnt_by}
+pub use Rattle.dg_theory.specs.Determining.{HasRankAtLeastOn, HangsLoosely, IsConnectedSet, IsSupportedOn, MeetsSpecialSets, boundary_divisor, edges_within}
 pub use Rattle.dg_theory.specs.DeterminingLaws.{ConnectedGrows, DeterminesLosses, DeterminesRank, SpecialIsReduced}
 pub use Rattle.dg_theory.specs.Distances.{IsDistance}
-pub use Rattle.dg_theory.specs.DualityLaws.{Clifford, DualTests, HalfOfDegree, HighRank, LossOfDual, RankExists, RankOfDual, RankOfSum, RankOnce, RiemannRoch}
+pub use Rattle.dg_theory.specs.DualityLaws.{Clifford, DualTests, CliffordOrRiemannRoch, RankAboveGenus, LossOfDual, RankExists, RankOfDual, RankOfSum, RankIsUnique, RiemannRoch}
 pub use Rattle.dg_theory.specs.EquivalenceLaws.{EquivalenceIsReflexive, EquivalenceIsSymmetric, EquivalenceIsTransitive, EquivalentByPlays, EquivalentDegrees}
-pub use Rattle.dg_theory.specs.ExistenceLaws.{ReducedExists, RichIsWinnable}
-pub use Rattle.dg_theory.specs.Firing.{DivisorsAgreeOn, Amounts, AreEquivalent, FiresTo, HasNoDebtOff, IsEffective, degree, fired, gain, indicator, multiple, only_at}
-pub use Rattle.dg_theory.specs.FiringLaws.{ConstantScriptsDoNothing, FiringAddsUp, FiringKeepsDegree, SameByConstant}
+pub use Rattle.dg_theory.specs.ExistenceLaws.{ReducedExists, WinnableFromGenus}
+pub use Rattle.dg_theory.specs.Firing.{DivisorsAgreeOn, Amounts, AreEquivalent, FiresTo, IsEffectiveOff, IsEffective, degree, fired, gain, indicator, multiple, only_at}
+pub use Rattle.dg_theory.specs.FiringLaws.{ConstantsDoNothing, FiringAddsUp, FiringKeepsDegree, DifferByConstant}
 pub use Rattle.dg_theory.specs.JoinLaws.{JoinAddsEdge, JoinedIsMultigraph, EdgeKeepsSize, ValenceGrows}
-pub use Rattle.dg_theory.specs.Joins.{at_either, edge_entry_more, on_pair, one_edge_more}
-pub use Rattle.dg_theory.specs.Multigraph.{IsMultigraph, JoinedInMultigraph, Multigraph, along, edge_count, edges_between, genus, here, valence}
+pub use Rattle.dg_theory.specs.Joins.{endpoint_indicator, table_with_edge, pair_indicator, row_with_edge}
+pub use Rattle.dg_theory.specs.Multigraph.{IsMultigraph, IsConnectedTo, Multigraph, along, edge_count, edges_between, genus, here, valence}
 pub use Rattle.dg_theory.specs.Play.{IsWinnable, Play, lend, played, script_of_play}
-pub use Rattle.dg_theory.specs.Rank.{HasRankAtLeast, IsDivisorBefore, IsFirstLoss, IsRank, canonical, less}
-pub use Rattle.dg_theory.specs.RankLaws.{EquivalentLoss, EquivalentRank, LossBoundsRank, LossOnce, PoorRank, RankBelow, RankZero, RichRank}
+pub use Rattle.dg_theory.specs.Rank.{HasRankAtLeast, IsLexBefore, IsFirstLoss, IsRank, canonical, minus}
+pub use Rattle.dg_theory.specs.RankLaws.{EquivalentLoss, EquivalentRank, LossBoundsRank, FirstLossIsUnique, RankAtMostDegree, RankIsMonotone, RankZeroIffWinnable, RankFromDegree}
 pub use Rattle.dg_theory.specs.Reduced.{IsReduced, edges_out}
-pub use Rattle.dg_theory.specs.ReducedLaws.{ReducedBelowGenus, ReducedDecides, ReducedOnce}
-pub use Rattle.dg_theory.specs.Sums.{sum_below, total_below}
+pub use Rattle.dg_theory.specs.ReducedLaws.{ReducedBelowGenus, ReducedDecides, ReducedIsUnique}
+pub use Rattle.dg_theory.specs.Sums.{sum_below, nat_sum_below}
 pub use Rattle.dg_theory.specs.WinningLaws.{EquivalentWinnable, WinnableByClass, WinnableByScript}
 pub use Rattle.std.proofs.Common.{Bool, List, [], add-mul, add-one, ap, arith, false, inl, inr, ltb, mul-one, mul-zero, mul_assoc, mul_comm, not, pow-suc, refl, subst, suc, suc-mul, sym, take, true, zero, zero-mul, ℕ, ⊎_elim, ◌&&◌, ◌*◌, ◌+◌, ◌-◌, ◌<◌, ◌==◌, ◌^◌, ◌∙◌, ◌∷◌, ◌≡◌, ◌≢◌, ◌≤◌, ◌⊎◌}
 pub use Rattle.std.proofs.Math.IntN.{*ℤ-negsuc, *ℤ-one, *ℤ-zero, *ℤ_comm, neg_ℤ, negsuc, pos, pred_ℤ-*ℤ, suc_ℤ-*ℤ, zero-*ℤ, ℤ, ◌*ℤ◌, ◌+ℤ◌, ◌-ℤ◌}

@@ -6,9 +6,9 @@
 --   IsComponent g W s S  S is a connected part of the set W that has s, and no edge leads from it to what else is in W
 --   component          each vertex of a set has a component
 --   connected_grows    from a part of a connected set an edge leads to what else is in the set
-use Rattle.dg_theory.proofs.Common.{if◌then◌else◌, ◌≡◌, ◌≢◌, ℕ, zero, suc, ◌+◌, ◌<◌, ◌≤◌, ◌==◌, ◌&&◌, ⊎_elim, Bool, true, false, not, nat_lt, arith, nat_tests, refl, sym, subst, ◌∙◌, cases_eq, eq-eqb, eqb-true, both_ways, and_from, and_parts, lt-ltb, ltb-true, not_from_false, not-true, true_from_ne_false, Multigraph, IsMultigraph, edges_between, JoinedInMultigraph, here, along, IsConnectedSet, edges_within, ConnectedGrows}
-use Rattle.dg_theory.proofs.Chains.{JoinedInMultigraph-append, JoinedInMultigraph-reverse, JoinedInMultigraph-more}
-use Rattle.dg_theory.proofs.Climbs.{Leaves, JoinedInMultigraph-leaves}
+use Rattle.dg_theory.proofs.Common.{if◌then◌else◌, ◌≡◌, ◌≢◌, ℕ, zero, suc, ◌+◌, ◌<◌, ◌≤◌, ◌==◌, ◌&&◌, ⊎_elim, Bool, true, false, not, nat_lt, arith, nat_tests, refl, sym, subst, ◌∙◌, cases_eq, eq-eqb, eqb-true, both_ways, and_from, and_parts, lt-ltb, ltb-true, not_from_false, not-true, true_from_ne_false, Multigraph, IsMultigraph, edges_between, IsConnectedTo, here, along, IsConnectedSet, edges_within, ConnectedGrows}
+use Rattle.dg_theory.proofs.Chains.{IsConnectedTo-append, IsConnectedTo-reverse, IsConnectedTo-more}
+use Rattle.dg_theory.proofs.Climbs.{Leaves, IsConnectedTo-leaves}
 use Rattle.dg_theory.proofs.Counting.{count_of, count_of-more, count_of-missing, member_or_none}
 use Rattle.dg_theory.proofs.Waits.{some_below, some_below-at, some_below-witness}
 
@@ -42,7 +42,7 @@ pub connected-alone : (g : Multigraph) (T : ℕ → Bool) (v : ℕ) → v < g.si
 connected-alone g T v inside only = record {
   vertices = λ w member. let same : w ≡ v = only w member in omega arith;
   joined = λ u w in_u in_w.
-      subst (JoinedInMultigraph g.size (edges_within g T) u) (only u in_u ∙ sym (only w in_w)) here;
+      subst (IsConnectedTo g.size (edges_within g T) u) (only u in_u ∙ sym (only w in_w)) here;
 }
 
 pub connected-more : (g : Multigraph) (S T : ℕ → Bool) (a v : ℕ) → IsMultigraph g → IsConnectedSet g S →
@@ -50,9 +50,9 @@ pub connected-more : (g : Multigraph) (S T : ℕ → Bool) (a v : ℕ) → IsMul
     ((w : ℕ) → w ≢ v → T w ≡ true → S w ≡ true) → IsConnectedSet g T
 connected-more g S T a v graph connected in_a inside edge in_v more others =
     let there : 0 < edges_within g T a v = rw (more a in_a, in_v) edge in
-    let from_a : (w : ℕ) → T w ≡ true → JoinedInMultigraph g.size (edges_within g T) a w = λ w member. ⊎_elim
-    (λ (same : w ≡ v). subst (JoinedInMultigraph g.size (edges_within g T) a) (sym same) (along a v here inside there))
-    (λ (other : w ≡ v → ⊥). JoinedInMultigraph-more (within-le g S T more) (connected.joined a w in_a (others w other member)))
+    let from_a : (w : ℕ) → T w ≡ true → IsConnectedTo g.size (edges_within g T) a w = λ w member. ⊎_elim
+    (λ (same : w ≡ v). subst (IsConnectedTo g.size (edges_within g T) a) (sym same) (along a v here inside there))
+    (λ (other : w ≡ v → ⊥). IsConnectedTo-more (within-le g S T more) (connected.joined a w in_a (others w other member)))
     (cases_eq w v) in
     record {
       vertices = λ w member. ⊎_elim
@@ -60,8 +60,8 @@ connected-more g S T a v graph connected in_a inside edge in_v more others =
           (λ (other : w ≡ v → ⊥). connected.vertices w (others w other member))
           (cases_eq w v);
       joined = λ u w in_u in_w.
-          JoinedInMultigraph-append
-          (JoinedInMultigraph-reverse
+          IsConnectedTo-append
+          (IsConnectedTo-reverse
           (λ b c. within-swap-once (T b) (T c) (edges_between g b c) (edges_between g c b) (graph.symmetric b c))
           (connected.vertices a in_a) (from_a u in_u))
           (from_a w in_w);
@@ -147,6 +147,6 @@ component g W s graph inside allowed =
 pub connected_grows : ConnectedGrows
 connected_grows g S T u w connected part in_u in_w off_w =
     let out : Leaves g.size (edges_within g S) T =
-    JoinedInMultigraph-leaves T (connected.vertices u (part u in_u)) in_u (connected.joined u w (part u in_u) in_w) off_w in
+    IsConnectedTo-leaves T (connected.vertices u (part u in_u)) in_u (connected.joined u w (part u in_u) in_w) off_w in
     let (in_a, in_b, edge) = within-parts g S out.a out.b out.edge in
     (out.a, out.b, out.within, in_b, out.outside, edge)

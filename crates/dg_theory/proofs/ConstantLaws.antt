@@ -2,9 +2,9 @@
 --   level_next       a script that changes nothing, where it is largest: the neighbours lend as often
 --   changes_nothing  a script that changes nothing on the vertices of a multigraph is constant on them
 --   same_by_constant two scripts give the same amounts exactly where they differ by a constant
-use Rattle.dg_theory.proofs.Common.{◌≡◌, ℕ, zero, suc, ◌<◌, arith, refl, ◌∙◌, ints, ℤ, pos, ◌+ℤ◌, ◌-ℤ◌, ◌*ℤ◌, ◌≤ℤ◌, Multigraph, IsMultigraph, edges_between, Amounts, gain, fired, SameByConstant}
+use Rattle.dg_theory.proofs.Common.{◌≡◌, ℕ, zero, suc, ◌<◌, arith, refl, ◌∙◌, ints, ℤ, pos, ◌+ℤ◌, ◌-ℤ◌, ◌*ℤ◌, ◌≤ℤ◌, Multigraph, IsMultigraph, edges_between, Amounts, gain, fired, DifferByConstant}
 use Rattle.dg_theory.proofs.SumBounds.{mul-nonpos, mul-cancel, sum_below-le_term}
-use Rattle.dg_theory.proofs.Chains.{JoinedInMultigraph-stays}
+use Rattle.dg_theory.proofs.Chains.{IsConnectedTo-stays}
 use Rattle.dg_theory.proofs.Largest.{largest, IsLargest}
 use Rattle.dg_theory.proofs.Scripts.{difference, fired-difference, fired-shifted}
 
@@ -30,7 +30,7 @@ changes_nothing g k graph some nothing =
     let next : k b ≡ k a = level_next g k a b
     (λ w inside. let at : k w ≤ℤ k u = top w inside in omega (arith, ints)) (nothing a level.1) below edge in
     (next ∙ same, below) in
-    (k u, λ v inside. (JoinedInMultigraph-stays Level closed (refl, vertex) (graph.connected u v vertex inside)).0)
+    (k u, λ v inside. (IsConnectedTo-stays Level closed (refl, vertex) (graph.connected u v vertex inside)).0)
 
 difference_nothing : (g : Multigraph) (D s t : Amounts) → ((v : ℕ) → v < g.size → fired g D s v ≡ fired g D t v) →
     (v : ℕ) → v < g.size → gain g (difference s t) v ≡ pos 0
@@ -46,7 +46,7 @@ apart g (suc n) D s t graph some same =
     let (x, level) = changes_nothing g (difference s t) graph (omega arith) (difference_nothing g D s t same) in
     (x, λ v inside. let at : difference s t v ≡ x = level v inside in omega (arith, ints))
 
-pub same_by_constant : SameByConstant
+pub same_by_constant : DifferByConstant
 same_by_constant g D s t graph = (
   λ same. apart g g.size D s t graph refl same,
   λ constant. fired-shifted g D s t constant.0 constant.1,

@@ -8,9 +8,9 @@
 --   level_gains             vertices of level j gain at least k and at most 63 k
 --   nearer_loses            vertices of level below j gain nothing and lose at most 63 k
 --   changes_little          nobody gains or loses more than 63 k
-use Rattle.dg_theory.proofs.Common.{if◌then◌else◌, ◌≡◌, ℕ, zero, suc, ◌+◌, ◌*◌, ◌<◌, ◌≤◌, Bool, true, false, arith, refl, ap, ◌∙◌, ⊎_elim, zero-mul, cases_eq, cases_lt, lt-ltb, le-ltb, ltb-true, ints, mul-le, pos, ◌+ℤ◌, ◌≤ℤ◌, nat_lt, total_below, Multigraph, edges_between, valence, Amounts, gain, fired, indicator, multiple, edges_out, edges_into, IsDistance}
+use Rattle.dg_theory.proofs.Common.{if◌then◌else◌, ◌≡◌, ℕ, zero, suc, ◌+◌, ◌*◌, ◌<◌, ◌≤◌, Bool, true, false, arith, refl, ap, ◌∙◌, ⊎_elim, zero-mul, cases_eq, cases_lt, lt-ltb, le-ltb, ltb-true, ints, mul-le, pos, ◌+ℤ◌, ◌≤ℤ◌, nat_lt, nat_sum_below, Multigraph, edges_between, valence, Amounts, gain, fired, indicator, multiple, edges_out, edges_into, IsDistance}
 use Rattle.dg_theory.proofs.Distances.{not_q}
-use Rattle.dg_theory.proofs.TotalLaws.{total_below-le, total_below-term}
+use Rattle.dg_theory.proofs.TotalLaws.{nat_sum_below-le, nat_sum_below-term}
 use Rattle.dg_theory.proofs.Multiples.{gain-all_inside, gain-all_outside}
 
 abbrev pub nearer : (ℕ → ℕ) → ℕ → ℕ → Bool
@@ -19,10 +19,10 @@ nearer level j w = nat_lt (level w) j
 abbrev pub fired_nearer : Multigraph → (ℕ → ℕ) → ℕ → ℕ → Amounts → Amounts
 fired_nearer g level j k D = fired g D (multiple (pos k) (indicator (nearer level j)))
 
-total_below-none : (n : ℕ) (f : ℕ → ℕ) → ((w : ℕ) → w < n → f w ≡ 0) → total_below n f ≡ 0
-total_below-none zero f none = refl
-total_below-none (suc n) f none =
-    let before : total_below n f ≡ 0 = total_below-none n f (λ w below. none w (omega arith)) in
+nat_sum_below-none : (n : ℕ) (f : ℕ → ℕ) → ((w : ℕ) → w < n → f w ≡ 0) → nat_sum_below n f ≡ 0
+nat_sum_below-none zero f none = refl
+nat_sum_below-none (suc n) f none =
+    let before : nat_sum_below n f ≡ 0 = nat_sum_below-none n f (λ w below. none w (omega arith)) in
     let last : f n ≡ 0 = none n (omega arith) in
     omega arith
 
@@ -39,16 +39,16 @@ if-none true e none = none refl
 if-none false e none = refl
 
 pub into-le-valence : (g : Multigraph) (S : ℕ → Bool) (v : ℕ) → edges_into g S v ≤ valence g v
-into-le-valence g S v = total_below-le g.size _ _ (λ w below. if-le (S w) (edges_between g v w))
+into-le-valence g S v = nat_sum_below-le g.size _ _ (λ w below. if-le (S w) (edges_between g v w))
 
 pub out-le-valence : (g : Multigraph) (S : ℕ → Bool) (v : ℕ) → edges_out g S v ≤ valence g v
-out-le-valence g S v = total_below-le g.size _ _ (λ w below. else-le (S w) (edges_between g v w))
+out-le-valence g S v = nat_sum_below-le g.size _ _ (λ w below. else-le (S w) (edges_between g v w))
 
 pub farther_same : (g : Multigraph) (q : ℕ) (level : ℕ → ℕ) (j k : ℕ) (D : Amounts) (v : ℕ) → IsDistance g q level →
     v < g.size → j < level v → fired_nearer g level j k D v ≡ D v
 farther_same g q level j k D v distance inside far =
     let outside : nearer level j v ≡ false = le-ltb (level v) j (omega arith) in
-    let none : edges_into g (nearer level j) v ≡ 0 = total_below-none g.size _ (λ w below.
+    let none : edges_into g (nearer level j) v ≡ 0 = nat_sum_below-none g.size _ (λ w below.
     if-none (nearer level j w) (edges_between g v w) (λ near.
     let low : level w < j = ltb-true (level w) j near in
     ⊎_elim
@@ -75,7 +75,7 @@ level_gains g q level j k D v distance inside few some at =
     let (u, below, edge, step) = distance.stepped v inside (not_q g q level v distance (omega arith)) in
     let near : nearer level j u ≡ true = lt-ltb (level u) j (omega arith) in
     let term : (if nearer level j u then edges_between g v u else 0) ≤ edges_into g (nearer level j) v =
-    total_below-term g.size (λ w. if nearer level j w then edges_between g v w else 0) u below in
+    nat_sum_below-term g.size (λ w. if nearer level j w then edges_between g v w else 0) u below in
     let counts : (if nearer level j u then edges_between g v u else 0) ≡ edges_between g v u =
     ap (λ b. if b then edges_between g v u else 0) near in
     let most : edges_into g (nearer level j) v ≤ valence g v = into-le-valence g (nearer level j) v in

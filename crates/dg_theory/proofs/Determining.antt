@@ -2,7 +2,7 @@
 --   bears_each         if a dollar can be lost at each vertex of A, it can be lost at each vertex of U
 --   determines_losses  if k dollars can be lost within A, they can be lost within U
 --   determines_rank    and with all vertices for U the rank is at least k
-use Rattle.dg_theory.proofs.Common.{◌≡◌, ◌≢◌, ℕ, zero, suc, ◌+◌, ◌<◌, ◌⊎◌, inl, inr, ⊎_elim, Bool, true, false, arith, refl, ap, ◌∙◌, cases_eq, both_ways, false_from_ne_true, true_from_ne_false, ints, pos, ◌+ℤ◌, Multigraph, IsMultigraph, Amounts, degree, fired, only_at, IsEffective, IsWinnable, less, BearsLosses, MeetsSpecialSets, IsNothingLostOff, DeterminesLosses, DeterminesRank}
+use Rattle.dg_theory.proofs.Common.{◌≡◌, ◌≢◌, ℕ, zero, suc, ◌+◌, ◌<◌, ◌⊎◌, inl, inr, ⊎_elim, Bool, true, false, arith, refl, ap, ◌∙◌, cases_eq, both_ways, false_from_ne_true, true_from_ne_false, ints, pos, ◌+ℤ◌, Multigraph, IsMultigraph, Amounts, degree, fired, only_at, IsEffective, IsWinnable, minus, HasRankAtLeastOn, MeetsSpecialSets, IsSupportedOn, DeterminesLosses, DeterminesRank}
 use Rattle.dg_theory.proofs.SumLaws.{sum_below-add}
 use Rattle.dg_theory.proofs.Agreement.{winnable-cong}
 use Rattle.dg_theory.proofs.Equivalence.{equivalent-fired}
@@ -71,11 +71,11 @@ bears_each g A U D graph meets bears s vertex in_U =
 
 -- D after a dollar was lost at a vertex of A
 bears_less : (g : Multigraph) (A : ℕ → Bool) (D : Amounts) (k a : ℕ) → a < g.size → A a ≡ true →
-    BearsLosses g A D (k + 1) → BearsLosses g A (lost a D) k
+    HasRankAtLeastOn g A D (k + 1) → HasRankAtLeastOn g A (lost a D) k
 bears_less g A D k a inside member bears E effective of_degree off =
     let dollar : Amounts = only_at a (pos 1) in
     let more : Amounts = λ w. E w +ℤ dollar w in
-    winnable-cong g (less D more) (less (lost a D) E) (λ w below. omega (arith, ints))
+    winnable-cong g (minus D more) (minus (lost a D) E) (λ w below. omega (arith, ints))
     (bears more
     (λ w below. omega (arith, ints, effective-only_at g.size a 1 w below, effective w below))
     (omega (arith, ints, sum_below-add g.size E dollar, degree-only_at g.size a (pos 1) inside, of_degree))
@@ -97,13 +97,13 @@ determines_losses g A U graph meets D (suc k) bears E effective of_degree off =
     (cases_eq w v) in
     let rest_degree : degree g.size rest ≡ pos k =
     omega (arith, ints, degree-less g.size E (only_at v (pos 1)), degree-only_at g.size v (pos 1) inside) in
-    let rest_off : IsNothingLostOff g.size U rest = λ w below outside.
+    let rest_off : IsSupportedOn g.size U rest = λ w below outside.
     let other : w ≢ v = λ here. both_ways _ outside (ap U here ∙ in_U) in
     omega (arith, ints, off w below outside, only_at-other v (pos 1) w other) in
-    winnable-cong g (lost v (less D rest)) (less D E) (λ w below. omega (arith, ints))
-    (bears_each g A U (less D rest) graph meets
+    winnable-cong g (lost v (minus D rest)) (minus D E) (λ w below. omega (arith, ints))
+    (bears_each g A U (minus D rest) graph meets
     (λ a below member.
-    winnable-cong g (less (lost a D) rest) (lost a (less D rest)) (λ w _. omega (arith, ints))
+    winnable-cong g (minus (lost a D) rest) (lost a (minus D rest)) (λ w _. omega (arith, ints))
     (determines_losses g A U graph meets (lost a D) k
     (bears_less g A D k a below member (rw same at bears)) rest rest_effective rest_degree rest_off))
     v inside in_U)

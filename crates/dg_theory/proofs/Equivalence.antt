@@ -8,7 +8,7 @@
 --   equivalent-less         equivalent divisors are so after the same loss
 --   equivalent_by_plays     divisors are equivalent exactly where some list of plays leads from one to the other
 --   equivalent-degree       equivalent divisors have the same degree
-use Rattle.dg_theory.proofs.Common.{arith, refl, sym, ◌∙◌, ints, pos, neg_ℤ, ◌+ℤ◌, Multigraph, Amounts, fired, FiresTo, AreEquivalent, less, EquivalenceIsReflexive, EquivalenceIsSymmetric, EquivalenceIsTransitive, EquivalentByPlays, EquivalentDegrees}
+use Rattle.dg_theory.proofs.Common.{arith, refl, sym, ◌∙◌, ints, pos, neg_ℤ, ◌+ℤ◌, Multigraph, Amounts, fired, FiresTo, AreEquivalent, minus, EquivalenceIsReflexive, EquivalenceIsSymmetric, EquivalenceIsTransitive, EquivalentByPlays, EquivalentDegrees}
 use Rattle.dg_theory.proofs.Agreement.{fired-here}
 use Rattle.dg_theory.proofs.Exchange.{degree_stays}
 use Rattle.dg_theory.proofs.FiringLaws.{fired-fired, fired-constant, fired-constant_script}
@@ -40,7 +40,7 @@ equivalent-trans g D E F (s, leads) (t, next) = (
 pub equivalent-fired : (g : Multigraph) (D s : Amounts) → AreEquivalent g D (fired g D s)
 equivalent-fired g D s = (s, λ v below. refl)
 
-pub equivalent-less : (g : Multigraph) (D E F : Amounts) → AreEquivalent g D E → AreEquivalent g (less D F) (less E F)
+pub equivalent-less : (g : Multigraph) (D E F : Amounts) → AreEquivalent g D E → AreEquivalent g (minus D F) (minus E F)
 equivalent-less g D E F (s, leads) = (s, λ v below. omega (arith, ints, leads v below))
 
 pub equivalent_by_plays : EquivalentByPlays

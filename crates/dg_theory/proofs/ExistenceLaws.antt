@@ -3,7 +3,7 @@
 --   reduced_somewhere  from any divisor some script does
 --   reduced_exists     and so does one that is 0 at q
 --   rich_is_winnable   a divisor whose degree is at least the genus is winnable
-use Rattle.dg_theory.proofs.Common.{◌≡◌, ℕ, zero, suc, ◌<◌, arith, sym, ⊎_elim, ints, by_lt_z, pos, ◌+ℤ◌, ◌-ℤ◌, ◌≤ℤ◌, ◌<ℤ◌, Multigraph, IsMultigraph, genus, Amounts, degree, HasNoDebtOff, fired, indicator, IsReduced, ReducedExists, RichIsWinnable}
+use Rattle.dg_theory.proofs.Common.{◌≡◌, ℕ, zero, suc, ◌<◌, arith, sym, ⊎_elim, ints, by_lt_z, pos, ◌+ℤ◌, ◌-ℤ◌, ◌≤ℤ◌, ◌<ℤ◌, Multigraph, IsMultigraph, genus, Amounts, degree, IsEffectiveOff, fired, indicator, IsReduced, ReducedExists, WinnableFromGenus}
 use Rattle.dg_theory.proofs.FiringLaws.{fired-fired, fired-constant}
 use Rattle.dg_theory.proofs.Scripts.{fired-shifted}
 use Rattle.dg_theory.proofs.Exchange.{degree_stays}
@@ -25,7 +25,7 @@ then_reduced g q D t (s, reduced) =
     (λ w. t w +ℤ s w, reduced-cong g q (fired g (fired g D t) s) _ (λ v _. fired-fired g D t s v) reduced)
 
 reduced_by_weight : (g : Multigraph) (q : ℕ) (c : ℕ → ℕ) → IsMultigraph g → IsPotential g q c → (m : ℕ) (D : Amounts) →
-    weight_of g c D < m → HasNoDebtOff g q D → CanBeReduced g q D
+    weight_of g c D < m → IsEffectiveOff g q D → CanBeReduced g q D
 reduced_by_weight g q c graph potential zero D light solvent = absurd (omega arith)
 reduced_by_weight g q c graph potential (suc m) D light solvent =
     ⊎_elim
@@ -56,7 +56,7 @@ reduced_exists g q D graph vertex =
           (fired-shifted g D s level (s q) (λ w _. omega (arith, ints))) reduced,
     )
 
-pub rich_is_winnable : RichIsWinnable
+pub rich_is_winnable : WinnableFromGenus
 rich_is_winnable g D graph some rich =
     let (s, at_q, reduced) = reduced_exists g 0 D graph some in
     by_lt_z (fired g D s 0) (pos 0)

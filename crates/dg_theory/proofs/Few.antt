@@ -4,7 +4,7 @@
 --                 vertices below level k, and it leads to a vertex of level k
 --   gradual-few   so every level is less than the number of vertices
 use Rattle.dg_theory.proofs.Common.{◌≡◌, ℕ, zero, suc, ◌+◌, ◌<◌, ◌≤◌, arith, ltb, Bool, true, false, nat_tests, Multigraph, IsMultigraph, edges_between}
-use Rattle.dg_theory.proofs.Climbs.{Leaves, JoinedInMultigraph-leaves}
+use Rattle.dg_theory.proofs.Climbs.{Leaves, IsConnectedTo-leaves}
 use Rattle.dg_theory.proofs.Counting.{count_of, count_of-some, count_of-more, count_of-missing}
 
 pub record IsGradual (g : Multigraph) (q : ℕ) (level : ℕ → ℕ) : Type 0 where
@@ -32,7 +32,7 @@ before_many g q level v graph gradual start vertex (suc zero) low =
 before_many g q level v graph gradual start vertex (suc (suc k)) low =
     let nearest : level q ≡ 0 = gradual.start in
     let out : Leaves g.size (edges_between g) (before level (suc k)) =
-    JoinedInMultigraph-leaves (before level (suc k)) start (before_in level (suc k) q (omega arith))
+    IsConnectedTo-leaves (before level (suc k)) start (before_in level (suc k) q (omega arith))
     (graph.connected q v start vertex) (before_off level (suc k) v (omega arith)) in
     let near : level out.a < suc k = in_before level (suc k) out.a out.within in
     let step : level out.b ≤ level out.a + 1 =

@@ -5,7 +5,7 @@
 --   fired-constant          so it changes nothing
 --   fired-cong              scripts that agree on the vertices fire alike
 --   fired-constant_script   the law for a script that is constant on the vertices
-use Rattle.dg_theory.proofs.Common.{◌≡◌, ℕ, ◌<◌, arith, refl, sym, ◌∙◌, ints, ℤ, pos, ◌+ℤ◌, ◌-ℤ◌, ◌*ℤ◌, *ℤ-zero, Multigraph, edges_between, Amounts, gain, fired, FiringAddsUp, ConstantScriptsDoNothing}
+use Rattle.dg_theory.proofs.Common.{◌≡◌, ℕ, ◌<◌, arith, refl, sym, ◌∙◌, ints, ℤ, pos, ◌+ℤ◌, ◌-ℤ◌, ◌*ℤ◌, *ℤ-zero, Multigraph, edges_between, Amounts, gain, fired, FiringAddsUp, ConstantsDoNothing}
 use Rattle.dg_theory.proofs.Products.{mul-change}
 use Rattle.dg_theory.proofs.SumLaws.{sum_below-add, sum_below-cong, sum_below-zero}
 
@@ -33,6 +33,6 @@ fired-cong g D s t v inside same =
     rw (at_w, at_v) refl) in
     omega (arith, ints)
 
-pub fired-constant_script : ConstantScriptsDoNothing
+pub fired-constant_script : ConstantsDoNothing
 fired-constant_script g D s x constant v inside =
     fired-cong g D s (λ _. x) v inside constant ∙ fired-constant g D x v

@@ -5,7 +5,7 @@
 --   effective-only_at k dollars at one vertex are no debt
 --   none_of_degree_0  an effective divisor of degree 0 is 0 at every vertex
 --   degree-winnable   a winnable divisor has a degree of at least 0
-use Rattle.dg_theory.proofs.Common.{◌≡◌, ℕ, ◌*◌, ◌<◌, arith, refl, ⊎_elim, ints, cases_eq, ℤ, pos, ◌+ℤ◌, ◌-ℤ◌, ◌≤ℤ◌, sum_below, Multigraph, IsMultigraph, Amounts, degree, fired, only_at, IsEffective, IsWinnable, less}
+use Rattle.dg_theory.proofs.Common.{◌≡◌, ℕ, ◌*◌, ◌<◌, arith, refl, ⊎_elim, ints, cases_eq, ℤ, pos, ◌+ℤ◌, ◌-ℤ◌, ◌≤ℤ◌, sum_below, Multigraph, IsMultigraph, Amounts, degree, fired, only_at, IsEffective, IsWinnable, minus}
 use Rattle.dg_theory.proofs.SumLaws.{sum_below-zero, sum_below-differ_at}
 use Rattle.dg_theory.proofs.SumSwap.{sum_below-sub}
 use Rattle.dg_theory.proofs.SumBounds.{sum_below-at_least}
@@ -19,7 +19,7 @@ win_more g D E more win =
     let (s, effective) = script_of_win g D win in
     win_of_script g E s (λ v below. omega (arith, ints, more v below, effective v below))
 
-pub degree-less : (n : ℕ) (D E : Amounts) → degree n (less D E) ≡ degree n D -ℤ degree n E
+pub degree-less : (n : ℕ) (D E : Amounts) → degree n (minus D E) ≡ degree n D -ℤ degree n E
 degree-less n D E = sum_below-sub n D E
 
 pub degree-only_at : (n v : ℕ) (x : ℤ) → v < n → degree n (only_at v x) ≡ x

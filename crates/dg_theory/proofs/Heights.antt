@@ -7,8 +7,8 @@
 --                    on
 --   order_potential  the weights by the places of such an order are a potential for q
 --   has_potential    so every multigraph has one for each of its vertices
-use Rattle.dg_theory.proofs.Common.{◌≡◌, ℕ, zero, suc, ◌+◌, ◌-◌, ◌*◌, ◌<◌, ◌≤◌, Bool, true, arith, ap, ⊎_elim, cases_eq, ints, mul-le, pos, ◌+ℤ◌, ◌-ℤ◌, ◌≤ℤ◌, total_below, Multigraph, IsMultigraph, edges_between, valence, gain}
-use Rattle.dg_theory.proofs.TotalLaws.{total_below-term}
+use Rattle.dg_theory.proofs.Common.{◌≡◌, ℕ, zero, suc, ◌+◌, ◌-◌, ◌*◌, ◌<◌, ◌≤◌, Bool, true, arith, ap, ⊎_elim, cases_eq, ints, mul-le, pos, ◌+ℤ◌, ◌-ℤ◌, ◌≤ℤ◌, nat_sum_below, Multigraph, IsMultigraph, edges_between, valence, gain}
+use Rattle.dg_theory.proofs.TotalLaws.{nat_sum_below-term}
 use Rattle.dg_theory.proofs.Potential.{IsPotential, as_script, pulled}
 use Rattle.dg_theory.proofs.Orders.{IsOrder, order_exists}
 
@@ -31,7 +31,7 @@ height-next M i j less =
     let next : height M (suc i) ≤ height M j = height-mono M (suc i) j (omega arith) in omega arith
 
 abbrev pub sum_of_valences : Multigraph → ℕ
-sum_of_valences g = total_below g.size (valence g)
+sum_of_valences g = nat_sum_below g.size (valence g)
 
 abbrev pub weight_at : Multigraph → ℕ → ℕ → ℕ
 weight_at g n i = height (sum_of_valences g) n - height (sum_of_valences g) (n - i)
@@ -49,7 +49,7 @@ later_loses g place n u v below inside edge earlier few =
     pulled g.size (edges_between g v) (λ w. pos (weight_at g n (place w)) -ℤ pos (weight_at g n (place v))) K
     (M * K + 1) u
     (λ w _ _. omega (arith, ints)) below edge (omega (arith, ints)) in
-    let few_edges : valence g v ≤ M = total_below-term g.size (valence g) v inside in
+    let few_edges : valence g v ≤ M = nat_sum_below-term g.size (valence g) v inside in
     let most : valence g v * K ≤ M * K = mul-le (valence g v) K M K few_edges (omega arith) in
     omega (arith, ints)
 

@@ -3,7 +3,7 @@
 --                 the script v loses at least as much as its edges out of S
 --   lends_most_gains_none  a vertex that lends at least as often as every vertex gains nothing
 --   q_lends_most  if from a divisor that is reduced for q a script leaves nobody off q in debt, q lends most
-use Rattle.dg_theory.proofs.Common.{if◌then◌else◌, ◌≡◌, ◌≢◌, ℕ, zero, suc, ◌<◌, arith, refl, sym, ap, ◌∙◌, Bool, true, false, ints, by_lt_z, ℤ, pos, ◌+ℤ◌, ◌-ℤ◌, ◌*ℤ◌, ◌≤ℤ◌, ◌<ℤ◌, sum_below, total_below, Multigraph, edges_between, Amounts, gain, fired, edges_out, IsReduced}
+use Rattle.dg_theory.proofs.Common.{if◌then◌else◌, ◌≡◌, ◌≢◌, ℕ, zero, suc, ◌<◌, arith, refl, sym, ap, ◌∙◌, Bool, true, false, ints, by_lt_z, ℤ, pos, ◌+ℤ◌, ◌-ℤ◌, ◌*ℤ◌, ◌≤ℤ◌, ◌<ℤ◌, sum_below, nat_sum_below, Multigraph, edges_between, Amounts, gain, fired, edges_out, IsReduced}
 use Rattle.dg_theory.proofs.SumBounds.{mul-nonpos, mul-negative, sum_below-nonpos}
 use Rattle.dg_theory.proofs.Levels.{level, in_level, off_level, level_in, level_off}
 use Rattle.dg_theory.proofs.Largest.{largest, IsLargest}
@@ -15,10 +15,10 @@ loses_by_edge false k x low out = mul-negative k x (out refl)
 
 loses_by_edges : (n : ℕ) (S : ℕ → Bool) (e : ℕ → ℕ) (d : ℕ → ℤ) → ((w : ℕ) → w < n → d w ≤ℤ pos 0) →
     ((w : ℕ) → w < n → S w ≡ false → d w <ℤ pos 0) →
-    (sum_below n (λ w. pos (e w) *ℤ d w) +ℤ pos (total_below n (λ w. if S w then 0 else e w))) ≤ℤ pos 0
+    (sum_below n (λ w. pos (e w) *ℤ d w) +ℤ pos (nat_sum_below n (λ w. if S w then 0 else e w))) ≤ℤ pos 0
 loses_by_edges zero S e d low out = omega (arith, ints)
 loses_by_edges (suc n) S e d low out =
-    let before : (sum_below n (λ w. pos (e w) *ℤ d w) +ℤ pos (total_below n (λ w. if S w then 0 else e w))) ≤ℤ pos 0
+    let before : (sum_below n (λ w. pos (e w) *ℤ d w) +ℤ pos (nat_sum_below n (λ w. if S w then 0 else e w))) ≤ℤ pos 0
     = loses_by_edges n S e d (λ w below. low w (omega arith)) (λ w below. out w (omega arith)) in
     let last : (pos (e n) *ℤ d n +ℤ pos (if S n then 0 else e n)) ≤ℤ pos 0
     = loses_by_edge (S n) (e n) (d n) (low n (omega arith)) (out n (omega arith)) in

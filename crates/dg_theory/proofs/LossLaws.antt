@@ -10,7 +10,7 @@
 --   same_or_before  any two divisors are the same at n vertices, or one is before the other
 --   loss_once       there is at most one first loss
 --   loss_bounds_rank    where there is a first loss of degree k, the rank is not at least k
-use Rattle.dg_theory.proofs.Common.{◌≡◌, ℕ, zero, suc, ◌⊎◌, arith, sym, ap, inl, inr, ⊎_elim, cases_eq, ints, by_lt_z, ◌≤ℤ◌, ◌<ℤ◌, Multigraph, Amounts, DivisorsAgreeOn, AreEquivalent, IsDivisorBefore, IsFirstLoss, EquivalentLoss, LossOnce, LossBoundsRank}
+use Rattle.dg_theory.proofs.Common.{◌≡◌, ℕ, zero, suc, ◌⊎◌, arith, sym, ap, inl, inr, ⊎_elim, cases_eq, ints, by_lt_z, ◌≤ℤ◌, ◌<ℤ◌, Multigraph, Amounts, DivisorsAgreeOn, AreEquivalent, IsLexBefore, IsFirstLoss, EquivalentLoss, FirstLossIsUnique, LossBoundsRank}
 use Rattle.dg_theory.proofs.RankLaws.{less_winnable}
 use Rattle.dg_theory.proofs.Equivalence.{equivalent-sym}
 
@@ -26,7 +26,7 @@ loss_carried g D E k F same loss = record {
 pub equivalent-loss : EquivalentLoss
 equivalent-loss g D E k F same = (loss_carried g D E k F same, loss_carried g E D k F (equivalent-sym g D E same))
 
-before_in_more : (n : ℕ) (E F : Amounts) → IsDivisorBefore n E F → IsDivisorBefore (suc n) E F
+before_in_more : (n : ℕ) (E F : Amounts) → IsLexBefore n E F → IsLexBefore (suc n) E F
 before_in_more n E F before = record {
   place = before.place;
   inside = omega (arith, before.inside);
@@ -35,9 +35,9 @@ before_in_more n E F before = record {
 }
 
 abbrev OneIsBefore : ℕ → Amounts → Amounts → Type 0
-OneIsBefore n E F = IsDivisorBefore n E F ⊎ IsDivisorBefore n F E
+OneIsBefore n E F = IsLexBefore n E F ⊎ IsLexBefore n F E
 
-differ_last : (n : ℕ) (E F : Amounts) → DivisorsAgreeOn n E F → E n <ℤ F n → IsDivisorBefore (suc n) E F
+differ_last : (n : ℕ) (E F : Amounts) → DivisorsAgreeOn n E F → E n <ℤ F n → IsLexBefore (suc n) E F
 differ_last n E F same smaller = record {
   place = n;
   inside = omega arith;
@@ -71,18 +71,18 @@ same_or_before (suc n) E F =
     (λ (same : DivisorsAgreeOn n E F). compare_last n E F same)
     (λ (one : OneIsBefore n E F).
     ⊎_elim
-    (λ (before : IsDivisorBefore n E F). inr (inl (before_in_more n E F before)))
-    (λ (after : IsDivisorBefore n F E). inr (inr (before_in_more n F E after)))
+    (λ (before : IsLexBefore n E F). inr (inl (before_in_more n E F before)))
+    (λ (after : IsLexBefore n F E). inr (inr (before_in_more n F E after)))
     one)
     (same_or_before n E F)
 
-pub loss_once : LossOnce
+pub loss_once : FirstLossIsUnique
 loss_once g D k E F one other v inside =
     ⊎_elim
     (λ (same : DivisorsAgreeOn g.size E F). same v inside)
     (λ (either : OneIsBefore g.size E F). absurd (⊎_elim
-    (λ (before : IsDivisorBefore g.size E F). one.loses (other.first E one.effective one.of_degree before))
-    (λ (after : IsDivisorBefore g.size F E). other.loses (one.first F other.effective other.of_degree after))
+    (λ (before : IsLexBefore g.size E F). one.loses (other.first E one.effective one.of_degree before))
+    (λ (after : IsLexBefore g.size F E). other.loses (one.first F other.effective other.of_degree after))
     either))
     (same_or_before g.size E F)
 

@@ -7,10 +7,10 @@
 --   earlier_total          in any order, each edge leads to an earlier vertex from one of its ends
 --   order_divisor-degree   so the divisor of an order has the degree g - 1
 --   canonical-degree       and the canonical divisor has the degree 2g - 2
-use Rattle.dg_theory.proofs.Common.{if◌then◌else◌, ◌≡◌, ℕ, zero, suc, ◌+◌, ◌<◌, Bool, true, false, arith, refl, ap, sym, ◌∙◌, ◌≤ℤ◌, ints, pos, ◌+ℤ◌, ◌-ℤ◌, sum_below, total_below, Multigraph, IsMultigraph, edges_between, valence, edge_count, genus, Amounts, degree, DivisorsAgreeOn, canonical}
+use Rattle.dg_theory.proofs.Common.{if◌then◌else◌, ◌≡◌, ℕ, zero, suc, ◌+◌, ◌<◌, Bool, true, false, arith, refl, ap, sym, ◌∙◌, ◌≤ℤ◌, ints, pos, ◌+ℤ◌, ◌-ℤ◌, sum_below, nat_sum_below, Multigraph, IsMultigraph, edges_between, valence, edge_count, genus, Amounts, degree, DivisorsAgreeOn, canonical}
 use Rattle.dg_theory.proofs.SumLaws.{sum_below-cong, sum_below-add}
 use Rattle.dg_theory.proofs.SumTotals.{sum_below-total}
-use Rattle.dg_theory.proofs.TotalLaws.{total_below-cong, total_below-add}
+use Rattle.dg_theory.proofs.TotalLaws.{nat_sum_below-cong, nat_sum_below-add}
 use Rattle.dg_theory.proofs.Leaving.{burnt_weight-all}
 use Rattle.dg_theory.proofs.Levels.{level, level_in, level_off}
 use Rattle.dg_theory.proofs.Equivalence.{opposite}
@@ -36,8 +36,8 @@ no_edges g place v w graph apart inside within less more =
 earlier-reversed : (g : Multigraph) (place : Amounts) (v : ℕ) → IsMultigraph g → AreApart g.size place → v < g.size →
     earlier g place v + earlier g (opposite place) v ≡ valence g v
 earlier-reversed g place v graph apart inside =
-    sym (total_below-add g.size _ _)
-    ∙ total_below-cong g.size _ (edges_between g v) (λ w within.
+    sym (nat_sum_below-add g.size _ _)
+    ∙ nat_sum_below-cong g.size _ (edges_between g v) (λ w within.
     one_counts (level place (place v) w) (level (opposite place) (opposite place v) w) (edges_between g v w)
     (λ later sooner. no_edges g place v w graph apart inside within (level_in place (place v) w later)
     (omega (arith, ints, level_in (opposite place) (opposite place v) w sooner)))
@@ -53,22 +53,22 @@ pub order_divisor-reversed : (g : Multigraph) (place : Amounts) → IsMultigraph
 order_divisor-reversed g place graph apart v inside = omega (arith, ints, earlier-reversed g place v graph apart inside)
 
 pub paired_total : (n : ℕ) (h e : ℕ → ℕ → ℕ) → ((v w : ℕ) → v < n → w < n → h v w + h w v ≡ e v w) →
-    ((v : ℕ) → e v v ≡ 0) → total_below n (λ v. total_below n (h v)) ≡ total_below n (λ v. total_below v (e v))
+    ((v : ℕ) → e v v ≡ 0) → nat_sum_below n (λ v. nat_sum_below n (h v)) ≡ nat_sum_below n (λ v. nat_sum_below v (e v))
 paired_total zero h e shared loopless = refl
 paired_total (suc n) h e shared loopless =
-    let before : total_below n (λ v. total_below n (h v)) ≡ total_below n (λ v. total_below v (e v)) =
+    let before : nat_sum_below n (λ v. nat_sum_below n (h v)) ≡ nat_sum_below n (λ v. nat_sum_below v (e v)) =
     paired_total n h e (λ v w inside within. shared v w (omega arith) (omega arith)) loopless in
-    let column : total_below n (λ v. total_below n (h v) + h v n)
-    ≡ total_below n (λ v. total_below n (h v)) + total_below n (λ v. h v n) =
-    total_below-add n (λ v. total_below n (h v)) (λ v. h v n) in
-    let row : total_below n (h n) + total_below n (λ v. h v n) ≡ total_below n (e n) =
-    sym (total_below-add n (h n) (λ v. h v n))
-    ∙ total_below-cong n _ (e n) (λ w within. shared n w (omega arith) (omega arith)) in
+    let column : nat_sum_below n (λ v. nat_sum_below n (h v) + h v n)
+    ≡ nat_sum_below n (λ v. nat_sum_below n (h v)) + nat_sum_below n (λ v. h v n) =
+    nat_sum_below-add n (λ v. nat_sum_below n (h v)) (λ v. h v n) in
+    let row : nat_sum_below n (h n) + nat_sum_below n (λ v. h v n) ≡ nat_sum_below n (e n) =
+    sym (nat_sum_below-add n (h n) (λ v. h v n))
+    ∙ nat_sum_below-cong n _ (e n) (λ w within. shared n w (omega arith) (omega arith)) in
     let corner : h n n + h n n ≡ e n n = shared n n (omega arith) (omega arith) in
     omega (arith, loopless n)
 
 pub earlier_total : (g : Multigraph) (place : Amounts) → IsMultigraph g → AreApart g.size place →
-    total_below g.size (earlier g place) ≡ edge_count g
+    nat_sum_below g.size (earlier g place) ≡ edge_count g
 earlier_total g place graph apart =
     paired_total g.size (λ v w. if level place (place v) w then 0 else edges_between g v w) (edges_between g)
     (λ v w inside within.
@@ -87,7 +87,7 @@ order_divisor-degree g place graph apart =
     let all : sum_below g.size (λ v. order_divisor g place v +ℤ pos 1)
     ≡ degree g.size (order_divisor g place) +ℤ pos g.size =
     burnt_weight-all g.size (order_divisor g place) (λ _. false) (λ _ _. refl) in
-    let edges : sum_below g.size (λ v. order_divisor g place v +ℤ pos 1) ≡ pos (total_below g.size (earlier g place)) =
+    let edges : sum_below g.size (λ v. order_divisor g place v +ℤ pos 1) ≡ pos (nat_sum_below g.size (earlier g place)) =
     sum_below-total g.size _ (earlier g place) (λ v _. omega (arith, ints)) in
     omega (arith, ints, earlier_total g place graph apart)
 

@@ -5,7 +5,7 @@
 --   order_next              a neighbour of a vertex of S can be added, at the place n
 --   order_exists            so in a multigraph all vertices have such an order
 use Rattle.dg_theory.proofs.Common.{if◌then◌else◌, ◌≡◌, ◌≢◌, ℕ, zero, suc, ◌<◌, ◌≤◌, ◌==◌, Bool, true, false, not, arith, refl, sym, ap, ◌∙◌, ⊎_elim, cases_eq, eqb-true, both_ways, not-true, not-false, not_from_false, not_from_true, true_from_ne_false, false_from_ne_true, nat_tests, Multigraph, IsMultigraph, edges_between}
-use Rattle.dg_theory.proofs.Climbs.{Leaves, JoinedInMultigraph-leaves}
+use Rattle.dg_theory.proofs.Climbs.{Leaves, IsConnectedTo-leaves}
 use Rattle.dg_theory.proofs.Counting.{count_of, count_of-some, count_of-more, member_or_none}
 
 pub record IsOrder (g : Multigraph) (q : ℕ) (S : ℕ → Bool) (place : ℕ → ℕ) (n : ℕ) : Type 0 where
@@ -95,7 +95,7 @@ order_grows g q graph vertex (suc k) S place n few order =
     ⊎_elim
     (λ (some : (u : ℕ) × (u < g.size) × (not (S u) ≡ true)).
     let out : Leaves g.size (edges_between g) S =
-    JoinedInMultigraph-leaves S vertex order.start (graph.connected q some.0 vertex some.1) (not-true _ some.2) in
+    IsConnectedTo-leaves S vertex order.start (graph.connected q some.0 vertex some.1) (not-true _ some.2) in
     let fewer : count_of g.size (λ w. not (added S out.b w)) < count_of g.size (λ w. not (S w)) =
     count_of-more g.size (λ w. not (added S out.b w)) (λ w. not (S w))
     (λ w missing. not_from_false _ (added-kept S out.b w (not-true _ missing)))

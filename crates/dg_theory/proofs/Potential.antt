@@ -9,7 +9,7 @@
 --   pulled                 a sum over edges, one of which leads down by L and the others up by at most K
 --   levels_pull            if one neighbour is lower by L > 63 K, and no neighbour higher by more than K, one loses
 --   levels_are_potential   the weights by distance are such a potential
-use Rattle.dg_theory.proofs.Common.{◌≡◌, ◌≢◌, ℕ, zero, suc, ◌+◌, ◌-◌, ◌*◌, ◌^◌, ◌<◌, ◌≤◌, arith, ap, suc-mul, add-mul, pow-suc, ⊎_elim, cases_eq, cases_lt, ints, mul-le, one-le-pow, ℤ, pos, ◌+ℤ◌, ◌-ℤ◌, ◌*ℤ◌, suc_ℤ-*ℤ, zero-*ℤ, ◌≤ℤ◌, sum_below, total_below, Multigraph, IsMultigraph, edges_between, valence, Amounts, gain, IsDistance}
+use Rattle.dg_theory.proofs.Common.{◌≡◌, ◌≢◌, ℕ, zero, suc, ◌+◌, ◌-◌, ◌*◌, ◌^◌, ◌<◌, ◌≤◌, arith, ap, suc-mul, add-mul, pow-suc, ⊎_elim, cases_eq, cases_lt, ints, mul-le, one-le-pow, ℤ, pos, ◌+ℤ◌, ◌-ℤ◌, ◌*ℤ◌, suc_ℤ-*ℤ, zero-*ℤ, ◌≤ℤ◌, sum_below, nat_sum_below, Multigraph, IsMultigraph, edges_between, valence, Amounts, gain, IsDistance}
 use Rattle.dg_theory.proofs.SumBounds.{mul-once}
 use Rattle.dg_theory.proofs.Distances.{level_positive}
 
@@ -53,31 +53,31 @@ edges-at_most zero K x high = omega (arith, ints, zero-*ℤ x)
 edges-at_most (suc k) K x high = mul-at_most (suc k) K x (high (omega arith))
 
 pushed : (n : ℕ) (e : ℕ → ℕ) (d : ℕ → ℤ) (K : ℕ) → ((w : ℕ) → w < n → 0 < e w → d w ≤ℤ pos K) →
-    sum_below n (λ w. pos (e w) *ℤ d w) ≤ℤ pos (total_below n e * K)
+    sum_below n (λ w. pos (e w) *ℤ d w) ≤ℤ pos (nat_sum_below n e * K)
 pushed zero e d K high = omega (arith, ints)
 pushed (suc n) e d K high =
-    let before : sum_below n (λ w. pos (e w) *ℤ d w) ≤ℤ pos (total_below n e * K) =
+    let before : sum_below n (λ w. pos (e w) *ℤ d w) ≤ℤ pos (nat_sum_below n e * K) =
     pushed n e d K (λ w below. high w (omega arith)) in
     let last : (pos (e n) *ℤ d n) ≤ℤ pos (e n * K) = edges-at_most (e n) K (d n) (high n (omega arith)) in
-    let both : (total_below n e + e n) * K ≡ total_below n e * K + e n * K = add-mul (total_below n e) (e n) K in
+    let both : (nat_sum_below n e + e n) * K ≡ nat_sum_below n e * K + e n * K = add-mul (nat_sum_below n e) (e n) K in
     omega (arith, ints)
 
 pub pulled : (n : ℕ) (e : ℕ → ℕ) (d : ℕ → ℤ) (K L u : ℕ) → ((w : ℕ) → w < n → 0 < e w → d w ≤ℤ pos K) →
     u < n → 0 < e u → (d u +ℤ pos L) ≤ℤ pos 0 →
-    (sum_below n (λ w. pos (e w) *ℤ d w) +ℤ pos L) ≤ℤ pos (total_below n e * K)
+    (sum_below n (λ w. pos (e w) *ℤ d w) +ℤ pos L) ≤ℤ pos (nat_sum_below n e * K)
 pulled zero e d K L u high inside edge low = absurd (omega arith)
 pulled (suc n) e d K L u high inside edge low =
-    let both : (total_below n e + e n) * K ≡ total_below n e * K + e n * K = add-mul (total_below n e) (e n) K in
+    let both : (nat_sum_below n e + e n) * K ≡ nat_sum_below n e * K + e n * K = add-mul (nat_sum_below n e) (e n) K in
     ⊎_elim
     (λ (same : u ≡ n).
     let edges_at : e u ≡ e n = ap e same in
     let down_at : d u ≡ d n = ap d same in
-    let before : sum_below n (λ w. pos (e w) *ℤ d w) ≤ℤ pos (total_below n e * K) =
+    let before : sum_below n (λ w. pos (e w) *ℤ d w) ≤ℤ pos (nat_sum_below n e * K) =
     pushed n e d K (λ w below. high w (omega arith)) in
     let last : (pos (e n) *ℤ d n) ≤ℤ d n = mul-once (e n) (d n) (omega arith) (omega (arith, ints)) in
     omega (arith, ints))
     (λ (other : u ≡ n → ⊥).
-    let before : (sum_below n (λ w. pos (e w) *ℤ d w) +ℤ pos L) ≤ℤ pos (total_below n e * K) =
+    let before : (sum_below n (λ w. pos (e w) *ℤ d w) +ℤ pos L) ≤ℤ pos (nat_sum_below n e * K) =
     pulled n e d K L u (λ w below. high w (omega arith)) (omega arith) edge low in
     let last : (pos (e n) *ℤ d n) ≤ℤ pos (e n * K) = edges-at_most (e n) K (d n) (high n (omega arith)) in
     omega (arith, ints))

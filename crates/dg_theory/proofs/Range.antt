@@ -20,7 +20,7 @@
 -- For any firing:
 --   script_between       a script that takes amounts off q within A to amounts within B has all its entries within
 --                        225 (A + B) of that at q, for at most 16 vertices
-use Rattle.dg_theory.proofs.Common.{◌≡◌, ◌≢◌, ℕ, zero, suc, ◌+◌, ◌-◌, ◌*◌, ◌^◌, ◌<◌, ◌≤◌, Bool, false, arith, refl, ap, sym, ◌∙◌, ⊎_elim, suc-mul, pow-suc, mul_assoc, mul_comm, cases_eq, ints, mul-le, ℤ, pos, ◌+ℤ◌, ◌-ℤ◌, ◌*ℤ◌, *ℤ-zero, ◌≤ℤ◌, unsigned_abs, sum_below, Multigraph, IsMultigraph, valence, Amounts, degree, gain, fired, indicator, multiple, HasNoDebtOff, edges_into, IsDistance}
+use Rattle.dg_theory.proofs.Common.{◌≡◌, ◌≢◌, ℕ, zero, suc, ◌+◌, ◌-◌, ◌*◌, ◌^◌, ◌<◌, ◌≤◌, Bool, false, arith, refl, ap, sym, ◌∙◌, ⊎_elim, suc-mul, pow-suc, mul_assoc, mul_comm, cases_eq, ints, mul-le, ℤ, pos, ◌+ℤ◌, ◌-ℤ◌, ◌*ℤ◌, *ℤ-zero, ◌≤ℤ◌, unsigned_abs, sum_below, Multigraph, IsMultigraph, valence, Amounts, degree, gain, fired, indicator, multiple, IsEffectiveOff, edges_into, IsDistance}
 use Rattle.dg_theory.proofs.Absolute.{within_abs, abs_within}
 use Rattle.dg_theory.proofs.Bounds.{gentle_between}
 use Rattle.dg_theory.proofs.Multiples.{gain-all_outside}
@@ -65,7 +65,7 @@ clear_stays g q level j k D distance clear v inside far =
     farther_stays g q level j k D v distance inside (omega arith) (clear v inside far)
 
 pub clear_all : (g : Multigraph) (q : ℕ) (level : ℕ → ℕ) (D : Amounts) → IsDistance g q level → IsClear g level 1 D →
-    HasNoDebtOff g q D
+    IsEffectiveOff g q D
 clear_all g q level D distance clear v inside other =
     let far : 0 < level v = level_positive g q level v distance inside other in clear v inside (omega arith)
 
@@ -134,15 +134,15 @@ sum_below-at_most (suc n) M f high =
     omega (arith, ints, suc-mul n M)
 
 pub record IsLed (g : Multigraph) (q : ℕ) (D E : Amounts) : Type 0 where
-  pub no_debt : HasNoDebtOff g q E
+  pub no_debt : IsEffectiveOff g q E
   pub sum : degree g.size E ≡ degree g.size D
   pub rises : D q ≤ℤ E q
 
-pub led_start : (g : Multigraph) (q : ℕ) (D : Amounts) → HasNoDebtOff g q D → IsLed g q D D
+pub led_start : (g : Multigraph) (q : ℕ) (D : Amounts) → IsEffectiveOff g q D → IsLed g q D D
 led_start g q D solvent = record { no_debt = solvent; sum = refl; rises = omega (arith, ints) }
 
 pub led_step : (g : Multigraph) (q : ℕ) (D E : Amounts) (S : ℕ → Bool) (k : ℤ) → IsMultigraph g → IsLed g q D E →
-    S q ≡ false → pos 0 ≤ℤ k → HasNoDebtOff g q (fired g E (multiple k (indicator S))) →
+    S q ≡ false → pos 0 ≤ℤ k → IsEffectiveOff g q (fired g E (multiple k (indicator S))) →
     IsLed g q D (fired g E (multiple k (indicator S)))
 led_step g q D E S k graph led without often solvent = record {
   no_debt = solvent;

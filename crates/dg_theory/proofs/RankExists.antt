@@ -6,7 +6,7 @@
 --   rank_decided        a divisor passes a rank test or not
 --   last_pass           between a test that passes and one that fails there is a last one that passes
 --   rank_exists         every divisor has a rank
-use Rattle.dg_theory.proofs.Common.{◌≡◌, ℕ, zero, suc, ◌+◌, ◌<◌, ◌⊎◌, inl, inr, arith, refl, subst, ⊎_elim, cases_eq, ints, by_lt_z, pos, negsuc, ◌+ℤ◌, ◌≤ℤ◌, ◌<ℤ◌, Multigraph, IsMultigraph, Amounts, degree, fired, only_at, IsEffective, IsWinnable, less, HasRankAtLeast, RankExists}
+use Rattle.dg_theory.proofs.Common.{◌≡◌, ℕ, zero, suc, ◌+◌, ◌<◌, ◌⊎◌, inl, inr, arith, refl, subst, ⊎_elim, cases_eq, ints, by_lt_z, pos, negsuc, ◌+ℤ◌, ◌≤ℤ◌, ◌<ℤ◌, Multigraph, IsMultigraph, Amounts, degree, fired, only_at, IsEffective, IsWinnable, minus, HasRankAtLeast, RankExists}
 use Rattle.dg_theory.proofs.Searching.{AllBelow, FirstOf, first_or_all}
 use Rattle.dg_theory.proofs.SumLaws.{sum_below-add}
 use Rattle.dg_theory.proofs.Agreement.{winnable-cong}
@@ -29,13 +29,13 @@ winnable_or_not g D graph some =
     (λ (paid : pos 0 ≤ℤ fired g D s 0). inl (decides.1 paid))
 
 abbrev pub lost : ℕ → Amounts → Amounts
-lost v D = less D (only_at v (pos 1))
+lost v D = minus D (only_at v (pos 1))
 
 pass_after_each : (g : Multigraph) (D : Amounts) (k : ℕ) →
     ((v : ℕ) → v < g.size → HasRankAtLeast g (lost v D) k) → HasRankAtLeast g D (k + 1)
 pass_after_each g D k each E effective of_degree =
     let (v, inside, dollar) = some_left g.size E (omega (arith, ints)) in
-    winnable-cong g (less (lost v D) (lost v E)) (less D E) (λ w below. omega (arith, ints))
+    winnable-cong g (minus (lost v D) (lost v E)) (minus D E) (λ w below. omega (arith, ints))
     (each v inside (lost v E)
     (λ w below. ⊎_elim
     (λ (same : w ≡ v). rw same (omega (arith, ints, only_at-here v (pos 1))))
@@ -49,7 +49,7 @@ each_passes g D k v inside rank E effective of_degree =
     let dollar : Amounts = only_at v (pos 1) in
     let paid : IsEffective g.size dollar = effective-only_at g.size v 1 in
     let more : Amounts = λ w. E w +ℤ dollar w in
-    winnable-cong g (less D more) (less (lost v D) E) (λ w below. omega (arith, ints))
+    winnable-cong g (minus D more) (minus (lost v D) E) (λ w below. omega (arith, ints))
     (rank more (λ w below. omega (arith, ints, paid w below, effective w below))
     (omega (arith, ints, sum_below-add g.size E dollar, degree-only_at g.size v (pos 1) inside, of_degree)))
 

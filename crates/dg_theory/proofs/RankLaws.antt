@@ -7,7 +7,7 @@
 --   rank_zero        the rank is at least 0 exactly where the divisor is winnable
 --   rich_rank        a divisor whose degree is at least the genus and k more has a rank of at least k
 --   poor_rank        a divisor whose degree is less than k has no rank of at least k
-use Rattle.dg_theory.proofs.Common.{◌≡◌, ℕ, ◌+◌, ◌<◌, [], arith, refl, ⊎_elim, cases_eq, ints, pos, ◌+ℤ◌, ◌↔◌, ◌≤ℤ◌, Multigraph, Amounts, degree, only_at, IsEffective, AreEquivalent, IsWinnable, less, HasRankAtLeast, EquivalentRank, RankBelow, RankZero, RichRank, PoorRank}
+use Rattle.dg_theory.proofs.Common.{◌≡◌, ℕ, ◌+◌, ◌<◌, [], arith, refl, ⊎_elim, cases_eq, ints, pos, ◌+ℤ◌, ◌↔◌, ◌≤ℤ◌, Multigraph, Amounts, degree, only_at, IsEffective, AreEquivalent, IsWinnable, minus, HasRankAtLeast, EquivalentRank, RankIsMonotone, RankZeroIffWinnable, RankFromDegree, RankAtMostDegree}
 use Rattle.dg_theory.proofs.SumLaws.{sum_below-add, sum_below-zero}
 use Rattle.dg_theory.proofs.Winning.{equivalent-winnable}
 use Rattle.dg_theory.proofs.Equivalence.{equivalent-less}
@@ -15,8 +15,8 @@ use Rattle.dg_theory.proofs.ExistenceLaws.{rich_is_winnable}
 use Rattle.dg_theory.proofs.Giving.{win_more, degree-less, degree-only_at, effective-only_at, none_of_degree_0, degree-winnable}
 
 pub less_winnable : (g : Multigraph) (D E F : Amounts) → AreEquivalent g D E →
-    IsWinnable g (less D F) ↔ IsWinnable g (less E F)
-less_winnable g D E F same = equivalent-winnable g (less D F) (less E F) (equivalent-less g D E F same)
+    IsWinnable g (minus D F) ↔ IsWinnable g (minus E F)
+less_winnable g D E F same = equivalent-winnable g (minus D F) (minus E F) (equivalent-less g D E F same)
 
 pub equivalent-rank : EquivalentRank
 equivalent-rank g D E k same = (
@@ -25,41 +25,41 @@ equivalent-rank g D E k same = (
 )
 
 win_one_more : (g : Multigraph) (D : Amounts) (k : ℕ) (E : Amounts) → 0 < g.size → HasRankAtLeast g D (k + 1) →
-    IsEffective g.size E → degree g.size E ≡ pos k → IsWinnable g (less D E)
+    IsEffective g.size E → degree g.size E ≡ pos k → IsWinnable g (minus D E)
 win_one_more g D k E some rank effective of_degree =
     let dollar : Amounts = only_at 0 (pos 1) in
     let paid : IsEffective g.size dollar = effective-only_at g.size 0 1 in
     let more : Amounts = λ w. E w +ℤ dollar w in
-    win_more g (less D more) (less D E) (λ v below. omega (arith, ints, paid v below))
+    win_more g (minus D more) (minus D E) (λ v below. omega (arith, ints, paid v below))
     (rank more (λ v below. omega (arith, ints, paid v below, effective v below))
     (omega (arith, ints, sum_below-add g.size E dollar, degree-only_at g.size 0 (pos 1) some, of_degree)))
 
-pub rank_below : RankBelow
+pub rank_below : RankIsMonotone
 rank_below g D k rank E effective of_degree =
     ⊎_elim
     (λ (empty : g.size ≡ 0). ([], λ v below. absurd (omega arith)))
     (λ (other : g.size ≡ 0 → ⊥). win_one_more g D k E (omega arith) rank effective of_degree)
     (cases_eq g.size 0)
 
-pub rank_zero : RankZero
+pub rank_zero : RankZeroIffWinnable
 rank_zero g D = (
   λ rank.
-      win_more g (less D (λ _. pos 0)) D (λ v below. omega (arith, ints))
+      win_more g (minus D (λ _. pos 0)) D (λ v below. omega (arith, ints))
       (rank (λ _. pos 0) (λ v below. omega (arith, ints)) (sum_below-zero g.size (λ _. pos 0) (λ w below. refl))),
   λ win E effective of_degree.
-      win_more g D (less D E)
+      win_more g D (minus D E)
       (λ v below. omega (arith, ints, none_of_degree_0 g.size E effective of_degree v below)) win,
 )
 
-pub rich_rank : RichRank
+pub rich_rank : RankFromDegree
 rich_rank g D k graph some rich E effective of_degree =
-    rich_is_winnable g (less D E) graph some (omega (arith, ints, degree-less g.size D E, rich, of_degree))
+    rich_is_winnable g (minus D E) graph some (omega (arith, ints, degree-less g.size D E, rich, of_degree))
 
-pub poor_rank : PoorRank
+pub poor_rank : RankAtMostDegree
 poor_rank g D k graph some poor rank =
     let dollars : Amounts = only_at 0 (pos k) in
     let size : degree g.size dollars ≡ pos k = degree-only_at g.size 0 (pos k) some in
-    let high : pos 0 ≤ℤ degree g.size (less D dollars) =
-    degree-winnable g (less D dollars) graph (rank dollars (effective-only_at g.size 0 k) size) in
+    let high : pos 0 ≤ℤ degree g.size (minus D dollars) =
+    degree-winnable g (minus D dollars) graph (rank dollars (effective-only_at g.size 0 k) size) in
     let none : ⊥ = omega (arith, ints, degree-less g.size D dollars) in
     none

@@ -6,7 +6,7 @@
 --   rank_once          a divisor has at most one rank
 --   rank_of_dual       the rank of a divisor tells that of its residual
 --   riemann_roch       the two ranks differ by the degree, plus 1, less the genus
-use Rattle.dg_theory.proofs.Common.{◌≡◌, ℕ, zero, suc, ◌+◌, ◌<◌, ◌≤◌, arith, ap, sym, ◌∙◌, subst, ⊎_elim, ◌≤ℤ◌, ◌<ℤ◌, cases_eq, cases_lt, ints, by_lt_z, ℤ, pos, negsuc, ◌+ℤ◌, ◌-ℤ◌, Multigraph, IsMultigraph, genus, Amounts, degree, less, canonical, HasRankAtLeast, IsRank, RankOnce, RankOfDual, RiemannRoch}
+use Rattle.dg_theory.proofs.Common.{◌≡◌, ℕ, zero, suc, ◌+◌, ◌<◌, ◌≤◌, arith, ap, sym, ◌∙◌, subst, ⊎_elim, ◌≤ℤ◌, ◌<ℤ◌, cases_eq, cases_lt, ints, by_lt_z, ℤ, pos, negsuc, ◌+ℤ◌, ◌-ℤ◌, Multigraph, IsMultigraph, genus, Amounts, degree, minus, canonical, HasRankAtLeast, IsRank, RankIsUnique, RankOfDual, RiemannRoch}
 use Rattle.dg_theory.proofs.RankLaws.{rank_below, rich_rank}
 use Rattle.dg_theory.proofs.DualityLaws.{dual_tests, dual-degree}
 
@@ -38,7 +38,7 @@ pub rank_passes : (g : Multigraph) (D : Amounts) (r : ℤ) (k : ℕ) → IsRank 
 rank_passes g D (pos j) k (passes, fails) low = rank_down g D k j (omega (arith, ints)) passes
 rank_passes g D (negsuc n) k (none, fails) low = absurd (omega (arith, ints))
 
-pub rank_once : RankOnce
+pub rank_once : RankIsUnique
 rank_once g D (pos j) (pos k) (passes, fails) (passes', fails') =
     ap pos (omega (arith, not_above g D j k fails passes', not_above g D k j fails' passes))
 rank_once g D (pos j) (negsuc n) (passes, fails) (none, fails') =
@@ -56,7 +56,7 @@ rank_of_dual g D (pos k) (negsuc n) graph some apart (passes, fails) =
     let none : n ≡ 0 = omega (arith, ints, not_rich g D (k + 1) graph some fails) in
     (none, λ rank. fails ((dual_tests g D (k + 1) 0 graph some (omega (arith, ints))).1 rank))
 rank_of_dual g D (negsuc m) (pos l) graph some apart (none, fails) = (
-  rich_rank g (less (canonical g) D) l graph some (omega (arith, ints, dual-degree g D graph)),
+  rich_rank g (minus (canonical g) D) l graph some (omega (arith, ints, dual-degree g D graph)),
   λ rank. fails ((dual_tests g D 0 (l + 1) graph some (omega (arith, ints))).1 rank),
 )
 rank_of_dual g D (negsuc m) (negsuc n) graph some apart (none, fails) =
@@ -66,7 +66,7 @@ rank_of_dual g D (negsuc m) (negsuc n) graph some apart (none, fails) =
 pub riemann_roch : RiemannRoch
 riemann_roch g D r s graph some rank dual_rank =
     let apart : ℤ = (degree g.size D +ℤ pos 1) -ℤ genus g in
-    let other : IsRank g (less (canonical g) D) (r -ℤ apart) =
+    let other : IsRank g (minus (canonical g) D) (r -ℤ apart) =
     rank_of_dual g D r (r -ℤ apart) graph some (omega (arith, ints)) rank in
-    let same : s ≡ r -ℤ apart = rank_once g (less (canonical g) D) s (r -ℤ apart) dual_rank other in
+    let same : s ≡ r -ℤ apart = rank_once g (minus (canonical g) D) s (r -ℤ apart) dual_rank other in
     omega (arith, ints)

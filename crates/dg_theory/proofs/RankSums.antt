@@ -7,7 +7,7 @@
 --   clifford          where the residual is winnable, the rank is at most half of the degree
 --   rank_down         a rank of at least k is one of at least 0
 --   half_of_degree    so a rank test of more than half of the degree passes for rich divisors only
-use Rattle.dg_theory.proofs.Common.{◌≡◌, ℕ, zero, suc, ◌+◌, ◌<◌, inl, inr, true, false, arith, refl, subst, ⊎_elim, ◌≤ℤ◌, ◌<ℤ◌, cases_eq, ints, by_lt_z, ℤ, pos, ◌+ℤ◌, ◌-ℤ◌, Multigraph, IsMultigraph, genus, Amounts, degree, only_at, IsEffective, IsWinnable, less, canonical, HasRankAtLeast, RankOfSum, Clifford, HalfOfDegree}
+use Rattle.dg_theory.proofs.Common.{◌≡◌, ℕ, zero, suc, ◌+◌, ◌<◌, inl, inr, true, false, arith, refl, subst, ⊎_elim, ◌≤ℤ◌, ◌<ℤ◌, cases_eq, ints, by_lt_z, ℤ, pos, ◌+ℤ◌, ◌-ℤ◌, Multigraph, IsMultigraph, genus, Amounts, degree, only_at, IsEffective, IsWinnable, minus, canonical, HasRankAtLeast, RankOfSum, Clifford, CliffordOrRiemannRoch}
 use Rattle.dg_theory.proofs.SumLaws.{sum_below-add, sum_below-zero}
 use Rattle.dg_theory.proofs.SumBounds.{sum_below-nonpos}
 use Rattle.dg_theory.proofs.FiringLaws.{fired-fired}
@@ -47,7 +47,7 @@ part_of n F zero effective enough = (
 )
 part_of n F (suc k) effective enough =
     let (E, part) = part_of n F k effective (omega (arith, ints)) in
-    let (v, inside, more) = some_left n (less F E) (omega (arith, ints, degree-less n F E, part.of_degree)) in
+    let (v, inside, more) = some_left n (minus F E) (omega (arith, ints, degree-less n F E, part.of_degree)) in
     let dollar : Amounts = only_at v (pos 1) in (
       λ w. E w +ℤ dollar w,
       record {
@@ -70,11 +70,11 @@ sum_winnable g D E win win' =
 pub rank_of_sum : RankOfSum
 rank_of_sum g D E j k rank rank' F effective of_degree =
     let (A, part) = part_of g.size F j effective (omega (arith, ints, of_degree)) in
-    let rest : IsWinnable g (less E (less F A)) =
-    rank' (less F A) (λ v below. omega (arith, ints, part.within v below))
+    let rest : IsWinnable g (minus E (minus F A)) =
+    rank' (minus F A) (λ v below. omega (arith, ints, part.within v below))
     (omega (arith, ints, degree-less g.size F A, part.of_degree, of_degree)) in
-    win_more g (λ v. less D A v +ℤ less E (less F A) v) (less (λ v. D v +ℤ E v) F) (λ v below. omega (arith, ints))
-    (sum_winnable g (less D A) (less E (less F A)) (rank A part.effective part.of_degree) rest)
+    win_more g (λ v. minus D A v +ℤ minus E (minus F A) v) (minus (λ v. D v +ℤ E v) F) (λ v below. omega (arith, ints))
+    (sum_winnable g (minus D A) (minus E (minus F A)) (rank A part.effective part.of_degree) rest)
 
 canonical_below : (g : Multigraph) (k : ℕ) → IsMultigraph g → 0 < g.size → HasRankAtLeast g (canonical g) k →
     pos k <ℤ genus g
@@ -86,12 +86,12 @@ canonical_below g k graph some rank =
 
 -- a divisor and its residual share the rank of the canonical divisor
 shared : (g : Multigraph) (D : Amounts) (k l : ℕ) → IsMultigraph g → 0 < g.size → HasRankAtLeast g D k →
-    HasRankAtLeast g (less (canonical g) D) l → pos (k + l) <ℤ genus g
+    HasRankAtLeast g (minus (canonical g) D) l → pos (k + l) <ℤ genus g
 shared g D k l graph some rank dual_rank =
     canonical_below g (k + l) graph some
-    ((equivalent-rank g (λ v. D v +ℤ less (canonical g) D v) (canonical g) (k + l)
+    ((equivalent-rank g (λ v. D v +ℤ minus (canonical g) D v) (canonical g) (k + l)
     (equivalent-refl g _ (canonical g) (λ v below. omega (arith, ints)))).0
-    (rank_of_sum g D (less (canonical g) D) k l rank dual_rank))
+    (rank_of_sum g D (minus (canonical g) D) k l rank dual_rank))
 
 pub clifford : Clifford
 clifford g D k graph some rank special =
@@ -112,12 +112,12 @@ rank_down g D (suc k) rank =
     let more : suc k ≡ k + 1 = omega arith in
     rank_down g D k (rank_below g D k (subst (HasRankAtLeast g D) more rank))
 
-pub half_of_degree : HalfOfDegree
+pub half_of_degree : CliffordOrRiemannRoch
 half_of_degree g D k graph some rank =
     by_lt_z (degree g.size D) (genus g +ℤ pos k)
     (λ (poor : degree g.size D <ℤ (genus g +ℤ pos k)).
     let (l, same) = natural (((pos k +ℤ genus g) -ℤ pos 1) -ℤ degree g.size D) (omega (arith, ints)) in
     let dual : IsDual g D k l = omega (arith, ints) in
     inl (clifford g D k graph some rank
-    (rank_down g (less (canonical g) D) l ((dual_tests g D k l graph some dual).0 rank))))
+    (rank_down g (minus (canonical g) D) l ((dual_tests g D k l graph some dual).0 rank))))
     (λ (rich : (genus g +ℤ pos k) ≤ℤ degree g.size D). inr rich)

@@ -4,14 +4,14 @@
 --   paid_at_q        a reduced divisor from which a script clears all debts is not in debt at q
 --   reduced_decides  a divisor is winnable exactly where the reduced divisor that it is equivalent to is not in debt at
 --                    q
-use Rattle.dg_theory.proofs.Common.{◌≡◌, ℕ, ◌<◌, [], arith, ap, sym, ◌∙◌, ⊎_elim, cases_eq, ints, pos, ◌≤ℤ◌, Multigraph, Amounts, gain, fired, IsEffective, FiresTo, IsReduced, ReducedDecides, ReducedOnce}
+use Rattle.dg_theory.proofs.Common.{◌≡◌, ℕ, ◌<◌, [], arith, ap, sym, ◌∙◌, ⊎_elim, cases_eq, ints, pos, ◌≤ℤ◌, Multigraph, Amounts, gain, fired, IsEffective, FiresTo, IsReduced, ReducedDecides, ReducedIsUnique}
 use Rattle.dg_theory.proofs.Equivalence.{opposite, opposite_leads}
 use Rattle.dg_theory.proofs.FiringLaws.{fired-constant_script}
 use Rattle.dg_theory.proofs.Largest.{IsLargest}
 use Rattle.dg_theory.proofs.Lending.{lends_most_gains_none, q_lends_most}
 use Rattle.dg_theory.proofs.Winning.{script_of_win, equivalent-winnable}
 
-pub reduced_once : ReducedOnce
+pub reduced_once : ReducedIsUnique
 reduced_once g q D E vertex (s, leads) first second v inside =
     let back : FiresTo g (opposite s) E D = opposite_leads g D E s leads in
     let ahead : IsLargest g.size s q = q_lends_most g q D s vertex first

@@ -3,9 +3,9 @@
 --   spreads_over      so does each vertex of a connected set with s, if R has no dollar there
 --   neighbour_holds   and then each vertex next to the set that can bear the loss of a dollar holds one
 --   beside_reduced    so where all next to the set can, a dollar at each of them is reduced for s
-use Rattle.dg_theory.proofs.Common.{◌≡◌, ◌≢◌, ℕ, ◌<◌, ◌≤◌, [], arith, ap, sym, ◌∙◌, ⊎_elim, cases_eq, cases_lt, cases_Bool, both_ways, Bool, true, false, ints, by_lt_z, pos, ◌-ℤ◌, ◌*ℤ◌, ◌≤ℤ◌, ◌<ℤ◌, Multigraph, IsMultigraph, edges_between, Amounts, gain, fired, IsEffective, IsReduced, IsWinnable, IsConnectedSet, edges_into, beside}
+use Rattle.dg_theory.proofs.Common.{◌≡◌, ◌≢◌, ℕ, ◌<◌, ◌≤◌, [], arith, ap, sym, ◌∙◌, ⊎_elim, cases_eq, cases_lt, cases_Bool, both_ways, Bool, true, false, ints, by_lt_z, pos, ◌-ℤ◌, ◌*ℤ◌, ◌≤ℤ◌, ◌<ℤ◌, Multigraph, IsMultigraph, edges_between, Amounts, gain, fired, IsEffective, IsReduced, IsWinnable, IsConnectedSet, edges_into, boundary_divisor}
 use Rattle.dg_theory.proofs.SumBounds.{mul-nonpos, mul-cancel, sum_below-le_term}
-use Rattle.dg_theory.proofs.Chains.{JoinedInMultigraph-stays}
+use Rattle.dg_theory.proofs.Chains.{IsConnectedTo-stays}
 use Rattle.dg_theory.proofs.Plays.{only_at-here, only_at-other}
 use Rattle.dg_theory.proofs.Winning.{script_of_win}
 use Rattle.dg_theory.proofs.Largest.{IsLargest}
@@ -14,7 +14,7 @@ use Rattle.dg_theory.proofs.ReducedLaws.{effective_from}
 use Rattle.dg_theory.proofs.Giving.{effective-only_at}
 use Rattle.dg_theory.proofs.RankExists.{lost}
 use Rattle.dg_theory.proofs.Components.{within-parts}
-use Rattle.dg_theory.proofs.Special.{edge_into, beside-inside, beside-outside, beside-solvent}
+use Rattle.dg_theory.proofs.Special.{edge_into, boundary_divisor-inside, boundary_divisor-outside, boundary_divisor-solvent}
 
 spreads : (g : Multigraph) (s : Amounts) (u w : ℕ) → IsLargest g.size s u → pos 0 ≤ℤ gain g s u → w < g.size →
     0 < edges_between g u w → IsLargest g.size s w
@@ -56,7 +56,7 @@ spreads_over g s S R t on effective w member =
     let empty : (u : ℕ) → S u ≡ true → R u ≤ℤ pos 0 = λ u in_u. none_at g R u solvent (on.loses u in_u) in (
       on.connected.vertices w member,
       empty w member,
-      JoinedInMultigraph-stays (λ u. IsLargest g.size t u)
+      IsConnectedTo-stays (λ u. IsLargest g.size t u)
           (λ a b top below some.
           let (in_a, in_b, edge) = within-parts g S a b some in
           spreads g t a b top
@@ -81,29 +81,29 @@ WinsNextTo g S R =
 
 -- R holds at least the dollars beside the set
 holds_beside : (g : Multigraph) (s : ℕ) (S : ℕ → Bool) (R : Amounts) (v : ℕ) → IsMultigraph g → LosesOn g s S R →
-    WinsNextTo g S R → v < g.size → pos 0 ≤ℤ R v → beside g S v ≤ℤ R v
+    WinsNextTo g S R → v < g.size → pos 0 ≤ℤ R v → boundary_divisor g S v ≤ℤ R v
 holds_beside g s S R v graph on next inside solvent =
     ⊎_elim
-    (λ (member : S v ≡ true). omega (arith, ints, beside-inside g S v member))
+    (λ (member : S v ≡ true). omega (arith, ints, boundary_divisor-inside g S v member))
     (λ (outside : S v ≡ false). ⊎_elim
     (λ (some : 0 < edges_into g S v).
     let (w, below, in_S, edge) = edge_into g S v some in
     let back : 0 < edges_between g w v = omega (arith, graph.symmetric v w) in
     let holds : pos 1 ≤ℤ R v =
     neighbour_holds g s S R w v on in_S inside back (next w v in_S inside outside back) in
-    omega (arith, ints, beside-outside g S v outside))
-    (λ (none : edges_into g S v ≤ 0). omega (arith, ints, beside-outside g S v outside))
+    omega (arith, ints, boundary_divisor-outside g S v outside))
+    (λ (none : edges_into g S v ≤ 0). omega (arith, ints, boundary_divisor-outside g S v outside))
     (cases_lt 0 (edges_into g S v)))
     (cases_Bool (S v))
 
 pub beside_reduced : (g : Multigraph) (s : ℕ) (S : ℕ → Bool) (R : Amounts) → IsMultigraph g → LosesOn g s S R →
-    WinsNextTo g S R → IsReduced g s (beside g S)
+    WinsNextTo g S R → IsReduced g s (boundary_divisor g S)
 beside_reduced g s S R graph on next = record {
-  no_debt = λ v below other. beside-solvent g S v;
+  no_debt = λ v below other. boundary_divisor-solvent g S v;
   none_fires = λ T without u below member.
       let (v, inside, in_T, falls) = on.reduced.none_fires T without u below member in
       let other : v ≢ s = λ same. both_ways _ without (ap T (sym same) ∙ in_T) in
-      let holds : beside g S v ≤ℤ R v =
+      let holds : boundary_divisor g S v ≤ℤ R v =
       holds_beside g s S R v graph on next inside (on.reduced.no_debt v inside other) in
       (v, inside, in_T, omega (arith, ints));
 }

@@ -9,7 +9,7 @@
 --   gain-exchanged       and what a vertex gains by the exchanged script is what that in its place gains by the script
 --   win_exchanged        the law that an exchange of twins keeps winnability
 use Rattle.dg_theory.proofs.Common.{◌≡◌, ◌≢◌, ℕ, ◌<◌, arith, refl, sym, ap, ◌∙◌, ⊎_elim, ints, cases_eq, nat_tests, ℤ, pos, ◌+ℤ◌, ◌-ℤ◌, ◌*ℤ◌, sum_below, Multigraph, IsMultigraph, edges_between, Amounts, gain, only_at}
-use Rattle.dg_theory.specs.Twins.{AreTwins, exchange, exchanged, ExchangeOfTwinsKeepsWinnable}
+use Rattle.dg_theory.specs.Twins.{AreTwins, exchange, exchanged, ExchangeKeepsWinnable}
 use Rattle.dg_theory.proofs.Giving.{degree-only_at}
 use Rattle.dg_theory.proofs.Plays.{only_at-here, only_at-other}
 use Rattle.dg_theory.proofs.SumLaws.{sum_below-add, sum_below-cong}
@@ -90,7 +90,7 @@ gain-exchanged g s u v graph left right twins x =
     (sym (edges-exchanged g u v graph twins x w)))
     ∙ sum_below-exchanged g.size u v (λ w. pos (edges_between g y w) *ℤ (s w -ℤ s y)) left right
 
-pub win_exchanged : ExchangeOfTwinsKeepsWinnable
+pub win_exchanged : ExchangeKeepsWinnable
 win_exchanged g D u v graph left right twins win =
     let (s, effective) = script_of_win g D win in
     win_of_script g (exchanged u v D) (exchanged u v s) (λ x below. omega (

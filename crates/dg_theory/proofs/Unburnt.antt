@@ -7,9 +7,9 @@
 --   holds_start           the set of all vertices but q holds each such set
 --   holds_next            so does S without a vertex that falls in S, where S does
 --   reduced_or_fires      the divisor is reduced, or some set with a vertex fires freely
-use Rattle.dg_theory.proofs.Common.{if◌then◌else◌, ◌≡◌, ◌≢◌, ℕ, zero, suc, ◌<◌, ◌≤◌, ◌⊎◌, inl, inr, Bool, true, false, ◌&&◌, arith, refl, sym, ap, ◌∙◌, ⊎_elim, nat_lt, ◌≤ℤ◌, ◌<ℤ◌, le_z, ints, by_lt_z, cases_Bool, lt-ltb, ltb-true, and_parts, and_from, false_from_ne_true, both_ways, Multigraph, edges_between, Amounts, HasNoDebtOff, edges_out, IsReduced, FiresFreely}
+use Rattle.dg_theory.proofs.Common.{if◌then◌else◌, ◌≡◌, ◌≢◌, ℕ, zero, suc, ◌<◌, ◌≤◌, ◌⊎◌, inl, inr, Bool, true, false, ◌&&◌, arith, refl, sym, ap, ◌∙◌, ⊎_elim, nat_lt, ◌≤ℤ◌, ◌<ℤ◌, le_z, ints, by_lt_z, cases_Bool, lt-ltb, ltb-true, and_parts, and_from, false_from_ne_true, both_ways, Multigraph, edges_between, Amounts, IsEffectiveOff, edges_out, IsReduced, IsLegalSetFiring}
 use Rattle.std.specs.Prelude.{pos, ◌+ℤ◌}
-use Rattle.dg_theory.proofs.TotalLaws.{total_below-le}
+use Rattle.dg_theory.proofs.TotalLaws.{nat_sum_below-le}
 use Rattle.dg_theory.proofs.SetFiring.{inside-fired, outside-fired}
 use Rattle.dg_theory.proofs.Counting.{count_of, count_of-some, count_of-more, member_or_none}
 use Rattle.dg_theory.proofs.Leaving.{removed, removed-here, removed-other, removed-of}
@@ -38,7 +38,7 @@ out-le-out-once false false e kept = omega arith
 
 pub out-le-out : (g : Multigraph) (T S : ℕ → Bool) (v : ℕ) → IsPartOf g T S → edges_out g S v ≤ edges_out g T v
 out-le-out g T S v within =
-    total_below-le g.size _ _ (λ w below. out-le-out-once (S w) (T w) (edges_between g v w) (within w below))
+    nat_sum_below-le g.size _ _ (λ w below. out-le-out-once (S w) (T w) (edges_between g v w) (within w below))
 
 holds_start : (g : Multigraph) (q : ℕ) (D : Amounts) → Holds g q D (all_but g q)
 holds_start g q D T without = inr (λ w below member.
@@ -74,8 +74,8 @@ stands_if g D S v test member =
     (λ less. absurd (both_ways _ test (and_from (S v) _ member (sym (omega (arith, ints))))))
     (λ enough. omega (arith, ints, enough))
 
-fires_if : (g : Multigraph) (q : ℕ) (D : Amounts) (S : ℕ → Bool) → HasNoDebtOff g q D → AreVertices g S → S q ≡ false →
-    ((v : ℕ) → v < g.size → falls_in g D S v ≡ false) → FiresFreely g q D S
+fires_if : (g : Multigraph) (q : ℕ) (D : Amounts) (S : ℕ → Bool) → IsEffectiveOff g q D → AreVertices g S → S q ≡ false →
+    ((v : ℕ) → v < g.size → falls_in g D S v ≡ false) → IsLegalSetFiring g q D S
 fires_if g q D S solvent vertices without none = record {
   vertices = vertices;
   without = without;
@@ -85,7 +85,7 @@ fires_if g q D S solvent vertices without none = record {
       (cases_Bool (S v));
 }
 
-reduced_if : (g : Multigraph) (q : ℕ) (D : Amounts) (S : ℕ → Bool) → HasNoDebtOff g q D → Holds g q D S →
+reduced_if : (g : Multigraph) (q : ℕ) (D : Amounts) (S : ℕ → Bool) → IsEffectiveOff g q D → Holds g q D S →
     ((v : ℕ) → v < g.size → S v ≡ false) → IsReduced g q D
 reduced_if g q D S solvent holds empty = record {
   no_debt = solvent;
@@ -96,10 +96,10 @@ reduced_if g q D S solvent holds empty = record {
 }
 
 abbrev pub FiresSome : Multigraph → ℕ → Amounts → Type 0
-FiresSome g q D = (S : ℕ → Bool) × FiresFreely g q D S × ((v : ℕ) × (v < g.size) × (S v ≡ true))
+FiresSome g q D = (S : ℕ → Bool) × IsLegalSetFiring g q D S × ((v : ℕ) × (v < g.size) × (S v ≡ true))
 
 -- with at most k vertices in S
-burnt_down : (g : Multigraph) (q : ℕ) (D : Amounts) → HasNoDebtOff g q D → (k : ℕ) (S : ℕ → Bool) →
+burnt_down : (g : Multigraph) (q : ℕ) (D : Amounts) → IsEffectiveOff g q D → (k : ℕ) (S : ℕ → Bool) →
     count_of g.size S ≤ k → AreVertices g S → S q ≡ false → Holds g q D S → IsReduced g q D ⊎ FiresSome g q D
 burnt_down g q D solvent zero S few vertices without holds =
     inl (reduced_if g q D S solvent holds (λ w below. false_from_ne_true (S w) (λ member.
@@ -120,7 +120,7 @@ burnt_down g q D solvent (suc k) S few vertices without holds =
     (member_or_none g.size S))
     (member_or_none g.size (falls_in g D S))
 
-pub reduced_or_fires : (g : Multigraph) (q : ℕ) (D : Amounts) → HasNoDebtOff g q D → IsReduced g q D ⊎ FiresSome g q D
+pub reduced_or_fires : (g : Multigraph) (q : ℕ) (D : Amounts) → IsEffectiveOff g q D → IsReduced g q D ⊎ FiresSome g q D
 reduced_or_fires g q D solvent =
     let S : ℕ → Bool = all_but g q in
     burnt_down g q D solvent (count_of g.size S) S (omega arith)

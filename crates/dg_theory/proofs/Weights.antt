@@ -8,12 +8,12 @@
 --   weight_falls_by_firings   if a set without q that has a member fires at least once, and nobody off q is in debt
 --                       before and after, the weight falls
 --   weight_falls_by_set so it does where a set with a member fires freely
-use Rattle.dg_theory.proofs.Common.{if◌then◌else◌, ◌≡◌, ℕ, zero, suc, ◌+◌, ◌*◌, ◌<◌, ◌≤◌, Bool, true, false, arith, refl, ap, sym, ◌∙◌, ⊎_elim, zero-mul, mul-zero, mul-one, cases_eq, ints, ℤ, pos, negsuc, ◌+ℤ◌, ◌*ℤ◌, zero-*ℤ, ◌≤ℤ◌, up, sum_below, total_below, Multigraph, IsMultigraph, Amounts, gain, fired, indicator, multiple, HasNoDebtOff, FiresFreely}
+use Rattle.dg_theory.proofs.Common.{if◌then◌else◌, ◌≡◌, ℕ, zero, suc, ◌+◌, ◌*◌, ◌<◌, ◌≤◌, Bool, true, false, arith, refl, ap, sym, ◌∙◌, ⊎_elim, zero-mul, mul-zero, mul-one, cases_eq, ints, ℤ, pos, negsuc, ◌+ℤ◌, ◌*ℤ◌, zero-*ℤ, ◌≤ℤ◌, up, sum_below, nat_sum_below, Multigraph, IsMultigraph, Amounts, gain, fired, indicator, multiple, IsEffectiveOff, IsLegalSetFiring}
 use Rattle.dg_theory.proofs.Products.{mulz-add}
 use Rattle.dg_theory.proofs.SumLaws.{sum_below-cong, sum_below-add}
 use Rattle.dg_theory.proofs.SumBounds.{mul-negative, sum_below-nonpos}
 use Rattle.dg_theory.proofs.SumTotals.{sum_below-total}
-use Rattle.dg_theory.proofs.TotalLaws.{total_below-cong, total_below-term}
+use Rattle.dg_theory.proofs.TotalLaws.{nat_sum_below-cong, nat_sum_below-term}
 use Rattle.dg_theory.proofs.FiringLaws.{fired-cong}
 use Rattle.dg_theory.proofs.Exchange.{gain-symmetric}
 use Rattle.dg_theory.proofs.Counting.{one_if}
@@ -21,7 +21,7 @@ use Rattle.dg_theory.proofs.Multiples.{multiple-once}
 use Rattle.dg_theory.proofs.Potential.{IsPotential, as_script}
 
 abbrev pub weight_of : Multigraph → (ℕ → ℕ) → Amounts → ℕ
-weight_of g c D = total_below g.size (λ v. c v * up (D v))
+weight_of g c D = nat_sum_below g.size (λ v. c v * up (D v))
 
 up_is : (k : ℕ) (z : ℤ) → pos 0 ≤ℤ z → pos k *ℤ z ≡ pos (k * up z)
 up_is k (pos n) rich = refl
@@ -31,7 +31,7 @@ weightless : (k : ℕ) (z : ℤ) → k ≡ 0 → pos k *ℤ z ≡ pos (k * up z)
 weightless zero z none = zero-*ℤ z ∙ ap pos (sym (zero-mul (up z)))
 weightless (suc k) z none = absurd (omega arith)
 
-pub weight_is : (g : Multigraph) (q : ℕ) (c : ℕ → ℕ) (D : Amounts) → c q ≡ 0 → HasNoDebtOff g q D →
+pub weight_is : (g : Multigraph) (q : ℕ) (c : ℕ → ℕ) (D : Amounts) → c q ≡ 0 → IsEffectiveOff g q D →
     sum_below g.size (λ v. as_script c v *ℤ D v) ≡ pos (weight_of g c D)
 weight_is g q c D none solvent =
     sum_below-total g.size _ _ (λ v inside. ⊎_elim
@@ -41,7 +41,7 @@ weight_is g q c D none solvent =
     (cases_eq v q))
 
 pub lendings_weigh : (g : Multigraph) (q : ℕ) (c k : ℕ → ℕ) → IsPotential g q c → k q ≡ 0 →
-    (sum_below g.size (λ v. as_script k v *ℤ gain g (as_script c) v) +ℤ pos (total_below g.size k)) ≤ℤ pos 0
+    (sum_below g.size (λ v. as_script k v *ℤ gain g (as_script c) v) +ℤ pos (nat_sum_below g.size k)) ≤ℤ pos 0
 lendings_weigh g q c k potential keeps =
     let each : (v : ℕ) → v < g.size → (as_script k v *ℤ gain g (as_script c) v +ℤ pos (k v)) ≤ℤ pos 0 =
     λ v inside. ⊎_elim
@@ -57,13 +57,13 @@ lendings_weigh g q c k potential keeps =
     let parts : sum_below g.size (λ v. as_script k v *ℤ gain g (as_script c) v +ℤ pos (k v))
     ≡ sum_below g.size (λ v. as_script k v *ℤ gain g (as_script c) v) +ℤ sum_below g.size (λ v. pos (k v)) =
     sum_below-add g.size _ _ in
-    let count : sum_below g.size (λ v. pos (k v)) ≡ pos (total_below g.size k) =
+    let count : sum_below g.size (λ v. pos (k v)) ≡ pos (nat_sum_below g.size k) =
     sum_below-total g.size _ k (λ v _. refl) in
     omega (arith, ints)
 
 pub weight_falls : (g : Multigraph) (q : ℕ) (c k : ℕ → ℕ) (D : Amounts) → IsMultigraph g → IsPotential g q c → k q ≡ 0 →
-    HasNoDebtOff g q D → HasNoDebtOff g q (fired g D (as_script k)) →
-    weight_of g c (fired g D (as_script k)) + total_below g.size k ≤ weight_of g c D
+    IsEffectiveOff g q D → IsEffectiveOff g q (fired g D (as_script k)) →
+    weight_of g c (fired g D (as_script k)) + nat_sum_below g.size k ≤ weight_of g c D
 weight_falls g q c k D graph potential keeps solvent after =
     let before_is : sum_below g.size (λ v. as_script c v *ℤ D v) ≡ pos (weight_of g c D) =
     weight_is g q c D potential.none_at_q solvent in
@@ -76,21 +76,21 @@ weight_falls g q c k D graph potential keeps solvent after =
     let turned : sum_below g.size (λ v. as_script c v *ℤ gain g (as_script k) v)
     ≡ sum_below g.size (λ v. as_script k v *ℤ gain g (as_script c) v) =
     gain-symmetric g (as_script c) (as_script k) graph in
-    let low : (sum_below g.size (λ v. as_script k v *ℤ gain g (as_script c) v) +ℤ pos (total_below g.size k)) ≤ℤ pos 0 =
+    let low : (sum_below g.size (λ v. as_script k v *ℤ gain g (as_script c) v) +ℤ pos (nat_sum_below g.size k)) ≤ℤ pos 0 =
     lendings_weigh g q c k potential keeps in
     omega (arith, ints)
 
 pub weight_of-cong : (g : Multigraph) (c : ℕ → ℕ) (D E : Amounts) → ((v : ℕ) → v < g.size → D v ≡ E v) →
     weight_of g c D ≡ weight_of g c E
-weight_of-cong g c D E same = total_below-cong g.size _ _ (λ v inside. ap (λ (z : ℤ). c v * up z) (same v inside))
+weight_of-cong g c D E same = nat_sum_below-cong g.size _ _ (λ v inside. ap (λ (z : ℤ). c v * up z) (same v inside))
 
 one_if-script : (b : Bool) → (if b then pos 1 else pos 0) ≡ pos (one_if b)
 one_if-script true = refl
 one_if-script false = refl
 
 pub weight_falls_by_firings : (g : Multigraph) (q : ℕ) (c : ℕ → ℕ) (D : Amounts) (S : ℕ → Bool) (k : ℤ) (v : ℕ) →
-    IsMultigraph g → IsPotential g q c → HasNoDebtOff g q D → S q ≡ false → pos 1 ≤ℤ k →
-    HasNoDebtOff g q (fired g D (multiple k (indicator S))) → v < g.size → S v ≡ true →
+    IsMultigraph g → IsPotential g q c → IsEffectiveOff g q D → S q ≡ false → pos 1 ≤ℤ k →
+    IsEffectiveOff g q (fired g D (multiple k (indicator S))) → v < g.size → S v ≡ true →
     weight_of g c (fired g D (multiple k (indicator S))) < weight_of g c D
 weight_falls_by_firings g q c D S (negsuc n) v graph potential solvent without often after inside member =
     absurd (omega (arith, ints))
@@ -101,10 +101,10 @@ weight_falls_by_firings g q c D S (pos n) v graph potential solvent without ofte
     (λ u _. ap (λ (z : ℤ). pos n *ℤ z) (one_if-script (S u))) in
     let none : one_if (S q) ≡ 0 = ap one_if without in
     let one : one_if (S v) ≡ 1 = ap one_if member in
-    let falls : weight_of g c (fired g D (as_script k)) + total_below g.size k ≤ weight_of g c D =
+    let falls : weight_of g c (fired g D (as_script k)) + nat_sum_below g.size k ≤ weight_of g c D =
     weight_falls g q c k D graph potential (ap (λ (x : ℕ). n * x) none ∙ mul-zero n) solvent
     (λ w below other. rw (← same w below) (after w below other)) in
-    let term : n * one_if (S v) ≤ total_below g.size k = total_below-term g.size k v inside in
+    let term : n * one_if (S v) ≤ nat_sum_below g.size k = nat_sum_below-term g.size k v inside in
     let at : n * one_if (S v) ≡ n = ap (λ (x : ℕ). n * x) one ∙ mul-one n in
     let some : 1 ≤ n = omega (arith, ints) in
     let weigh : weight_of g c (fired g D (multiple (pos n) (indicator S))) ≡ weight_of g c (fired g D (as_script k)) =
@@ -112,7 +112,7 @@ weight_falls_by_firings g q c D S (pos n) v graph potential solvent without ofte
     omega arith
 
 pub weight_falls_by_set : (g : Multigraph) (q : ℕ) (c : ℕ → ℕ) (D : Amounts) (S : ℕ → Bool) (v : ℕ) →
-    IsMultigraph g → IsPotential g q c → HasNoDebtOff g q D → FiresFreely g q D S → v < g.size → S v ≡ true →
+    IsMultigraph g → IsPotential g q c → IsEffectiveOff g q D → IsLegalSetFiring g q D S → v < g.size → S v ≡ true →
     weight_of g c (fired g D (indicator S)) < weight_of g c D
 weight_falls_by_set g q c D S v graph potential solvent free inside member =
     let same : (w : ℕ) → w < g.size → fired g D (multiple (pos 1) (indicator S)) w ≡ fired g D (indicator S) w =

@@ -8,7 +8,7 @@
 use Rattle.std.specs.Prelude.{◌≡◌, ℕ, ◌<◌, ◌↔◌, Bool, true, false}
 use Rattle.dg_theory.specs.Multigraph.{Multigraph, IsMultigraph, edges_between}
 use Rattle.dg_theory.specs.Reduced.{IsReduced}
-use Rattle.dg_theory.specs.Determining.{Determines, IsRankDetermining, IsConnectedSet, HangsLoosely, MeetsSpecialSets, beside}
+use Rattle.dg_theory.specs.Determining.{Determines, IsRankDetermining, IsConnectedSet, HangsLoosely, MeetsSpecialSets, boundary_divisor}
 
 abbrev pub DeterminesLosses : Type 0
 DeterminesLosses = (g : Multigraph) (A U : ℕ → Bool) → IsMultigraph g → MeetsSpecialSets g A U →
@@ -20,7 +20,7 @@ DeterminesRank = (g : Multigraph) (A : ℕ → Bool) → IsMultigraph g →
 
 abbrev pub SpecialIsReduced : Type 0
 SpecialIsReduced = (g : Multigraph) (S : ℕ → Bool) (s : ℕ) → IsMultigraph g → IsConnectedSet g S →
-    S s ≡ true → (((X : ℕ → Bool) × HangsLoosely g S X) ↔ (¬ IsReduced g s (beside g S)))
+    S s ≡ true → (((X : ℕ → Bool) × HangsLoosely g S X) ↔ (¬ IsReduced g s (boundary_divisor g S)))
 
 abbrev pub ConnectedGrows : Type 0
 ConnectedGrows = (g : Multigraph) (S T : ℕ → Bool) (u w : ℕ) → IsConnectedSet g S →

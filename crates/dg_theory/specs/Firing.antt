@@ -5,7 +5,7 @@
 --   Amounts               == a whole number for each vertex: a divisor, or a script
 --   degree n D            == the sum of the amounts of n vertices
 --   IsEffective n D       == none of n vertices is in debt
---   HasNoDebtOff g q D    == none of the vertices but q is in debt; q may be
+--   IsEffectiveOff g q D  == none of the vertices but q is in debt; q may be
 --   DivisorsAgreeOn n D E == D and E hold the same amount at each of n vertices
 --   gain g s v            == what v gets by the script: along each edge to w, what w lends less what v lends
 --   fired g D s           == the divisor after every vertex has lent as often as the script s says
@@ -27,8 +27,8 @@ degree n D = sum_below n D
 abbrev pub IsEffective : ℕ → Amounts → Type 0
 IsEffective n D = (v : ℕ) → v < n → pos 0 ≤ℤ D v
 
-abbrev pub HasNoDebtOff : Multigraph → ℕ → Amounts → Type 0
-HasNoDebtOff g q D = (v : ℕ) → v < g.size → v ≢ q → pos 0 ≤ℤ D v
+abbrev pub IsEffectiveOff : Multigraph → ℕ → Amounts → Type 0
+IsEffectiveOff g q D = (v : ℕ) → v < g.size → v ≢ q → pos 0 ≤ℤ D v
 
 abbrev pub DivisorsAgreeOn : ℕ → Amounts → Amounts → Type 0
 DivisorsAgreeOn n D E = (v : ℕ) → v < n → D v ≡ E v

@@ -6,11 +6,11 @@
 --   EdgeKeepsSize      == an edge more leaves the number of vertices
 use Rattle.std.specs.Prelude.{◌≡◌, ◌≢◌, ℕ, ◌+◌, ◌<◌}
 use Rattle.dg_theory.specs.Multigraph.{Multigraph, IsMultigraph, edges_between, valence}
-use Rattle.dg_theory.specs.Joins.{with_edge, on_pair, at_either}
+use Rattle.dg_theory.specs.Joins.{with_edge, pair_indicator, endpoint_indicator}
 
 abbrev pub JoinAddsEdge : Type 0
 JoinAddsEdge = (g : Multigraph) (u v : ℕ) → u ≢ v → (a b : ℕ) →
-    edges_between (with_edge g u v) a b ≡ edges_between g a b + on_pair u v a b
+    edges_between (with_edge g u v) a b ≡ edges_between g a b + pair_indicator u v a b
 
 abbrev pub JoinedIsMultigraph : Type 0
 JoinedIsMultigraph =
@@ -19,7 +19,7 @@ JoinedIsMultigraph =
 
 abbrev pub ValenceGrows : Type 0
 ValenceGrows = (g : Multigraph) (u v : ℕ) → u < g.size → v < g.size → u ≢ v → (w : ℕ) →
-    valence (with_edge g u v) w ≡ valence g w + at_either u v w
+    valence (with_edge g u v) w ≡ valence g w + endpoint_indicator u v w
 
 abbrev pub EdgeKeepsSize : Type 0
 EdgeKeepsSize = (g : Multigraph) (u v : ℕ) → (with_edge g u v).size ≡ g.size

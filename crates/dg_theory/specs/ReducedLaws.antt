@@ -1,6 +1,6 @@
 -- The laws of reduced divisors, for every multigraph and divisor (Baker and Norine 2007, section
 -- 3.1; Corry and Perkinson, chapter 3). The functions of src/laws.rt promise them.
---   ReducedOnce       == equivalent divisors that are both reduced for q agree on the vertices
+--   ReducedIsUnique   == equivalent divisors that are both reduced for q agree on the vertices
 --   ReducedDecides    == a divisor is winnable exactly if the reduced divisor that it is equivalent
 --                        to is not in debt at q
 --   ReducedBelowGenus == a divisor that is reduced for q and in debt at q has a degree below the
@@ -11,8 +11,8 @@ use Rattle.dg_theory.specs.Firing.{Amounts, degree, DivisorsAgreeOn, AreEquivale
 use Rattle.dg_theory.specs.Play.{IsWinnable}
 use Rattle.dg_theory.specs.Reduced.{IsReduced}
 
-abbrev pub ReducedOnce : Type 0
-ReducedOnce = (g : Multigraph) (q : ℕ) (D E : Amounts) → q < g.size → AreEquivalent g D E →
+abbrev pub ReducedIsUnique : Type 0
+ReducedIsUnique = (g : Multigraph) (q : ℕ) (D E : Amounts) → q < g.size → AreEquivalent g D E →
     IsReduced g q D → IsReduced g q E → DivisorsAgreeOn g.size D E
 
 abbrev pub ReducedDecides : Type 0

@@ -1,23 +1,23 @@
 //! The laws of the dollar game, for every multigraph, divisor and script.
 
-ghost use Rattle.dg_theory.specs.FiringLaws.{FiringAddsUp, ConstantScriptsDoNothing, SameByConstant, FiringKeepsDegree};
+ghost use Rattle.dg_theory.specs.FiringLaws.{FiringAddsUp, ConstantsDoNothing, DifferByConstant, FiringKeepsDegree};
 ghost use Rattle.dg_theory.specs.EquivalenceLaws.{EquivalenceIsReflexive, EquivalenceIsSymmetric, EquivalenceIsTransitive, EquivalentByPlays, EquivalentDegrees};
 ghost use Rattle.dg_theory.specs.WinningLaws.{WinnableByScript, WinnableByClass, EquivalentWinnable};
-ghost use Rattle.dg_theory.specs.ReducedLaws.{ReducedDecides, ReducedOnce, ReducedBelowGenus};
-ghost use Rattle.dg_theory.specs.BurningLaws.{UnburntFires, GreatestIsOne, BurntIsReduced, BurnsToReduced};
-ghost use Rattle.dg_theory.specs.ExistenceLaws.{ReducedExists, RichIsWinnable};
+ghost use Rattle.dg_theory.specs.ReducedLaws.{ReducedDecides, ReducedIsUnique, ReducedBelowGenus};
+ghost use Rattle.dg_theory.specs.BurningLaws.{UnburntIsGreatest, GreatestIsUnique, ReducedIffBurnt, OrderShowsReduced};
+ghost use Rattle.dg_theory.specs.ExistenceLaws.{ReducedExists, WinnableFromGenus};
 ghost use Rattle.dg_theory.specs.JoinLaws.{JoinAddsEdge, JoinedIsMultigraph, ValenceGrows, EdgeKeepsSize};
-ghost use Rattle.dg_theory.specs.RankLaws.{EquivalentRank, EquivalentLoss, RankBelow, RankZero, RichRank, PoorRank, LossOnce, LossBoundsRank};
-ghost use Rattle.dg_theory.specs.DualityLaws.{RiemannRoch, RankOfDual, DualTests, LossOfDual, HighRank, RankExists, RankOnce, RankOfSum, Clifford, HalfOfDegree};
-ghost use Rattle.dg_theory.specs.Twins.{ExchangeOfTwinsKeepsWinnable};
+ghost use Rattle.dg_theory.specs.RankLaws.{EquivalentRank, EquivalentLoss, RankIsMonotone, RankZeroIffWinnable, RankFromDegree, RankAtMostDegree, FirstLossIsUnique, LossBoundsRank};
+ghost use Rattle.dg_theory.specs.DualityLaws.{RiemannRoch, RankOfDual, DualTests, LossOfDual, RankAboveGenus, RankExists, RankIsUnique, RankOfSum, Clifford, CliffordOrRiemannRoch};
+ghost use Rattle.dg_theory.specs.Twins.{ExchangeKeepsWinnable};
 ghost use Rattle.dg_theory.specs.DeterminingLaws.{DeterminesLosses, DeterminesRank, SpecialIsReduced, ConnectedGrows};
 
 /// Firing by one script and then by another is firing by their sum, and keeps the degree. A constant script changes
 /// nothing; two scripts do the same exactly if they differ by a constant.
 pub fn laws_of_firing()
     ensures adds_up { FiringAddsUp }
-    ensures constant { ConstantScriptsDoNothing }
-    ensures same { SameByConstant }
+    ensures constant { ConstantsDoNothing }
+    ensures same { DifferByConstant }
     ensures degree { FiringKeepsDegree }
 {}
 
@@ -38,13 +38,13 @@ pub fn laws_of_winning()
     ensures by_script { WinnableByScript }
     ensures by_class { WinnableByClass }
     ensures equivalent { EquivalentWinnable }
-    ensures twins { ExchangeOfTwinsKeepsWinnable }
+    ensures twins { ExchangeKeepsWinnable }
 {}
 
 /// A divisor is equivalent to at most one that is reduced for q, and it is winnable exactly if that one is not in
 /// debt at q.
-pub fn laws_of_reduced_divisors()
-    ensures once { ReducedOnce }
+pub fn laws_of_reduced()
+    ensures once { ReducedIsUnique }
     ensures decides { ReducedDecides }
 {}
 
@@ -52,14 +52,14 @@ pub fn laws_of_reduced_divisors()
 /// which there is only one; it leaves nothing exactly if the divisor is reduced; and if all vertices burn from it in any
 /// order, it is reduced.
 pub fn laws_of_burning()
-    ensures unburnt { UnburntFires }
-    ensures one { GreatestIsOne }
-    ensures burnt { BurntIsReduced }
-    ensures all { BurnsToReduced }
+    ensures unburnt { UnburntIsGreatest }
+    ensures one { GreatestIsUnique }
+    ensures burnt { ReducedIffBurnt }
+    ensures all { OrderShowsReduced }
 {}
 
 /// A divisor that is reduced for q and in debt at q has a degree below the genus.
-pub fn laws_of_the_genus()
+pub fn laws_of_genus()
     ensures { ReducedBelowGenus }
 {}
 
@@ -67,7 +67,7 @@ pub fn laws_of_the_genus()
 /// a script that is 0 at q; and a divisor whose degree is at least the genus is winnable.
 pub fn laws_of_existence()
     ensures reduced { ReducedExists }
-    ensures rich { RichIsWinnable }
+    ensures rich { WinnableFromGenus }
 {}
 
 /// What rank tests tell: a rank of at least k + 1 is one of at least k, and the rank is at least 0 exactly if the
@@ -75,12 +75,12 @@ pub fn laws_of_existence()
 /// none. A first loss, of which there is at most one, shows that the rank is less. Equivalent divisors have the same
 /// rank and the same first loss.
 pub fn laws_of_rank()
-    ensures below { RankBelow }
-    ensures zero { RankZero }
-    ensures rich { RichRank }
-    ensures poor { PoorRank }
+    ensures below { RankIsMonotone }
+    ensures zero { RankZeroIffWinnable }
+    ensures rich { RankFromDegree }
+    ensures poor { RankAtMostDegree }
     ensures loss { LossBoundsRank }
-    ensures loss_once { LossOnce }
+    ensures loss_once { FirstLossIsUnique }
     ensures rank { EquivalentRank }
     ensures first_loss { EquivalentLoss }
 {}
@@ -105,12 +105,12 @@ pub fn laws_of_duality()
     ensures dual { RankOfDual }
     ensures tests { DualTests }
     ensures loss { LossOfDual }
-    ensures high { HighRank }
+    ensures high { RankAboveGenus }
     ensures exists { RankExists }
-    ensures once { RankOnce }
+    ensures once { RankIsUnique }
     ensures sum { RankOfSum }
     ensures clifford { Clifford }
-    ensures half { HalfOfDegree }
+    ensures half { CliffordOrRiemannRoch }
 {}
 
 /// Where it is enough to try a rank test. A connected set of vertices is special if nothing hangs loosely on it, and a set
@@ -118,7 +118,7 @@ pub fn laws_of_duality()
 /// least k. The same for the losses within any set, and so for the first loss: only the special sets that this one meets
 /// count. Burning tells whether a set is special: a dollar at each vertex beside it is then reduced. From a part of a
 /// connected set an edge leads to what else is in the set, and so all connected sets can be tried.
-pub fn laws_of_determining_sets()
+pub fn laws_of_determining()
     ensures losses { DeterminesLosses }
     ensures rank { DeterminesRank }
     ensures special { SpecialIsReduced }

@@ -5,7 +5,6 @@
 mod laws;
 
 pub use laws::{
-    laws_of_burning, laws_of_determining_sets, laws_of_duality, laws_of_equivalence,
-    laws_of_existence, laws_of_firing, laws_of_joining, laws_of_rank, laws_of_reduced_divisors,
-    laws_of_the_genus, laws_of_winning,
+    laws_of_burning, laws_of_determining, laws_of_duality, laws_of_equivalence, laws_of_existence,
+    laws_of_firing, laws_of_genus, laws_of_joining, laws_of_rank, laws_of_reduced, laws_of_winning,
 };

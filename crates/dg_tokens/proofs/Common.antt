@@ -1,8 +1,8 @@
 -- The names that the proofs of this crate cite, passed on from one place. Declares nothing.
-pub use Rattle.dg_tokens.specs.Decimals.{BeginsWithDecimal, HasDigitFirst}
+pub use Rattle.dg_tokens.specs.Decimals.{BeginsWithDecimal, StartsWithDigit}
 pub use Rattle.dg_tokens.specs.Digits.{AreLeadingDigits}
 pub use Rattle.dg_tokens.specs.Labels.{AreLabels, IsLabel}
-pub use Rattle.dg_tokens.specs.Names.{AreNames, IsName, added, has, is_byte_between, is_name_byte, name_at}
+pub use Rattle.dg_tokens.specs.Names.{AreNames, IsName, names_inserted, names_contain, is_byte_between, is_name_byte, name_at}
 unfoldable pub use Rattle.dg_tokens.specs.Names.{place_of}
 pub use Rattle.dg_tokens.specs.declared.label.Label.{Label}
 pub use Rattle.indexmap.specs.IndexSet.{insert_key}

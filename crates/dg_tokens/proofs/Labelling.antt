@@ -1,7 +1,7 @@
 -- The labels of vertices.
 --   AreLabels-pushed   the label of the next name, put at the next vertex
 --   AreLabels-added    the same if the name may be among them already
-use Rattle.dg_tokens.proofs.Common.{◌≡◌, ℕ, ◌<◌, List, [], ◌∷◌, ◌++◌, length, set, sym, subst, inl, inr, arith, length-append, slice_index_or, cases_order, cond_both, get_or-set_same, get_or-set_other, get_or_append_left, get_or_at, Label, has, added, name_at, AreLabels, IsLabel}
+use Rattle.dg_tokens.proofs.Common.{◌≡◌, ℕ, ◌<◌, List, [], ◌∷◌, ◌++◌, length, set, sym, subst, inl, inr, arith, length-append, slice_index_or, cases_order, cond_both, get_or-set_same, get_or-set_other, get_or_append_left, get_or_at, Label, names_contain, names_inserted, name_at, AreLabels, IsLabel}
 
 module _ (labels : List Label) (names : List (List ℕ)) (name : List ℕ) (next : ℕ) (l : Label)
     (last : length names ≡ next) (inside : next < length labels) (is : IsLabel l name)
@@ -25,7 +25,7 @@ module _ (labels : List Label) (names : List (List ℕ)) (name : List ℕ) (next
         | inr (inr more) ↦ absurd (omega (arith, length-append names (name ∷ [])))
       ]
 
-  pub AreLabels-added : AreLabels (set labels next l) (added names name)
+  pub AreLabels-added : AreLabels (set labels next l) (names_inserted names name)
   AreLabels-added =
-      cond_both (has names name) names (names ++ name ∷ []) (AreLabels (set labels next l))
+      cond_both (names_contain names name) names (names ++ name ∷ []) (AreLabels (set labels next l))
       (λ old. before-next) (λ new. AreLabels-pushed)

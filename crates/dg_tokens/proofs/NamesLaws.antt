@@ -4,11 +4,11 @@
 --   AreNames-nil       no names are names
 --   AreNames-push      a new name after names gives names
 --   AreNames-added     names stay names if a name is added
---   has-no_name        what is no name is not among names
+--   names_contain-no_name        what is no name is not among names
 --   name_at-place_of   the vertex of a name has that name
 --   place_of-name_at   the name of a vertex has that vertex
 --   bytes_eq-swaps     comparing bytes is symmetric
-use Rattle.dg_tokens.proofs.Common.{◌≡◌, ℕ, zero, suc, ◌<◌, Bool, true, false, not, ◌&&◌, List, [], ◌∷◌, ◌++◌, length, Some, IsTrue, refl, sym, subst, ◌||◌, ◌∙◌, arith, inl, inr, All, bytes_eq, leb, ◌==◌, IsUtf8, AllByRecursion, list_all, prefix_len, false≢true, false_from_ne_true, and_parts, leb-true, lt-ltb, eqb-true, cond_both, or_cases, All-nil, All-cons, All-head, All-tail, All-push, position-Some, bytes_eq-Decides, IsUtf8-from_ascii, IsAscii-from_all, IsName, AreNames, is_byte_between, is_name_byte, has, added, name_at, place_of}
+use Rattle.dg_tokens.proofs.Common.{◌≡◌, ℕ, zero, suc, ◌<◌, Bool, true, false, not, ◌&&◌, List, [], ◌∷◌, ◌++◌, length, Some, IsTrue, refl, sym, subst, ◌||◌, ◌∙◌, arith, inl, inr, All, bytes_eq, leb, ◌==◌, IsUtf8, AllByRecursion, list_all, prefix_len, false≢true, false_from_ne_true, and_parts, leb-true, lt-ltb, eqb-true, cond_both, or_cases, All-nil, All-cons, All-head, All-tail, All-push, position-Some, bytes_eq-Decides, IsUtf8-from_ascii, IsAscii-from_all, IsName, AreNames, is_byte_between, is_name_byte, names_contain, names_inserted, name_at, place_of}
 use Rattle.std.specs.List.{IsDistinct}
 
 abbrev pub is_name : List ℕ → Bool
@@ -72,15 +72,15 @@ pub or-false : (a b : Bool) → (a || b) ≡ false → (a ≡ false) × (b ≡ f
 or-false true b e = absurd (false≢true (sym e))
 or-false false b e = (refl, e)
 
-distinct-push : (names : List (List ℕ)) (name : List ℕ) → IsDistinct bytes_eq names → has names name ≡ false
+distinct-push : (names : List (List ℕ)) (name : List ℕ) → IsDistinct bytes_eq names → names_contain names name ≡ false
     → IsDistinct bytes_eq (names ++ name ∷ [])
 unfolding IsDistinct
 distinct-push [] name distinct new = (tt, tt)
 distinct-push (x ∷ names) name distinct new =
-    let parts = or-false (bytes_eq name x) (has names name) new in
+    let parts = or-false (bytes_eq name x) (names_contain names name) new in
     (others-push x names name distinct.0 (bytes_eq-swap name x parts.0), distinct-push names name distinct.1 parts.1)
 
-pub AreNames-push : (names : List (List ℕ)) (name : List ℕ) → AreNames names → IsName name → has names name ≡ false
+pub AreNames-push : (names : List (List ℕ)) (name : List ℕ) → AreNames names → IsName name → names_contain names name ≡ false
     → AreNames (names ++ name ∷ [])
 AreNames-push names name are is new = record {
   each = All-push IsName names name are.each is;
@@ -88,18 +88,19 @@ AreNames-push names name are is new = record {
 }
 
 pub AreNames-added : (names : List (List ℕ)) (name : List ℕ) → AreNames names → IsName name
-    → AreNames (added names name)
+    → AreNames (names_inserted names name)
 AreNames-added names name are is =
-    cond_both (has names name) names (names ++ name ∷ []) AreNames (λ old. are)
+    cond_both (names_contain names name) names (names ++ name ∷ []) AreNames (λ old. are)
     (λ new. AreNames-push names name are is new)
 
-pub has-no_name : (names : List (List ℕ)) (name : List ℕ) → All IsName names → ¬ IsName name → has names name ≡ false
-has-no_name [] name each bad = refl
-has-no_name (x ∷ names) name each bad =
-    false_from_ne_true (bytes_eq name x || has names name)
-    (λ found. elim (or_cases (bytes_eq name x) (has names name) found) [
+pub names_contain-no_name : (names : List (List ℕ)) (name : List ℕ) → All IsName names → ¬ IsName name →
+    names_contain names name ≡ false
+names_contain-no_name [] name each bad = refl
+names_contain-no_name (x ∷ names) name each bad =
+    false_from_ne_true (bytes_eq name x || names_contain names name)
+    (λ found. elim (or_cases (bytes_eq name x) (names_contain names name) found) [
       | inl same ↦ bad (subst IsName (sym ((bytes_eq-Decides name x).0 same)) (All-head IsName x names each))
-      | inr later ↦ false≢true (sym (has-no_name names name (All-tail IsName x names each) bad) ∙ later)
+      | inr later ↦ false≢true (sym (names_contain-no_name names name (All-tail IsName x names each) bad) ∙ later)
     ])
 
 pub name_at-place_of : (names : List (List ℕ)) (name : List ℕ) (v : ℕ) → place_of names name ≡ Some v

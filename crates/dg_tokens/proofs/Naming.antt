@@ -3,24 +3,25 @@
 --   insert_text     the bytes of the texts after `insert`
 --   position_text   the text of these bytes stands where the name does
 --   no_place        what is no name has no place
-use Rattle.dg_tokens.proofs.Common.{◌≡◌, ℕ, suc, ◌+◌, ◌||◌, cond, not, length, Option, Some, None, List, [], ◌∷◌, ◌++◌, Bool, true, false, refl, sym, ap, ◌∙◌, map, string_bytes, arith, bytes_eq, nat_lt, String, string_eq, position, is_some, list_any, prefix_len, false≢true, nat_tests, length-map, map-append, Global, insert_key, IsName, AreNames, has, added, place_of}
-use Rattle.dg_tokens.proofs.NamesLaws.{bytes_eq-swaps, has-no_name}
+use Rattle.dg_tokens.proofs.Common.{◌≡◌, ℕ, suc, ◌+◌, ◌||◌, cond, not, length, Option, Some, None, List, [], ◌∷◌, ◌++◌, Bool, true, false, refl, sym, ap, ◌∙◌, map, string_bytes, arith, bytes_eq, nat_lt, String, string_eq, position, is_some, list_any, prefix_len, false≢true, nat_tests, length-map, map-append, Global, insert_key, IsName, AreNames, names_contain, names_inserted, place_of}
+use Rattle.dg_tokens.proofs.NamesLaws.{bytes_eq-swaps, names_contain-no_name}
 
 abbrev pub bytes_of : List (String Global) → List (List ℕ)
 bytes_of keys = map string_bytes keys
 
-has-bytes_of : (keys : List (String Global)) (name : List ℕ)
-    → list_any (λ key. bytes_eq name (string_bytes key)) keys ≡ has (bytes_of keys) name
-has-bytes_of [] name = refl
-has-bytes_of (key ∷ keys) name = ap (λ found. bytes_eq name (string_bytes key) || found) (has-bytes_of keys name)
+names_contain-bytes_of : (keys : List (String Global)) (name : List ℕ)
+    → list_any (λ key. bytes_eq name (string_bytes key)) keys ≡ names_contain (bytes_of keys) name
+names_contain-bytes_of [] name = refl
+names_contain-bytes_of (key ∷ keys) name =
+    ap (λ found. bytes_eq name (string_bytes key) || found) (names_contain-bytes_of keys name)
 
 pub has_text : (keys : List (String Global)) (key : String Global) (names : List (List ℕ)) (name : List ℕ)
-    → bytes_of keys ≡ names → string_bytes key ≡ name → list_any (string_eq key) keys ≡ has names name
-has_text keys key names name e f = rw (← e, ← f) (has-bytes_of keys (string_bytes key))
+    → bytes_of keys ≡ names → string_bytes key ≡ name → list_any (string_eq key) keys ≡ names_contain names name
+has_text keys key names name e f = rw (← e, ← f) (names_contain-bytes_of keys (string_bytes key))
 
 pub insert_text : (keys : List (String Global)) (key : String Global) (names : List (List ℕ)) (name : List ℕ)
     → bytes_of keys ≡ names → string_bytes key ≡ name
-    → bytes_of (insert_key string_eq keys key) ≡ added names name
+    → bytes_of (insert_key string_eq keys key) ≡ names_inserted names name
 insert_text keys key names name e f =
     rw (← has_text keys key names name e f)
     (elim (list_any (string_eq key) keys) as
@@ -52,13 +53,13 @@ one_less n m = grind (arith, nat_tests)
 
 -- whether the search for a name ends before the last
 found : (names : List (List ℕ)) (name : List ℕ)
-    → nat_lt (prefix_len (λ own. not (bytes_eq own name)) names) (length names) ≡ has names name
+    → nat_lt (prefix_len (λ own. not (bytes_eq own name)) names) (length names) ≡ names_contain names name
 found [] name = refl
 found (x ∷ names) name =
     rw (bytes_eq-swaps name x)
     (elim (bytes_eq x name) as
     (λ t. nat_lt (cond (not t) (1 + prefix_len (λ own. not (bytes_eq own name)) names) 0) (suc (length names))
-    ≡ (t || has names name)) [
+    ≡ (t || names_contain names name)) [
       | true ↦ grind (arith, nat_tests)
       | false ↦ one_less (prefix_len (λ own. not (bytes_eq own name)) names) (length names) ∙ found names name
     ])
@@ -67,9 +68,9 @@ some-if : (t : Bool) (n : ℕ) → is_some (cond t (Some n) None) ≡ t
 some-if true n = refl
 some-if false n = refl
 
-has-place_of : (names : List (List ℕ)) (name : List ℕ) → is_some (place_of names name) ≡ has names name
+names_contain-place_of : (names : List (List ℕ)) (name : List ℕ) → is_some (place_of names name) ≡ names_contain names name
 unfolding place_of
-has-place_of names name =
+names_contain-place_of names name =
     some-if (nat_lt (prefix_len (λ own. not (bytes_eq own name)) names) (length names)) _ ∙ found names name
 
 none-from : (place : Option ℕ) → is_some place ≡ false → place ≡ None
@@ -78,4 +79,4 @@ none-from (Some v) e = absurd (false≢true (sym e))
 
 pub no_place : (names : List (List ℕ)) (name : List ℕ) → AreNames names → ¬ IsName name → place_of names name ≡ None
 no_place names name are bad =
-    none-from (place_of names name) (has-place_of names name ∙ has-no_name names name are.each bad)
+    none-from (place_of names name) (names_contain-place_of names name ∙ names_contain-no_name names name are.each bad)

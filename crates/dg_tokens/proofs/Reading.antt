@@ -5,7 +5,7 @@
 --   leading_found                these are a decimal, if there is one and no zero before others
 --   leading_lost                 where a text begins with a decimal, they are so
 --   one_natural                  a text begins with one decimal
-use Rattle.dg_tokens.proofs.Common.{◌≡◌, ℕ, zero, suc, ◌+◌, ◌-◌, ◌*◌, ◌<◌, ◌≤◌, ◌^◌, List, [], ◌∷◌, ◌++◌, length, take, drop, get_or, refl, sym, ap, ◌∙◌, subst, inl, inr, arith, decimal, below_more, cases_lt, cases_order, take_more, length-take, length-take-le, get_or-take, get_or_append_left, take-append-drop, drop_at, take_at, length-append, decimal-digits_value, decimal_is_IsNumeral, decimal_digit, decimal_injective, decimal_nonempty, first_decimal, length-decimal-le, IsNumeralModel, numerals_by_value, tells_by_index, digits_value_short, digit_at, digit_value_digit, digits_value, digits_value_after, digit_value, BeginsWithDecimal, HasDigitFirst, AreLeadingDigits}
+use Rattle.dg_tokens.proofs.Common.{◌≡◌, ℕ, zero, suc, ◌+◌, ◌-◌, ◌*◌, ◌<◌, ◌≤◌, ◌^◌, List, [], ◌∷◌, ◌++◌, length, take, drop, get_or, refl, sym, ap, ◌∙◌, subst, inl, inr, arith, decimal, below_more, cases_lt, cases_order, take_more, length-take, length-take-le, get_or-take, get_or_append_left, take-append-drop, drop_at, take_at, length-append, decimal-digits_value, decimal_is_IsNumeral, decimal_digit, decimal_injective, decimal_nonempty, first_decimal, length-decimal-le, IsNumeralModel, numerals_by_value, tells_by_index, digits_value_short, digit_at, digit_value_digit, digits_value, digits_value_after, digit_value, BeginsWithDecimal, StartsWithDigit, AreLeadingDigits}
 
 abbrev pub IsDigit : ℕ → Type 0
 IsDigit c = (48 ≤ c) × (c ≤ 57)
@@ -48,7 +48,7 @@ digits_small front n count far few =
     (digits_value_short own (take count front) 18 (prefix front count far.digits) (omega (arith, length-take count front)))
 
 pub leading_found : (text : List ℕ) (n count : ℕ) → AreLeadingDigits text n count → 1 ≤ count
-    → (get_or text 0 0 ≡ 48 → count ≡ 1) → ¬ HasDigitFirst (drop count text)
+    → (get_or text 0 0 ≡ 48 → count ≡ 1) → ¬ StartsWithDigit (drop count text)
     → (n < 10 ^ 19) × BeginsWithDecimal text (decimal n) (drop count text)
 leading_found text n count are some lead ends =
     let ds : List ℕ = take count text in
@@ -63,7 +63,7 @@ leading_found text n count are some lead ends =
       record { whole = sym (take-append-drop count text) ∙ ap (λ front. front ++ drop count text) (sym is); ends = ends },
     )
 
-digit_first : (text : List ℕ) (i : ℕ) → i < length text → IsDigit (get_or text i 0) → HasDigitFirst (drop i text)
+digit_first : (text : List ℕ) (i : ℕ) → i < length text → IsDigit (get_or text i 0) → StartsWithDigit (drop i text)
 digit_first [] i less digit = absurd (omega arith)
 digit_first (x ∷ xs) zero less digit = digit
 digit_first (x ∷ xs) (suc i) less digit = digit_first xs i (omega arith) digit
@@ -73,16 +73,16 @@ abbrev pub AreDigitsAfterFirst : List ℕ → Type 0
 AreDigitsAfterFirst ds = (i : ℕ) → 1 ≤ i → i < length ds → IsDigit (get_or ds i 0)
 
 not_shorter : (text a b r s : List ℕ) → text ≡ a ++ r → text ≡ b ++ s → 1 ≤ length a → AreDigitsAfterFirst b
-    → ¬ HasDigitFirst r → length b ≤ length a
+    → ¬ StartsWithDigit r → length b ≤ length a
 not_shorter text a b r s e f some each none =
     elim (cases_lt (length a) (length b)) [
       | inl less ↦
           let inside : length a < length text = omega (arith, ap length f, length-append b s) in
           let here : get_or text (length a) 0 ≡ get_or b (length a) 0 =
           ap (λ xs. get_or xs (length a) 0) f ∙ get_or_append_left b s 0 (length a) less in
-          let digit : HasDigitFirst (drop (length a) text) =
+          let digit : StartsWithDigit (drop (length a) text) =
           digit_first text (length a) inside (subst IsDigit (sym here) (each (length a) some less)) in
-          absurd (none (subst HasDigitFirst (ap (drop (length a)) e ∙ drop_at a r (length a) refl) digit))
+          absurd (none (subst StartsWithDigit (ap (drop (length a)) e ∙ drop_at a r (length a) refl) digit))
       | inr more ↦ more
     ]
 
@@ -127,10 +127,10 @@ leading_count text n count m rest are small begins =
           (digit_first text count (omega arith) (subst IsDigit (sym here) (decimal_digits m small count less))))
       | inr (inr more) ↦
           let within : count ≤ length text = are.within in
-          let digit : HasDigitFirst (drop (length ds) text) =
+          let digit : StartsWithDigit (drop (length ds) text) =
           digit_first text (length ds) (omega arith) (are.digits (length ds) more) in
           absurd (begins.ends
-          (subst HasDigitFirst (ap (drop (length ds)) begins.whole ∙ drop_at ds rest (length ds) refl) digit))
+          (subst StartsWithDigit (ap (drop (length ds)) begins.whole ∙ drop_at ds rest (length ds) refl) digit))
     ]
 
 lead_of : (m : ℕ) → m < 10 ^ 19 → get_or (decimal m) 0 0 ≡ 48 → length (decimal m) ≡ 1
@@ -140,7 +140,7 @@ lead_of (suc m) small e = absurd (omega (arith, first_decimal (suc m) (omega ari
 pub record IsDecimalAt (text : List ℕ) (count : ℕ) : Type 0 where
   pub some : 1 ≤ count
   pub lead : get_or text 0 0 ≡ 48 → count ≡ 1
-  pub ends : ¬ HasDigitFirst (drop count text)
+  pub ends : ¬ StartsWithDigit (drop count text)
 
 pub leading_lost : (text : List ℕ) (n count m : ℕ) (rest : List ℕ) → AreLeadingDigits text n count → m < 10 ^ 19
     → BeginsWithDecimal text (decimal m) rest → IsDecimalAt text count
@@ -152,6 +152,6 @@ leading_lost text n count m rest are small begins =
     record {
       some = omega (arith, some_digit m small);
       lead = λ e. same ∙ lead_of m small (sym first ∙ e);
-      ends = subst (λ xs. ¬ HasDigitFirst xs)
+      ends = subst (λ xs. ¬ StartsWithDigit xs)
           (sym (ap (drop count) begins.whole ∙ drop_at ds rest count (sym same))) begins.ends;
     }

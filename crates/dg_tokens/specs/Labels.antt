@@ -1,5 +1,5 @@
 -- Labels as they are kept: at the end of their bytes.
---   label_kept l           == the bytes of l from its start on
+--   kept_label l           == the bytes of l from its start on
 --   IsLabel l name         == these are the label of the name, up to the end of the bytes
 --   AreLabels labels names == the label of each name is kept at its vertex
 use Rattle.std.specs.Prelude.{◌≡◌, ℕ, ◌+◌, ◌<◌, List, length, drop}
@@ -8,11 +8,11 @@ use Rattle.dg_tokens.specs.declared.label.Label.{Label}
 use Rattle.dg_tokens.specs.declared.label.TheConstants.{MAX_LABEL}
 use Rattle.dg_tokens.specs.Names.{label, name_at}
 
-abbrev pub label_kept : Label → List ℕ
-label_kept l = drop l.start l.bytes
+abbrev pub kept_label : Label → List ℕ
+kept_label l = drop l.start l.bytes
 
 pub record IsLabel (l : Label) (name : List ℕ) : Type 0 where
-  pub text : label_kept l ≡ label name
+  pub text : kept_label l ≡ label name
   pub start : l.start + length (label name) ≡ MAX_LABEL
 
 abbrev pub AreLabels : List Label → List (List ℕ) → Type 0

@@ -2,8 +2,8 @@
 --   is_byte_between low high b == whether the byte b is from low to high
 --   is_name_byte b      == whether the byte b is an ASCII digit, an ASCII letter or `_`
 --   IsName bytes        == 1 to 16 bytes, each an ASCII letter, an ASCII digit or `_`
---   has names name      == whether the name is among the names
---   added names name    == the names as they are if the name is among them, and otherwise with the
+--   names_contain names name      == whether the name is among the names
+--   names_inserted names name    == the names as they are if the name is among them, and otherwise with the
 --                          name put last
 --   place_of names name == the first vertex of that name, if there is one
 --   name_at names v     == the name of the vertex v
@@ -26,11 +26,11 @@ pub record IsName (bytes : List ℕ) : Type 0 where
   pub short : length bytes ≤ MAX_NAME
   pub each : All (λ b. IsTrue (is_name_byte b)) bytes
 
-abbrev pub has : List (List ℕ) → List ℕ → Bool
-has names name = list_any (bytes_eq name) names
+abbrev pub names_contain : List (List ℕ) → List ℕ → Bool
+names_contain names name = list_any (bytes_eq name) names
 
-abbrev pub added : List (List ℕ) → List ℕ → List (List ℕ)
-added names name = cond (has names name) names (names ++ name ∷ [])
+abbrev pub names_inserted : List (List ℕ) → List ℕ → List (List ℕ)
+names_inserted names name = cond (names_contain names name) names (names ++ name ∷ [])
 
 unfoldable pub place_of : List (List ℕ) → List ℕ → Option ℕ
 place_of names name = position (λ own. bytes_eq own name) names

@@ -2,7 +2,7 @@
 ghost use Rattle.std.specs.Prelude.{◌≡◌, ◌≢◌, ◌↔◌, ℕ, ℤ, ◌<◌, ◌≤◌, ◌^◌, List, ◌∷◌, length, slice_index, FitsSigned, IsTrue, MatchBool, MatchOption, decimal};
 ghost use Rattle.std.specs.Fmt.{signed_decimal};
 ghost use Rattle.std.specs.Int.{w64};
-ghost use Rattle.dg_tokens.specs.Decimals.{BeginsWithDecimal, HasDigitFirst};
+ghost use Rattle.dg_tokens.specs.Decimals.{BeginsWithDecimal, StartsWithDigit};
 ghost use Rattle.dg_tokens.specs.Digits.{AreLeadingDigits};
 
 use itoa::Buffer;
@@ -12,7 +12,7 @@ use std::str;
 const MAX_DIGITS: usize = 19;
 
 /// The number whose decimal the text is, if it is below 2^64. A decimal has no sign and no leading zero.
-pub fn natural(text: &[u8]) -> Option<u64>
+pub fn parse_natural(text: &[u8]) -> Option<u64>
     ensures { MatchOption result ((n : ℕ) → n < 2 ^ 64 → text.now ≢ decimal n) (λ n. text.now ≡ decimal n) }
 {
     let Ok(written) = str::from_utf8(text) else {
@@ -30,7 +30,7 @@ pub fn natural(text: &[u8]) -> Option<u64>
 
 /// The whole number from -2^63 to 2^63 - 1 whose decimal the text is. A decimal has no plus and no leading zero.
 #[inline(always)]
-pub fn integer(text: &[u8]) -> Option<i64>
+pub fn parse_integer(text: &[u8]) -> Option<i64>
     ensures { MatchOption result
         ((z : ℤ) → FitsSigned w64 z → text.now ≢ signed_decimal z)
         (λ z. text.now ≡ signed_decimal z) }
@@ -48,15 +48,15 @@ pub fn leading_integer(text: &[u8]) -> Option<(i64, &[u8])>
         ((z : ℤ) (rest : List ℕ) → FitsSigned w64 z → ¬ BeginsWithDecimal text.now (signed_decimal z) rest)
         (λ r. BeginsWithDecimal text.now (signed_decimal r.0) r.1.now) }
 {
-    if has_minus_first(text) {
-        return after_minus(&text[1..]);
+    if starts_with_minus(text) {
+        return leading_negative(&text[1..]);
     }
-    without_minus(text)
+    leading_nonnegative(text)
 }
 
 /// The same of a minus and what stands after it.
 #[inline(always)]
-fn after_minus(digits: &[u8]) -> Option<(i64, &[u8])>
+fn leading_negative(digits: &[u8]) -> Option<(i64, &[u8])>
     ensures { MatchOption result
         ((z : ℤ) (rest : List ℕ) → FitsSigned w64 z
         → ¬ BeginsWithDecimal (45 ∷ digits.now) (signed_decimal z) rest)
@@ -76,7 +76,7 @@ fn after_minus(digits: &[u8]) -> Option<(i64, &[u8])>
 
 /// The same of a text that begins with no minus.
 #[inline(always)]
-fn without_minus(text: &[u8]) -> Option<(i64, &[u8])>
+fn leading_nonnegative(text: &[u8]) -> Option<(i64, &[u8])>
     requires { slice_index text.now 0 ≢ 45 }
     ensures { MatchOption result
         ((z : ℤ) (rest : List ℕ) → FitsSigned w64 z → ¬ BeginsWithDecimal text.now (signed_decimal z) rest)
@@ -92,7 +92,7 @@ fn without_minus(text: &[u8]) -> Option<(i64, &[u8])>
 }
 
 /// Whether the text begins with a minus.
-fn has_minus_first(text: &[u8]) -> bool
+fn starts_with_minus(text: &[u8]) -> bool
     ensures { MatchBool result
         ((1 ≤ length text.now) × (slice_index text.now 0 ≡ 45))
         (slice_index text.now 0 ≢ 45) }
@@ -118,7 +118,7 @@ fn leading_natural(text: &[u8]) -> Option<(u64, &[u8])>
     if count > 1 && text[0] == b'0' {
         return None;
     }
-    if count == MAX_DIGITS && has_digit_first(rest) {
+    if count == MAX_DIGITS && starts_with_digit(rest) {
         return None;
     }
     Some((number, rest))
@@ -141,8 +141,8 @@ fn leading_digits(text: &[u8]) -> (u64, usize)
 }
 
 /// Whether the text begins with a digit.
-fn has_digit_first(text: &[u8]) -> bool
-    ensures { IsTrue result ↔ HasDigitFirst text.now }
+fn starts_with_digit(text: &[u8]) -> bool
+    ensures { IsTrue result ↔ StartsWithDigit text.now }
 {
     match text {
         [byte, ..] => byte.is_ascii_digit(),

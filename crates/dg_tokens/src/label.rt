@@ -1,6 +1,6 @@
 //! Labels: what stands before the amount of a vertex in a reply. Each is made once, when its vertex is named.
 ghost use Rattle.std.specs.Prelude.{◌≡◌, ◌+◌, ◌≤◌, ◌++◌, length, drop};
-ghost use Rattle.dg_tokens.specs.Labels.{IsLabel, label_kept};
+ghost use Rattle.dg_tokens.specs.Labels.{IsLabel, kept_label};
 
 use crate::names::MAX_NAME;
 use std::simd::prelude::*;
@@ -43,7 +43,7 @@ impl Label {
         requires room { MAX_LABEL ≤ end }
         requires within { end ≤ length line.old }
         ensures start { result + MAX_LABEL ≡ end + self.now.start }
-        ensures written { drop result line.new ≡ label_kept self.now ++ drop end line.old }
+        ensures written { drop result line.new ≡ kept_label self.now ++ drop end line.old }
     {
         let from = end - MAX_LABEL;
         u8x2::from_slice(&self.bytes[16..]).copy_to_slice(&mut line[from + 16..]);

@@ -5,6 +5,6 @@ mod decimals;
 mod label;
 mod names;
 
-pub use decimals::{integer, leading_integer, natural};
+pub use decimals::{leading_integer, parse_integer, parse_natural};
 pub use label::MAX_LABEL;
 pub use names::{MAX_NAME, Names, is_name};

@@ -1,6 +1,6 @@
 //! The names of a table's vertices.
 ghost use Rattle.std.specs.Prelude.{◌≡◌, ◌↔◌, ◌+◌, ◌<◌, ◌≤◌, ◌++◌, [], length, drop, not, Some, IsTrue, IfSome, IfOk, OnErr};
-ghost use Rattle.dg_tokens.specs.Names.{IsName, AreNames, has, added, place_of, name_at, label};
+ghost use Rattle.dg_tokens.specs.Names.{IsName, AreNames, names_contain, names_inserted, place_of, name_at, label};
 
 use crate::label::{Label, MAX_LABEL};
 use dg_graph::MAX_VERTICES;
@@ -81,11 +81,11 @@ impl Names {
     /// that the text is a name, and that there are fewer than 16 names.
     ///
     /// If memory is refused, nothing has changed.
-    pub fn add(&mut self, alloc: Global, name: &str) -> Result<bool, AllocError>
+    pub fn insert(&mut self, alloc: Global, name: &str) -> Result<bool, AllocError>
         requires name { IsName name.now }
         requires room { length self.old < MAX_VERTICES }
-        ensures added { IfOk result (λ added. added ≡ not (has self.old name.now)) }
-        ensures names { IfOk result (λ _. self.new ≡ added self.old name.now) }
+        ensures added { IfOk result (λ added. added ≡ not (names_contain self.old name.now)) }
+        ensures names { IfOk result (λ _. self.new ≡ names_inserted self.old name.now) }
         ensures err { OnErr result (self.new ≡ self.old) }
     {
         let own = String::from_str(alloc, name)?;

@@ -1,9 +1,9 @@
 -- A verdict is right for each of two divisors that agree on the vertices, or for neither.
 --   right-cong  what is right for one is right for the other
-use Rattle.dg_verdict.proofs.Common.{ℕ, ◌∙◌, Multigraph, Amounts, DivisorsAgreeOn, agree-sym, fired-here, winnable-cong, at, IsRight, Verdict}
+use Rattle.dg_verdict.proofs.Common.{ℕ, ◌∙◌, Multigraph, Amounts, DivisorsAgreeOn, agree-sym, fired-here, winnable-cong, at, IsRightVerdict, Verdict}
 
-pub right-cong : (g : Multigraph) (q : ℕ) (D E : Amounts) (x : Verdict) → DivisorsAgreeOn g.size D E → IsRight g q D x →
-    IsRight g q E x
+pub right-cong : (g : Multigraph) (q : ℕ) (D E : Amounts) (x : Verdict) → DivisorsAgreeOn g.size D E → IsRightVerdict g q D x →
+    IsRightVerdict g q E x
 right-cong g q D E x same right = record {
   script_size = right.script_size;
   reduced_size = right.reduced_size;

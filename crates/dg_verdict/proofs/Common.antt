@@ -2,7 +2,7 @@
 pub use Rattle.dg_burn.proofs.Orders.{get-first, next-more}
 pub use Rattle.dg_burn.proofs.Steps.{burning-lit, same-more, count_unburnt-fewer}
 pub use Rattle.dg_burn.proofs.Told.{none_unreached}
-pub use Rattle.dg_burn.specs.SoFar.{IsFireBurning, count_unburnt}
+pub use Rattle.dg_burn.specs.SoFar.{IsPartialBurning, count_unburnt}
 pub use Rattle.dg_chips.specs.Vector.{Vector, at}
 pub use Rattle.dg_reduce.proofs.Outcome.{script_near}
 pub use Rattle.dg_graph.proofs.SetLaws.{in_set-none}
@@ -17,12 +17,12 @@ pub use Rattle.dg_theory.proofs.FiringLaws.{fired-cong, fired-fired, gain-add}
 pub use Rattle.dg_theory.proofs.ReducedLaws.{reduced_decides, reduced_once}
 pub use Rattle.dg_theory.proofs.Scripts.{fired-shifted}
 pub use Rattle.dg_theory.proofs.Winning.{equivalent-winnable}
-pub use Rattle.dg_theory.specs.Burning.{BurnsAll, BurnsInOrder, MayBurn, among}
-pub use Rattle.dg_theory.specs.Firing.{DivisorsAgreeOn, Amounts, AreEquivalent, FiresTo, HasNoDebtOff, fired, gain}
+pub use Rattle.dg_theory.specs.Burning.{IsBurningOrder, IsLeastBurningOrder, MayBurn, list_contains}
+pub use Rattle.dg_theory.specs.Firing.{DivisorsAgreeOn, Amounts, AreEquivalent, FiresTo, IsEffectiveOff, fired, gain}
 pub use Rattle.dg_theory.specs.Multigraph.{Multigraph}
 pub use Rattle.dg_theory.specs.Reduced.{IsReduced}
 pub use Rattle.dg_verdict.specs.Rebasing.{IsRebasable}
-pub use Rattle.dg_verdict.specs.Right.{IsRight}
+pub use Rattle.dg_verdict.specs.Right.{IsRightVerdict}
 pub use Rattle.dg_verdict.specs.declared.verdict.Verdict.{Verdict}
 pub use Rattle.std.proofs.Common.{Bool, List, [], ap, arith, false, length, refl, rules, subst, suc, sym, take, true, zero, ℕ, ◌*◌, ◌+◌, ◌<◌, ◌∙◌, ◌∷◌, ◌≡◌, ◌≤◌}
 pub use Rattle.std.proofs.Math.IntN.{pos, ℤ, ◌+ℤ◌, ◌-ℤ◌}

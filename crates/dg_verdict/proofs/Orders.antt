@@ -5,18 +5,18 @@
 --   order-more    an order so far with one more vertex that may burn is one
 --   order-done    an order so far of as many vertices as there are burns them all
 --   order-fails   where a vertex stands that may not burn after those before it, not all burn
-use Rattle.dg_verdict.proofs.Common.{◌≡◌, ℕ, zero, suc, ◌+◌, ◌<◌, ◌≤◌, Bool, false, List, [], ◌∷◌, length, take, arith, sym, ap, subst, ◌∙◌, slice_get, Some, slice_index_or, take_more, take-take, get_or-take, length-take, slice_get-get_or, Multigraph, Amounts, among, MayBurn, BurnsAll, IsSetWith, count_unburnt, IsFireBurning, get-first, next-more, count_unburnt-fewer, same-more, burning-lit, none_unreached}
+use Rattle.dg_verdict.proofs.Common.{◌≡◌, ℕ, zero, suc, ◌+◌, ◌<◌, ◌≤◌, Bool, false, List, [], ◌∷◌, length, take, arith, sym, ap, subst, ◌∙◌, slice_get, Some, slice_index_or, take_more, take-take, get_or-take, length-take, slice_get-get_or, Multigraph, Amounts, list_contains, MayBurn, IsBurningOrder, IsSetWith, count_unburnt, IsPartialBurning, get-first, next-more, count_unburnt-fewer, same-more, burning-lit, none_unreached}
 
 pub record IsOrderSoFar (g : Multigraph) (q : ℕ) (D : Amounts) (l : List ℕ) (n : ℕ) (S : ℕ → Bool) : Type 0 where
   pub first : slice_get l 0 ≡ Some q
-  pub next : (i v : ℕ) → slice_get l (suc i) ≡ Some v → MayBurn g D (among (take (suc i) l)) v
-  pub same : (v : ℕ) → S v ≡ among l v
+  pub next : (i v : ℕ) → slice_get l (suc i) ≡ Some v → MayBurn g D (list_contains (take (suc i) l)) v
+  pub same : (v : ℕ) → S v ≡ list_contains l v
   pub left : n + count_unburnt g.size S ≡ g.size
 
 only_q : (g : Multigraph) (q : ℕ) (D : Amounts) (S T : ℕ → Bool) → q < g.size → ((v : ℕ) → S v ≡ false) → IsSetWith S q T →
     IsOrderSoFar g q D (q ∷ []) 1 T
 only_q g q D S T vertex none lit =
-    let begun : IsFireBurning g q D (q ∷ []) 1 T = burning-lit g q D S T vertex none lit in
+    let begun : IsPartialBurning g q D (q ∷ []) 1 T = burning-lit g q D S T vertex none lit in
     record {
       first = begun.so_far.first;
       next = λ i v place. (begun.so_far.next i v place).may;
@@ -44,8 +44,8 @@ order-more g q D order i S T v state within named burns more =
     })
 
 pub order-done : (g : Multigraph) (q : ℕ) (D : Amounts) (order : List ℕ) (n : ℕ) (S : ℕ → Bool) →
-    IsOrderSoFar g q D (take n order) n S → n ≡ g.size → BurnsAll g q D (take g.size order)
-order-done g q D order n S state whole = subst (λ (k : ℕ). BurnsAll g q D (take k order)) whole (record {
+    IsOrderSoFar g q D (take n order) n S → n ≡ g.size → IsBurningOrder g q D (take g.size order)
+order-done g q D order n S state whole = subst (λ (k : ℕ). IsBurningOrder g q D (take k order)) whole (record {
   first = state.first;
   next = state.next;
   all = λ v below. sym (state.same v) ∙ none_unreached g.size S v below (omega (arith, state.left));
@@ -53,16 +53,16 @@ order-done g q D order n S state whole = subst (λ (k : ℕ). BurnsAll g q D (ta
 
 pub order-fails : (g : Multigraph) (q : ℕ) (D : Amounts) (order : List ℕ) (i : ℕ) (S : ℕ → Bool) →
     IsOrderSoFar g q D (take i order) i S → 1 ≤ i → i < g.size → g.size ≤ length order →
-    ¬ MayBurn g D S (slice_index_or order i 0) → ¬ BurnsAll g q D (take g.size order)
+    ¬ MayBurn g D S (slice_index_or order i 0) → ¬ IsBurningOrder g q D (take g.size order)
 order-fails g q D order zero S state later inside long none burns = absurd (omega arith)
 order-fails g q D order (suc j) S state later inside long none burns =
     let v : ℕ = slice_index_or order (suc j) 0 in
     let place : slice_get (take g.size order) (suc j) ≡ Some v =
     slice_get-get_or (take g.size order) (suc j) 0 (omega (arith, length-take g.size order))
     ∙ ap Some (get_or-take g.size order (suc j) 0 inside) in
-    let may : MayBurn g D (among (take (suc j) (take g.size order))) v = burns.next j v place in
+    let may : MayBurn g D (list_contains (take (suc j) (take g.size order))) v = burns.next j v place in
     let shorter : take (suc j) (take g.size order) ≡ take (suc j) order =
     take-take (suc j) g.size order (omega arith) in
-    let may' : MayBurn g D (among (take (suc j) order)) v =
-    subst (λ (l : List ℕ). MayBurn g D (among l) v) shorter may in
+    let may' : MayBurn g D (list_contains (take (suc j) order)) v =
+    subst (λ (l : List ℕ). MayBurn g D (list_contains l) v) shorter may in
     none (subst (λ B. MayBurn g D B v) (λ k w. sym (state.same w) k) may')

@@ -2,15 +2,15 @@
 --   rebased_leads   the new script leads from the divisor after the drift to the same reduced divisor
 --   rebased_small   if that divisor is in range, the new script fits
 --   rebased_right   the verdict with the new script is right for it
-use Rattle.dg_verdict.proofs.Common.{◌≡◌, ℕ, ◌+◌, ◌*◌, ◌<◌, ◌≤◌, arith, sym, ◌∙◌, unsigned_abs, ints, pos, ◌+ℤ◌, ◌-ℤ◌, Multigraph, Amounts, DivisorsAgreeOn, fired, FiresTo, fired-fired, fired-shifted, equivalent-fired, equivalent-winnable, Vector, at, script_near, Verdict, IsRight, IsRebasable}
+use Rattle.dg_verdict.proofs.Common.{◌≡◌, ℕ, ◌+◌, ◌*◌, ◌<◌, ◌≤◌, arith, sym, ◌∙◌, unsigned_abs, ints, pos, ◌+ℤ◌, ◌-ℤ◌, Multigraph, Amounts, DivisorsAgreeOn, fired, FiresTo, fired-fired, fired-shifted, equivalent-fired, equivalent-winnable, Vector, at, script_near, Verdict, IsRightVerdict, IsRebasable}
 
 pub rebased_leads : (g : Multigraph) (q : ℕ) (D R s m t : Amounts) → FiresTo g s D R →
     DivisorsAgreeOn g.size t (λ v. s v -ℤ m v +ℤ m q) → FiresTo g t (fired g D m) R
-rebased_leads g q D R s m t leads less_drift v inside =
+rebased_leads g q D R s m t leads rebases v inside =
     leads v inside
     ∙ sym (fired-fired g D m t v
     ∙ fired-shifted g D (λ w. m w +ℤ t w) s (m q)
-    (λ w below. let here : t w ≡ s w -ℤ m w +ℤ m q = less_drift w below in omega (arith, ints)) v inside)
+    (λ w below. let here : t w ≡ s w -ℤ m w +ℤ m q = rebases w below in omega (arith, ints)) v inside)
 
 pub rebased_small : (q : ℕ) (x : Verdict) (m : Vector) → IsRebasable q x m → (v : ℕ) → v < x.script.size →
     unsigned_abs (at x.script v -ℤ at m v +ℤ at m q) ≤ 1000000000
@@ -28,13 +28,13 @@ rebased_small q x m can v inside =
     let small : unsigned_abs (t v) ≤ 225 * (1000000 + 62) = rw same at near in
     omega arith
 
-pub rebased_right : (g : Multigraph) (q : ℕ) (D : Amounts) (x : Verdict) (m t : Vector) → q < g.size → IsRight g q D x →
+pub rebased_right : (g : Multigraph) (q : ℕ) (D : Amounts) (x : Verdict) (m t : Vector) → q < g.size → IsRightVerdict g q D x →
     m.size ≡ g.size → t.size ≡ x.script.size →
     ((v : ℕ) → v < x.script.size → at t v ≡ at x.script v -ℤ at m v +ℤ at m q) →
-    IsRight g q (fired g D (at m)) record { winnable = x.winnable; script = t; reduced = x.reduced; order = x.order }
-rebased_right g q D x m t vertex right drift size less_drift =
+    IsRightVerdict g q (fired g D (at m)) record { winnable = x.winnable; script = t; reduced = x.reduced; order = x.order }
+rebased_right g q D x m t vertex right drift size rebases =
     let within : (v : ℕ) → v < g.size → at t v ≡ at x.script v -ℤ at m v +ℤ at m q =
-    λ v inside. less_drift v (omega (arith, right.script_size)) in
+    λ v inside. rebases v (omega (arith, right.script_size)) in
     record {
       script_size = size ∙ right.script_size;
       reduced_size = right.reduced_size;

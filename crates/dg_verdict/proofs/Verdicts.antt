@@ -2,11 +2,11 @@
 --   all_in_order    where the order in which vertices burn is that of a reduced divisor, all burn
 --   is_right        a script that leads to a reduced divisor, the order in which all vertices burn there, and whether q owes
 --   told_apart      a flag and a test that is right tell by their being equal whether the flag is right
-use Rattle.dg_verdict.proofs.Common.{◌≡◌, ℕ, ◌<◌, Bool, true, false, List, take, refl, ◌↔◌, ◌≤ℤ◌, MatchBool, beq, Multigraph, Amounts, FiresTo, IsReduced, BurnsInOrder, BurnsAll, may_burn, reduced_burnt, reduced_decides, at, Verdict, IsRight}
+use Rattle.dg_verdict.proofs.Common.{◌≡◌, ℕ, ◌<◌, Bool, true, false, List, take, refl, ◌↔◌, ◌≤ℤ◌, MatchBool, beq, Multigraph, Amounts, FiresTo, IsReduced, IsLeastBurningOrder, IsBurningOrder, may_burn, reduced_burnt, reduced_decides, at, Verdict, IsRightVerdict}
 use Rattle.std.proofs.Common.{pos}
 
-pub all_in_order : (g : Multigraph) (q : ℕ) (D : Amounts) (l : List ℕ) → BurnsInOrder g q D l → IsReduced g q D →
-    BurnsAll g q D l
+pub all_in_order : (g : Multigraph) (q : ℕ) (D : Amounts) (l : List ℕ) → IsLeastBurningOrder g q D l → IsReduced g q D →
+    IsBurningOrder g q D l
 all_in_order g q D l order reduced = record {
   first = order.begun.first;
   next = may_burn g q D l order;
@@ -15,8 +15,8 @@ all_in_order g q D l order reduced = record {
 
 pub is_right : (g : Multigraph) (q : ℕ) (D : Amounts) (x : Verdict) → q < g.size → x.script.size ≡ g.size →
     x.reduced.size ≡ g.size → at x.script q ≡ pos 0 → FiresTo g (at x.script) D (at x.reduced) →
-    IsReduced g q (at x.reduced) → BurnsInOrder g q (at x.reduced) (take g.size x.order) →
-    ((x.winnable ≡ true) ↔ (pos 0 ≤ℤ at x.reduced q)) → IsRight g q D x
+    IsReduced g q (at x.reduced) → IsLeastBurningOrder g q (at x.reduced) (take g.size x.order) →
+    ((x.winnable ≡ true) ↔ (pos 0 ≤ℤ at x.reduced q)) → IsRightVerdict g q D x
 is_right g q D x vertex script_size reduced_size at_q led reduced order told =
     let (to, from) = reduced_decides g q D (at x.reduced) vertex (at x.script, led) reduced in
     record {

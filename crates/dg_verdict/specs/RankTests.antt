@@ -1,5 +1,5 @@
 -- What rank tests answer.
---   IsRightRankVerdict g D k x     == the verdict x of the rank test of degree k is right for D
+--   IsRightRank g D k x     == the verdict x of the rank test of degree k is right for D
 use Rattle.std.specs.Prelude.{◌≡◌, ℕ}
 use Rattle.dg_chips.specs.Vector.{at}
 use Rattle.dg_theory.specs.Firing.{Amounts}
@@ -8,6 +8,6 @@ use Rattle.dg_theory.specs.Rank.{HasRankAtLeast, IsFirstLoss}
 use Rattle.dg_verdict.specs.declared.rank_verdict.RankVerdict.{RankVerdict}
 use Rattle.dg_verdict.specs.declared.rank_verdict.RankVerdict.TheVariants.{AtLeast, Below}
 
-abbrev pub IsRightRankVerdict : Multigraph → Amounts → ℕ → RankVerdict → Type 0
-IsRightRankVerdict g D k (AtLeast j) = (j ≡ k) × HasRankAtLeast g D k
-IsRightRankVerdict g D k (Below j d) = (j ≡ k) × (d.size ≡ g.size) × IsFirstLoss g D k (at d)
+abbrev pub IsRightRank : Multigraph → Amounts → ℕ → RankVerdict → Type 0
+IsRightRank g D k (AtLeast j) = (j ≡ k) × HasRankAtLeast g D k
+IsRightRank g D k (Below j d) = (j ≡ k) × (d.size ≡ g.size) × IsFirstLoss g D k (at d)

@@ -8,13 +8,13 @@ use Rattle.dg_graph.specs.Graph.{IsGraph}
 use Rattle.dg_theory.specs.Firing.{Amounts, fired}
 use Rattle.dg_theory.specs.Multigraph.{Multigraph}
 use Rattle.dg_verdict.specs.declared.verdict.Verdict.{Verdict}
-use Rattle.dg_verdict.specs.Right.{IsRight}
+use Rattle.dg_verdict.specs.Right.{IsRightVerdict}
 
 pub record IsRebasable (q : ℕ) (x : Verdict) (m : Vector) : Type 0 where
   pub graph : Multigraph
   pub start : Amounts
   pub is_graph : IsGraph graph
   pub vertex : q < graph.size
-  pub right : IsRight graph q start x
+  pub right : IsRightVerdict graph q start x
   pub size : m.size ≡ graph.size
   pub in_range : IsInRange graph.size (fired graph start (at m))

@@ -4,7 +4,7 @@ ghost use Rattle.std.specs.Prelude.{◌≡◌, ℕ, ◌<◌, ◌+ℤ◌, ◌-ℤ
 ghost use Rattle.dg_theory.specs.Multigraph.{Multigraph, IsMultigraph};
 ghost use Rattle.dg_theory.specs.Firing.{Amounts, fired};
 ghost use Rattle.dg_chips.specs.Vector.{at};
-ghost use Rattle.dg_verdict.specs.Right.{IsRight};
+ghost use Rattle.dg_verdict.specs.Right.{IsRightVerdict};
 ghost use Rattle.dg_verdict.specs.Rebasing.{IsRebasable};
 
 use crate::verdict::Verdict;
@@ -18,15 +18,15 @@ pub fn rebase(q: usize, verdict: &Verdict, drift: &Drift) -> Verdict
     ensures reduced { result.reduced ≡ verdict.now.reduced }
     ensures order { result.order ≡ verdict.now.order }
     ensures right { (g : Multigraph) (D : Amounts) → IsMultigraph g → q < g.size →
-        IsRight g q D verdict.now →
-        drift.now.size ≡ g.size → IsRight g q (fired g D (at drift.now)) result }
+        IsRightVerdict g q D verdict.now →
+        drift.now.size ≡ g.size → IsRightVerdict g q (fired g D (at drift.now)) result }
     ensures size { result.script.size ≡ verdict.now.script.size }
     ensures entries { (v : ℕ) → v < result.script.size →
         at result.script v ≡ at verdict.now.script v -ℤ at drift.now v +ℤ at drift.now q }
 {
     Verdict {
         winnable: verdict.winnable,
-        script: verdict.script.less_drift(drift, q),
+        script: verdict.script.rebased(drift, q),
         reduced: verdict.reduced,
         order: verdict.order,
     }

@@ -47,7 +47,7 @@ pub fn judge_with_inverse(
     let _size = graph.size();
     let _amounts = divisor.size();
     let serving = match inverse {
-        Some(inverse) if inverse.may_invert(graph, q) => Some(inverse),
+        Some(inverse) if inverse.serves(graph, q) => Some(inverse),
         _ => None,
     };
     let guess = guess(graph, serving, q, divisor.amounts());

@@ -5,7 +5,7 @@ use crate::edges::{FOUR, PAIR, SQUARE, TRIANGLE};
 use crate::rank::references::plainly;
 use dg_chips::{Divisor, dual};
 use dg_graph::Graph;
-use dg_rank::{both_ranks, both_ranks_in_limits, has_rank, rank};
+use dg_rank::{both_ranks, both_ranks_in_limits, has_rank_at_least, rank};
 use dg_verdict::RankVerdict;
 use std::process::Abort;
 use std::test::Fail;
@@ -114,8 +114,8 @@ fn is_past_the_limits(
     assert!(rt; both_ranks(graph, None, divisor) == (i64::from(left), dual_rank));
     assert!(rt; rank(graph, divisor) == None);
     assert!(rt; both_ranks_in_limits(graph, divisor) == None);
-    assert!(rt; has_rank(graph, divisor, left));
-    assert!(rt; !has_rank(graph, divisor, left.saturating_add(1)));
+    assert!(rt; has_rank_at_least(graph, divisor, left));
+    assert!(rt; !has_rank_at_least(graph, divisor, left.saturating_add(1)));
     Ok(())
 }
 
@@ -125,6 +125,6 @@ fn is_past_the_limits(
 fn many_trials_of_both(rt: HostRuntime) -> Result<(), Fail> {
     let eight = complete(2)?;
     let middle = Divisor::new(&eight, &[48, 0, 0, 0, 0, 0, 0, 0])?;
-    assert!(rt; has_rank(&eight, &middle, 15) && !has_rank(&eight, &middle, 16));
+    assert!(rt; has_rank_at_least(&eight, &middle, 15) && !has_rank_at_least(&eight, &middle, 16));
     Ok(())
 }

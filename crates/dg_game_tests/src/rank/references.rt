@@ -3,7 +3,7 @@ ghost use Rattle.std.specs.Prelude.{◌≡◌, ◌<◌, ◌^◌, IfOk};
 
 use dg_chips::{ChipFault, Divisor};
 use dg_graph::{Graph, GraphFault};
-use dg_rank::{has_rank, rank_at_least, trial, trials};
+use dg_rank::{has_rank_at_least, rank_at_least, trial, trials};
 use dg_reduce::reduce;
 use dg_verdict::RankVerdict;
 use std::process::Abort;
@@ -118,7 +118,7 @@ fn passes(rt: &impl Abort, numbers: &mut Numbers, table: u32) -> Result<bool, Fa
     );
     let passes = wanted == RankVerdict::AtLeast(degree);
     assert!(rt;
-        has_rank(&graph, &divisor, degree) == passes,
+        has_rank_at_least(&graph, &divisor, degree) == passes,
         "table {table}"
     );
     Ok(passes)

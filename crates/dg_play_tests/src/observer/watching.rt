@@ -1,6 +1,6 @@
 //! Observers of a triangle.
 ghost use Rattle.std.specs.Prelude.{◌≡◌, ◌+◌, IfOk};
-ghost use Rattle.dg_rules.specs.State.{position_amounts_after};
+ghost use Rattle.dg_rules.specs.State.{amounts_after};
 
 use crate::table_tests::{TableTest, on_a_table};
 use crate::tables::{amounts, triangle};
@@ -76,18 +76,18 @@ pub(crate) struct Positions<N> {
 
 impl<N: Name> Watch for Positions<N> {
     ghost use Rattle.std.specs.Prelude.{◌≡◌};
-    ghost use Rattle.dg_rules.specs.State.{position_amounts_after};
+    ghost use Rattle.dg_rules.specs.State.{amounts_after};
 
     type State = Divisor;
 
     ghost begins = { λ d. d ≡ N.table.start.divisor };
 
-    ghost goes_on = { λ old e next. next ≡ position_amounts_after old e.reply };
+    ghost goes_on = { λ old e next. next ≡ amounts_after old e.reply };
 }
 
 // A move or a gift that was accepted shows the amounts after it, and nothing else changes them.
 pub(crate) fn keep_position(position: &Divisor, entry: &Entry) -> Result<Divisor, OutOfMemory>
-    ensures { IfOk result (λ next. next ≡ position_amounts_after position.now entry.now.reply) }
+    ensures { IfOk result (λ next. next ≡ amounts_after position.now entry.now.reply) }
 {
     match entry.reply {
         Reply::Moved(divisor) | Reply::Given(_, divisor) => Ok(divisor),

@@ -4,10 +4,10 @@ ghost use Rattle.std.specs.Prelude.{◌<◌};
 
 use crate::burn::reference::burn_anew;
 use crate::edges::{PATH, SQUARE, TRIANGLE};
-use dg_burn::{BurnCounts, amounts_to_burn, burn, burn_counted};
+use dg_burn::{BurnCounts, burn, burn_counted, capped_amounts};
 use dg_chips::Wide;
 use dg_graph::Graph;
-use dg_reduce::is_solvent_off;
+use dg_reduce::is_effective_off;
 use std::process::Abort;
 use std::test::Fail;
 
@@ -56,7 +56,7 @@ fn burns(rt: &impl Abort, case: &Case) -> Result<(), Fail> {
     let (items, q, amounts, order, unburnt) = *case;
     let graph = Graph::new(amounts.len(), items)?;
     let chips = Wide::new(&graph, amounts)?;
-    assert!(rt; q < graph.size() && is_solvent_off(&graph, q, &chips));
+    assert!(rt; q < graph.size() && is_effective_off(&graph, q, &chips));
     let burnt = burn(&graph, q, &chips);
     assert!(rt; usize::from(burnt.burnt) == order.len());
     assert!(rt; burnt.order.starts_with(order), "{order:?}");
@@ -106,10 +106,10 @@ fn are_as_anew(
 
 fn is_as_anew(rt: &impl Abort, graph: &Graph, q: usize, chips: &Wide) {
     assert!(rt; q < graph.size() && chips.size() == graph.size());
-    assert!(rt; is_solvent_off(graph, q, chips));
+    assert!(rt; is_effective_off(graph, q, chips));
     let burnt = burn(graph, q, chips);
     assert!(rt; burnt == burn_anew(graph, q, chips));
-    let counted = burn_counted(graph, q, &amounts_to_burn(chips));
+    let counted = burn_counted(graph, q, &capped_amounts(chips));
     assert!(rt; counted.burnt == burnt);
     is_joined(rt, graph, &counted);
 }

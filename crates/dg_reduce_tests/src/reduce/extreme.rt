@@ -5,9 +5,7 @@ ghost use Rattle.std.specs.Prelude.{◌≡◌, ◌<◌, ◌≤◌};
 
 use dg_chips::{Script, Wide};
 use dg_graph::Graph;
-use dg_reduce::{
-    InverseLaplacian, certified_by, is_within_reduction_limit, reduce_by_levels, reduce_certified,
-};
+use dg_reduce::{InverseLaplacian, certified_by, may_reduce, reduce_by_levels, reduce_certified};
 use std::test::Fail;
 
 /// How the edges of a graph lie.
@@ -92,7 +90,7 @@ fn agrees(graph: &Graph, q: usize, chips: &Wide) -> bool
     requires size { chips.now.size ≡ graph.now.size }
     requires vertex { q < graph.now.size }
 {
-    if !is_within_reduction_limit(chips) {
+    if !may_reduce(chips) {
         return false;
     }
     let found = reduce_certified(graph, Some(&InverseLaplacian::new(graph, q)), q, chips);
@@ -100,7 +98,7 @@ fn agrees(graph: &Graph, q: usize, chips: &Wide) -> bool
         graph,
         q,
         chips,
-        &Script::script_relative_to(&Wide::zero(graph), q),
+        &Script::relative_to(&Wide::zero(graph), q),
         &None,
     );
     found.reduced == reduce_by_levels(graph, q, chips)

@@ -6,8 +6,8 @@ use crate::edges::{PATH, SQUARE, TRIANGLE};
 use dg_chips::{Script, Wide};
 use dg_graph::{Graph, GraphFault};
 use dg_reduce::{
-    Certified, InverseLaplacian, Reduced, certified_by, guess, is_solvent_off,
-    is_within_reduction_limit, reduce_certified, reduce_wide, reduced_order,
+    CertifiedReduction, InverseLaplacian, Reduced, burning_order, certified_by, guess,
+    is_effective_off, may_reduce, reduce_certified, reduce_wide,
 };
 use std::process::Abort;
 use std::test::Fail;
@@ -141,11 +141,16 @@ static CASES: [Case; 5] = [
 ];
 
 /// The reduction that begins with a script, if it may be asked for.
-fn certified_after(graph: &Graph, q: usize, chips: &Wide, script: &Script) -> Option<Certified>
+fn certified_after(
+    graph: &Graph,
+    q: usize,
+    chips: &Wide,
+    script: &Script,
+) -> Option<CertifiedReduction>
     requires size { chips.now.size ≡ graph.now.size }
     requires script { script.now.size ≡ graph.now.size }
 {
-    if q >= graph.size() || !is_within_reduction_limit(chips) || script.get(q) != 0 {
+    if q >= graph.size() || !may_reduce(chips) || script.get(q) != 0 {
         return None;
     }
     Some(certified_by(graph, q, chips, script, &None))
@@ -158,15 +163,15 @@ fn certified_beside(
     chips: &Wide,
     script: &Script,
     other: &Wide,
-) -> Option<Certified>
+) -> Option<CertifiedReduction>
     requires size { chips.now.size ≡ graph.now.size }
     requires script { script.now.size ≡ graph.now.size }
     requires other { other.now.size ≡ graph.now.size }
 {
-    if q >= graph.size() || !is_within_reduction_limit(chips) || script.get(q) != 0 {
+    if q >= graph.size() || !may_reduce(chips) || script.get(q) != 0 {
         return None;
     }
-    if !is_within_reduction_limit(other) {
+    if !may_reduce(other) {
         return None;
     }
     let inverse = InverseLaplacian::new(graph, q);
@@ -188,11 +193,16 @@ fn values_of(case: &Case) -> Result<(Graph, Wide, Reduced), Fail> {
 }
 
 /// Whether what was found is the reduction that is wanted, and the order the one in which its amounts burn.
-pub(super) fn is_wanted(graph: &Graph, q: usize, found: &Certified, wanted: &Reduced) -> bool {
+pub(super) fn is_wanted(
+    graph: &Graph,
+    q: usize,
+    found: &CertifiedReduction,
+    wanted: &Reduced,
+) -> bool {
     found.reduced == *wanted
         && wanted.divisor.size() == graph.size()
         && q < graph.size()
-        && reduced_order(graph, q, &wanted.divisor) == Some(found.order)
+        && burning_order(graph, q, &wanted.divisor) == Some(found.order)
 }
 
 #[test]
@@ -291,11 +301,11 @@ fn guesses_are_right(rt: HostRuntime) -> Result<(), Fail> {
 
 fn is_guessed(rt: &impl Abort, path: &Graph, q: usize, chips: &Wide) {
     assert!(rt; q < path.size() && chips.size() == path.size());
-    assert!(rt; is_within_reduction_limit(chips));
+    assert!(rt; may_reduce(chips));
     let inverse = InverseLaplacian::new(path, q);
     let script = guess(path, Some(&inverse), q, &chips.in_32_bits()).script;
     let left = chips.fired_by(path, &script);
-    assert!(rt; reduced_order(path, q, &left).is_some(), "for {q}");
+    assert!(rt; burning_order(path, q, &left).is_some(), "for {q}");
     is_alone(rt, path, q, &left);
 }
 
@@ -304,8 +314,8 @@ fn is_alone(rt: &impl Abort, path: &Graph, q: usize, left: &Wide) {
     assert!(rt; path.size() == 16 && left.size() == 16 && q < 16);
     assert!(rt; left.get(3) < 1 || q == 3);
     let other = left.with_amount(if q == 3 { 5 } else { 3 }, 2);
-    assert!(rt; reduced_order(path, q, &other).is_none(), "for {q}");
-    assert!(rt; is_solvent_off(path, q, &other));
+    assert!(rt; burning_order(path, q, &other).is_none(), "for {q}");
+    assert!(rt; is_effective_off(path, q, &other));
 }
 
 // An inverse of another graph or vertex makes bad guesses, and changes no answer.
@@ -321,7 +331,7 @@ fn inverses_of_others(rt: HostRuntime) -> Result<(), Fail> {
 fn serves(rt: &impl Abort, square: &Graph, inverse: &InverseLaplacian) -> Result<(), Fail> {
     let chips = Wide::new(square, &[-300, 100, 90, 80])?;
     let _size = square.size();
-    assert!(rt; is_within_reduction_limit(&chips));
+    assert!(rt; may_reduce(&chips));
     let wanted = reduce_wide(square, 0, &chips);
     assert!(rt; Wide::new(square, &[-30, 0, 0, 0]) == Ok(wanted.divisor));
     let found = reduce_certified(square, Some(inverse), 0, &chips);

@@ -5,12 +5,12 @@ ghost use Rattle.std.specs.Int.RustNames.{unsigned_abs};
 ghost use Rattle.dg_chips.specs.Vector.{at};
 
 use crate::reduce::guesses::is_wanted;
-use dg_burn::amounts_to_burn;
+use dg_burn::capped_amounts;
 use dg_chips::{Script, Wide};
 use dg_graph::Graph;
 use dg_reduce::{
-    Burning, InverseLaplacian, Reduced, guess, is_within_reduction_limit, reduce_after,
-    reduce_by_levels, reduce_certified, reduced_order,
+    Burning, InverseLaplacian, Reduced, burning_order, guess, may_reduce, reduce_by_levels,
+    reduce_certified, reduce_from_script,
 };
 use std::process::Abort;
 use std::test::Fail;
@@ -163,7 +163,7 @@ fn blunt(graph: &Graph, q: usize, script: &Script) -> Script
     for v in 0..graph.size() {
         blunt = blunt.with_amount(v, i128::from(blunted(script.get(v))));
     }
-    Script::script_relative_to(&blunt, q)
+    Script::relative_to(&blunt, q)
 }
 
 /// Whether all vertices but q hold the same.
@@ -194,13 +194,13 @@ fn by_levels(graph: &Graph, q: usize, chips: &Wide, most: u64, script: &Script) 
     requires vertex { q < graph.now.size }
     requires script { script.now.size ≡ graph.now.size }
 {
-    if !is_within_reduction_limit(chips) {
+    if !may_reduce(chips) {
         return None;
     }
     Some(if most <= 10 {
         reduce_by_levels(graph, q, chips)
     } else {
-        reduce_after(graph, q, chips, &blunt(graph, q, script))
+        reduce_from_script(graph, q, chips, &blunt(graph, q, script))
     })
 }
 
@@ -210,10 +210,10 @@ fn is_right(graph: &Graph, q: usize, left: &Wide, burning: &Option<Burning>) -> 
     requires vertex { q < graph.now.size }
 {
     let known = match burning {
-        Some(burning) => is_same_off(q, &burning.held, &amounts_to_burn(left)),
+        Some(burning) => is_same_off(q, &burning.held, &capped_amounts(left)),
         None => false,
     };
-    known && reduced_order(graph, q, left).is_some()
+    known && burning_order(graph, q, left).is_some()
 }
 
 /// Whether a random reduction is the same with a guess and by levels, which are left out if they take too long; and
@@ -231,7 +231,7 @@ fn agrees(
     let size = graph.size();
     let amounts = amounts_of(dice, size, most);
     let chips = Wide::new(graph, &amounts[..size]).ok()?;
-    if !is_within_reduction_limit(&chips) {
+    if !may_reduce(&chips) {
         return None;
     }
     let inverse = InverseLaplacian::new(graph, q);

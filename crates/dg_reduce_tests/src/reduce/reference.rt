@@ -20,7 +20,7 @@ pub fn reduce_singly(graph: &Graph, q: usize, divisor: &Divisor) -> Single
     requires vertex { q < graph.now.size }
 {
     let paid = paid_back(graph, q, &start(divisor));
-    script_relative_to(graph, q, &burnt_down(graph, q, &paid))
+    relative_to(graph, q, &burnt_down(graph, q, &paid))
 }
 
 /// The amounts of a divisor.
@@ -133,7 +133,7 @@ fn across(graph: &Graph, set: u16, v: usize) -> i64
 }
 
 /// The same amounts, and the script less its entry at q.
-fn script_relative_to(graph: &Graph, q: usize, led: &Single) -> Single
+fn relative_to(graph: &Graph, q: usize, led: &Single) -> Single
     requires { q < graph.now.size }
 {
     let mut now = *led;

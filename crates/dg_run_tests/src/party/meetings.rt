@@ -4,7 +4,7 @@ use crate::tables::TRIANGLE;
 use dg_chips::Start;
 use dg_file::{Names, read_table};
 use dg_rank::Gate;
-use dg_session::{Played, SessionEnd, party};
+use dg_session::{PartyOutcome, SessionEnd, party};
 use std::alloc::{AllocError, Global};
 use std::process::Abort;
 use std::sync::Wait;
@@ -92,7 +92,7 @@ fn played<R: Threads + Wait + Sync, G: Gate>(
     alloc: Global,
     texts: &[&str],
     gate: &G,
-) -> Result<Played, Fail> {
+) -> Result<PartyOutcome, Fail> {
     let file = read_table(alloc, TRIANGLE.as_bytes())?;
     let scripts = scripts_of(alloc, texts)?;
     played_from(rt, alloc, file.start(), file.names(), &scripts, gate)
@@ -105,7 +105,7 @@ fn played_from<R: Threads + Wait + Sync, G: Gate>(
     names: &Names,
     scripts: &[Vec<u8>],
     gate: &G,
-) -> Result<Played, Fail> {
+) -> Result<PartyOutcome, Fail> {
     if names.len() != start.graph().size() || scripts.is_empty() || scripts.len() > 64 {
         return Err(Fail::new("a table file and 1 to 64 scripts"));
     }

@@ -5,7 +5,7 @@ use crate::tables::{TRIANGLE, triangle};
 use dg_chips::Start;
 use dg_file::{Names, read_table};
 use dg_log::Name;
-use dg_session::{LineFormat, SessionEnd, serve_seats, sessions_cut_one_way};
+use dg_session::{LineFormat, SessionEnd, cut_one_way, serve_seats};
 use dg_system::{Input, Output};
 use dg_table::{Seat, Table};
 use std::alloc::Global;
@@ -123,7 +123,7 @@ fn new_sip(alloc: Global, fails_at: usize, refuses: bool, is_held_back: &Cell<bo
 // One byte a read and a write: the reader fails at each byte in turn, or ends after the last.
 #[test]
 fn sessions_end_where_reads_fail(rt: HostRuntime) -> Result<(), Fail> {
-    sessions_cut_one_way();
+    cut_one_way();
     let owing = triangle(&[2, -1, -1])?;
     let mut lines = 0usize;
     for j in 0..TEXT.len() + 2 {

@@ -1,7 +1,7 @@
 use Rattle.std.proofs.Common.{rules, ◌≡◌, length, take, arith, subst, w64, inl, FitsSigned, ◌∙◌}
 use Rattle.std.proofs.lemmas.Int.{to_z-of_z}
-use Rattle.dg_graph.specs.Items.{IsGiven}
-use Rattle.dg_graph.specs.Faults.{IsFirstGraphFault}
+use Rattle.dg_graph.specs.Items.{IsGraphOf}
+use Rattle.dg_graph.specs.Faults.{IsGraphFault}
 use Rattle.dg_abi.specs.Calls.{items_of}
 use Rattle.dg_abi.proofs.Items.{same_items}
 use Rattle.dg_abi.proofs.graphs.graph_of.Goals as goal
@@ -11,16 +11,16 @@ returns-in-Ok c =
     let same : take (length c.args.edges.now) c.loop-i.items ≡ items_of c.args.edges.now =
     same_items c.loop-i.items c.args.edges.now c.loop-i.i c.loop-i.invariant.size
     (omega (arith, c.if-edges-gt-MAX_ITEMS.false)) (omega (arith, c.loop-i-test.false)) c.loop-i.invariant.same in
-    subst (λ l. IsGiven c.args.size l c.in-Ok.graph) same c.in-Ok.ensures
+    subst (λ l. IsGraphOf c.args.size l c.in-Ok.graph) same c.in-Ok.ensures
 
 pub returns-in-Err : goal.returns-in-Err
 returns-in-Err c =
     let same : take (length c.args.edges.now) c.loop-i.items ≡ items_of c.args.edges.now =
     same_items c.loop-i.items c.args.edges.now c.loop-i.i c.loop-i.invariant.size
     (omega (arith, c.if-edges-gt-MAX_ITEMS.false)) (omega (arith, c.loop-i-test.false)) c.loop-i.invariant.same in
-    let fits : FitsSigned w64 c.number_of.result = search rules in
+    let fits : FitsSigned w64 c.fault_number.result = search rules in
     inl (record {
       fault = c.in-Err.fault;
-      first = subst (λ l. IsFirstGraphFault c.args.size l c.in-Err.fault) same c.in-Err.ensures;
-      number = to_z-of_z w64 c.number_of.result fits ∙ c.number_of.ensures;
+      first = subst (λ l. IsGraphFault c.args.size l c.in-Err.fault) same c.in-Err.ensures;
+      number = to_z-of_z w64 c.fault_number.result fits ∙ c.fault_number.ensures;
     })

@@ -6,8 +6,8 @@ use Rattle.dg_burn.proofs.burning.burn.Goals as goal
 pub returns-clause-order : goal.returns-clause-order
 returns-clause-order c =
     same-order c.args.graph.now c.args.q
-    (at c.args.chips.now) c.amounts_to_burn.result _ c.size-size.ensures.graph c.requires.no_debt
-    (rw c.requires.size at c.amounts_to_burn.ensures) c.burn_counted.ensures.order
+    (at c.args.chips.now) c.capped_amounts.result _ c.size-size.ensures.graph c.requires.no_debt
+    (rw c.requires.size at c.capped_amounts.ensures) c.burn_counted.ensures.order
 
 pub returns-clause-unburnt : goal.returns-clause-unburnt
 returns-clause-unburnt c =

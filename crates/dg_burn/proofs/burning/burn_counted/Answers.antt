@@ -1,4 +1,4 @@
-use Rattle.dg_burn.proofs.Common.{◌<◌, length, take, arith, refl, length-set, ◌∙◌, get_or-set_other, ints, take_more_set, BurnsNext, dollars, burns}
+use Rattle.dg_burn.proofs.Common.{◌<◌, length, take, arith, refl, length-set, ◌∙◌, get_or-set_other, ints, take_more_set, BurnsNext, list_amounts, burns}
 use Rattle.dg_burn.proofs.Rests.{none_after}
 use Rattle.dg_burn.proofs.Steps.{count_unburnt-some, burning-lit, burning-fewer, burning-more, burning-done}
 use Rattle.dg_burn.proofs.Told.{set_is_rest, rest_is_free, rest_counts, none_whole}
@@ -12,7 +12,7 @@ burn_vertex-requires-clause-room c =
 
 pub burning-init : goal.burning-init
 burning-init c = record {
-  state = burning-lit c.args.graph.now c.args.q (dollars c.args.held.now)
+  state = burning-lit c.args.graph.now c.args.q (list_amounts c.args.held.now)
       (burns c.args.graph.now.size c.new-unlit.result) _ c.requires
       c.new-unlit.ensures.none_burns
       (left-less c.args.graph.now.size c.new-unlit.result c.burn_vertex.new.self c.args.q c.requires
@@ -28,7 +28,7 @@ burning-init c = record {
 pub bounds-order-count : goal.bounds-order-count
 bounds-order-count c =
     let next :
-    BurnsNext c.args.graph.now (dollars c.args.held.now) (burns c.args.graph.now.size c.burning.fire) c.in-Some.v =
+    BurnsNext c.args.graph.now (list_amounts c.args.held.now) (burns c.args.graph.now.size c.burning.fire) c.in-Some.v =
     least_burns _ _ _ _ c.size-size.ensures.graph c.burning.invariant.fire c.in-Some.ensures in
     omega (
       arith,
@@ -45,7 +45,7 @@ burn_vertex-requires-in-Some-clause-room c = λ w.
 pub burning-smaller : goal.burning-smaller
 burning-smaller c =
     let next :
-    BurnsNext c.args.graph.now (dollars c.args.held.now) (burns c.args.graph.now.size c.burning.fire) c.in-Some.v =
+    BurnsNext c.args.graph.now (list_amounts c.args.held.now) (burns c.args.graph.now.size c.burning.fire) c.in-Some.v =
     least_burns _ _ _ _ c.size-size.ensures.graph c.burning.invariant.fire c.in-Some.ensures in
     let more = left-less c.args.graph.now.size c.burning.fire c.burn_vertex-in-Some.new.self c.in-Some.v next.may.vertex
     c.burn_vertex-in-Some.ensures.left in
@@ -54,7 +54,7 @@ burning-smaller c =
 pub burning-preserved : goal.burning-preserved
 burning-preserved c =
     let next :
-    BurnsNext c.args.graph.now (dollars c.args.held.now) (burns c.args.graph.now.size c.burning.fire) c.in-Some.v =
+    BurnsNext c.args.graph.now (list_amounts c.args.held.now) (burns c.args.graph.now.size c.burning.fire) c.in-Some.v =
     least_burns _ _ _ _ c.size-size.ensures.graph c.burning.invariant.fire c.in-Some.ensures in
     let more = left-less c.args.graph.now.size c.burning.fire c.burn_vertex-in-Some.new.self c.in-Some.v next.may.vertex
     c.burn_vertex-in-Some.ensures.left in
@@ -90,16 +90,16 @@ returns-clause-left c =
 
 pub returns-clause-unburnt : goal.returns-clause-unburnt
 returns-clause-unburnt c =
-    rest_is_free c.args.graph.now c.args.q (dollars c.args.held.now)
+    rest_is_free c.args.graph.now c.args.q (list_amounts c.args.held.now)
     (take c.burning.count c.burning.order) c.burning.fire.left
     c.size-size.ensures.graph.multigraph c.requires (λ v _ _. omega (arith, ints)) (returns-clause-order c)
     (returns-clause-left c)
 
 pub returns-clause-joined : goal.returns-clause-joined
 returns-clause-joined c = λ v.
-    fire-counts c.args.graph.now c.args.held.now c.new-unlit.result c.burning.fire c.gained.result v
+    fire-counts c.args.graph.now c.args.held.now c.new-unlit.result c.burning.fire c.heat_gain.result v
     c.size-size.ensures.graph c.new-unlit.ensures c.burning.invariant.fire
-    c.gained.ensures.gained c.gained.ensures.past
+    c.heat_gain.ensures.gained c.heat_gain.ensures.past
     ∙ rest_counts c.args.graph.now (take c.burning.count c.burning.order)
     (burns c.args.graph.now.size c.burning.fire) c.burning.fire.left v
     c.burning.invariant.state.same (returns-clause-left c)

@@ -2,8 +2,8 @@ use Rattle.dg_chips.proofs.Common.{◌≡◌, ◌∙◌, true, sym, arith, in_se
 use Rattle.dg_chips.proofs.SetLending.{into_first-in}
 use Rattle.dg_chips.proofs.set_firing.set_firing_sums.Goals as goal
 
-pub with_set_firing_row-got-requires : goal.with_set_firing_row-got-requires
-with_set_firing_row-got-requires c = λ w below.
+pub add_row-got-requires : goal.add_row-got-requires
+add_row-got-requires c = λ w below.
     let member : in_set c.args.set c.loop-v.v ≡ true = sym c.contains.ensures ∙ c.if-contains.true in
     omega (
       arith,

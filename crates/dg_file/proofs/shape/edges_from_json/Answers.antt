@@ -10,7 +10,7 @@ loop-i-init c = record {
 }
 
 pub loop-i-preserved : goal.loop-i-preserved
-loop-i-preserved c = let some = sym c.edge_of_json.ensures ∙ c.in-Some.is in record {
+loop-i-preserved c = let some = sym c.edge_from_json.ensures ∙ c.in-Some.is in record {
   read = rw c.in_ok-push.ensures.items
       (each-more edge_in_json c.args.items.now c.loop-i.i c.index-items-i.result c.loop-i.edges.items c.in-Some.edge
       c.loop-i-test.true c.index-items-i.is some c.loop-i.invariant.read);
@@ -21,7 +21,7 @@ loop-i-preserved c = let some = sym c.edge_of_json.ensures ∙ c.in-Some.is in r
 pub returns-in_default-clause-refused : goal.returns-in_default-clause-refused
 returns-in_default-clause-refused c =
     edge-fault c.args.items.now c.loop-i.i c.index-items-i.result c.loop-i-test.true c.index-items-i.is
-    (sym c.edge_of_json.ensures ∙ c.in_default.is) c.loop-i.invariant.before
+    (sym c.edge_from_json.ensures ∙ c.in_default.is) c.loop-i.invariant.before
 
 pub returns-clause-edges : goal.returns-clause-edges
 returns-clause-edges c =

@@ -23,5 +23,5 @@ search-preserved c = record {
 
 pub returns : goal.returns
 returns c =
-    reached-tells c.args.size (entry c.args.table.now) c.search.reached c.has_reached_all.result c.requires.some
-    c.requires.symmetric c.search.invariant.start c.search.invariant.joined c.in_default.ensures c.has_reached_all.ensures
+    reached-tells c.args.size (entry c.args.table.now) c.search.reached c.all_reached.result c.requires.some
+    c.requires.symmetric c.search.invariant.start c.search.invariant.joined c.in_default.ensures c.all_reached.ensures

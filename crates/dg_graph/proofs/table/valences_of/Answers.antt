@@ -8,7 +8,7 @@ pub overflow_cast-valences : goal.overflow_cast-valences
 unfolding entry
 overflow_cast-valences c = omega (
   arith,
-  c.valence_of_row.ensures.sum,
+  c.row_sum.ensures.sum,
   valence-few (record { size = c.args.size; table = c.args.table.now }) c.loop-v.v c.requires,
 )
 
@@ -16,9 +16,9 @@ pub loop-v-preserved : goal.loop-v-preserved
 unfolding entry
 loop-v-preserved c = record {
   places = length-set _ _ _ ∙ c.loop-v.invariant.places;
-  same = filled-more c.loop-v.valences c.loop-v.v c.valence_of_row.result
+  same = filled-more c.loop-v.valences c.loop-v.v c.row_sum.result
       (valence (record { size = c.args.size; table = c.args.table.now }))
-      (omega arith) c.valence_of_row.ensures.sum c.loop-v.invariant.same;
+      (omega arith) c.row_sum.ensures.sum c.loop-v.invariant.same;
 }
 
 pub returns : goal.returns

@@ -24,8 +24,8 @@ returns-in_default-words_of-clause-refused c =
       refused = ill_formed _ (keyword_kinds k) _ (wanted_of k) (rw count at c.in_default-words_of.ensures);
     }
 
-pub command_of-requires : goal.command_of-requires
-command_of-requires c =
+pub parse_command-requires : goal.parse_command-requires
+parse_command-requires c =
     let k = c.in-Some.keyword in
     let words = rw c.in-Some.ensures.1 at c.in-Some-words_of.ensures in
     well_formed (spelling k) (keyword_kinds k) _ (wanted_of k) words.0
@@ -37,5 +37,5 @@ returns c =
     let known =
     line_read c.args.names.now c.args.line.now (spelling k) _
     (line_words _ _ _ _ _ c.cut.ensures.before c.cut.ensures.after c.in-Some.ensures.0 words.1)
-    c.command_of.result (well_formed (spelling k) (keyword_kinds k) _ (wanted_of k) words.0) c.command_of.ensures in
+    c.parse_command.result (well_formed (spelling k) (keyword_kinds k) _ (wanted_of k) words.0) c.parse_command.ensures in
     record { command = known.0; refused = known.1 }

@@ -3,16 +3,16 @@ use Rattle.dg_rank.proofs.FixedBeginnings.{loss_few, first_skip, first_last, fir
 use Rattle.dg_rank.proofs.FirstFrom.{held_few, first_with}
 use Rattle.dg_rank.proofs.LossBoxes.{taken_small}
 use Rattle.dg_rank.proofs.beginnings.+first_loss_from.Goals as goal
-use Rattle.dg_rank.proofs.beginnings.+first_loss_from.Goals.{After-find_from, In_default}
+use Rattle.dg_rank.proofs.beginnings.+first_loss_from.Goals.{After-find_loss_from, In_default}
 
 pub returns-then-place-size-clause-first : goal.returns-then-place-size-clause-first
 returns-then-place-size-clause-first t c =
     let g = c.args.graph.now in
-    first_last g (at c.args.left.now) c.args.dollars c.args.place c.trial_at_last.result c.args.known
+    first_last g (at c.args.left.now) c.args.dollars c.args.place c.all_at_last.result c.args.known
     (omega (arith, c.if-place-size.true, c.size-size.ensures.size))
-    (c.trial_at_last.ensures.places ∙ c.size-size.ensures.size)
-    (rw c.size-size.ensures.size at c.trial_at_last.ensures.held)
-    (rw c.size-size.ensures.size at c.trial_at_last.ensures.empty)
+    (c.all_at_last.ensures.places ∙ c.size-size.ensures.size)
+    (rw c.size-size.ensures.size at c.all_at_last.ensures.held)
+    (rw c.size-size.ensures.size at c.all_at_last.ensures.empty)
     c.requires.known
 
 pub returns-then-held-eq0-clause-first : goal.returns-then-held-eq0-clause-first
@@ -25,10 +25,10 @@ returns-in-Some-clause-first t c =
     first_skip c.args.graph.now (at c.args.left.now) c.args.dollars c.args.place c.first_loss_from-in-Some.result
     c.first_loss_from-in-Some.ensures.first
 
-held_some : (t : ℕ) (c : After-find_from t) → 1 ≤ slice_index c.args.known c.args.place
+held_some : (t : ℕ) (c : After-find_loss_from t) → 1 ≤ slice_index c.args.known c.args.place
 held_some t c = omega (arith, c.get-held.ensures, c.if-held-eq0.false)
 
-some : (t : ℕ) (c : After-find_from t) → 1 ≤ c.args.dollars
+some : (t : ℕ) (c : After-find_loss_from t) → 1 ≤ c.args.dollars
 some t c =
     omega (
       arith,
@@ -41,33 +41,33 @@ won : (t : ℕ) (c : In_default t) → TrialsWinFrom c.args.graph.now (at c.args
 won t c = c.in_default.ensures.told
 
 pub overflow_sub-dollars : goal.overflow_sub-dollars
-overflow_sub-dollars t c = some t (goal.at.overflow_sub-dollars t c).After-find_from
+overflow_sub-dollars t c = some t (goal.at.overflow_sub-dollars t c).After-find_loss_from
 
-pub returns-in_default-left_in_box_after-clause-first : goal.returns-in_default-left_in_box_after-clause-first
-returns-in_default-left_in_box_after-clause-first t c =
-    let d = goal.at.returns-in_default-left_in_box_after-clause-first t c in
+pub returns-in_default-after_loss-clause-first : goal.returns-in_default-after_loss-clause-first
+returns-in_default-after_loss-clause-first t c =
+    let d = goal.at.returns-in_default-after_loss-clause-first t c in
     first_unpaid c.args.graph.now (at c.args.left.now) c.args.dollars c.args.place c.with_more.result
-    c.trial_at_last-in_default-left_in_box_after.result c.requires.place (some t d.After-find_from) (won t d.In_default)
-    (c.trial_at_last-in_default-left_in_box_after.ensures.places ∙ c.size-size.ensures.size)
-    (rw c.size-size.ensures.size at c.trial_at_last-in_default-left_in_box_after.ensures.held)
-    (rw c.size-size.ensures.size at c.trial_at_last-in_default-left_in_box_after.ensures.empty)
-    c.with_more.ensures c.in_default-left_in_box_after.ensures
+    c.all_at_last-in_default-after_loss.result c.requires.place (some t d.After-find_loss_from) (won t d.In_default)
+    (c.all_at_last-in_default-after_loss.ensures.places ∙ c.size-size.ensures.size)
+    (rw c.size-size.ensures.size at c.all_at_last-in_default-after_loss.ensures.held)
+    (rw c.size-size.ensures.size at c.all_at_last-in_default-after_loss.ensures.empty)
+    c.with_more.ensures c.in_default-after_loss.ensures
 
 pub overflow_sub-dollars-2 : goal.overflow_sub-dollars-2
-overflow_sub-dollars-2 t c = some t (goal.at.overflow_sub-dollars-2 t c).After-find_from
+overflow_sub-dollars-2 t c = some t (goal.at.overflow_sub-dollars-2 t c).After-find_loss_from
 
 pub first_loss_from-requires-2 : goal.first_loss_from-requires-2
 first_loss_from-requires-2 t c =
     let g = c.args.graph.now in
-    let d = (goal.at.first_loss_from-requires-2 t c).After-find_from in
-    let form = c.in-Some-left_in_box_after.ensures in (
+    let d = (goal.at.first_loss_from-requires-2 t c).After-find_loss_from in
+    let form = c.in-Some-after_loss.ensures in (
       omega (arith, some t d),
       (
         form.size,
         (
           form.effective,
           (
-            taken_small g (at c.args.left.now) c.in-Some-left_in_box_after.other c.args.place 1
+            taken_small g (at c.args.left.now) c.in-Some-after_loss.other c.args.place 1
                 c.size-size.ensures.graph.multigraph c.requires.place c.requires.small form,
             (
               omega (arith, c.requires.few),
@@ -75,7 +75,7 @@ first_loss_from-requires-2 t c =
                 c.requires.place,
                 (
                   c.in_default.ensures.made,
-                  rw (c.set.ensures, c.get-held.ensures) (fewer_lost g (at c.args.left.now) (at c.in-Some-left_in_box_after.other)
+                  rw (c.set.ensures, c.get-held.ensures) (fewer_lost g (at c.args.left.now) (at c.in-Some-after_loss.other)
                       c.args.dollars c.args.place c.args.known c.requires.place (held_some t d) form.led c.requires.known),
                 ),
               ),
@@ -89,7 +89,7 @@ pub with_more-requires-2-clause-few : goal.with_more-requires-2-clause-few
 with_more-requires-2-clause-few t c =
     omega (
       arith,
-      held_few c.args.graph.now (at c.in-Some-left_in_box_after.other) (c.args.dollars - 1) c.args.place c.args.place
+      held_few c.args.graph.now (at c.in-Some-after_loss.other) (c.args.dollars - 1) c.args.place c.args.place
           c.first_loss_from-2.result c.first_loss_from-2.ensures.first c.requires.place,
       c.requires.few,
     )
@@ -97,6 +97,6 @@ with_more-requires-2-clause-few t c =
 pub returns-clause-first : goal.returns-clause-first
 returns-clause-first t c =
     let d = goal.at.returns-clause-first t c in
-    first_with c.args.graph.now (at c.args.left.now) (at c.in-Some-left_in_box_after.other) c.args.dollars c.args.place
-    c.with_more-2.result c.first_loss_from-2.result c.requires.place (some t d.After-find_from)
-    c.in-Some-left_in_box_after.ensures.led (won t d.In_default) c.first_loss_from-2.ensures.first c.with_more-2.ensures
+    first_with c.args.graph.now (at c.args.left.now) (at c.in-Some-after_loss.other) c.args.dollars c.args.place
+    c.with_more-2.result c.first_loss_from-2.result c.requires.place (some t d.After-find_loss_from)
+    c.in-Some-after_loss.ensures.led (won t d.In_default) c.first_loss_from-2.ensures.first c.with_more-2.ensures

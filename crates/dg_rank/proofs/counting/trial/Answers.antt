@@ -3,10 +3,10 @@ use Rattle.dg_rank.specs.Numbering.{trial_count, nth_trial}
 use Rattle.dg_rank.proofs.Numbering.{counted_before, limits_count, limits_trial}
 use Rattle.dg_rank.proofs.counting.trial.Goals as goal
 
-pub trial_as_divisor-requires : goal.trial_as_divisor-requires
-trial_as_divisor-requires c =
+pub to_divisor-requires : goal.to_divisor-requires
+to_divisor-requires c =
     let (count, limits, small) = c.requires in
-    rw c.trial_with_number.ensures (omega (
+    rw c.nth.ensures (omega (
       arith,
       (limits_trial c.args.n c.args.k count c.args.i limits small).amount,
       limits.small,
@@ -19,13 +19,13 @@ returns c =
     let trial : IsTrial c.args.n c.args.k (nth_trial c.args.n c.args.k c.args.i) =
     limits_trial c.args.n c.args.k count c.args.i limits small in
     let held : HoldsTrial (length (nth_trial c.args.n c.args.k c.args.i))
-    (nth_trial c.args.n c.args.k c.args.i) c.trial_as_divisor.result =
-    subst (λ (E : List ℕ). HoldsTrial (length E) E c.trial_as_divisor.result) c.trial_with_number.ensures
-    c.trial_as_divisor.ensures in
+    (nth_trial c.args.n c.args.k c.args.i) c.to_divisor.result =
+    subst (λ (E : List ℕ). HoldsTrial (length E) E c.to_divisor.result) c.nth.ensures
+    c.to_divisor.ensures in
     record {
       amounts = nth_trial c.args.n c.args.k c.args.i;
       trial = trial;
-      held = subst (λ (m : ℕ). HoldsTrial m (nth_trial c.args.n c.args.k c.args.i) c.trial_as_divisor.result) trial.places
+      held = subst (λ (m : ℕ). HoldsTrial m (nth_trial c.args.n c.args.k c.args.i) c.to_divisor.result) trial.places
           held;
       before = counted_before c.args.n c.args.k c.args.i (omega arith);
     }

@@ -13,7 +13,7 @@ returns-then-count-gt-MAX_TRIALS c =
 
 pub returns : goal.returns
 returns c =
-    let same : trial_count c.args.n c.args.k ≡ c.count-count.result = omega arith in
+    let same : trial_count c.args.n c.args.k ≡ c.capped_trial_count-count.result = omega arith in
     record {
       some = omega arith;
       few = omega arith;

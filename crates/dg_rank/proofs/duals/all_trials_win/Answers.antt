@@ -3,26 +3,26 @@ use Rattle.dg_rank.proofs.FirstFrom.{at_last}
 use Rattle.dg_rank.proofs.FixedBeginnings.{all_told, lost_at_last}
 use Rattle.dg_rank.proofs.Starts.{trial_from}
 use Rattle.dg_rank.proofs.duals.all_trials_win.Goals as goal
-use Rattle.dg_rank.proofs.duals.all_trials_win.Goals.{After-trial_at_last-first}
+use Rattle.dg_rank.proofs.duals.all_trials_win.Goals.{After-all_at_last-first}
 
-first : (c : After-trial_at_last-first) → IsTrial c.args.graph.now.size c.args.k c.trial_at_last-first.result
+first : (c : After-all_at_last-first) → IsTrial c.args.graph.now.size c.args.k c.all_at_last-first.result
 first c =
-    trial_from c.args.graph.now.size c.args.k 0 c.trial_at_last-first.result
-    (c.trial_at_last-first.ensures.places ∙ c.size.ensures.size)
-    (at_last c.args.graph.now.size c.args.k 0 c.trial_at_last-first.result c.requires.some
-    (rw c.size.ensures.size at c.trial_at_last-first.ensures.held)
-    (rw c.size.ensures.size at c.trial_at_last-first.ensures.empty))
+    trial_from c.args.graph.now.size c.args.k 0 c.all_at_last-first.result
+    (c.all_at_last-first.ensures.places ∙ c.size.ensures.size)
+    (at_last c.args.graph.now.size c.args.k 0 c.all_at_last-first.result c.requires.some
+    (rw c.size.ensures.size at c.all_at_last-first.ensures.held)
+    (rw c.size.ensures.size at c.all_at_last-first.ensures.empty))
 
 pub effective_with-requires-clause-few : goal.effective_with-requires-clause-few
 effective_with-requires-clause-few c =
-    omega (arith, (first (goal.at.effective_with-requires-clause-few c).After-trial_at_last-first).amount, c.requires.few)
+    omega (arith, (first (goal.at.effective_with-requires-clause-few c).After-all_at_last-first).amount, c.requires.few)
 
 pub returns-in-Some-clause-told : goal.returns-in-Some-clause-told
 returns-in-Some-clause-told c =
-    all_told c.is_none.result c.find_from.result c.args.graph.now (at c.args.amounts.now) (at c.in-Some.left) c.args.k
-    c.requires.some c.in-Some.ensures.form.led c.is_none.ensures c.find_from.ensures.told
+    all_told c.is_none.result c.find_loss_from.result c.args.graph.now (at c.args.amounts.now) (at c.in-Some.left) c.args.k
+    c.requires.some c.in-Some.ensures.form.led c.is_none.ensures c.find_loss_from.ensures.told
 
 pub returns-in-None-clause-told : goal.returns-in-None-clause-told
 returns-in-None-clause-told c =
-    lost_at_last c.args.graph.now (at c.args.amounts.now) c.args.k c.trial_at_last-first.result
-    (first (goal.at.returns-in-None-clause-told c).After-trial_at_last-first) c.in-None.ensures
+    lost_at_last c.args.graph.now (at c.args.amounts.now) c.args.k c.all_at_last-first.result
+    (first (goal.at.returns-in-None-clause-told c).After-all_at_last-first) c.in-None.ensures

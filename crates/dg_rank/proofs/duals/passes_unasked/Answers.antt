@@ -3,44 +3,44 @@ use Rattle.dg_rank.proofs.DualTests.{decided, dual_passes, fails_past_half}
 use Rattle.dg_rank.proofs.SmallDegrees.{genus_small}
 use Rattle.dg_rank.proofs.TestDegrees.{lesser_few}
 use Rattle.dg_rank.proofs.duals.passes_unasked.Goals as goal
-use Rattle.dg_rank.proofs.duals.passes_unasked.Goals.{After-rank_degree_of_dual-other}
+use Rattle.dg_rank.proofs.duals.passes_unasked.Goals.{After-dual_test_degree-other}
 
 pub returns-then-rest-from-clause-tells : goal.returns-then-rest-from-clause-tells
 returns-then-rest-from-clause-tells c =
     let g = c.args.graph.now in
-    let rest : c.degree_left-rest.result ≡ degree g.size (at c.args.divisor.now) -ℤ pos c.args.k =
-    rw c.requires.size at c.degree_left-rest.ensures in
+    let rest : c.remaining_degree-rest.result ≡ degree g.size (at c.args.divisor.now) -ℤ pos c.args.k =
+    rw c.requires.size at c.remaining_degree-rest.ensures in
     rich_rank g (at c.args.divisor.now) c.args.k c.size-size.ensures.graph.multigraph (omega arith) (omega (arith, ints))
 
 pub returns-then-rest-from-2-clause-tells : goal.returns-then-rest-from-2-clause-tells
 returns-then-rest-from-2-clause-tells c =
     let g = c.args.graph.now in
-    let rest : c.degree_left-rest.result ≡ degree g.size (at c.args.divisor.now) -ℤ pos c.args.k =
-    rw c.requires.size at c.degree_left-rest.ensures in
+    let rest : c.remaining_degree-rest.result ≡ degree g.size (at c.args.divisor.now) -ℤ pos c.args.k =
+    rw c.requires.size at c.remaining_degree-rest.ensures in
     fails_past_half g (at c.args.divisor.now) c.args.k c.size-size.ensures.graph.multigraph c.requires.some
     (omega (arith, ints)) (omega (arith, ints))
 
-few : (c : After-rank_degree_of_dual-other) → (c.args.k ≤ c.rank_degree_of_dual-other.result → c.args.k ≤ 1000) ×
-    (c.rank_degree_of_dual-other.result < c.args.k → c.rank_degree_of_dual-other.result ≤ 1000)
+few : (c : After-dual_test_degree-other) → (c.args.k ≤ c.dual_test_degree-other.result → c.args.k ≤ 1000) ×
+    (c.dual_test_degree-other.result < c.args.k → c.dual_test_degree-other.result ≤ 1000)
 few c =
     let g = c.args.graph.now in
-    let rest : c.degree_left-rest.result ≡ degree g.size (at c.args.divisor.now) -ℤ pos c.args.k =
-    rw c.requires.size at c.degree_left-rest.ensures in
-    lesser_few (degree g.size (at c.args.divisor.now)) (genus g) c.args.k c.rank_degree_of_dual-other.result
-    (genus_small g c.size-size.ensures.graph) (omega (arith, ints, rest)) c.rank_degree_of_dual-other.ensures
+    let rest : c.remaining_degree-rest.result ≡ degree g.size (at c.args.divisor.now) -ℤ pos c.args.k =
+    rw c.requires.size at c.remaining_degree-rest.ensures in
+    lesser_few (degree g.size (at c.args.divisor.now)) (genus g) c.args.k c.dual_test_degree-other.result
+    (genus_small g c.size-size.ensures.graph) (omega (arith, ints, rest)) c.dual_test_degree-other.ensures
 
 pub all_trials_win-requires-clause-few : goal.all_trials_win-requires-clause-few
 all_trials_win-requires-clause-few c =
-    (few (goal.at.all_trials_win-requires-clause-few c).After-rank_degree_of_dual-other).1 (omega (arith, c.if-k-other.false))
+    (few (goal.at.all_trials_win-requires-clause-few c).After-dual_test_degree-other).1 (omega (arith, c.if-k-other.false))
 
 pub returns-then-k-other-clause-tells : goal.returns-then-k-other-clause-tells
 returns-then-k-other-clause-tells c =
-    (few (goal.at.returns-then-k-other-clause-tells c).After-rank_degree_of_dual-other).0 (omega (arith, c.if-k-other.true))
+    (few (goal.at.returns-then-k-other-clause-tells c).After-dual_test_degree-other).0 (omega (arith, c.if-k-other.true))
 
 pub returns-clause-tells : goal.returns-clause-tells
 returns-clause-tells c =
     let g = c.args.graph.now in
     decided c.all_trials_win.result
-    (dual_passes g (at c.args.divisor.now) (at c.dual_for_rank.result) c.args.k c.rank_degree_of_dual-other.result
-    c.size-size.ensures.graph.multigraph (omega arith) c.rank_degree_of_dual-other.ensures c.dual_for_rank.ensures.amounts)
+    (dual_passes g (at c.args.divisor.now) (at c.dual_amounts.result) c.args.k c.dual_test_degree-other.result
+    c.size-size.ensures.graph.multigraph (omega arith) c.dual_test_degree-other.ensures c.dual_amounts.ensures.amounts)
     c.all_trials_win.ensures.told

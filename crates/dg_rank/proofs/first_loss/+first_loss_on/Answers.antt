@@ -31,11 +31,11 @@ returns-then-get-dollars-clause-first t c =
     told_on c.args.graph.now (at c.args.left.now) c.args.dollars c.args.place c.args.start c.find_first_from.result
     (λ F from. on_all n c.args.dollars c.args.place c.args.start F held c.requires.start from) c.find_first_from.ensures.first
 
-pub left_in_box_after-requires-clause-taken : goal.left_in_box_after-requires-clause-taken
-left_in_box_after-requires-clause-taken t c =
+pub after_loss-requires-clause-taken : goal.after_loss-requires-clause-taken
+after_loss-requires-clause-taken t c =
     omega (
       arith,
-      few (goal.at.left_in_box_after-requires-clause-taken t c).After-get-held,
+      few (goal.at.after_loss-requires-clause-taken t c).After-get-held,
       c.get-held.ensures,
       c.requires.few,
     )

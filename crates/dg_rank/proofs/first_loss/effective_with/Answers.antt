@@ -1,35 +1,35 @@
-use Rattle.dg_rank.proofs.Common.{◌≡◌, ◌≢◌, ℕ, ◌<◌, ◌≤◌, arith, ◌∙◌, ⊎_elim, cases_eq, only_at-here, only_at-other, ◌≤ℤ◌, unsigned_abs, pos, ints, within_abs, DivisorsAgreeOn, AreEquivalent, less, equivalent-refl, equivalent-trans, effective_from, reduced_decides, sum_below-at_most, at, IsEffectiveDivisor, amounts_of_trial}
+use Rattle.dg_rank.proofs.Common.{◌≡◌, ◌≢◌, ℕ, ◌<◌, ◌≤◌, arith, ◌∙◌, ⊎_elim, cases_eq, only_at-here, only_at-other, ◌≤ℤ◌, unsigned_abs, pos, ints, within_abs, DivisorsAgreeOn, AreEquivalent, minus, equivalent-refl, equivalent-trans, effective_from, reduced_decides, sum_below-at_most, at, IsInLinearSystem, amounts_of_trial}
 use Rattle.std.proofs.Math.IntN.{◌+ℤ◌}
 use Rattle.dg_rank.proofs.Elsewhere.{form_degree, left_degree, left_small, rich_small}
 use Rattle.dg_rank.proofs.first_loss.effective_with.Goals as goal
-use Rattle.dg_rank.proofs.first_loss.effective_with.Goals.{After-less, After-reduce_certified-reduced}
+use Rattle.dg_rank.proofs.first_loss.effective_with.Goals.{After-minus, After-reduce_certified-reduced}
 
 -- the amounts without the trial's
-left : (c : After-less) →
-    DivisorsAgreeOn c.args.graph.now.size (less (at c.args.chips.now) (amounts_of_trial c.args.trial.now)) (at c.less.result)
+left : (c : After-minus) →
+    DivisorsAgreeOn c.args.graph.now.size (minus (at c.args.chips.now) (amounts_of_trial c.args.trial.now)) (at c.minus.result)
 left c v inside =
     omega (
       arith,
       ints,
-      c.less.ensures.amounts v (omega arith),
-      c.trial_as_divisor-lost.ensures.amounts v (omega (arith, c.requires.places)),
+      c.minus.ensures.amounts v (omega arith),
+      c.to_divisor-lost.ensures.amounts v (omega (arith, c.requires.places)),
     )
 
 -- they are fired to the reduced ones
 led : (c : After-reduce_certified-reduced) →
-    DivisorsAgreeOn c.args.graph.now.size (less (at c.args.chips.now) (amounts_of_trial c.args.trial.now)) (at c.less.result) →
-    AreEquivalent c.args.graph.now (less (at c.args.chips.now) (amounts_of_trial c.args.trial.now))
+    DivisorsAgreeOn c.args.graph.now.size (minus (at c.args.chips.now) (amounts_of_trial c.args.trial.now)) (at c.minus.result) →
+    AreEquivalent c.args.graph.now (minus (at c.args.chips.now) (amounts_of_trial c.args.trial.now))
     (at c.reduce_certified-reduced.result.reduced.divisor)
-led c same = equivalent-trans c.args.graph.now _ (at c.less.result) _
-    (equivalent-refl c.args.graph.now _ (at c.less.result) same)
+led c same = equivalent-trans c.args.graph.now _ (at c.minus.result) _
+    (equivalent-refl c.args.graph.now _ (at c.minus.result) same)
     (at c.reduce_certified-reduced.result.reduced.script, c.reduce_certified-reduced.ensures.reduction.led)
 
 -- so the reduced ones, where q owes nothing, are a form of them
 form : (c : After-reduce_certified-reduced) →
-    DivisorsAgreeOn c.args.graph.now.size (less (at c.args.chips.now) (amounts_of_trial c.args.trial.now)) (at c.less.result) →
+    DivisorsAgreeOn c.args.graph.now.size (minus (at c.args.chips.now) (amounts_of_trial c.args.trial.now)) (at c.minus.result) →
     pos 0 ≤ℤ at c.reduce_certified-reduced.result.reduced.divisor 0 →
-    IsEffectiveDivisor c.args.graph.now
-    (less (at c.args.chips.now) (amounts_of_trial c.args.trial.now)) c.reduce_certified-reduced.result.reduced.divisor
+    IsInLinearSystem c.args.graph.now
+    (minus (at c.args.chips.now) (amounts_of_trial c.args.trial.now)) c.reduce_certified-reduced.result.reduced.divisor
 form c same paid = record {
   size = c.reduce_certified-reduced.ensures.reduction.sizes.0;
   effective = effective_from c.args.graph.now 0
@@ -39,26 +39,26 @@ form c same paid = record {
 
 pub reduce_certified-reduced-requires-clause-range : goal.reduce_certified-reduced-requires-clause-range
 reduce_certified-reduced-requires-clause-range c v inside =
-    left_small c.args.trial.now (at c.args.chips.now) (at c.less.result) v c.requires.few
+    left_small c.args.trial.now (at c.args.chips.now) (at c.minus.result) v c.requires.few
     (omega (arith, c.requires.places)) (c.requires.range v inside)
-    (omega (arith, ints, left (goal.at.reduce_certified-reduced-requires-clause-range c).After-less v inside))
+    (omega (arith, ints, left (goal.at.reduce_certified-reduced-requires-clause-range c).After-minus v inside))
 
 pub returns-then-get-lt0 : goal.returns-then-get-lt0
 returns-then-get-lt0 c = λ win.
     let paid : pos 0 ≤ℤ at c.reduce_certified-reduced.result.reduced.divisor 0 =
-    (reduced_decides c.args.graph.now 0 (less (at c.args.chips.now) (amounts_of_trial c.args.trial.now))
+    (reduced_decides c.args.graph.now 0 (minus (at c.args.chips.now) (amounts_of_trial c.args.trial.now))
     (at c.reduce_certified-reduced.result.reduced.divisor)
     (omega (arith, c.requires.graph.some))
-    (led (goal.at.returns-then-get-lt0 c).After-reduce_certified-reduced (left (goal.at.returns-then-get-lt0 c).After-less))
+    (led (goal.at.returns-then-get-lt0 c).After-reduce_certified-reduced (left (goal.at.returns-then-get-lt0 c).After-minus))
     c.reduce_certified-reduced.ensures.reduction.reduced).0 win in
     absurd (omega (arith, ints))
 
 pub of-left-requires : goal.of-left-requires
 of-left-requires c = record {
   range = λ v inside.
-      let rich : IsEffectiveDivisor c.args.graph.now
-      (less (at c.args.chips.now) (amounts_of_trial c.args.trial.now)) c.reduce_certified-reduced.result.reduced.divisor =
-      form (goal.at.of-left-requires c).After-reduce_certified-reduced (left (goal.at.of-left-requires c).After-less)
+      let rich : IsInLinearSystem c.args.graph.now
+      (minus (at c.args.chips.now) (amounts_of_trial c.args.trial.now)) c.reduce_certified-reduced.result.reduced.divisor =
+      form (goal.at.of-left-requires c).After-reduce_certified-reduced (left (goal.at.of-left-requires c).After-minus)
       (omega (arith, ints)) in
       let small : unsigned_abs (at c.reduce_certified-reduced.result.reduced.divisor v) ≤ 31984000 =
       rich_small c.args.graph.now.size (at c.reduce_certified-reduced.result.reduced.divisor) 31984000 v rich.effective
@@ -73,7 +73,7 @@ give-requires-clause-range c =
     let g = c.args.graph.now in
     let x = c.reduce_certified-reduced.result.reduced.divisor in
     let d = goal.at.give-requires-clause-range c in
-    let rich = form d.After-reduce_certified-reduced (left d.After-less) (omega (arith, ints)) in
+    let rich = form d.After-reduce_certified-reduced (left d.After-minus) (omega (arith, ints)) in
     let inside : c.loop-v.v < g.size = omega (arith, c.loop-v-test.true, c.size-size.ensures.size) in
     let small : unsigned_abs (at x c.loop-v.v) ≤ 31984000 =
     rich_small g.size (at x) 31984000 c.loop-v.v rich.effective
@@ -88,7 +88,7 @@ returns c =
     let g = c.args.graph.now in
     let D = at c.args.chips.now in
     let d = goal.at.returns c in
-    let rich = form d.After-reduce_certified-reduced (left d.After-less) (omega (arith, ints)) in
+    let rich = form d.After-reduce_certified-reduced (left d.After-minus) (omega (arith, ints)) in
     let (s, leads) = rich.led in
     let given : (v : ℕ) → v < g.size →
     at c.loop-v.left v ≡ at c.reduce_certified-reduced.result.reduced.divisor v +ℤ amounts_of_trial c.args.trial.now v =
@@ -98,7 +98,7 @@ returns c =
       c.loop-v.invariant.before v (omega (arith, c.loop-v-test.false, c.loop-v.auto.v-end, c.size-size.ensures.size)),
       c.of-left.ensures.amounts v (omega (arith, c.reduce_certified-reduced.ensures.reduction.sizes.0)),
     ) in
-    let back : IsEffectiveDivisor g D c.loop-v.left = record {
+    let back : IsInLinearSystem g D c.loop-v.left = record {
       size = c.loop-v.invariant.size;
       effective = λ v below. omega (arith, ints, rich.effective v below, given v below);
       led = (s, λ v below. omega (arith, ints, leads v below, given v below));

@@ -1,4 +1,4 @@
-use Rattle.dg_rank.proofs.Common.{◌-◌, arith, refl, ◌∙◌, ints, pos, at, only_at, less, equivalent-refl, win_more, amounts_of_trial}
+use Rattle.dg_rank.proofs.Common.{◌-◌, arith, refl, ◌∙◌, ints, pos, at, only_at, minus, equivalent-refl, win_more, amounts_of_trial}
 use Rattle.dg_rank.proofs.FirstFrom.{first_above, first_at_last, from_few, held_few, some_less, wins_other}
 use Rattle.dg_rank.proofs.LossBoxes.{taken_small}
 use Rattle.dg_rank.proofs.first_loss.first_loss_above.Goals as goal
@@ -10,14 +10,14 @@ returns-then-least-dollars-clause-first c F from held = absurd (omega
 pub returns-in_default-clause-first : goal.returns-in_default-clause-first
 returns-in_default-clause-first c =
     let g = c.args.graph.now in
-    let B = less (at c.args.left.now) (only_at c.args.place (pos c.args.least)) in
-    let T = c.trial_at_last.result in
+    let B = minus (at c.args.left.now) (only_at c.args.place (pos c.args.least)) in
+    let T = c.all_at_last.result in
     first_above g (at c.args.left.now) B c.args.dollars c.args.place c.args.least T c.with_more.result c.requires.place
     (omega (arith, c.if-least-dollars.false)) (equivalent-refl g B B (λ v _. refl))
     (first_at_last g B (c.args.dollars - c.args.least) c.args.place T c.requires.place
-    (c.trial_at_last.ensures.places ∙ c.size-size.ensures.size) (rw c.size-size.ensures.size at c.trial_at_last.ensures.held)
-    (rw c.size-size.ensures.size at c.trial_at_last.ensures.empty)
-    (λ win. c.in_default.ensures (win_more g (less B (amounts_of_trial T)) B (λ v below. omega (arith, ints)) win)))
+    (c.all_at_last.ensures.places ∙ c.size-size.ensures.size) (rw c.size-size.ensures.size at c.all_at_last.ensures.held)
+    (rw c.size-size.ensures.size at c.all_at_last.ensures.empty)
+    (λ win. c.in_default.ensures (win_more g (minus B (amounts_of_trial T)) B (λ v below. omega (arith, ints)) win)))
     c.with_more.ensures
 
 pub find_first_from-requires-clause-small : goal.find_first_from-requires-clause-small

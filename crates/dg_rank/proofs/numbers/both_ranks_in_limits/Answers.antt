@@ -1,14 +1,14 @@
-use Rattle.dg_rank.proofs.Common.{arith, inl, inr, ints, refl, less, canonical, not_rich, at}
+use Rattle.dg_rank.proofs.Common.{arith, inl, inr, ints, refl, minus, canonical, not_rich, at}
 use Rattle.dg_rank.proofs.RankByTests.{fails_low, rank_before, rank_of_dual_before, in_limits, needs_too_many}
 use Rattle.dg_rank.proofs.numbers.both_ranks_in_limits.Goals as goal
 
-pub rank_degree_of_dual-dual_fails-requires-clause-low : goal.rank_degree_of_dual-dual_fails-requires-clause-low
-rank_degree_of_dual-dual_fails-requires-clause-low c =
+pub dual_test_degree-dual_fails-requires-clause-low : goal.dual_test_degree-dual_fails-requires-clause-low
+dual_test_degree-dual_fails-requires-clause-low c =
     fails_low c.args.graph.now (at c.args.divisor.now) c.in_ok-fails.fails c.size-size.ensures.graph.multigraph
     (omega arith) c.in_ok-fails.ensures.0
 
-pub rank_degree_of_dual-dual_fails-requires-clause-poor : goal.rank_degree_of_dual-dual_fails-requires-clause-poor
-rank_degree_of_dual-dual_fails-requires-clause-poor c =
+pub dual_test_degree-dual_fails-requires-clause-poor : goal.dual_test_degree-dual_fails-requires-clause-poor
+dual_test_degree-dual_fails-requires-clause-poor c =
     not_rich c.args.graph.now (at c.args.divisor.now) c.in_ok-fails.fails c.size-size.ensures.graph.multigraph
     (omega arith) c.in_ok-fails.ensures.0.fails
 
@@ -21,10 +21,10 @@ returns-in_err-trials c =
     let g = c.args.graph.now in
     let D = at c.args.divisor.now in
     rw c.from_residual-in_err-trials.ensures
-    (inr (needs_too_many g (less (canonical g) D) c.rank_degree_of_dual-dual_fails.result
-    (rank_of_dual_before g D c.in_ok-fails.fails c.rank_degree_of_dual-dual_fails.result
+    (inr (needs_too_many g (minus (canonical g) D) c.dual_test_degree-dual_fails.result
+    (rank_of_dual_before g D c.in_ok-fails.fails c.dual_test_degree-dual_fails.result
     c.size-size.ensures.graph.multigraph
-    (omega arith) c.in_ok-fails.ensures.0 c.rank_degree_of_dual-dual_fails.ensures)
+    (omega arith) c.in_ok-fails.ensures.0 c.dual_test_degree-dual_fails.ensures)
     (rw c.size-size.ensures.size at c.in_err-trials.ensures)))
 
 pub returns : goal.returns
@@ -33,10 +33,10 @@ returns c =
     let D = at c.args.divisor.now in (
       in_limits g D c.in_ok-fails.fails _ (rank_before g D c.in_ok-fails.fails c.in_ok-fails.ensures.0)
           (omega (arith, ints, c.from.ensures)) (c.in_ok-fails.ensures.1 refl),
-      in_limits g (less (canonical g) D) c.rank_degree_of_dual-dual_fails.result _
-          (rank_of_dual_before g D c.in_ok-fails.fails c.rank_degree_of_dual-dual_fails.result
+      in_limits g (minus (canonical g) D) c.dual_test_degree-dual_fails.result _
+          (rank_of_dual_before g D c.in_ok-fails.fails c.dual_test_degree-dual_fails.result
           c.size-size.ensures.graph.multigraph
-          (omega arith) c.in_ok-fails.ensures.0 c.rank_degree_of_dual-dual_fails.ensures)
+          (omega arith) c.in_ok-fails.ensures.0 c.dual_test_degree-dual_fails.ensures)
           (omega (arith, ints, c.from-2.ensures))
           (c.in_ok-trials.field-0, rw c.size-size.ensures.size at c.in_ok-trials.ensures),
     )

@@ -1,10 +1,10 @@
-use Rattle.dg_session.proofs.Common.{refl, inr, IsRankTestWithinLimits, RankQuestion}
+use Rattle.dg_session.proofs.Common.{refl, inr, IsTestable, RankQuestion}
 use Rattle.dg_session.proofs.Made.{stale_made, rank_within, entered, call_refused, obeys_after, at_look}
 use Rattle.dg_session.proofs.answering.enter_rank.Goals as goal
 
 pub returns-in-Ok-Some : goal.returns-in-Ok-Some
 returns-in-Ok-Some g c =
-    let within : IsRankTestWithinLimits c.in-Some.look.shown.graph.size c.args.k =
+    let within : IsTestable c.in-Some.look.shown.graph.size c.args.k =
     (_, rw (c.size.ensures.size, c.graph.ensures) at c.in-Some-trials.ensures) in
     at_look c.in-Some.is
     (entered c.args.shared.now.named (stale_made (RankQuestion c.args.k)
@@ -13,7 +13,7 @@ returns-in-Ok-Some g c =
 
 pub returns-in-Err : goal.returns-in-Err
 returns-in-Err g c =
-    let within : IsRankTestWithinLimits c.in-Some.look.shown.graph.size c.args.k =
+    let within : IsTestable c.in-Some.look.shown.graph.size c.args.k =
     (_, rw (c.size.ensures.size, c.graph.ensures) at c.in-Some-trials.ensures) in
     at_look c.in-Some.is
     (call_refused (rank_within c.receipt-receipt.ensures.taken within) c.in-Err.ensures.fault.0

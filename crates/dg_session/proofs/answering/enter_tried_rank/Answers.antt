@@ -1,4 +1,4 @@
-use Rattle.dg_session.proofs.Common.{◌∙◌, ap, sym, refl, subst, inl, inr, Some, IsRankTestFault, TakenLookView, look_of}
+use Rattle.dg_session.proofs.Common.{◌∙◌, ap, sym, refl, subst, inl, inr, Some, IsRankFault, LookView, look_of}
 use Rattle.dg_session.proofs.Made.{rank_made, rank_within, rank_past, gains_same, entered, unlooked, call_refused, at_look}
 use Rattle.dg_session.proofs.answering.enter_tried_rank.Goals as goal
 
@@ -25,11 +25,11 @@ pub returns-in-Err-default-TooMany : goal.returns-in-Err-default-TooMany
 returns-in-Err-default-TooMany g c =
     let (same, prefix) = c.in-Err-default-TooMany.ensures.tried in
     let past = rank_past c.receipt-receipt.ensures.taken
-    (subst (IsRankTestFault c.in-Some.look.shown.graph.size c.args.k c.args.shared.now.workers)
+    (subst (IsRankFault c.in-Some.look.shown.graph.size c.args.k c.args.shared.now.workers)
     c.in-Err-default-TooMany.field-0-1-is prefix) in
     at_look (sym c.take.ensures.value ∙ c.in-Some.is)
     (record {
-      does = inl (past, (refl, ap (λ (l : TakenLookView). Some l.receipt.0) same, refl));
+      does = inl (past, (refl, ap (λ (l : LookView). Some l.receipt.0) same, refl));
       gained = gains_same c.args.seat.now;
       named = tt;
     })
@@ -38,7 +38,7 @@ pub returns-in-Err-default-Spawn : goal.returns-in-Err-default-Spawn
 returns-in-Err-default-Spawn g c =
     let (same, spawn) = c.in-Err-default-Spawn.ensures.tried in
     let within = rank_within c.receipt-receipt.ensures.taken
-    (subst (IsRankTestFault c.in-Some.look.shown.graph.size c.args.k c.args.shared.now.workers)
+    (subst (IsRankFault c.in-Some.look.shown.graph.size c.args.k c.args.shared.now.workers)
     c.in-Err-default-Spawn.field-0-1-is spawn).0 in
     at_look (sym c.take.ensures.value ∙ c.in-Some.is)
     (record {

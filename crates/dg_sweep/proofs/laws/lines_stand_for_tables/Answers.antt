@@ -1,14 +1,14 @@
 -- The table with other amounts has the same names, graph and q.
-use Rattle.dg_sweep.proofs.Common.{◌≡◌, ℕ, ℤ, List, length, sym, ap, ◌∙◌, subst, StartData, IsFirstChipFault, ChipFault, Content, IsTableInFile, RefusesTableContent, Chip, SpellsSweptAmounts, HasSweptAmounts, RefusesSweptAmounts, with_swept_amounts}
+use Rattle.dg_sweep.proofs.Common.{◌≡◌, ℕ, ℤ, List, length, sym, ap, ◌∙◌, subst, StartData, IsChipFault, ChipFault, Content, ContentDescribes, IsContentFault, Chip, SpellsAmounts, LineStandsFor, IsAmountsFault, with_amounts}
 use Rattle.dg_sweep.proofs.laws.lines_stand_for_tables.Goals as goal
 
-stands : (content : Content) (o p : StartData) (names : List (List ℕ)) (line : List ℕ) → IsTableInFile content o names
-    → HasSweptAmounts o line p → (xs : List ℤ) × SpellsSweptAmounts line xs
-    × IsTableInFile (with_swept_amounts content xs) p names
+stands : (content : Content) (o p : StartData) (names : List (List ℕ)) (line : List ℕ) → ContentDescribes content o names
+    → LineStandsFor o line p → (xs : List ℤ) × SpellsAmounts line xs
+    × ContentDescribes (with_amounts content xs) p names
 stands content o p names line table has = (
   has.xs,
   has.spelled,
-  subst (λ x. IsTableInFile (with_swept_amounts content has.xs) x names) (sym has.rest) (record {
+  subst (λ x. ContentDescribes (with_amounts content has.xs) x names) (sym has.rest) (record {
     given = table.given;
     are_names = table.are_names;
     graph = table.graph;
@@ -20,8 +20,8 @@ stands content o p names line table has = (
 )
 
 refused : (content : Content) (o : StartData) (names : List (List ℕ)) (line : List ℕ) (fault : ChipFault)
-    → IsTableInFile content o names → RefusesSweptAmounts o.graph.size line (Chip fault)
-    → (xs : List ℤ) × SpellsSweptAmounts line xs × RefusesTableContent (with_swept_amounts content xs) (Chip fault)
+    → ContentDescribes content o names → IsAmountsFault o.graph.size line (Chip fault)
+    → (xs : List ℤ) × SpellsAmounts line xs × IsContentFault (with_amounts content xs) (Chip fault)
 refused content o names line fault table (xs, spelled, first) =
     let size : o.graph.size ≡ length content.vertices = table.graph.size ∙ ap length table.given in (
       xs,
@@ -31,10 +31,10 @@ refused content o names line fault table (xs, spelled, first) =
           names = subst (λ ns. Rattle.dg_tokens.specs.Names.AreNames ns) table.given table.are_names;
           graph = o.graph;
           given = subst
-              (λ n. Rattle.dg_graph.specs.Items.IsGiven n (Rattle.dg_file.specs.TableFiles.items_of_file_content content) o.graph)
+              (λ n. Rattle.dg_graph.specs.Items.IsGraphOf n (Rattle.dg_file.specs.TableFiles.edge_items content) o.graph)
               (ap length table.given) table.graph;
         },
-        subst (λ n. IsFirstChipFault n xs fault) size first,
+        subst (λ n. IsChipFault n xs fault) size first,
       ),
     )
 

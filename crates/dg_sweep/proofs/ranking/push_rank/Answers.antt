@@ -9,21 +9,21 @@ returns-in-Ok c =
       right = told.1;
       named = inl told.0;
       printed = printed;
-    })) c.push_swept_test.ensures
+    })) c.push_rank_test.ensures
 
-pub returns-then-has_rank : goal.returns-then-has_rank
-returns-then-has_rank c =
+pub returns-then-has_rank_at_least : goal.returns-then-has_rank_at_least
+returns-then-has_rank_at_least c =
     on_ok_weaker _ (λ printed. inl (record {
       verdict = AtLeast c.args.k;
-      right = (refl, c.if-has_rank.ensures);
+      right = (refl, c.if-has_rank_at_least.ensures);
       named = inr refl;
       printed = printed;
-    })) c.push_swept_test-then-has_rank.ensures
+    })) c.push_rank_test-then-has_rank_at_least.ensures
 
 pub returns : goal.returns
 returns c =
     on_ok_weaker _ (λ printed. inr (record {
       past = c.in_default.ensures.1;
-      below = c.if-has_rank.ensures;
+      below = c.if-has_rank_at_least.ensures;
       printed = printed;
-    })) (rw (c.len.ensures.len, c.requires.names) at c.push_swept_below.ensures)
+    })) (rw (c.len.ensures.len, c.requires.names) at c.push_below.ensures)

@@ -16,14 +16,14 @@ returns-in_default-clause-swept g c =
 pub returns-then-size-eq0-clause-swept : goal.returns-then-size-eq0-clause-swept
 returns-then-size-eq0-clause-swept g c =
     let room : 0 < length c.reads.buffer.items = omega (arith, c.reads.invariant.1) in
-    sweep_over c.reads.invariant.0 c.sweep_end.result
+    sweep_over c.reads.invariant.0 c.finish.result
     (read_nothing _ _ _ _ c.if-size-eq0.true c.in-Some.ensures.bytes)
-    (c.in-Some.ensures.end c.if-size-eq0.true room) c.sweep_end.ensures.passed
+    (c.in-Some.ensures.end c.if-size-eq0.true room) c.finish.ensures.passed
 
 pub reads-preserved : goal.reads-preserved
 reads-preserved g c = (
   swept_more c.reads.invariant.0 (take c.in-Some.size c.deref.result.now)
-      c.sweep_bytes.new.self.pending.items
+      c.feed.new.self.pending.items
       (read_chunk _ _ _ _ _ c.deref.ensures.value c.in-Some.ensures.bytes) c.in-Ok.ensures.passed,
   c.in-Some.ensures.size ∙ c.reads.invariant.1,
 )
@@ -35,7 +35,7 @@ returns-in-Err-clause-swept g c =
     let size = chunk_size c.in-Some.size c.deref.result.now c.read_some.new.buffer.items c.deref.ensures.value
     c.in-Some.ensures.bound in
     sweep_halts c.reads.invariant.0 (take c.in-Some.size c.deref.result.now)
-    c.sweep_bytes.new.self.pending.items c.in-Err.end
+    c.feed.new.self.pending.items c.in-Err.end
     (read_chunk _ _ _ _ _ c.deref.ensures.value c.in-Some.ensures.bytes)
     (omega (arith, size, c.in-Some.ensures.bound, room)) c.in-Err.ensures.passed
 

@@ -1,4 +1,4 @@
-use Rattle.dg_tasks.proofs.Common.{◌≡◌, arith, rules, w64, to_z, of_z, FitsSigned, ints, to_z-of_z, less, canonical, riemann_roch, at, IsInRange, IsRankInLimits, RefusesBothRanks, riemann_roch_text, IsRiemannRochTask}
+use Rattle.dg_tasks.proofs.Common.{◌≡◌, arith, rules, w64, to_z, of_z, FitsSigned, ints, to_z-of_z, minus, canonical, riemann_roch, at, IsInRange, IsTestedRank, RefusesBothRanks, riemann_roch_text, IsRiemannRochAnswer}
 use Rattle.dg_tasks.proofs.ranks.riemann_roch_answer.Goals as goal
 
 pub returns-in_default-both_ranks_in_limits-clause-refused : goal.returns-in_default-both_ranks_in_limits-clause-refused
@@ -15,9 +15,9 @@ returns-clause-told c =
     let o = c.start-start.result.now in
     let start = c.graph-graph.ensures.start in
     let (rank, dual_rank) = c.in-Some.ensures in
-    let of_divisor : IsRankInLimits o.graph (at o.divisor) c.in-Some.rank =
+    let of_divisor : IsTestedRank o.graph (at o.divisor) c.in-Some.rank =
     rw (← c.graph-graph.ensures.graph, ← c.divisor-divisor.ensures) rank in
-    let of_dual : IsRankInLimits o.graph (less (canonical o.graph) (at o.divisor)) c.in-Some.dual_rank =
+    let of_dual : IsTestedRank o.graph (minus (canonical o.graph) (at o.divisor)) c.in-Some.dual_rank =
     rw (← c.graph-graph.ensures.graph, ← c.divisor-divisor.ensures) dual_rank in
     let fits : FitsSigned w64 c.in-Some.rank = search rules in
     let dual_fits : FitsSigned w64 c.in-Some.dual_rank = search rules in
@@ -26,9 +26,9 @@ returns-clause-told c =
     c.in_ok-push_riemann_roch.ensures in
     let (size, is_dual, in_range) = c.in_default.ensures in
     let inside : IsInRange c.graph-graph.result.now.size
-    (less (canonical c.graph-graph.result.now) (at c.divisor-divisor.result.now)) =
+    (minus (canonical c.graph-graph.result.now) (at c.divisor-divisor.result.now)) =
     λ v below. omega (arith, ints, is_dual v below, in_range v below) in
-    let told : IsRiemannRochTask o c.push_riemann_roch.new.text.items = record {
+    let told : IsRiemannRochAnswer o c.push_riemann_roch.new.text.items = record {
       in_range = rw (← c.graph-graph.ensures.graph, ← c.divisor-divisor.ensures) inside;
       rank = c.in-Some.rank;
       of_divisor = of_divisor;

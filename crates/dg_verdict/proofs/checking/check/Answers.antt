@@ -1,4 +1,4 @@
-use Rattle.dg_verdict.proofs.Common.{◌≡◌, true, take, rules, arith, sym, ◌≤ℤ◌, w128, le_z, to_z, of_z, ints, pos, IsReduced, BurnsAll, HasNoDebtOff, FiresTo, burns_to_reduced, at, reduced_decides}
+use Rattle.dg_verdict.proofs.Common.{◌≡◌, true, take, rules, arith, sym, ◌≤ℤ◌, w128, le_z, to_z, of_z, ints, pos, IsReduced, IsBurningOrder, IsEffectiveOff, FiresTo, burns_to_reduced, at, reduced_decides}
 use Rattle.dg_verdict.proofs.Verdicts.{told_apart}
 use Rattle.dg_verdict.proofs.checking.check.Goals as goal
 
@@ -6,8 +6,8 @@ pub returns : goal.returns
 returns c =
     let leads : FiresTo c.args.graph.now (at c.args.verdict.now.script) (at c.args.divisor.now)
     (at c.args.verdict.now.reduced) = search rules in
-    let solvent : HasNoDebtOff c.args.graph.now c.args.q (at c.args.verdict.now.reduced) = search rules in
-    let burns : BurnsAll c.args.graph.now c.args.q (at c.args.verdict.now.reduced)
+    let solvent : IsEffectiveOff c.args.graph.now c.args.q (at c.args.verdict.now.reduced) = search rules in
+    let burns : IsBurningOrder c.args.graph.now c.args.q (at c.args.verdict.now.reduced)
     (take c.args.graph.now.size c.args.verdict.now.order) =
     search rules in
     let reduced : IsReduced c.args.graph.now c.args.q (at c.args.verdict.now.reduced) =

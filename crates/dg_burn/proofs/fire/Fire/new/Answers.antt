@@ -13,5 +13,5 @@ returns c =
       inside = λ v member.
           ltb-true v c.args.graph.now.size (and_parts (nat_lt v c.args.graph.now.size) _ (sym (all v) ∙ member)).0;
       none_burns = λ v. rw (all v, in_set-none v) (and_opposite (nat_lt v c.args.graph.now.size));
-      cold = c.lack_of_heat.ensures;
+      cold = c.initial_heat.ensures;
     }

@@ -62,8 +62,8 @@ returns-then-not-fits c =
           absurd (omega (arith, ap unsigned_abs empty))
     ]
 
-pub of_vector_entries-requires : goal.of_vector_entries-requires
-of_vector_entries-requires c =
+pub from_array-requires : goal.from_array-requires
+from_array-requires c =
     let near = rw c.if-not-fits.false at c.loop-w.invariant.range in
     record {
       few = omega arith;

@@ -3,32 +3,32 @@ use Rattle.dg_chips.proofs.VectorLaws.{filled-set, within_all}
 use Rattle.dg_chips.proofs.SetLending.{range-more}
 use Rattle.dg_chips.proofs.OneLending.{fired-lender, fired-outside, held_gain, read_back}
 use Rattle.dg_chips.proofs.divisor.Divisor.after_lending.Goals as goal
-use Rattle.dg_chips.proofs.divisor.Divisor.after_lending.Goals.{After-dollars_carried_once-in-loop-w}
+use Rattle.dg_chips.proofs.divisor.Divisor.after_lending.Goals.{After-carried_once-in-loop-w}
 
 -- what comes to the vertex at hand is little
-few : (c : After-dollars_carried_once-in-loop-w) → unsigned_abs c.dollars_carried_once-in-loop-w.result ≤ 255
+few : (c : After-carried_once-in-loop-w) → unsigned_abs c.carried_once-in-loop-w.result ≤ 255
 few c =
     let once : unsigned_abs (to_z w32 (of_z w32 c.args.times)) ≤ 1 =
     rw (to_z-of_z w32 c.args.times c.ranges.times) c.requires.times in
-    omega (arith, c.dollars_carried_once-in-loop-w.ensures.limit)
+    omega (arith, c.carried_once-in-loop-w.ensures.limit)
 
 -- the amount there and what comes to it, and what the amount there is after the lending
-abbrev sum : After-dollars_carried_once-in-loop-w → ℤ
+abbrev sum : After-carried_once-in-loop-w → ℤ
 sum c = to_z w32 (of_z w32 (slice_index_or c.loop-w.amounts c.loop-w.w (pos 0)))
-    +ℤ to_z w32 (of_z w32 c.dollars_carried_once-in-loop-w.result)
+    +ℤ to_z w32 (of_z w32 c.carried_once-in-loop-w.result)
 
-abbrev wanted : After-dollars_carried_once-in-loop-w → ℤ
+abbrev wanted : After-carried_once-in-loop-w → ℤ
 wanted c = fired c.args.graph.now (at c.args.self.now) (only_at c.args.v (to_z w32 (of_z w32 c.args.times))) c.loop-w.w
 
-after : (c : After-dollars_carried_once-in-loop-w) → to_z w32 (of_z w32 (sum c)) ≡ wanted c
+after : (c : After-carried_once-in-loop-w) → to_z w32 (of_z w32 (sum c)) ≡ wanted c
 after c =
     let w : ℕ = c.loop-w.w in
     held_gain _ _ _ _ (c.loop-w.invariant.small w (omega arith)) (few c)
-    (c.dollars_carried_once-in-loop-w.ensures.product
+    (c.carried_once-in-loop-w.ensures.product
     ∙ ap (λ (k : ℕ). pos k *ℤ to_z w32 (of_z w32 c.args.times)) (c.row-row.ensures w))
     (c.loop-w.invariant.ahead w (omega arith))
 
-kept : (c : After-dollars_carried_once-in-loop-w) → to_z w32 (of_z w32 (slice_index_or
+kept : (c : After-carried_once-in-loop-w) → to_z w32 (of_z w32 (slice_index_or
     (slice_set c.loop-w.amounts c.loop-w.w (to_z w32 (of_z w32 (sum c)))) c.loop-w.w (pos 0))) ≡ wanted c
 kept c = read_back c.loop-w.amounts c.loop-w.w (sum c) (wanted c) (omega arith) (after c)
 
@@ -37,7 +37,7 @@ loop-w-init c =
     let x : ℤ = to_z w32 (of_z w32 c.args.times) in
     let xs : List ℤ = c.self.inside.amounts in
     let y : ℤ = to_z w32
-    (of_z w32 (to_z w32 (of_z w32 (slice_index_or xs c.args.v (pos 0))) -ℤ to_z w32 (of_z w32 c.dollars_carried_once.result)))
+    (of_z w32 (to_z w32 (of_z w32 (slice_index_or xs c.args.v (pos 0))) -ℤ to_z w32 (of_z w32 c.carried_once.result)))
     in
     let same : (u : ℕ) → slice_index_or xs u (pos 0) ≡ at c.args.self.now u =
     λ u. ap (λ (d : Vector). at d u) c.self.view_is in
@@ -46,10 +46,10 @@ loop-w-init c =
     let places : length xs ≡ 16 = omega arith in
     let within : c.args.v < length xs = omega arith in
     let once : unsigned_abs x ≤ 1 = rw (to_z-of_z w32 c.args.times c.ranges.times) c.requires.times in
-    let lost : c.dollars_carried_once.result ≡ pos (valence c.args.graph.now c.args.v) *ℤ x =
-    c.dollars_carried_once.ensures.product ∙ ap (λ (k : ℕ). pos k *ℤ x) c.valence.ensures in
-    let few : unsigned_abs c.dollars_carried_once.result ≤ 255 = omega (arith, c.dollars_carried_once.ensures.limit) in
-    let (low, high) = within_abs c.dollars_carried_once.result 255 few in
+    let lost : c.carried_once.result ≡ pos (valence c.args.graph.now c.args.v) *ℤ x =
+    c.carried_once.ensures.product ∙ ap (λ (k : ℕ). pos k *ℤ x) c.valence.ensures in
+    let few : unsigned_abs c.carried_once.result ≤ 255 = omega (arith, c.carried_once.ensures.limit) in
+    let (low, high) = within_abs c.carried_once.result 255 few in
     let (low', high') = within_abs (slice_index_or xs c.args.v (pos 0)) 1000000 (right c.args.v) in
     let here : y ≡ at c.args.self.now c.args.v -ℤ pos (valence c.args.graph.now c.args.v) *ℤ x =
     omega (arith, ints, same c.args.v) in
@@ -74,8 +74,8 @@ loop-w-init c =
 
 pub overflow_add-amounts : goal.overflow_add-amounts
 overflow_add-amounts c =
-    let got : ℤ = c.dollars_carried_once-in-loop-w.result in
-    let (low, high) = within_abs got 255 (few (goal.at.overflow_add-amounts c).After-dollars_carried_once-in-loop-w) in
+    let got : ℤ = c.carried_once-in-loop-w.result in
+    let (low, high) = within_abs got 255 (few (goal.at.overflow_add-amounts c).After-carried_once-in-loop-w) in
     let (low', high') =
     within_abs (slice_index_or c.loop-w.amounts c.loop-w.w (pos 0)) 1000255
     (c.loop-w.invariant.small c.loop-w.w (omega arith)) in
@@ -105,7 +105,7 @@ loop-w-preserved c =
     let w : ℕ = c.loop-w.w in
     let xs : List ℤ = c.loop-w.amounts in
     let within : w < length xs = omega arith in
-    let here = (goal.at.loop-w-preserved c).After-dollars_carried_once-in-loop-w in
+    let here = (goal.at.loop-w-preserved c).After-carried_once-in-loop-w in
     let moved : Amounts =
     fired c.args.graph.now (at c.args.self.now) (only_at c.args.v (to_z w32 (of_z w32 c.args.times))) in
     let told : c.from.result ≡ unsigned_abs (wanted here) =
@@ -120,8 +120,8 @@ loop-w-preserved c =
       small = λ u above. rw (others u above) (c.loop-w.invariant.small u (omega arith));
     }
 
-pub of_vector_entries-requires : goal.of_vector_entries-requires
-of_vector_entries-requires c =
+pub from_array-requires : goal.from_array-requires
+from_array-requires c =
     let near = rw c.if-not-fits.false at c.loop-w.invariant.range in
     let x : ℤ = to_z w32 (of_z w32 c.args.times) in
     let sized : c.self.inside.size ≡ c.args.self.now.size = ap (λ (d : Vector). d.size) c.self.view_is in

@@ -2,42 +2,42 @@ use Rattle.dg_game.proofs.Common.{◌≡◌, refl, length, rules, Commit, look_f
 use Rattle.dg_game.proofs.RehearsalLaws.{aimed}
 use Rattle.dg_game.proofs.schedule.Rehearsal.commit.Goals as goal
 
-pub enter_stale_in_rehearsal-requires-clause-playing : goal.enter_stale_in_rehearsal-requires-clause-playing
-enter_stale_in_rehearsal-requires-clause-playing c =
+pub enter_stale-requires-clause-playing : goal.enter_stale-requires-clause-playing
+enter_stale-requires-clause-playing c =
     let (o, H, steps, playing) = c.requires.playing in
     (o, H, steps, playing, c.in-Some.ensures o H steps playing)
 
 pub returns-then-look-gifts-clause-plays : goal.returns-then-look-gifts-clause-plays
 returns-then-look-gifts-clause-plays c = λ o H steps playing there.
     let keeps = c.in-Some.ensures o H steps playing in
-    c.enter_stale_in_rehearsal.ensures o H steps Commit playing keeps there tt tt (c.in-Some.look.number, keeps.0, refl)
+    c.enter_stale.ensures o H steps Commit playing keeps there tt tt (c.in-Some.look.number, keeps.0, refl)
 
-pub finding_of_verdict-finding-requires-clause-size : goal.finding_of_verdict-finding-requires-clause-size
-finding_of_verdict-finding-requires-clause-size c =
+pub judge_look-finding-requires-clause-size : goal.judge_look-finding-requires-clause-size
+judge_look-finding-requires-clause-size c =
     let (o, H, steps, playing) = c.requires.playing in
     let (kept, look) = c.in-Some.ensures o H steps playing in
     look_fits o H c.in-Some.look look
 
-pub finding_of_verdict-finding-requires-clause-vertex : goal.finding_of_verdict-finding-requires-clause-vertex
-finding_of_verdict-finding-requires-clause-vertex c =
+pub judge_look-finding-requires-clause-vertex : goal.judge_look-finding-requires-clause-vertex
+judge_look-finding-requires-clause-vertex c =
     let (o, H, steps, playing) = c.requires.playing in
     let (kept, look) = c.in-Some.ensures o H steps playing in
     rw (look_vertices o H _ _ playing.leads look) c.q-q.ensures.vertex
 
-pub enter_finding_in_rehearsal-requires-clause-playing : goal.enter_finding_in_rehearsal-requires-clause-playing
-enter_finding_in_rehearsal-requires-clause-playing c =
+pub enter_finding-requires-clause-playing : goal.enter_finding-requires-clause-playing
+enter_finding-requires-clause-playing c =
     let (o, H, steps, playing) = c.requires.playing in
     (o, H, steps, aimed o H steps c.args.self.now _ refl refl refl playing, c.in-Some.ensures o H steps playing)
 
-pub enter_finding_in_rehearsal-requires-clause-found : goal.enter_finding_in_rehearsal-requires-clause-found
-enter_finding_in_rehearsal-requires-clause-found c = rw c.q-q.ensures.q at c.finding_of_verdict-finding.ensures.found
+pub enter_finding-requires-clause-found : goal.enter_finding-requires-clause-found
+enter_finding-requires-clause-found c = rw c.q-q.ensures.q at c.judge_look-finding.ensures.found
 
 pub returns-clause-plays : goal.returns-clause-plays
 returns-clause-plays c = λ o H steps playing there.
     let keeps = c.in-Some.ensures o H steps playing in
-    c.enter_finding_in_rehearsal.ensures o H steps Commit (aimed o H steps c.args.self.now _ refl refl refl playing) keeps there
+    c.enter_finding.ensures o H steps Commit (aimed o H steps c.args.self.now _ refl refl refl playing) keeps there
     tt tt
-    (c.in-Some.look.number, keeps.0, c.finding_of_verdict-finding.ensures.asks c.in-Some.look.number)
+    (c.in-Some.look.number, keeps.0, c.judge_look-finding.ensures.asks c.in-Some.look.number)
 
 pub returns-in_default-clause-plays : goal.returns-in_default-clause-plays
 returns-in_default-clause-plays c = (

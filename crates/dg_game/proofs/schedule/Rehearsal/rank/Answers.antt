@@ -2,8 +2,8 @@ use Rattle.dg_game.proofs.Common.{◌≡◌, arith, rules, refl, ap, ◌∙◌, 
 use Rattle.dg_game.proofs.RehearsalLaws.{past_limits}
 use Rattle.dg_game.proofs.schedule.Rehearsal.rank.Goals as goal
 
-pub enter_stale_in_rehearsal-requires-clause-playing : goal.enter_stale_in_rehearsal-requires-clause-playing
-enter_stale_in_rehearsal-requires-clause-playing c =
+pub enter_stale-requires-clause-playing : goal.enter_stale-requires-clause-playing
+enter_stale-requires-clause-playing c =
     let (o, H, steps, playing) = c.requires.playing in
     (o, H, steps, playing, c.in-Some.ensures o H steps playing)
 
@@ -13,35 +13,35 @@ returns-clause-plays c = λ o H steps playing there.
     let size : c.size.result ≡ o.graph.size =
     c.size.ensures.size ∙ look_vertices o H _ _ playing.leads keeps.1
     ∙ ap (λ (g : Multigraph). g.size) playing.leads.graph ∙ vertices_stay o H in
-    c.enter_stale_in_rehearsal.ensures o H steps (Rank c.args.k) playing keeps there tt (_, rw size at c.in-Some-trials.ensures)
+    c.enter_stale.ensures o H steps (Rank c.args.k) playing keeps there tt (_, rw size at c.in-Some-trials.ensures)
     (c.in-Some.look.number, keeps.0, refl)
 
-pub rank_look_of_schedule-requires-clause-size : goal.rank_look_of_schedule-requires-clause-size
-rank_look_of_schedule-requires-clause-size c =
+pub rank_look-requires-clause-size : goal.rank_look-requires-clause-size
+rank_look-requires-clause-size c =
     let (o, H, steps, playing) = c.requires.playing in
     let (kept, look) = c.in-Some.ensures o H steps playing in
     look_fits o H c.in-Some.look look
 
-pub rank_look_of_schedule-requires-clause-vertex : goal.rank_look_of_schedule-requires-clause-vertex
-rank_look_of_schedule-requires-clause-vertex c =
+pub rank_look-requires-clause-vertex : goal.rank_look-requires-clause-vertex
+rank_look-requires-clause-vertex c =
     let (o, H, steps, playing) = c.requires.playing in
     let (kept, look) = c.in-Some.ensures o H steps playing in
     rw (look_vertices o H _ _ playing.leads look) c.q.ensures.vertex
 
-pub enter_finding_in_rehearsal-requires-clause-playing : goal.enter_finding_in_rehearsal-requires-clause-playing
-enter_finding_in_rehearsal-requires-clause-playing c =
+pub enter_finding-requires-clause-playing : goal.enter_finding-requires-clause-playing
+enter_finding-requires-clause-playing c =
     let (o, H, steps, playing) = c.requires.playing in
     (o, H, steps, playing, c.in-Some.ensures o H steps playing)
 
-pub enter_finding_in_rehearsal-requires-clause-found : goal.enter_finding_in_rehearsal-requires-clause-found
-enter_finding_in_rehearsal-requires-clause-found c = let (within, found, asks) = c.in-Ok.ensures in rw c.q.ensures.q at found
+pub enter_finding-requires-clause-found : goal.enter_finding-requires-clause-found
+enter_finding-requires-clause-found c = let (within, found, asks) = c.in-Ok.ensures in rw c.q.ensures.q at found
 
-pub returns-in_default-rank_look_of_schedule-clause-plays : goal.returns-in_default-rank_look_of_schedule-clause-plays
-returns-in_default-rank_look_of_schedule-clause-plays c = (
+pub returns-in_default-rank_look-clause-plays : goal.returns-in_default-rank_look-clause-plays
+returns-in_default-rank_look-clause-plays c = (
   search rules,
   λ o H steps playing there.
       let (kept, look) = c.in-Some.ensures o H steps playing in
-      let (fault, past) = c.in_default-rank_look_of_schedule.ensures in
+      let (fault, past) = c.in_default-rank_look.ensures in
       let size : c.in-Some.look.graph.size ≡ o.graph.size =
       look_vertices o H _ _ playing.leads look ∙ ap (λ (g : Multigraph). g.size) playing.leads.graph
       ∙ vertices_stay o H in
@@ -58,7 +58,7 @@ returns-2-clause-plays c = λ o H steps playing there.
     let size : c.in-Some.look.graph.size ≡ o.graph.size =
     look_vertices o H _ _ playing.leads keeps.1 ∙ ap (λ (g : Multigraph). g.size) playing.leads.graph
     ∙ vertices_stay o H in
-    c.enter_finding_in_rehearsal.ensures o H steps (Rank c.args.k) playing keeps there tt (rw size at within)
+    c.enter_finding.ensures o H steps (Rank c.args.k) playing keeps there tt (rw size at within)
     (c.in-Some.look.number, keeps.0, asks c.in-Some.look.number)
 
 pub returns-in_default-clause-plays : goal.returns-in_default-clause-plays

@@ -1,4 +1,4 @@
-use Rattle.dg_table.proofs.Common.{ap, length, ◌∙◌, entries_of_seat}
+use Rattle.dg_table.proofs.Common.{ap, length, ◌∙◌, entries_of}
 use Rattle.dg_table.proofs.Entries.{all_own}
 use Rattle.dg_table.proofs.held.Held.attest.Goals as goal
 
@@ -15,7 +15,7 @@ returns-clause-attested g c =
     let H = c.self.inside.pen.entries in
     let found = rw c.show_claim.ensures.seat at c.prefix.ensures.found in
     let begins = rw (c.prefix.ensures.prefix, c.show_claim.ensures.seat) at c.began.ensures in
-    let count = tally.1 ∙ ap (λ s. length (entries_of_seat s H)) shown.number in
+    let count = tally.1 ∙ ap (λ s. length (entries_of s H)) shown.number in
     rw (← c.self.view_is) record {
       prefix = begins;
       mine = all_own c.args.seat.now.number c.args.seat.now.prefix H c.args.seat.now.mine begins found.own count;

@@ -1,4 +1,4 @@
-use Rattle.dg_table.proofs.Common.{◌≡◌, ◌<◌, arith, refl, sym, ap, subst, ◌∙◌, inl, inr, length, slice_get, Some, slice_set, cases_lt, slice_get_within, slice_get_read, same_Some, SeatView, Written, IsSeatAttested}
+use Rattle.dg_table.proofs.Common.{◌≡◌, ◌<◌, arith, refl, sym, ap, subst, ◌∙◌, inl, inr, length, slice_get, Some, slice_set, cases_lt, slice_get_within, slice_get_read, same_Some, SeatView, Written, Attests}
 use Rattle.dg_table.proofs.Rolls.{set_same}
 use Rattle.dg_table.proofs.Totals.{history_of}
 use Rattle.dg_table.proofs.held.Held.attest_all.Goals as goal
@@ -21,8 +21,8 @@ loop-seat-preserved g c =
             let here : k ≡ i = omega arith in
             let is : c.seat-item.result ≡ x =
             same_Some _ _ (sym read ∙ ap (λ xs. slice_get xs i) kept.seats ∙ ap (slice_get c.args.seats.now) (sym here) ∙ was) in
-            subst (λ (w : Written). IsSeatAttested w.entries x) kept.held
-            (subst (IsSeatAttested c.loop-seat.self.entries) (sym c.seat-item.is ∙ is) c.attest.ensures.attested)
+            subst (λ (w : Written). Attests w.entries x) kept.held
+            (subst (Attests c.loop-seat.self.entries) (sym c.seat-item.is ∙ is) c.attest.ensures.attested)
       ];
     }
 

@@ -1,4 +1,4 @@
-use Rattle.dg_table.proofs.Common.{◌≡◌, ℕ, ◌+◌, ◌==◌, Bool, [], ◌∷◌, ◌++◌, length, enumerate_from, arith, refl, sym, ap, subst, ◌∙◌, Replies, HistoryLeadsTo, Entry, right_in, Written}
+use Rattle.dg_table.proofs.Common.{◌≡◌, ℕ, ◌+◌, ◌==◌, Bool, [], ◌∷◌, ◌++◌, length, enumerate_from, arith, refl, sym, ap, subst, ◌∙◌, Replies, LeadsTo, Entry, right_in, Written}
 use Rattle.std.proofs.Common.{not}
 use Rattle.std.proofs.lemmas.List.Filters.{length-filter_both}
 use Rattle.std.proofs.lemmas.List.FromFn.{length-enumerate_from}
@@ -6,15 +6,15 @@ use Rattle.dg_table.proofs.Rolls.{roll_more}
 use Rattle.dg_table.proofs.Steps.{held_more, history_more, answered}
 use Rattle.dg_table.proofs.held.Held.enter.Goals as goal
 
-pub follow_entry-requires-clause-right : goal.follow_entry-requires-clause-right
-follow_entry-requires-clause-right g c =
+pub follow-requires-clause-right : goal.follow-requires-clause-right
+follow-requires-clause-right g c =
     let e : Entry = c.args.slot.value in
     let replies = rw (← c.self.view_is) at c.requires.replies in
     let entry : c.entry-entry.result.now ≡ e = c.entry-entry.ensures ∙ ap (λ (r : ℕ × Entry). r.1) c.in-Ok.ensures.0 in
     right_in g.N.Name.table.start c.self.inside.pen.entries c.self.inside.game _ _ c.self.invariant.0.game' (rw entry replies)
 
-pub take_receipt_at_table-requires-clause-next : goal.take_receipt_at_table-requires-clause-next
-take_receipt_at_table-requires-clause-next g c =
+pub take_receipt-requires-clause-next : goal.take_receipt-requires-clause-next
+take_receipt-requires-clause-next g c =
     let e : Entry = c.args.slot.value in
     let H = c.self.inside.pen.entries in
     let receipt : c.in-Ok.receipt ≡ (length H, e) = c.in-Ok.ensures.0 in
@@ -30,8 +30,8 @@ take_receipt_at_table-requires-clause-next g c =
       rw (← c.self.view_is) at c.requires.replies,
     )
 
-pub take_receipt_at_table-requires-clause-found : goal.take_receipt_at_table-requires-clause-found
-take_receipt_at_table-requires-clause-found g c =
+pub take_receipt-requires-clause-found : goal.take_receipt-requires-clause-found
+take_receipt-requires-clause-found g c =
     let e : Entry = c.args.slot.value in
     let H = c.self.inside.pen.entries in
     let history : c.put.new.self.entries ≡ H ++ e ∷ [] = ap (λ (w : Written). w.entries) c.in-Ok.ensures.1 in
@@ -61,7 +61,7 @@ overflow_add-self g c =
 pub invariant_of-self-2 : goal.invariant_of-self-2
 invariant_of-self-2 g c =
     let e : Entry = c.args.slot.value in
-    let given = c.take_receipt_at_table.ensures in
+    let given = c.take_receipt.ensures in
     let receipt : c.in-Ok.receipt ≡ (length c.self.inside.pen.entries, e) = c.in-Ok.ensures.0 in
     let history : c.put.new.self.entries ≡ c.self.inside.pen.entries ++ e ∷ [] =
     ap (λ (w : Written). w.entries) c.in-Ok.ensures.1 in
@@ -70,8 +70,8 @@ invariant_of-self-2 g c =
     let entry : c.entry-entry.result.now ≡ e = c.entry-entry.ensures ∙ ap (λ (r : ℕ × Entry). r.1) c.in-Ok.ensures.0 in
     let H = c.self.inside.pen.entries in
     let shown = subst (λ (x : Entry). Replies g.N.Name.table.start H x.request x.reply) (sym entry) replies in
-    let leads = subst (λ (x : Entry). HistoryLeadsTo g.N.Name.table.start (H ++ x ∷ []) c.follow_entry.new.self) entry
-    (c.follow_entry.ensures.leads g.N.Name.table.start H c.self.invariant.0.game' shown) in (
+    let leads = subst (λ (x : Entry). LeadsTo g.N.Name.table.start (H ++ x ∷ []) c.follow.new.self) entry
+    (c.follow.ensures.leads g.N.Name.table.start H c.self.invariant.0.game' shown) in (
       rw history (held_more e c.from-place.result _ c.self.invariant.0 legal leads
           (omega (arith, c.from-place.ensures, c.place.ensures.place, c.requires.seat))
           (omega (arith, c.place.ensures.most, c.requires.seat)) refl),
@@ -90,7 +90,7 @@ returns-clause-entered g c =
     let found = history_more g.N.Name.table H e c.self.invariant.0.seated
     (omega (arith, c.place.ensures.place, c.requires.seat)) (omega (arith, c.place.ensures.most, c.requires.seat))
     (rw (← c.self.view_is) at c.requires.ready.room) (rw (← c.self.view_is) at c.requires.legal) in
-    let given = c.take_receipt_at_table.ensures in
+    let given = c.take_receipt.ensures in
     rw (← c.self.view_is, receipt) (
       answered e _ (rw (← c.self.view_is) at c.requires.replies) found (rw (← c.self.view_is) at c.requires.ready.holds)
           c.requires.seat given.number (rw receipt at given.mine) given.told (given.prefix ∙ c.prefix.ensures ∙ history)

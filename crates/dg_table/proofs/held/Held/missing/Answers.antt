@@ -6,10 +6,10 @@ pub returns-in-Some-clause-history : goal.returns-in-Some-clause-history
 returns-in-Some-clause-history g c =
     rw (← c.self.view_is) (history_of c.self.invariant.0 (omega (arith, c.len-entries.ensures)))
 
-pub returns-then-held_admits_all_seats-clause-history : goal.returns-then-held_admits_all_seats-clause-history
-returns-then-held_admits_all_seats-clause-history g c =
+pub returns-then-admits_all-clause-history : goal.returns-then-admits_all-clause-history
+returns-then-admits_all-clause-history g c =
     rw (← c.self.view_is) (history_of c.self.invariant.0 (omega (arith, c.len-entries.ensures)))
 
-pub returns-else-held_admits_all_seats-clause-history : goal.returns-else-held_admits_all_seats-clause-history
-returns-else-held_admits_all_seats-clause-history g c =
+pub returns-else-admits_all-clause-history : goal.returns-else-admits_all-clause-history
+returns-else-admits_all-clause-history g c =
     rw (← c.self.view_is) (history_of c.self.invariant.0 (omega (arith, c.len-entries.ensures)))

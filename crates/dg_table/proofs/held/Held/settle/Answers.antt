@@ -1,4 +1,4 @@
-use Rattle.dg_table.proofs.Common.{rules, slice_get_within, ReplyKeepsFinding}
+use Rattle.dg_table.proofs.Common.{rules, slice_get_within, KeepsFinding}
 use Rattle.dg_table.proofs.Findings.{look_stands}
 use Rattle.dg_table.proofs.Steps.{settling_refused, settled}
 use Rattle.dg_table.proofs.held.Held.settle.Goals as goal
@@ -36,12 +36,12 @@ pub returns-clause-settled : goal.returns-clause-settled
 returns-clause-settled g c =
     let H = c.args.self.now.entries in
     let entered = c.in_ok-receipt.ensures.entered in
-    let kept : ReplyKeepsFinding c.args.finding.now c.in_ok-receipt.receipt.1.reply =
+    let kept : KeepsFinding c.args.finding.now c.in_ok-receipt.receipt.1.reply =
     rw c.in_ok-receipt.ensures.reply c.reply_to_finding.ensures.kept in (
       settled g.N.Name.table H c.args.look.now c.args.shown.now c.args.finding.now c.in_ok-receipt.receipt
           c.args.seat.now c.enter.new.seat
-          c.hear_at_table.new.self (rw c.reply_to_finding.ensures.request at entered.0) c.requires.look c.in-Ok.ensures.1
-          kept c.hear_at_table.ensures.number c.hear_at_table.ensures.mine c.hear_at_table.ensures.told
-          c.hear_at_table.ensures.prefix c.hear_at_table.ensures.met,
+          c.learn_reserved.new.self (rw c.reply_to_finding.ensures.request at entered.0) c.requires.look c.in-Ok.ensures.1
+          kept c.learn_reserved.ensures.number c.learn_reserved.ensures.mine c.learn_reserved.ensures.told
+          c.learn_reserved.ensures.prefix c.learn_reserved.ensures.met,
       entered.1,
     )

@@ -7,12 +7,12 @@ use Rattle.dg_table.proofs.held.Held.settle_stale.Goals as goal
 pub enter-requires-clause-replies : goal.enter-requires-clause-replies
 enter-requires-clause-replies g c =
     let held = rw c.self.view_is at c.self.invariant.0 in
-    c.reply_as_stale.ensures.replies _ _ held.game' (look_stands _ _ _ _ held.legal c.requires.look c.in-Ok.ensures.1)
+    c.reply_stale.ensures.replies _ _ held.game' (look_stands _ _ _ _ held.legal c.requires.look c.in-Ok.ensures.1)
 
 pub enter-requires-clause-legal : goal.enter-requires-clause-legal
 enter-requires-clause-legal g c =
     let held = rw c.self.view_is at c.self.invariant.0 in
-    c.reply_as_stale.ensures.legal _ _ held.game' (look_stands _ _ _ _ held.legal c.requires.look c.in-Ok.ensures.1)
+    c.reply_stale.ensures.legal _ _ held.game' (look_stands _ _ _ _ held.legal c.requires.look c.in-Ok.ensures.1)
     held.legal (rw c.number.ensures c.in-Ok.ensures.0.seat)
 
 pub returns-in_err-receipt-clause-refused : goal.returns-in_err-receipt-clause-refused
@@ -40,9 +40,10 @@ returns-clause-settled g c =
     let entered = c.in_ok-receipt.ensures.entered in (
       staled g.N.Name.table c.args.self.now.entries c.args.taken.now c.args.shown.now c.args.asks.now c.self.inside.game
           c.in_ok-receipt.receipt c.args.seat.now c.enter.new.seat
-          c.hear_at_table.new.self (rw c.reply_as_stale.ensures.request at entered.0) c.requires.look c.in-Ok.ensures.1
-          held.game' look (λ same. search rules) (rw c.in_ok-receipt.ensures.reply c.reply_as_stale.ensures.stale)
-          c.hear_at_table.ensures.number c.hear_at_table.ensures.mine c.hear_at_table.ensures.told c.hear_at_table.ensures.prefix
-          c.hear_at_table.ensures.met,
+          c.learn_reserved.new.self (rw c.reply_stale.ensures.request at entered.0) c.requires.look c.in-Ok.ensures.1
+          held.game' look (λ same. search rules) (rw c.in_ok-receipt.ensures.reply c.reply_stale.ensures.stale)
+          c.learn_reserved.ensures.number c.learn_reserved.ensures.mine c.learn_reserved.ensures.told
+          c.learn_reserved.ensures.prefix
+          c.learn_reserved.ensures.met,
       entered.1,
     )

@@ -1,5 +1,0 @@
-use Rattle.dg_chips.proofs.Common.{ℕ, ◌<◌, ◌≤◌, slice_index_or, unsigned_abs, pos}
-use Rattle.dg_chips.proofs.light.most_light_lendings.Given as goal
-
-abbrev pub invariant-loop-w : goal.invariant-loop-w
-invariant-loop-w l = (u : ℕ) → u < l.w → unsigned_abs (slice_index_or l.lendings u (pos 0)) ≤ l.most

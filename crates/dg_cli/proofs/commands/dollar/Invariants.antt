@@ -1,5 +1,0 @@
-use Rattle.dg_cli.proofs.Adding.{HasCommands}
-use Rattle.dg_cli.proofs.commands.dollar.Given as goal
-
-abbrev pub invariant-commands : goal.invariant-commands
-invariant-commands l = HasCommands l.subcommand-items l.subcommand-index l.program

@@ -1,8 +1,0 @@
-use Rattle.dg_cli.proofs.Common.{◌∙◌, ap, word_of_argument, argument_rows}
-use Rattle.dg_cli.proofs.Telling.{passes, number_before}
-use Rattle.dg_cli.proofs.reading.given_in.Goals as goal
-
-pub returns-in_err-number_of_argument-in-Some : goal.returns-in_err-number_of_argument-in-Some
-returns-in_err-number_of_argument-in-Some c =
-    let is = c.in-Some.ensures ∙ ap (λ name. word_of_argument name (argument_rows c.args.inner.now)) c.name.ensures in
-    passes _ _ _ _ c.in_err-number_of_argument-in-Some.ensures c.from_residual.ensures.1 (number_before _ _ _ _ is)

@@ -1,7 +1,0 @@
-use Rattle.dg_graph.proofs.Common.{arith}
-use Rattle.dg_graph.proofs.Squares.{set_square}
-use Rattle.dg_graph.proofs.build.add_graph_edges.Goals as goal
-
-pub returns-clause-square : goal.returns-clause-square
-returns-clause-square c =
-    set_square c.args.table.now c.args.u c.with_more.result c.requires.u (omega arith) c.requires.square

@@ -1,6 +1,0 @@
-use Rattle.dg_graph.proofs.Common.{◌≡◌, ℕ, ◌<◌, true, is_in}
-use Rattle.std.proofs.Common.{slice_index}
-use Rattle.dg_graph.proofs.connected.is_next_to.Given as goal
-
-abbrev pub invariant-loop-w : goal.invariant-loop-w
-invariant-loop-w l = (u : ℕ) → u < l.w → 0 < slice_index l.row u → ¬ (is_in l.reached u ≡ true)

@@ -1,8 +1,0 @@
-use Rattle.dg_lines.proofs.Common.{refl, arith}
-use Rattle.dg_lines.proofs.Blocks.{place-first}
-use Rattle.dg_lines.proofs.cuts.first_cut_in_line.Goals as goal
-
-pub returns-then-places-ne0 : goal.returns-then-places-ne0
-returns-then-places-ne0 c =
-    place-first c.args.at _ c.cuts_in_32_bytes-places.result c.args.bytes.now c.if-bytes-lt32.false
-    c.cuts_in_32_bytes-places.ensures (omega arith) refl

@@ -1,6 +1,0 @@
-use Rattle.dg_reduce.proofs.Common.{in_set, at}
-use Rattle.dg_reduce.proofs.Most.{IsLeast}
-use Rattle.dg_reduce.proofs.most_reducing_firings.most_reducing_firings.Given as goal
-
-abbrev pub invariant-loop-v : goal.invariant-loop-v
-invariant-loop-v l = IsLeast l.graph (at l.chips) (in_set l.set) l.v l.most

@@ -1,5 +1,0 @@
-use Rattle.dg_table.proofs.Common.{◌≡◌, ◌≢◌, ℕ, ◌<◌, slice_get, Some, SeatView}
-use Rattle.dg_table.proofs.held.table_has_seat.Given as goal
-
-abbrev pub invariant-loop-seat : goal.invariant-loop-seat
-invariant-loop-seat g l = (k : ℕ) (x : SeatView) → k < l.seat-index → slice_get l.seats k ≡ Some x → x.number ≢ l.number
