@@ -19,8 +19,7 @@
 --                                what it had
 use Rattle.std.specs.Prelude.{if◌then◌else◌, ◌≡◌, ℕ, ℤ, ◌+◌, ◌<◌, ◌≤◌, ◌⊎◌, Bool, List, length, pos, ◌-ℤ◌}
 use Rattle.std.specs.List.{slice_index_or}
-use Rattle.dg_chips.specs.Vector.{Vector, at, IsDivisorVector}
-use Rattle.dg_chips.specs.VectorFaults.{IsFirstBeyond}
+use Rattle.dg_chips.specs.Vector.{Vector, at, IsDivisorVector, IsFirstBeyond}
 use Rattle.dg_chips.specs.declared.limits.TheConstants.{MAX_AMOUNT}
 use Rattle.dg_theory.specs.Firing.{Amounts}
 use Rattle.dg_theory.specs.Multigraph.{Multigraph}

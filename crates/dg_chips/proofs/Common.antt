@@ -1,8 +1,7 @@
 -- The names that the proofs of this crate cite, passed on from one place. Declares nothing.
-pub use Rattle.dg_chips.specs.Applied.{IsAfterMove}
-pub use Rattle.dg_chips.specs.DivisorFaults.{IsChipFault}
-pub use Rattle.dg_chips.specs.Light.{GainsFitI32}
-pub use Rattle.dg_chips.specs.Vector.{HoldsNumbers, IsInRange, IsOutOfRange, IsVector, Vector, at}
+pub use Rattle.dg_chips.specs.Moves.{IsAfterMove}
+pub use Rattle.dg_chips.specs.Divisors.{IsChipFault}
+pub use Rattle.dg_chips.specs.Vector.{GainsFitI32, HoldsNumbers, IsInRange, IsOutOfRange, IsVector, Vector, at}
 pub use Rattle.dg_chips.specs.declared.divisor.ChipFault.{ChipFault}
 pub use Rattle.dg_chips.specs.declared.divisor.ChipFault.TheVariants.{Length, Range}
 pub use Rattle.dg_graph.proofs.Valences.{valence-few, valence-outside}

@@ -8,7 +8,7 @@ ghost use Rattle.dg_theory.specs.Firing.{degree, IsEffective, only_at, indicator
 ghost use Rattle.dg_graph.specs.Sets.{in_set};
 ghost use Rattle.dg_theory.specs.Sets.{IsVertexSet};
 ghost use Rattle.dg_chips.specs.Vector.{at, HoldsNumbers, IsDivisorVector, IsOutOfRange};
-ghost use Rattle.dg_chips.specs.DivisorFaults.{IsChipFault, IsMinusFault};
+ghost use Rattle.dg_chips.specs.Divisors.{IsChipFault, IsMinusFault};
 
 use crate::firing::carried_once;
 use crate::limits::MAX_AMOUNT;

@@ -2,11 +2,10 @@
 
 ghost use Rattle.std.specs.Prelude.{◌≡◌, ℕ, ◌<◌, ◌≤◌, ◌+ℤ◌, ◌-ℤ◌, pos, MatchOption, MatchBool};
 ghost use Rattle.std.specs.Int.RustNames.{unsigned_abs};
-ghost use Rattle.dg_chips.specs.Vector.{at, IsDrift};
+ghost use Rattle.dg_chips.specs.Vector.{at, IsDrift, IsPastDrift};
 ghost use Rattle.dg_chips.specs.Moves.{move_script, IsApplicableMove};
 ghost use Rattle.dg_theory.specs.Firing.{FiresTo, only_at, indicator};
 ghost use Rattle.dg_graph.specs.Sets.{in_set};
-ghost use Rattle.dg_chips.specs.Drifts.{IsPastDrift};
 
 use crate::divisor::Divisor;
 use crate::firing::leads;

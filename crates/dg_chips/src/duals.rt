@@ -1,6 +1,6 @@
 //! The residual of a divisor: the canonical divisor of the graph less it.
 ghost use Rattle.std.specs.Prelude.{◌≡◌, MatchResult};
-ghost use Rattle.dg_chips.specs.Dual.{IsDualOf, IsDualFault};
+ghost use Rattle.dg_chips.specs.Divisors.{IsDualOf, IsDualFault};
 ghost use Rattle.dg_chips.specs.Vector.{at, IsInRange};
 
 use crate::divisor::{ChipFault, Divisor};

@@ -5,11 +5,9 @@ ghost use Rattle.std.specs.Bool.{OnTrue};
 ghost use Rattle.std.specs.List.{slice_index_or};
 ghost use Rattle.std.specs.Int.RustNames.{unsigned_abs};
 ghost use Rattle.dg_theory.specs.Firing.{gain, fired, FiresTo};
-ghost use Rattle.dg_chips.specs.Vector.{at};
-ghost use Rattle.dg_chips.specs.Applied.{IsAfterMove};
-ghost use Rattle.dg_chips.specs.Lent.{IsAfterLending, IsLendingFault};
-ghost use Rattle.dg_chips.specs.Refused.{IsMoveFault};
-ghost use Rattle.dg_chips.specs.Light.{GainsFitI32};
+ghost use Rattle.dg_chips.specs.Vector.{at, GainsFitI32};
+ghost use Rattle.dg_chips.specs.Moves.{IsAfterMove, IsAfterLending};
+ghost use Rattle.dg_chips.specs.MoveFaults.{IsLendingFault, IsMoveFault};
 ghost use Rattle.dg_chips.specs.declared.moves.Move.TheVariants.{Fire, Script as ScriptMove};
 
 use crate::divisor::Divisor;

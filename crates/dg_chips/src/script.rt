@@ -5,7 +5,7 @@ ghost use Rattle.std.specs.List.{slice_index_or};
 ghost use Rattle.std.specs.Int.RustNames.{unsigned_abs};
 ghost use Rattle.dg_theory.specs.Firing.{FiresTo};
 ghost use Rattle.dg_chips.specs.Vector.{at, HoldsNumbers, IsScriptVector};
-ghost use Rattle.dg_chips.specs.ScriptFaults.{IsScriptFault};
+ghost use Rattle.dg_chips.specs.Scripts.{IsScriptFault};
 
 use crate::divisor::Divisor;
 use crate::drift::Drift;

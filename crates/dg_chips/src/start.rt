@@ -1,8 +1,7 @@
 //! The start of a game: a graph, a divisor and the vertex q.
 
 ghost use Rattle.std.specs.Prelude.{◌≡◌, ◌≢◌, ℕ, ◌<◌, ◌≤◌, MatchResult};
-ghost use Rattle.dg_chips.specs.Starts.{IsStart};
-ghost use Rattle.dg_chips.specs.StartFaults.{IsStartFault};
+ghost use Rattle.dg_chips.specs.Starts.{IsStart, IsStartFault};
 
 use crate::divisor::Divisor;
 use dg_graph::Graph;

@@ -3,7 +3,7 @@
 ghost use Rattle.std.specs.Prelude.{◌≡◌, ℕ, ◌<◌, ◌≤◌, ℤ, pos, length, MatchOption};
 ghost use Rattle.std.specs.List.{slice_index_or};
 ghost use Rattle.std.specs.Int.RustNames.{unsigned_abs};
-ghost use Rattle.dg_chips.specs.VectorFaults.{IsFirstPast};
+ghost use Rattle.dg_chips.specs.Vector.{IsFirstPast};
 
 use crate::limits::MAX_ENTRY;
 use dg_graph::MAX_VERTICES;

@@ -5,7 +5,7 @@ ghost use Rattle.std.specs.Int.RustNames.{unsigned_abs};
 ghost use Rattle.dg_theory.specs.Firing.{fired, indicator, multiple};
 ghost use Rattle.dg_graph.specs.Sets.{in_set};
 ghost use Rattle.dg_chips.specs.Vector.{at, HoldsNumbers, IsWide};
-ghost use Rattle.dg_chips.specs.DivisorFaults.{IsWideFault};
+ghost use Rattle.dg_chips.specs.Divisors.{IsWideFault};
 
 use crate::divisor::{ChipFault, Divisor};
 use crate::firing::gain_of_script;

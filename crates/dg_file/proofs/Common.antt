@@ -1,9 +1,8 @@
 -- The names that the proofs of this crate cite, passed on from one place. Declares nothing.
 pub use Rattle.dg_chips.proofs.VectorLaws.{held_once}
-pub use Rattle.dg_chips.specs.DivisorFaults.{IsChipFault}
+pub use Rattle.dg_chips.specs.Divisors.{IsChipFault}
 pub use Rattle.dg_chips.specs.Starts.{StartData}
-pub use Rattle.dg_chips.specs.Vector.{HoldsNumbers, IsDivisorVector, Vector, at}
-pub use Rattle.dg_chips.specs.VectorFaults.{IsFirstPast}
+pub use Rattle.dg_chips.specs.Vector.{HoldsNumbers, IsDivisorVector, Vector, at, IsFirstPast}
 pub use Rattle.dg_chips.specs.declared.divisor.ChipFault.{ChipFault}
 pub use Rattle.dg_chips.specs.declared.divisor.ChipFault.TheVariants.{Length, Range}
 pub use Rattle.dg_file.specs.Content.{Content, HasMemberValues, IsContent, IsNotJson, MemberValues, ReadsJson, count_in_json, edge_from_json, edge_in_json, edges_in_json, listed_in_json, numbers_in_json, cons_some, texts_in_json, whole}

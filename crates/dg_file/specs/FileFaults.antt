@@ -16,7 +16,7 @@
 --   HasContentFault bytes fault == the bytes say a content, and that is its first fault
 --   IsFileFault bytes fault   == the first fault of the bytes; of want of memory nothing is said
 use Rattle.std.specs.Prelude.{◌≡◌, ◌≢◌, ℕ, ◌<◌, List, length, take, slice_get, Some, None, IsSome, IsTrue, ⊤}
-use Rattle.dg_chips.specs.DivisorFaults.{IsChipFault}
+use Rattle.dg_chips.specs.Divisors.{IsChipFault}
 use Rattle.dg_chips.specs.Vector.{Vector, HoldsNumbers, IsDivisorVector}
 use Rattle.dg_graph.specs.Faults.{IsSize, IsGraphFault}
 use Rattle.dg_graph.specs.Items.{IsGraphOf}

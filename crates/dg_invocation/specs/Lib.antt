@@ -1,3 +1,2 @@
 -- What is asked for.
-pub mod Files
-pub mod Seats
+pub mod Invocation

@@ -2,8 +2,7 @@
 ghost use Rattle.std.specs.Prelude.{◌≡◌, ◌≤◌};
 ghost use Rattle.std.specs.Vec.{vec_len};
 ghost use Rattle.dg_invocation.specs.declared.limits.TheConstants.{MAX_CAPACITY, MAX_SEATS, MAX_WORKERS};
-ghost use Rattle.dg_invocation.specs.Files.{file_of};
-ghost use Rattle.dg_invocation.specs.Seats.{seat_count};
+ghost use Rattle.dg_invocation.specs.Invocation.{file_of, seat_count};
 
 use crate::numbered::{GreedyTask, RankTask};
 use crate::question::SweepTask;

@@ -14,7 +14,7 @@
 --                                   two needs too many exactly if the tests of one meet a test past the
 --                                   limits
 use Rattle.std.specs.Prelude.{◌≡◌, ◌↔◌, ℕ, ◌<◌, ◌⊎◌, ℤ, pos, ◌+ℤ◌, Result, Ok, Err, MatchResult}
-use Rattle.dg_chips.specs.Dual.{IsDualOf}
+use Rattle.dg_chips.specs.Divisors.{IsDualOf}
 use Rattle.dg_chips.specs.Vector.{Vector}
 use Rattle.dg_theory.specs.Firing.{Amounts}
 use Rattle.dg_theory.specs.Multigraph.{Multigraph}

@@ -1,7 +1,6 @@
 -- The names that the proofs of this crate cite, passed on from one place. Declares nothing.
 pub use Rattle.dg_chips.proofs.Applying.{moved_once}
-pub use Rattle.dg_chips.specs.Applied.{IsAfterMove}
-pub use Rattle.dg_chips.specs.Moves.{HasOtherSize, FiresEmptySet, IsApplicableMove, NamesNoVertex, move_script}
+pub use Rattle.dg_chips.specs.Moves.{IsAfterMove, HasOtherSize, FiresEmptySet, IsApplicableMove, NamesNoVertex, move_script}
 pub use Rattle.dg_chips.specs.Starts.{StartData}
 pub use Rattle.dg_chips.proofs.VectorLaws.{not_past, one_vector}
 pub use Rattle.dg_chips.specs.Vector.{IsDivisorVector, IsOutOfRange, Vector, at}

@@ -1,6 +1,5 @@
 -- The names that the specs of this crate cite, passed on from one place. Declares nothing.
-pub use Rattle.dg_chips.specs.Applied.{IsAfterMove}
-pub use Rattle.dg_chips.specs.Moves.{HasOtherSize, FiresEmptySet, IsApplicableMove, NamesNoVertex, move_script}
+pub use Rattle.dg_chips.specs.Moves.{IsAfterMove, HasOtherSize, FiresEmptySet, IsApplicableMove, NamesNoVertex, move_script}
 pub use Rattle.dg_chips.specs.Starts.{StartData}
 pub use Rattle.dg_chips.specs.Vector.{IsDivisorVector, IsOutOfRange, Vector, at}
 pub use Rattle.dg_chips.specs.declared.limits.TheConstants.{MAX_ENTRY}

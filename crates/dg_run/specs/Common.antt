@@ -3,7 +3,7 @@ pub use Rattle.dg_chips.specs.Starts.{StartData}
 pub use Rattle.dg_file.specs.declared.fault.FileFault.{FileFault}
 pub use Rattle.dg_rules.specs.declared.entry.Entry.{Entry}
 pub use Rattle.dg_rules.specs.declared.entry.TheConstants.{MAX_SEATS}
-pub use Rattle.dg_invocation.specs.Seats.{seat_count}
+pub use Rattle.dg_invocation.specs.Invocation.{seat_count}
 pub use Rattle.dg_invocation.specs.declared.invocation.Invocation.{Invocation}
 pub use Rattle.dg_invocation.specs.declared.invocation.Invocation.TheVariants.{Party, Serve, Sweep, Task, Text}
 pub use Rattle.dg_invocation.specs.declared.invocation.PartyTask.{PartyTask}

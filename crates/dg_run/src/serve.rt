@@ -1,6 +1,6 @@
 //! Sessions over the input of the program.
 ghost use Rattle.std.specs.Prelude.{◌≡◌, ℕ, length, Ok, true, IfErr, OnOk};
-ghost use Rattle.dg_invocation.specs.Seats.{seat_count};
+ghost use Rattle.dg_invocation.specs.Invocation.{seat_count};
 ghost use Rattle.dg_log.specs.Tables.{table_data_of};
 ghost use Rattle.dg_session.specs.Commands.{setup_of};
 ghost use Rattle.dg_session.specs.Streams.{passage};

@@ -1,6 +1,6 @@
 -- The names that the proofs of this crate cite, passed on from one place. Declares nothing.
 pub use Rattle.dg_chips.proofs.VectorLaws.{held_once}
-pub use Rattle.dg_chips.specs.DivisorFaults.{IsChipFault}
+pub use Rattle.dg_chips.specs.Divisors.{IsChipFault}
 pub use Rattle.dg_chips.specs.Starts.{IsStart, StartData}
 pub use Rattle.dg_chips.specs.Vector.{HoldsNumbers, Vector, at}
 pub use Rattle.dg_chips.specs.declared.divisor.ChipFault.{ChipFault}

@@ -1,5 +1,5 @@
 -- The names that the specs of this crate cite, passed on from one place. Declares nothing.
-pub use Rattle.dg_chips.specs.DivisorFaults.{IsChipFault}
+pub use Rattle.dg_chips.specs.Divisors.{IsChipFault}
 pub use Rattle.dg_chips.specs.Starts.{StartData}
 pub use Rattle.dg_chips.specs.Vector.{HoldsNumbers, IsDivisorVector, Vector, at}
 pub use Rattle.dg_chips.specs.declared.divisor.ChipFault.{ChipFault}

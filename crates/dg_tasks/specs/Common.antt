@@ -1,5 +1,5 @@
 -- The names that the specs of this crate cite, passed on from one place. Declares nothing.
-pub use Rattle.dg_chips.specs.Dual.{IsDualFault}
+pub use Rattle.dg_chips.specs.Divisors.{IsDualFault}
 pub use Rattle.dg_chips.specs.Starts.{IsStart, StartData}
 pub use Rattle.dg_chips.specs.Vector.{IsInRange, at}
 pub use Rattle.dg_file.specs.FileFaults.{IsFileFault}
@@ -11,7 +11,7 @@ pub use Rattle.dg_rules.specs.declared.entry.Reply.TheVariants.{Rank}
 pub use Rattle.dg_rules.specs.declared.entry.Request.{Request}
 pub use Rattle.dg_rules.specs.declared.game.TheConstants.{MAX_ENTRIES}
 pub use Rattle.dg_rules.specs.declared.step.Step.{Step}
-pub use Rattle.dg_invocation.specs.Files.{file_of}
+pub use Rattle.dg_invocation.specs.Invocation.{file_of}
 pub use Rattle.dg_invocation.specs.declared.invocation.Task.{Task}
 pub use Rattle.dg_invocation.specs.declared.invocation.Task.TheVariants.{Greedy, Judge, Rehearse, RiemannRoch}
 pub use Rattle.dg_lines.specs.Cuts.{lines}

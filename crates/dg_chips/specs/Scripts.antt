@@ -2,7 +2,7 @@
 --   IsScriptFault n xs fault == the numbers xs are refused as a script for n vertices, for
 --                               this cause first
 use Rattle.std.specs.Prelude.{◌≡◌, ◌≢◌, ℕ, ℤ, List, length}
-use Rattle.dg_chips.specs.VectorFaults.{IsFirstPast}
+use Rattle.dg_chips.specs.Vector.{IsFirstPast}
 use Rattle.dg_chips.specs.declared.script.ScriptFault.{ScriptFault}
 use Rattle.dg_chips.specs.declared.script.ScriptFault.TheVariants.{Length, Limit}
 use Rattle.dg_chips.specs.declared.limits.TheConstants.{MAX_ENTRY}
