@@ -20,7 +20,7 @@
 use Rattle.std.specs.Prelude.{if◌then◌else◌, ◌≡◌, ℕ, ℤ, ◌+◌, ◌<◌, ◌≤◌, ◌⊎◌, Bool, List, length, pos, ◌-ℤ◌}
 use Rattle.std.specs.List.{slice_index_or}
 use Rattle.dg_chips.specs.Vector.{Vector, at, IsDivisorVector, IsFirstBeyond}
-use Rattle.dg_chips.specs.declared.limits.TheConstants.{MAX_AMOUNT}
+use Rattle.dg_chips.specs.declared.divisor.TheConstants.{MAX_AMOUNT}
 use Rattle.dg_theory.specs.Firing.{Amounts}
 use Rattle.dg_theory.specs.Multigraph.{Multigraph}
 use Rattle.dg_theory.specs.Rank.{HasRankAtLeast, IsFirstLoss}

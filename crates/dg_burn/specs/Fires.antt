@@ -17,7 +17,7 @@
 use Rattle.std.specs.Prelude.{◌≡◌, ℕ, ◌+◌, ◌-◌, ◌<◌, ◌≤◌, ◌&&◌, min, nat_lt, not, Bool, true, false, List, ℤ, pos, negsuc, slice_index}
 use Rattle.dg_graph.specs.Sets.{in_set}
 use Rattle.dg_theory.specs.Sets.{IsVertexSet}
-use Rattle.dg_graph.specs.declared.limits.TheConstants.{MAX_VERTICES}
+use Rattle.dg_graph.specs.declared.graph.TheConstants.{MAX_VERTICES}
 use Rattle.dg_theory.specs.Burning.{edges_into}
 use Rattle.dg_theory.specs.Firing.{Amounts}
 use Rattle.dg_theory.specs.Multigraph.{Multigraph}

@@ -2,7 +2,7 @@
 
 ghost use Rattle.std.specs.Prelude.{◌≡◌, ℕ, ◌+◌, ◌-◌, ◌<◌, ◌≤◌, true, nat_lt, MatchOption, slice_index};
 ghost use Rattle.dg_theory.specs.Multigraph.{edges_between};
-ghost use Rattle.dg_graph.specs.declared.limits.TheConstants.{MAX_VERTICES};
+ghost use Rattle.dg_graph.specs.declared.graph.TheConstants.{MAX_VERTICES};
 ghost use Rattle.dg_graph.specs.Sets.{in_set};
 ghost use Rattle.dg_theory.specs.Sets.{IsSetWithout};
 ghost use Rattle.dg_burn.specs.Fires.{heat, IsUnlit, IsBurntOut, IsNextBurnt};

@@ -9,7 +9,7 @@ use Rattle.dg_theory.specs.Rank.{minus, canonical}
 use Rattle.dg_chips.specs.Vector.{Vector, at, IsFirstBeyond, IsFirstPast}
 use Rattle.dg_chips.specs.declared.divisor.ChipFault.{ChipFault}
 use Rattle.dg_chips.specs.declared.divisor.ChipFault.TheVariants.{Length, Range}
-use Rattle.dg_chips.specs.declared.limits.TheConstants.{MAX_AMOUNT}
+use Rattle.dg_chips.specs.declared.divisor.TheConstants.{MAX_AMOUNT}
 use Rattle.dg_theory.specs.Firing.{Amounts, DivisorsAgreeOn}
 use Rattle.dg_theory.specs.Multigraph.{Multigraph}
 

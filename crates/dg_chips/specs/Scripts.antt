@@ -5,7 +5,7 @@ use Rattle.std.specs.Prelude.{◌≡◌, ◌≢◌, ℕ, ℤ, List, length}
 use Rattle.dg_chips.specs.Vector.{IsFirstPast}
 use Rattle.dg_chips.specs.declared.script.ScriptFault.{ScriptFault}
 use Rattle.dg_chips.specs.declared.script.ScriptFault.TheVariants.{Length, Limit}
-use Rattle.dg_chips.specs.declared.limits.TheConstants.{MAX_ENTRY}
+use Rattle.dg_chips.specs.declared.script.TheConstants.{MAX_ENTRY}
 
 abbrev pub IsScriptFault : ℕ → List ℤ → ScriptFault → Type 0
 IsScriptFault n xs Length = length xs ≢ n

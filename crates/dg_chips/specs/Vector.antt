@@ -18,9 +18,11 @@
 use Rattle.std.specs.Prelude.{◌≡◌, ℕ, ◌<◌, ◌≤◌, ℤ, pos, List, length, ◌-ℤ◌, ◌*◌, ◌^◌}
 use Rattle.std.specs.Int.RustNames.{unsigned_abs}
 use Rattle.std.specs.List.{slice_index_or}
-use Rattle.dg_graph.specs.declared.limits.TheConstants.{MAX_VERTICES}
+use Rattle.dg_graph.specs.declared.graph.TheConstants.{MAX_VERTICES}
 use Rattle.dg_theory.specs.Firing.{Amounts}
-use Rattle.dg_chips.specs.declared.limits.TheConstants.{MAX_AMOUNT, MAX_ENTRY, MAX_DRIFT}
+use Rattle.dg_chips.specs.declared.divisor.TheConstants.{MAX_AMOUNT}
+use Rattle.dg_chips.specs.declared.script.TheConstants.{MAX_ENTRY}
+use Rattle.dg_chips.specs.declared.drift.TheConstants.{MAX_DRIFT}
 use Rattle.dg_theory.specs.Multigraph.{Multigraph, valence}
 
 pub record Vector : Type 0 where

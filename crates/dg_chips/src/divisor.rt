@@ -11,12 +11,14 @@ ghost use Rattle.dg_chips.specs.Vector.{at, HoldsNumbers, IsDivisorVector, IsOut
 ghost use Rattle.dg_chips.specs.Divisors.{IsChipFault, IsMinusFault};
 
 use crate::firing::carried_once;
-use crate::limits::MAX_AMOUNT;
 use crate::set_firing::set_firing_sums;
 use crate::vector::{first_past, to_i32s};
 use dg_graph::{Graph, MAX_VERTICES};
 use std::marker::Model;
 use thiserror::Error;
+
+/// The largest absolute value of an amount.
+pub const MAX_AMOUNT: u64 = 1_000_000;
 
 /// Why amounts are refused as a divisor. Vertices are numbered from 0.
 #[derive(Clone, Copy, Debug, PartialEq, Eq, Error)]

@@ -9,12 +9,14 @@ ghost use Rattle.dg_graph.specs.Sets.{in_set};
 
 use crate::divisor::Divisor;
 use crate::firing::leads;
-use crate::limits::MAX_DRIFT;
 use crate::moves::Move;
 use crate::script::Script;
 use crate::wide::Wide;
 use dg_graph::{Graph, contains};
 use std::marker::Model;
+
+/// The largest absolute value of an entry, which is a sum of entries of scripts.
+pub const MAX_DRIFT: u64 = 100_000_000_000_000;
 
 /// How often each vertex has lent by some moves together, from -100,000,000,000,000 to 100,000,000,000,000; a negative
 /// number is so many borrowings.

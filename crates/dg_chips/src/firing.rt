@@ -11,8 +11,8 @@ ghost use Rattle.dg_chips.specs.MoveFaults.{IsLendingFault, IsMoveFault};
 ghost use Rattle.dg_chips.specs.declared.moves.Move.TheVariants.{Fire, Script as ScriptMove};
 
 use crate::divisor::Divisor;
+use crate::drift::MAX_DRIFT;
 use crate::light::gain_i32;
-use crate::limits::MAX_DRIFT;
 use crate::moves::{Move, MoveFault};
 use crate::script::Script;
 use crate::wide::Wide;

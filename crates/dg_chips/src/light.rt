@@ -6,7 +6,7 @@ ghost use Rattle.std.specs.List.{slice_index_or};
 ghost use Rattle.std.specs.Int.RustNames.{unsigned_abs};
 ghost use Rattle.dg_theory.specs.Firing.{gain};
 ghost use Rattle.dg_chips.specs.Vector.{GainsFitI32};
-ghost use Rattle.dg_chips.specs.declared.limits.TheConstants.{MAX_ENTRY};
+ghost use Rattle.dg_chips.specs.declared.script.TheConstants.{MAX_ENTRY};
 
 use dg_graph::{Graph, MAX_VERTICES};
 

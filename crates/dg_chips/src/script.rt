@@ -10,12 +10,14 @@ ghost use Rattle.dg_chips.specs.Scripts.{IsScriptFault};
 use crate::divisor::Divisor;
 use crate::drift::Drift;
 use crate::firing::leads;
-use crate::limits::MAX_ENTRY;
 use crate::vector::{first_past, to_i32s, to_i64s};
 use crate::wide::Wide;
 use dg_graph::{Graph, MAX_VERTICES};
 use std::marker::Model;
 use thiserror::Error;
+
+/// The largest absolute value of an entry.
+pub const MAX_ENTRY: u64 = 1_000_000_000;
 
 /// Why numbers are refused as a script. Vertices are numbered from 0.
 #[derive(Clone, Copy, Debug, PartialEq, Eq, Error)]

@@ -5,7 +5,7 @@ ghost use Rattle.std.specs.Int.RustNames.{unsigned_abs};
 ghost use Rattle.dg_theory.specs.Multigraph.{valence};
 ghost use Rattle.dg_theory.specs.Burning.{edges_into};
 ghost use Rattle.dg_theory.specs.Firing.{gain, indicator, multiple};
-ghost use Rattle.dg_graph.specs.declared.limits.TheConstants.{MAX_VERTICES, MAX_VALENCE};
+ghost use Rattle.dg_graph.specs.declared.graph.TheConstants.{MAX_VERTICES, MAX_VALENCE};
 ghost use Rattle.dg_graph.specs.Sets.{in_set};
 ghost use Rattle.dg_theory.specs.Sets.{IsVertexSet};
 

@@ -5,7 +5,7 @@ ghost use Rattle.std.specs.List.{slice_index_or};
 ghost use Rattle.std.specs.Int.RustNames.{unsigned_abs};
 ghost use Rattle.dg_chips.specs.Vector.{IsFirstPast};
 
-use crate::limits::MAX_ENTRY;
+use crate::script::MAX_ENTRY;
 use dg_graph::MAX_VERTICES;
 
 /// The place of the first number whose absolute value is above the limit.

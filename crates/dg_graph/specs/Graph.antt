@@ -6,7 +6,7 @@
 use Rattle.std.specs.Prelude.{◌≡◌, ℕ, ◌<◌, ◌≤◌, List, [], length}
 use Rattle.std.specs.List.{slice_index_or}
 use Rattle.dg_theory.specs.Multigraph.{Multigraph, IsMultigraph, valence}
-use Rattle.dg_graph.specs.declared.limits.TheConstants.{MAX_VERTICES, MAX_VALENCE}
+use Rattle.dg_graph.specs.declared.graph.TheConstants.{MAX_VERTICES, MAX_VALENCE}
 
 pub record HasSixteenRows (table : List (List ℕ)) : Type 0 where
   pub rows : length table ≡ MAX_VERTICES

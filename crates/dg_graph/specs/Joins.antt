@@ -4,7 +4,7 @@
 --   IsJoinFault g u v fault == an edge more between u and v is refused with this fault
 use Rattle.std.specs.Prelude.{◌≡◌, ◌≢◌, ℕ, ◌<◌, ◌≤◌, ◌⊎◌}
 use Rattle.dg_theory.specs.Multigraph.{Multigraph, valence}
-use Rattle.dg_graph.specs.declared.limits.TheConstants.{MAX_VALENCE}
+use Rattle.dg_graph.specs.declared.graph.TheConstants.{MAX_VALENCE}
 use Rattle.dg_graph.specs.declared.fault.JoinFault.{JoinFault}
 use Rattle.dg_graph.specs.declared.fault.JoinFault.TheVariants.{NoVertex, Loop, Valence}
 

@@ -7,7 +7,7 @@ use Rattle.std.specs.Prelude.{◌≡◌, ◌≢◌, ℕ, ◌<◌, ◌==◌, ◌�
 use Rattle.std.specs.Int.{bit_at}
 use Rattle.dg_theory.specs.Multigraph.{Multigraph}
 use Rattle.dg_theory.specs.Twins.{AreTwins}
-use Rattle.dg_graph.specs.declared.limits.TheConstants.{MAX_VERTICES}
+use Rattle.dg_graph.specs.declared.graph.TheConstants.{MAX_VERTICES}
 
 unfoldable pub in_set : ℕ → ℕ → Bool
 in_set m v = bit_at m v == 1

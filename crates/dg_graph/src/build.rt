@@ -7,7 +7,7 @@ ghost use Rattle.dg_graph.specs.Items.{IsEdgeItem, AreEdgeItems, item_edges, edg
 ghost use Rattle.dg_graph.specs.Faults.{IsGraphFault, IsSize};
 
 use crate::fault::GraphFault;
-use crate::limits::MAX_VERTICES;
+use crate::graph::MAX_VERTICES;
 use crate::table::Table;
 
 /// The first fault of a single item.

@@ -4,7 +4,7 @@ ghost use Rattle.std.specs.Prelude.{◌≡◌, ℕ, ◌<◌, ◌≤◌, true, fa
 ghost use Rattle.dg_theory.specs.Multigraph.{entry};
 ghost use Rattle.dg_graph.specs.Search.{is_in, IsAdjacentTo, IsInOrNotAdjacent, IsPairwiseConnected, HasUnreachable};
 
-use crate::limits::MAX_VERTICES;
+use crate::graph::MAX_VERTICES;
 use crate::table::Table;
 
 /// Whether a chain of edges joins vertex 0 to every other.

@@ -3,7 +3,7 @@
 ghost use Rattle.std.specs.Prelude.{◌≡◌, ◌<◌, ◌≤◌};
 ghost use Rattle.dg_theory.specs.Reduced.{edges_out};
 ghost use Rattle.dg_theory.specs.Burning.{edges_into};
-ghost use Rattle.dg_graph.specs.declared.limits.TheConstants.{MAX_VALENCE};
+ghost use Rattle.dg_graph.specs.declared.graph.TheConstants.{MAX_VALENCE};
 ghost use Rattle.dg_graph.specs.Sets.{in_set};
 
 use crate::graph::Graph;

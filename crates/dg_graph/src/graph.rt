@@ -1,7 +1,7 @@
 //! A graph: its size and the numbers of its edges.
 
 ghost use Rattle.std.specs.Prelude.{◌≡◌, ℕ, ◌<◌, ◌≤◌, MatchBool, MatchResult, slice_index};
-ghost use Rattle.dg_graph.specs.declared.limits.TheConstants.{MAX_VALENCE};
+ghost use Rattle.dg_graph.specs.declared.graph.TheConstants.{MAX_VALENCE};
 ghost use Rattle.dg_theory.specs.Multigraph.{edges_between, valence, genus};
 ghost use Rattle.dg_theory.specs.Joins.{with_edge};
 ghost use Rattle.dg_graph.specs.Graph.{IsGraph};
@@ -12,9 +12,14 @@ ghost use Rattle.dg_graph.specs.Joins.{IsJoinable, IsJoinFault};
 use crate::build::{edge_table, first_item_fault};
 use crate::connected::is_connected;
 use crate::fault::{GraphFault, JoinFault};
-use crate::limits::{MAX_VALENCE, MAX_VERTICES};
 use crate::table::{Table, edge_count, first_high_valence, plus_edge, valences_of};
 use std::marker::Model;
+
+/// The most vertices.
+pub const MAX_VERTICES: usize = 16;
+
+/// The most edges at a vertex.
+pub const MAX_VALENCE: u32 = 63;
 
 /// A finite connected multigraph without loops: 1 to 16 vertices, numbered from 0, and at most 63 edges at each.
 #[derive(Clone, Copy, PartialEq, Eq)]

@@ -6,14 +6,12 @@ mod connected;
 mod crossing;
 mod fault;
 mod graph;
-mod limits;
 mod sets;
 mod table;
 mod twins;
 
 pub use fault::{GraphFault, JoinFault};
-pub use graph::Graph;
-pub use limits::{MAX_VALENCE, MAX_VERTICES};
+pub use graph::{Graph, MAX_VALENCE, MAX_VERTICES};
 pub use sets::{
     complement, contains, intersection, is_vertex_set, least_vertex, with_vertex, without_vertex,
 };

@@ -5,7 +5,7 @@ ghost use Rattle.std.specs.Bool.{OnTrue, OnFalse};
 ghost use Rattle.dg_graph.specs.Sets.{in_set, IsLeastIn};
 ghost use Rattle.dg_theory.specs.Sets.{IsVertexSet, IsSetWith, IsSetWithout, IsEmptySet};
 
-use crate::limits::MAX_VERTICES;
+use crate::graph::MAX_VERTICES;
 
 /// Whether a vertex, 0 to 15, is in a set.
 pub fn contains(set: u16, v: usize) -> bool

@@ -7,7 +7,7 @@ ghost use Rattle.dg_theory.specs.Joins.{row_with_edge, table_with_edge};
 ghost use Rattle.dg_graph.specs.Graph.{IsGraph};
 ghost use Rattle.dg_graph.specs.Valences.{valences_of};
 
-use crate::limits::{MAX_VALENCE, MAX_VERTICES};
+use crate::graph::{MAX_VALENCE, MAX_VERTICES};
 
 /// The numbers of edges, by both vertices.
 pub type Table = [[u8; MAX_VERTICES]; MAX_VERTICES];

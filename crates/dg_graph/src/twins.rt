@@ -4,8 +4,7 @@ ghost use Rattle.std.specs.Prelude.{◌≡◌, ◌≢◌, ℕ, ◌<◌, ◌↔�
 ghost use Rattle.dg_theory.specs.Twins.{AreTwins};
 ghost use Rattle.dg_graph.specs.Sets.{in_set, AreTwinSets};
 
-use crate::graph::Graph;
-use crate::limits::MAX_VERTICES;
+use crate::graph::{Graph, MAX_VERTICES};
 use crate::sets::with_vertex;
 
 impl Graph {

@@ -2,7 +2,7 @@
 pub use Rattle.dg_chips.specs.Starts.{StartData}
 pub use Rattle.dg_chips.proofs.VectorLaws.{one_vector}
 pub use Rattle.dg_chips.specs.Vector.{HoldsNumbers, IsScriptVector, Vector, at}
-pub use Rattle.dg_chips.specs.declared.limits.TheConstants.{MAX_ENTRY}
+pub use Rattle.dg_chips.specs.declared.script.TheConstants.{MAX_ENTRY}
 pub use Rattle.dg_chips.specs.declared.moves.Move.{Move}
 pub use Rattle.dg_chips.specs.declared.moves.Move.TheVariants.{Borrow, Fire, Script}
 pub use Rattle.dg_rules.proofs.LegalLaws.{legal_sized}

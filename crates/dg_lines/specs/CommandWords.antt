@@ -27,7 +27,7 @@ use Rattle.std.specs.Fmt.{signed_decimal}
 use Rattle.std.specs.Int.RustNames.{unsigned_abs}
 use Rattle.std.specs.List.{IsDistinct}
 use Rattle.dg_chips.specs.Vector.{Vector, IsScriptVector, at}
-use Rattle.dg_chips.specs.declared.limits.TheConstants.{MAX_ENTRY}
+use Rattle.dg_chips.specs.declared.script.TheConstants.{MAX_ENTRY}
 use Rattle.dg_graph.specs.Sets.{in_set}
 use Rattle.dg_theory.specs.Sets.{IsVertexSet}
 use Rattle.dg_tokens.specs.Names.{names_contain, name_at}

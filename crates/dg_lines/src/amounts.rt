@@ -2,7 +2,7 @@
 ghost use Rattle.std.specs.Prelude.{◌≡◌, ◌+◌, ◌<◌, ◌≤◌, ◌++◌, length, drop};
 ghost use Rattle.std.specs.Fmt.{signed_decimal};
 ghost use Rattle.dg_chips.specs.Vector.{Vector, at};
-ghost use Rattle.dg_graph.specs.declared.limits.TheConstants.{MAX_VERTICES};
+ghost use Rattle.dg_graph.specs.declared.graph.TheConstants.{MAX_VERTICES};
 
 use crate::digits::{MAX_DIGITS, write_number, write_wide};
 use dg_chips::{Divisor, Script, Wide};

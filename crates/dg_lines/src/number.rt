@@ -2,7 +2,7 @@
 ghost use Rattle.std.specs.Prelude.{◌≡◌, ◌≢◌, ℕ, ◌≤◌, ◌<◌, ◌+◌, ◌/◌, ◌%◌, ◌^◌, ◌-◌, pos, neg_ℤ, MatchOption, decimal};
 ghost use Rattle.std.specs.Fmt.{signed_decimal};
 ghost use Rattle.std.specs.Int.RustNames.{unsigned_abs};
-ghost use Rattle.dg_chips.specs.declared.limits.TheConstants.{MAX_ENTRY};
+ghost use Rattle.dg_chips.specs.declared.script.TheConstants.{MAX_ENTRY};
 ghost use Rattle.dg_rules.specs.declared.entry.TheConstants.{MAX_SEATS};
 ghost use Rattle.dg_lines.specs.CommandWords.{IsNumeralWithin};
 

@@ -4,7 +4,7 @@
 --                       c trials
 --   IsPastLimits n k == rank tests of degree k on n vertices are past one of the limits
 use Rattle.std.specs.Prelude.{◌≡◌, ℕ, ◌<◌, ◌≤◌, ◌⊎◌}
-use Rattle.dg_graph.specs.declared.limits.TheConstants.{MAX_VERTICES}
+use Rattle.dg_graph.specs.declared.graph.TheConstants.{MAX_VERTICES}
 use Rattle.dg_rank.specs.Trials.{AreTrialsCounted, AnyTrial}
 use Rattle.dg_rank.specs.declared.counting.TheConstants.{MAX_DEGREE, MAX_TRIALS}
 

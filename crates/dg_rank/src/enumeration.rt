@@ -20,7 +20,7 @@ pub struct Trial {
 
 impl Model for Trial {
     ghost use Rattle.std.specs.Prelude.{ℕ, ◌≤◌, List, take};
-    ghost use Rattle.dg_graph.specs.declared.limits.TheConstants.{MAX_VERTICES};
+    ghost use Rattle.dg_graph.specs.declared.graph.TheConstants.{MAX_VERTICES};
 
     ghost Value = { List ℕ };
 

@@ -7,7 +7,7 @@ use Rattle.std.specs.Prelude.{◌≡◌, ◌≢◌, ℕ, ◌<◌, ◌≤◌, tru
 use Rattle.std.specs.Int.RustNames.{unsigned_abs}
 use Rattle.std.specs.List.{slice_index_or}
 use Rattle.dg_graph.specs.Sets.{in_set}
-use Rattle.dg_graph.specs.declared.limits.TheConstants.{MAX_VERTICES}
+use Rattle.dg_graph.specs.declared.graph.TheConstants.{MAX_VERTICES}
 use Rattle.dg_reduce.specs.declared.effective_divisor.UnburntSet.{UnburntSet}
 use Rattle.dg_theory.specs.Burning.{IsLegalSetFiring}
 use Rattle.dg_theory.specs.Firing.{Amounts, gain, indicator}

@@ -7,7 +7,7 @@ ghost use Rattle.dg_theory.specs.Multigraph.{valence};
 ghost use Rattle.dg_theory.specs.Firing.{only_at, indicator, gain, FiresTo, IsEffective, IsEffectiveOff};
 ghost use Rattle.dg_theory.specs.Play.{IsWinnable};
 ghost use Rattle.dg_theory.specs.Reduced.{edges_out, IsReduced};
-ghost use Rattle.dg_graph.specs.declared.limits.TheConstants.{MAX_VERTICES};
+ghost use Rattle.dg_graph.specs.declared.graph.TheConstants.{MAX_VERTICES};
 ghost use Rattle.dg_graph.specs.Sets.{in_set};
 ghost use Rattle.dg_chips.specs.Vector.{at};
 ghost use Rattle.dg_burn.specs.Fires.{AreCapped};

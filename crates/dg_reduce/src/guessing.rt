@@ -7,7 +7,7 @@ ghost use Rattle.std.specs.Prelude.{◌≡◌, ℕ, ◌<◌, ◌≤◌, pos, len
 ghost use Rattle.std.specs.List.{slice_index_or};
 ghost use Rattle.std.specs.Int.RustNames.{unsigned_abs};
 ghost use Rattle.dg_chips.specs.Vector.{at};
-ghost use Rattle.dg_chips.specs.declared.limits.TheConstants.{MAX_ENTRY};
+ghost use Rattle.dg_chips.specs.declared.script.TheConstants.{MAX_ENTRY};
 ghost use Rattle.dg_reduce.specs.Burnings.{CertifiesBurning};
 
 use crate::certificate::Burning;

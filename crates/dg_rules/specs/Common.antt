@@ -2,7 +2,7 @@
 pub use Rattle.dg_chips.specs.Moves.{IsAfterMove, HasOtherSize, FiresEmptySet, IsApplicableMove, NamesNoVertex, move_script}
 pub use Rattle.dg_chips.specs.Starts.{StartData}
 pub use Rattle.dg_chips.specs.Vector.{IsDivisorVector, IsOutOfRange, Vector, at}
-pub use Rattle.dg_chips.specs.declared.limits.TheConstants.{MAX_ENTRY}
+pub use Rattle.dg_chips.specs.declared.script.TheConstants.{MAX_ENTRY}
 pub use Rattle.dg_chips.specs.declared.moves.Move.{Move}
 pub use Rattle.dg_chips.specs.declared.moves.MoveFault.{MoveFault}
 pub use Rattle.dg_graph.specs.Graph.{IsGraph}

@@ -37,7 +37,7 @@ pub struct Names {
 impl Model for Names {
     ghost use Rattle.std.specs.Prelude.{ℕ, List, map, string_bytes, ◌≤◌};
     ghost use Rattle.indexmap.specs.IndexSet.{index_set_len};
-    ghost use Rattle.dg_graph.specs.declared.limits.TheConstants.{MAX_VERTICES};
+    ghost use Rattle.dg_graph.specs.declared.graph.TheConstants.{MAX_VERTICES};
     ghost use Rattle.dg_tokens.specs.Labels.{AreLabels};
     ghost use Rattle.dg_tokens.specs.Names.{AreNames};
 
