@@ -7,14 +7,13 @@
 --   rest-set      the law of the rest for 0
 --   IsFilled      a list of 16 numbers is f below v and 0 from there on
 --   filled_more   it is f below v + 1 once f v is written at v
---   single        zeros with x written at v are x at v and 0 elsewhere
 --   one_more      numbers of which one is replaced by so much more are so much more at that place
 --   one_written   a vector with another number within the limit at one place is within the limit
 --   one_vector    vectors are one if they have as many places and the same numbers
 --   held_once     and so if they hold the numbers of one list
 --   not_past      amounts that a divisor holds are not out of range
 --   within_all    past the size too, the numbers of a vector are within its limit
-use Rattle.dg_chips.proofs.Common.{◌≡◌, ◌≢◌, ℕ, ◌+◌, ◌<◌, ◌≤◌, List, length, length-set, slice_set, arith, inl, inr, get_or-set_same, get_or-set_other, below_more, ext_get_or, sym, ◌∙◌, unsigned_abs, replicate, slice_index_or, ℤ, pos, ◌+ℤ◌, +ℤ_idr, cases_lt, cases_eq, ints, get_or-replicate, get_or_past, length-replicate, ap, Amounts, IsOutOfRange, only_at, only_at-here, only_at-other, Vector, IsVector, HoldsNumbers, at}
+use Rattle.dg_chips.proofs.Common.{◌≡◌, ◌≢◌, ℕ, ◌+◌, ◌<◌, ◌≤◌, List, length, length-set, slice_set, arith, inl, inr, get_or-set_same, get_or-set_other, below_more, ext_get_or, sym, ◌∙◌, unsigned_abs, replicate, slice_index_or, ℤ, pos, ◌+ℤ◌, +ℤ_idr, cases_lt, cases_eq, get_or-replicate, get_or_past, length-replicate, ap, Amounts, IsOutOfRange, only_at, only_at-here, only_at-other, Vector, IsVector, HoldsNumbers, at}
 
 pub at_same : {X : Type 0} (n v : ℕ) (x : X) → slice_index_or (replicate n x) v x ≡ x
 at_same n v x = elim (cases_lt v n) [
@@ -80,16 +79,6 @@ one_written limit a v x below within small right = record {
   inside = λ w past.
       let other : w ≢ v = omega arith in get_or-set_other a.numbers v w x (pos 0) other ∙ right.inside w past;
 }
-
-pub single : (n v : ℕ) (x : ℤ) → v < n → (w : ℕ) →
-    slice_index_or (slice_set (replicate n (pos 0)) v x) w (pos 0) ≡ only_at v x w
-single n v x within w =
-    let here : slice_index_or (replicate n (pos 0)) v (pos 0) ≡ pos 0 = at_zeros n v in
-    let there : slice_index_or (replicate n (pos 0)) w (pos 0) ≡ pos 0 = at_zeros n w in
-    let more : slice_index_or (slice_set (replicate n (pos 0)) v x) w (pos 0)
-    ≡ slice_index_or (replicate n (pos 0)) w (pos 0) +ℤ only_at v x w =
-    one_more (replicate n (pos 0)) v x x (omega (arith, length-replicate n (pos 0))) (omega (arith, ints)) w in
-    omega (arith, ints)
 
 pub within_all : (limit : ℕ) (x : Vector) → IsVector limit x → (v : ℕ) → unsigned_abs (at x v) ≤ limit
 within_all limit x right v = elim (cases_lt v x.size) [

@@ -10,7 +10,7 @@
 --   one_member       with one name more the set has one vertex more
 --   HasTaken names given left set == `left` are the last of the names given, and the set has those before them
 -- What a loop over the names does: none taken, one more, all, and where the next name refuses them.
-use Rattle.dg_lines.proofs.Common.{◌≡◌, ◌≢◌, ℕ, ◌+◌, ◌*◌, ◌<◌, ◌==◌, ◌||◌, not, cond, Bool, true, false, List, [], ◌∷◌, ◌++◌, length, Some, None, refl, ap, sym, ◌∙◌, subst, arith, Decides, append_assoc, bytes_eq, IsTrue, All, IsEquivalence, bit_at, AllByRecursion, position_or_len, eqb-true, nat_tests, append-nil, All-nil, All-cons, All-head, All-tail, All-push, list_any-append, list_any_at, position-Some, IsDistinct-push, apart_from_distinct, bit_at-zero, bit_at-lt, same_from_bits, bytes_eq-Decides, names_contain, name_at, AreDistinctNames, IsSpelledSet}
+use Rattle.dg_lines.proofs.Common.{◌≡◌, ◌≢◌, ℕ, ◌+◌, ◌*◌, ◌<◌, ◌==◌, ◌||◌, not, cond, Bool, true, false, List, [], ◌∷◌, ◌++◌, length, Some, None, refl, ap, sym, ◌∙◌, subst, arith, append_assoc, bytes_eq, IsTrue, All, IsEquivalence, bit_at, AllByRecursion, position_or_len, eqb-true, nat_tests, append-nil, All-nil, All-cons, All-head, All-tail, All-push, list_any-append, list_any_at, position-Some, IsDistinct-push, apart_from_distinct, bit_at-zero, bit_at-lt, same_from_bits, bytes_eq-Decides, names_contain, name_at, AreDistinctNames, IsSpelledSet}
 use Rattle.std.specs.List.{IsDistinct}
 use Rattle.dg_graph.specs.Sets.{in_set}
 use Rattle.dg_tokens.specs.Names.{place_of}
@@ -36,12 +36,6 @@ or_true false = refl
 or_false : (t : Bool) → (t || false) ≡ t
 or_false true = refl
 or_false false = refl
-
--- ---- names that stand once
--- one name is given rightly after another test
-apart : (t u : Bool) (Q : Type 0) → Decides (not u) Q → Decides (not (t || u)) ((t ≡ false) × Q)
-apart true u Q known = (λ e. absurd (cc), λ p. absurd (let no : true ≡ false = p.0 in cc))
-apart false u Q known = (λ e. (refl, known.0 e), λ p. known.1 p.1)
 
 pub all_there : (P : List ℕ → Type 0) (done back : List (List ℕ)) (name : List ℕ) → All P (done ++ name ∷ back) → P name
 all_there P [] back name each = All-head P name back each

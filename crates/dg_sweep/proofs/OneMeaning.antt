@@ -1,7 +1,7 @@
 -- A line of amounts has one meaning.
 --   spelled_once      numbers are spelled in one way
 --   amounts_meaning_is_unique
-use Rattle.dg_sweep.proofs.Common.{◌≡◌, ◌≢◌, ℕ, ℤ, pos, List, [], ◌∷◌, length, map, All, FitsSigned, w64, refl, sym, ap, ◌∙◌, arith, subst, ◌^◌, ◌-◌, neg_ℤ, signed_decimal, signed_decimal_injective, All-head, All-tail, StartData, Vector, HoldsNumbers, IsChipFault, IsNumeralWithin, held_once, fits_within, FileFault, AmountsMeaningIsUnique, SpellsAmounts, LineStandsFor, IsAmountsFault}
+use Rattle.dg_sweep.proofs.Common.{◌≡◌, ◌≢◌, ℕ, ℤ, List, [], ◌∷◌, length, map, All, FitsSigned, w64, refl, sym, ap, ◌∙◌, arith, subst, ◌-◌, signed_decimal, signed_decimal_injective, All-head, All-tail, StartData, Vector, HoldsNumbers, IsChipFault, held_once, FileFault, AmountsMeaningIsUnique, SpellsAmounts, LineStandsFor, IsAmountsFault}
 use Rattle.dg_lines.proofs.Meaning.{same_words}
 use Rattle.dg_file.proofs.OneTable.{chip-one, chip-none}
 use Rattle.dg_file.specs.declared.fault.FileFault.TheVariants as fault
@@ -9,9 +9,6 @@ use Rattle.dg_file.specs.declared.fault.Shape.TheVariants as shape
 
 abbrev Fits : ℤ → Type 0
 Fits = FitsSigned w64
-
-abbrev IsWord : List ℕ → Type 0
-IsWord = IsNumeralWithin (neg_ℤ (pos (2 ^ 63))) (pos (2 ^ 63 - 1))
 
 spelled_once : (xs ys : List ℤ) → map signed_decimal xs ≡ map signed_decimal ys → All Fits xs → All Fits ys → xs ≡ ys
 spelled_once [] [] e first second = refl
@@ -24,19 +21,6 @@ spelled_once (x ∷ xs) (y ∷ ys) e first second =
     signed_decimal_injective x y (All-head Fits x xs first).sfits (All-head Fits y ys second).sfits head in
     let rest : xs ≡ ys = spelled_once xs ys tail (All-tail Fits x xs first) (All-tail Fits y ys second) in
     ap (λ (z : ℤ). z ∷ xs) same ∙ ap (λ (zs : List ℤ). y ∷ zs) rest
-
-abbrev AreNumbers : List (List ℕ) → Type 0
-AreNumbers ws = (xs : List ℤ) × (ws ≡ map signed_decimal xs) × All Fits xs
-
-fits : (word : List ℕ) → (known : IsWord word) → Fits known.number
-fits word known = fits_within known.number known.not_less known.not_more
-
-no_others : (w : List ℕ) (ws : List (List ℕ)) → ((z : ℤ) → Fits z → w ≡ signed_decimal z → AreNumbers ws → ⊥)
-    → AreNumbers (w ∷ ws) → ⊥
-no_others w ws never ([], e, held) = absurd (omega (arith, ap length e))
-no_others w ws never (y ∷ ys, e, held) =
-    let (head, tail) = same_words w (signed_decimal y) ws (map signed_decimal ys) e in
-    never y (All-head Fits y ys held) head (ys, tail, All-tail Fits y ys held)
 
 line_once : (line : List ℕ) (xs ys : List ℤ) → SpellsAmounts line xs → SpellsAmounts line ys → xs ≡ ys
 line_once line xs ys first second =

@@ -1,7 +1,5 @@
 -- Findings on older looks, and the last look of a seat.
 --   last_after       after a look, that look is the last
---   last_kept        an entry that is no look leaves the last look
---   look_kept        what is kept of the last look, with an entry that is no look
 --   look_seen        what is kept of a look, once it is the last entry of a seat
 --   look_of          what is kept of the last of entries, where that is a look
 --   look_asked       who is shown a position has asked for a look
@@ -9,7 +7,7 @@
 --   stale_both       the reply to a finding on an entry is stale just where a gift was accepted after it
 --   carried_over     where none was, the finding is carried to the position now
 --   look_stands      what is kept of an entry of a legal history that is a look, is of a look of it
-use Rattle.dg_table.proofs.Common.{◌≡◌, ◌≢◌, ◌↔◌, ℕ, Bool, true, false, cond, List, [], ◌∷◌, ◌++◌, take, slice_get, Option, Some, None, refl, sym, ap, subst, ◌∙◌, filter, last_or, append-nil, same_Some, filter-append, Multigraph, StartData, Vector, position_after, gifts_in, IsLegal, IsLookAt, request_for_finding, KeepsFinding, Replies, Entry, Request, Look, Reply, Looked, Verdict, Stale, Finding, Judged, Ranked, LookData, legal_looks, vertices_stay, IsKeptLook, KeepsLastLook, IsSizedLook, IsLastLook, IsLookOf, is_look, last_look, asks_for_look, IsSettledReply, RankReply}
+use Rattle.dg_table.proofs.Common.{◌≡◌, ◌≢◌, ◌↔◌, ℕ, Bool, true, cond, List, [], ◌∷◌, ◌++◌, take, slice_get, Option, Some, None, refl, sym, ap, subst, ◌∙◌, filter, last_or, same_Some, filter-append, Multigraph, StartData, Vector, position_after, gifts_in, IsLegal, IsLookAt, request_for_finding, KeepsFinding, Replies, Entry, Request, Look, Reply, Looked, Verdict, Stale, Finding, Judged, Ranked, LookData, legal_looks, vertices_stay, IsKeptLook, KeepsLastLook, IsSizedLook, IsLastLook, IsLookOf, is_look, asks_for_look, IsSettledReply, RankReply}
 
 last_or-snoc : {A : Type 0} (o : Option A) (xs : List A) (x : A) → last_or o (xs ++ x ∷ []) ≡ Some x
 last_or-snoc o [] x = refl
@@ -21,20 +19,6 @@ last_after ps p look =
     ap (last_or None) (filter-append is_look ps (p ∷ [])
     ∙ ap (λ (b : Bool). filter is_look ps ++ cond b (p ∷ []) []) test)
     ∙ last_or-snoc None (filter is_look ps) p
-
-pub last_kept : (ps : List (ℕ × Entry)) (p : ℕ × Entry) → is_look p ≡ false → last_look (ps ++ p ∷ [])
-    ≡ last_look ps
-last_kept ps p test =
-    ap (last_or None) (filter-append is_look ps (p ∷ [])
-    ∙ ap (λ (b : Bool). filter is_look ps ++ cond b (p ∷ []) []) test ∙ append-nil (filter is_look ps))
-
-pub look_kept : (o : StartData) (ps : List (ℕ × Entry)) (p : ℕ × Entry) (look : Option LookData) → is_look p ≡ false →
-    IsKeptLook o ps look →
-    IsKeptLook o (ps ++ p ∷ []) look
-look_kept o ps p None test kept = record { last = last_kept ps p test ∙ kept.last; vertices = tt }
-look_kept o ps p (Some x) test kept =
-    let (q, last, of) = kept.last in
-    record { last = (q, last_kept ps p test ∙ last, of); vertices = kept.vertices }
 
 pub look_seen : (o : StartData) (ps : List (ℕ × Entry)) (p : ℕ × Entry) (x : LookData) → IsLookOf p x →
     IsSizedLook o.graph.size x →

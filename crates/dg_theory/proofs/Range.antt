@@ -20,13 +20,14 @@
 -- For any firing:
 --   script_between       a script that takes amounts off q within A to amounts within B has all its entries within
 --                        225 (A + B) of that at q, for at most 16 vertices
-use Rattle.dg_theory.proofs.Common.{◌≡◌, ◌≢◌, ℕ, zero, suc, ◌+◌, ◌-◌, ◌*◌, ◌^◌, ◌<◌, ◌≤◌, Bool, false, arith, refl, ap, sym, ◌∙◌, ⊎_elim, suc-mul, pow-suc, mul_assoc, mul_comm, cases_eq, ints, mul-le, ℤ, pos, ◌+ℤ◌, ◌-ℤ◌, ◌*ℤ◌, *ℤ-zero, ◌≤ℤ◌, unsigned_abs, sum_below, Multigraph, IsMultigraph, valence, Amounts, degree, gain, fired, indicator, multiple, IsEffectiveOff, edges_into, IsDistance}
+use Rattle.dg_theory.proofs.Common.{◌≡◌, ◌≢◌, ℕ, suc, ◌+◌, ◌-◌, ◌*◌, ◌^◌, ◌<◌, ◌≤◌, Bool, false, arith, refl, ap, sym, ◌∙◌, ⊎_elim, pow-suc, mul_assoc, mul_comm, cases_eq, ints, mul-le, ℤ, pos, ◌+ℤ◌, ◌-ℤ◌, ◌*ℤ◌, *ℤ-zero, ◌≤ℤ◌, unsigned_abs, sum_below, Multigraph, IsMultigraph, valence, Amounts, degree, gain, fired, indicator, multiple, IsEffectiveOff, edges_into, IsDistance}
 use Rattle.dg_theory.proofs.Absolute.{within_abs, abs_within}
 use Rattle.dg_theory.proofs.Bounds.{gentle_between}
 use Rattle.dg_theory.proofs.Multiples.{gain-all_outside}
 use Rattle.dg_theory.proofs.SumBounds.{mul-mono}
 use Rattle.dg_theory.proofs.Exchange.{degree_stays}
-use Rattle.dg_theory.proofs.SumLaws.{sum_below-cong}
+use Rattle.dg_theory.proofs.SumLaws.{sum_below-cong, sum_below-differ_at, sum_below-le, sum_below-le_but, sum_below-same}
+use Rattle.dg_theory.proofs.Common.{if◌then◌else◌, ◌==◌, inl, inr, nat_tests}
 use Rattle.dg_theory.proofs.Distances.{level_positive}
 use Rattle.dg_theory.proofs.Debts.{fired_nearer, farther_stays, level_gains, changes_little}
 
@@ -81,57 +82,29 @@ pub limit_last : (M : ℕ) → M ≤ 2000000 → M * 64 ^ (15 - 0) < 2 ^ 111
 limit_last M small = let most : M * 64 ^ 15 ≤ 2000000 * 64 ^ 15 =
     mul-le M (64 ^ 15) 2000000 (64 ^ 15) small (omega arith) in omega arith
 
-sum_below-nonneg : (n : ℕ) (f : ℕ → ℤ) → ((w : ℕ) → w < n → pos 0 ≤ℤ f w) → pos 0 ≤ℤ sum_below n f
-sum_below-nonneg zero f rich = omega (arith, ints)
-sum_below-nonneg (suc n) f rich =
-    let before : pos 0 ≤ℤ sum_below n f = sum_below-nonneg n f (λ w below. rich w (omega arith)) in
-    let last : pos 0 ≤ℤ f n = rich n (omega arith) in
-    omega (arith, ints)
-
 pub sum_below-one : (n q : ℕ) (f : ℕ → ℤ) → q < n → ((w : ℕ) → w < n → w ≢ q → pos 0 ≤ℤ f w) → f q ≤ℤ sum_below n f
-sum_below-one zero q f inside rich = absurd (omega arith)
-sum_below-one (suc n) q f inside rich =
-    ⊎_elim
-    (λ (same : q ≡ n).
-    let at : f q ≡ f n = ap f same in
-    let before : pos 0 ≤ℤ sum_below n f = sum_below-nonneg n f (λ w below. rich w (omega arith) (omega arith)) in
-    omega (arith, ints))
-    (λ (other : q ≡ n → ⊥).
-    let before : f q ≤ℤ sum_below n f =
-    sum_below-one n q f (omega arith) (λ w below off_q. rich w (omega arith) off_q) in
-    let last : pos 0 ≤ℤ f n = rich n (omega arith) (omega arith) in
-    omega (arith, ints))
-    (cases_eq q n)
+sum_below-one n q f inside rich = omega (arith, ints, sum_below-le_but n (λ w. pos 0) f q inside rich, sum_below-same n 0)
 
 pub sum_below-two : (n q v : ℕ) (f : ℕ → ℤ) → q < n → v < n → v ≢ q →
     ((w : ℕ) → w < n → w ≢ q → pos 0 ≤ℤ f w) → (f v +ℤ f q) ≤ℤ sum_below n f
-sum_below-two zero q v f vertex inside apart rich = absurd (omega arith)
-sum_below-two (suc n) q v f vertex inside apart rich =
-    let fewer : (w : ℕ) → w < n → w ≢ q → pos 0 ≤ℤ f w = λ w below off_q. rich w (omega arith) off_q in
-    ⊎_elim
-    (λ (same : v ≡ n).
-    let at : f v ≡ f n = ap f same in
-    let before : f q ≤ℤ sum_below n f = sum_below-one n q f (omega arith) fewer in
-    omega (arith, ints))
-    (λ (other : v ≡ n → ⊥). ⊎_elim
-    (λ (last_q : q ≡ n).
-    let at : f q ≡ f n = ap f last_q in
-    let before : f v ≤ℤ sum_below n f =
-    sum_below-one n v f (omega arith) (λ w below _. rich w (omega arith) (omega arith)) in
-    omega (arith, ints))
-    (λ (other_q : q ≡ n → ⊥).
-    let before : (f v +ℤ f q) ≤ℤ sum_below n f = sum_below-two n q v f (omega arith) (omega arith) apart fewer in
-    let last : pos 0 ≤ℤ f n = rich n (omega arith) (omega arith) in
-    omega (arith, ints))
-    (cases_eq q n))
-    (cases_eq v n)
+sum_below-two n q v f vertex inside apart rich =
+    let h : ℕ → ℤ = λ w. if w == v then pos 0 else f w in
+    let here : h v ≡ pos 0 = grind (arith, nat_tests) in
+    let off : (w : ℕ) → w ≢ v → h w ≡ f w = λ w other. grind (arith, nat_tests) in
+    let high : (w : ℕ) → w < n → w ≢ q → pos 0 ≤ℤ h w = λ w below off_q. elim (cases_eq w v) [
+      | inl same ↦ omega (arith, ints, ap h same)
+      | inr other ↦ omega (arith, ints, off w other, rich w below off_q)
+    ] in
+    omega (
+      arith,
+      ints,
+      off q (omega arith),
+      sum_below-one n q h vertex high,
+      sum_below-differ_at n f h v inside (λ w _ other. sym (off w other)),
+    )
 
 pub sum_below-at_most : (n M : ℕ) (f : ℕ → ℤ) → ((w : ℕ) → w < n → f w ≤ℤ pos M) → sum_below n f ≤ℤ pos (n * M)
-sum_below-at_most zero M f high = omega (arith, ints)
-sum_below-at_most (suc n) M f high =
-    let before : sum_below n f ≤ℤ pos (n * M) = sum_below-at_most n M f (λ w below. high w (omega arith)) in
-    let last : f n ≤ℤ pos M = high n (omega arith) in
-    omega (arith, ints, suc-mul n M)
+sum_below-at_most n M f high = omega (arith, ints, sum_below-le n f (λ w. pos M) high, sum_below-same n M)
 
 pub record IsLed (g : Multigraph) (q : ℕ) (D E : Amounts) : Type 0 where
   pub no_debt : IsEffectiveOff g q E

@@ -7,15 +7,10 @@ pub sum_below-total : (n : ℕ) (f : ℕ → ℤ) (h : ℕ → ℕ) → ((w : �
     sum_below n f ≡ pos (nat_sum_below n h)
 sum_below-total zero f h same = refl
 sum_below-total (suc n) f h same =
-    let before : sum_below n f ≡ pos (nat_sum_below n h) = sum_below-total n f h (λ w below. same w (omega arith)) in
-    let last : f n ≡ pos (h n) = same n (omega arith) in
-    omega (arith, ints)
+    omega (arith, ints, sum_below-total n f h (λ w below. same w (omega arith)), same n (omega arith))
 
 pub sum_below-minus : (n : ℕ) (f : ℕ → ℤ) (h : ℕ → ℕ) → ((w : ℕ) → w < n → f w +ℤ pos (h w) ≡ pos 0) →
     sum_below n f +ℤ pos (nat_sum_below n h) ≡ pos 0
 sum_below-minus zero f h cancels = refl
 sum_below-minus (suc n) f h cancels =
-    let before : sum_below n f +ℤ pos (nat_sum_below n h) ≡ pos 0 =
-    sum_below-minus n f h (λ w below. cancels w (omega arith)) in
-    let last : f n +ℤ pos (h n) ≡ pos 0 = cancels n (omega arith) in
-    omega (arith, ints)
+    omega (arith, ints, sum_below-minus n f h (λ w below. cancels w (omega arith)), cancels n (omega arith))

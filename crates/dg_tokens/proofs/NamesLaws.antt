@@ -1,5 +1,4 @@
 -- Names of vertices.
---   is_name            whether bytes are a name
 --   IsUtf8-name        a name is UTF-8
 --   AreNames-nil       no names are names
 --   AreNames-push      a new name after names gives names
@@ -8,11 +7,8 @@
 --   name_at-place_of   the vertex of a name has that name
 --   place_of-name_at   the name of a vertex has that vertex
 --   bytes_eq-swaps     comparing bytes is symmetric
-use Rattle.dg_tokens.proofs.Common.{◌≡◌, ℕ, zero, suc, ◌<◌, Bool, true, false, not, ◌&&◌, List, [], ◌∷◌, ◌++◌, length, Some, IsTrue, refl, sym, subst, ◌||◌, ◌∙◌, arith, inl, inr, All, bytes_eq, leb, ◌==◌, IsUtf8, AllByRecursion, list_all, prefix_len, false≢true, false_from_ne_true, and_parts, leb-true, lt-ltb, eqb-true, cond_both, or_cases, All-nil, All-cons, All-head, All-tail, All-push, position-Some, bytes_eq-Decides, IsUtf8-from_ascii, IsAscii-from_all, IsName, AreNames, is_byte_between, is_name_byte, names_contain, names_inserted, name_at, place_of}
+use Rattle.dg_tokens.proofs.Common.{◌≡◌, ℕ, zero, suc, ◌<◌, Bool, true, false, not, List, [], ◌∷◌, ◌++◌, length, Some, IsTrue, refl, sym, subst, ◌||◌, ◌∙◌, arith, inl, inr, All, bytes_eq, leb, ◌==◌, IsUtf8, AllByRecursion, prefix_len, false≢true, false_from_ne_true, and_parts, leb-true, lt-ltb, eqb-true, cond_both, or_cases, All-nil, All-cons, All-head, All-tail, All-push, position-Some, bytes_eq-Decides, IsUtf8-from_ascii, IsAscii-from_all, IsName, AreNames, is_byte_between, is_name_byte, names_contain, names_inserted, name_at, place_of}
 use Rattle.std.specs.List.{IsDistinct}
-
-abbrev pub is_name : List ℕ → Bool
-is_name bytes = leb 1 (length bytes) && leb (length bytes) 16 && list_all is_name_byte bytes
 
 below : (low high b : ℕ) → is_byte_between low high b ≡ true → high < 128 → b < 128
 below low high b within few =

@@ -7,23 +7,27 @@ use Rattle.dg_burn.proofs.burning.burn_counted.Goals as goal
 
 pub burn_vertex-requires-clause-room : goal.burn_vertex-requires-clause-room
 burn_vertex-requires-clause-room c =
-    λ w. fire-room c.args.graph.now c.args.held.now c.new-unlit.result c.args.q w c.size-size.ensures.graph
-    (fire-unlit c.args.graph.now c.args.held.now c.new-unlit.result c.new-unlit.ensures)
+    λ w. fire-room graph.now held.now new-unlit.result q w is_graph
+    (fire-unlit graph.now held.now new-unlit.result new-unlit.ensures)
+  where
+    open c use {args.{graph, held, q}, new-unlit, size-size.{ensures.{graph as is_graph}}}
 
 pub burning-init : goal.burning-init
 burning-init c = record {
-  state = burning-lit c.args.graph.now c.args.q (list_amounts c.args.held.now)
-      (burns c.args.graph.now.size c.new-unlit.result) _ c.requires
-      c.new-unlit.ensures.none_burns
-      (left-less c.args.graph.now.size c.new-unlit.result c.burn_vertex.new.self c.args.q c.requires
-      c.burn_vertex.ensures.left);
-  fire = fire-more c.args.graph.now c.args.held.now c.new-unlit.result c.burn_vertex.new.self c.args.q
-      c.size-size.ensures.graph.multigraph c.requires (c.new-unlit.ensures.none_burns c.args.q)
-      (fire-unlit c.args.graph.now c.args.held.now c.new-unlit.result c.new-unlit.ensures)
-      c.burn_vertex.ensures.left c.burn_vertex.ensures.heat;
+  state = burning-lit graph.now q (list_amounts held.now) (burns graph.now.size unlit) _ c.requires new-unlit.ensures.none_burns
+      (left-less graph.now.size unlit lit q c.requires burnt.left);
+  fire = fire-more graph.now held.now unlit lit q is_graph.multigraph c.requires (new-unlit.ensures.none_burns q)
+      (fire-unlit graph.now held.now unlit new-unlit.ensures) burnt.left burnt.heat;
   places = refl;
-  rest = none_after 15 c.args.q;
-}
+  rest = none_after 15 q;
+} where
+  open c use {
+    args.{graph, held, q},
+    new-unlit,
+    new-unlit.{result as unlit},
+    burn_vertex.{new.{self as lit}, ensures as burnt},
+    size-size.{ensures.{graph as is_graph}},
+  }
 
 pub bounds-order-count : goal.bounds-order-count
 bounds-order-count c =
