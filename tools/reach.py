@@ -8,7 +8,8 @@ from repository import files, read
 TOKEN = re.compile(r"[^\s(){}\[\],;`]+")
 ITEM = re.compile(r"(?:(?:pub|abbrev|unfoldable|opaque) )*(?:(?:record|data|ruleset) )?([^\s:(){}.]+)(?= |$)")
 OPENS = re.compile(r"(?:pub )?module\b")
-NO_ITEM = re.compile(r"(?:pub )?(?:use|mod|unfolding)\b|unfoldable pub use\b|--|[|)}\]]")
+IMPORT = re.compile(r"(?:(?:pub|unfoldable) )*(?:use|mod)\b")
+NO_ITEM = re.compile(r"unfolding\b|--|[|)}\]]")
 
 
 class File:
@@ -27,6 +28,8 @@ class File:
                 if text.endswith("where"):
                     scopes.append(scopes[-1] + 2)
                     module = []
+                continue
+            if IMPORT.match(text):
                 continue
             if indent == scopes[-1] and text and not NO_ITEM.match(text):
                 item = ITEM.match(text)[1] if ITEM.match(text) else item
