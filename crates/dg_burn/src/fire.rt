@@ -57,14 +57,14 @@ impl Fire {
     }
 }
 
-/// What each holds less than enough, 0 if that is more.
+/// 127 less what each vertex holds, and no less than 0: its heat before anything burns.
 fn initial_heat(held: u8x16) -> u8x16
     ensures { (v : ℕ) → v < MAX_VERTICES → slice_index result v ≡ 127 - slice_index held v }
 {
     held.simd_max(u8x16::splat(ENOUGH)) - held
 }
 
-/// The heat with the edges of a row more.
+/// Adds a row of edges to the heat, lane by lane.
 fn with_row(heat: u8x16, row: u8x16) -> u8x16
     requires { (v : ℕ) → v < MAX_VERTICES → slice_index heat v + slice_index row v ≤ 255 }
     ensures { (v : ℕ) → v < MAX_VERTICES →

@@ -31,8 +31,8 @@ pub fn determining_set(graph: &Graph, within: u16) -> u16
     asked
 }
 
-/// Whether something hangs loosely on each connected set that has all vertices of one set, and none of another. Where
-/// something hangs on the one, only a larger set that takes a vertex of it can be special.
+/// Whether no special set has all of `set` and none of `stop`. If something hangs on `set`, only a larger set that takes a
+/// vertex of it can be special.
 fn has_no_special_set(graph: &Graph, q: usize, set: u16, stop: u16) -> bool
     requires { IsConnectedBetween graph.now (in_set set) q (in_set stop) }
     ensures { MatchBool result
@@ -108,7 +108,7 @@ fn count_adjacent(graph: &Graph, set: u16, part: u16, stop: u16) -> usize {
     count
 }
 
-/// So many dollars at each vertex of a set that it does not burn, and none elsewhere.
+/// 64 dollars at each vertex of the set, which is more than its edges, so that it does not burn; and none elsewhere.
 fn fireproof_amounts(graph: &Graph, set: u16) -> [u8; 16]
     ensures { (v : ℕ) → v < graph.now.size → list_amounts result v ≡ fireproof_divisor (in_set set) v }
 {

@@ -18,7 +18,7 @@ pub fn cut(bytes: &[u8], at: u8) -> (&[u8], Option<&[u8]>)
     }
 }
 
-/// The first place of the byte. If there are 32 bytes, these are looked at together, because most words end there.
+/// Index of the first `at`. The first 32 bytes, if there are so many, are compared at once, because most words end there.
 fn find_byte(bytes: &[u8], at: u8) -> Option<usize>
     ensures { result ≡ position (λ byte. byte == at) bytes.now }
 {
@@ -32,7 +32,7 @@ fn find_byte(bytes: &[u8], at: u8) -> Option<usize>
     find_far_byte(bytes, at)
 }
 
-/// The first place of the byte, if it is far. This stands apart, so that a byte that is near costs nothing for it.
+/// Index of the first `at`, by `memchr`. It stands apart, so that a byte that is near costs nothing for it.
 #[inline(never)]
 fn find_far_byte(bytes: &[u8], at: u8) -> Option<usize>
     ensures { result ≡ position (λ byte. byte == at) bytes.now }

@@ -28,7 +28,7 @@ pub(crate) fn write_number(number: i64, line: &mut [u8], end: usize) -> usize
     start - 1
 }
 
-/// The same for a number of more bits.
+/// Writes a number of 128 bits so that it ends at `end`, and says where it starts.
 #[inline(always)]
 pub(crate) fn write_wide(number: i128, line: &mut [u8], end: usize) -> usize
     requires room { MAX_DIGITS ≤ end }
@@ -43,7 +43,7 @@ pub(crate) fn write_wide(number: i128, line: &mut [u8], end: usize) -> usize
     }
 }
 
-/// The same for a number that may need more than 64 bits. It stands apart, so that no room for one is cleared if there is none.
+/// `write_wide` for a number that needs more than 64 bits. It stands apart, so that no buffer is cleared without one.
 #[cold]
 #[inline(never)]
 fn write_long(number: i128, line: &mut [u8], end: usize) -> usize

@@ -61,7 +61,7 @@ impl<N: Name> Prefix<N> {
         self.len
     }
 
-    /// The same once more.
+    /// A copy: a history only grows, so what it begins with stays so.
     pub fn copy(&self) -> Prefix<N>
         ensures { result ≡ self.now }
     {

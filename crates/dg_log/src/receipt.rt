@@ -47,7 +47,7 @@ impl<N: Name> Receipt<N> {
         self.number
     }
 
-    /// The same receipt once more.
+    /// A copy of the receipt: what it knows stays so, and may be known twice.
     pub fn again(&self) -> Receipt<N>
         ensures { result ≡ self.now }
     {

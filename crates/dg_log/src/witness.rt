@@ -34,7 +34,7 @@ impl<T> Witness<T> {
         }
     }
 
-    /// The same once more.
+    /// A copy: what is known of a cell that is set once stays so.
     pub fn copy(&self) -> Witness<T>
         ensures { (result.cell ≡ self.now.cell) × (result.value ≡ self.now.value) }
     {

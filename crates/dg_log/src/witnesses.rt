@@ -41,7 +41,7 @@ impl<T> Witnesses<T> {
         }
     }
 
-    /// The same once more.
+    /// A copy: what is known of cells that are set once stays so.
     pub fn copy(&self) -> Witnesses<T>
         ensures { result.items ≡ self.now.items }
     {

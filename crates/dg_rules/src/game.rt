@@ -181,8 +181,8 @@ impl Game {
         self.reply_to_plain(plain, &mut entry.reply);
     }
 
-    /// Writes the reply to a call that is right as the game stands. If the caller knows that the game and the reply lie apart,
-    /// what a look shows is copied once.
+    /// Writes the reply to a call that is right as the game stands. It is inlined, so that what a look shows is copied once, not
+    /// twice, if the caller knows that the game and the reply lie apart.
     #[inline(always)]
     fn reply_to_plain(&self, plain: &Plain, reply: &mut Reply)
         ensures { (before : ℕ → ℕ) →

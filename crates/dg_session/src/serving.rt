@@ -62,9 +62,9 @@ pub fn serve<N: Name, R: Threads + Wait, I: Read + Drop, O: Write + Drop>(
     )
 }
 
-/// The same for one or more seats, over streams that the caller keeps. If the lines name seats, by their places from 1, each
-/// line makes a call of the seat that it names. Each seat keeps a look of its own. A line for no seat is answered with
-/// `bad seat`. The conditions are the same, and at least one seat.
+/// Answers the lines of one or more seats as `serve` answers those of one, over streams that the caller keeps. If the lines name
+/// seats, by their places from 1, each line makes a call of the seat that it names. Each seat keeps a look of its own. A line
+/// for no seat is answered with `bad seat`. The conditions are those of `serve`, and at least one seat.
 pub fn serve_seats<N: Name, R: Threads + Wait, I: Read, O: Write>(
     rt: &R,
     alloc: Global,
@@ -138,7 +138,7 @@ pub(crate) fn serve_unheard<N: Name, R: Threads + Wait>(
     }
 }
 
-/// Each seat has found a history of its table. Nothing is done.
+/// For the prover: brings in each seat's invariant, by which it has found a history of its table.
 fn seats_have_prefixes<N: Name>(seats: &[Seat<N>])
     ensures { All (HasPrefix N.table) seats.now }
 {

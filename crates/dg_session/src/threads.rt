@@ -144,8 +144,8 @@ const SHARE: usize = 100;
 // The most pieces that are asked for at once.
 const MAX_GROWTHS: usize = 16;
 
-// Asks for the space of a script's entries at once, and gives it back, which leaves it to them. Otherwise the C library asks the
-// system for each page of it, and all other threads wait meanwhile. If it is refused, that is what happens.
+// Grows the heap once: asks for the space of a script's entries, and gives it back, which leaves it to them. Otherwise the C
+// library asks the system for each page of it, and all other threads queue. If it is refused, that is what happens.
 fn grow_heap(alloc: Global, bytes: usize) {
     let mut pieces = Vec::new(alloc);
     for _ in 0..(bytes / (GROWTH_SIZE / SHARE) + 1).min(MAX_GROWTHS) {

@@ -103,7 +103,7 @@ fn push_below(k: u32, form: Form, size: usize, answer: &mut Vec<u8>) -> Result<(
     }
 }
 
-/// The same in words.
+/// `rank below K at ?`, into an empty buffer.
 fn push_below_words(k: u32, answer: &mut Vec<u8>) -> Result<(), AllocError>
     requires { answer.old.items ≡ [] }
     ensures { OnOk result (answer.new.items ≡ codes "rank below " ++ decimal k ++ codes " at ?\n") }
@@ -145,7 +145,7 @@ fn push_ranks_line(
     push_number(answer, form, "dual ", dual_rank, b"\n")
 }
 
-/// The degree and the genus of a subject, with a space after each, into an empty buffer.
+/// The front of a line, `degree D genus G ` or these two numbers, into an empty buffer.
 fn push_degree_genus(
     subject: &Subject<'_>,
     form: Form,

@@ -70,7 +70,7 @@ pub(crate) fn retry_flush<O: Write>(writer: &mut O) -> io::Result<()>
     Err(interrupted_error())
 }
 
-/// That 2^64 - 1 tries were interrupted, which nobody will see.
+/// What a loop answers after 2^64 - 1 interrupted tries. Nobody will see it, but a loop needs a bound.
 fn interrupted_error() -> Error
     ensures { error_kind result ≢ ErrorKind.Interrupted }
 {

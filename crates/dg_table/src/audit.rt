@@ -34,7 +34,7 @@ impl<N: Name> Audit<N> {
         self.pen.len()
     }
 
-    /// The entry of this number, where it lies. The condition is that there is one.
+    /// Borrows entry `number`. The condition is that there is one.
     pub fn entry(&self, number: u32) -> &Entry
         requires { number < length self.now.pen.entries }
         ensures { slice_get self.now.pen.entries number ≡ Some result.now }

@@ -182,7 +182,7 @@ impl<N: Name> Seat<N> {
         self.look
     }
 
-    /// The same where it lies.
+    /// `look_data` by reference, for a reader that wants no copy.
     pub fn last_look(&self) -> Option<&LookData>
         ensures { MatchOption result (IsLastLook self.now.mine None)
             (λ x. IsLastLook self.now.mine (Some x.now) × IsSizedLook N.table.start.graph.size x.now) }
@@ -207,7 +207,7 @@ impl<N: Name> Seat<N> {
         Ok(())
     }
 
-    /// Tells the seat of an entry. The condition is that it has space to be told.
+    /// `learn` where the space is reserved, so that nothing can be refused. The condition is that it is.
     pub(crate) fn learn_reserved(&mut self, receipt: &Receipt<N>)
         requires { self.old.hears ≡ true }
         ensures number { self.new.number ≡ self.old.number }

@@ -115,7 +115,7 @@ pub fn laws_of_duality()
 
 /// Where it is enough to try a rank test. A connected set of vertices is special if nothing hangs loosely on it, and a set
 /// that meets each special set is rank-determining: a divisor that can bear each loss of k dollars within it has a rank of at
-/// least k. The same for the losses within any set, and so for the first loss: only the special sets that this one meets
+/// least k. So it is with the losses within any set, and with the first loss: only the special sets that this one meets
 /// count. Burning tells whether a set is special: a dollar at each vertex beside it is then reduced. From a part of a
 /// connected set an edge leads to what else is in the set, and so all connected sets can be tried.
 pub fn laws_of_determining()

@@ -54,7 +54,7 @@ pub fn leading_integer(text: &[u8]) -> Option<(i64, &[u8])>
     leading_nonnegative(text)
 }
 
-/// The same of a minus and what stands after it.
+/// The whole number with which a text begins that is a minus and then `digits`, and what follows.
 #[inline(always)]
 fn leading_negative(digits: &[u8]) -> Option<(i64, &[u8])>
     ensures { MatchOption result
@@ -74,7 +74,7 @@ fn leading_negative(digits: &[u8]) -> Option<(i64, &[u8])>
     }
 }
 
-/// The same of a text that begins with no minus.
+/// The whole number with which a text begins that has no minus, and what follows.
 #[inline(always)]
 fn leading_nonnegative(text: &[u8]) -> Option<(i64, &[u8])>
     requires { slice_index text.now 0 ≢ 45 }

@@ -13,7 +13,7 @@ use std::test::Fail;
 enum Shape {
     /// From each vertex to the next.
     Path,
-    /// The same, and from the last vertex to the first.
+    /// From each vertex to the next, and from the last to the first.
     Cycle,
     /// Between any two vertices.
     Complete,

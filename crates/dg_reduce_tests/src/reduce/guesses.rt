@@ -156,7 +156,7 @@ fn certified_after(
     Some(certified_by(graph, q, chips, script, &None))
 }
 
-/// The same, if the burning that a guess for other amounts ends with is at hand.
+/// The reduction that begins with a script, if the burning that a guess for other amounts ends with is at hand.
 fn certified_beside(
     graph: &Graph,
     q: usize,

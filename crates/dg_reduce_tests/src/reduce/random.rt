@@ -32,7 +32,7 @@ impl Dice {
         (self.state >> 33) % limit
     }
 
-    /// The same of bytes.
+    /// A byte below some other.
     fn byte(&mut self, limit: u8) -> u8
         requires { 0 < limit }
         ensures { result < limit }
