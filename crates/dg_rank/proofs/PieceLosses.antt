@@ -96,9 +96,9 @@ module _ {n k c : ℕ} (limits : HasTrials n k c) where
 
   earlier : (i j : ℕ) → i < j → j < c →
       IsLexBefore n (amounts_of_trial (nth_trial n k i)) (amounts_of_trial (nth_trial n k j))
-  earlier i j minus low =
+  earlier i j less low =
       before_amounts n k (nth_trial n k i) (nth_trial n k j) (limits_trial n k c j limits low)
-      ((numbered n k).ascending i j minus (omega (arith, limits_count n k c limits)))
+      ((numbered n k).ascending i j less (omega (arith, limits_count n k c limits)))
 
   number_of : (E : List ℕ) → IsTrial n k E → (e : ℕ) × (e < c) × (nth_trial n k e ≡ E)
   number_of E trial =

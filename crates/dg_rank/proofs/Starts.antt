@@ -145,8 +145,8 @@ module _ {g : Multigraph} {A B : Amounts} {r p : ℕ} {S : List ℕ} (step : IsS
 
   stepped : {W : Type 0} (F : Amounts) → IsTrialFrom g.size r p F → IsNotBefore g.size S F →
       (HoldsAt p (slice_index S p + 1) F → W) →
-      (IsTrialFrom g.size (r - slice_index S p) (p + 1) (less F (only_at p (pos (slice_index S p)))) →
-      IsNotBefore g.size (set S p 0) (less F (only_at p (pos (slice_index S p)))) → W) → W
+      (IsTrialFrom g.size (r - slice_index S p) (p + 1) (minus F (only_at p (pos (slice_index S p)))) →
+      IsNotBefore g.size (set S p 0) (minus F (only_at p (pos (slice_index S p)))) → W) → W
   stepped F from on above alike = by_lt_z (F p) (amounts_of_trial S p)
       (λ (less : F p <ℤ amounts_of_trial S p). absurd (on (record {
         place = p;
@@ -196,7 +196,7 @@ module _ {g : Multigraph} {A B : Amounts} {r p : ℕ} {S : List ℕ} (step : IsS
       same = λ u low. omega (arith, ints, before.same u low, later u, more u);
       smaller = omega (arith, ints, before.smaller, later before.place, more before.place);
     });
-    loses = λ win. loss.loses ((equivalent-winnable g (less A (amounts_of_trial E)) (less B (amounts_of_trial L))
+    loses = λ win. loss.loses ((equivalent-winnable g (minus A (amounts_of_trial E)) (minus B (amounts_of_trial L))
         (step.other.0, λ v below. omega (arith, ints, step.other.1 v below, more v))).0 win);
     first = λ F from on earlier. stepped F from on
         (λ above. absurd (omega (

@@ -1,13 +1,13 @@
 -- What hangs loosely on a connected set, and what a dollar at each vertex beside the set tells of it.
---   total_some           of a sum above 0, some term is above 0
---   edge_into            so from a count of edges into a set above 0, an edge
---   boundary_divisor-inside        no dollar is at a vertex of S
---   boundary_divisor-outside       and at a vertex outside at most one, where an edge leads into S
---   out-le-into          where X hangs loosely on S, no more edges lead out of X than into S
---   fires_hangs          a set that the dollars beside a connected set let fire hangs loosely on it
---   hangs_not_reduced    where something hangs loosely on S, the dollars beside S are not reduced
---   not_reduced_hangs    and the other way round, where S is connected
---   special_is_reduced   the law that says both
+--   total_some                 of a sum above 0, some term is above 0
+--   edge_into                  so from a count of edges into a set above 0, an edge
+--   boundary_divisor-inside    no dollar is at a vertex of S
+--   boundary_divisor-outside   and at a vertex outside at most one, where an edge leads into S
+--   out-le-into                where X hangs loosely on S, no more edges lead out of X than into S
+--   fires_hangs                a set that the dollars beside a connected set let fire hangs loosely on it
+--   hangs_not_reduced          where something hangs loosely on S, the dollars beside S are not reduced
+--   not_reduced_hangs          and the other way round, where S is connected
+--   special_is_reduced         the law that says both
 use Rattle.std.specs.Prelude.{min}
 use Rattle.dg_theory.proofs.Common.{IsLegalSetFiring, if◌then◌else◌, ◌≡◌, ◌≢◌, ℕ, zero, suc, ◌<◌, ◌≤◌, ⊎_elim, Bool, true, false, arith, refl, sym, ap, ◌∙◌, cases_Bool, cases_lt, both_ways, false_from_ne_true, ints, pos, ◌≤ℤ◌, nat_sum_below, Multigraph, IsMultigraph, edges_between, IsReduced, edges_out, edges_into, HangsLoosely, IsConnectedSet, boundary_divisor, edges_within, SpecialIsReduced}
 use Rattle.dg_theory.proofs.TotalLaws.{nat_sum_below-le, nat_sum_below-term}

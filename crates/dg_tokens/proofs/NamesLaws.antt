@@ -1,12 +1,12 @@
 -- Names of vertices.
---   IsUtf8-name        a name is UTF-8
---   AreNames-nil       no names are names
---   AreNames-push      a new name after names gives names
---   AreNames-added     names stay names if a name is added
---   names_contain-no_name        what is no name is not among names
---   name_at-place_of   the vertex of a name has that name
---   place_of-name_at   the name of a vertex has that vertex
---   bytes_eq-swaps     comparing bytes is symmetric
+--   IsUtf8-name             a name is UTF-8
+--   AreNames-nil            no names are names
+--   AreNames-push           a new name after names gives names
+--   AreNames-added          names stay names if a name is added
+--   names_contain-no_name   what is no name is not among names
+--   name_at-place_of        the vertex of a name has that name
+--   place_of-name_at        the name of a vertex has that vertex
+--   bytes_eq-swaps          comparing bytes is symmetric
 use Rattle.dg_tokens.proofs.Common.{◌≡◌, ℕ, zero, suc, ◌<◌, Bool, true, false, not, List, [], ◌∷◌, ◌++◌, length, Some, IsTrue, refl, sym, subst, ◌||◌, ◌∙◌, arith, inl, inr, All, bytes_eq, leb, ◌==◌, IsUtf8, AllByRecursion, prefix_len, false≢true, false_from_ne_true, and_parts, leb-true, lt-ltb, eqb-true, cond_both, or_cases, All-nil, All-cons, All-head, All-tail, All-push, position-Some, bytes_eq-Decides, IsUtf8-from_ascii, IsAscii-from_all, IsName, AreNames, is_byte_between, is_name_byte, names_contain, names_inserted, name_at, place_of}
 use Rattle.std.specs.List.{IsDistinct}
 

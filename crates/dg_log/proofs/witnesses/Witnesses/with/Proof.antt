@@ -1,16 +1,16 @@
--- `and` copies what both references hold, and joins the one note to the many.
+-- `with` copies what both references hold, and joins the one note to the many.
 use Rattle.dg_log.proofs.Common.{◌≡◌, ℕ, List, [], ◌∷◌, ◌++◌, refl, w32, a_type, named, Val, vptr, vint, inst_fn, SProp, emp, ‵, raw, ◌⊛◌, ◌$◌, ◌∵◌, !, qed, by, move, keep, drop, use0, use1, use2, split, fsplit, fsplit3, fjoin, no_more, and_then, returns, enter, alloc_all, pass_all, free_all, look_at, get, sets, agg, tables, fact, fact_i, yes, RattleType, owns, types_at, plain, nothing, unhide, param, layouts, RefOf, u32, uint_vals, uint_Tells, shr_vals, shr_Tells, alive, Stays, stay_dropped, walk_of, Goes-dropped, proved, leaves, noted_cells}
 use Rattle.dg_log.specs.contracts.witnesses.Witnesses as witnesses
 use Rattle.dg_log.specs.contracts.witness.Witness as witness
 use Rattle.dg_log.proofs.AllNoted.{all_more}
 use Rattle.dg_log.proofs.Tokens.{token, witnesses_made}
-use Rattle.dg_log.specs.contracts.witnesses.Witnesses.and.{ended, clauses}
-use Rattle.dg_log.specs.contracts.witnesses.Witnesses.and.Key.{name as #self}
+use Rattle.dg_log.specs.contracts.witnesses.Witnesses.with.{ended, clauses}
+use Rattle.dg_log.specs.contracts.witnesses.Witnesses.with.Key.{name as #self}
 use Rattle.dg_log.proofs.witnesses.Witnesses.with.Statement.{statement}
 use Rattle.dg_log.proofs.witnesses.Witnesses.with.Code as code
 
-pub and_spec : {M : Type 1} → statement M
-and_spec 𝓤 𝓛 𝓜 𝓡 wired T L =
+pub with_spec : {M : Type 1} → statement M
+with_spec 𝓤 𝓛 𝓜 𝓡 wired T L =
     let H = 𝓛.H in let 𝓣 = tables 𝓤 H 𝓜 𝓡 𝓡.env in let R : RattleType = param 0 T in let En = ended T in
     let S : RattleType = witnesses.the_row R in let K : RattleType = witness.the_row R in
     let inst = layouts (a_type ∷ []) (T, tt) in let fn = inst_fn inst code.function in
