@@ -1,6 +1,5 @@
 -- Sessions, parties and sweeps of the program; faults and exit statuses; and when what is asked for
 -- is done.
-pub mod OfTasks
 pub mod Streams
 pub mod Sessions
 pub mod Parties

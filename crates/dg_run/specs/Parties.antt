@@ -32,7 +32,7 @@ use Rattle.std.specs.Prelude.{◌≡◌, ℕ, ◌+◌, ◌<◌, ◌≤◌, List,
 use Rattle.std.specs.Io.KnownBytes.{Appends, Keeps}
 use Rattle.dg_run.specs.Common.{MAX_SEATS, SessionEnd, AppendsFront, StartData, table_data_of, IsParty, IsPartyRefused, PartyRefusal, Held, MayHold, IsSourceFault, MayHoldAll, IsFirstUnread, TaskFault, Source, File, DescribesTable, IsOnTable, RefusesContents, SourceFault, PartyTask, OutOfMemory}
 use Rattle.dg_session.specs.declared.played.PartyRefusal.TheVariants as party
-use Rattle.dg_run.specs.OfTasks.{IsTaskFault}
+use Rattle.dg_run.specs.Status.{IsTaskFault}
 use Rattle.dg_run.specs.declared.fault.Fault.{Fault}
 use Rattle.dg_run.specs.declared.fault.Fault.TheVariants.{Sessions, Seats, Shortage, History, Write}
 

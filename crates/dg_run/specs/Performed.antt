@@ -13,7 +13,7 @@ use Rattle.std.specs.Prelude.{◌≡◌, ◌⊎◌, ℕ, List, Option, string_by
 use Rattle.std.specs.Io.KnownBytes.{Appends, Keeps}
 use Rattle.dg_run.specs.Common.{Passage, StreamReading, Held, IsAnswer, RefusesTask, Invocation, Task, Serve, Party, Sweep, Text}
 use Rattle.dg_invocation.specs.declared.invocation.Task as asked
-use Rattle.dg_run.specs.OfTasks.{IsTaskFault}
+use Rattle.dg_run.specs.Status.{IsTaskFault}
 use Rattle.dg_run.specs.Streams.{BreaksOff}
 use Rattle.dg_run.specs.Sessions.{Serves, RefusesServing}
 use Rattle.dg_run.specs.Parties.{PlaysParty, RefusesParty}

@@ -26,7 +26,7 @@ use Rattle.std.specs.Prelude.{◌≡◌, ℕ, List, length, Option, None, Some, 
 use Rattle.std.specs.Io.KnownBytes.{Keeps}
 use Rattle.std.specs.List.{enumerate_from}
 use Rattle.dg_run.specs.Common.{Entry, AreFresh, IsClosed, IsCloseRefused, SeatView, Setup, setup_of, Passage, passage, IsSession, LineFormat, OneSeat, BySeat, SessionEnd, Table, Full, Held, IsOnTable, RefusesTable, seat_count, ServeTask, OutOfMemory, StartData, table_data_of}
-use Rattle.dg_run.specs.OfTasks.{IsTaskFault}
+use Rattle.dg_run.specs.Status.{IsTaskFault}
 use Rattle.dg_run.specs.declared.fault.Fault.{Fault}
 use Rattle.dg_run.specs.declared.fault.Fault.TheVariants.{Session, Shortage, History}
 

@@ -1,4 +1,5 @@
--- The exit statuses of runs that end with a fault.
+-- Faults of runs, and the exit statuses of those that end with one.
+--   IsTaskFault P fault    == it is the fault of a task, and P holds of that
 --   IsStatus n             == 0, or the status of a run that ends with a fault
 --   status_of_words fault  == the status if the words of the command line ask for nothing
 --   status_of_source fault == the status if a file is not read
@@ -21,6 +22,10 @@ use Rattle.dg_table.specs.declared.fault.Fault.{Fault as TableFault}
 use Rattle.dg_table.specs.declared.fault.Fault.TheVariants.{OutOfMemory as NoMemoryForCall, Full as FullHistory}
 use Rattle.dg_system.specs.declared.sources.SourceFault.TheVariants.{OutOfMemory as NoMemoryToRead}
 use Rattle.dg_file.specs.declared.fault.FileFault.TheVariants.{OutOfMemory as NoMemoryForTable}
+
+abbrev pub IsTaskFault : (TaskFault → Type 0) → Fault → Type 0
+IsTaskFault P (Task fault) = P fault
+IsTaskFault P fault = ⊥
 
 abbrev pub status_of_words : ArgsFault → ℕ
 status_of_words NoMemoryForWords = 4

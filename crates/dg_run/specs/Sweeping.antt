@@ -16,7 +16,7 @@ use Rattle.std.specs.Borrow.{Bor}
 use Rattle.std.specs.Io.KnownBytes.{Keeps}
 use Rattle.dg_run.specs.Common.{Question, SweepTask, Held, MayGive, IsStreamFault, AnswersTableWithin, AnswersAmounts, IsSweep, SweepEnd, IsOnTable, RefusesTable, Source}
 use Rattle.std.specs.Prelude.{◌⊎◌, ℕ, List, Option, None, Some, Result, Ok, Err}
-use Rattle.dg_run.specs.OfTasks.{IsTaskFault}
+use Rattle.dg_run.specs.Status.{IsTaskFault}
 use Rattle.dg_run.specs.declared.fault.Fault.{Fault}
 use Rattle.dg_run.specs.declared.fault.Fault.TheVariants.{Task, Sweep}
 

@@ -3,7 +3,7 @@ ghost use Rattle.std.specs.Prelude.{◌≡◌, ◌⊎◌, ℕ, List, [], length,
 ghost use Rattle.std.specs.Io.KnownBytes.{Appends, Keeps};
 ghost use Rattle.dg_system.specs.Held.{Held};
 ghost use Rattle.dg_table.specs.Opened.{IsSeatCount};
-ghost use Rattle.dg_run.specs.OfTasks.{IsTaskFault};
+ghost use Rattle.dg_run.specs.Status.{IsTaskFault};
 ghost use Rattle.dg_run.specs.Parties.{early, AreFilesHeld, PlaysParty, script_names, RefusesPartyFiles, IsPrintedWith, EndsSome, IsWanting, RefusesParty};
 ghost use Rattle.dg_run.specs.Streams.{IsInputFault, IsOutputFault};
 
