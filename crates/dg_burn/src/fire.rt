@@ -1,4 +1,4 @@
-//! A fire that spreads over a graph.
+//! A fire that spreads over a graph, a row of sixteen bytes at a time: one vertex after another takes twice as many instructions.
 
 ghost use Rattle.std.specs.Prelude.{◌≡◌, ℕ, ◌+◌, ◌-◌, ◌<◌, ◌≤◌, true, nat_lt, MatchOption, slice_index};
 ghost use Rattle.dg_theory.specs.Multigraph.{edges_between};

@@ -1,4 +1,5 @@
-//! The vertices at which it is enough to try a rank test: a set that meets each special set.
+//! The vertices at which it is enough to try a rank test: a set that meets each special set. Without it thin graphs take
+//! many times as long.
 
 ghost use Rattle.std.specs.Prelude.{◌≡◌, ◌≢◌, ℕ, ◌<◌, ⊤, true, MatchBool};
 ghost use Rattle.dg_theory.specs.Determining.{boundary_divisor, Determines, HangsLoosely, IsConnectedSet, MeetsSpecialSets};

@@ -1,4 +1,4 @@
-//! What the library's account of a command's arguments asks for.
+//! What the library's account of a command's arguments asks for. Numbers are judged here: the library takes `+1` and `01`.
 ghost use Rattle.std.specs.Prelude.{◌≡◌, ◌≤◌, ◌↔◌, ◌≢◌, IsTrue, Some, None, IsSomeAnd, map, codes, option_map};
 ghost use Rattle.std.specs.Vec.{vec_len};
 ghost use Rattle.dg_invocation.specs.declared.limits.TheConstants.{MAX_SEATS};

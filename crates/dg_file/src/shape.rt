@@ -1,4 +1,5 @@
-//! The shape of a table file: the JSON value, its four members, and what they hold.
+//! The shape of a table file: the JSON value, its four members, and what they hold. It goes by the value, because no other reader
+//! of the library has a clause that names what it read.
 ghost use Rattle.std.specs.Prelude.{◌≡◌, ◌<◌, Some, IfOk, IfErr, MatchOption, map, option_map};
 ghost use Rattle.serde_json.specs.Data.{array};
 ghost use Rattle.serde_json.specs.View.{view, items_view};

@@ -1,4 +1,4 @@
-//! Names of tables, which exist in the proofs alone.
+//! Names of tables, which exist in the proofs alone. A name is a type, so that receipts of two tables can't be mixed up.
 ghost use Rattle.dg_log.specs.Rows.{RowNames};
 ghost use Rattle.dg_log.specs.Tables.{TableData};
 ghost use Rattle.dg_log.specs.Nobody.{no_row_names, no_table};

@@ -1,4 +1,4 @@
-//! How a history began.
+//! How a history began, in four bytes: by it each call of a seat begins where the last one ended.
 ghost use Rattle.std.specs.Prelude.{◌≡◌, ◌⊎◌, [], length, map, take};
 ghost use Rattle.dg_log.specs.Numbered.{AreBelow, StandIn, IsPrefixOf, IsLongerPrefix};
 

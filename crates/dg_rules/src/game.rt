@@ -1,4 +1,5 @@
-//! The game as it stands, and what calls and findings do to it.
+//! The game as it stands, and what calls and findings do to it. It answers first, and follows the entry once that stands, because
+//! a table's cell may refuse it.
 ghost use Rattle.std.specs.Prelude.{◌≡◌, ◌≢◌, ℕ, ◌+◌, ◌<◌, ◌≤◌, List, [], ◌∷◌, ◌++◌, MatchOption, MatchResult, ⊤};
 ghost use Rattle.std.specs.Bool.{OnTrue};
 ghost use Rattle.std.specs.Int.RustNames.{unsigned_abs};

@@ -1,4 +1,4 @@
-//! Serving a stream of lines.
+//! Serving a stream of lines. Answers are gathered, and written before more is read, so that many lines take few system calls.
 ghost use Rattle.std.specs.Prelude.{◌≡◌, ◌≢◌, ◌≤◌, List, ℕ, [], ◌∷◌, length, Option, None, Some, Err, OnOk, All, true};
 ghost use Rattle.dg_rank.specs.Ranks.{IsWorkerCount};
 ghost use Rattle.dg_table.specs.Histories.{HasPrefix};

@@ -1,4 +1,4 @@
-//! Lines that are amounts for the vertices of one table.
+//! Lines that are amounts for the vertices of one table. They are no JSON, whose reader is twenty times as dear as the question.
 ghost use Rattle.std.specs.Prelude.{◌≡◌, ◌≢◌, ℤ, FitsSigned, IfOk, IfErr, MatchOption};
 ghost use Rattle.std.specs.Option.{option_copied};
 ghost use Rattle.std.specs.Fmt.{signed_decimal};

@@ -1,4 +1,4 @@
-//! Sweeping a stream of lines.
+//! Sweeping a stream of lines. This is no session: a line changes nothing, and one that is too long does not end it.
 ghost use Rattle.std.specs.Prelude.{◌≡◌, ◌≤◌, [], length, Err, true};
 ghost use Rattle.dg_sweep.specs.Kinds.{answers_of};
 ghost use Rattle.dg_sweep.specs.Sweeps.{IsSweep};

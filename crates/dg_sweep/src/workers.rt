@@ -1,4 +1,5 @@
-//! Lines answered among workers, each with a thread of its own.
+//! Lines answered among workers, each with a thread of its own. They take pieces from a counter that no contract
+//! trusts.
 ghost use Rattle.std.specs.Prelude.{◌≡◌, ◌<◌, ◌≤◌, ◌++◌, ℕ, List, [], length, get_or, map, flat_map, All, Contains, IfOk, IfSome, IsOkAnd, OnOk, Err};
 ghost use Rattle.dg_sweep.specs.Kinds.{answers_of};
 ghost use Rattle.dg_sweep.specs.Steps.{AnswersFront, EndsWithNewline};

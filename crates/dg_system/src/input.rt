@@ -1,4 +1,4 @@
-//! Readers that remember whether they failed.
+//! Readers that remember whether they failed, because the library's streams have no clause for a failure.
 ghost use Rattle.std.specs.Prelude.{◌≡◌, ◌<◌, ◌≤◌, length, take, None, IfSome, OnOk, OnErr, true, false};
 ghost use Rattle.std.specs.Io.{ReadsAtMost};
 ghost use Rattle.std.specs.Io.KnownBytes.{Consumes, IsAtEnd, Keeps, ReadConsumes};

@@ -1,4 +1,4 @@
-//! Writers that remember whether they failed.
+//! Writers that remember whether they failed, because the library's streams have no clause for a failure.
 ghost use Rattle.std.specs.Prelude.{◌≡◌, OnOk, OnErr, true, false, []};
 ghost use Rattle.std.specs.Io.KnownBytes.{Appends};
 ghost use Rattle.dg_system.specs.Growth.{AppendsFront};

@@ -1,4 +1,5 @@
-//! Where the bytes of files come from.
+//! Where the bytes of files come from. A source says what it holds under a name, or that nothing is known: so one text serves
+//! memory and the disk.
 ghost use Rattle.std.specs.Prelude.{◌≡◌, ◌≢◌, ◌<◌, ◌≤◌, ℕ, List, length, map, vec_len, IfOk, IfErr, IfSome};
 ghost use Rattle.dg_system.specs.Held.{Held, MayHold, IsSourceFault, held_among, held_from_read, unknown};
 ghost use Rattle.dg_system.specs.Streams.{MayGive, IsStreamFault, stream_remaining};

@@ -1,4 +1,4 @@
-//! What the lock of a table holds.
+//! What the lock of a table holds. It has a contract of its own, because no clause can name what a lock holds.
 ghost use Rattle.std.specs.Prelude.{ℕ, List, Some, slice_get, ◌≡◌, ◌<◌, ◌≤◌, ◌↔◌, [], ◌∷◌, ◌++◌, true, false, length, IsTrue, IfOk, IfSome, IfErr, MatchOption, MatchResult, MatchBool, OnErr};
 ghost use Rattle.dg_chips.specs.Starts.{StartData};
 ghost use Rattle.dg_rules.specs.Legal.{IsSeatNumber, IsLegal};
