@@ -75,9 +75,9 @@ fn play_step(
     names: &Names,
     step: &Step,
 ) -> Result<(), RehearseFault>
-    requires { MayGoOn names.now rehearsal_answer.old text.old.items }
-    ensures { GoesOn names.now step.now (played rehearsal_answer.old text.old.items)
-        (played rehearsal_answer.new text.new.items) result }
+    requires { MayGoOn names.now rehearsal.old text.old.items }
+    ensures { GoesOn names.now step.now (played rehearsal.old text.old.items)
+        (played rehearsal.new text.new.items) result }
 {
     let number = rehearsal.game.entries() as usize;
     match rehearsal.play(step, entry) {

@@ -5,7 +5,7 @@ use Rattle.dg_abi.proofs.rows.put.Given as goal
 abbrev pub invariant-loop-v : goal.invariant-loop-v
 invariant-loop-v g l = record {
   length : length l.row ≡ length l.initial.row;
-  holds : (z : g.T) (w : ℕ) → w < l.v → slice_index_or l.row (l.start + w) z ≡ slice_index_or l.numbers w z;
-  elsewhere : (z : g.T) (k : ℕ) → (k < l.start) ⊎ (l.start + l.v ≤ k) →
+  holds : (z : g.row.T.Denot) (w : ℕ) → w < l.v → slice_index_or l.row (l.start + w) z ≡ slice_index_or l.numbers w z;
+  elsewhere : (z : g.row.T.Denot) (k : ℕ) → (k < l.start) ⊎ (l.start + l.v ≤ k) →
       slice_index_or l.row k z ≡ slice_index_or l.initial.row k z;
 }
