@@ -20,6 +20,7 @@ from dollar.vertices import Dollars, Pairs, Vertex, Vertices, whole
 
 if TYPE_CHECKING:
     from dollar.divisors import EffectiveDivisors, LinearSystem, ReducedDivisors
+    from dollar.library import Asker
     from dollar.session import Session
 
 MEMBERS = ("vertices", "edges", "amounts", "q")
@@ -500,6 +501,18 @@ class Table(AbstractMapping[str, Any]):
         from dollar.divisors import level
 
         return rr(level(self)[0], patience=patience, program=program).rank
+
+    def asker(self) -> Asker:
+        """What answers about one divisor of the graph after another, for a search that chooses each by the answers before. It has `rank`
+        and `winnable`, and serves one thread at a time. With the library for C a question takes some microseconds.
+
+        >>> ask = Table([[0, 3], [3, 0]]).asker()
+        >>> ask.rank([2, 2]), ask.winnable([1, -1]), next(n for n in range(9) if ask.rank([n, n]) == 4)
+        (2, False, 3)
+        """
+        from dollar.library import Asker
+
+        return Asker(self)
 
     def effective_divisors(self, degree: int) -> EffectiveDivisors:
         """The effective divisors of a degree on the graph, as tables, in the order of lists; its `count` is their number.
