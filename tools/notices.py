@@ -10,7 +10,8 @@ import repository
 
 # By what the text of a licence is known.
 KNOWN = {"Runtime Library Exception": "GPL-3.0-or-later WITH GCC-exception-3.1", "Apache License": "Apache-2.0",
-         "Permission is hereby granted, free of charge": "MIT", "Boost Software License": "BSL-1.0", "GNU LESSER GENERAL PUBLIC LICENSE": "LGPL-2.1-or-later"}
+         "Permission is hereby granted, free of charge": "MIT", "Boost Software License": "BSL-1.0",
+         "GNU LESSER GENERAL PUBLIC LICENSE": "LGPL-2.1-or-later"}
 # Where Debian has the texts of some licences. A copyright file of Debian leads there, and all others have the text.
 COMMON = {"Apache-2.0": Path("/usr/share/common-licenses/Apache-2.0"), "LGPL-2.1-or-later": Path("/usr/share/common-licenses/LGPL-2.1")}
 OWN = """dollar: no licence is given yet; the choice is the owner's.

@@ -121,7 +121,7 @@ class Asking:
     def of_rows(self, rows: Sequence[Tuple[int, ...]]) -> Tuple[array[int], List[Sequence[int]]]:
         """The same of rows of any whole numbers."""
         try:
-            return self.columns(array("q", chain.from_iterable(rows)), map(sum, rows))
+            return self.columns(array("q", [*chain.from_iterable(rows)]), map(sum, rows))
         except OverflowError:
             wrong = [at for at, row in enumerate(rows) if min(row) < -1 << 63 or max(row) >= 1 << 63]
         told, columns = self.of_rows([(0,) * self.size if at in wrong else row for at, row in enumerate(rows)])
