@@ -66,7 +66,7 @@ class Columns(Dict[str, Any]):
 
     def _done(self) -> None:
         """Has all columns, by their names."""
-        self._name([self._numpy.asarray(each) for each in self._columns] if self._numpy else self._columns)
+        self._name([self._numpy.asarray(each).view(self._numpy.int64) for each in self._columns] if self._numpy else self._columns)
         # They were for the reading; without them columns can be pickled, and so leave their process.
         del self._form, self._numpy, self._columns
 
