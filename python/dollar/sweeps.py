@@ -428,9 +428,8 @@ def judge_all(tables: Tables, *, workers: Optional[int] = None, errors: Errors =
 
     With `divisors` the first parameter is one table, and each of them has amounts for it: a list in the order of the vertices, a dict, or
     a table on the same graph. They may also be an array of numpy or a frame of pandas, a row each. The answers are the same as for the
-    table with these amounts, at a small part of the cost. `columns()` of the result has them as arrays. A call of `judge` starts the
-    program, which takes as long as some hundred tables of a sweep, or thousands of divisors: for many graphs ask about all their tables
-    in one sweep.
+    table with these amounts, at a small part of the cost. `columns()` of the result has them as arrays. Where there is no library for C,
+    a call of `judge` starts the program, which takes as long as some hundred tables of a sweep, or thousands of divisors.
 
     >>> [verdict.winnable for verdict in judge_all(pair, divisors=([amount, -1] for amount in range(4)))]
     [False, False, True, True]

@@ -492,7 +492,7 @@ class Table(AbstractMapping[str, Any]):
 
     def rank(self, *, patience: Optional[float] = None, program: Optional[Place] = None) -> int:
         """The rank of the divisor; -1 if it can't be won. On graphs of many edges that may take minutes: with `patience` it is a
-        TimeoutError after so many seconds. For many divisors `rr_all` has their ranks at a hundredth of the cost.
+        TimeoutError after so many seconds. For many divisors `rr_all` has their ranks at a small part of the cost.
 
         >>> Table([[0, 3], [3, 0]], [2, 2]).rank()
         2
