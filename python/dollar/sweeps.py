@@ -20,8 +20,8 @@ from dollar.answers import (
 from dollar.columns import (
     AnyInts, AnyTruths, ArrayInts, Columns, NumpyInts, NumpyTruths, RankTestColumns, RiemannRochColumns, VerdictColumns)
 from dollar.commands import MOST_DEGREE, beside, option
-from dollar.program import Fault, Place, command_line, ended_by, fault_of, talk
 from dollar.library import UNNAMED, Asking, asking, refused
+from dollar.program import Fault, Place, command_line, ended_by, fault_of, talk
 from dollar.readers import (
     Form, divisors_one_by_one, line_form, numpy_or_none, ordered, rank_test_form, riemann_roch_form, rows_of, verdict_form)
 from dollar.table import Graph, Table, one_line
