@@ -1,5 +1,6 @@
-"""What the built program has in it that others wrote: libraries of the toolchain, and the C library where it is linked with it. Their
-licences want their texts to go with each copy, and operators have to list what they run."""
+"""What the built program and the library for C have in them that others wrote: libraries of the toolchain, functions of GCC, and in the
+program the C library where it is linked with it. Their licences want their texts to go with each copy, and operators have to list
+what they run."""
 import json
 import os
 import re
@@ -8,13 +9,17 @@ from pathlib import Path
 import repository
 
 # By what the text of a licence is known.
-KNOWN = {"Apache License": "Apache-2.0", "Permission is hereby granted, free of charge": "MIT", "Boost Software License": "BSL-1.0",
+KNOWN = {"Runtime Library Exception": "GPL-3.0-or-later WITH GCC-exception-3.1", "Apache License": "Apache-2.0",
+         "Permission is hereby granted, free of charge": "MIT", "Boost Software License": "BSL-1.0",
          "GNU LESSER GENERAL PUBLIC LICENSE": "LGPL-2.1-or-later"}
 # Where Debian has the texts of some licences. A copyright file of Debian leads there, and all others have the text.
 COMMON = {"Apache-2.0": Path("/usr/share/common-licenses/Apache-2.0"), "LGPL-2.1-or-later": Path("/usr/share/common-licenses/LGPL-2.1")}
 OWN = """dollar: no licence is given yet; the choice is the owner's.
 
-The program has in it code of others, under the licences below. contents.json lists it.
+The program, and the library for C, have in them code of others, under the licences below. contents.json lists it.
+"""
+GCC = """What the compiler calls for numbers of 128 bits is GCC's, under the GNU General Public License, version 3 or later, with the GCC
+Runtime Library Exception, version 3.1: what has it in it may be given away under any terms.
 """
 RELINKED = """
 The program is linked with the GNU C library. {object} is the program without it: with that, and gcc, it can be linked with another
@@ -42,7 +47,7 @@ class Notices:
     """The libraries whose authors want a notice, each with its version, if its page names one, and with the texts of its licences."""
 
     def __init__(self, kit, has_c_library):
-        self.texts, self.versions = {}, {}
+        self.texts, self.versions = {"libgcc": [GCC]}, {"libgcc": None}
         for name in libraries(kit):
             found = [file.read_text() for file in sorted(Path(kit, "rattle", name).glob("LICENSE*"))]
             if found:

@@ -1,4 +1,4 @@
-"""The dollar game from Python: tables, verdicts, ranks, games and sweeps, by the program `dollar`.
+"""The dollar game from Python: tables, verdicts, ranks, games and sweeps, by the program `dollar` and its library for C.
 
 >>> import dollar
 >>> triangle = dollar.Table({"vertices": ["a", "b", "c"], "edges": [["a", "b", 1], ["b", "c", 1], ["a", "c", 1]],

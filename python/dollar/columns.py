@@ -7,6 +7,7 @@ from typing import TYPE_CHECKING, Any, Dict, Generic, Hashable, List, Mapping, O
 
 from dollar.answers import no_answer
 from dollar.commands import TOO_MANY, beside
+from dollar.library import refused
 from dollar.program import Fault
 from dollar.readers import MARK, Form, rank_test_form, riemann_roch_form, verdict_form
 from dollar.vertices import Vertices
@@ -37,30 +38,37 @@ class Columns(Dict[str, Any]):
         """Columns of the numbers of such lines, as arrays of numpy if that is given."""
         super().__init__()
         self._form, self._numpy, self.count = form, numpy, 0
-        self._parts: List[Any] = []
+        self._columns: List[Any] = [array("q") for _ in range(form.size)]
 
     def __repr__(self) -> str:
         return "<%s: %d answers, with %s>" % (type(self).__name__, self.count, ", ".join(self))
 
     def _add(self, piece: bytes) -> int:
-        """Takes the numbers of some lines, and tells how many lines they are."""
-        found = self._form.read(piece, self._numpy)
+        """Takes the numbers of some lines of the program, and tells how many lines they are."""
+        found = self._form.read(piece)
         if found is None:
             raise self._wrong(piece)
-        self._parts.append(found)
-        self.count += len(found[0])
-        return len(found[0])
+        return self._extend(found)
+
+    def _take(self, told: ArrayInts, columns: List[Any]) -> int:
+        """The same of the library, with what it tells of each row."""
+        if not set(told) <= {0, 1}:
+            at, what = next((at, what) for at, what in enumerate(told) if what not in (0, 1))
+            reason = refused(what) or TOO_MANY
+            raise Fault(reason, 3, self.count + at, beside(reason, None))
+        return self._extend(columns)
+
+    def _extend(self, columns: List[Any]) -> int:
+        for column, found in zip(self._columns, columns):
+            column.extend(found if getattr(found, "typecode", "q") == "q" else found.tolist())
+        self.count = len(self._columns[0])
+        return len(columns[0])
 
     def _done(self) -> None:
-        """Joins the columns of all parts."""
-        if self._numpy:
-            none = self._numpy.zeros((self._form.size, 0), dtype=self._numpy.int64)
-            columns = list(self._numpy.concatenate([none, *self._parts], axis=1))
-        else:
-            columns = [array("q", b"".join(parts)) for parts in zip([b""] * self._form.size, *self._parts)]
-        self._name(columns)
+        """Has all columns, by their names."""
+        self._name([self._numpy.asarray(each).view(self._numpy.int64) for each in self._columns] if self._numpy else self._columns)
         # They were for the reading; without them columns can be pickled, and so leave their process.
-        del self._form, self._numpy, self._parts
+        del self._form, self._numpy, self._columns
 
     def _name(self, columns: List[Any]) -> None:
         """Takes the columns, which have their names from here on."""
@@ -73,7 +81,7 @@ class Columns(Dict[str, Any]):
     def _wrong(self, piece: bytes) -> Exception:
         """What is wrong in lines of which one is no answer with all its numbers."""
         for at, line in enumerate(piece.splitlines(keepends=True)):
-            if self._form.read(line, None) is None:
+            if self._form.read(line) is None:
                 text = line.decode(errors="replace").rstrip("\n")
                 if not text.startswith("refused ") and not line.endswith(b" %b\n" % MARK):
                     return no_answer(text)

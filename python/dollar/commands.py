@@ -11,7 +11,9 @@ from typing import Any, Callable, Iterable, List, Optional, Tuple, TypeVar, Unio
 from dollar.answers import (
     Entry, History, Party, RankTest, RiemannRoch, Verdict, history, pairs_of, rank_test_of, riemann_roch_of, verdict_of, vertices_of)
 from dollar.grammar import GRAMMAR, limit
+from dollar.library import UNNAMED, told
 from dollar.program import Fault, Place, call, fault_of, find_program, printed
+from dollar.readers import rank_test_form, verdict_form
 from dollar.table import MOST_AMOUNT, MOST_BYTES, Asked, Table, file_and_table, made_of, members
 from dollar.vertices import within
 
@@ -128,6 +130,11 @@ def judge(table: Asked, *, program: Optional[Place] = None) -> Verdict:
     >>> print(judge(Table([[0, 1], [1, 0]], [2, -1])))
     winnable by 0=0 1=-1 to 0=1 1=0
     """
+    found = told("judge", table, program)
+    if found and isinstance(table, Table):
+        verdict: Verdict = verdict_form(table._vertices).made([found[0][0], *found[1], *found[2]], table)
+        vars(verdict)["_burning"] = [table.vertices[place] for place in found[3]]
+        return verdict
     return asked(table, lambda file: printed("judge", "--order", file, program=program).rstrip("\n"),
                  lambda text, kept: verdict_of(text, kept, vertices_of(kept)), program)
 
@@ -154,7 +161,12 @@ def rank_test(table: Asked, degree: int, *, workers: Optional[int] = None, patie
     >>> rank_test(Table([[0, 1], [1, 0]], [2, -1]), 2)
     RankTest(holds=False, degree=2, loss={0: 0, 1: 2})
     """
-    word, more = str(within(degree, "the degree", 0, MOST_DEGREE)), option("workers", workers)
+    degree, more = within(degree, "the degree", 0, MOST_DEGREE), option("workers", workers)
+    found = told("rank", table, program, degree) if workers is None else None
+    if found and isinstance(table, Table):
+        test: RankTest = rank_test_form(table._vertices, degree).made([found[0][0], *found[1]] if found[0][0] < UNNAMED else [0], table)
+        return test
+    word = str(degree)
 
     def ask(file: bytes) -> str:
         try:
@@ -174,6 +186,9 @@ def rr(table: Asked, *, patience: Optional[float] = None, program: Optional[Plac
     >>> rr(Table([[0, 1], [1, 0]], [2, -1]))
     RiemannRoch(degree=1, genus=0, rank=1, dual=-1)
     """
+    found = told("rr", table, program)
+    if found and isinstance(table, Table):
+        return RiemannRoch(table.degree, table.genus, found[1][0], found[2][0])
     return asked(table, lambda file: line_of("rr", file, program=program, patience=patience), lambda text, kept: riemann_roch_of(text),
                  program)
 

@@ -1,9 +1,7 @@
-"""The commands for many tables, or for many divisors of one, in one run of the program."""
+"""The commands for many tables, in one run of the program; or for many divisors of one, by the library for C where it is."""
 
 from __future__ import annotations
 
-import contextlib
-import fcntl
 import itertools
 import json
 import os
@@ -11,7 +9,6 @@ import select
 import sys
 import tempfile
 import time
-from array import array
 from collections import deque
 from collections.abc import Mapping as AbstractMapping
 from typing import (
@@ -23,15 +20,14 @@ from dollar.answers import (
 from dollar.columns import (
     AnyInts, AnyTruths, ArrayInts, Columns, NumpyInts, NumpyTruths, RankTestColumns, RiemannRochColumns, VerdictColumns)
 from dollar.commands import MOST_DEGREE, beside, option
+from dollar.library import UNNAMED, Asking, asking, refused
 from dollar.program import Fault, Place, command_line, ended_by, fault_of, talk
 from dollar.readers import (
-    Form, divisors_by_batches, divisors_one_by_one, lines_in, numpy_or_none, ordered, rank_test_form, riemann_roch_form, rows_of, verdict_form)
+    Form, divisors_one_by_one, line_form, numpy_or_none, ordered, rank_test_form, riemann_roch_form, rows_of, verdict_form)
 from dollar.table import Graph, Table, one_line
 from dollar.vertices import Dollars, Vertices, within
 
 AT_ONCE, PIECE, PATIENCE, SLOW = 1 << 16, 1 << 16, 0.05, 0.001
-# How many bytes a wide pipe holds, and what sets that: fcntl has a name for it from Python 3.10 on.
-WIDE, SET_PIPE_SIZE = 1 << 20, 1031
 Found = TypeVar("Found", covariant=True)
 # Columns that may be of two kinds; those that are arrays of numpy; and those of the module `array`.
 Told = TypeVar("Told", bound=Columns, covariant=True)
@@ -63,12 +59,6 @@ class Sweep:
         assert self.child.stdin is not None and self.child.stdout is not None
         self.input, self.output = self.child.stdin, self.child.stdout
         os.set_blocking(self.input.fileno(), False)
-
-    def widen(self) -> None:
-        """Has both pipes hold more, so that the program and Python seldom wait for each other. The system may refuse it."""
-        with contextlib.suppress(OSError):
-            for stream in (self.input, self.output):
-                fcntl.fcntl(stream, SET_PIPE_SIZE, WIDE)
 
     def take(self) -> None:
         """Takes tables: as many as are sent at once, or as come in a short time."""
@@ -179,13 +169,15 @@ class Progress:
 
 
 class Lines(NamedTuple):
-    """What a sweep sends: the words of the command; each table with its line; and the tables by batches, each with its lines, and the
-    vertices, if they are divisors of one."""
+    """What a sweep is asked: what is kept of each table; the words of the command, and the line for what is kept; and if they are divisors
+    of one table, that, these, and the question of the library about them, if it answers."""
 
+    kept: Iterator[Any]
     words: List[Union[str, bytes]]
-    one_by_one: Iterator[Kept]
-    by_batches: Iterator[Kept]
-    vertices: Optional[Vertices]
+    line: Callable[[Any], bytes]
+    table: Optional[Table] = None
+    divisors: Any = None
+    asking: Optional[Asking] = None
 
 
 class Job(NamedTuple):
@@ -202,52 +194,73 @@ class Job(NamedTuple):
     form: Callable[[Any], Form]
     one: Optional[Form]
 
-    def answers(self, piece: bytes, number: int, take: Callable[[], Any]) -> Iterator[Any]:
-        """The answers of some lines, of which the first has this number."""
-        found = self.one and self.one.read(piece, sys.modules.get("numpy"))
-        if self.one is not None and found is not None:
-            made = self.one.made
-            return (made(numbers, take()) for numbers in lines_in(found))
-        texts = piece.decode().split("\n")[:-1]
-        return (self.answer(text, place, take()) for place, text in enumerate(texts, number))
+    def pieces(self) -> Iterator[Tuple[bytes, List[Any]]]:
+        """What the program prints, in whole lines, and what was kept of their tables."""
+        tables = ((kept, self.lines.line(kept)) for kept in self.lines.kept)
+        sweep, answers = Sweep(self.lines.words, tables, self.program, self.patience, self.ahead), 0
+        try:
+            for piece in sweep.pieces():
+                count = piece.count(b"\n")
+                if count > len(sweep.waiting):
+                    raise Fault("more answers came than tables were sent", 0)
+                yield piece, [sweep.waiting.popleft() for _ in range(count)]
+                answers += count
+            sweep.end(answers)
+        finally:
+            sweep.close()
 
-    def answer(self, text: str, number: int, kept: Any) -> Any:
-        """The answer with this text and number. A table that was refused has a row, if it is not raised."""
-        if not text.startswith("refused "):
-            return self.told(text, kept)
-        reason = text[len("refused "):]
+    def by_program(self, number: int) -> Iterator[Any]:
+        """The answers of the program, of which the first has this number."""
+        for piece, tables in self.pieces():
+            found = self.one and self.one.read(piece)
+            if self.one is not None and found is not None:
+                yield from map(self.one.made, zip(*found), tables)
+            else:
+                yield from map(self.answer, piece.decode().split("\n"), itertools.count(number), tables)
+            number += len(tables)
+
+    def by_library(self, number: int) -> Iterator[Any]:
+        """The answers of the library, in the same way."""
+        assert self.lines.asking is not None and self.one is not None
+        for tables in self.lines.asking.batches(self.lines.kept, self.ahead or sys.maxsize):
+            told, columns = self.lines.asking.of_rows([amounts for _, amounts in tables])
+            for at, (what, numbers, kept) in enumerate(zip(told, zip(*columns), tables), number):
+                if what < 0:
+                    yield self.refuse(refused(what), at, kept)
+                else:
+                    yield self.one.made(numbers if what < UNNAMED else (0,), kept)
+            number += len(tables)
+
+    def refuse(self, reason: str, number: int, kept: Any) -> Any:
+        """The row of a table that was refused, if it is not raised."""
         row = refusal(self.refused, reason, number, beside(reason, kept))
         if self.errors == "raise":
             raise Fault(row.text, row.status, number, row.more)
         return row
 
-    def told(self, text: str, kept: Any) -> Any:
-        """The answer of one line of numbers."""
+    def answer(self, text: str, number: int, kept: Any) -> Any:
+        """The answer with this text and number."""
+        if text.startswith("refused "):
+            return self.refuse(text[len("refused "):], number, kept)
         form = self.one or self.form(kept)
-        found = form.read(text.encode() + b"\n", None)
+        found = form.read(text.encode() + b"\n")
         if found is None and self.refused is RefusedRankTest and text == "0" + " NA" * (form.size - 1):
             # The rank is below the degree, and no loss is named.
-            found = [array("q", [0])]
+            found = [[0]]
         if found is None:
             raise no_answer(text)
-        return form.made(next(lines_in(found)), kept)
+        return form.made(next(zip(*found)), kept)
 
 
 def answers_one_by_one(job: Job, number: int, over: List[bool]) -> Iterator[Any]:
     """The answers, of which the first has this number. It is noted in `over` that they have come to their end."""
-    sweep = Sweep(job.lines.words, job.lines.one_by_one, job.program, job.patience, job.ahead)
     progress = Progress(job.progress)
     try:
-        for piece in sweep.pieces():
-            if piece.count(b"\n") > len(sweep.waiting):
-                raise Fault("more answers came than tables were sent", 0)
-            for found in job.answers(piece, number + progress.count, sweep.waiting.popleft):
-                yield found
-                progress.add(1)
-        sweep.end(progress.count)
+        for found in job.by_library(number) if job.lines.asking else job.by_program(number):
+            yield found
+            progress.add(1)
         over.append(True)
     finally:
-        sweep.close()
         progress.close()
 
 
@@ -287,7 +300,7 @@ class Answers(Generic[Found, Told, OfNumpy, OfArray], Iterator[Found]):
         """Leaves out the first tables: they are taken, but not asked about. The numbers of the others stay the same."""
         if self._found is not None:
             raise ValueError("the sweep has begun")
-        self._skipped += sum(1 for _ in itertools.islice(self._job.lines.one_by_one, count))
+        self._skipped += sum(1 for _ in itertools.islice(self._job.lines.kept, count))
 
     @overload
     def columns(self) -> Told: ...
@@ -310,25 +323,19 @@ class Answers(Generic[Found, Told, OfNumpy, OfArray], Iterator[Found]):
         numpy = None if kind == "array" else numpy_or_none()
         if kind == "numpy" and numpy is None:
             raise ImportError("columns of numpy are asked for, and numpy is not installed")
-        job, columns = self._job, self._columns(self._job.lines.vertices, numpy)
+        lines, columns = self._job.lines, self._columns(self._job.lines.table, numpy)
         self.close()
-        sweep = Sweep(job.lines.words, job.lines.by_batches, job.program, job.patience)
-        sweep.widen()
-        progress, answered = Progress(job.progress), 0
+        progress = Progress(self._job.progress)
         try:
-            for piece in sweep.pieces():
-                count = columns._add(piece)
-                progress.add(count)
-                answered += count
-                while sweep.waiting and sweep.waiting[0] <= answered:
-                    answered -= sweep.waiting.popleft()
-            columns._done()
-            sweep.end(columns.count)
-            if answered:
-                raise Fault("more answers came than tables were sent", 0)
+            if lines.asking:
+                for told, found in lines.asking.of_all(lines.divisors, lines.kept):
+                    progress.add(columns._take(told, found))
+            else:
+                for piece, _ in self._job.pieces():
+                    progress.add(columns._add(piece))
         finally:
-            sweep.close()
             progress.close()
+        columns._done()
         return columns
 
 
@@ -337,37 +344,42 @@ RankTests = Answers[Found, RankTestColumns[AnyInts, AnyTruths], RankTestColumns[
 RiemannRochs = Answers[Found, RiemannRochColumns[AnyInts], RiemannRochColumns[NumpyInts], RiemannRochColumns[ArrayInts]]
 
 
-def tables_one_by_one(tables: Any) -> Iterator[Kept]:
-    """What is kept of each table, and its line."""
+def tables_one_by_one(tables: Any) -> Iterator[Union[Table, bytes]]:
+    """What is kept of each table: itself, or its line."""
     if isinstance(tables, (AbstractMapping, str, bytes, os.PathLike)) or hasattr(tables, "edges") or not hasattr(tables, "__iter__"):
         raise TypeError("many tables are asked about, as a list of them, or as `divisors` of one table; and not %.80r" % (tables,))
 
-    def kept_and_line(number: int, table: Any) -> Kept:
+    def kept(number: int, table: Any) -> Union[Table, bytes]:
         try:
-            line, kept = one_line(table)
+            return table if isinstance(table, Table) else one_line(table)[1]
         except (TypeError, ValueError) as error:
             raise type(error)("table %d: %s" % (number, error)) from None
-        return kept, line + b"\n"
 
-    return itertools.starmap(kept_and_line, enumerate(tables))
+    return itertools.starmap(kept, enumerate(tables))
 
 
-def asked(command: str, given: Sequence[str], tables: Any, divisors: Optional[Divisors], workers: Optional[int],
-          errors: str) -> Lines:
-    """What a command over lines is asked."""
+def line_of_table(kept: Union[Table, bytes]) -> bytes:
+    return (kept.to_json().encode() if isinstance(kept, Table) else kept) + b"\n"
+
+
+def asked(command: str, tables: Any, divisors: Optional[Divisors], workers: Optional[int], program: Optional[Place], errors: str,
+          *degree: int) -> Lines:
+    """What a command over lines is asked. Threads are the program's."""
     if errors not in ("row", "raise"):
         raise ValueError("errors are either 'row' or 'raise', and not %r" % (errors,))
-    rest = [*given, "--numbers", *option("workers", workers)]
+    rest = [*map(str, degree), "--numbers", *option("workers", workers)]
     if divisors is None:
-        one_by_one = tables_one_by_one(tables)
-        return Lines([command, "--lines", "/dev/stdin", *rest], one_by_one, ((1, line) for _, line in one_by_one), None)
+        return Lines(tables_one_by_one(tables), [command, "--lines", "/dev/stdin", *rest], line_of_table)
     if isinstance(tables, (list, tuple)) and any(isinstance(each, AbstractMapping) for each in tables):
         raise TypeError("with `divisors` one table is asked about, and not a list of %d" % len(tables))
     table = tables if isinstance(tables, Table) else Table(tables)
-    file = one_line(table)[0]
-    divisors = ordered(table, divisors)
-    return Lines([command, file, "--divisors", "/dev/stdin", *rest], divisors_one_by_one(table, rows_of(divisors)),
-                 divisors_by_batches(table, divisors), table._vertices)
+    file, form, divisors = one_line(table)[0], line_form(len(table.vertices)), ordered(table, divisors)
+
+    def line(kept: Tuple[Table, Tuple[int, ...]]) -> bytes:
+        return form % kept[1]
+
+    return Lines(divisors_one_by_one(table, rows_of(divisors)), [command, file, "--divisors", "/dev/stdin", *rest], line, table, divisors,
+                 asking(command, table, program, *degree) if workers is None else None)
 
 
 def vertices_kept(kept: Any) -> Vertices:
@@ -375,12 +387,12 @@ def vertices_kept(kept: Any) -> Vertices:
     return vertices_of(kept) or Vertices(json.loads(kept)["vertices"])
 
 
-def of_one_table(columns: Callable[[Vertices, Any], Columns]) -> Callable[[Optional[Vertices], Any], Columns]:
+def of_one_table(columns: Callable[[Vertices, Any], Columns]) -> Callable[[Optional[Table], Any], Columns]:
     """Columns by vertices, which only divisors of one table have."""
-    def made(vertices: Optional[Vertices], numpy: Any) -> Columns:
-        if vertices is None:
+    def made(table: Optional[Table], numpy: Any) -> Columns:
+        if table is None:
             raise ValueError("columns by vertices are for `divisors` of one table")
-        return columns(vertices, numpy)
+        return columns(table._vertices, numpy)
 
     return made
 
@@ -416,15 +428,14 @@ def judge_all(tables: Tables, *, workers: Optional[int] = None, errors: Errors =
 
     With `divisors` the first parameter is one table, and each of them has amounts for it: a list in the order of the vertices, a dict, or
     a table on the same graph. They may also be an array of numpy or a frame of pandas, a row each. The answers are the same as for the
-    table with these amounts, at a small part of the cost. `columns()` of the result has them as arrays. A call of `judge` starts the
-    program, which takes as long as some hundred tables of a sweep, or thousands of divisors: for many graphs ask about all their tables
-    in one sweep.
+    table with these amounts, at a small part of the cost. `columns()` of the result has them as arrays. Where there is no library for C,
+    a call of `judge` starts the program, which takes as long as some hundred tables of a sweep, or thousands of divisors.
 
     >>> [verdict.winnable for verdict in judge_all(pair, divisors=([amount, -1] for amount in range(4)))]
     [False, False, True, True]
     """
-    lines = asked("judge", [], tables, divisors, workers, errors)
-    one = None if lines.vertices is None else verdict_form(lines.vertices)
+    lines = asked("judge", tables, divisors, workers, program, errors)
+    one = None if lines.table is None else verdict_form(lines.table._vertices)
     return Answers(Job(lines, program, ahead, None, progress, errors, RefusedVerdict, lambda kept: verdict_form(vertices_kept(kept)), one),
                    of_one_table(VerdictColumns))
 
@@ -454,8 +465,8 @@ def rank_test_all(tables: Tables, degree: int, *, workers: Optional[int] = None,
     ['rank at least 2', 'rank below 2 at 0=0 1=2']
     """
     degree = within(degree, "the degree", 0, MOST_DEGREE)
-    lines = asked("rank", [str(degree)], tables, divisors, workers, errors)
-    one = None if lines.vertices is None else rank_test_form(lines.vertices, degree)
+    lines = asked("rank", tables, divisors, workers, program, errors, degree)
+    one = None if lines.table is None else rank_test_form(lines.table._vertices, degree)
     return Answers(Job(lines, program, ahead, patience, progress, errors, RefusedRankTest,
                        lambda kept: rank_test_form(vertices_kept(kept), degree), one), of_one_table(RankTestColumns))
 
@@ -485,6 +496,6 @@ def rr_all(tables: Tables, *, workers: Optional[int] = None, errors: Errors = "r
     >>> [numbers.rank for numbers in rr_all(pair, divisors=([amount, 1] for amount in range(4)))]
     [0, 1, 1, 2]
     """
-    lines = asked("rr", [], tables, divisors, workers, errors)
+    lines = asked("rr", tables, divisors, workers, program, errors)
     form = riemann_roch_form()
     return Answers(Job(lines, program, ahead, patience, progress, errors, RefusedRiemannRoch, lambda kept: form, form), RiemannRochColumns)

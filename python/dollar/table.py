@@ -20,6 +20,7 @@ from dollar.vertices import Dollars, Pairs, Vertex, Vertices, whole
 
 if TYPE_CHECKING:
     from dollar.divisors import EffectiveDivisors, LinearSystem, ReducedDivisors
+    from dollar.library import Asker
     from dollar.session import Session
 
 MEMBERS = ("vertices", "edges", "amounts", "q")
@@ -491,7 +492,7 @@ class Table(AbstractMapping[str, Any]):
 
     def rank(self, *, patience: Optional[float] = None, program: Optional[Place] = None) -> int:
         """The rank of the divisor; -1 if it can't be won. On graphs of many edges that may take minutes: with `patience` it is a
-        TimeoutError after so many seconds. For many divisors `rr_all` has their ranks at a hundredth of the cost.
+        TimeoutError after so many seconds. For many divisors `rr_all` has their ranks at a small part of the cost.
 
         >>> Table([[0, 3], [3, 0]], [2, 2]).rank()
         2
@@ -500,6 +501,18 @@ class Table(AbstractMapping[str, Any]):
         from dollar.divisors import level
 
         return rr(level(self)[0], patience=patience, program=program).rank
+
+    def asker(self) -> Asker:
+        """What answers about one divisor of the graph after another, for a search that chooses each by the answers before. It has `rank`
+        and `winnable`, and serves one thread at a time. With the library for C a question takes some microseconds.
+
+        >>> ask = Table([[0, 3], [3, 0]]).asker()
+        >>> ask.rank([2, 2]), ask.winnable([1, -1]), next(n for n in range(9) if ask.rank([n, n]) == 4)
+        (2, False, 3)
+        """
+        from dollar.library import Asker
+
+        return Asker(self)
 
     def effective_divisors(self, degree: int) -> EffectiveDivisors:
         """The effective divisors of a degree on the graph, as tables, in the order of lists; its `count` is their number.

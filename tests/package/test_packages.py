@@ -1,4 +1,4 @@
-"""The tarball, the Debian package and the wheel of the built program: each is made twice, from other folders, at other times and by
+"""The tarball, the Debian packages and the wheel of the built program: each is made twice, from other folders, at other times and by
 each Python that is here, and is the same, byte for byte. They are unpacked and installed, the commands of the pages are run in them,
 and they are removed again: the wheel in an environment of its own, and all three in a fresh tree of this Debian, if debootstrap can
 make one, which takes root and a mirror of Debian."""
@@ -18,11 +18,13 @@ from pathlib import Path
 
 from helpers import EXAMPLES, ROOT, Test, program, pythons
 from pages import links, shown
+from toolchain import SHARED
 
 VERDICT = "winnable by a=0 b=-1 c=-1 to a=0 b=0 c=0\n"
 TOOL = ROOT / "tools" / "package"
-# What a package is for, from Python: a verdict on an example, and a sweep.
-LINES = """import dollar
+# What a package is for, from Python: a verdict on an example, by the library for C if it is packed, and a sweep.
+LINES = f"""import dollar
+assert (dollar.library.asking("judge", dollar.example("triangle"), None) is not None) is {SHARED.exists()}
 print(dollar.judge(dollar.example("triangle")))
 assert [numbers.rank for numbers in dollar.rr_all(dollar.Table([[0, 3], [3, 0]], [amount, 1]) for amount in range(4))] == [0, 1, 1, 2]
 """
@@ -63,9 +65,10 @@ class OfPackages(Test):
         folder = tempfile.TemporaryDirectory()
         cls.addClassCleanup(folder.cleanup)
         cls.place = Path(folder.name)
-        cls.tarball, cls.deb, cls.wheel = cls.made = made(cls.place / "one", os.path.abspath(program()), cwd="/")
+        cls.tarball, *cls.debs, cls.wheel = cls.made = made(cls.place / "one", os.path.abspath(program()), cwd="/")
+        cls.deb, *cls.for_c = cls.debs
         cls.version = subprocess.run([program(), "--version"], stdout=subprocess.PIPE, text=True).stdout.split()[1]
-        cls.environ = {name: value for name, value in os.environ.items() if name not in ("DOLLAR", "PYTHONPATH")}
+        cls.environ = {name: value for name, value in os.environ.items() if name not in ("DOLLAR", "DOLLAR_LIBRARY", "PYTHONPATH")}
 
     def out(self, *words, **options):
         """What a run prints that ends well, without the variables that name this clone."""
@@ -111,7 +114,7 @@ class OfPackages(Test):
             (copy / path).parent.mkdir(exist_ok=True)
             (copy / path).write_text("secret")
         (copy / "examples" / "cube.json").unlink()
-        _, deb, wheel = made(self.folder(), program(), tool=copy / "tools" / "package", cwd=copy)
+        _, deb, *_, wheel = made(self.folder(), program(), tool=copy / "tools" / "package", cwd=copy)
         for found in self.out("dpkg-deb", "-c", deb), self.out(sys.executable, "-m", "zipfile", "-l", wheel):
             self.assertIn("triangle.json", found)
             self.assertEqual([path for path in strange if path.split("/")[-1] in found], [])
@@ -123,10 +126,36 @@ class OfPackages(Test):
         return self.place / ("dollar-" + self.version)
 
     def of_debian(self):
-        """What lies in the Debian package."""
+        """What lies in the Debian packages."""
         tree = self.folder()
-        self.out("dpkg-deb", "-x", self.deb, tree)
+        for deb in self.debs:
+            self.out("dpkg-deb", "-x", deb, tree)
         return tree
+
+    def try_example(self, place, words, *before, **variables):
+        """Makes the example for C, in the folder in which it lies, by what pkg-config says, and runs it."""
+        self.assertEqual(self.out(*before, "sh", "-c", f"cd {place} && gcc -o /tmp/example example.c {words} && /tmp/example && rm /tmp/example",
+                                  env={**self.environ, **variables}), 2 * "winnable by 0 -1 -1, rank 0\n")
+
+    def test_the_library_for_c(self):
+        """It is used from where it lies in the tarball; and its file for pkg-config leads to what is in Debian's packages."""
+        if not self.for_c:
+            self.skipTest("the library for C in packages, for want of a build by ./dollar")
+        tree, debian = self.unpacked(), self.of_debian()
+        self.assertTrue((tree / "lib/libdollar.so.1").read_bytes() == (debian / "usr/lib/x86_64-linux-gnu/libdollar.so.1").read_bytes())
+        control = {deb.name.split("_")[0]: self.out("dpkg-deb", "-f", deb, "Depends", "Recommends") for deb in self.debs}
+        self.assertIn("Depends: libdollar1 (= %s)" % self.version, control["libdollar-dev"])
+        self.assertIn("libdollar1 (= %s)" % self.version, control["dollar"])
+        for tool in "gcc", "pkg-config":
+            if not shutil.which(tool):
+                self.skipTest("programs in C by pkg-config, for want of " + ("gcc" if tool == "gcc" else "it"))
+        self.try_example(tree / "share/doc/dollar/library", "$(pkg-config --cflags --libs dollar)", PKG_CONFIG_PATH=f"{tree}/lib/pkgconfig",
+                         LD_LIBRARY_PATH=f"{tree}/lib")
+        self.try_example(tree / "share/doc/dollar/library", "$(pkg-config --cflags dollar) $(pkg-config --variable=libdir dollar)/libdollar.a",
+                         PKG_CONFIG_PATH=f"{tree}/lib/pkgconfig")
+        words = ["pkg-config", "--cflags", "--libs", "--modversion", "dollar"]
+        said = self.out(*words, env={**self.environ, "PKG_CONFIG_PATH": f"{debian}/usr/lib/x86_64-linux-gnu/pkgconfig"})
+        self.assertEqual(said.split(), [self.version, "-ldollar"])
 
     def try_pages(self, documents, path, *before, inside="", **variables):
         """Runs the commands of the pages in the folder of the documents, and compares what they print; inside of a tree, the words
@@ -280,7 +309,7 @@ class OfPackages(Test):
     def test_lintian_has_nothing_to_say_but_the_licence(self):
         if not shutil.which("lintian"):
             self.skipTest("what lintian says, for want of it")
-        said = subprocess.run(["lintian", self.deb], stdout=subprocess.PIPE, stderr=subprocess.DEVNULL, text=True).stdout
+        said = subprocess.run(["lintian", *self.debs], stdout=subprocess.PIPE, stderr=subprocess.DEVNULL, text=True).stdout
         self.assertEqual(said.splitlines(), [])
 
     def fresh_debian(self):
@@ -318,12 +347,12 @@ class OfPackages(Test):
         tree, before = self.fresh_debian()
         inside, user = ["chroot", tree], ["chroot", "--userspec=65534:65534", tree]
         for number in range(2):
-            self.out(*inside, "dpkg", "-i", "/tmp/" + self.deb.name)
+            self.out(*inside, "dpkg", "-i", *("/tmp/" + deb.name for deb in self.debs))
             if number == 0:
                 self.try_debian(tree, inside, user)
             else:
                 shutil.rmtree(tree / "usr/lib/python3/dist-packages/dollar")
-            self.out(*inside, "dpkg", "-P", "dollar")
+            self.out(*inside, "dpkg", "-P", *(deb.name.split("_")[0] for deb in self.debs))
             self.assertEqual(listed(tree) - before, set())
         self.try_wheel("/tmp/" + self.wheel.name, *user, tree=tree)
         self.out(*user, "sh", "-c", f"cd /tmp && tar -xf {self.tarball.name}")

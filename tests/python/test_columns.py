@@ -5,6 +5,7 @@ import itertools
 import os
 import pickle
 import random
+import re
 import signal
 import subprocess
 import sys
@@ -170,8 +171,12 @@ class OfColumns(Test):
         self.assertEqual(ints(dollar.rr_all(tables).columns().degree), [table.degree for table in tables])
 
     def test_what_is_taken_is_what_the_lines_say(self):
-        """With numpy and without; and both refuse the same."""
-        numpy, rng, taken = needed("numpy"), random.Random(3), [0, 0]
+        def is_right(line, is_test):
+            """Whether a line has four numbers of 64 bits, as the program writes them; or is a test that holds."""
+            return is_test and line == b"1 NA NA NA" or re.fullmatch(rb"(0|-?[1-9]\d*)( (0|-?[1-9]\d*)){3}", line) and all(
+                -2 ** 63 <= int(number) < 2 ** 63 for number in line.split()) and (not is_test or line[:2] == b"0 ")
+
+        rng, taken = random.Random(3), [0, 0]
         lines = [b"1 0 -1 20\n", b"0 -300 7 0\n", b"1 NA NA NA\n", b"0 999999999999999999 0 -1\n", b"refused shape of amounts\n"]
         forms = [readers.rank_test_form(Table([[0, 1, 0], [1, 0, 1], [0, 1, 0]])._vertices, 1), readers.riemann_roch_form()]
         for _ in range(10_000):
@@ -180,12 +185,12 @@ class OfColumns(Test):
             put = rng.choice([b"0", b"1", b"9", b"-", b" ", b"\n", b"\t", b"\r", b"+", b"_", b"\xff", b"NA", b""])
             piece = piece[:place] + put + piece[place + rng.randint(0, 1):]
             for form in forms:
-                one, other = form.read(piece, None), form.read(piece, numpy)
-                self.assertEqual(one is None, other is None, piece)
-                taken[one is None] += 1
-                if one is not None:
-                    self.assertEqual(list(map(list, one)), other.tolist())
-                    self.assertEqual(b"".join(b"%d %d %d %d\n" % numbers for numbers in zip(*one)), piece.replace(lines[2], b"1 0 0 0\n"))
+                found = form.read(piece)
+                taken[found is None] += 1
+                *read, rest = piece.split(b"\n")
+                self.assertEqual(found is not None, not rest and all(is_right(line, form is forms[0]) for line in read), piece)
+                if found is not None:
+                    self.assertEqual(b"".join(b"%d %d %d %d\n" % numbers for numbers in zip(*found)), piece.replace(lines[2], b"1 0 0 0\n"))
         self.assertGreater(min(taken), 1_000)
 
 
