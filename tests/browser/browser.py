@@ -32,7 +32,8 @@ const later = setTimeout;
 globalThis.setTimeout = (act, time) => later(act, time === 550 ? 6000 : time);
 addEventListener("load", async () => {
   const script = $("script[type=module][src]");
-  globalThis.inside = script ? await import(script.src) : { get viewer() { return $("#board").viewer; } };
+  const module = script && await import(script.src);
+  globalThis.inside = script ? (module.lesson ? Object.assign(module.lesson, { play: module.play }) : module) : { get viewer() { return $("#board").viewer; } };
 });"""
 READY = "document.readyState === 'complete' && Boolean(globalThis.inside && inside.viewer)"
 # What a page holds in which something never came to be true.

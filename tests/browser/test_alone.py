@@ -162,7 +162,7 @@ def by_mouse(player):
     player.click("#borrowing")
     player.does("1 borrow cyd", player.click, at("cyd"))
     player.does("1 lend cyd", player.click, at("cyd"), SHIFT)
-    player.click("#borrowing")
+    player.click("#lending")
     (x, y) = player.middle(at("ann"))
     player.drag(at("ann"), [x + 130, y - 90])
     player.does("1 lend ann", player.click, at("ann"))
@@ -376,7 +376,7 @@ def with_an_end(player):
         player.answered(yes)
     player.has(1)
     equal(player.text("#asked"), "1 script bob=1,cyd=2", "the script that is shown")
-    player.ends(f"Solved in 3 moves: nobody owes a dollar. You had help, so this does not count as your best. {LEAST}")
+    player.ends(f"Solved in 3 moves, with help. {LEAST}")
     player.open_example("triangle", asks=False)
     player.open_example("houses", asks=False)
     for name in "cyd", "cyd", "bob":
@@ -435,7 +435,7 @@ def with_editor(player):
     equal([line.split(" ")[0] for line in places.splitlines()], ["a", "b", "zoe"], "the places that are saved")
     player.does("1 lend zoe", player.click, at("zoe"))
     equal(player.text("#said"), "0 moved a=3 b=-1 zoe=-6", "a move on the edited table")
-    equal(player.text("#title"), "The dollar game: an edited table", "the title of an edited table")
+    equal(player.text("#title"), "An edited table: make everybody debt-free", "the title of an edited table")
     player.edit()
     for selector in "#edit-clear", "#add-vertex", "#add-vertex", "#add-edge":
         player.click(selector)

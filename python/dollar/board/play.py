@@ -28,6 +28,7 @@ from dollar.board.classroom import Classroom
 from dollar.board.game import MOST_SEATS, Table
 from dollar.board.keeping import Keeper
 from dollar.board.pages import forward
+from dollar.board.requests import Requests
 from dollar.board.server import ANY, Answer, Request, Server, addresses_of, is_loopback, new_secret
 from dollar.program import Fault, printed, typed
 from dollar.table import EXAMPLES, shown_name, text_of
@@ -145,9 +146,9 @@ async def serve_alone(given: argparse.Namespace, tables: list[Table]) -> None:
 async def serve_class(given: argparse.Namespace, tables: list[Table]) -> None:
     """Serves a class until it is ended."""
     keeper = Keeper(given.keep) if given.keep else None
-    room = Classroom(tables, given.seats, given.rooms, keeper, given.teacher_here)
+    room = Classroom(tables, given.seats, given.rooms, keeper)
     host, ending = given.host or LOOPBACK, Ending(room.last_words)
-    server = Server(room.answer, host, given.port, [] if host in ANY else [host], given.name)
+    server = Server(Requests(room, given.teacher_here).answer, host, given.port, [] if host in ANY else [host], given.name)
     await room.start()
     try:
         await begun(server, keeper.found.get("port", 0) if keeper else 0)

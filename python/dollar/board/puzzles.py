@@ -6,16 +6,15 @@ nor what is nowhere above it, nor what they are fired to."""
 from __future__ import annotations
 
 import functools
-import heapq
 import itertools
 import json
 import random
-import statistics
 from collections import Counter
 from typing import Any, List, Sequence, Tuple
 
-from dollar.answers import numbered, verdict_of
+from dollar.answers import numbered
 from dollar.board.texts import t
+from dollar.board.ways import least
 from dollar.drawing import USUAL, layout
 from dollar.program import PATIENCE, printed
 
@@ -25,8 +24,12 @@ TRIES, LETTERS = 40, "abcdefghijklmnop"
 LEVELS = {"easy": (2, 1), "medium": (0, 2), "hard": (-1, 3), "unwinnable": (-1, 2)}
 # The levels of puzzles that are handed out one after another: the first ones, some in any order, and the last.
 RISING = ["easy", "easy"], ["medium", "unwinnable", "medium"], ["hard"]
-# How many tables are looked at for a shortest way.
-SEARCHED = 20000
+# Chapters, each on a graph: for a class one puzzle of each, the first of which is easy, and the others of some levels; for one player some
+# puzzles of each, of one of some levels.
+CHAPTERS = "chapters"
+CHAPTER_GRAPHS = ["Path of 4", "Triangle", "Star of 5", "Cycle of 5", "Complete, 4", "Wheel of 5", "Grid 2 x 3", "Prism", "Cube", "Petersen"]
+IN_CHAPTERS = ["easy"] * 3 + ["medium"] * 3 + ["hard"] + ["unwinnable"] * 2
+EACH_CHAPTER = ["easy"], ["medium", "medium", "unwinnable"], ["hard"]
 # The fewest and the most vertices of a random graph, and edges that it has beside those of a tree.
 RANDOM, MORE = (5, 8), (1, 5)
 
@@ -143,69 +146,11 @@ def puzzle(table: dict[str, Any], level: str, draw: random.Random, others: Seque
     return found
 
 
-def way(text: str) -> list[tuple[str, int]] | None:
-    """The moves of a shortest way to a table without debts, each a vertex and 1 if it lends or -1 if it borrows; None if none is found."""
-    table = json.loads(text)
-    names, start = table["vertices"], tuple(table["amounts"])
-    rows = {name: [0] * len(names) for name in names}
-    for u, v, count in table["edges"]:
-        for one, other in (u, v), (v, u):
-            rows[one][names.index(one)] -= count
-            rows[one][names.index(other)] += count
-    moves = [(name, sign, [sign * count for count in rows[name]]) for name in names for sign in (1, -1)]
-    most = max(1, *(-min(row) for row in rows.values()))
-
-    def due(now: tuple[int, ...], length: int) -> tuple[int, int, tuple[int, ...]]:
-        """A table with the fewest moves through it that there can be: of the debts a move clears at most as many as a vertex has edges."""
-        return length - sum(amount for amount in now if amount < 0) // most, -length, now
-
-    # How many moves led to a table, and the last of them.
-    came: dict[tuple[int, ...], tuple[int, Any]] = {start: (0, None)}
-    heap = [due(start, 0)]
-    while heap and len(came) < SEARCHED:
-        _, length, now = heapq.heappop(heap)
-        if min(now) >= 0:
-            back: list[tuple[str, int]] = []
-            while came[now][1]:
-                now, name, sign = came[now][1]
-                back.append((name, sign))
-            # In any order they lead there, so lendings, which are easier to see, come first.
-            return sorted(back, key=lambda move: -move[1])
-        for name, sign, row in moves:
-            there = tuple(map(int.__add__, now, row))
-            if came.get(there, (SEARCHED, None))[0] > 1 - length:
-                came[there] = 1 - length, (now, name, sign)
-                heapq.heappush(heap, due(there, 1 - length))
-    return None
-
-
 @functools.lru_cache(maxsize=None)
 def graphs() -> list[dict[str, Any]]:
     """The known graphs, each as its name, a table without dollars, and where its vertices stand."""
     tables = {name: table_of(edges) for name, edges in GRAPHS.items()}
     return [{"name": name, "table": table, "layout": layout(table, USUAL)} for name, table in tables.items()]
-
-
-@functools.lru_cache(maxsize=256)
-def hint(text: str) -> dict[str, Any]:
-    """One move of a shortest way to a table without debts, or else of the program's script: its vertex, 1 if that lends or -1 if it borrows,
-    and how many moves are left, or 0 if that is not known. The count is 0 if nobody has to move, and None if no move helps."""
-    verdict = verdict_of(printed("judge", text.encode(), patience=PATIENCE).rstrip("\n"))
-    if not verdict or min(json.loads(text)["amounts"]) >= 0:
-        return {"name": "", "count": 0 if verdict else None, "left": 0}
-    found = way(text)
-    if found:
-        return {"name": found[0][0], "count": found[0][1], "left": len(found)}
-    # As all lend together nothing changes, so the script less its median leads there in fewest moves.
-    middle = statistics.median_low(verdict.script.values())
-    name, count = max(verdict.script.items(), key=lambda pair: abs(pair[1] - middle))
-    return {"name": name, "count": 1 if count > middle else -1, "left": 0}
-
-
-def rising() -> list[str]:
-    """Levels from easy to hard, of which nobody can tell by its place which one can't be won."""
-    first, middle, last = RISING
-    return [*first, *random.SystemRandom().sample(middle, len(middle)), *last]
 
 
 def puzzles(graph: str, level: str, now: str, count: int = 1) -> tuple[str, list[str]]:
@@ -219,3 +164,39 @@ def puzzles(graph: str, level: str, now: str, count: int = 1) -> tuple[str, list
         # Once none is found that is new, they come again.
         made.append(puzzle(table, level, draw, made if len(set(made)) == len(made) else ()))
     return called, made
+
+
+def in_rising(graph: str, now: str, count: int = 1) -> list[tuple[str, list[str], str]]:
+    """Stages of puzzles on a graph, each as its name, its texts and its level. On each board those that can be won have more and more moves
+    at least; nobody can tell by its place which one can't be won."""
+    first, middle, last = RISING
+    levels = [*first, *random.SystemRandom().sample(middle, len(middle)), *last]
+    made = [puzzles(graph, level, now, count) for level in levels]
+    places = [place for place, level in enumerate(levels) if level != "unwinnable"]
+    for board in range(count):
+        rising = sorted((made[place][1][board] for place in places), key=least)
+        for place, text in zip(places, rising):
+            made[place][1][board] = text
+    return [(name, texts, level) for (name, texts), level in zip(made, levels)]
+
+
+def in_chapters(count: int = 1) -> list[tuple[str, list[str], str]]:
+    """A stage of puzzles for each chapter, as above, of which some that nobody knows can't be won."""
+    levels = random.SystemRandom().sample(IN_CHAPTERS, len(IN_CHAPTERS))
+    stages = []
+    for number, (graph, level) in enumerate(zip(CHAPTER_GRAPHS, ["easy", *levels]), 1):
+        _, texts = puzzles(graph, level, "", count)
+        stages.append((chapter(number), texts, level))
+    return stages
+
+
+def chapter(number: int) -> str:
+    """The name of a chapter."""
+    return "%d. %s" % (number, t("chapters." + CHAPTER_GRAPHS[number - 1]))
+
+
+def after(step: int) -> tuple[str, str]:
+    """The puzzle at a step of the way through the chapters, of which each has some, and the last goes on: its name and its text."""
+    number = min(step // len(EACH_CHAPTER), len(CHAPTER_GRAPHS) - 1)
+    level = random.SystemRandom().choice(EACH_CHAPTER[step % len(EACH_CHAPTER)])
+    return chapter(number + 1), puzzles(CHAPTER_GRAPHS[number], level, "")[1][0]
