@@ -5,6 +5,7 @@ import asyncio
 import contextlib
 import json
 import os
+import signal
 import sys
 from pathlib import Path
 from typing import Any
@@ -49,8 +50,9 @@ class Reckoner:
     async def end(self) -> None:
         """Ends the process, and with it what it is asked now."""
         if self.child is not None and self.child.returncode is None:
+            # Not by its own method, which would take its status before the loop does if it has ended already.
             with contextlib.suppress(ProcessLookupError):
-                self.child.kill()
+                os.kill(self.child.pid, signal.SIGKILL)
             await self.child.wait()
 
 

@@ -93,7 +93,7 @@ export class Board {
     const [x, y] = this.place(name), r = this.layout.radius, { q, burnt, says: all } = this.picture, isQ = name === q, says = all.get(name);
     const kinds = ["vertex", (this.held ? this.held.get(name) : amount) < 0 && "debt", this.chosen.has(name) && "chosen", burnt.includes(name) && "burnt"];
     const held = t(amount < 0 ? "said.owes" : "board.has", name, dollars(Math.abs(amount)));
-    const label = [held, isQ && "q", says].filter(Boolean).join(", ");
+    const label = [held, isQ && t("board.ring"), says].filter(Boolean).join(", ");
     // While a set is chosen, each vertex is in it or not.
     const pressed = this.chosen.size > 0 && { "aria-pressed": this.chosen.has(name) };
     const hands = { tabindex: 0, role: "button", "aria-label": label, ...pressed };

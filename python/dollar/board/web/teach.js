@@ -140,7 +140,8 @@ function showsAll({ amounts, says, burnt, script }) {
   const picture = { room: shownRoom, amounts: [...amounts], says: [...says], burnt, script: script && [...script],
     chosen: [...viewer.board.chosen], words: joined(words, ...reasons.slice(-REASONS)) };
   element("now").hidden = true;
-  hands.note(words);
+  // Where the answer stands already it is not said twice.
+  hands.note(element("more").open ? "" : words);
   link.inTurn(() => command("picture", picture));
 }
 

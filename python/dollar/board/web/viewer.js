@@ -188,6 +188,8 @@ export class Viewer {
     this.showEnd();
     element("place").textContent = index ? t("said.step", index, game.length) : startWords(game.length);
     element("step").textContent = index ? `${this.who(step.seat, index)}: ${commandWords(step)}` : t("said.table");
+    // Who plays is told at the start who owes, and no more.
+    for (const id of ["place", "step"]) element(id).hidden = this.board.hands && !index;
     element("moves").textContent = index && reply.kind === "moved" ? flowWords(state.edges, step.script) : "";
     element("answer").textContent = index ? replyWords(reply, state.amounts, game.table.q) : debtWords(state.amounts);
     element("asked").textContent = index ? step.line : "";

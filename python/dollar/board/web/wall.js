@@ -6,7 +6,7 @@ import { fitted, layoutOf } from "./places.js";
 import { lesson } from "./rooms.js";
 import { t } from "./texts.js";
 import { button, element, made } from "./viewer.js";
-import { madeWords, movesWords, starsOf, starsText } from "./words.js";
+import { madeWords, starsOf, starsText } from "./words.js";
 
 let preview = [140, 110], pictured = "null";
 
@@ -50,11 +50,12 @@ function showRoom(room, drawn) {
   }
   const [who, how] = room.part.querySelectorAll("span"), names = lesson.playersOf(number).join(", ") || t("class.room", number);
   who.textContent = names;
-  const done = is_right ? t("class.cant") : best !== null ? t("class.done-in", movesWords(best)) : is_done && t("class.helped");
-  how.textContent = [given.later.length && lesson.stageWords(stage), done || madeWords(state.moves), is_done && starsText(starsOf(room)),
-    hints && t("class.hints", hints), backs && t("class.backs", backs)].filter(Boolean).join(", ");
+  const done = is_right ? t("class.cant") : best !== null ? madeWords(best) : is_done ? t("class.helped") : madeWords(state.moves);
+  const parts = [done, hints && t("class.hints", hints), backs && t("class.backs", backs)].filter(Boolean).join(", ");
+  how.textContent = [given.later.length && t("class.at", stage + 1, lesson.stages.length), is_done && starsText(starsOf(room)), parts]
+    .filter(Boolean).join(" ");
   room.part.classList.toggle("done", is_done);
-  room.part.setAttribute("aria-current", number === lesson.shownRoom);
+  if (lesson.teaches) room.part.setAttribute("aria-current", number === lesson.shownRoom);
   if (room.is_new && drawn) {
     room.board.layout = fitted(layoutOf(lesson.stages[stage].layout), ...preview);
     room.board.show({ ...state, q: game.table.q });
