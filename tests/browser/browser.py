@@ -33,7 +33,8 @@ globalThis.setTimeout = (act, time) => later(act, time === 550 ? 6000 : time);
 addEventListener("load", async () => {
   const script = $("script[type=module][src]");
   const module = script && await import(script.src);
-  globalThis.inside = script ? (module.lesson ? Object.assign(module.lesson, { play: module.play }) : module) : { get viewer() { return $("#board").viewer; } };
+  const own = module && module.lesson ? Object.assign(module.lesson, { play: module.play }) : module;
+  globalThis.inside = own || { get viewer() { return $("#board").viewer; } };
 });"""
 READY = "document.readyState === 'complete' && Boolean(globalThis.inside && inside.viewer)"
 # What a page holds in which something never came to be true.

@@ -123,7 +123,7 @@ def first_table(ann, others, desk, wall, networks):
     # One more move, out of joy.
     ann.touch(at("ann"))
     for page in desk, wall:
-        page.until(f"{HOW}[{ann.seat - 1}] === 'done in 3 moves, \u2605\u2605\u2605' && rooms.get({ann.seat}).game.length === 4")
+        page.until(f"{HOW}[{ann.seat - 1}] === '\u2605\u2605\u2605 3 moves' && rooms.get({ann.seat}).game.length === 4")
     equal(ann.text("#won"), "Solved before, in 3 moves. It can't be done in fewer.", "what was reached stays")
     equal(others[0].play("script cyd=2,bob=1"),
           (409, "The teacher has switched off looks, verdicts, rank tests and scripts. Nothing was played."), "a script of a pupil")
@@ -140,7 +140,7 @@ def kind_houses(ann, others, desk, wall):
     ann.touch("#cant")
     ann.until("$('#won').textContent === \"Right: it can't be done.\"")
     for page in desk, wall:
-        page.until(f"$('#done').textContent === 'Done: 1 of {OTHERS + 1}' && {HOW}[{ann.seat - 1}] === \"done: it can't be, \u2605\u2605\u2605\"")
+        page.until(f"$('#done').textContent === 'Done: 1 of {OTHERS + 1}' && {HOW}[{ann.seat - 1}] === \"\u2605\u2605\u2605 it can't be done\"")
     for selector in f".room[data-room='{ann.seat}']", "#ask-won", "#show-fire":
         desk.until(f"$({json.dumps(selector)}) && !$({json.dumps(selector)}).hidden")
         desk.click(selector)
@@ -167,6 +167,11 @@ def shown_by_hand(ann, desk, wall):
         page.until("names('#board .chosen').join() === 'bob'")
     picture(wall, "wall-shown")
     equal(ann.value("[viewer.game.length, rooms.get(me.seat).items.length]"), [0, 0], "the game after it")
+    ann.touch(at("ann"))
+    desk.until("texts('#board .amount').join() === '-2,2,2,-1'")
+    equal(wall.value("[texts('#board .amount').join(), names('#board .chosen').join()]"), ["1,3,1,-4", "bob"], "what is shown, while its pupil plays")
+    desk.click("#unshow")
+    wall.until("texts('#board .amount').join() === '-2,2,2,-1' && names('#board .chosen').length === 0")
 
 
 def at_own_speed(folder, ann, others, desk, wall):
@@ -192,7 +197,8 @@ def at_own_speed(folder, ann, others, desk, wall):
         ann.value(f"play('{line}')")
     ann.until("$('#won').textContent.includes(', with help.') && !$('#next').hidden")
     ann.touch("#next")
-    ann.until("rooms.get(me.seat).stage === 1 && viewer.game.length === 0 && $('#title').textContent === '2 of 6, Wheel of 5: make everybody debt-free'")
+    ann.until("rooms.get(me.seat).stage === 1 && viewer.game.length === 0"
+              " && $('#title').textContent === '2 of 6, Wheel of 5: make everybody debt-free'")
     for pupil in others[:10]:
         for line in lines_for(folder, json.dumps(tables[0][pupil.seat - 1])):
             equal(pupil.play(line)[0], 200, "a move of another")
@@ -200,7 +206,7 @@ def at_own_speed(folder, ann, others, desk, wall):
         equal(pupil.place.post("line", {"key": pupil.key, "line": "lend a", "stage": 0}),
               (409, "There is a new table. This line was not played."), "a line for the table before")
     for page in desk, wall:
-        page.until(f"$('#done').textContent === 'Puzzles solved: 11' && {HOW}[{ann.seat - 1}] === '2 of 6, 0 moves'")
+        page.until(f"$('#done').textContent === 'Puzzles solved: 11' && {HOW}[{ann.seat - 1}] === '2/6 0 moves'")
     for line in wins[1]:
         ann.value(f"play('{line}')")
     ann.until(f"$('#won').textContent.startsWith('Solved in {len(wins[1])} move')")

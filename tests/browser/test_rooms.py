@@ -1,15 +1,8 @@
 """A class in rooms, without a browser: each room has its game, and the teacher hands out tables and says what is permitted."""
 import asyncio
-import concurrent.futures
 import contextlib
-import csv
-import io
 import json
-import os
 import random
-import re
-import resource
-import signal
 import subprocess
 import tempfile
 import time
@@ -18,10 +11,9 @@ from pathlib import Path
 from common import EXAMPLES, addresses, asked, played, refused, started, text_of, together, waited, written
 from dollar.board.classroom import Classroom
 from dollar.board.game import Table
-from dollar.board.puzzles import GRAPHS, LEVELS, after, effective, in_chapters, in_rising, puzzles, table_of
 from dollar.board.server import LETTERS
-from dollar.board.ways import Graph, fewest, least, moves_of, way
 from helpers import equal, expect, tests_of
+from test_puzzles import confirmed
 from visitors import TABLE, Place, Pupil, a_class, taken, watcher
 
 EACH = "--rooms", "1"
@@ -116,31 +108,6 @@ def in_the_middle(folder):
         equal({pupil.play("claim")[0] for pupil in pupils}, {200}, "lines after the last table")
         told_all(page, 1, *taken(desk, folder, 1))
         page.leave()
-
-
-def confirmed(folder, table, level):
-    """Sees that somebody owes, and that the program says of a puzzle what its level does."""
-    word = asked("judge", written(folder, "puzzle", table))[0].split(" ")[0]
-    equal(word, "unwinnable" if level == "unwinnable" else "winnable", f"the verdict on a puzzle that is {level}")
-    expect(min(json.loads(table)["amounts"]) < 0, f"nobody owes: {table}")
-
-
-def on_graphs(folder):
-    """Each known graph has puzzles of each level, if there can be any; and so have random ones."""
-    for graph in [*GRAPHS, *["random"] * 10]:
-        for level in LEVELS:
-            name, (table,) = puzzles(graph, level, TRIANGLE)
-            equal(name, "a random graph" if graph == "random" else graph, "the name of a puzzle")
-            confirmed(folder, table, level)
-            if graph != "random":
-                equal([json.loads(table)[part] for part in ("vertices", "edges")],
-                      [table_of(GRAPHS[graph])[part] for part in ("vertices", "edges")], f"the graph {graph}")
-    single = '{"vertices":["a"],"edges":[],"amounts":[0],"q":"a"}\n'
-    for level in "easy", "medium", "hard":
-        try:
-            equal(puzzles("", level, single), None, "a puzzle on one vertex")
-        except ValueError as error:
-            equal(str(error), "There is no such puzzle on this graph.", "a puzzle on one vertex")
 
 
 def taking_back(folder):
@@ -292,7 +259,7 @@ def permitted(folder):
               [200, 200, 409, 409, 409, 200], "what is permitted otherwise")
         equal(taken(desk, folder)[0], ["1 look", "1 gift ann 1", "1 join ann bob", "1 lend ann"], "the steps")
         again = place.post("join", {"name": "ann again", "browser": "b" * 24})
-        equal([again[0], {name: again[1][name] for name in ("seat", "key", "name")}], [200, {"seat": 1, "key": ann.key, "name": "ann"}], "a browser that asks for a second seat")
+        equal([again[0], again[1]["seat"], again[1]["key"]], [200, 1, ann.key], "a browser that asks for a second seat")
         desk.post("door", {"open": False})
         equal(place.post("join", {"name": "late"}), (409, "The door is shut. The teacher can open it."), "a seat past a shut door")
         equal(place.post("join", {"name": "ann", "browser": "b" * 24})[1]["seat"], 1, "who has a seat comes in")
@@ -374,151 +341,12 @@ def many_seats(folder):
             pupil.leave()
 
 
-def by_a_word(folder):
-    """The word of a seat, which the teacher sees, leads its pupil back from any device; wrong ones are few, and a page that is open stays."""
-    with a_class(folder, 4, "Ann", "Ben") as (_, place, desk, ann, ben):
-        page = watcher(desk)
-        page.until(lambda page: page.states and len(page.states[-1]["names"]) == 2, "the names do not come")
-        word = page.states[-1]["names"]["1"]["word"]
-        equal([len(word), "word" in json.dumps(ben.states[-1]["names"])], [4, False], "the word, which the teacher alone is told")
-
-        def join(name, **more):
-            return place.post("join", {"name": name, "browser": "c" * 24, **more})
-
-        equal(join("ANN", word=word), (200, {"seat": 1, "key": ann.key, "name": "Ann", "word": word}), "who knows the word")
-        equal(join("Ben", word=word), (409, "That is not the word of this seat. Ask your teacher for it."), "the word of another seat")
-        ann.leave()
-        ann.until(lambda _: not page.states[-1]["names"]["1"]["here"], "who is away is not told")
-        equal([join("ann", word="")[1], join("Cem", word="")[1]["name"]], [{"away": "Ann"}, "Cem"], "whether somebody of a name is away")
-        equal(place.post("join", {"name": "Ann", "browser": "d" * 24})[1]["name"], "Ann 2", "another Ann")
-        place.source = "127.0.0.77", 0
-        wrong = [join("Ann", word=f"x{number}")[0] for number in range(60)]
-        equal(set(wrong), {409, 429}, "many wrong words")
-        place.source = None
-        equal(join("Ann", word=word)[0], 200, "the word from another address meanwhile")
-        page.leave()
-
-
-def sheet(desk):
-    """The results, as rows."""
-    return list(csv.reader(io.StringIO(desk.get("results.csv")[1].lstrip("\ufeff"))))[1:]
-
-
-def results(folder):
-    """Who did what is the server's: it outlasts tables, those who leave, and an accident; who comes next begins at nothing."""
-    words = [EXAMPLES / "houses.json", EXAMPLES / "kind_houses.json", "--class", "3", *EACH, "--keep", Path(folder, "kept")]
-    child = started(*words)
-    pupils, teacher = addresses(child)
-    desk = Place(teacher)
-    ann, jo, bob = (Pupil(pupils, name) for name in ("=Ann", "J\u00fcrgen", "Bob"))
-    for line in "lend cyd", "lend bob", "lend cyd":
-        ann.play(line)
-    for line in "lend cyd", "lend ann", "borrow ann", "lend cyd", "lend bob":
-        jo.play(line)
-    place = ann.place
-    equal(place.post("cant", {"key": bob.key})[1], {"cant": False}, "a wrong answer")
-    expect(waited(lambda: sheet(desk)[0][6] == "3"), "the fewest moves that there can be")
-    rows = sheet(desk)
-    expect(re.fullmatch(r"20\d\d-\d\d-\d\d \d\d:\d\d:\d\d", rows[0][0]), f"when it was: {rows[0]}")
-    equal([row[1:] for row in rows], [
-        ["'=Ann", "1", "houses.json", "yes", "3", "3", "0", "0", "0", "3"], ["J\u00fcrgen", "2", "houses.json", "yes", "5", "3", "0", "0", "0", "5"],
-        ["Bob", "3", "houses.json", "no", "", "", "0", "1", "0", "0"]], "what each has done")
-    equal(place.post("leave", {"key": jo.key}), (200, {}), "who leaves")
-    zed = Pupil(pupils, "Zed")
-    zed.until(lambda pupil: pupil.states, "who comes next is told nothing")
-    equal([zed.seat, [*zed.entries], zed.play("lend ann")[1]], [2, [], "0 moved ann=-3 bob=2 cyd=3 dan=-1"], "who takes the seat begins at nothing")
-    desk.post("table", {"named": "kind_houses.json"})
-    equal(place.post("cant", {"key": ann.key})[1], {"cant": True}, "a right answer")
-    child.kill()
-    child.communicate()
-    with played(*words) as (_, _):
-        found = [row[1:6] for row in sheet(desk)]
-        past = [["J\u00fcrgen", "2", "houses.json", "yes", "5"], ["'=Ann", "1", "houses.json", "yes", "3"],
-                ["Zed", "2", "houses.json", "no", ""], ["Bob", "3", "houses.json", "no", ""]]
-        equal(found, [*past, ["'=Ann", "1", "kind_houses.json", "yes", "can't be done"]], "the results after an accident")
-        german = desk.get("results.csv?lang=de")[1].splitlines()
-        equal([german[0].startswith('\ufeff"wann";"wer";'), ";".join(f'"{cell}"' for cell in ["J\u00fcrgen", "2", "houses.json", "ja", "5"]) in german[1]],
-              [True, True], "the file in German")
-        equal(place.get("results.csv"), (404, "there is nothing here"), "the results for a pupil")
-
-
-def a_full_disk(folder):
-    """When the disk takes no more, the game goes on, and the terminal and the teacher are told, but no pupil."""
-    kept = Path(folder, "kept")
-    child = started(EXAMPLES / "houses.json", "--class", "2", *EACH, "--keep", kept)
-    pupils, teacher = addresses(child)
-    page, ann = watcher(Place(teacher)), Pupil(pupils, "ann")
-    ann.play("lend cyd")
-    resource.prlimit(child.pid, resource.RLIMIT_FSIZE, (20, 20))
-    equal([ann.play("lend cyd")[0] for _ in range(2)], [200, 200], "moves that are not kept")
-    page.until(lambda page: "File too large" in page.states[-1]["fault"], "the teacher is not told of a full disk")
-    equal([state["fault"] for state in ann.states if state["fault"]], [], "what pupils are told of it")
-    child.terminate()
-    _, said = child.communicate()
-    expect("room1.jsonl: File too large: the class is kept no more" in said, f"what the terminal says: {said}")
-
-
-def patient_hints(folder):
-    """A hint that takes long holds nobody up, not even its room; a pupil has one at a time."""
-    with a_class(folder, 2, "ann", "bob", options=EACH) as (child, place, _, ann, bob):
-        equal(place.post("hint", {"key": bob.key})[0], 200, "a hint")
-        reckoner = next(pid for pid in map(int, text_of(f"/proc/{child.pid}/task/{child.pid}/children").split())
-                        if "dollar.board.reckoning" in text_of(f"/proc/{pid}/cmdline"))
-        os.kill(reckoner, signal.SIGSTOP)
-        with concurrent.futures.ThreadPoolExecutor(1) as pool:
-            ann.play("lend ann")
-            hint = pool.submit(place.post, "hint", {"key": ann.key})
-            expect(waited(lambda: place.post("hint", {"key": ann.key})[0] == 429), "a second hint of a pupil at once")
-            equal([bob.play("lend ann")[0], ann.play("borrow ann")[0], hint.done()], [200, 200, False], "moves while a hint is sought")
-            os.kill(reckoner, signal.SIGCONT)
-            equal(hint.result()[0], 200, "the hint")
-        os.kill(reckoner, signal.SIGKILL)
-        expect(waited(lambda: place.post("hint", {"key": bob.key})[0] == 200), "a hint after an accident")
-
-
-def shortest(_):
-    """The fewest moves are as few as a search through all tables finds, and there are so many on each known graph."""
-    draw = random.Random(5)
-    for name, edges in GRAPHS.items():
-        table = table_of(edges)
-        graph, count = Graph(table), len(table["vertices"])
-        for _ in range(6):
-            script = [draw.randint(-2, 2) for _ in range(count)]
-            amounts = effective(count, max(0, len(edges) - count + 1 + draw.choice([-1, 0, 2])), draw)
-            made = dict(table, amounts=list(graph.after(tuple(amounts), script)))
-            found = fewest(made, {name: -times for name, times in zip(table["vertices"], script)})
-            expect(min(graph.after(tuple(made["amounts"]), [found[name] for name in table["vertices"]])) >= 0, f"a way on {name}: {made}")
-            other = way(json.dumps(made))
-            expect(other is None or len(other) == len(moves_of(found)), f"a shortest way on {name}: {made}, {found} and {other}")
-    rich = dict(table_of(GRAPHS["Cube"]), amounts=[10 ** 5] * 7 + [-1])
-    equal([fewest(rich, {name: -int(name == "h") for name in rich["vertices"]}), len(way(json.dumps(rich)))], [None, 1], "a very rich table")
-
-
-def rising_ones(folder):
-    """A list from easy to hard rises on each board, but for the one that can't be won; the chapters are on graphs of their own."""
-    for _ in range(2):
-        stages = in_rising("Cycle of 4", TRIANGLE, 4)
-        for board in range(4):
-            texts = [(texts[board], level) for _, texts, level in stages]
-            moves = [least(text) for text, level in texts if level != "unwinnable"]
-            equal(moves, sorted(moves), f"the fewest moves of a list: {texts}")
-            for text, level in texts:
-                confirmed(folder, text, level)
-    made = in_chapters(2)
-    equal([len(made), len({name for name, _, _ in made}), sum(level == "unwinnable" for *_, level in made), made[0][2]], [10, 10, 2, "easy"], "chapters")
-    for _, texts, level in made:
-        for text in texts:
-            confirmed(folder, text, level)
-    equal([after(step)[0] for step in (0, 2, 3, 29, 300)], ["1. The street", "1. The street", "2. Three friends", *["10. The star city"] * 2],
-          "the way through the chapters")
-
-
 def in_german(folder):
     """Pages, scripts and answers are in the language that is asked for, or else in the browser's."""
     with a_class(folder, 2, "Ann") as (_, place, desk, ann):
         german, other = {"Accept-Language": "de-AT,de;q=0.9,en;q=0.5"}, {"Accept-Language": "xx,fr;q=0.9"}
         pages = [place.get("", headers=german)[1], place.get("?lang=de")[1], place.get("", headers=other)[1]]
-        equal(['<html lang="de">' in page and 'src="class.js?lang=de"' in page and "Nimm" not in page for page in pages], [True, True, False], "pages")
+        equal(['<html lang="de">' in page and 'src="class.js?lang=de"' in page for page in pages], [True, True, False], "pages")
         expect('<html lang="en">' in pages[2] and "Take a seat" in pages[2], "a page for a browser of another language")
         scripts = [place.get(f"class.js?lang={name}")[1] for name in ("de", "en")]
         equal(["Niemand hat Schulden." in script for script in scripts], [True, False], "scripts")
@@ -535,7 +363,8 @@ def names(folder):
             equal(place.post("join", {"name": name}), (409, "Nobody can see this name. Choose another."), f"the name {name!r}")
         given = ["Anna", "ANNA\u200d", "\u0410nn\u0430", "A" + "\u0301" * 23 + "b", "\u0928\u093f", "\U0001f469\u200d\U0001f4bb", ""]
         came = [place.post("join", {"name": name})[1] for name in given]
-        equal([got["name"] for got in came], ["Anna 2", "ANNA\u200d 3", "\u0410nn\u0430 4", "A\u0301\u0301\u0301b", *given[4:6], "Seat 8"], "the names")
+        equal([got["name"] for got in came],
+              ["Anna 2", "ANNA\u200d 3", "\u0410nn\u0430 4", "A\u0301\u0301\u0301b", *given[4:6], "Seat 8"], "the names")
         bob = {"key": came[0]["key"], "name": "Bob"}
         equal([place.post("rename", {**bob, "name": name})[1] for name in ("Bob", "anna", "\u2800")],
               [{"name": "Bob"}, {"name": "anna 2"}, "Nobody can see this name. Choose another."], "other names")
@@ -544,6 +373,5 @@ def names(folder):
         anna.until(lambda pupil: "Cem" in str(pupil.states[-1:]), "the names are not told")
 
 
-load_tests = tests_of(apart, next_tables, in_the_middle, on_graphs, a_puzzle_each, taking_back, hints, wrong_answers, permitted,
-                      by_a_short_code, two_of_a_name, in_another_network, many_seats, names, by_a_word, results, a_full_disk, patient_hints,
-                      shortest, rising_ones, in_german, given=tempfile.TemporaryDirectory)
+load_tests = tests_of(apart, next_tables, in_the_middle, a_puzzle_each, taking_back, hints, wrong_answers, permitted,
+                      by_a_short_code, two_of_a_name, in_another_network, many_seats, names, in_german, given=tempfile.TemporaryDirectory)

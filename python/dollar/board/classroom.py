@@ -141,7 +141,7 @@ class Classroom:
             await room.finish()
 
     async def leave(self, seat: Seat) -> None:
-        """Somebody has left a seat, whose line stays. If nobody else is in the room, it begins afresh for who comes next."""
+        """Somebody has left a seat, whose line stays. If nobody else is in the room, it begins afresh for the next."""
         number = self.number_of(seat)
         if number in self.rooms:
             room = self.rooms[number]

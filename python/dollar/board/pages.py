@@ -46,11 +46,12 @@ def script_in(_: str, name: str, exports: bool) -> str:
                 visit(other)
         if module not in needed:
             needed.append(module)
-        texts[module] = IMPORT.sub("", text)
+        sources[module] = IMPORT.sub("", text)
 
-    texts: dict[str, str] = {}
+    sources: dict[str, str] = {}
     visit(name)
-    return "\n" + "\n".join(texts[module] if exports and module == name else re.sub(r"^export ", "", texts[module], flags=re.M) for module in needed)
+    return "\n" + "\n".join(sources[module] if exports and module == name else re.sub(r"^export ", "", sources[module], flags=re.M)
+                            for module in needed)
 
 
 def filled(name: str, words: Mapping[str, str]) -> str:

@@ -182,7 +182,7 @@ def is_here_alone(host: str) -> bool:
 
 async def begun(server: Server, ports: list[int]) -> None:
     """Starts a server, at the first of these ports that is free: that which it had before, so that open pages find it again."""
-    for port in filter(None, [] if server.port else ports):
+    for port in [port for port in ports if port and not server.port]:
         server.port = port
         try:
             return await server.start()

@@ -113,7 +113,7 @@ class Requests:
         return await self.done(asked, seat, room, request, lambda: acts[asked](seat.name))
 
     def join(self, given: dict[str, Any], peer: str) -> Answer:
-        """Gives a seat: a new one, or, to who says the word of one, that. With an empty word it is only told whether somebody of this name
+        """Gives a seat: a new one, or the one whose word is said. With an empty word it is only told whether somebody of this name
         is away, who may be the same."""
         seats, name = self.room.seats, text_in(given, "name", 200)
         browser = text_in(given, "browser", 64) if "browser" in given else None

@@ -32,7 +32,7 @@ def shown(line: Sequence[Any]) -> list[Any]:
 
 
 def sheet(lines: Sequence[Sequence[Any]]) -> bytes:
-    """All lines as a file, each with what separates its cells in the language of who asks. No cell is a formula."""
+    """All lines as a file, each with what separates its cells in the language that is asked for. No cell is a formula."""
     file = io.StringIO()
     writer = csv.writer(file, delimiter=t("results.separator"), quoting=csv.QUOTE_ALL, lineterminator="\r\n")
     for line in [t("results.head").split(","), *map(shown, lines)]:

@@ -161,7 +161,7 @@ class Seats:
         return next((seat for seat in self.taken.values() if wanted and seen(seat.name) == wanted and not seat.page), None)
 
     def back(self, name: str, word: str, peer: str) -> Seat:
-        """The seat of a name, for who knows its word. Few wrong words are looked at, as wrong codes."""
+        """The seat of a name with its word. Few wrong words are looked at, as wrong codes."""
         if not self.tries.takes(peer, 0):
             raise Refused(429, t("seat.fast"))
         wanted = seen(clean(name))

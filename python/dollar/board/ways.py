@@ -78,7 +78,7 @@ def fewest(table: dict[str, Any], script: Mapping[str, int]) -> dict[str, int] |
                     left.append(there)
         if len(found) > SEARCHED or graph.looks > LOOKED:
             return None
-    return dict(zip(graph.names, min(found.values(), key=lambda counts: sum(map(abs, counts)))))
+    return dict(zip(graph.names, min(found.values(), key=lambda counts: sum(abs(count) for count in counts))))
 
 
 def centred(counts: list[int]) -> list[int]:
@@ -137,7 +137,7 @@ def hint(text: str) -> dict[str, Any]:
     table, verdict = json.loads(text), verdict_of(printed("judge", text.encode(), patience=PATIENCE).rstrip("\n"))
     if not verdict or min(table["amounts"]) >= 0:
         return {"name": "", "count": 0 if verdict else None, "left": 0}
-    script = fewest(table, verdict.script)
+    script = fewest(table, {str(name): count for name, count in verdict.script.items()})
     found = moves_of(script) if script else way(text)
     if found:
         return {"name": found[0][0], "count": found[0][1], "left": len(found)}

@@ -91,7 +91,8 @@ export class Board {
 
   vertex(name, amount, pairs) {
     const [x, y] = this.place(name), r = this.layout.radius, { q, burnt, says: all } = this.picture, isQ = name === q, says = all.get(name);
-    const kinds = ["vertex", (this.held ? this.held.get(name) : amount) < 0 && "debt", this.chosen.has(name) && "chosen", burnt.includes(name) && "burnt"];
+    const shown = this.held ? this.held.get(name) : amount;
+    const kinds = ["vertex", shown < 0 && "debt", this.chosen.has(name) && "chosen", burnt.includes(name) && "burnt"];
     const held = t(amount < 0 ? "said.owes" : "board.has", name, dollars(Math.abs(amount)));
     const label = [held, isQ && t("board.ring"), says].filter(Boolean).join(", ");
     // While a set is chosen, each vertex is in it or not.
@@ -103,7 +104,6 @@ export class Board {
     if (isQ) draw("circle", { class: "ring", cx: x, cy: y, r: r + 4 }, group);
     draw("circle", { class: "round", cx: x, cy: y, r }, group);
     draw("circle", { class: "hatch", fill: `url(#${this.hatch})`, cx: x, cy: y, r }, group);
-    const shown = this.held ? this.held.get(name) : amount;
     const { zoom = 1, least = 0, room } = this.layout, size = this.layout.sizes.get(name), called = Math.max(size, least);
     draw("text", { class: "name inside", x, y: y - Math.max(6 * zoom, 0.1 * called), "font-size": called }, group,
       called > size ? shortened(name, called, 2 * r) : name);

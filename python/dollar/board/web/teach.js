@@ -86,8 +86,8 @@ function offer() {
   };
   element("next-table").replaceChildren(
     group(t("tables.label"), [[t("teacher.same"), "again"], ...all, ...named.map((name) => [called(name), `named ${name}`])]),
-    group(t("teacher.puzzles"), [[t("teacher.chapters"), "graph chapters"], [t("teacher.on-same"), "graph "], [t("teacher.on-random"), "graph random"],
-      ...graphs.map(({ name }) => [t(`graphs.${name}`), `graph ${name}`])]));
+    group(t("teacher.puzzles"), [[t("teacher.chapters"), "graph chapters"], [t("teacher.on-same"), "graph "],
+      [t("teacher.on-random"), "graph random"], ...graphs.map(({ name }) => [t(`graphs.${name}`), `graph ${name}`])]));
   const sizes = GROUPS.map((count) => t(["teacher.shared", "teacher.alone"][count] || "teacher.groups", count));
   element("next-size").replaceChildren(...sizes.map((words, count) => new Option(words, String(count))));
   element("next-size").value = size;

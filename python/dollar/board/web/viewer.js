@@ -3,7 +3,8 @@
 import { Board, still } from "./board.js";
 import { fitted } from "./places.js";
 import { t } from "./texts.js";
-import { commandWords, debtWords, faultWords, flowWords, madeWords, often, planned, reachedWords, replyWords, starsOf, starsText, startWords } from "./words.js";
+import { commandWords, debtWords, faultWords, flowWords, madeWords, often, planned, reachedWords, replyWords, starsOf, starsText,
+  startWords } from "./words.js";
 
 export const element = (id) => /** @type {any} */ (document.getElementById(id));
 const BETWEEN = 2200, LISTED = 400;
