@@ -79,7 +79,10 @@ export function showPicture() {
   if (told === "null" && !is_new) return;
   const { room, amounts, says, burnt, script, chosen, words } = JSON.parse(told) || {};
   pictured = told;
-  if (!room && is_new) viewer.show(viewer.now);
+  if (!room && is_new) {
+    viewer.board.chosen.clear();
+    viewer.show(viewer.now);
+  }
   if (room !== lesson.shownRoom) return;
   viewer.board.chosen = new Set(chosen);
   viewer.board.show(viewer.picture({ amounts: new Map(amounts), says: new Map(says), burnt, script: script && new Map(script) }));
