@@ -256,10 +256,10 @@ class Browser:
         self.until(until)
         self.finger("End")
 
-    def choose_file(self, selector, place):
-        """Gives a file to an element for files."""
+    def choose_file(self, selector, *places):
+        """Gives files to an element for files."""
         chosen = self.call("Runtime.evaluate", expression=f"$({json.dumps(selector)})")
-        self.call("DOM.setFileInputFiles", files=[os.path.abspath(place)], objectId=chosen["result"]["objectId"])
+        self.call("DOM.setFileInputFiles", files=[*map(os.path.abspath, places)], objectId=chosen["result"]["objectId"])
 
     def save_in(self, folder):
         """Has the page's files be saved in a folder without asking."""

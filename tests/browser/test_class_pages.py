@@ -35,6 +35,7 @@ def with_entries(lesson):
     ann.press("Enter")
     bob.has(3)
     equal(ann.value("document.activeElement.dataset.name"), "bob", "the focus after an entry came")
+    equal(bob.value("$('#now [aria-live]').getAttribute('aria-live')"), "polite", "whether a small room hears what others do")
     ann.drag(at("ann"), at("cyd"))
     bob.has(4)
     equal(bob.text("#said"), "3 joined 1 ann=-1 bob=-2 cyd=1 dan=3", "an edge that another drew")

@@ -152,7 +152,7 @@ def kind_houses(ann, others, desk, wall):
     picture(desk, "teacher-fire")
     shown_by_hand(ann, desk, wall)
     desk.value("($('#show').value = 'all', $('#show').dispatchEvent(new Event('change')))")
-    wall.until("document.body.classList.contains('all-rooms')")
+    wall.until("document.body.dataset.rooms === 'all'")
 
 
 def shown_by_hand(ann, desk, wall):

@@ -14,7 +14,7 @@ from typing import Any, List, Sequence, Tuple
 
 from dollar.answers import numbered
 from dollar.board.texts import t
-from dollar.board.ways import least
+from dollar.board.ways import fewest, moves_of
 from dollar.drawing import USUAL, layout
 from dollar.program import PATIENCE, printed
 
@@ -126,8 +126,9 @@ def in_order(table: dict[str, Any], draw: random.Random) -> list[int]:
     return [earlier[name] for name in table["vertices"]]
 
 
-def puzzle(table: dict[str, Any], level: str, draw: random.Random, others: Sequence[str] = ()) -> str:
-    """A table with other dollars on the same graph, of a level; not one of the others, if it can be. Raises ValueError if there is none."""
+def puzzle(table: dict[str, Any], level: str, draw: random.Random, others: Sequence[str] = ()) -> tuple[str, int]:
+    """A table with other dollars on the same graph, of a level, and in how few moves it can be won, or 0; not one of the others, if it can
+    be. Raises ValueError if there is none."""
     names, (beside, most), found = table["vertices"], LEVELS[level], None
     genus = sum(count for _, _, count in table["edges"]) - len(names) + 1
     for _ in range(TRIES):
@@ -138,8 +139,9 @@ def puzzle(table: dict[str, Any], level: str, draw: random.Random, others: Seque
             made["amounts"] = fired(made, script)
         word = printed("judge", text_of(made).encode(), patience=PATIENCE).partition(" ")[0]
         if min(made["amounts"]) < 0 and word == ("unwinnable" if level == "unwinnable" else "winnable"):
-            found = text_of(made)
-            if found not in others:
+            back = {name: -script.get(name, 0) for name in names}
+            found = text_of(made), 0 if level == "unwinnable" else len(moves_of(fewest(made, back) or {}))
+            if found[0] not in others:
                 return found
     if found is None:
         raise ValueError(t("puzzles.none-here"))
@@ -155,14 +157,20 @@ def graphs() -> list[dict[str, Any]]:
 
 def puzzles(graph: str, level: str, now: str, count: int = 1) -> tuple[str, list[str]]:
     """The name of a graph and the texts of puzzles on it: on a known graph, on a random one, or on that of the table now."""
+    called, made = measured(graph, level, now, count)
+    return called, [text for text, _ in made]
+
+
+def measured(graph: str, level: str, now: str, count: int) -> tuple[str, list[tuple[str, int]]]:
+    """Puzzles, each with the fewest moves by which it can be won."""
     if level not in LEVELS or graph not in ("", "random", *GRAPHS):
         raise ValueError(t("puzzles.none"))
     draw = random.SystemRandom()
     table = json.loads(now) if graph == "" else table_of(random_graph(draw) if graph == "random" else GRAPHS[graph])
-    called, made = t("graphs." + graph) if graph in GRAPHS else t("puzzles." + (graph or "same")), list[str]()
+    called, made = t("graphs." + graph) if graph in GRAPHS else t("puzzles." + (graph or "same")), list[Tuple[str, int]]()
     while len(made) < count:
         # Once none is found that is new, they come again.
-        made.append(puzzle(table, level, draw, made if len(set(made)) == len(made) else ()))
+        made.append(puzzle(table, level, draw, [text for text, _ in made] if len(set(made)) == len(made) else ()))
     return called, made
 
 
@@ -171,13 +179,13 @@ def in_rising(graph: str, now: str, count: int = 1) -> list[tuple[str, list[str]
     at least; nobody can tell by its place which one can't be won."""
     first, middle, last = RISING
     levels = [*first, *random.SystemRandom().sample(middle, len(middle)), *last]
-    made = [puzzles(graph, level, now, count) for level in levels]
+    made = [measured(graph, level, now, count) for level in levels]
     places = [place for place, level in enumerate(levels) if level != "unwinnable"]
     for board in range(count):
-        rising = sorted((made[place][1][board] for place in places), key=least)
-        for place, text in zip(places, rising):
-            made[place][1][board] = text
-    return [(name, texts, level) for (name, texts), level in zip(made, levels)]
+        rising = sorted((made[place][1][board] for place in places), key=lambda each: each[1])
+        for place, each in zip(places, rising):
+            made[place][1][board] = each
+    return [(name, [text for text, _ in each], level) for (name, each), level in zip(made, levels)]
 
 
 def in_chapters(count: int = 1) -> list[tuple[str, list[str], str]]:

@@ -50,8 +50,7 @@ function fits() {
 /* A page that shows all rooms: that of the teacher, or a wall without a seat, which shows the way in as well. */
 function showsAllRooms(kind, ...more) {
   element("tools").hidden = !lesson.teaches;
-  document.body.classList.add(kind);
-  enter(true);
+  enter(kind);
   showWay();
   lesson.turns.push(() => element("rooms").replaceChildren());
   lesson.shows.push(keepWay, showRooms, ...more, fits);
@@ -89,7 +88,7 @@ async function start() {
   seated(() => showsAllRooms("watching", showPicture));
   lesson.shows.push(() => lesson.me && fits());
   lesson.me = seatBefore();
-  return lesson.me ? sit() : enter(false);
+  return lesson.me ? sit() : enter("outside");
 }
 
 export { lesson };

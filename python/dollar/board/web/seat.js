@@ -90,20 +90,22 @@ function leaveSeat(words) {
   lesson.link.close();
   // What is still to be drawn says nothing over these words.
   lesson.state = null;
-  enter(false);
+  enter("outside");
   notice(words);
 }
 
-export function enter(inside) {
+/* The page is one of these: outside at the entrance, playing, watching or teaching. */
+export function enter(kind) {
+  const inside = kind !== "outside";
   element("entrance").hidden = inside;
-  document.body.classList.toggle("outside", !inside);
+  document.body.dataset.page = kind;
   lesson.viewer.refit();
   notice("");
   if (!inside) askName();
 }
 
 export function sit() {
-  enter(true);
+  enter("playing");
   lesson.link.listen(() => place(`events?key=${lesson.me.key}&`));
 }
 

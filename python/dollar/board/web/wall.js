@@ -18,8 +18,7 @@ export function showRooms() {
   element("done").textContent = stages > 1 ? t("class.solved", done) : t("class.done", done, numbers.length);
   box.hidden = size === 0;
   element("done").hidden = size === 0 || Boolean(one);
-  document.body.classList.toggle("one-room", size > 0 && Boolean(one));
-  document.body.classList.toggle("all-rooms", size > 0 && !one && !lesson.teaches);
+  document.body.dataset.rooms = size === 0 ? "none" : one ? "one" : lesson.teaches ? "beside" : "all";
   if (size === 0) return;
   if (one && one !== lesson.shownRoom) enlarge(one);
   box.classList.toggle("list", shown === "done");
