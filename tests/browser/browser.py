@@ -32,7 +32,9 @@ const later = setTimeout;
 globalThis.setTimeout = (act, time) => later(act, time === 550 ? 6000 : time);
 addEventListener("load", async () => {
   const script = $("script[type=module][src]");
-  globalThis.inside = script ? await import(script.src) : { get viewer() { return $("#board").viewer; } };
+  const module = script && await import(script.src);
+  const own = module && module.lesson ? Object.assign(module.lesson, { play: module.play }) : module;
+  globalThis.inside = own || { get viewer() { return $("#board").viewer; } };
 });"""
 READY = "document.readyState === 'complete' && Boolean(globalThis.inside && inside.viewer)"
 # What a page holds in which something never came to be true.
@@ -254,10 +256,10 @@ class Browser:
         self.until(until)
         self.finger("End")
 
-    def choose_file(self, selector, place):
-        """Gives a file to an element for files."""
+    def choose_file(self, selector, *places):
+        """Gives files to an element for files."""
         chosen = self.call("Runtime.evaluate", expression=f"$({json.dumps(selector)})")
-        self.call("DOM.setFileInputFiles", files=[os.path.abspath(place)], objectId=chosen["result"]["objectId"])
+        self.call("DOM.setFileInputFiles", files=[*map(os.path.abspath, places)], objectId=chosen["result"]["objectId"])
 
     def save_in(self, folder):
         """Has the page's files be saved in a folder without asking."""

@@ -131,9 +131,9 @@ class Firefox(Browser):
         act = {"Start": "pointerDown", "End": "pointerUp"}.get(kind)
         self.point("finger", "touch", places[0] if places else None, act)
 
-    def choose_file(self, selector, place):
+    def choose_file(self, selector, *places):
         found = self.inside("browsingContext.locateNodes", locator={"type": "css", "value": selector})["nodes"][0]
-        self.inside("input.setFiles", element={"sharedId": found["sharedId"]}, files=[os.path.abspath(place)])
+        self.inside("input.setFiles", element={"sharedId": found["sharedId"]}, files=[*map(os.path.abspath, places)])
 
     def save_in(self, folder):
         self.call("browser.setDownloadBehavior", downloadBehavior={"type": "allowed", "destinationFolder": str(folder)})

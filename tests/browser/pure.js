@@ -4,8 +4,8 @@ import { GRAMMAR } from "./grammar.js";
 import { fitted, freePlace, layoutOf, placesText, shortened, vertexAhead, vertexAt, wordsPlace } from "./places.js";
 import { TEXTS } from "./table.js";
 import {
-  Game, answerOf, commandWords, faultWords, firstWords, flows, linesOf, movesWords, nameWords, numbersOf, rankWords, reachedWords, replyOf,
-  replyWords, startWords, stepOf,
+  Game, answerOf, called, commandWords, faultWords, firstWords, flows, linesOf, movesWords, nameWords, numbersOf, rankWords, reachedWords, replyOf,
+  replyWords, starsOf, starsText, startWords, stepOf,
 } from "./words.js";
 
 const failures_ = [];
@@ -98,18 +98,23 @@ function games() {
   equal(rich.states.map(({ moves }) => moves), [0, 1, 2, 5, 7], "how many moves a script and a set are");
   rich.help();
   equal(rich.states.every(({ helped }) => helped), true, "a game with help");
-  const reached = [{ won: true, moves: 5, best: 3, least: 3 }, { won: true, moves: 2, helped: true, least: 2 }, { moves: 0, best: 1 },
-    { moves: 4 }, { won: true, moves: 4, best: 4, least: 3 }, { moves: 1, right: true }];
+  const reached = [{ won: true, moves: 5, best: 3, least: 3 }, { won: true, moves: 2, helped: true, least: 2 }, { moves: 0, is_done: true, best: 1 },
+    { moves: 4 }, { won: true, moves: 4, best: 4, least: 3 }, { moves: 1, is_right: true }, { moves: 2, is_done: true, least: 3 }];
   equal(reached.map(reachedWords), ["Solved in 5 moves: nobody owes a dollar. Your best: 3. It can't be done in fewer.",
-    "Solved in 2 moves: nobody owes a dollar. You had help, so this does not count as your best. It can be done in 2.",
+    "Solved in 2 moves, with help. It can't be done in fewer.",
     "Solved before, in 1 move.", "",
-    "Solved in 4 moves: nobody owes a dollar. It can be done in 3.", "Right: it can't be done."], "what was reached");
+    "Solved in 4 moves: nobody owes a dollar. It can be done in 3.", "Right: it can't be done.",
+    "Solved before, with help."], "what was reached");
+  const stars = [{}, { best: 3, least: 3 }, { best: 4, least: 3 }, { best: 9, least: 3 }, { least: 3 }, { best: 3 }, { is_right: true },
+    { is_right: true, wrongs: 1 }].map((each, i) => starsOf({ is_done: i > 0, ...each }));
+  equal([stars, starsText(2)], [[0, 3, 2, 1, 1, 1, 3, 2], "\u2605\u2605\u2606"], "stars");
+  equal(["kind_houses.json", "2 of 6, Cube", "\u00e4.json"].map(called), ["Kind houses", "2 of 6, Cube", "\u00c4"], "titles");
   equal([movesWords(1), movesWords(0), faultWords("?", "x")], ["1 move", "0 moves", "x"], "words of numbers and faults");
   equal([startWords(0), startWords(1), startWords(2)], ["Start. No moves yet.", "Start, before 1 step", "Start, before 2 steps"], "starts");
   odd.add("1 lend a", "1 moved b=2 a=-2 2=0");
   equal([firstWords(new Game(TABLE), 0), firstWords(odd, 1), firstWords(odd, 2), firstWords(rich, 1).split(".")[0], firstWords(rich, 3)],
     ["Click any vertex: it sends a dollar along each of its edges.", "a lends. Go on until nobody owes. To let one borrow, press it longer, "
-      + "or tick the box first.", "", "a lends", ""], "the first minute");
+      + "or switch to borrow.", "", "a lends", ""], "the first minute");
   equal([linesOf("a\nb\n"), linesOf("a\nb"), linesOf("")], [["a", "b"], ["a", "b"], []], "lines of texts");
 }
 

@@ -162,7 +162,7 @@ def by_mouse(player):
     player.click("#borrowing")
     player.does("1 borrow cyd", player.click, at("cyd"))
     player.does("1 lend cyd", player.click, at("cyd"), SHIFT)
-    player.click("#borrowing")
+    player.click("#lending")
     (x, y) = player.middle(at("ann"))
     player.drag(at("ann"), [x + 130, y - 90])
     player.does("1 lend ann", player.click, at("ann"))
@@ -329,6 +329,13 @@ def with_tables(player):
     """Tables from files, examples and lots; what is no table is refused in words."""
     player.choose_file("#open", written(player.folder, "own.json", text_of(EXAMPLES / "petersen.json")))
     player.until("fileName === 'own.json' && viewer.game.names.length === 10")
+    apart = written(player.folder, "places.txt", "a 0 0\nb 300 0\nc 600 0\n")
+    player.choose_file("#open", apart, EXAMPLES / "triangle.json")
+    player.until("fileName === 'triangle.json'")
+    equal(player.value("[...viewer.board.layout.original.places.values()].map(([, y]) => y)").count(player.value("viewer.board.place('a')[1]")), 3,
+          "places that are opened with a table")
+    player.choose_file("#open", f"{player.folder}/own.json")
+    player.until("fileName === 'own.json' && viewer.game.names.length === 10")
     for text, words, own in NO_TABLES:
         said, code = player.refused(player.choose_file, "#open", written(player.folder, "bad.json", text))
         expect(said.startswith(words), f"{own}: {said}")
@@ -376,7 +383,7 @@ def with_an_end(player):
         player.answered(yes)
     player.has(1)
     equal(player.text("#asked"), "1 script bob=1,cyd=2", "the script that is shown")
-    player.ends(f"Solved in 3 moves: nobody owes a dollar. You had help, so this does not count as your best. {LEAST}")
+    player.ends(f"Solved in 3 moves, with help. {LEAST}")
     player.open_example("triangle", asks=False)
     player.open_example("houses", asks=False)
     for name in "cyd", "cyd", "bob":
@@ -389,6 +396,7 @@ def with_an_end(player):
     before = player.value("table")
     player.click("#next")
     player.until(f"table !== {json.dumps(before)} && viewer.game.length === 0 && $('#won').hidden && document.activeElement.dataset.name")
+    equal(player.text("#title"), "1. The street: make everybody debt-free", "the first of ten chapters")
 
 
 KEPT_WITH_A_DRAFT = """play("claim").then(() => {
@@ -403,6 +411,12 @@ KEPT_WITH_A_DRAFT = """play("claim").then(() => {
 def with_editor(player):
     """A table is edited on the board and in lists, and saved as a file which the program takes."""
     player.open_example("triangle", asks=False)
+    player.edit()
+    player.size(360, 740)
+    equal(player.value("[document.documentElement.scrollWidth, $('#board svg').clientHeight > 200]"), [360, True], "the editor on a phone")
+    player.size()
+    player.press("Escape")
+    equal(player.value("$('#editor').hidden"), True, "the editor after Escape")
     player.edit()
     empty = player.value("(({ x, y }) => [x + 40, y + 40])($('#board svg').getBoundingClientRect())")
     player.mouse("Pressed", empty)
@@ -435,7 +449,7 @@ def with_editor(player):
     equal([line.split(" ")[0] for line in places.splitlines()], ["a", "b", "zoe"], "the places that are saved")
     player.does("1 lend zoe", player.click, at("zoe"))
     equal(player.text("#said"), "0 moved a=3 b=-1 zoe=-6", "a move on the edited table")
-    equal(player.text("#title"), "The dollar game: an edited table", "the title of an edited table")
+    equal(player.text("#title"), "An edited table: make everybody debt-free", "the title of an edited table")
     player.edit()
     for selector in "#edit-clear", "#add-vertex", "#add-vertex", "#add-edge":
         player.click(selector)

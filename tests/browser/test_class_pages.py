@@ -35,6 +35,7 @@ def with_entries(lesson):
     ann.press("Enter")
     bob.has(3)
     equal(ann.value("document.activeElement.dataset.name"), "bob", "the focus after an entry came")
+    equal(bob.value("$('#now [aria-live]').getAttribute('aria-live')"), "polite", "whether a small room hears what others do")
     ann.drag(at("ann"), at("cyd"))
     bob.has(4)
     equal(bob.text("#said"), "3 joined 1 ann=-1 bob=-2 cyd=1 dan=3", "an edge that another drew")
@@ -110,16 +111,22 @@ def with_commands(lesson):
 
 
 def on_a_busy_table(lesson):
-    """While others play, the board shows the amounts of now, also while coins run above it."""
+    """While others play, the board shows the amounts of now; while coins run, who lends has less already, and the others not yet more."""
     ann, *_ = lesson
     other = Pupil(ann.value("location.href"), "busy", events=False)
     ann.value("viewer.go(viewer.game.length)")
     ann.media(motion="no-preference")
+    before = ann.value("texts('#board .amount')")
     for number in range(20):
         _, answer = other.play(f"lend {('ann', 'cyd')[number % 2]}")
         ann.until(f"viewer.game.replies.at(-1).line === {json.dumps(answer)}")
-        equal(ann.value("texts('#board .amount')"), re.findall(r"=(-?\d+)", answer), "the amounts on the board")
+        now, shown, coins = re.findall(r"=(-?\d+)", answer), *ann.value("[texts('#board .amount'), $$('#board .coin').length]")
+        lender = 0 if number % 2 == 0 else 2
+        held = [now[i] if i == lender else before[i] for i in range(4)]
+        expect(shown == now or (coins > 0 and shown == held), f"the amounts {shown}, after {before} and before {now}, with {coins} coins")
+        before = now
     ann.until("$$('#board .coin').length === 0")
+    equal(ann.value("texts('#board .amount')"), before, "the amounts when all coins have landed")
     ann.media()
 
 

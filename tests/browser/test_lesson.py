@@ -1,6 +1,8 @@
 """The lesson of docs/play.md with thirty pupils, by the page and the handout, in Chromium and in Firefox: one of them on a phone, the
 teacher on a laptop, and the wall. The computer has two addresses, the network forgets connections without a word, five pupils mistype
 the code, and the server has an accident. Nobody is left out, and no move is lost or unseen."""
+import csv
+import io
 import json
 import os
 import re
@@ -121,7 +123,7 @@ def first_table(ann, others, desk, wall, networks):
     # One more move, out of joy.
     ann.touch(at("ann"))
     for page in desk, wall:
-        page.until(f"{HOW}[{ann.seat - 1}] === 'done in 3 moves' && rooms.get({ann.seat}).game.length === 4")
+        page.until(f"{HOW}[{ann.seat - 1}] === '\u2605\u2605\u2605 3 moves' && rooms.get({ann.seat}).game.length === 4")
     equal(ann.text("#won"), "Solved before, in 3 moves. It can't be done in fewer.", "what was reached stays")
     equal(others[0].play("script cyd=2,bob=1"),
           (409, "The teacher has switched off looks, verdicts, rank tests and scripts. Nothing was played."), "a script of a pupil")
@@ -138,7 +140,7 @@ def kind_houses(ann, others, desk, wall):
     ann.touch("#cant")
     ann.until("$('#won').textContent === \"Right: it can't be done.\"")
     for page in desk, wall:
-        page.until(f"$('#done').textContent === 'Done: 1 of {OTHERS + 1}' && {HOW}[{ann.seat - 1}] === \"done: it can't be\"")
+        page.until(f"$('#done').textContent === 'Done: 1 of {OTHERS + 1}' && {HOW}[{ann.seat - 1}] === \"\u2605\u2605\u2605 it can't be done\"")
     for selector in f".room[data-room='{ann.seat}']", "#ask-won", "#show-fire":
         desk.until(f"$({json.dumps(selector)}) && !$({json.dumps(selector)}).hidden")
         desk.click(selector)
@@ -150,7 +152,7 @@ def kind_houses(ann, others, desk, wall):
     picture(desk, "teacher-fire")
     shown_by_hand(ann, desk, wall)
     desk.value("($('#show').value = 'all', $('#show').dispatchEvent(new Event('change')))")
-    wall.until("document.body.classList.contains('all-rooms')")
+    wall.until("document.body.dataset.rooms === 'all'")
 
 
 def shown_by_hand(ann, desk, wall):
@@ -165,6 +167,11 @@ def shown_by_hand(ann, desk, wall):
         page.until("names('#board .chosen').join() === 'bob'")
     picture(wall, "wall-shown")
     equal(ann.value("[viewer.game.length, rooms.get(me.seat).items.length]"), [0, 0], "the game after it")
+    ann.touch(at("ann"))
+    desk.until("texts('#board .amount').join() === '-2,2,2,-1'")
+    equal(wall.value("[texts('#board .amount').join(), names('#board .chosen').join()]"), ["1,3,1,-4", "bob"], "what is shown, while its pupil plays")
+    desk.click("#unshow")
+    wall.until("texts('#board .amount').join() === '-2,2,2,-1' && names('#board .chosen').length === 0")
 
 
 def at_own_speed(folder, ann, others, desk, wall):
@@ -188,9 +195,10 @@ def at_own_speed(folder, ann, others, desk, wall):
     equal([can[:2], sorted(can[2:5]), can[5:]], [[True, True], [False, True, True], [True]], "which puzzles can be won")
     for line in wins[0]:
         ann.value(f"play('{line}')")
-    ann.until("$('#won').textContent.includes('You had help, so this does not count as your best.') && !$('#next').hidden")
+    ann.until("$('#won').textContent.includes(', with help.') && !$('#next').hidden")
     ann.touch("#next")
-    ann.until("rooms.get(me.seat).stage === 1 && viewer.game.length === 0 && $('#title').textContent.endsWith('2 of 6, Wheel of 5')")
+    ann.until("rooms.get(me.seat).stage === 1 && viewer.game.length === 0"
+              " && $('#title').textContent === '2 of 6, Wheel of 5: make everybody debt-free'")
     for pupil in others[:10]:
         for line in lines_for(folder, json.dumps(tables[0][pupil.seat - 1])):
             equal(pupil.play(line)[0], 200, "a move of another")
@@ -198,7 +206,7 @@ def at_own_speed(folder, ann, others, desk, wall):
         equal(pupil.place.post("line", {"key": pupil.key, "line": "lend a", "stage": 0}),
               (409, "There is a new table. This line was not played."), "a line for the table before")
     for page in desk, wall:
-        page.until(f"$('#done').textContent === 'Done: 11 of {6 * (OTHERS + 1)}' && {HOW}[{ann.seat - 1}] === '2 of 6, 0 moves'")
+        page.until(f"$('#done').textContent === 'Puzzles solved: 11' && {HOW}[{ann.seat - 1}] === '2/6 0 moves'")
     for line in wins[1]:
         ann.value(f"play('{line}')")
     ann.until(f"$('#won').textContent.startsWith('Solved in {len(wins[1])} move')")
@@ -210,13 +218,18 @@ def at_own_speed(folder, ann, others, desk, wall):
 
 def results(desk, moves):
     """Who did what, as a table to take along, also after the teacher's page was loaded again."""
-    desk.visit(desk.value("location.href"), f"state !== null && $('#done').textContent === 'Done: 12 of {6 * (OTHERS + 1)}'")
-    rows = [line.split('","') for line in desk.saved("#take-results", "results.csv").splitlines()]
-    equal(rows[0][:4], ['"pupils', "table", "done", "fewest moves"], "the head of the results")
-    own = [row[1:6] for row in rows if row[0] == '"Ann']
-    equal(own, [["houses.json", "yes", "3", "0", "0"], ["kind_houses.json", "yes", "can't be done", "0", "0"],
-                ["Wheel of 5, easy", "yes", "", "1", "1"], ["Wheel of 5, easy", "yes", str(moves), "0", "0"]], "what Ann did")
+    desk.visit(desk.value("location.href"), "state !== null && $('#done').textContent === 'Puzzles solved: 12'")
+    text = desk.saved("#take-results", "results.csv")
+    equal(text[0], "\ufeff", "what tells a spreadsheet of its letters")
+    rows = list(csv.reader(io.StringIO(text[1:])))
+    equal(rows[0][1:6], ["pupil", "board", "table", "done", "fewest moves"], "the head of the results")
+    own = [row[3:] for row in rows if row[1] == "Ann"]
+    equal([row[:3] + row[4:6] for row in own],
+          [["houses.json", "yes", "3", "0", "0"], ["kind_houses.json", "yes", "can't be done", "0", "0"],
+           ["Wheel of 5, easy", "yes", "", "1", "1"], ["Wheel of 5, easy", "yes", str(moves), "0", "0"]], "what Ann did")
+    equal([own[0][3], own[1][3], 0 < int(own[3][3]) <= moves], ["3", "", True], "the fewest moves that there can be")
     equal(len(rows), 1 + 3 * (OTHERS + 1) + 11, "the rows of all")
+    return rows
 
 
 def lesson(folder, browsers):

@@ -9,9 +9,12 @@ from pathlib import Path
 
 from common import PATIENCE, text_of, written
 from dollar.board.pages import MADE, ROOTS, one_script, part
-from dollar.board.texts import TEXTS, WEB
+from dollar.board.texts import TABLES, WEB
 from helpers import equal, tests_of
 
+TEXTS = TABLES["en"]
+# What is put into a text, by its number, its name, or a word of the language.
+PLACE = re.compile(r"{(.*?)}")
 # What two words in quotes are that nobody reads: selectors, classes, keys; and where a script puts what is read.
 UNREAD = re.compile(r'"(?:#|\(|tr:|(?:input|dollar|name|amount|says|graph)\b|(?:%s)")' % "|".join(TEXTS["faults"]))
 READ = r"""(?:(?:textContent|title|placeholder) = |\b(?:note|tell|notice|sure|button|Option)\(|\b(?:made|say)\("[\w-]+", )["'`]\w.*"""
@@ -69,10 +72,26 @@ def texts(_):
     equal({name for name in table - used if name.partition(".")[0] not in computed}, set(), "texts that nobody says")
 
 
+def languages(_):
+    """Each language has the texts of each other, with the same put into them, and words for all that it says of vertices and edges."""
+    for name, table in TABLES.items():
+        equal(table["page"]["language"], name, "what a language says that it is")
+        equal([{key: sorted(texts) for key, texts in each.items() if key != "words"} for each in (table, TEXTS)][0],
+              {key: sorted(texts) for key, texts in TEXTS.items() if key != "words"}, f"the texts of {name}")
+        said = set()
+        for group, texts in table.items():
+            for key, text in texts.items() if group != "words" else ():
+                own, other = ({place for form in (each if isinstance(each, list) else [each]) for place in PLACE.findall(form)}
+                              for each in (text, TEXTS[group][key]))
+                said |= own
+                equal(own - set(table["words"]), other - set(TEXTS["words"]), f"what is put into {group}.{key} of {name}")
+        equal(set(table["words"]) - said, set(), f"words of {name} that nobody says")
+
+
 def modules(folder):
     told = "import('./pure.js').then((tests) => console.log(JSON.stringify(tests.failures())))"
     done = ran("node", "-e", told, cwd=copied(folder))
     equal((json.loads(done.stdout or "null"), done.stderr), ([], ""), "the modules in node")
 
 
-load_tests = tests_of(modules, texts, types, whole_scripts, given=tempfile.TemporaryDirectory)
+load_tests = tests_of(modules, texts, languages, types, whole_scripts, given=tempfile.TemporaryDirectory)

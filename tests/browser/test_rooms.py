@@ -1,5 +1,6 @@
 """A class in rooms, without a browser: each room has its game, and the teacher hands out tables and says what is permitted."""
 import asyncio
+import contextlib
 import json
 import random
 import subprocess
@@ -10,9 +11,9 @@ from pathlib import Path
 from common import EXAMPLES, addresses, asked, played, refused, started, text_of, together, waited, written
 from dollar.board.classroom import Classroom
 from dollar.board.game import Table
-from dollar.board.puzzles import GRAPHS, LEVELS, puzzles, table_of
 from dollar.board.server import LETTERS
 from helpers import equal, expect, tests_of
+from test_puzzles import confirmed
 from visitors import TABLE, Place, Pupil, a_class, taken, watcher
 
 EACH = "--rooms", "1"
@@ -107,31 +108,6 @@ def in_the_middle(folder):
         equal({pupil.play("claim")[0] for pupil in pupils}, {200}, "lines after the last table")
         told_all(page, 1, *taken(desk, folder, 1))
         page.leave()
-
-
-def confirmed(folder, table, level):
-    """Sees that somebody owes, and that the program says of a puzzle what its level does."""
-    word = asked("judge", written(folder, "puzzle", table))[0].split(" ")[0]
-    equal(word, "unwinnable" if level == "unwinnable" else "winnable", f"the verdict on a puzzle that is {level}")
-    expect(min(json.loads(table)["amounts"]) < 0, f"nobody owes: {table}")
-
-
-def on_graphs(folder):
-    """Each known graph has puzzles of each level, if there can be any; and so have random ones."""
-    for graph in [*GRAPHS, *["random"] * 10]:
-        for level in LEVELS:
-            name, (table,) = puzzles(graph, level, TRIANGLE)
-            equal(name, "a random graph" if graph == "random" else graph, "the name of a puzzle")
-            confirmed(folder, table, level)
-            if graph != "random":
-                equal([json.loads(table)[part] for part in ("vertices", "edges")],
-                      [table_of(GRAPHS[graph])[part] for part in ("vertices", "edges")], f"the graph {graph}")
-    single = '{"vertices":["a"],"edges":[],"amounts":[0],"q":"a"}\n'
-    for level in "easy", "medium", "hard":
-        try:
-            equal(puzzles("", level, single), None, "a puzzle on one vertex")
-        except ValueError as error:
-            equal(str(error), "There is no such puzzle on this graph.", "a puzzle on one vertex")
 
 
 def taking_back(folder):
@@ -283,7 +259,7 @@ def permitted(folder):
               [200, 200, 409, 409, 409, 200], "what is permitted otherwise")
         equal(taken(desk, folder)[0], ["1 look", "1 gift ann 1", "1 join ann bob", "1 lend ann"], "the steps")
         again = place.post("join", {"name": "ann again", "browser": "b" * 24})
-        equal(again, (200, {"seat": 1, "key": ann.key, "name": "ann"}), "a browser that asks for a second seat")
+        equal([again[0], again[1]["seat"], again[1]["key"]], [200, 1, ann.key], "a browser that asks for a second seat")
         desk.post("door", {"open": False})
         equal(place.post("join", {"name": "late"}), (409, "The door is shut. The teacher can open it."), "a seat past a shut door")
         equal(place.post("join", {"name": "ann", "browser": "b" * 24})[1]["seat"], 1, "who has a seat comes in")
@@ -344,16 +320,40 @@ def in_another_network(_):
 
 
 def many_seats(folder):
-    """A script takes no more seats at once than a few; everybody else has one at once."""
-    with a_class(folder, 30) as (_, place, desk):
+    """A school behind one address has its seats at once. A script that takes all others keeps nobody out who opens the page of a seat."""
+    with a_class(folder, 45) as (_, place, desk):
         place.source = "127.0.0.66", 0
-        took = together(*(lambda number=number: place.post("join", {"name": "x", "browser": f"b{number}"})[0] for number in range(29)))
-        expect(took.count(200) >= 12 and set(took) == {200, 429}, f"the seats of a script: {took}")
-        equal(len({Pupil(place.address, "honest", events=False).seat for _ in range(10)}), 10, "the seats of others")
-        expect(waited(lambda: place.post("join", {"name": "y"})[0] == 200), "a school behind one address gets its seats one by one")
-        equal([desk.post("seats", {"count": count})[0] for count in (29, 65, "64", 64)], [409, 409, 409, 200], "other seats")
-        *_, last = [Pupil(place.address, "late", events=False) for _ in range(20)]
-        equal((last.seat > 30, last.play("look")[0]), (True, 200), "a seat of those that were added")
+        took = together(*(lambda number=number: place.post("join", {"name": "x", "browser": f"b{number}"})[0] for number in range(44)))
+        expect(took.count(200) >= 40 and set(took) == {200, 429}, f"the seats of one address: {took}")
+        honest = []
+
+        def comes():
+            with contextlib.suppress(ValueError):
+                honest.append(Pupil(place.address, "honest"))
+            return len(honest) == 12
+
+        expect(waited(comes), "the seats of others, once those whose page was never opened are free again")
+        equal([len({pupil.seat for pupil in honest}), honest[0].play("look")[0]], [12, 200], "who has a page keeps the seat")
+        equal([desk.post("seats", {"count": count})[0] for count in (44, 65, "64", 64)], [409, 409, 409, 200], "other seats")
+        *_, last = [Pupil(place.address, "late", events=False) for _ in range(19)]
+        equal((last.seat > 45, last.play("look")[0]), (True, 200), "a seat of those that were added")
+        for pupil in honest:
+            pupil.leave()
+
+
+def in_german(folder):
+    """Pages, scripts and answers are in the language that is asked for, or else in the browser's."""
+    with a_class(folder, 2, "Ann") as (_, place, desk, ann):
+        german, other = {"Accept-Language": "de-AT,de;q=0.9,en;q=0.5"}, {"Accept-Language": "xx,fr;q=0.9"}
+        pages = [place.get("", headers=german)[1], place.get("?lang=de")[1], place.get("", headers=other)[1]]
+        equal(['<html lang="de">' in page and 'src="class.js?lang=de"' in page for page in pages], [True, True, False], "pages")
+        expect('<html lang="en">' in pages[2] and "Take a seat" in pages[2], "a page for a browser of another language")
+        scripts = [place.get(f"class.js?lang={name}")[1] for name in ("de", "en")]
+        equal(["Niemand hat Schulden." in script for script in scripts], [True, False], "scripts")
+        desk.post("pause", {"paused": True})
+        equal([place.post(f"line{lang}", {"key": ann.key, "line": "lend ann"})[1][:14] for lang in ("?lang=de", "")],
+              ["Die Lehrkraft ", "The teacher ha"], "answers")
+        equal(place.get(f"/{place.secret}?lang=de")[1].count("/?lang=de"), 1, "an address without its last slash")
 
 
 def names(folder):
@@ -361,9 +361,10 @@ def names(folder):
     with a_class(folder, 8, "Anna") as (_, place, _, anna):
         for name in "\u2800", "\u3164 \uffa0", "\u200d", "\ufe0f", "\u0301":
             equal(place.post("join", {"name": name}), (409, "Nobody can see this name. Choose another."), f"the name {name!r}")
-        given = ["Anna", "ANNA\u200d", "\uff21nna", "A" + "\u0301" * 23 + "b", "\u0928\u093f", "\U0001f469\u200d\U0001f4bb", ""]
+        given = ["Anna", "ANNA\u200d", "\u0410nn\u0430", "A" + "\u0301" * 23 + "b", "\u0928\u093f", "\U0001f469\u200d\U0001f4bb", ""]
         came = [place.post("join", {"name": name})[1] for name in given]
-        equal([got["name"] for got in came], ["Anna 2", "ANNA\u200d 3", "\uff21nna 4", "A\u0301\u0301\u0301b", *given[4:6], "Seat 8"], "the names")
+        equal([got["name"] for got in came],
+              ["Anna 2", "ANNA\u200d 3", "\u0410nn\u0430 4", "A\u0301\u0301\u0301b", *given[4:6], "Seat 8"], "the names")
         bob = {"key": came[0]["key"], "name": "Bob"}
         equal([place.post("rename", {**bob, "name": name})[1] for name in ("Bob", "anna", "\u2800")],
               [{"name": "Bob"}, {"name": "anna 2"}, "Nobody can see this name. Choose another."], "other names")
@@ -372,5 +373,5 @@ def names(folder):
         anna.until(lambda pupil: "Cem" in str(pupil.states[-1:]), "the names are not told")
 
 
-load_tests = tests_of(apart, next_tables, in_the_middle, on_graphs, a_puzzle_each, taking_back, hints, wrong_answers, permitted,
-                      by_a_short_code, two_of_a_name, in_another_network, many_seats, names, given=tempfile.TemporaryDirectory)
+load_tests = tests_of(apart, next_tables, in_the_middle, a_puzzle_each, taking_back, hints, wrong_answers, permitted,
+                      by_a_short_code, two_of_a_name, in_another_network, many_seats, names, in_german, given=tempfile.TemporaryDirectory)

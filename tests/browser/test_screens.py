@@ -17,7 +17,7 @@ UNSEEN = """%s.flatMap((name) => $$(name).length ? $$(name).filter((at) => {
   return left < 0 || top < 0 || right > innerWidth + 1 || bottom > innerHeight + 1 || width < 4 || height < 4;
 }).map((at) => name + ' ' + at.textContent) : ["no " + name])"""
 # Boards on which others lie, as the way in.
-COVERED = """$$('body:not(.all-rooms) #board .vertex .round').filter((at) => {
+COVERED = """$$('body:not([data-rooms=all]) #board .vertex .round').filter((at) => {
   const { x, y, width, height } = at.getBoundingClientRect(), found = document.elementFromPoint(x + width / 2, y + height / 2);
   return !found || !found.closest('#board');
 }).length"""
@@ -60,7 +60,7 @@ def shown(desk, wall, room):
         desk.until(f"$({json.dumps(selector)}) && !$({json.dumps(selector)}).hidden")
         desk.click(selector)
     # What was shown before may still be there, out of sight.
-    wall.until("!document.body.classList.contains('all-rooms') && $$('#board .badge').length === 4 && $('#note').textContent.includes('All burn')")
+    wall.until("document.body.dataset.rooms !== 'all' && $$('#board .badge').length === 4 && $('#note').textContent.includes('All burn')")
 
 
 def of_a_wall(folder, browsers):

@@ -8,10 +8,11 @@ from typing import Any, Callable, Iterable
 from dollar.commands import beside
 from dollar.board.game import MOST_LINE, Game, Table
 from dollar.board.pages import asset, forward, page
-from dollar.board.puzzles import GRAPHS, hint, puzzles
+from dollar.board.puzzles import CHAPTERS, CHAPTER_GRAPHS, EACH_CHAPTER, GRAPHS, after, chapter, puzzles
 from dollar.board.replay import page as replay_page
 from dollar.board.server import Answer, Nothing, Refused, Request, as_json, new_secret, same, text_in
 from dollar.board.texts import t
+from dollar.board.ways import hint
 from dollar.drawing import USUAL, layout
 from dollar.program import PATIENCE, Fault, call, fault_of
 from dollar.table import EXAMPLES, text_of
@@ -88,7 +89,8 @@ class Alone:
         if asked == ("GET", "start"):
             examples = {file.name: text_of(file) for file in sorted(EXAMPLES.glob("*.json"))}
             return as_json({"name": self.table.name, "table": self.table.text, "examples": examples, "layout": self.table.layout,
-                            "graphs": list(GRAPHS)})
+                            "graphs": list(GRAPHS),
+                            "chapters": [[chapter(i + 1), i * len(EACH_CHAPTER)] for i in range(len(CHAPTER_GRAPHS))]})
         if asked == ("POST", "ask"):
             async with self.turns:
                 return as_json(await self.asked(await request.json(MOST_BODY)))
@@ -164,8 +166,11 @@ class Alone:
         return said
 
     async def puzzle(self, graph: str, level: str, now: str) -> dict[str, Any]:
-        """A puzzle, as its name and its table."""
+        """A puzzle, as its name and its table; or that at a step of the way through the chapters."""
         def make() -> dict[str, Any]:
+            if graph == CHAPTERS:
+                name, table = after(int(level) if level.isdigit() else 0)
+                return {"name": name, "table": table}
             name, (table,) = puzzles(graph, level, now)
             return {"name": Table(name, table, level=level).title, "table": table}
 

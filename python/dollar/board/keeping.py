@@ -9,13 +9,13 @@ import json
 import os
 import re
 import sys
-from typing import Any, TextIO
+from typing import Any, Callable, Sequence, TextIO
 
 from dollar.board.room import Item, Noted, Played, Rewound
 from dollar.program import typed
 from dollar.table import text_of
 
-CLASS, TABLES, RECORD = "class.json", "tables.json", re.compile(r"room([0-9]{1,2})\.jsonl\Z")
+CLASS, TABLES, RESULTS, RECORD = "class.json", "tables.json", "results.jsonl", re.compile(r"room([0-9]{1,2})\.jsonl\Z")
 KINDS = {"played": Played, "rewound": Rewound}
 
 
@@ -44,18 +44,20 @@ def own_file(place: str, flags: int) -> int:
     return opened
 
 
-class Kept:
-    """The record of a room: a line of JSON for each item of its feed, also for what was taken back and played again."""
+class Lines:
+    """A file of lines of JSON, to which some are added. `fails` is called where the disk does not take them."""
 
-    def __init__(self, place: str, seats: int) -> None:
-        self.place, self.is_kept = place, True
+    def __init__(self, place: str, fails: Callable[[str, OSError], None]) -> None:
+        self.place, self.fails, self.is_kept = place, fails, True
         self.file: TextIO | None = None
+        # When it was last written.
+        self.when = os.path.getmtime(place) if os.path.exists(place) else None
         # Nobody was told what was not written to its end.
         whole, end, _ = read(place).rpartition("\n")
-        self.items, self.size = items_in(place, whole, seats), len((whole + end).encode())
+        self.whole, self.size = whole, len((whole + end).encode())
 
     def add(self, thing: Any) -> None:
-        """Keeps an item, as it is in JSON. If the disk does not take it, the game goes on and this is told."""
+        """Adds a line. If the disk does not take it, the game goes on, and this is told once."""
         if not self.is_kept:
             return
         try:
@@ -65,8 +67,16 @@ class Kept:
             self.file.write(json.dumps(thing) + "\n")
             self.file.flush()
         except OSError as error:
-            print("%s: %s: %s: the game is kept no more" % (typed("board"), self.place, error.strerror), file=sys.stderr)
             self.is_kept = False
+            self.fails(self.place, error)
+
+
+class Kept(Lines):
+    """The record of a room: a line for each item of its feed, also for what was taken back and played again."""
+
+    def __init__(self, place: str, seats: int, fails: Callable[[str, OSError], None]) -> None:
+        super().__init__(place, fails)
+        self.items = items_in(place, self.whole, seats)
 
 
 def item_of(thing: Any) -> Any:
@@ -101,6 +111,10 @@ class Keeper:
             raise ValueError("%s is in use by a command that still runs" % folder) from None
         self.found = thing_in(self.place(CLASS), {})
         self.saved = ""
+        # What the disk has not taken, and what is called then.
+        self.fault = ""
+        self.failed: Callable[[], None] = lambda: None
+        self.past = Lines(self.place(RESULTS), self.fails)
 
     def place(self, *names: str) -> str:
         return os.path.join(self.folder, *names)
@@ -122,9 +136,22 @@ class Keeper:
                 os.fsync(file.fileno())
             os.replace(place + ".new", place)
         except OSError as error:
-            print("%s: %s: %s" % (typed("board"), place, error.strerror), file=sys.stderr)
+            self.fails(place, error)
             return False
         return True
+
+    def fails(self, place: str, error: OSError) -> None:
+        """The disk has not taken a file, which the terminal and the teacher are told."""
+        print("%s: %s: %s: the class is kept no more" % (typed("board"), place, error.strerror), file=sys.stderr)
+        self.fault = "%s: %s" % (os.path.relpath(place, self.folder), error.strerror)
+        self.failed()
+
+    def results(self) -> list[Any]:
+        """What was reached before, a list of each line. Raises ValueError if the file is damaged."""
+        try:
+            return [[*json.loads(line)] for line in self.past.whole.split("\n") if line]
+        except (TypeError, ValueError):
+            raise ValueError("%s is damaged: restore it, or take it away" % self.past.place) from None
 
     def stages(self, turn: int) -> Any:
         """What was handed out at a turn, one after another, each as its name, the texts of its tables, and its level."""
@@ -138,7 +165,7 @@ class Keeper:
         self.put(json.dumps(stages), "table%d" % turn, TABLES)
 
     def room(self, turn: int, number: int, seats: int) -> Kept:
-        return Kept(self.place("table%d" % turn, "room%d.jsonl" % number), seats)
+        return Kept(self.place("table%d" % turn, "room%d.jsonl" % number), seats, self.fails)
 
     def rooms(self, turn: int) -> list[int]:
         """The numbers of the rooms that have a game at a turn."""

@@ -6,10 +6,10 @@ import html
 import json
 import os
 import re
-from typing import Mapping
+from typing import Callable, Mapping
 
 from dollar.board.server import Answer, Nothing, Request
-from dollar.board.texts import TEXTS, WEB, in_html, t
+from dollar.board.texts import TABLES, WEB, in_html, spoken, t, texts
 from dollar.grammar import GRAMMAR
 from dollar.table import text_of
 
@@ -17,21 +17,26 @@ KINDS = {"css": "text/css", "js": "text/javascript"}
 # The modules that pages have as their scripts.
 ROOTS = {"alone.js", "class.js"}
 # Modules that are made of data: what they export.
-MADE: dict[str, tuple[str, object]] = {"grammar.js": ("GRAMMAR", GRAMMAR), "table.js": ("TEXTS", TEXTS)}
+MADE: dict[str, tuple[str, Callable[[], object]]] = {"grammar.js": ("GRAMMAR", lambda: GRAMMAR), "table.js": ("TEXTS", texts)}
 ASSETS = {*MADE, *(name for name in os.listdir(WEB) if name.rpartition(".")[2] in KINDS)}
 
 
 def part(name: str) -> str:
     """The text of a file of the pages."""
-    return "export const %s = %s;\n" % (MADE[name][0], json.dumps(MADE[name][1])) if name in MADE else text_of(os.path.join(WEB, name))
+    return "export const %s = %s;\n" % (MADE[name][0], json.dumps(MADE[name][1]())) if name in MADE else text_of(os.path.join(WEB, name))
 
 
 IMPORT = re.compile(r'^import [^;]*? from "\./([\w.]+)";\n', re.M)
 
 
-@functools.lru_cache(maxsize=None)
 def one_script(name: str, exports: bool = False) -> str:
     """A module after all that it needs, as one, so their names are all different. With `exports` it still exports what it does."""
+    return script_in(spoken.get(), name, exports)
+
+
+@functools.lru_cache(maxsize=None)
+def script_in(_: str, name: str, exports: bool) -> str:
+    """A script in the language that is spoken."""
     needed = []
 
     def visit(module: str) -> None:
@@ -41,11 +46,12 @@ def one_script(name: str, exports: bool = False) -> str:
                 visit(other)
         if module not in needed:
             needed.append(module)
-        texts[module] = IMPORT.sub("", text)
+        sources[module] = IMPORT.sub("", text)
 
-    texts: dict[str, str] = {}
+    sources: dict[str, str] = {}
     visit(name)
-    return "\n" + "\n".join(texts[module] if exports and module == name else re.sub(r"^export ", "", texts[module], flags=re.M) for module in needed)
+    return "\n" + "\n".join(sources[module] if exports and module == name else re.sub(r"^export ", "", sources[module], flags=re.M)
+                            for module in needed)
 
 
 def filled(name: str, words: Mapping[str, str]) -> str:
@@ -75,4 +81,5 @@ def forward(request: Request, secret: str) -> Answer:
     """A page that leads on, for an address without its last slash, or a short one."""
     if request.method != "GET":
         raise Nothing
-    return 200, "text/html", b'<!doctype html><meta http-equiv="refresh" content="0; url=%s/">\n' % secret.encode()
+    asked = "?lang=%s" % request.query["lang"] if request.query.get("lang") in TABLES else ""
+    return 200, "text/html", ('<!doctype html><meta http-equiv="refresh" content="0; url=%s/%s">\n' % (secret, asked)).encode()

@@ -14,6 +14,7 @@ from __future__ import annotations
 
 import argparse
 import asyncio
+import errno
 import os
 import re
 import signal
@@ -28,11 +29,13 @@ from dollar.board.classroom import Classroom
 from dollar.board.game import MOST_SEATS, Table
 from dollar.board.keeping import Keeper
 from dollar.board.pages import forward
+from dollar.board.requests import Requests
 from dollar.board.server import ANY, Answer, Request, Server, addresses_of, is_loopback, new_secret
 from dollar.program import Fault, printed, typed
 from dollar.table import EXAMPLES, shown_name, text_of
 
-LOOPBACK = "127.0.0.1"
+# The port of a class in a network, if it is free, since pupils type it.
+LOOPBACK, USUAL_PORT = "127.0.0.1", 8000
 
 
 def arguments(words: list[str]) -> argparse.Namespace:
@@ -134,7 +137,7 @@ async def serve_alone(given: argparse.Namespace, tables: list[Table]) -> None:
     ending, secret, (table,) = Ending(), new_secret(), tables
     alone = Alone(secret, table)
     server = Server(alone.answer, LOOPBACK, given.port)
-    await server.start()
+    await begun(server, [])
     print("The board is at %s%s/\nCtrl-D or Ctrl-C ends it." % (base_of(LOOPBACK, server), secret), flush=True)
     try:
         await until_ended(given, server, LOOPBACK, secret, ending)
@@ -145,12 +148,12 @@ async def serve_alone(given: argparse.Namespace, tables: list[Table]) -> None:
 async def serve_class(given: argparse.Namespace, tables: list[Table]) -> None:
     """Serves a class until it is ended."""
     keeper = Keeper(given.keep) if given.keep else None
-    room = Classroom(tables, given.seats, given.rooms, keeper, given.teacher_here)
+    room = Classroom(tables, given.seats, given.rooms, keeper)
     host, ending = given.host or LOOPBACK, Ending(room.last_words)
-    server = Server(room.answer, host, given.port, [] if host in ANY else [host], given.name)
+    server = Server(Requests(room, given.teacher_here).answer, host, given.port, [] if host in ANY else [host], given.name)
     await room.start()
     try:
-        await begun(server, keeper.found.get("port", 0) if keeper else 0)
+        await begun(server, [keeper.found.get("port", 0) if keeper else 0, 0 if is_here_alone(host) else USUAL_PORT])
         room.places, room.port = lambda: places_of(given.name, host, server), server.port
         room.place, *others = room.places()
         room.changed()
@@ -177,15 +180,20 @@ def is_here_alone(host: str) -> bool:
     return all(is_loopback(place) for *_, place in socket.getaddrinfo(host, None))
 
 
-async def begun(server: Server, port: int) -> None:
-    """Starts a server, at the port that it had before if that is free, so that open pages find it again."""
-    if port and not server.port:
+async def begun(server: Server, ports: list[int]) -> None:
+    """Starts a server, at the first of these ports that is free: that which it had before, so that open pages find it again."""
+    for port in [port for port in ports if port and not server.port]:
         server.port = port
         try:
             return await server.start()
         except OSError:
             server.port = 0
-    return await server.start()
+    try:
+        return await server.start()
+    except OSError as error:
+        if error.errno == errno.EADDRINUSE:
+            raise ValueError("port %d is in use: choose another with --port" % server.port) from None
+        raise
 
 
 async def until_ended(given: argparse.Namespace, server: Server, host: str, secret: str, ending: Ending) -> None:

@@ -6,16 +6,15 @@ nor what is nowhere above it, nor what they are fired to."""
 from __future__ import annotations
 
 import functools
-import heapq
 import itertools
 import json
 import random
-import statistics
 from collections import Counter
 from typing import Any, List, Sequence, Tuple
 
-from dollar.answers import numbered, verdict_of
+from dollar.answers import numbered
 from dollar.board.texts import t
+from dollar.board.ways import fewest, moves_of
 from dollar.drawing import USUAL, layout
 from dollar.program import PATIENCE, printed
 
@@ -25,8 +24,12 @@ TRIES, LETTERS = 40, "abcdefghijklmnop"
 LEVELS = {"easy": (2, 1), "medium": (0, 2), "hard": (-1, 3), "unwinnable": (-1, 2)}
 # The levels of puzzles that are handed out one after another: the first ones, some in any order, and the last.
 RISING = ["easy", "easy"], ["medium", "unwinnable", "medium"], ["hard"]
-# How many tables are looked at for a shortest way.
-SEARCHED = 20000
+# Chapters, each on a graph: for a class one puzzle of each, the first of which is easy, and the others of some levels; for one player some
+# puzzles of each, of one of some levels.
+CHAPTERS = "chapters"
+CHAPTER_GRAPHS = ["Path of 4", "Triangle", "Star of 5", "Cycle of 5", "Complete, 4", "Wheel of 5", "Grid 2 x 3", "Prism", "Cube", "Petersen"]
+IN_CHAPTERS = ["easy"] * 3 + ["medium"] * 3 + ["hard"] + ["unwinnable"] * 2
+EACH_CHAPTER = ["easy"], ["medium", "medium", "unwinnable"], ["hard"]
 # The fewest and the most vertices of a random graph, and edges that it has beside those of a tree.
 RANDOM, MORE = (5, 8), (1, 5)
 
@@ -123,8 +126,9 @@ def in_order(table: dict[str, Any], draw: random.Random) -> list[int]:
     return [earlier[name] for name in table["vertices"]]
 
 
-def puzzle(table: dict[str, Any], level: str, draw: random.Random, others: Sequence[str] = ()) -> str:
-    """A table with other dollars on the same graph, of a level; not one of the others, if it can be. Raises ValueError if there is none."""
+def puzzle(table: dict[str, Any], level: str, draw: random.Random, others: Sequence[str] = ()) -> tuple[str, int]:
+    """A table with other dollars on the same graph, of a level, and in how few moves it can be won, or 0; not one of the others, if it can
+    be. Raises ValueError if there is none."""
     names, (beside, most), found = table["vertices"], LEVELS[level], None
     genus = sum(count for _, _, count in table["edges"]) - len(names) + 1
     for _ in range(TRIES):
@@ -135,48 +139,13 @@ def puzzle(table: dict[str, Any], level: str, draw: random.Random, others: Seque
             made["amounts"] = fired(made, script)
         word = printed("judge", text_of(made).encode(), patience=PATIENCE).partition(" ")[0]
         if min(made["amounts"]) < 0 and word == ("unwinnable" if level == "unwinnable" else "winnable"):
-            found = text_of(made)
-            if found not in others:
+            back = {name: -script.get(name, 0) for name in names}
+            found = text_of(made), 0 if level == "unwinnable" else len(moves_of(fewest(made, back) or {}))
+            if found[0] not in others:
                 return found
     if found is None:
         raise ValueError(t("puzzles.none-here"))
     return found
-
-
-def way(text: str) -> list[tuple[str, int]] | None:
-    """The moves of a shortest way to a table without debts, each a vertex and 1 if it lends or -1 if it borrows; None if none is found."""
-    table = json.loads(text)
-    names, start = table["vertices"], tuple(table["amounts"])
-    rows = {name: [0] * len(names) for name in names}
-    for u, v, count in table["edges"]:
-        for one, other in (u, v), (v, u):
-            rows[one][names.index(one)] -= count
-            rows[one][names.index(other)] += count
-    moves = [(name, sign, [sign * count for count in rows[name]]) for name in names for sign in (1, -1)]
-    most = max(1, *(-min(row) for row in rows.values()))
-
-    def due(now: tuple[int, ...], length: int) -> tuple[int, int, tuple[int, ...]]:
-        """A table with the fewest moves through it that there can be: of the debts a move clears at most as many as a vertex has edges."""
-        return length - sum(amount for amount in now if amount < 0) // most, -length, now
-
-    # How many moves led to a table, and the last of them.
-    came: dict[tuple[int, ...], tuple[int, Any]] = {start: (0, None)}
-    heap = [due(start, 0)]
-    while heap and len(came) < SEARCHED:
-        _, length, now = heapq.heappop(heap)
-        if min(now) >= 0:
-            back: list[tuple[str, int]] = []
-            while came[now][1]:
-                now, name, sign = came[now][1]
-                back.append((name, sign))
-            # In any order they lead there, so lendings, which are easier to see, come first.
-            return sorted(back, key=lambda move: -move[1])
-        for name, sign, row in moves:
-            there = tuple(map(int.__add__, now, row))
-            if came.get(there, (SEARCHED, None))[0] > 1 - length:
-                came[there] = 1 - length, (now, name, sign)
-                heapq.heappush(heap, due(there, 1 - length))
-    return None
 
 
 @functools.lru_cache(maxsize=None)
@@ -186,36 +155,56 @@ def graphs() -> list[dict[str, Any]]:
     return [{"name": name, "table": table, "layout": layout(table, USUAL)} for name, table in tables.items()]
 
 
-@functools.lru_cache(maxsize=256)
-def hint(text: str) -> dict[str, Any]:
-    """One move of a shortest way to a table without debts, or else of the program's script: its vertex, 1 if that lends or -1 if it borrows,
-    and how many moves are left, or 0 if that is not known. The count is 0 if nobody has to move, and None if no move helps."""
-    verdict = verdict_of(printed("judge", text.encode(), patience=PATIENCE).rstrip("\n"))
-    if not verdict or min(json.loads(text)["amounts"]) >= 0:
-        return {"name": "", "count": 0 if verdict else None, "left": 0}
-    found = way(text)
-    if found:
-        return {"name": found[0][0], "count": found[0][1], "left": len(found)}
-    # As all lend together nothing changes, so the script less its median leads there in fewest moves.
-    middle = statistics.median_low(verdict.script.values())
-    name, count = max(verdict.script.items(), key=lambda pair: abs(pair[1] - middle))
-    return {"name": name, "count": 1 if count > middle else -1, "left": 0}
-
-
-def rising() -> list[str]:
-    """Levels from easy to hard, of which nobody can tell by its place which one can't be won."""
-    first, middle, last = RISING
-    return [*first, *random.SystemRandom().sample(middle, len(middle)), *last]
-
-
 def puzzles(graph: str, level: str, now: str, count: int = 1) -> tuple[str, list[str]]:
     """The name of a graph and the texts of puzzles on it: on a known graph, on a random one, or on that of the table now."""
+    called, made = measured(graph, level, now, count)
+    return called, [text for text, _ in made]
+
+
+def measured(graph: str, level: str, now: str, count: int) -> tuple[str, list[tuple[str, int]]]:
+    """Puzzles, each with the fewest moves by which it can be won."""
     if level not in LEVELS or graph not in ("", "random", *GRAPHS):
         raise ValueError(t("puzzles.none"))
     draw = random.SystemRandom()
     table = json.loads(now) if graph == "" else table_of(random_graph(draw) if graph == "random" else GRAPHS[graph])
-    called, made = t("graphs." + graph) if graph in GRAPHS else t("puzzles." + (graph or "same")), list[str]()
+    called, made = t("graphs." + graph) if graph in GRAPHS else t("puzzles." + (graph or "same")), list[Tuple[str, int]]()
     while len(made) < count:
         # Once none is found that is new, they come again.
-        made.append(puzzle(table, level, draw, made if len(set(made)) == len(made) else ()))
+        made.append(puzzle(table, level, draw, [text for text, _ in made] if len(set(made)) == len(made) else ()))
     return called, made
+
+
+def in_rising(graph: str, now: str, count: int = 1) -> list[tuple[str, list[str], str]]:
+    """Stages of puzzles on a graph, each as its name, its texts and its level. On each board those that can be won have more and more moves
+    at least; nobody can tell by its place which one can't be won."""
+    first, middle, last = RISING
+    levels = [*first, *random.SystemRandom().sample(middle, len(middle)), *last]
+    made = [measured(graph, level, now, count) for level in levels]
+    places = [place for place, level in enumerate(levels) if level != "unwinnable"]
+    for board in range(count):
+        rising = sorted((made[place][1][board] for place in places), key=lambda each: each[1])
+        for place, each in zip(places, rising):
+            made[place][1][board] = each
+    return [(name, [text for text, _ in each], level) for (name, each), level in zip(made, levels)]
+
+
+def in_chapters(count: int = 1) -> list[tuple[str, list[str], str]]:
+    """A stage of puzzles for each chapter, as above, of which some that nobody knows can't be won."""
+    levels = random.SystemRandom().sample(IN_CHAPTERS, len(IN_CHAPTERS))
+    stages = []
+    for number, (graph, level) in enumerate(zip(CHAPTER_GRAPHS, ["easy", *levels]), 1):
+        _, texts = puzzles(graph, level, "", count)
+        stages.append((chapter(number), texts, level))
+    return stages
+
+
+def chapter(number: int) -> str:
+    """The name of a chapter."""
+    return "%d. %s" % (number, t("chapters." + CHAPTER_GRAPHS[number - 1]))
+
+
+def after(step: int) -> tuple[str, str]:
+    """The puzzle at a step of the way through the chapters, of which each has some, and the last goes on: its name and its text."""
+    number = min(step // len(EACH_CHAPTER), len(CHAPTER_GRAPHS) - 1)
+    level = random.SystemRandom().choice(EACH_CHAPTER[step % len(EACH_CHAPTER)])
+    return chapter(number + 1), puzzles(CHAPTER_GRAPHS[number], level, "")[1][0]

@@ -20,7 +20,7 @@ import struct
 from collections import Counter
 from typing import Any, Awaitable, Callable, Iterable, Tuple, cast
 
-from dollar.board.texts import t
+from dollar.board.texts import speak, t
 
 MOST_HEAD, MOST_HEADERS, MOST_STRANGERS, MOST_GUESTS, MOST_FILES = 8192, 64, 300, 600, 4096
 TO_ASK, TO_SEND, TO_TAKE = 5.0, 8.0, 20.0
@@ -223,6 +223,7 @@ class Server:
     async def exchange(self, task: asyncio.Task[Any], reader: asyncio.StreamReader, writer: asyncio.StreamWriter) -> None:
         try:
             request = await asyncio.wait_for(self.request(task, reader, writer), TO_ASK)
+            speak(request.query.get("lang", ""), request.headers.get("accept-language", ""))
             status, kind, content = await self.answer(request)
         except (asyncio.LimitOverrunError, Refused) as error:
             refused = error if isinstance(error, Refused) else Nothing()

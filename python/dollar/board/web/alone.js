@@ -3,16 +3,16 @@
 import { Questions } from "./ask.js";
 import { Editor } from "./edit.js";
 import { Hands } from "./hand.js";
-import { Link, fewest, save, startPage, store, stored, sure, wordsOnce } from "./page.js";
+import { Link, fetched, fewest, save, startPage, store, stored, sure, wordsOnce } from "./page.js";
 import { layoutOf, placesText } from "./places.js";
 import { speak, t } from "./texts.js";
 import { Viewer, bind, element } from "./viewer.js";
-import { Game, answerOf, linesOf } from "./words.js";
+import { Game, answerOf, called, linesOf } from "./words.js";
 
 const SOON = 400;
 export let table, fileName, examples, viewer, hands, questions, editor;
 const link = new Link();
-let key = null, keeping = null, undone = false, shortest = null, right = false;
+let key = null, keeping = null, undone = false, shortest = null, right = false, wrongs = 0;
 
 const ask = (question) => link.ask(question);
 const stepsText = (length) => viewer.game.steps.slice(0, length).map(({ line }) => `${line}\n`).join("");
@@ -44,7 +44,10 @@ async function playNow(line) {
 }
 
 /* What is known of the table beside the game, which may have reached so many moves. */
-const reached = (moves) => ({ best: fewest(table, moves), least: shortest, right });
+function reached(moves) {
+  const best = fewest(table, moves);
+  return { best, least: shortest, is_right: right, is_done: best !== null || isDone(), wrongs };
+}
 
 const isDone = () => right || viewer.game.states.some((_, index) => viewer.game.isWon(index));
 
@@ -61,6 +64,7 @@ async function cant() {
   const said = await questions.answer({ command: "judge" });
   if (said === null) return;
   right = answerOf(linesOf(said)[0]).kind === "unwinnable";
+  wrongs += right ? 0 : 1;
   viewer.showText();
   showWays();
   hands.note(right ? "" : t("play.can"));
@@ -159,8 +163,8 @@ export async function openTable(text, file, places) {
 
 function begin(layout) {
   const game = new Game(JSON.parse(table));
-  [shortest, right] = [null, false];
-  element("title").textContent = document.title = t("page.of", fileName);
+  [shortest, right, wrongs] = [null, false, 0];
+  element("title").textContent = document.title = t("page.of", called(fileName));
   if (viewer) {
     hands.forget();
     questions.clear();
@@ -176,20 +180,34 @@ function begin(layout) {
   }
 }
 
-/* A puzzle: other dollars on a graph, of which the program has said whether it can be won. */
+/* A puzzle: other dollars on a graph, of which the program has said whether it can be won; or the first of a chapter. */
 async function puzzle() {
-  const said = await ask({ command: "puzzle", table, graph: element("puzzle-graph").value, level: element("puzzle-level").value });
+  const [graph, chapter] = element("puzzle-graph").value.split("#");
+  if (chapter) return atStep(Number(chapter));
+  return puzzleOn({ graph, level: element("puzzle-level").value }, graph ? undefined : ownPlaces(viewer.board.layout));
+}
+
+async function puzzleOn(given, places) {
+  const said = await ask({ command: "puzzle", table, ...given });
   if (said.status !== 0) return hands.refuse(said.err);
-  const places = element("puzzle-graph").value ? undefined : ownPlaces(viewer.board.layout);
   hands.refuse(await openTable(said.table, said.name, places));
   return null;
 }
 
-/* After a puzzle that was solved the next is harder. The button goes, and the focus with it to the board. */
+/* The way through the chapters, on which this browser goes on where it was. */
+const WAY = "dollar step";
+
+async function atStep(step) {
+  const before = table;
+  await puzzleOn({ graph: "chapters", level: String(step) });
+  if (table !== before) store("localStorage", WAY, [step, table]);
+}
+
+/* After a puzzle that was solved the next one comes, and after one with help another like it. The button goes, and the focus with it to the
+   board. */
 async function next() {
-  const level = element("puzzle-level"), { helped } = viewer.game.states[viewer.now];
-  if (!helped && ["easy", "medium"].some((each) => fileName.endsWith(t("puzzles.name", "", t(`puzzles.${each}`))))) level.selectedIndex += 1;
-  await puzzle();
+  const [step, last] = stored("localStorage", WAY) || [-1, null], { helped } = viewer.game.states[viewer.now];
+  await atStep(last === table && helped ? step : step + 1);
   viewer.board.focus(viewer.game.names[0]);
 }
 
@@ -210,8 +228,8 @@ function bindAll() {
       if (file) hands.refuse(await openTable(examples[file], file));
     },
     async open({ target }) {
-      const [file] = target.files;
-      const fault = file && (file.size > 1 << 20 ? "file too long" : await openTable(await file.text(), file.name));
+      const [file, places] = [...target.files].sort((one, other) => Number(other.name.endsWith(".json")) - Number(one.name.endsWith(".json")));
+      const fault = file && (file.size > 1 << 20 ? "file too long" : await openTable(await file.text(), file.name, places && await places.text()));
       hands.refuse(fault && `${fault}, in ${file.name}`);
       target.value = "";
     },
@@ -223,9 +241,10 @@ function bindAll() {
 }
 
 async function start() {
-  const given = await (await fetch("start")).json();
+  const given = await (await fetched("start")).json();
   ({ table, examples, name: fileName } = given);
-  element("puzzle-graph").append(...given.graphs.map((name) => new Option(t(`graphs.${name}`), name)));
+  element("puzzle-graph").append(...given.graphs.map((name) => new Option(t(`graphs.${name}`), name)),
+    ...given.chapters.map(([name, step]) => new Option(name, `chapters#${step}`)));
   const before = await kept();
   if (before) ({ table, fileName } = before);
   begin(layoutOf((before || given).layout));

@@ -21,10 +21,11 @@ export function draw(tag, given, parent, text) {
 }
 
 export class Board {
-  svg; hands; layout; turn; until; chosen; picture; hatch;
+  svg; hands; layout; turn; until; chosen; picture; hatch; held; travels;
   /* A board in an element <svg>. The layout says where the vertices stand; `hands` is true if they can be clicked. */
   constructor(svg, hands = false) {
-    Object.assign(this, { svg, hands, layout: null, turn: 0, until: 0, chosen: new Set(), picture: BARE, hatch: `hatch${boards++ || ""}` });
+    Object.assign(this, { svg, hands, layout: null, turn: 0, until: 0, chosen: new Set(), picture: BARE, held: null,
+      travels: false, hatch: `hatch${boards++ || ""}` });
   }
 
   place(name) {
@@ -34,6 +35,7 @@ export class Board {
   /* Shows a picture until there is another. */
   show(picture) {
     this.picture = { ...BARE, ...picture };
+    [this.held, this.travels] = [null, false];
     this.draw();
   }
 
@@ -89,9 +91,10 @@ export class Board {
 
   vertex(name, amount, pairs) {
     const [x, y] = this.place(name), r = this.layout.radius, { q, burnt, says: all } = this.picture, isQ = name === q, says = all.get(name);
-    const kinds = ["vertex", amount < 0 && "debt", this.chosen.has(name) && "chosen", burnt.includes(name) && "burnt"];
+    const shown = this.held ? this.held.get(name) : amount;
+    const kinds = ["vertex", shown < 0 && "debt", this.chosen.has(name) && "chosen", burnt.includes(name) && "burnt"];
     const held = t(amount < 0 ? "said.owes" : "board.has", name, dollars(Math.abs(amount)));
-    const label = [held, isQ && "q", says].filter(Boolean).join(", ");
+    const label = [held, isQ && t("board.ring"), says].filter(Boolean).join(", ");
     // While a set is chosen, each vertex is in it or not.
     const pressed = this.chosen.size > 0 && { "aria-pressed": this.chosen.has(name) };
     const hands = { tabindex: 0, role: "button", "aria-label": label, ...pressed };
@@ -104,8 +107,8 @@ export class Board {
     const { zoom = 1, least = 0, room } = this.layout, size = this.layout.sizes.get(name), called = Math.max(size, least);
     draw("text", { class: "name inside", x, y: y - Math.max(6 * zoom, 0.1 * called), "font-size": called }, group,
       called > size ? shortened(name, called, 2 * r) : name);
-    const high = Math.max(least, Math.min(16 * zoom, room / (0.7 * String(amount).length)));
-    draw("text", { class: "amount inside", x, y: y + Math.max(10 * zoom, 0.85 * high), "font-size": high, "font-weight": "bold" }, group, amount);
+    const high = Math.max(least, Math.min(16 * zoom, room / (0.7 * String(shown).length)));
+    draw("text", { class: "amount inside", x, y: y + Math.max(10 * zoom, 0.85 * high), "font-size": high, "font-weight": "bold" }, group, shown);
     if (says) this.words(...wordsPlace(this.layout, pairs, name, LETTER * says.length * Math.max(1, (this.layout.least || 0) / 11)), says, group);
   }
 
@@ -160,12 +163,17 @@ export class Board {
     });
   }
 
-  /* Lets the dollars of a move go along the edges, above the board as it is after it. While moves come faster than they go, none go. */
-  travel() {
-    const start = performance.now(), busy = start < this.until, { turn } = this;
+  /* Lets the dollars of a move go along the edges, from the amounts before it: they are less where dollars leave, and more once those have
+     landed. Then `landed` is called. While moves come faster than they go, none go. */
+  travel(before, landed) {
+    const start = performance.now(), busy = start < this.until, { edges, script } = this.picture;
     this.until = start + TRAVEL;
     if (busy) return;
-    const coins = this.coins();
+    this.held = new Map(before);
+    for (const { from, each, count } of flows(edges, script)) this.held.set(from, this.held.get(from) - each * count);
+    this.travels = true;
+    this.draw();
+    const coins = this.coins(), { turn } = this;
     const move = (time) => {
       if (turn !== this.turn) return;
       const part = Math.min(1, Math.max(0, (time - start) / TRAVEL));
@@ -175,7 +183,10 @@ export class Board {
         coin.setAttribute("transform", `translate(${x} ${y})`);
         if (part === 1) coin.remove();
       }
-      if (part < 1) requestAnimationFrame(move);
+      if (part < 1) return requestAnimationFrame(move);
+      [this.held, this.travels] = [null, false];
+      this.draw();
+      landed();
     };
     move(start);
   }

@@ -1,12 +1,12 @@
 /* The editor: a draft of a table, on the board and in two lists. Whether it is a table says the program, when it is done. */
 
 import { GRAMMAR } from "./grammar.js";
-import { freePlace, placesText } from "./places.js";
+import { SMALL, freePlace, placesText } from "./places.js";
 import { t } from "./texts.js";
 import { bind, button, choose, element, made, refuse } from "./viewer.js";
 import { Game, nameWords } from "./words.js";
 
-const MOST_VERTICES = GRAMMAR.limits["dg_graph::MAX_VERTICES"], ROOM = [620, 440], STEP = 10;
+const MOST_VERTICES = GRAMMAR.limits["dg_graph::MAX_VERTICES"], ROOM = [620, 440], NARROW = [340, 300], LETTERS_HIGH = 11, STEP = 10;
 
 export class Editor {
   viewer; hands; done; draft; kept; handled;
@@ -16,6 +16,9 @@ export class Editor {
     bind({
       "add-vertex": () => this.addVertex(), "add-edge": () => this.addEdge(element("edge-from").value, element("edge-to").value),
       "edit-done": () => this.finish(), "edit-cancel": () => this.close(), "edit-clear": () => this.clear(),
+    });
+    document.addEventListener("keydown", ({ key }) => {
+      if (key === "Escape" && this.draft) this.close();
     });
   }
 
@@ -36,10 +39,11 @@ export class Editor {
 
   /* A layout with room around it, for what is to come. */
   wider(layout) {
-    const width = Math.max(layout.width, ROOM[0]), height = Math.max(layout.height, ROOM[1]);
+    const small = window.innerWidth < SMALL, room = small ? NARROW : ROOM;
+    const width = Math.max(layout.width, room[0]), height = Math.max(layout.height, room[1]);
     const moved = ([x, y]) => [Math.round(x + (width - layout.width) / 2), Math.round(y + (height - layout.height) / 2)];
     const places = new Map([...layout.places].map(([name, place]) => [name, moved(place)]));
-    return { ...layout, width, height, places, sizes: new Map(layout.sizes) };
+    return { ...layout, width, height, places, sizes: new Map(layout.sizes), least: small ? (LETTERS_HIGH * width) / window.innerWidth : 0 };
   }
 
   shown(open) {

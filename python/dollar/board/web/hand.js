@@ -175,7 +175,7 @@ export class Hands {
 
   /* Says something beside the buttons, until the board shows something else. */
   note(words) {
-    element("note").textContent = words;
+    if (element("note").textContent !== words) element("note").textContent = words;
   }
 
   /* Shows one move: its vertex, and 1 if that lends or -1 if it borrows; 0 if nobody has to move, and null if no move helps. */

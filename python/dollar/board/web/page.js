@@ -1,6 +1,6 @@
 /* What the pages with a server share: requests, a question to the reader, files that are saved, and what the browser keeps. */
 
-import { t } from "./texts.js";
+import { inLanguage, t } from "./texts.js";
 import { element, made } from "./viewer.js";
 import { firstWords } from "./words.js";
 
@@ -14,12 +14,15 @@ export async function post(path, thing, patience = LONG) {
   const { timeout } = /** @type {any} */ (AbortSignal);
   if (timeout) given.signal = timeout.call(AbortSignal, patience);
   try {
-    const got = await fetch(path, given);
+    const got = await fetch(inLanguage(path), given);
     return got.ok ? await got.json() : { refused: await got.text(), status: got.status };
   } catch {
     return { refused: t("page.silent"), status: null };
   }
 }
+
+/* What the server has to give. */
+export const fetched = (path) => fetch(inLanguage(path));
 
 /* The link of a page to its server: what the player does goes there one after another, and if the page listens, what comes is a stream. The
    server says something every five seconds. If it does not, or if what was played does not come soon, the page listens again. */
@@ -69,7 +72,7 @@ export class Link {
   listen(place) {
     const { hears } = this;
     this.close();
-    const source = new EventSource(place());
+    const source = new EventSource(inLanguage(place()));
     Object.assign(this, { place, source, hears, heard: performance.now() });
     for (const [kind, act] of Object.entries(this.told)) {
       source.addEventListener(kind, (event) => {
@@ -130,14 +133,14 @@ export function wordsOnce(game, now) {
   return stored("localStorage", TAUGHT) ? "" : firstWords(game, now);
 }
 
-/* In how few moves a table was won in this browser, after it was won in so many; Infinity if it never was. */
+/* In how few moves a table was won in this browser, after it was won in so many or was not; null if it never was. */
 const FEWEST = "dollar fewest", TABLES = 100;
 
-export function fewest(table, moves = Infinity) {
-  const before = stored("localStorage", FEWEST) || [], found = before.find(([text]) => text === table);
-  const least = Math.min(moves, found ? found[1] : Infinity);
-  if (moves < Infinity) store("localStorage", FEWEST, [...before.filter((each) => each !== found), [table, least]].slice(-TABLES));
-  return least;
+export function fewest(table, moves = null) {
+  const before = stored("localStorage", FEWEST) || [], found = before.find(([text]) => text === table), best = found ? found[1] : null;
+  if (moves === null || (best !== null && best <= moves)) return best;
+  store("localStorage", FEWEST, [...before.filter((each) => each !== found), [table, moves]].slice(-TABLES));
+  return moves;
 }
 
 /* What the browser keeps for a page. If it keeps nothing, or not so much, it lasts as long as the page. */

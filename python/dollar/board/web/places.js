@@ -60,7 +60,9 @@ export function wordsPlace({ places, radius, width, height }, pairs, name, wide)
 
 /* A layout for a page of this width and height. If it would be drawn small, it is turned where that helps, and circles and letters grow
    as far as there is room between the vertices. On a small screen no letters are smaller than so many pixels. */
-const LEAST = 11, SMALL = 600, GAIN = 1.2, GAP = 6;
+export const SMALL = 600;
+
+const LEAST = 11, GAIN = 1.2, GAP = 6;
 
 export function fitted(layout, wide, high) {
   const own = layout.original || layout, scaleOf = ({ width, height }) => Math.min(wide / width, high / height);

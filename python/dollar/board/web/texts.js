@@ -1,10 +1,13 @@
-/* Says the texts of the table, in which a {vertex} is a vertex, or a house as in the handout. Another language is another table. */
+/* Says the texts of the table of a language, in which a {vertex} is a vertex, or a house as in the handout. */
 
 import { GRAMMAR } from "./grammar.js";
 import { TEXTS } from "./table.js";
 
 const LIMITS = Object.fromEntries(Object.entries(GRAMMAR.limits).map(([name, count]) => [name.split("::")[1], count]));
 let houses = false;
+
+/* An address in the language of this page. */
+export const inLanguage = (path) => `${path}${path.includes("?") ? "&" : "?"}lang=${TEXTS.page.language}`;
 
 /* A text with what is put in its places: {0} and so on, a chosen word, or a limit. Of two forms the first is for the number 1. */
 export function t(name, ...given) {

@@ -3,7 +3,8 @@
 import { Board, still } from "./board.js";
 import { fitted } from "./places.js";
 import { t } from "./texts.js";
-import { commandWords, debtWords, faultWords, flowWords, movesWords, often, planned, reachedWords, replyWords, startWords } from "./words.js";
+import { commandWords, debtWords, faultWords, flowWords, madeWords, often, planned, reachedWords, replyWords, starsOf, starsText,
+  startWords } from "./words.js";
 
 export const element = (id) => /** @type {any} */ (document.getElementById(id));
 const BETWEEN = 2200, LISTED = 400;
@@ -166,11 +167,11 @@ export class Viewer {
     const next = Math.min(Math.max(index, 0), this.game.length), { states, replies } = this.game;
     const moving = next === this.now + 1 && replies[next - 1].kind === "moved" && !still.matches;
     this.now = next;
+    this.board.show(this.picture());
+    if (moving) this.board.travel(states[next - 1].amounts, () => this.showEnd());
     this.showText();
     this.showScript(next ? replies[next - 1] : {}, states[next].amounts);
     this.showPlace();
-    this.board.show(this.picture());
-    if (moving) this.board.travel();
     this.afterShow();
   }
 
@@ -188,6 +189,8 @@ export class Viewer {
     this.showEnd();
     element("place").textContent = index ? t("said.step", index, game.length) : startWords(game.length);
     element("step").textContent = index ? `${this.who(step.seat, index)}: ${commandWords(step)}` : t("said.table");
+    // Who plays is told at the start who owes, and no more.
+    for (const id of ["place", "step"]) element(id).hidden = this.board.hands && !index;
     element("moves").textContent = index && reply.kind === "moved" ? flowWords(state.edges, step.script) : "";
     element("answer").textContent = index ? replyWords(reply, state.amounts, game.table.q) : debtWords(state.amounts);
     element("asked").textContent = index ? step.line : "";
@@ -199,11 +202,17 @@ export class Viewer {
   /* Says what was reached, if anything was. */
   showEnd() {
     const { game, now } = this, won = game.isWon(now), { moves, helped } = game.states[now];
-    const words = reachedWords({ won, moves, helped, ...this.reached(won && !helped ? moves : Infinity) });
-    document.body.classList.toggle("joy", won);
+    const known = this.reached(won && !helped ? moves : null), words = reachedWords({ won, moves, helped, ...known }), stars = starsOf(known);
+    // The joy comes when the dollars have arrived.
+    document.body.classList.toggle("joy", won && !this.board.travels);
     element("won").hidden = !words;
     element("won").textContent = words;
-    if (element("count")) element("count").textContent = movesWords(moves);
+    if (element("stars")) {
+      element("stars").hidden = !words || !stars;
+      element("stars").textContent = starsText(stars);
+      element("stars").setAttribute("aria-label", t("reached.stars", stars));
+    }
+    if (element("count")) element("count").textContent = madeWords(moves);
   }
 
   showScript({ script, reduced }, amounts) {

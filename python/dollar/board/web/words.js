@@ -145,6 +145,7 @@ export function flows(edges, script) {
 
 export const dollars = (count) => t("said.dollars", count);
 export const movesWords = (count) => t("said.moves", count);
+export const madeWords = (count) => t("said.made", count);
 
 export function listed(words) {
   return words.length < 2 ? words.join("") : t("said.and", words.slice(0, -1).join(", "), words[words.length - 1]);
@@ -183,13 +184,29 @@ export function startWords(steps) {
   return t(steps === 0 ? "said.start" : "said.before", steps);
 }
 
-/* What was reached: the fewest moves without help, Infinity if there are none, and the fewest that there can be, if that is known. */
-export function reachedWords({ won, moves, helped = false, best = Infinity, least = null, right = false }) {
-  if (right && !won) return t("reached.right");
-  if (!won && best === Infinity) return "";
-  return joined(won ? t("reached.solved", movesWords(moves)) : t("reached.before", movesWords(best)),
-    won && (helped ? t("reached.helped") : best < moves && t("reached.best", best)),
-    least !== null && t(best === least ? "reached.least" : "reached.fewer", least));
+/* What was reached: whether the table is done, the fewest moves without help, and the fewest that there can be; null where one is not known. */
+export function reachedWords({ won, moves, helped = false, is_done = won, best = null, least = null, is_right = false }) {
+  if (is_right && !won) return t("reached.right");
+  if (!won && !is_done) return "";
+  const now = t(helped ? "reached.helped" : "reached.solved", movesWords(moves)), fewest = best === null ? moves : best;
+  return joined(won ? now : best === null ? t("reached.done") : t("reached.before", movesWords(best)),
+    won && !helped && best !== null && best < moves && t("reached.best", best),
+    least !== null && (won || best !== null) && t(fewest <= least ? "reached.least" : "reached.fewer", least));
+}
+
+/* Stars for a table: three for the fewest moves that there can be, or for the answer that it can't be done, two for one more, or after a
+   wrong answer, and one when it is done. */
+export function starsOf({ is_done = false, best = null, least = null, is_right = false, wrongs = 0 }) {
+  if (!is_done) return 0;
+  if (is_right) return wrongs > 0 ? 2 : 3;
+  return best === null || least === null ? 1 : Math.max(1, 3 - (best - least));
+}
+
+export const starsText = (count) => "\u2605".repeat(count) + "\u2606".repeat(3 - count);
+
+/* How a table is called: a file by its name, which is no title as it stands. */
+export function called(name) {
+  return name.replace(/\.json$/, "").replaceAll("_", " ").replace(/^\p{Ll}/u, (letter) => letter.toUpperCase());
 }
 
 /* The first minute: what is to be done at the start, and after the first move. */
