@@ -142,8 +142,8 @@ def hint(text: str) -> dict[str, Any]:
         name, sign = max(found, key=lambda move: (move[1], move[1] * amounts[move[0]]))
         return {"name": name, "count": sign, "left": len(found)}
     counts = dict(zip(verdict.script, centred(list(verdict.script.values()))))
-    name, count = max(counts.items(), key=lambda pair: abs(pair[1]))
-    return {"name": name, "count": 1 if count > 0 else -1, "left": 0}
+    first, count = max(counts.items(), key=lambda pair: abs(pair[1]))
+    return {"name": first, "count": 1 if count > 0 else -1, "left": 0}
 
 
 def least(text: str) -> int:
