@@ -11,7 +11,7 @@ from pathlib import Path
 from helpers import EXAMPLES, PACKAGE, ROOT, expect, program
 
 # So long is waited for what is to come: longer than the busiest machine takes.
-PATIENCE = int(os.environ.get("PATIENCE_", "300"))
+PATIENCE = 300
 PLAY = [sys.executable, "-B", ROOT / "board" / "play", "--no-browser"]
 TRIANGLE = EXAMPLES / "triangle.json"
 

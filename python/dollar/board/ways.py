@@ -88,10 +88,8 @@ def centred(counts: list[int]) -> list[int]:
 
 
 def moves_of(script: Mapping[str, int]) -> list[tuple[str, int]]:
-    """The moves of a script, each a vertex and 1 if it lends or -1 if it borrows. In any order they lead there, so lendings, which are easier
-    to see, come first."""
-    moves = [(name, 1 if count > 0 else -1) for name, count in script.items() for _ in range(abs(count))]
-    return sorted(moves, key=lambda move: -move[1])
+    """The moves of a script, each a vertex and 1 if it lends or -1 if it borrows."""
+    return [(name, 1 if count > 0 else -1) for name, count in script.items() for _ in range(abs(count))]
 
 
 def way(text: str) -> list[tuple[str, int]] | None:
@@ -120,8 +118,7 @@ def way(text: str) -> list[tuple[str, int]] | None:
             while came[now][1]:
                 now, name, sign = came[now][1]
                 back.append((name, sign))
-            # In any order they lead there, so lendings, which are easier to see, come first.
-            return sorted(back, key=lambda move: -move[1])
+            return back
         for name, sign, row in moves:
             there = tuple(map(int.__add__, now, row))
             if came.get(there, (SEARCHED, None))[0] > 1 - length:
@@ -140,10 +137,13 @@ def hint(text: str) -> dict[str, Any]:
     script = fewest(table, {str(name): count for name, count in verdict.script.items()})
     found = moves_of(script) if script else way(text)
     if found:
-        return {"name": found[0][0], "count": found[0][1], "left": len(found)}
+        # In any order they lead there. Whoever has most lends first, so that there is no new debt if there need be none.
+        amounts = dict(zip(table["vertices"], table["amounts"]))
+        name, sign = max(found, key=lambda move: (move[1], move[1] * amounts[move[0]]))
+        return {"name": name, "count": sign, "left": len(found)}
     counts = dict(zip(verdict.script, centred(list(verdict.script.values()))))
-    name, count = max(counts.items(), key=lambda pair: abs(pair[1]))
-    return {"name": name, "count": 1 if count > 0 else -1, "left": 0}
+    first, count = max(counts.items(), key=lambda pair: abs(pair[1]))
+    return {"name": first, "count": 1 if count > 0 else -1, "left": 0}
 
 
 def least(text: str) -> int:
