@@ -19,9 +19,9 @@ def numbers_of(piece: bytes, size: int, is_told: bool) -> Optional[List[array[in
     """The numbers of lines in columns; or None if they are no lines of so many numbers, with one space between two, of which the first is
     0 or 1 if `is_told`.
 
-    >>> numbers_of(b"1 0 -1\n0 20 0\n", 3, True)
+    >>> numbers_of(b"1 0 -1\\n0 20 0\\n", 3, True)
     [array('q', [1, 0]), array('q', [0, 20]), array('q', [-1, 0])]
-    >>> numbers_of(b"1 0 -01\n", 3, True), numbers_of(b"2 0 0\n", 3, True), numbers_of(b"1 0\n", 3, True)
+    >>> numbers_of(b"1 0 -01\\n", 3, True), numbers_of(b"2 0 0\\n", 3, True), numbers_of(b"1 0\\n", 3, True)
     (None, None, None)
     """
     try:
@@ -39,7 +39,7 @@ def line_form(size: int) -> bytes:
     """What a line of so many numbers is made by.
 
     >>> line_form(2) % (1, -20)
-    b'1 -20\n'
+    b'1 -20\\n'
     """
     return b" ".join([b"%d"] * size) + b"\n"
 

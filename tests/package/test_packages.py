@@ -153,9 +153,14 @@ class OfPackages(Test):
                          LD_LIBRARY_PATH=f"{tree}/lib")
         self.try_example(tree / "share/doc/dollar/library", "$(pkg-config --cflags dollar) $(pkg-config --variable=libdir dollar)/libdollar.a",
                          PKG_CONFIG_PATH=f"{tree}/lib/pkgconfig")
-        words = ["pkg-config", "--cflags", "--libs", "--modversion", "dollar"]
-        said = self.out(*words, env={**self.environ, "PKG_CONFIG_PATH": f"{debian}/usr/lib/x86_64-linux-gnu/pkgconfig"})
-        self.assertEqual(said.split(), [self.version, "-ldollar"])
+        folder = f"{debian}/usr/lib/x86_64-linux-gnu"
+        here = {"PKG_CONFIG_LIBDIR": f"{folder}/pkgconfig"}
+        said = [self.out("pkg-config", *words, "dollar", env={**self.environ, **here}).split()
+                for words in (["--modversion"], ["--cflags", "--libs"])]
+        self.assertEqual(said, [[self.version], ["-ldollar"]])
+        # The same as if the tree of the packages were the whole system.
+        self.try_example(debian / "usr/share/doc/dollar/library", "$(pkg-config --cflags --libs dollar)", **here, PKG_CONFIG_SYSROOT_DIR=str(debian),
+                         PKG_CONFIG_ALLOW_SYSTEM_CFLAGS="1", PKG_CONFIG_ALLOW_SYSTEM_LIBS="1", LD_LIBRARY_PATH=folder)
 
     def try_pages(self, documents, path, *before, inside="", **variables):
         """Runs the commands of the pages in the folder of the documents, and compares what they print; inside of a tree, the words
