@@ -18,7 +18,8 @@ def by_a_word(folder):
     """The word of a seat, which the teacher sees, leads its pupil back from any device; wrong ones are few, and a page that is open stays."""
     with a_class(folder, 4, "Ann", "Ben") as (_, place, desk, ann, ben):
         page = watcher(desk)
-        page.until(lambda page: page.states and len(page.states[-1]["names"]) == 2, "the names do not come")
+        for listener in page, ben:
+            listener.until(lambda listener: listener.states and len(listener.states[-1]["names"]) == 2, "the names do not come")
         word = page.states[-1]["names"]["1"]["word"]
         equal([len(word), "word" in json.dumps(ben.states[-1]["names"])], [4, False], "the word, which the teacher alone is told")
 

@@ -192,9 +192,9 @@ def in_chapters(count: int = 1) -> list[tuple[str, list[str], str]]:
     """A stage of puzzles for each chapter, as above, of which some that nobody knows can't be won."""
     levels = random.SystemRandom().sample(IN_CHAPTERS, len(IN_CHAPTERS))
     stages = []
-    for number, (graph, level) in enumerate(zip(CHAPTER_GRAPHS, ["easy", *levels]), 1):
+    for graph, level in zip(CHAPTER_GRAPHS, ["easy", *levels]):
         _, texts = puzzles(graph, level, "", count)
-        stages.append((chapter(number), texts, level))
+        stages.append((t("chapters." + graph), texts, level))
     return stages
 
 

@@ -20,7 +20,8 @@ AT_ONCE, IN_A_SECOND, MOST_WAITING = 60, 10.0, 4
 # How many wrong codes and words, and new seats, one address, behind which a school may be, has at once, and then in a second; and how many
 # seats all have. Wrong codes of some addresses do not keep others out.
 TRIES, SEATS = ((40, 2.0),), ((40, 0.5), (64, 8.0))
-WORD, JOINER = 4, "\u200d"
+# How long the word of a seat is, and its letters, of which no other words are made.
+WORD, CONSONANTS, JOINER = 4, re.sub("[aeiou]", "", LETTERS), "\u200d"
 # Letters that look like nothing, and a row of marks on a letter of which three are enough.
 UNSEEN, MARKS = "\u115f\u1160\u2800\u3164\uffa0", re.compile("([\u0300-\u036f]{3})[\u0300-\u036f]+")
 # Letters of other scripts that look like those of Latin.
@@ -63,7 +64,7 @@ class Seat:
 
     def __init__(self, number: int, name: str, browser: str | None = None, key: str | None = None, word: str | None = None) -> None:
         self.number, self.name, self.browser, self.key = number, name, browser, key or new_secret()
-        self.word = word or "".join(secrets.choice(LETTERS) for _ in range(WORD))
+        self.word = word or "".join(secrets.choice(CONSONANTS) for _ in range(WORD))
         self.page: Follower | None = None
         self.played, self.waiting, self.seen, self.opened, self.asks = 0, 0, time.monotonic(), False, False
         self.bucket = Bucket(AT_ONCE, IN_A_SECOND)

@@ -50,9 +50,10 @@ export class Rooms {
   /* The room that is shown is on another table. */
   begins() {
     const { game, stage } = this.shown, { name, layout } = this.stages[stage];
-    const place = this.given.later.length && this.me ? `${this.stageWords(stage)}, ` : "";
-    const title = t(this.teaches ? "teacher.of" : "page.of", called(`${place}${name}`));
-    element("title").textContent = document.title = title;
+    const { later } = this.given, own = later.length && this.me ? `${this.stageWords(stage)}, ${name}` : name;
+    // On a wall boards may be on several tables, each of which has a title of its own.
+    const told = later.length && !this.me && !this.teaches ? t("page.title") : called(own);
+    element("title").textContent = document.title = t(this.teaches ? "teacher.of" : "page.of", told);
     this.viewer.board.chosen.clear();
     this.viewer.reset(game, game.length, layoutOf(layout));
     this.hands.forget();
