@@ -9,8 +9,8 @@
  * can't be stopped: for progress, or to stop, ask about some thousand rows at a time, with pointers moved on.
  *
  * A call gives 0; or a number below 0, which DOLLAR_KIND and DOLLAR_PLACE take apart, and has then written nothing. What became of
- * each row stands in `told`. If it is below 0, the amount of vertex -1 - told is past the limit, and the row's other places keep
- * what they held. */
+ * each row stands in `told`. If it is below 0, vertex -1 - told is the first whose amount is past the limit, and the row's other
+ * places keep what they held. */
 #ifndef DOLLAR_H
 #define DOLLAR_H
 
@@ -26,7 +26,8 @@ extern "C" {
 /* An edge item: two vertices, numbered from 0, and how many edges join them; items for the same two add up. */
 typedef struct { uint8_t from, to, count; } dollar_edge;
 
-/* Why a call is refused: the kind, and of 2 to 4 the place of the edge item, of 5 the vertex. The first that holds is given. */
+/* Why a call is refused: the kind, and of 2 to 4 the place of the edge item, of 5 the vertex. If there is more than one reason, 9 comes
+ * first, then 1; then the first edge item that is wrong, by the least of 2 to 4; then 5 with the first vertex, 6, 7 and 8. */
 enum {
     DOLLAR_SIZE = 1,          /* there are not 1 to 16 vertices */
     DOLLAR_NO_VERTEX = 2,     /* an edge item names a vertex that is not there */
@@ -65,7 +66,7 @@ int64_t dollar_rank(size_t vertices, const dollar_edge *edges, size_t items,
                     int64_t *ranks, size_t ranks_all, int64_t *duals, size_t duals_all);
 
 /* Whether the rank of each divisor is at least k (told: 1 or 0); if not, losses has the lexicographically first effective divisor of
- * degree k that can't be lost. It may take as long as a rank. */
+ * degree k that can't be lost, and else the row of losses keeps what it held. It may take as long as a rank. */
 int64_t dollar_rank_test(size_t vertices, const dollar_edge *edges, size_t items, uint32_t k,
                          const int64_t *amounts, size_t all, int8_t *told, size_t rows,
                          int64_t *losses, size_t losses_all);

@@ -1,12 +1,12 @@
 -- What a call answers.
 --   item_of e              == the edge item of three bytes
 --   items_of es            == those of a list
---   fault_number f      == the number below 0 for a fault of a graph: its kind, and 16 times the place of the item or vertex
---   RefusesGraph n es x    == x says why there is no graph of n vertices with these edges: the first fault, or that there are too
---                             many items
---   HasGraphWith n es P       == there is such a graph, and P is true of it
---   RefusesCall n es q x P == x says why there is none, or that there is no vertex q, or that the arrays have not the lengths
---                             that P asks of the graph
+--   fault_number f         == the number below 0 for a fault of a graph: its kind, and 16 times the place of the item or vertex
+--   RefusesGraph n es x    == x says that there are too many items; or, if there are not, why there is no graph of n vertices
+--                             with these edges: its first fault
+--   HasGraphWith n es P    == there is such a graph, and P is true of it
+--   RefusesCall n es q x P == x says why there is none; or that there is, but no vertex q of it; or that there are both, but
+--                             the arrays have not the lengths that P asks of the graph
 --   IsAllOrNone all len    == len is all or 0
 --   FitJudge, FitRank, FitTest == the lengths of the arrays fit: `all` is the number of rows times the vertices
 use Rattle.std.specs.Prelude.{◌≡◌, ℕ, ℤ, ◌+◌, ◌*◌, ◌<◌, ◌≤◌, ◌⊎◌, List, length, map, min, pos, ◌-ℤ◌}
@@ -40,7 +40,7 @@ pub record HasFault (n : ℕ) (es : List (List ℕ)) (x : ℤ) : Type 0 where
   pub number : x ≡ fault_number fault
 
 abbrev pub RefusesGraph : ℕ → List (List ℕ) → ℤ → Type 0
-RefusesGraph n es x = HasFault n es x ⊎ ((x ≡ pos 0 -ℤ pos 9) × (120 < length es))
+RefusesGraph n es x = ((length es ≤ 120) × HasFault n es x) ⊎ ((x ≡ pos 0 -ℤ pos 9) × (120 < length es))
 
 pub record HasGraphWith (n : ℕ) (es : List (List ℕ)) (P : Multigraph → Type 0) : Type 0 where
   pub graph : Multigraph
@@ -49,7 +49,8 @@ pub record HasGraphWith (n : ℕ) (es : List (List ℕ)) (P : Multigraph → Typ
 
 abbrev pub RefusesCall : ℕ → List (List ℕ) → ℕ → ℤ → (Multigraph → Type 0) → Type 0
 RefusesCall n es q x P =
-    RefusesGraph n es x ⊎ ((x ≡ pos 0 -ℤ pos 7) × (n ≤ q)) ⊎ ((x ≡ pos 0 -ℤ pos 8) × HasGraphWith n es (λ g. ¬ P g))
+    RefusesGraph n es x ⊎ ((x ≡ pos 0 -ℤ pos 7) × HasGraphWith n es (λ g. g.size ≤ q))
+    ⊎ ((x ≡ pos 0 -ℤ pos 8) × HasGraphWith n es (λ g. (q < g.size) × (¬ P g)))
 
 abbrev pub IsAllOrNone : ℕ → ℕ → Type 0
 IsAllOrNone all len = (len ≡ all) ⊎ (len ≡ 0)
