@@ -8,7 +8,7 @@ import tempfile
 import time
 from pathlib import Path
 
-from common import EXAMPLES, addresses, asked, played, refused, started, text_of, together, waited, written
+from common import EXAMPLES, addresses, played, refused, started, text_of, together, waited, written
 from dollar.board.classroom import Classroom
 from dollar.board.game import Table
 from dollar.board.server import LETTERS

@@ -15,7 +15,6 @@ from dollar.board.results import line_of
 from dollar.board.room import Feed, Room, event
 from dollar.board.seats import Follower, Seat, Seats
 from dollar.board.server import new_secret
-from dollar.board.texts import t
 
 HEARTBEAT, SHORT = 5.0, 6
 # Pages are told together what comes within so many seconds.

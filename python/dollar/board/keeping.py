@@ -9,7 +9,7 @@ import json
 import os
 import re
 import sys
-from typing import Any, Callable, Sequence, TextIO
+from typing import Any, Callable, TextIO
 
 from dollar.board.room import Item, Noted, Played, Rewound
 from dollar.program import typed
