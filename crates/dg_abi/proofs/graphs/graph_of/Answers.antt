@@ -19,8 +19,11 @@ returns-in-Err c =
     same_items c.loop-i.items c.args.edges.now c.loop-i.i c.loop-i.invariant.size
     (omega (arith, c.if-edges-gt-MAX_ITEMS.false)) (omega (arith, c.loop-i-test.false)) c.loop-i.invariant.same in
     let fits : FitsSigned w64 c.fault_number.result = search rules in
-    inl (omega (arith, c.if-edges-gt-MAX_ITEMS.false), record {
-      fault = c.in-Err.fault;
-      first = subst (λ l. IsGraphFault c.args.size l c.in-Err.fault) same c.in-Err.ensures;
-      number = to_z-of_z w64 c.fault_number.result fits ∙ c.fault_number.ensures;
-    })
+    inl (
+      omega (arith, c.if-edges-gt-MAX_ITEMS.false),
+      record {
+        fault = c.in-Err.fault;
+        first = subst (λ l. IsGraphFault c.args.size l c.in-Err.fault) same c.in-Err.ensures;
+        number = to_z-of_z w64 c.fault_number.result fits ∙ c.fault_number.ensures;
+      },
+    )
