@@ -103,7 +103,7 @@ class Asking:
         return [array(kind, bytes(rows * each * (8 if kind == "q" else 1))) for kind, each in self.wide]
 
     def arrays(self, amounts: Tuple[int, int]) -> List[array[int]]:
-        """The same, filled for the rows of an array, which is given by its address and its length."""
+        """These arrays, filled for the rows of an array, which is given by its address and its length."""
         made, began = self.made(amounts[1] // self.size), time.monotonic()
         if self.call(*self.words, *amounts, *chain.from_iterable(each.buffer_info() for each in made)):
             raise AssertionError("the library for C refuses what it has taken before")
@@ -119,7 +119,7 @@ class Asking:
         return told, [told, *(each[v::self.size] for each in found[:2] for v in range(self.size))]
 
     def of_rows(self, rows: Sequence[Tuple[int, ...]]) -> Tuple[array[int], List[Sequence[int]]]:
-        """The same of rows of any whole numbers."""
+        """What is told of rows of any whole numbers, and their numbers in columns."""
         try:
             return self.columns(array("q", [*chain.from_iterable(rows)]), map(sum, rows))
         except OverflowError:
@@ -204,7 +204,7 @@ class Asker:
         return functools.partial(asked.call, *asked.words, *chain.from_iterable(each.buffer_info() for each in (self._held, *made))), made
 
     def _told(self, command: str, amounts: Sequence[int]) -> Optional[List[array[int]]]:
-        """The same as `told`, of amounts."""
+        """What the library tells of these amounts, and its numbers; None if the program is to be asked."""
         call, made = self._calls[command] or (None, [])
         try:
             self._held[:] = array("q", amounts)
