@@ -6,7 +6,7 @@
 --   played-cong     divisors that agree do so after a list of plays
 --   winnable-cong   divisors that agree are winnable together
 --   reduced-cong    divisors that agree are reduced together
-use Rattle.dg_theory.proofs.Common.{ℕ, List, [], ◌∷◌, arith, sym, ◌∙◌, ints, Multigraph, Amounts, IsEffective, DivisorsAgreeOn, fired, Play, script_of_play, played, IsWinnable, IsReduced, minus}
+use Rattle.dg_theory.proofs.Common.{ℕ, List, [], ◌∷◌, arith, sym, ◌∙◌, ints, Multigraph, Amounts, IsEffective, DivisorsAgreeOn, fired, Play, script_of_play, played, IsWinnable, IsReduced}
 
 pub agree-sym : (n : ℕ) (D E : Amounts) → DivisorsAgreeOn n D E → DivisorsAgreeOn n E D
 agree-sym n D E same v below = sym (same v below)

@@ -9,15 +9,13 @@
 --                          lead from it out of the set of those that are not earlier
 --   later-within           what a vertex put before the others does to the sets of those that are not earlier
 --   burning_next           a vertex that falls in S can be put before those of the set S without it
---   burning_exists         so all vertices can be placed
+--   burning_exists         so all vertices can be placed, from one on that falls in the set of all
 --   burns_below            then each vertex holds at most what the divisor of the order has there
-use Rattle.dg_theory.proofs.Common.{if◌then◌else◌, ◌≡◌, ◌≢◌, ℕ, zero, suc, ◌<◌, ◌≤◌, ◌==◌, Bool, true, false, ◌&&◌, arith, refl, sym, ap, ◌∙◌, ⊎_elim, ◌≤ℤ◌, ◌<ℤ◌, ints, cases_eq, cases_Bool, and_parts, and_from, false_from_ne_true, both_ways, nat_tests, pos, Multigraph, Amounts, edges_out, IsReduced}
+use Rattle.dg_theory.proofs.Common.{if◌then◌else◌, ◌≡◌, ◌≢◌, ℕ, zero, suc, ◌<◌, ◌≤◌, ◌==◌, Bool, true, false, ◌&&◌, arith, refl, sym, ap, ◌∙◌, ⊎_elim, ◌≤ℤ◌, ◌<ℤ◌, ints, cases_eq, cases_Bool, and_parts, and_from, false_from_ne_true, both_ways, nat_tests, pos, Multigraph, Amounts, edges_out, IsReduced, AreApart, order_divisor}
 use Rattle.dg_theory.proofs.Counting.{count_of, count_of-some, count_of-more, member_or_none}
 use Rattle.dg_theory.proofs.Leaving.{removed, removed-here, removed-other, removed-of}
 use Rattle.dg_theory.proofs.Levels.{level, in_level, level_in}
 use Rattle.dg_theory.proofs.Unburnt.{Falls, IsPartOf, out-le-out}
-use Rattle.dg_theory.proofs.OrderDivisors.{order_divisor}
-use Rattle.dg_theory.proofs.OrderDegrees.{AreApart}
 
 abbrev pub AllFall : Multigraph → Amounts → Type 0
 AllFall g R = (T : ℕ → Bool) (u : ℕ) → u < g.size → T u ≡ true → (v : ℕ) × Falls g R T v
@@ -137,8 +135,18 @@ burning_from g R falls (suc k) S n few =
     (λ (none : (u : ℕ) → u < g.size → S u ≡ false). none_to_place g R S n none)
     (member_or_none g.size S)
 
-pub burning_exists : (g : Multigraph) (R : Amounts) → AllFall g R → Placed g R (λ _. true) 0
-burning_exists g R falls = burning_from g R falls (count_of g.size (λ _. true)) (λ _. true) 0 (omega arith)
+pub burning_exists : (g : Multigraph) (R : Amounts) (q : ℕ) → AllFall g R → Falls g R (λ _. true) q →
+    (place : Amounts) × IsBurning g R (λ _. true) 0 place ×
+    ((v : ℕ) → v < g.size → v ≢ q → place q <ℤ place v)
+burning_exists g R q falls first =
+    let S : ℕ → Bool = removed (λ _. true) q in
+    let (place, burning) = burning_from g R falls (count_of g.size S) S 1 (omega arith) in (
+      put place q 0,
+      burning_next g R (λ _. true) q 0 place first burning,
+      λ v inside other.
+          let past : pos 1 ≤ℤ place v = burning.from v inside (removed-other (λ _. true) q v other) in
+          omega (arith, ints, put-here place q 0, put-other place q 0 v other),
+    )
 
 pub burns_below : (g : Multigraph) (R place : Amounts) → IsBurning g R (λ _. true) 0 place →
     AreApart g.size place × ((v : ℕ) → v < g.size → R v ≤ℤ order_divisor g place v)

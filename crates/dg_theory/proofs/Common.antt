@@ -12,6 +12,7 @@ pub use Rattle.dg_theory.specs.FiringLaws.{ConstantsDoNothing, FiringAddsUp, Fir
 pub use Rattle.dg_theory.specs.JoinLaws.{JoinAddsEdge, JoinedIsMultigraph, EdgeKeepsSize, ValenceGrows}
 pub use Rattle.dg_theory.specs.Joins.{endpoint_indicator, table_with_edge, pair_indicator, row_with_edge}
 pub use Rattle.dg_theory.specs.Multigraph.{IsMultigraph, IsConnectedTo, Multigraph, along, edge_count, edges_between, genus, here, valence}
+pub use Rattle.dg_theory.specs.Orders.{AreApart, BurnsAtCost, LossIffBurns, earlier, excess, order_divisor}
 pub use Rattle.dg_theory.specs.Play.{IsWinnable, Play, lend, played, script_of_play}
 pub use Rattle.dg_theory.specs.Rank.{HasRankAtLeast, IsLexBefore, IsFirstLoss, IsRank, canonical, minus}
 pub use Rattle.dg_theory.specs.RankLaws.{EquivalentLoss, EquivalentRank, LossBoundsRank, FirstLossIsUnique, RankAtMostDegree, RankIsMonotone, RankZeroIffWinnable, RankFromDegree}

@@ -11,7 +11,7 @@
 --   loss_of_dual         a loss that the residual can't bear shows one that D can't bear
 --   natural              a whole number that is not negative is a natural number
 --   high_rank            from the genus on only rich divisors pass a test
-use Rattle.dg_theory.proofs.Common.{◌≡◌, ℕ, ◌<◌, ◌⊎◌, inl, inr, arith, refl, ⊎_elim, ◌≤ℤ◌, ◌<ℤ◌, ints, by_lt_z, ℤ, pos, negsuc, ◌+ℤ◌, ◌-ℤ◌, Multigraph, IsMultigraph, genus, Amounts, degree, fired, IsEffective, IsWinnable, minus, canonical, HasRankAtLeast, DualTests, LossOfDual, RankAboveGenus}
+use Rattle.dg_theory.proofs.Common.{◌≡◌, ℕ, ◌<◌, ◌⊎◌, inl, inr, arith, refl, ⊎_elim, ◌≤ℤ◌, ◌<ℤ◌, ints, by_lt_z, ℤ, pos, negsuc, ◌+ℤ◌, ◌-ℤ◌, Multigraph, IsMultigraph, genus, Amounts, degree, fired, IsEffective, IsWinnable, minus, canonical, HasRankAtLeast, DualTests, LossOfDual, RankAboveGenus, AreApart, order_divisor}
 use Rattle.dg_theory.proofs.Agreement.{winnable-cong}
 use Rattle.dg_theory.proofs.Equivalence.{opposite, equivalent-fired, equivalent-refl}
 use Rattle.dg_theory.proofs.Exchange.{degree_stays}
@@ -20,8 +20,8 @@ use Rattle.dg_theory.proofs.ReducedLaws.{reduced_decides}
 use Rattle.dg_theory.proofs.ExistenceLaws.{reduced_exists}
 use Rattle.dg_theory.proofs.Giving.{win_more, degree-less}
 use Rattle.dg_theory.proofs.RankLaws.{equivalent-rank, poor_rank}
-use Rattle.dg_theory.proofs.OrderDivisors.{order_divisor, order_divisor-lost}
-use Rattle.dg_theory.proofs.OrderDegrees.{AreApart, order_divisor-reversed, order_divisor-degree, canonical-degree}
+use Rattle.dg_theory.proofs.OrderDivisors.{order_divisor-lost}
+use Rattle.dg_theory.proofs.OrderDegrees.{order_divisor-reversed, order_divisor-degree, canonical-degree}
 use Rattle.dg_theory.proofs.BurningPlaces.{falls_if_owing, burning_exists, burns_below}
 
 pub record Owes (g : Multigraph) (D : Amounts) : Type 0 where
@@ -35,7 +35,8 @@ winnable_or_owes g D graph some =
     let (s, at_q, reduced) = reduced_exists g 0 D graph some in
     by_lt_z (fired g D s 0) (pos 0)
     (λ (debt : fired g D s 0 <ℤ pos 0).
-    let (place, burning) = burning_exists g (fired g D s) (falls_if_owing g 0 (fired g D s) some reduced debt) in
+    let (place, burning, _) = burning_exists g (fired g D s) 0 (falls_if_owing g 0 (fired g D s) some reduced debt)
+    (some, refl, omega (arith, ints)) in
     let (apart, below) = burns_below g (fired g D s) place burning in
     inr (record { script = s; place = place; apart = apart; below = below }))
     (λ (paid : pos 0 ≤ℤ fired g D s 0). inl

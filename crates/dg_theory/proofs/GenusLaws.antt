@@ -5,9 +5,9 @@
 --   paid_start            so it is where only q is outside S
 --   paid_next             so it stays if a vertex leaves that holds fewer dollars than it has edges out of S
 --   paid_to_end           if the divisor is reduced, so it is for a set without vertices
---   reduced_below_genus   the law: then the degree and the number of vertices are at most R q + 1 and the number of
---                         edges
-use Rattle.dg_theory.proofs.Common.{◌≡◌, ℕ, zero, suc, ◌+◌, ◌<◌, ◌≤◌, Bool, true, false, arith, refl, ⊎_elim, ◌≤ℤ◌, ◌<ℤ◌, ints, false_from_ne_true, both_ways, pos, ◌+ℤ◌, Multigraph, IsMultigraph, edges_between, edge_count, Amounts, degree, edges_out, IsReduced, ReducedBelowGenus}
+--   reduced-degree        then the degree and the number of vertices are at most R q + 1 and the number of edges
+--   reduced_below_genus   the law: so the degree is below the genus if q is in debt
+use Rattle.dg_theory.proofs.Common.{◌≡◌, ℕ, zero, suc, ◌+◌, ◌<◌, ◌≤◌, Bool, true, false, arith, refl, ⊎_elim, ◌≤ℤ◌, ◌<ℤ◌, ints, false_from_ne_true, both_ways, pos, ◌+ℤ◌, Multigraph, IsMultigraph, edges_between, edge_count, Amounts, degree, edges_out, IsReduced, ReducedBelowGenus, genus}
 use Rattle.dg_theory.proofs.SumLaws.{sum_below-zero}
 use Rattle.dg_theory.proofs.Counting.{count_of, count_of-some, count_of-more, member_or_none}
 use Rattle.dg_theory.proofs.Leaving.{removed, removed-here, removed-of, burnt_edges, burnt_weight, burnt_edges-removed, burnt_weight-removed, burnt_edges-all, burnt_weight-all}
@@ -60,8 +60,9 @@ paid_to_end g q R graph reduced (suc k) S few paid =
     (λ (none : (w : ℕ) → w < g.size → S w ≡ false). (S, paid, none))
     (member_or_none g.size S)
 
-pub reduced_below_genus : ReducedBelowGenus
-reduced_below_genus g q R graph vertex reduced debt =
+pub reduced-degree : (g : Multigraph) (q : ℕ) (R : Amounts) → IsMultigraph g → q < g.size → IsReduced g q R →
+    degree g.size R ≤ℤ (genus g +ℤ R q)
+reduced-degree g q R graph vertex reduced =
     let S : ℕ → Bool = removed (λ _. true) q in
     let (T, end, none) =
     paid_to_end g q R graph reduced (count_of g.size S) S (omega arith) (paid_start g q R vertex) in
@@ -70,3 +71,7 @@ reduced_below_genus g q R graph vertex reduced debt =
     let edges : burnt_edges g.size (edges_between g) T ≡ edge_count g =
     burnt_edges-all g.size (edges_between g) T none in
     omega (arith, ints)
+
+pub reduced_below_genus : ReducedBelowGenus
+reduced_below_genus g q R graph vertex reduced debt =
+    omega (arith, ints, reduced-degree g q R graph vertex reduced)

@@ -66,6 +66,8 @@ pub mod DualityLaws
 pub mod RankNumbers
 pub mod RankSums
 pub mod RankExists
+-- Losses told by burning.
+pub mod Burnings
 -- Sets of vertices that determine a rank.
 pub mod Components
 pub mod Special

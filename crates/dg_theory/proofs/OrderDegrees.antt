@@ -1,23 +1,19 @@
 -- The divisor of an order of the vertices, and that of the reversed order.
---   AreApart n place       no two of n vertices have the same place
 --   one_counts             an edge counts at one of its ends, where exactly one of two tests fails
 --   earlier-reversed       each edge leads to an earlier vertex, or to one that is earlier in the reversed order
 --   order_divisor-reversed    so the divisors of an order and of the reversed one add up to the canonical divisor
 --   paired_total           a sum over all ordered pairs, where the two orders of a pair share what it has
+--   valence_total          so the valences add up to two for each edge
 --   earlier_total          in any order, each edge leads to an earlier vertex from one of its ends
 --   order_divisor-degree   so the divisor of an order has the degree g - 1
 --   canonical-degree       and the canonical divisor has the degree 2g - 2
-use Rattle.dg_theory.proofs.Common.{if◌then◌else◌, ◌≡◌, ℕ, zero, suc, ◌+◌, ◌<◌, Bool, true, false, arith, refl, ap, sym, ◌∙◌, ◌≤ℤ◌, ints, pos, ◌+ℤ◌, ◌-ℤ◌, sum_below, nat_sum_below, Multigraph, IsMultigraph, edges_between, valence, edge_count, genus, Amounts, degree, DivisorsAgreeOn, canonical}
+use Rattle.dg_theory.proofs.Common.{if◌then◌else◌, ◌≡◌, ℕ, zero, suc, ◌+◌, ◌<◌, Bool, true, false, arith, refl, ap, sym, ◌∙◌, ◌≤ℤ◌, ints, pos, ◌+ℤ◌, ◌-ℤ◌, sum_below, nat_sum_below, Multigraph, IsMultigraph, edges_between, valence, edge_count, genus, Amounts, degree, DivisorsAgreeOn, canonical, AreApart, earlier, order_divisor}
 use Rattle.dg_theory.proofs.SumLaws.{sum_below-cong, sum_below-add}
 use Rattle.dg_theory.proofs.SumTotals.{sum_below-total}
 use Rattle.dg_theory.proofs.TotalLaws.{nat_sum_below-cong, nat_sum_below-add}
 use Rattle.dg_theory.proofs.Leaving.{burnt_weight-all}
 use Rattle.dg_theory.proofs.Levels.{level, level_in, level_off}
 use Rattle.dg_theory.proofs.Equivalence.{opposite}
-use Rattle.dg_theory.proofs.OrderDivisors.{earlier, order_divisor}
-
-abbrev pub AreApart : ℕ → Amounts → Type 0
-AreApart n place = (v w : ℕ) → v < n → w < n → place v ≡ place w → v ≡ w
 
 one_counts : (b c : Bool) (e : ℕ) → (b ≡ true → c ≡ true → e ≡ 0) → (b ≡ false → c ≡ false → ⊥) →
     (if b then 0 else e) + (if c then 0 else e) ≡ e
@@ -66,6 +62,14 @@ paired_total (suc n) h e shared loopless =
     ∙ nat_sum_below-cong n _ (e n) (λ w within. shared n w (omega arith) (omega arith)) in
     let corner : h n n + h n n ≡ e n n = shared n n (omega arith) (omega arith) in
     omega (arith, loopless n)
+
+pub valence_total : (g : Multigraph) → IsMultigraph g → nat_sum_below g.size (valence g) ≡ edge_count g + edge_count g
+valence_total g graph =
+    let e : ℕ → ℕ → ℕ = edges_between g in
+    paired_total g.size e (λ v w. e v w + e v w) (λ v w _ _. omega (arith, graph.symmetric v w))
+    (λ v. omega (arith, graph.loopless v))
+    ∙ nat_sum_below-cong g.size _ _ (λ v _. nat_sum_below-add v (e v) (e v))
+    ∙ nat_sum_below-add g.size _ _
 
 pub earlier_total : (g : Multigraph) (place : Amounts) → IsMultigraph g → AreApart g.size place →
     nat_sum_below g.size (earlier g place) ≡ edge_count g

@@ -1,21 +1,12 @@
--- The divisor of an order of the vertices (Baker and Norine 2007, section 3.2). An order is told by a place for each
--- vertex, a whole number; one vertex is earlier than another where its place is less.
---   earlier g place v        how many edges lead from v to earlier vertices
---   order_divisor g place    at each vertex a dollar less than so many
+-- The divisor of an order of the vertices.
 --   first_in                 in a set with a vertex, some vertex has the least place
 --   order_divisor-lost       the divisor of an order can't be won
-use Rattle.dg_theory.proofs.Common.{if◌then◌else◌, ◌≡◌, ℕ, ◌<◌, ◌≤◌, Bool, true, false, arith, ap, ⊎_elim, ◌≤ℤ◌, ints, cases_Bool, ℤ, pos, neg_ℤ, ◌+ℤ◌, ◌-ℤ◌, Multigraph, Amounts, gain, IsWinnable, edges_out}
+use Rattle.dg_theory.proofs.Common.{if◌then◌else◌, ◌≡◌, ℕ, ◌<◌, ◌≤◌, Bool, true, false, arith, ap, ⊎_elim, ◌≤ℤ◌, ints, cases_Bool, ℤ, pos, neg_ℤ, ◌+ℤ◌, ◌-ℤ◌, Multigraph, Amounts, gain, IsWinnable, edges_out, earlier, order_divisor}
 use Rattle.dg_theory.proofs.Largest.{largest}
 use Rattle.dg_theory.proofs.Levels.{level, in_level, level_in, level_off}
 use Rattle.dg_theory.proofs.Lending.{loses}
 use Rattle.dg_theory.proofs.Winning.{script_of_win}
 use Rattle.dg_theory.proofs.Unburnt.{out-le-out}
-
-abbrev pub earlier : Multigraph → Amounts → ℕ → ℕ
-earlier g place v = edges_out g (level place (place v)) v
-
-abbrev pub order_divisor : Multigraph → Amounts → Amounts
-order_divisor g place v = pos (earlier g place v) -ℤ pos 1
 
 -- greatest at the earliest vertex of S, if u is in S
 abbrev height : Bool → ℤ → ℤ → ℤ

@@ -9,7 +9,7 @@
 --   sum_below-le_term   a sum of terms that are at most 0 is at most each of them
 --   sum_below-at_least  a sum of n terms that are at least - K is at least - n K
 --   sum_below-but_one   if one of the terms is at least 0, the sum is at least - (n - 1) K
-use Rattle.dg_theory.proofs.Common.{◌≢◌, ℕ, zero, suc, ◌+◌, ◌*◌, ◌<◌, arith, ints, by_lt_z, ℤ, pos, ◌+ℤ◌, ◌*ℤ◌, suc_ℤ-*ℤ, zero-*ℤ, ◌≤ℤ◌, ◌<ℤ◌, sum_below, neg_ℤ}
+use Rattle.dg_theory.proofs.Common.{◌≢◌, ℕ, zero, suc, ◌*◌, ◌<◌, arith, ints, by_lt_z, ℤ, pos, ◌+ℤ◌, ◌*ℤ◌, suc_ℤ-*ℤ, zero-*ℤ, ◌≤ℤ◌, ◌<ℤ◌, sum_below, neg_ℤ}
 use Rattle.dg_theory.proofs.SumLaws.{sum_below-le, sum_below-le_but, sum_below-same, sum_below-debts}
 
 pub mul-nonpos : (k : ℕ) (x : ℤ) → x ≤ℤ pos 0 → (pos k *ℤ x) ≤ℤ pos 0

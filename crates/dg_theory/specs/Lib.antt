@@ -10,6 +10,7 @@ pub mod Rank
 pub mod Determining
 pub mod Joins
 pub mod Twins
+pub mod Orders
 -- The laws, which are proved.
 pub mod FiringLaws
 pub mod EquivalenceLaws

@@ -9,6 +9,7 @@ ghost use Rattle.dg_theory.specs.ExistenceLaws.{ReducedExists, WinnableFromGenus
 ghost use Rattle.dg_theory.specs.JoinLaws.{JoinAddsEdge, JoinedIsMultigraph, ValenceGrows, EdgeKeepsSize};
 ghost use Rattle.dg_theory.specs.RankLaws.{EquivalentRank, EquivalentLoss, RankIsMonotone, RankZeroIffWinnable, RankFromDegree, RankAtMostDegree, FirstLossIsUnique, LossBoundsRank};
 ghost use Rattle.dg_theory.specs.DualityLaws.{RiemannRoch, RankOfDual, DualTests, LossOfDual, RankAboveGenus, RankExists, RankIsUnique, RankOfSum, Clifford, CliffordOrRiemannRoch};
+ghost use Rattle.dg_theory.specs.Orders.{LossIffBurns};
 ghost use Rattle.dg_theory.specs.Twins.{ExchangeKeepsWinnable};
 ghost use Rattle.dg_theory.specs.DeterminingLaws.{DeterminesLosses, DeterminesRank, SpecialIsReduced, ConnectedGrows};
 
@@ -123,4 +124,11 @@ pub fn laws_of_determining()
     ensures rank { DeterminesRank }
     ensures special { SpecialIsReduced }
     ensures grows { ConnectedGrows }
+{}
+
+/// A divisor has a loss of k dollars exactly if some equivalent one, without debt off q, burns from q in some order once at
+/// most k dollars are taken from it: as many as it holds beyond the divisor of the order. Its debt at q is at most the genus
+/// and k less the degree, so there are only finitely many to try.
+pub fn law_of_burning_losses()
+    ensures { LossIffBurns }
 {}
