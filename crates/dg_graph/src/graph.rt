@@ -12,7 +12,7 @@ ghost use Rattle.dg_graph.specs.Joins.{IsJoinable, IsJoinFault};
 use crate::build::{edge_table, first_item_fault};
 use crate::connected::is_connected;
 use crate::fault::{GraphFault, JoinFault};
-use crate::table::{Table, edge_count, first_high_valence, plus_edge, valences_of};
+use crate::table::{Table, first_high_valence, plus_edge, row_sum, valences_of};
 use std::marker::Model;
 
 /// The most vertices.
@@ -176,6 +176,8 @@ impl Graph {
     pub fn genus(&self) -> i32
         ensures { result ≡ genus self.now }
     {
-        edge_count(self.size, &self.table) as i32 - self.size as i32 + 1
+        // Each edge has two ends.
+        let ends = row_sum(self.size(), self.valences());
+        (ends / 2) as i32 - self.size as i32 + 1
     }
 }

@@ -38,29 +38,6 @@ pub fn valences_of(size: usize, table: &Table) -> [u8; MAX_VERTICES]
     valences
 }
 
-/// The sum of row v before its diagonal.
-#[tactic(auto, unfolding(dg_theory::specs::Multigraph::entry))]
-fn edges_before(table: &Table, v: usize) -> u32
-    requires { v < MAX_VERTICES }
-    ensures sum { result ≡ nat_sum_below v (entry table.now v) }
-    ensures limit { result ≤ 255 * v }
-{
-    row_sum(v, &table[v])
-}
-
-/// The sum of all numbers before the diagonal.
-pub fn edge_count(size: usize, table: &Table) -> u32
-    requires { size ≤ MAX_VERTICES }
-    ensures sum { result ≡ nat_sum_below size (λ v. nat_sum_below v (entry table.now v)) }
-    ensures limit { result ≤ 3825 * size }
-{
-    let mut count = 0u32;
-    for v in 0..size {
-        count += edges_before(table, v);
-    }
-    count
-}
-
 /// The first vertex with more than 63 edges.
 #[tactic(auto, unfolding(dg_theory::specs::Multigraph::entry))]
 pub fn first_high_valence(size: usize, table: &Table) -> Option<usize>
