@@ -62,7 +62,7 @@ rank_from g A k wins E effective of_degree = wins E (record {
   empty = λ v low. absurd (omega arith);
 })
 
-pub none_made : (g : Multigraph) → g.size ≤ 16 → IsMadeOf g (record { sets = replicate 16 0; twins = None })
+pub none_made : (g : Multigraph) → g.size ≤ 16 → IsMadeOf g (record { sets = replicate 16 0; twins = None; tree = None })
 none_made g few = record { sets = λ p below. inl (get_or-replicate 16 p 0 0 (omega arith)); twins = tt }
 
 pub no_twins : (g : Multigraph) → g.size ≤ 16 → HaveOnlyTwins g (replicate 16 0)
@@ -71,7 +71,7 @@ no_twins g few v u below member =
     absurd (both_ways _ (in_set-none u) (rw none at member))
 
 pub made_at : (g : Multigraph) (a : Made) (d m : ℕ) → d < length a.sets → IsMadeOf g a →
-    DeterminesLossesFrom g d (in_set m) → IsMadeOf g (record { sets = set a.sets d m; twins = a.twins })
+    DeterminesLossesFrom g d (in_set m) → IsMadeOf g (record { sets = set a.sets d m; twins = a.twins; tree = a.tree })
 made_at g a d m inside made new = record {
   sets = λ p below. ⊎_elim
       (λ (same : p ≡ d). inr (rw (same, get_or-set_same a.sets d m 0 inside) new))

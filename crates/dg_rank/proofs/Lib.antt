@@ -18,6 +18,8 @@ pub mod FixedBeginnings
 pub mod Starts
 -- The vertices that are asked.
 pub mod AskedVertices
+-- Leaves that are folded.
+pub mod Leaves
 -- Ranks and rank tests by the residual.
 pub mod SmallDegrees
 pub mod DualTests

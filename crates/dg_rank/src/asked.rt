@@ -1,5 +1,6 @@
 //! The vertices that rank tests ask: it is enough to lose dollars at these. A determining set of vertices takes as long to make
 //! as some dozens of boxes to search, so it is made once a search is longer than that, and twins are found with it.
+//! Before that, rows are tried, which tell at once where the graph is a tree but for multiple edges.
 ghost use Rattle.std.specs.Prelude.{◌≡◌, ℕ, ◌<◌, ◌≤◌, true, MatchOption, slice_index, if◌then◌else◌};
 ghost use Rattle.dg_theory.specs.Firing.{IsEffective};
 ghost use Rattle.dg_theory.specs.Multigraph.{Multigraph};
@@ -11,6 +12,7 @@ ghost use Rattle.dg_rank.specs.Losses.{HasSmallDegree};
 
 use crate::boxes::{Stopped, find_box_loss};
 use crate::enumeration::Trial;
+use crate::trees::{MAX_PLACES, find_tree_loss};
 use dg_burn::determining_set;
 use dg_graph::{Graph, MAX_VERTICES, contains, with_vertex};
 use dg_reduce::EffectiveDivisor;
@@ -18,12 +20,17 @@ use dg_reduce::EffectiveDivisor;
 /// So many boxes are searched on all vertices, before a determining set is made.
 const MAX_PLAIN_BOXES: u32 = 32;
 
+/// So many, once a graph is known for a tree of multiple edges: to fold its leaves takes as long as some boxes.
+const MAX_TREE_BOXES: u32 = 8;
+
 /// What is made of a graph once a search takes long, and kept for all searches of that graph: for each place the set of the
-/// vertices to ask, and 0 until it is made; and the twins of each vertex.
+/// vertices to ask, and 0 until it is made; the twins of each vertex; and whether rows have told, as they do of trees of multiple
+/// edges.
 #[derive(Clone, Copy)]
 pub(crate) struct Made {
     sets: [u16; 16],
     twins: Option<[u16; 16]>,
+    tree: Option<bool>,
 }
 
 impl Made {
@@ -34,6 +41,7 @@ impl Made {
         Made {
             sets: [0; 16],
             twins: None,
+            tree: None,
         }
     }
 
@@ -90,11 +98,23 @@ pub(crate) fn find_loss_from(
         (IsLossFrom graph.now (at left.now) dollars place) }
 {
     let size = graph.size();
-    let mut boxes = MAX_PLAIN_BOXES;
+    let mut boxes = if made.tree == Some(true) {
+        MAX_TREE_BOXES
+    } else {
+        MAX_PLAIN_BOXES
+    };
     let sets = &made.sets;
     if sets[place] == 0 {
         let room = box_on(vertices_from(size, place), dollars);
         if let Ok(found) = find_box_loss(graph, left, &[0; 16], &room, dollars, true, &mut boxes) {
+            return found;
+        }
+    }
+    if made.tree != Some(false) && (dollars as usize) < MAX_PLACES {
+        let room = box_on(vertices_from(size, place), dollars);
+        let told = find_tree_loss(graph, left, &room, dollars);
+        made.tree = Some(told.is_ok());
+        if let Ok(found) = told {
             return found;
         }
     }
@@ -120,7 +140,7 @@ fn box_on(set: u16, dollars: u32) -> [u32; 16]
 }
 
 /// The vertices from a place on.
-fn vertices_from(size: usize, place: usize) -> u16
+pub(crate) fn vertices_from(size: usize, place: usize) -> u16
     requires few { size ≤ MAX_VERTICES }
     requires place { place ≤ size }
     ensures part { (v : ℕ) → in_set result v ≡ true → (place ≤ v) × (v < size) }

@@ -14,6 +14,7 @@ mod numbers;
 mod pieces;
 mod rank_fault;
 mod ranks;
+mod trees;
 mod workers;
 
 pub use counting::{MAX_DEGREE, MAX_TRIALS, trial, trials};

@@ -13,6 +13,18 @@ returns-in-Ok-clause-told c =
     }))
     c.box_on-room.ensures c.in-Ok.ensures
 
+pub returns-in-Ok-told-clause-told : goal.returns-in-Ok-told-clause-told
+returns-in-Ok-told-clause-told c =
+    let g = c.args.graph.now in
+    told_from g (at c.args.left.now) c.args.place (in_set c.vertices_from-then-dollars-lt-MAX_PLACES.result)
+    c.box_on-room-then-dollars-lt-MAX_PLACES.result c.args.dollars
+    c.in-Ok-told.found c.size-size.ensures.graph.few (omega (arith, c.requires.place))
+    (all_determine g c.args.place (in_set c.vertices_from-then-dollars-lt-MAX_PLACES.result) (record {
+      part = rw c.size-size.ensures.size at c.vertices_from-then-dollars-lt-MAX_PLACES.ensures.part;
+      all = rw c.size-size.ensures.size at c.vertices_from-then-dollars-lt-MAX_PLACES.ensures.all;
+    }))
+    c.box_on-room-then-dollars-lt-MAX_PLACES.ensures (rw c.in-Ok-told.is at c.find_tree_loss-told.ensures)
+
 pub returns-clause-told : goal.returns-clause-told
 returns-clause-told c =
     let g = c.args.graph.now in

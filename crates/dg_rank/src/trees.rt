@@ -1,0 +1,283 @@
+//! A search for a loss on graphs that are trees but for multiple edges: leaf after leaf is folded into its only neighbour. What
+//! a vertex and all that is folded into it can bear is told by a row: the least that the vertex is left with once so many
+//! dollars are lost there, if nobody else there may stay in debt.
+ghost use Rattle.std.specs.Prelude.{◌≡◌, ℕ, ◌+◌, ◌-◌, ◌<◌, ◌≤◌, ℤ, pos, ◌+ℤ◌, ◌-ℤ◌, ◌*ℤ◌, ◌≤ℤ◌, true, ⊤, min, length, IfSome, MatchOption, MatchResult, slice_index};
+ghost use Rattle.std.specs.List.{slice_index_or};
+ghost use Rattle.dg_theory.specs.Firing.{IsEffective};
+ghost use Rattle.dg_theory.specs.Multigraph.{edges_between};
+ghost use Rattle.dg_theory.specs.Sets.{IsVertexSet};
+ghost use Rattle.dg_graph.specs.declared.graph.TheConstants.{MAX_VERTICES};
+ghost use Rattle.dg_graph.specs.Sets.{in_set};
+ghost use Rattle.dg_chips.specs.Vector.{at};
+ghost use Rattle.dg_rank.specs.Losses.{HasSmallDegree};
+ghost use Rattle.dg_rank.specs.Boxes.{BoxWins, IsBoxLoss};
+ghost use Rattle.dg_rank.specs.Trees.{worth, IsLeaf, IsOnlyIn, AreFolded, RowsWin, IsJoined, IsRounded};
+
+use crate::asked::vertices_from;
+use crate::boxes::{Stopped, find_box_loss};
+use crate::enumeration::Trial;
+use dg_graph::{
+    Graph, MAX_VERTICES, contains, intersection, least_vertex, with_vertex, without_vertex,
+};
+use dg_reduce::EffectiveDivisor;
+
+/// A row is of so many places: for no dollar, for one, and so on.
+pub(crate) const MAX_PLACES: usize = 64;
+
+/// A loss that rows name is looked for in the least box that holds it. There each box leads on to it, so a few are enough.
+const MAX_TRIED_BOXES: u32 = 64;
+
+/// The least that a vertex is left with, by the dollars that are lost there and in all that is folded into it.
+type Row = [i32; MAX_PLACES];
+
+/// A loss in a box, as `find_box_loss` finds it, by rows: for a tree of multiple edges. Only that all of the box can be lost
+/// rests on the rows; a loss that they name is looked for by boxes. It stops where the graph is no such tree, where a sum does
+/// not fit 32 bits, and where few boxes find no loss. It stands apart, so that no room is cleared for rows where few boxes tell.
+#[inline(never)]
+pub(crate) fn find_tree_loss(
+    graph: &Graph,
+    left: &EffectiveDivisor,
+    room: &[u32; 16],
+    dollars: u32,
+) -> Result<Option<Trial>, Stopped>
+    requires size { left.now.size ≡ graph.now.size }
+    requires effective { IsEffective graph.now.size (at left.now) }
+    requires small { HasSmallDegree graph.now.size (at left.now) }
+    requires few { dollars < MAX_PLACES }
+    ensures { MatchResult result
+        (λ found. MatchOption found
+        (BoxWins graph.now (at left.now) room.now dollars)
+        (IsBoxLoss graph.now (at left.now) room.now dollars))
+        (λ _. ⊤) }
+{
+    let size = graph.size();
+    let mut rows = unfolded_rows(left, room, dollars as usize);
+    let told = fold_leaves(
+        graph,
+        vertices_from(size, 0),
+        size - 1,
+        &mut rows,
+        dollars as usize,
+    )?;
+    let Some(losses) = told else {
+        return Ok(None);
+    };
+    let mut boxes = MAX_TRIED_BOXES;
+    let narrow = narrowed(room, &losses);
+    match find_box_loss(graph, left, &[0; 16], &narrow, dollars, true, &mut boxes)? {
+        Some(trial) => Ok(Some(trial)),
+        None => Err(Stopped),
+    }
+}
+
+/// The row of each vertex before anything is folded into it.
+fn unfolded_rows(left: &EffectiveDivisor, room: &[u32; 16], dollars: usize) -> [Row; 16]
+    requires size { left.now.size ≤ MAX_VERTICES }
+    requires small { HasSmallDegree left.now.size (at left.now) }
+    requires effective { IsEffective left.now.size (at left.now) }
+    requires few { dollars < MAX_PLACES }
+    ensures { (v t : ℕ) → v < left.now.size → t ≤ dollars →
+        worth result v t ≡ at left.now v -ℤ pos (min t (slice_index room.now v)) }
+{
+    let mut rows = [[0; MAX_PLACES]; 16];
+    for v in 0..left.size() {
+        rows[v] = unfolded_row(left.get(v), room[v], dollars);
+    }
+    rows
+}
+
+/// The row of a vertex into which nothing is folded, if it holds so much and as much may be lost there as there is room.
+fn unfolded_row(amount: i32, room: u32, dollars: usize) -> Row
+    requires low { pos 0 ≤ℤ amount }
+    requires few { dollars < MAX_PLACES }
+    ensures { (t : ℕ) → t ≤ dollars → slice_index_or result t (pos 0) ≡ amount -ℤ pos (min t room) }
+{
+    let mut row = [0; MAX_PLACES];
+    for t in 0..dollars + 1 {
+        row[t] = amount - (t as u32).min(room) as i32;
+    }
+    row
+}
+
+/// Folds the leaves of what is left of a graph, so many at most, until one vertex is left. `None` if its row then says that all
+/// can be lost; else a loss, which the rows tell without proof: what each vertex loses, folded or not. It stops where vertices
+/// are left and no leaf is among them.
+fn fold_leaves(
+    graph: &Graph,
+    unfolded: u16,
+    leaves: usize,
+    rows: &mut [Row; 16],
+    dollars: usize,
+) -> Result<Option<[u32; 16]>, Stopped>
+    requires vertices { IsVertexSet graph.now.size (in_set unfolded) }
+    requires folded { AreFolded graph.now (in_set unfolded) }
+    requires few { dollars < MAX_PLACES }
+    ensures { MatchResult result
+        (λ found. MatchOption found
+        (RowsWin graph.now (in_set unfolded) rows.old dollars)
+        (λ losses. (v : ℕ) → v < MAX_VERTICES → slice_index losses v ≤ dollars))
+        (λ _. ⊤) }
+{
+    let _size = graph.size();
+    if leaves == 0 {
+        let Some(root) = only_vertex(unfolded) else {
+            return Err(Stopped);
+        };
+        return Ok(losses_at(root, &rows[root], dollars));
+    }
+    let Some((leaf, parent)) = find_leaf(graph, unfolded) else {
+        return Err(Stopped);
+    };
+    let edges = graph.edges(leaf, parent);
+    let Some(joined) = join(&rows[parent], &rows[leaf], edges, dollars) else {
+        return Err(Stopped);
+    };
+    rows[parent] = joined.row;
+    let fewer = without_vertex(unfolded, leaf);
+    let Some(mut losses) = fold_leaves(graph, fewer, leaves - 1, rows, dollars)? else {
+        return Ok(None);
+    };
+    let part = joined.parts[losses[parent] as usize];
+    losses[parent] -= part;
+    losses[leaf] = part;
+    Ok(Some(losses))
+}
+
+/// A loss of the last vertex, with all that is folded into it, which leaves it in debt; `None` if there is none.
+fn losses_at(root: usize, row: &Row, dollars: usize) -> Option<[u32; 16]>
+    requires root { root < MAX_VERTICES }
+    requires few { dollars < MAX_PLACES }
+    ensures { MatchOption result
+        ((t : ℕ) → t ≤ dollars → pos 0 ≤ℤ slice_index_or row.now t (pos 0))
+        (λ losses. (v : ℕ) → v < MAX_VERTICES → slice_index losses v ≤ dollars) }
+{
+    for t in 0..dollars + 1 {
+        if row[t] < 0 {
+            let mut losses = [0; 16];
+            losses[root] = t as u32;
+            return Some(losses);
+        }
+    }
+    None
+}
+
+/// A leaf of what is left of a graph, and its only neighbour there.
+fn find_leaf(graph: &Graph, unfolded: u16) -> Option<(usize, usize)>
+    requires { IsVertexSet graph.now.size (in_set unfolded) }
+    ensures { IfSome result (λ l. IsLeaf graph.now (in_set unfolded) l.0 l.1) }
+{
+    for u in 0..graph.size() {
+        if contains(unfolded, u) {
+            if let Some(r) = only_vertex(intersection(neighbours(graph, u), unfolded)) {
+                return Some((u, r));
+            }
+        }
+    }
+    None
+}
+
+/// The vertices that a vertex has edges to.
+fn neighbours(graph: &Graph, v: usize) -> u16
+    requires { v < graph.now.size }
+    ensures part { (w : ℕ) → in_set result w ≡ true → 0 < edges_between graph.now v w }
+    ensures all { (w : ℕ) → w < graph.now.size → 0 < edges_between graph.now v w → in_set result w ≡ true }
+{
+    let row = graph.row(v);
+    let mut set = 0;
+    for w in 0..graph.size() {
+        if row[w] > 0 {
+            set = with_vertex(set, w);
+        }
+    }
+    set
+}
+
+/// The vertex of a set that has no other.
+fn only_vertex(set: u16) -> Option<usize>
+    ensures { IfSome result (IsOnlyIn (in_set set)) }
+{
+    let v = least_vertex(set)?;
+    if without_vertex(set, v) != 0 {
+        return None;
+    }
+    Some(v)
+}
+
+/// A vertex's row once a leaf is folded into it, and how many of the dollars of each place are then lost at the leaf.
+#[derive(Drop)]
+struct Joined {
+    row: Row,
+    parts: [u32; MAX_PLACES],
+}
+
+/// Folds a leaf into its neighbour: of what the leaf is left with, whole rounds go along the edges; and it pays its debt so.
+/// `None` past 32 bits.
+fn join(parent: &Row, leaf: &Row, edges: u8, dollars: usize) -> Option<Joined>
+    requires some { 0 < edges }
+    requires few { dollars < MAX_PLACES }
+    ensures row { IfSome result (λ j. IsJoined edges dollars parent.now leaf.now j.row) }
+    ensures parts { IfSome result (λ j. (t : ℕ) → t ≤ dollars → slice_index j.parts t ≤ t) }
+{
+    let rounds = rounded(leaf, edges, dollars)?;
+    let mut row = [0; MAX_PLACES];
+    let mut parts = [0; MAX_PLACES];
+    for t in 0..dollars + 1 {
+        let (least, part) = least_sum(parent, &rounds, t)?;
+        row[t] = least;
+        parts[t] = part as u32;
+    }
+    Some(Joined { row, parts })
+}
+
+/// The amounts of a row rounded down to whole rounds of dollars, one along each edge; `None` past 32 bits.
+fn rounded(row: &Row, edges: u8, dollars: usize) -> Option<Row>
+    requires some { 0 < edges }
+    requires few { dollars < MAX_PLACES }
+    ensures { IfSome result (λ rounds. (t : ℕ) → t ≤ dollars →
+        IsRounded edges (slice_index_or row.now t (pos 0)) (slice_index_or rounds t (pos 0))) }
+{
+    let mut rounds = [0; MAX_PLACES];
+    for t in 0..dollars + 1 {
+        rounds[t] = whole_rounds(row[t], edges)?;
+    }
+    Some(rounds)
+}
+
+/// An amount rounded down to whole rounds of dollars, one along each edge; `None` past 32 bits.
+fn whole_rounds(amount: i32, edges: u8) -> Option<i32>
+    requires { 0 < edges }
+    ensures { IfSome result (IsRounded edges amount) }
+{
+    let once = i32::from(edges);
+    once.checked_mul(amount.div_euclid(once))
+}
+
+/// The least sum of a number of each of two rows, at places that add up to a place; and the place in the second.
+fn least_sum(first: &Row, second: &Row, place: usize) -> Option<(i32, usize)>
+    requires { place < MAX_PLACES }
+    ensures least { IfSome result (λ s. (b : ℕ) → b ≤ place → s.0
+        ≤ℤ (slice_index_or first.now (place - b) (pos 0) +ℤ slice_index_or second.now b (pos 0))) }
+    ensures part { IfSome result (λ s. s.1 ≤ place) }
+{
+    let mut least = first[place].checked_add(second[0])?;
+    let mut part = 0;
+    for b in 1..place + 1 {
+        let sum = first[place - b].checked_add(second[b])?;
+        if sum < least {
+            least = sum;
+            part = b;
+        }
+    }
+    Some((least, part))
+}
+
+/// The room of a box, where it is more than the losses at a vertex narrowed to these.
+fn narrowed(room: &[u32; 16], losses: &[u32; 16]) -> [u32; 16]
+    ensures { (v : ℕ) → slice_index result v ≤ slice_index room.now v }
+{
+    let mut narrow = *room;
+    for v in 0..MAX_VERTICES {
+        narrow[v] = narrow[v].min(losses[v]);
+    }
+    narrow
+}
