@@ -67,8 +67,8 @@ fn push_bool<A: Allocator>(text: &mut Vec<u8, A>, holds: bool) -> Result<(), All
     }
 }
 
-/// So many times ` NA`.
-fn push_marks<A: Allocator>(text: &mut Vec<u8, A>, count: usize) -> Result<(), AllocError>
+/// So many times ` NA`, the mark for a number that there is not.
+pub fn push_marks<A: Allocator>(text: &mut Vec<u8, A>, count: usize) -> Result<(), AllocError>
     ensures { OnOk result (text.new.items ≡ text.old.items ++ marks count) }
 {
     'marks: for _ in 0..count {

@@ -15,7 +15,7 @@ mod steps_file;
 mod text;
 mod word;
 
-pub use columns::{push_rank_row, push_verdict_row};
+pub use columns::{push_marks, push_rank_row, push_verdict_row};
 pub use cuts::cut;
 pub use judgement::push_judgement;
 pub use laws::{line_meaning_is_unique, numerals_are_decimals, step_meaning_is_unique};

@@ -21,8 +21,8 @@ pub use Rattle.dg_session.specs.declared.ends.SessionEnd.{SessionEnd}
 pub use Rattle.dg_session.specs.declared.ends.SessionEnd.TheVariants.{Table}
 pub use Rattle.dg_session.specs.declared.line_format.LineFormat.{LineFormat}
 pub use Rattle.dg_session.specs.declared.line_format.LineFormat.TheVariants.{BySeat, OneSeat}
-pub use Rattle.dg_sweep.specs.Answers.{AnswersTableWithin}
-pub use Rattle.dg_sweep.specs.Divisors.{AnswersAmounts}
+pub use Rattle.dg_sweep.specs.Answers.{Rule, of_tables}
+pub use Rattle.dg_sweep.specs.Divisors.{of_amounts}
 pub use Rattle.dg_sweep.specs.Sweeps.{IsSweep}
 pub use Rattle.dg_sweep.specs.declared.ends.SweepEnd.{SweepEnd}
 pub use Rattle.dg_system.specs.AllHeld.{IsFirstUnread, MayHoldAll}

@@ -26,9 +26,9 @@ pub use Rattle.dg_lines.specs.Streams.{BeginsWithLines, HasNoNewline, LinesHaveC
 pub use Rattle.dg_lines.specs.Texts.{verdict_text}
 pub use Rattle.dg_rank.proofs.Numbering.{past_within}
 pub use Rattle.dg_sweep.specs.AnswerLaws.{AmountsHaveOneAnswer, AmountsMeaningIsUnique, TablesHaveOneAnswer}
-pub use Rattle.dg_sweep.specs.Answers.{AnswersLine, AnswersRankLine, AnswersTable, AnswersTableWithin, AreRanks, IsBelow, IsRefusalOf, IsTested, rank_line, ranks_line, refusal_line}
+pub use Rattle.dg_sweep.specs.Answers.{AnswersLine, Rule, columns, missing, of_tables, AnswersRankLine, AnswersTable, AnswersTableWithin, AreRanks, IsBelow, IsRefusalOf, IsTested, rank_line, ranks_line, refusal_line}
 pub use Rattle.dg_sweep.specs.DivisorLaws.{with_amounts}
-pub use Rattle.dg_sweep.specs.Divisors.{AnswersAmounts, LineStandsFor, IsAmountsFault, SpellsAmounts, SpellsNoAmounts}
+pub use Rattle.dg_sweep.specs.Divisors.{AnswersAmounts, of_amounts, LineStandsFor, IsAmountsFault, SpellsAmounts, SpellsNoAmounts}
 pub use Rattle.dg_sweep.specs.FaultTexts.{file_fault_words}
 pub use Rattle.dg_sweep.specs.Pieces.{AnswersPiece, IsAnswered, LeadsPiece}
 pub use Rattle.dg_sweep.specs.Steps.{AnswersFront, AnswersLast, EndsWithNewline, KeepsPart, PassesAnswers, StandsForPart, TakesBytes}

@@ -2,7 +2,7 @@
 --   answer_once    a table has one answer
 --   table_once, amounts_once   so has a line of a table, and one of amounts
 --   tables_have_one_answer, amounts_answer_is_unique   the laws of dg_sweep
-use Rattle.dg_sweep.proofs.Common.{◌≡◌, ℕ, ◌<◌, inl, inr, List, ◌++◌, length, codes, sym, ap, ◌∙◌, arith, subst, Multigraph, IsMultigraph, minus, canonical, rank_once, StartData, IsStart, at, IsRightRank, RankVerdict, AtLeast, Below, false, refl, loss_bounds_rank, past_within, FileMeaningIsUnique, IsFileFault, FileFault, Form, Words, Numbers, Question, Judge, Rank, RiemannRoch, TablesHaveOneAnswer, AmountsHaveOneAnswer, IsTested, IsBelow, AnswersRankLine, rank_line, ranks_line, AreRanks, AnswersTable, refusal_line, IsRefusalOf, AnswersTableWithin, AnswersLine, IsAmountsFault, AnswersAmounts, file_fault_words}
+use Rattle.dg_sweep.proofs.Common.{◌≡◌, ℕ, ◌<◌, inl, inr, List, ◌++◌, length, codes, sym, ap, ◌∙◌, arith, subst, Multigraph, IsMultigraph, minus, canonical, rank_once, StartData, IsStart, at, IsRightRank, RankVerdict, AtLeast, Below, false, refl, loss_bounds_rank, past_within, FileMeaningIsUnique, IsFileFault, FileFault, Form, Words, Numbers, Question, Judge, Rank, RiemannRoch, TablesHaveOneAnswer, AmountsHaveOneAnswer, IsTested, IsBelow, AnswersRankLine, rank_line, ranks_line, AreRanks, AnswersTable, refusal_line, IsRefusalOf, AnswersTableWithin, AnswersLine, Rule, columns, of_tables, of_amounts, IsAmountsFault, AnswersAmounts, file_fault_words}
 use Rattle.std.proofs.Math.IntN.{ℤ}
 use Rattle.dg_lines.proofs.Given.{vertex_named}
 use Rattle.dg_sweep.proofs.OneMeaning.{amounts_meaning_is_unique}
@@ -63,24 +63,24 @@ module _ (o : StartData) (names : List (List ℕ)) (graph : IsMultigraph o.graph
   answer_once (Rank k form) text other a b = rank_once_more k form text other a b
   answer_once (RiemannRoch form) text other a b = ranks_once form text other a b
 
-refused_once : (refuses : FileFault → Type 0) (text other : List ℕ) (a : IsRefusalOf refuses text)
-    (b : IsRefusalOf refuses other) → a.fault ≡ b.fault → text ≡ other
-refused_once refuses text other a b same =
-    a.printed ∙ ap (λ (f : FileFault). refusal_line (file_fault_words f)) same ∙ sym b.printed
+refused_once : (refuses : FileFault → Type 0) (n : ℕ) (text other : List ℕ) (a : IsRefusalOf refuses n text)
+    (b : IsRefusalOf refuses n other) → a.fault ≡ b.fault → text ≡ other
+refused_once refuses n text other a b same =
+    a.printed ∙ ap (λ (f : FileFault). refusal_line n (file_fault_words f)) same ∙ sym b.printed
 
-line_once : (right : List ℕ → List ℕ → Type 0) (line : List ℕ)
-    → ((text other : List ℕ) → right line text → right line other → text ≡ other) → (text other : List ℕ)
-    → AnswersLine right line text → AnswersLine right line other → text ≡ other
-line_once right line once text other (inl (long, a)) (inl (long', b)) = a ∙ sym b
-line_once right line once text other (inl (long, a)) (inr (short, b)) = absurd (omega (arith, long, short))
-line_once right line once text other (inr (short, a)) (inl (long, b)) = absurd (omega (arith, long, short))
-line_once right line once text other (inr (short, a)) (inr (short', b)) = once text other a b
+line_once : (rule : Rule) (line : List ℕ)
+    → ((text other : List ℕ) → rule.answers line text → rule.answers line other → text ≡ other) → (text other : List ℕ)
+    → AnswersLine rule line text → AnswersLine rule line other → text ≡ other
+line_once rule line once text other (inl (long, a)) (inl (long', b)) = a ∙ sym b
+line_once rule line once text other (inl (long, a)) (inr (short, b)) = absurd (omega (arith, long, short))
+line_once rule line once text other (inr (short, a)) (inl (long, b)) = absurd (omega (arith, long, short))
+line_once rule line once text other (inr (short, a)) (inr (short', b)) = once text other a b
 
 module _ (question : Question) where
   table_once : FileMeaningIsUnique → (line text other : List ℕ) → AnswersTableWithin question line text
       → AnswersTableWithin question line other → text ≡ other
   table_once files line text other (inl a) (inl b) =
-      refused_once (IsFileFault line) text other a b
+      refused_once (IsFileFault line) (columns question 0) text other a b
       (files.fault line a.fault b.fault a.found b.found a.refused b.refused)
   table_once files line text other (inl a) (inr b) =
       absurd (files.refused line a.fault b.start b.names a.found a.refused b.table)
@@ -99,7 +99,7 @@ module _ (question : Question) where
   amounts_once : (o : StartData) (names : List (List ℕ)) (line text other : List ℕ) → IsStart o → length names ≡ o.graph.size
       → AnswersAmounts question o names line text → AnswersAmounts question o names line other → text ≡ other
   amounts_once o names line text other start fit (inl a) (inl b) =
-      refused_once (IsAmountsFault o.graph.size line) text other a b
+      refused_once (IsAmountsFault o.graph.size line) (columns question o.graph.size) text other a b
       (amounts_meaning_is_unique.fault o.graph.size line a.fault b.fault a.found b.found a.refused b.refused)
   amounts_once o names line text other start fit (inl a) (inr b) =
       absurd (amounts_meaning_is_unique.refused o b.start line a.fault a.found a.refused b.stands)
@@ -116,9 +116,9 @@ module _ (question : Question) where
 
 pub tables_have_one_answer : FileMeaningIsUnique → TablesHaveOneAnswer
 tables_have_one_answer files question line text other =
-    line_once (AnswersTableWithin question) line (table_once question files line) text other
+    line_once (of_tables question) line (table_once question files line) text other
 
 pub amounts_answer_is_unique : AmountsHaveOneAnswer
 amounts_answer_is_unique question o names line text other start fit =
-    line_once (AnswersAmounts question o names) line
+    line_once (of_amounts question o names) line
     (λ text other. amounts_once question o names line text other start fit) text other

@@ -9,74 +9,74 @@
 --   takes_no_end, takes_end    the end
 use Rattle.dg_sweep.proofs.Common.{◌≡◌, ◌≢◌, ℕ, ◌+◌, ◌-◌, ◌≤◌, take, drop, inl, inr, List, [], ◌∷◌, ◌++◌, length, refl, sym, ap, subst, ◌∙◌, arith, append_assoc, append-nil, flat_map, All-append, All-head, All-tail, take-append_seam, take-append-drop, AnswersLine, HasNoNewline, BeginsWithLines, with_newline, last_line, begins_none, begins_one, begins_more, begins_then, StandsForPart, KeepsPart, AnswersFront, EndsWithNewline, TakesBytes, AnswersLast}
 use Rattle.std.proofs.Common.{length-append}
-use Rattle.dg_sweep.specs.Answers.{AnswersLines}
+use Rattle.dg_sweep.specs.Answers.{AnswersLines, Rule}
 
-pub answers_none : (right : List ℕ → List ℕ → Type 0) → AnswersLines right [] []
+pub answers_none : (rule : Rule) → AnswersLines rule [] []
 unfolding AnswersLines
-answers_none right = refl
+answers_none rule = refl
 
-pub answers_more : (right : List ℕ → List ℕ → Type 0) (ls ls' : List (List ℕ)) (t t' : List ℕ)
-    → AnswersLines right ls t → AnswersLines right ls' t'
-    → AnswersLines right (ls ++ ls') (t ++ t')
+pub answers_more : (rule : Rule) (ls ls' : List (List ℕ)) (t t' : List ℕ)
+    → AnswersLines rule ls t → AnswersLines rule ls' t'
+    → AnswersLines rule (ls ++ ls') (t ++ t')
 unfolding AnswersLines
-answers_more right [] ls' t t' p q =
-    subst (λ text. AnswersLines right ls' text) (sym (ap (λ text. text ++ t') p)) q
-answers_more right (line ∷ ls) ls' t t' p q =
+answers_more rule [] ls' t t' p q =
+    subst (λ text. AnswersLines rule ls' text) (sym (ap (λ text. text ++ t') p)) q
+answers_more rule (line ∷ ls) ls' t t' p q =
     let (front, back, answer, more, text) = p in (
       front,
       back ++ t',
       answer,
-      answers_more right ls ls' back t' more q,
+      answers_more rule ls ls' back t' more q,
       ap (λ l. l ++ t') text ∙ append_assoc front back t',
     )
 
-pub answers_one : (right : List ℕ → List ℕ → Type 0) (line t : List ℕ) → AnswersLine right line t
-    → AnswersLines right (line ∷ []) t
+pub answers_one : (rule : Rule) (line t : List ℕ) → AnswersLine rule line t
+    → AnswersLines rule (line ∷ []) t
 unfolding AnswersLines
-answers_one right line t p = (t, [], p, refl, sym (append-nil t))
+answers_one rule line t p = (t, [], p, refl, sym (append-nil t))
 
 begins_line : (bytes line rest : List ℕ) → HasNoNewline line → bytes ≡ line ++ 10 ∷ rest
     → BeginsWithLines HasNoNewline bytes (line ∷ []) rest
 begins_line bytes line rest none e = subst (λ l. BeginsWithLines HasNoNewline l (line ∷ []) rest) (sym e) (begins_one rest none)
 
 -- the lines of bytes, up to what is left of them
-pub record IsSoFar (right : List ℕ → List ℕ → Type 0) (bytes rest old new : List ℕ) : Type 0 where
+pub record IsSoFar (rule : Rule) (bytes rest old new : List ℕ) : Type 0 where
   pub ls : List (List ℕ)
   pub cut : BeginsWithLines HasNoNewline bytes ls rest
   pub few : length ls + length rest ≤ length bytes
   pub said : List ℕ
-  pub answers : AnswersLines right ls said
+  pub answers : AnswersLines rule ls said
   pub text : new ≡ old ++ said
 
-pub so_far_none : (right : List ℕ → List ℕ → Type 0) (bytes text : List ℕ) → IsSoFar right bytes bytes text text
-so_far_none right bytes text = record {
+pub so_far_none : (rule : Rule) (bytes text : List ℕ) → IsSoFar rule bytes bytes text text
+so_far_none rule bytes text = record {
   ls = [];
   cut = begins_none bytes;
   few = omega arith;
   said = [];
-  answers = answers_none right;
+  answers = answers_none rule;
   text = sym (append-nil text);
 }
 
-pub so_far_line : (right : List ℕ → List ℕ → Type 0) (bytes rest old new line rest' answer new' : List ℕ)
-    → IsSoFar right bytes rest old new
-    → HasNoNewline line → rest ≡ line ++ 10 ∷ rest' → AnswersLine right line answer → new' ≡ new ++ answer
-    → IsSoFar right bytes rest' old new'
-so_far_line right bytes rest old new line rest' answer new' far none e answered grown = record {
+pub so_far_line : (rule : Rule) (bytes rest old new line rest' answer new' : List ℕ)
+    → IsSoFar rule bytes rest old new
+    → HasNoNewline line → rest ≡ line ++ 10 ∷ rest' → AnswersLine rule line answer → new' ≡ new ++ answer
+    → IsSoFar rule bytes rest' old new'
+so_far_line rule bytes rest old new line rest' answer new' far none e answered grown = record {
   ls = far.ls ++ line ∷ [];
   cut = begins_then far.cut (begins_line rest line rest' none e);
   few = let size = length-append far.ls (line ∷ []) in let left = length-append line (10 ∷ rest') in
       omega (arith, size, left, ap length e, far.few);
   said = far.said ++ answer;
-  answers = answers_more right far.ls (line ∷ []) far.said answer far.answers
-      (answers_one right line answer answered);
+  answers = answers_more rule far.ls (line ∷ []) far.said answer far.answers
+      (answers_one rule line answer answered);
   text = grown ∙ ap (λ l. l ++ answer) far.text ∙ append_assoc old far.said answer;
 }
 
-pub so_far_rest : (right : List ℕ → List ℕ → Type 0) (bytes rest old new line : List ℕ) → IsSoFar right bytes rest old new
-    → HasNoNewline line → rest ≡ line ++ [] → (said : List ℕ) × AnswersFront right bytes line said
+pub so_far_rest : (rule : Rule) (bytes rest old new line : List ℕ) → IsSoFar rule bytes rest old new
+    → HasNoNewline line → rest ≡ line ++ [] → (said : List ℕ) × AnswersFront rule bytes line said
     × (new ≡ old ++ said)
-so_far_rest right bytes rest old new line far none e = (
+so_far_rest rule bytes rest old new line far none e = (
   far.said,
   record {
     ls = far.ls;
@@ -127,13 +127,13 @@ front_ends bytes early later part after n e1 e2 e =
     ap (λ n. take n bytes) size ∙ ap (take (length front)) whole ∙ take-append_seam front after in
     (omega (arith, ap length whole, sum), (early ++ part, same), whole ∙ ap (λ l. l ++ after) (sym same))
 
-pub pieces_both : (right : List ℕ → List ℕ → Type 0) (bytes front back rest rest' last said said' text : List ℕ)
+pub pieces_both : (rule : Rule) (bytes front back rest rest' last said said' text : List ℕ)
     → EndsWithNewline front
     → bytes ≡ front ++ back
-    → AnswersFront right front rest said → AnswersFront right back rest' said' → last ≡ rest'
+    → AnswersFront rule front rest said → AnswersFront rule back rest' said' → last ≡ rest'
     → text ≡ said ++ said'
-    → AnswersFront right bytes last text
-pieces_both right bytes front back rest rest' last said said' text ends e here there left both =
+    → AnswersFront rule bytes last text
+pieces_both rule bytes front back rest rest' last said said' text ends e here there left both =
     let none : rest ≡ [] = nothing_left front rest here.ls here.cut here.no_newline ends in
     let cut : BeginsWithLines HasNoNewline front here.ls [] = subst
     (λ l. BeginsWithLines HasNoNewline front here.ls l) none here.cut in
@@ -146,8 +146,8 @@ pieces_both right bytes front back rest rest' last said said' text ends e here t
       no_newline = subst HasNoNewline (sym left) there.no_newline;
       few = let size = length-append front back in let lines = length-append here.ls there.ls in
           omega (arith, ap length e, size, lines, here.few, there.few);
-      answers = subst (AnswersLines right (here.ls ++ there.ls)) (sym both)
-          (answers_more right here.ls there.ls said said' here.answers there.answers);
+      answers = subst (AnswersLines rule (here.ls ++ there.ls)) (sym both)
+          (answers_more rule here.ls there.ls said said' here.answers there.answers);
     }
 
 -- what is pending still stands for the part of the line, with more of it
@@ -171,21 +171,21 @@ stands_more old more new part stands none kept = record {
 }
 
 -- what stands for a line is answered as it
-same_answer : (right : List ℕ → List ℕ → Type 0) (pending part text : List ℕ) → StandsForPart pending part
-    → AnswersLine right pending text
-    → AnswersLine right part text
-same_answer right pending part text stands answered = elim stands.same [
-  | inl e ↦ subst (λ l. AnswersLine right l text) e answered
+same_answer : (rule : Rule) (pending part text : List ℕ) → StandsForPart pending part
+    → AnswersLine rule pending text
+    → AnswersLine rule part text
+same_answer rule pending part text stands answered = elim stands.same [
+  | inl e ↦ subst (λ l. AnswersLine rule l text) e answered
   | inr long ↦ elim answered [
     | inl refused ↦ inl (long.1, refused.1)
     | inr short ↦ absurd (omega (arith, long.0, short.0))
   ]
 ]
 
-pub takes_part : (right : List ℕ → List ℕ → Type 0) (old bytes part new text : List ℕ) → text ≡ [] → HasNoNewline part
+pub takes_part : (rule : Rule) (old bytes part new text : List ℕ) → text ≡ [] → HasNoNewline part
     → bytes ≡ part ++ [] → KeepsPart old part new
-    → TakesBytes right old bytes new text
-takes_part right old bytes part new text unsaid none e kept p stands =
+    → TakesBytes rule old bytes new text
+takes_part rule old bytes part new text unsaid none e kept p stands =
     let whole : part ≡ bytes = sym (e ∙ append-nil part) in
     record {
       ls = [];
@@ -193,16 +193,16 @@ takes_part right old bytes part new text unsaid none e kept p stands =
       cut = begins_none (p ++ bytes);
       stands = subst (λ l. StandsForPart new (p ++ l)) whole (stands_more old part new p stands none kept);
       few = omega arith;
-      answers = subst (AnswersLines right []) (sym unsaid) (answers_none right);
+      answers = subst (AnswersLines rule []) (sym unsaid) (answers_none rule);
     }
 
-pub takes_lines : (right : List ℕ → List ℕ → Type 0) (old bytes part after mid first text rest new : List ℕ) → HasNoNewline part
+pub takes_lines : (rule : Rule) (old bytes part after mid first text rest new : List ℕ) → HasNoNewline part
     → bytes ≡ part ++ 10 ∷ after
-    → KeepsPart old part mid → (line : List ℕ) → line ≡ mid → AnswersLine right line first
-    → (said : List ℕ) × AnswersFront right after rest said × (text ≡ first ++ said) → (empty : List ℕ) → empty ≡ []
+    → KeepsPart old part mid → (line : List ℕ) → line ≡ mid → AnswersLine rule line first
+    → (said : List ℕ) × AnswersFront rule after rest said × (text ≡ first ++ said) → (empty : List ℕ) → empty ≡ []
     → KeepsPart empty rest new
-    → TakesBytes right old bytes new text
-takes_lines right old bytes part after mid first text rest new none e kept shown is_mid answered lines empty is_empty
+    → TakesBytes rule old bytes new text
+takes_lines rule old bytes part after mid first text rest new none e kept shown is_mid answered lines empty is_empty
     kept' p stands =
     let (said, front, grown) = lines in
     let line = p ++ part in
@@ -214,11 +214,11 @@ takes_lines right old bytes part after mid first text rest new none e kept shown
       cut = begins_then (begins_line (p ++ bytes) line after is_line.no_newline cut) front.cut;
       stands = stands_alone rest new front.no_newline (subst (λ l. KeepsPart l rest new) is_empty kept');
       few = let size = length-append part (10 ∷ after) in omega (arith, ap length e, size, front.few);
-      answers = subst (AnswersLines right (line ∷ front.ls)) (sym grown)
-          (answers_more right (line ∷ []) front.ls first said
-          (answers_one right line first
-          (same_answer right mid line first is_line
-          (subst (λ l. AnswersLine right l first) is_mid answered))) front.answers);
+      answers = subst (AnswersLines rule (line ∷ front.ls)) (sym grown)
+          (answers_more rule (line ∷ []) front.ls first said
+          (answers_one rule line first
+          (same_answer rule mid line first is_line
+          (subst (λ l. AnswersLine rule l first) is_mid answered))) front.answers);
     }
   where
     stands_alone : (rest new : List ℕ) → HasNoNewline rest → KeepsPart [] rest new → StandsForPart new rest
@@ -231,23 +231,23 @@ pub nothing : (xs : List ℕ) → length xs ≡ 0 → xs ≡ []
 nothing [] e = refl
 nothing (x ∷ xs) e = absurd (omega (arith, e))
 
-pub takes_no_end : (right : List ℕ → List ℕ → Type 0) (pending text : List ℕ) → text ≡ [] → pending ≡ []
-    → AnswersLast right pending text
-takes_no_end right pending text unsaid e part stands = elim stands.same [
+pub takes_no_end : (rule : Rule) (pending text : List ℕ) → text ≡ [] → pending ≡ []
+    → AnswersLast rule pending text
+takes_no_end rule pending text unsaid e part stands = elim stands.same [
   | inl same ↦
-      subst (λ l. AnswersLines right (last_line l) text) (sym e ∙ same)
-      (subst (AnswersLines right []) (sym unsaid) (answers_none right))
+      subst (λ l. AnswersLines rule (last_line l) text) (sym e ∙ same)
+      (subst (AnswersLines rule []) (sym unsaid) (answers_none rule))
   | inr long ↦ absurd (omega (arith, ap length e, long.0))
 ]
 
-pub takes_end : (right : List ℕ → List ℕ → Type 0) (pending text shown : List ℕ) → pending ≢ [] → shown ≡ pending
-    → AnswersLine right shown text
-    → AnswersLast right pending text
-takes_end right pending text shown some is_pending answered [] stands = elim stands.same [
+pub takes_end : (rule : Rule) (pending text shown : List ℕ) → pending ≢ [] → shown ≡ pending
+    → AnswersLine rule shown text
+    → AnswersLast rule pending text
+takes_end rule pending text shown some is_pending answered [] stands = elim stands.same [
   | inl same ↦ absurd (some same)
   | inr long ↦ absurd (omega (arith, long.1))
 ]
-takes_end right pending text shown some is_pending answered (byte ∷ part) stands =
-    answers_one right (byte ∷ part) text
-    (same_answer right pending (byte ∷ part) text stands
-    (subst (λ l. AnswersLine right l text) is_pending answered))
+takes_end rule pending text shown some is_pending answered (byte ∷ part) stands =
+    answers_one rule (byte ∷ part) text
+    (same_answer rule pending (byte ∷ part) text stands
+    (subst (λ l. AnswersLine rule l text) is_pending answered))

@@ -7,7 +7,7 @@ use Rattle.std.specs.Prelude.{◌≡◌, ◌≢◌, ℕ, List, length}
 use Rattle.dg_chips.specs.Starts.{IsStart}
 use Rattle.dg_sweep.specs.Common.{StartData, FileFault, OutOfMemory, Question}
 use Rattle.dg_sweep.specs.Answers.{AnswersLine, AnswersTableLine}
-use Rattle.dg_sweep.specs.Divisors.{LineStandsFor, IsAmountsFault, AnswersAmounts}
+use Rattle.dg_sweep.specs.Divisors.{LineStandsFor, IsAmountsFault, of_amounts}
 
 abbrev pub TablesHaveOneAnswer : Type 0
 TablesHaveOneAnswer =
@@ -18,8 +18,8 @@ abbrev pub AmountsHaveOneAnswer : Type 0
 AmountsHaveOneAnswer =
     (question : Question) (o : StartData) (names : List (List ℕ)) (line text other : List ℕ)
     → IsStart o → length names ≡ o.graph.size
-    → AnswersLine (AnswersAmounts question o names) line text
-    → AnswersLine (AnswersAmounts question o names) line other → text ≡ other
+    → AnswersLine (of_amounts question o names) line text
+    → AnswersLine (of_amounts question o names) line other → text ≡ other
 
 pub record AmountsMeaningIsUnique : Type 0 where
   pub start : (o p r : StartData) (line : List ℕ) → LineStandsFor o line p → LineStandsFor o line r

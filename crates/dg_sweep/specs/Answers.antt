@@ -17,19 +17,28 @@
 --   AreRanks o form text                  == the text is that of the rank of the amounts and that of their
 --                                            residual
 --   AnswersTable question o names text    == the text answers the question for the start o with these names
---   refusal_line words                    == `refused`, the words and a newline
---   IsRefusalOf refuses text              == there is a fault that refuses, and the text says which
+--   columns question n                    == how many columns of numbers an answer for n vertices has, and 0
+--                                            if it is in words
+--   missing n                             == n columns without a number, and a mark before what is no number;
+--                                            nothing for answers in words, which have 0 columns
+--   refusal_line n words                  == n columns without a number, `refused`, the words and a newline
+--   IsRefusalOf refuses n text            == there is a fault that refuses, and the text says which, with n
+--                                            columns
 --   AnswersDescribed question line text   == the line describes a table, and the text answers the question
 --                                            for it
 --   AnswersTableWithin question line text == the line describes a table, and the text answers the question
---                                            for it; or it is refused as a table, and the text says why
---   AnswersLine right line text           == the text answers the line; a longer one than a line may be is
+--                                            for it; or it is refused as a table, of which nobody knows the
+--                                            vertices, and the text says why
+--   Rule                                  == how lines are answered: in how many columns one is refused, and
+--                                            which texts answer one that is no longer than a line may be
+--   of_tables question                    == so are the lines that are tables
+--   AnswersLine rule line text            == the text answers the line; a longer one than a line may be is
 --                                            refused unread
 --   AnswersTableLine question line text   == the text answers the line of a table so
---   AnswersLines right ls text            == the text is the answers to the lines ls, one after another
-use Rattle.std.specs.Prelude.{◌≡◌, ◌≢◌, ℕ, ◌<◌, ◌≤◌, ◌⊎◌, ℤ, true, false, List, [], ◌∷◌, ◌++◌, None, Some, length, codes, decimal}
+--   AnswersLines rule ls text             == the text is the answers to the lines ls, one after another
+use Rattle.std.specs.Prelude.{◌≡◌, ◌≢◌, ℕ, zero, suc, ◌+◌, ◌<◌, ◌≤◌, ◌⊎◌, ℤ, true, false, List, [], ◌∷◌, ◌++◌, None, Some, length, codes, decimal}
 use Rattle.std.specs.Fmt.{signed_decimal}
-use Rattle.dg_sweep.specs.Common.{genus, degree, minus, canonical, HasRankAtLeast, IsRank, StartData, at, IsPastLimits, IsRightRank, IsTestable, RankVerdict, AtLeast, Below, IsJudgementText, IsVerdictOn, Verdict, rank_row, verdict_row, text_of, IsTableFile, IsFileFault, FileFault, OutOfMemory, Form, Words, Numbers, Question, Judge, Rank, RiemannRoch}
+use Rattle.dg_sweep.specs.Common.{genus, degree, minus, canonical, HasRankAtLeast, IsRank, StartData, at, IsPastLimits, IsRightRank, IsTestable, RankVerdict, AtLeast, Below, IsJudgementText, IsVerdictOn, Verdict, marks, rank_row, verdict_row, text_of, IsTableFile, IsFileFault, FileFault, OutOfMemory, Form, Words, Numbers, Question, Judge, Rank, RiemannRoch}
 use Rattle.dg_invocation.specs.declared.question.VerdictForm.TheVariants as verdict
 use Rattle.dg_rules.specs.declared.entry.Reply.TheVariants.{Rank as Tested}
 use Rattle.dg_sweep.specs.FaultTexts.{file_fault_words}
@@ -95,14 +104,26 @@ AnswersTable (Judge verdict.Numbers) o names text = IsVerdictRow o text
 AnswersTable (Rank k form) o names text = AnswersRankLine o k form names text
 AnswersTable (RiemannRoch form) o names text = AreRanks o form text
 
-abbrev pub refusal_line : List ℕ → List ℕ
-refusal_line words = codes "refused " ++ words ++ codes "\n"
+abbrev pub columns : Question → ℕ → ℕ
+columns (Judge (verdict.Words ordered)) n = 0
+columns (Judge verdict.Numbers) n = 1 + (n + n)
+columns (Rank k Words) n = 0
+columns (Rank k Numbers) n = 1 + n
+columns (RiemannRoch Words) n = 0
+columns (RiemannRoch Numbers) n = 4
 
-pub record IsRefusalOf (refuses : FileFault → Type 0) (text : List ℕ) : Type 0 where
+unfoldable pub missing : ℕ → List ℕ
+missing zero = []
+missing (suc n) = codes "NA" ++ marks n ++ codes " # "
+
+abbrev pub refusal_line : ℕ → List ℕ → List ℕ
+refusal_line n words = missing n ++ codes "refused " ++ words ++ codes "\n"
+
+pub record IsRefusalOf (refuses : FileFault → Type 0) (n : ℕ) (text : List ℕ) : Type 0 where
   pub fault : FileFault
   pub found : fault ≢ OutOfMemory
   pub refused : refuses fault
-  pub printed : text ≡ refusal_line (file_fault_words fault)
+  pub printed : text ≡ refusal_line n (file_fault_words fault)
 
 pub record AnswersDescribed (question : Question) (line text : List ℕ) : Type 0 where
   pub start : StartData
@@ -112,18 +133,25 @@ pub record AnswersDescribed (question : Question) (line text : List ℕ) : Type 
 
 abbrev pub AnswersTableWithin : Question → List ℕ → List ℕ → Type 0
 AnswersTableWithin question line text =
-    IsRefusalOf (IsFileFault line) text ⊎ AnswersDescribed question line text
+    IsRefusalOf (IsFileFault line) (columns question 0) text ⊎ AnswersDescribed question line text
 
-abbrev pub AnswersLine : (List ℕ → List ℕ → Type 0) → List ℕ → List ℕ → Type 0
-AnswersLine right line text =
-    ((MAX_LINE < length line) × (text ≡ refusal_line (codes "file too long")))
-    ⊎ ((length line ≤ MAX_LINE) × right line text)
+pub record Rule : Type 1 where
+  pub columns : ℕ
+  pub answers : List ℕ → List ℕ → Type 0
+
+abbrev pub of_tables : Question → Rule
+of_tables question = record { columns = columns question 0; answers = AnswersTableWithin question }
+
+abbrev pub AnswersLine : Rule → List ℕ → List ℕ → Type 0
+AnswersLine rule line text =
+    ((MAX_LINE < length line) × (text ≡ refusal_line rule.columns (codes "file too long")))
+    ⊎ ((length line ≤ MAX_LINE) × rule.answers line text)
 
 abbrev pub AnswersTableLine : Question → List ℕ → List ℕ → Type 0
-AnswersTableLine question line text = AnswersLine (AnswersTableWithin question) line text
+AnswersTableLine question line text = AnswersLine (of_tables question) line text
 
-unfoldable pub AnswersLines : (List ℕ → List ℕ → Type 0) → List (List ℕ) → List ℕ → Type 0
-AnswersLines right [] text = text ≡ []
-AnswersLines right (line ∷ ls) text =
-    (front back : List ℕ) × AnswersLine right line front × AnswersLines right ls back
+unfoldable pub AnswersLines : Rule → List (List ℕ) → List ℕ → Type 0
+AnswersLines rule [] text = text ≡ []
+AnswersLines rule (line ∷ ls) text =
+    (front back : List ℕ) × AnswersLine rule line front × AnswersLines rule ls back
     × (text ≡ front ++ back)

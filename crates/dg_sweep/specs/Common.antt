@@ -16,7 +16,7 @@ pub use Rattle.dg_invocation.specs.declared.question.Form.{Form}
 pub use Rattle.dg_invocation.specs.declared.question.Form.TheVariants.{Numbers, Words}
 pub use Rattle.dg_invocation.specs.declared.question.Question.{Question}
 pub use Rattle.dg_invocation.specs.declared.question.Question.TheVariants.{Judge, Rank, RiemannRoch}
-pub use Rattle.dg_lines.specs.Columns.{rank_row, verdict_row}
+pub use Rattle.dg_lines.specs.Columns.{marks, rank_row, verdict_row}
 pub use Rattle.dg_lines.specs.Cuts.{lines, words}
 pub use Rattle.dg_lines.specs.Judgements.{IsJudgementText}
 pub use Rattle.dg_lines.specs.Streams.{BeginsWithLines, HasNoNewline, LinesHaveCome, last_line}

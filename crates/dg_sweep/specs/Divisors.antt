@@ -12,11 +12,12 @@
 --                                                memory nothing is said
 --   AnswersAmounts question o names line text == the line stands for a table, and the text answers the
 --                                                question for it; or it is refused, and the text says why
+--   of_amounts question o names               == so lines are answered that are amounts
 use Rattle.std.specs.Prelude.{◌≡◌, ℕ, ◌⊎◌, ℤ, List, map, All, FitsSigned, ⊤}
 use Rattle.std.specs.Fmt.{signed_decimal}
 use Rattle.std.specs.Int.{w64}
 use Rattle.dg_sweep.specs.Common.{StartData, Vector, HoldsNumbers, IsDivisorVector, IsChipFault, words, FileFault, Shape, Chip, OutOfMemory, Amounts, Question}
-use Rattle.dg_sweep.specs.Answers.{AnswersTable, IsRefusalOf}
+use Rattle.dg_sweep.specs.Answers.{AnswersTable, IsRefusalOf, Rule, columns}
 
 pub record SpellsAmounts (line : List ℕ) (xs : List ℤ) : Type 0 where
   pub spelled : words line ≡ map signed_decimal xs
@@ -56,4 +57,9 @@ pub record AnswersSpelled (question : Question) (o : StartData) (names : List (L
 
 abbrev pub AnswersAmounts : Question → StartData → List (List ℕ) → List ℕ → List ℕ → Type 0
 AnswersAmounts question o names line text =
-    IsRefusalOf (IsAmountsFault o.graph.size line) text ⊎ AnswersSpelled question o names line text
+    IsRefusalOf (IsAmountsFault o.graph.size line) (columns question o.graph.size) text
+    ⊎ AnswersSpelled question o names line text
+
+abbrev pub of_amounts : Question → StartData → List (List ℕ) → Rule
+of_amounts question o names =
+    record { columns = columns question o.graph.size; answers = AnswersAmounts question o names }

@@ -1,11 +1,10 @@
 -- Kinds of lines.
---   answers_of kind line text == the text answers the line, which is of this kind
-use Rattle.std.specs.Prelude.{ℕ, List}
-use Rattle.dg_sweep.specs.Answers.{AnswersTableWithin}
-use Rattle.dg_sweep.specs.Divisors.{AnswersAmounts}
+--   answers_of kind == how lines of this kind are answered
+use Rattle.dg_sweep.specs.Answers.{Rule, of_tables}
+use Rattle.dg_sweep.specs.Divisors.{of_amounts}
 use Rattle.dg_sweep.specs.declared.kinds.LineKind.{LineKind}
 use Rattle.dg_sweep.specs.declared.kinds.LineKind.TheVariants.{Tables, Divisors}
 
-abbrev pub answers_of : LineKind → List ℕ → List ℕ → Type 0
-answers_of (Tables question) = AnswersTableWithin question
-answers_of (Divisors question table inverse) = AnswersAmounts question table.now.start table.now.names
+abbrev pub answers_of : LineKind → Rule
+answers_of (Tables question) = of_tables question
+answers_of (Divisors question table inverse) = of_amounts question table.now.start table.now.names

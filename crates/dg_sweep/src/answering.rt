@@ -7,7 +7,7 @@ ghost use Rattle.dg_lines.specs.Judgements.{IsJudgementText};
 ghost use Rattle.dg_lines.specs.Texts.{HasNames, text_of};
 ghost use Rattle.dg_sweep.specs.FaultTexts.{file_fault_words};
 ghost use Rattle.dg_sweep.specs.Subjects.{subject_start};
-ghost use Rattle.dg_sweep.specs.Answers.{AnswersLine, AnswersTable, IsVerdictRow, refusal_line};
+ghost use Rattle.dg_sweep.specs.Answers.{AnswersLine, AnswersTable, IsVerdictRow, missing, refusal_line};
 ghost use Rattle.dg_sweep.specs.Kinds.{answers_of};
 
 use crate::ends::MAX_LINE;
@@ -18,7 +18,7 @@ use dg_chips::Divisor;
 use dg_file::FileFault;
 use dg_graph::Graph;
 use dg_invocation::{Question, VerdictForm};
-use dg_lines::{push_judgement, push_reply, push_verdict_row};
+use dg_lines::{push_judgement, push_marks, push_reply, push_verdict_row};
 use dg_reduce::InverseLaplacian;
 use dg_rules::Reply;
 use dg_tokens::Names;
@@ -26,8 +26,9 @@ use dg_verdict::{Verdict, judge_with_inverse};
 use std::alloc::{AllocError, Global};
 
 /// The answer to a line, with its newline, in place of what the buffer holds: for a table, or a table with these amounts, the
-/// answer to the question on one line; or `refused` and the text of the fault that it would have as a table file. A line of more
-/// than 1,048,576 bytes has such a fault too.
+/// answer to the question on one line; or `refused` and the text of the fault that it would have as a table file. If answers are
+/// numbers, `NA` stands before that in each column, and ` # ` after these. A line of more than 1,048,576 bytes has such a fault
+/// too.
 ///
 /// Refused if a growth is refused; nothing is said of what the buffer then holds.
 pub fn answer_line(
@@ -40,23 +41,43 @@ pub fn answer_line(
 {
     answer.clear();
     if line.len() > MAX_LINE {
+        push_missing(answer, kind.columns())?;
         return answer.extend_from_slice(b"refused file too long\n");
     }
     kind.answer(alloc, line, answer)
 }
 
-/// `refused`, the text of the fault and a newline, into an empty buffer. Want of memory is no fault of a line.
-pub(crate) fn push_refusal(fault: &FileFault, answer: &mut Vec<u8>) -> Result<(), AllocError>
+/// So many columns without a number, `refused`, the text of the fault and a newline, into an empty buffer. Want of memory is no
+/// fault of a line.
+pub(crate) fn push_refusal(
+    fault: &FileFault,
+    columns: usize,
+    answer: &mut Vec<u8>,
+) -> Result<(), AllocError>
     requires { answer.old.items ≡ [] }
     ensures { OnOk result ((fault.now ≢ FileFault.OutOfMemory)
-        × (answer.new.items ≡ refusal_line (file_fault_words fault.now))) }
+        × (answer.new.items ≡ refusal_line columns (file_fault_words fault.now))) }
 {
     if let FileFault::OutOfMemory = fault {
         return Err(AllocError);
     }
+    push_missing(answer, columns)?;
     answer.extend_from_slice(b"refused ")?;
     push_fault(answer, fault)?;
     answer.extend_from_slice(b"\n")
+}
+
+/// `NA` in so many columns and the mark before what is no number, into an empty buffer; nothing if answers are in words.
+fn push_missing(answer: &mut Vec<u8>, columns: usize) -> Result<(), AllocError>
+    requires { answer.old.items ≡ [] }
+    ensures { OnOk result (answer.new.items ≡ missing columns) }
+{
+    if columns == 0 {
+        return Ok(());
+    }
+    answer.extend_from_slice(b"NA")?;
+    push_marks(answer, columns - 1)?;
+    answer.extend_from_slice(b" # ")
 }
 
 /// What a question is about: amounts for the vertices of a graph, and the vertex q.

@@ -1,12 +1,14 @@
 //! What the lines of a sweep are, and how each is answered.
-ghost use Rattle.std.specs.Prelude.{◌≡◌, [], OnOk};
+ghost use Rattle.std.specs.Prelude.{◌≡◌, ◌≤◌, [], OnOk};
+ghost use Rattle.dg_graph.specs.declared.graph.TheConstants.{MAX_VERTICES};
+ghost use Rattle.dg_sweep.specs.Answers.{columns};
 ghost use Rattle.dg_sweep.specs.Kinds.{answers_of};
 
 use crate::answering::{Subject, push_answer, push_refusal};
 use crate::divisors::parse_divisor;
 use dg_chips::Start;
 use dg_file::{TableFile, read_table};
-use dg_invocation::Question;
+use dg_invocation::{Form, Question, VerdictForm};
 use dg_reduce::InverseLaplacian;
 use std::alloc::{AllocError, Global};
 
@@ -39,6 +41,21 @@ impl<'a> LineKind<'a> {
         }
     }
 
+    /// In how many columns of numbers a line is refused: those of an answer for the vertices that are known, which are none for a
+    /// table; and 0 if answers are in words.
+    pub(crate) fn columns(&self) -> usize
+        ensures { result ≡ (answers_of self.now).columns }
+    {
+        match self {
+            LineKind::Tables(question) => columns(*question, 0),
+            LineKind::Divisors {
+                question,
+                table,
+                ..
+            } => columns(*question, table.start().graph().size()),
+        }
+    }
+
     /// The answer to a line that is no longer than a line may be, with its newline, into an empty buffer.
     ///
     /// Refused if a growth is refused; nothing is said of what the buffer then holds.
@@ -49,7 +66,7 @@ impl<'a> LineKind<'a> {
         answer: &mut Vec<u8>,
     ) -> Result<(), AllocError>
         requires { answer.old.items ≡ [] }
-        ensures { OnOk result (answers_of self.now line.now answer.new.items) }
+        ensures { OnOk result ((answers_of self.now).answers line.now answer.new.items) }
     {
         match self {
             LineKind::Tables(question) => match read_table(alloc, line) {
@@ -63,7 +80,7 @@ impl<'a> LineKind<'a> {
                     };
                     push_answer(*question, &subject, table.names(), answer)
                 }
-                Err(fault) => push_refusal(&fault, answer),
+                Err(fault) => push_refusal(&fault, self.columns(), answer),
             },
             LineKind::Divisors {
                 question,
@@ -81,10 +98,25 @@ impl<'a> LineKind<'a> {
                         };
                         push_answer(*question, &subject, table.names(), answer)
                     }
-                    Err(fault) => push_refusal(&fault, answer),
+                    Err(fault) => push_refusal(&fault, self.columns(), answer),
                 }
             }
         }
+    }
+}
+
+/// How many columns of numbers an answer for so many vertices has, and 0 if it is in words.
+fn columns(question: Question, size: usize) -> usize
+    requires { size ≤ MAX_VERTICES }
+    ensures { result ≡ columns question size }
+{
+    match question {
+        Question::Judge(VerdictForm::Numbers) => 1 + (size + size),
+        Question::Rank(_, Form::Numbers) => 1 + size,
+        Question::RiemannRoch(Form::Numbers) => 4,
+        Question::Judge(VerdictForm::Words { .. })
+        | Question::Rank(_, Form::Words)
+        | Question::RiemannRoch(Form::Words) => 0,
     }
 }
 
