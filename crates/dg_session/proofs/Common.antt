@@ -29,7 +29,7 @@ pub use Rattle.dg_rank.proofs.Numbering.{past_within}
 pub use Rattle.dg_rank.specs.Limits.{IsPastLimits}
 pub use Rattle.dg_rank.specs.Ranks.{IsRankFault, IsTestable}
 unfoldable pub use Rattle.dg_session.specs.State.{Answers}
-pub use Rattle.dg_session.specs.Ends.{WritesFront, Ends, HasEnded, IsOver, IsSession, Stops, Writes}
+pub use Rattle.dg_session.specs.Ends.{WritesFront, Ends, IsAllRead, IsOver, IsSession, Stops, Writes}
 pub use Rattle.dg_session.specs.Commands.{AnswersCommand, AnswersLine, Ascend, CallsTable, ComesAfter, Enters, Gains, OfCommand, OfLine, RefusesCommand, Setup, kept_after, look_after, looks_named, setup_of}
 pub use Rattle.dg_session.specs.SoFar.{Goes, Halts, Handles, Hears, Obeys, IsReady, IsWritten, RefusesPart, Says, Seated, SoFar, Takes, Tells, answer_entries, answer_text, beginning, heard, look_of, made_by, said_by, seated, so_far, state_of}
 pub use Rattle.dg_session.specs.State.{AreInOrder, Does, EntriesSoFarView, IsFor, IsForNobody, ReplacesAt, State, Turn, begun}

@@ -5,7 +5,7 @@
 --   calls_all       the calls of all seats are as many as the entries of their history
 --   entered_all     what was entered is all of the history
 --   full_at_close   which is full, where the session ended so
-use Rattle.dg_session.proofs.Common.{◌≡◌, ℕ, zero, suc, ◌+◌, ◌<◌, ◌≤◌, inl, inr, List, [], ◌∷◌, ◌++◌, length, length-append, map, Some, sum, get_or, slice_get, Result, Err, refl, sym, ap, subst, ◌∙◌, arith, append_assoc, enumerate_from, same_Some, slice_get-get_or, slice_get-map, slice_get_within, option_map, length-map, nil_from_length, sum_by-cons, Entry, slice_get-seam, AreBelow, StandIn, IsPrefixOf, IsClosed, AreFresh, SeatView, entries_of, Full, seats_counted, begins_length, Setup, Ascend, Passage, Ends, HasEnded, IsOver, SessionEnd, Table, get_set, TableData}
+use Rattle.dg_session.proofs.Common.{◌≡◌, ℕ, zero, suc, ◌+◌, ◌<◌, ◌≤◌, inl, inr, List, [], ◌∷◌, ◌++◌, length, length-append, map, Some, sum, get_or, slice_get, Result, Err, refl, sym, ap, subst, ◌∙◌, arith, append_assoc, enumerate_from, same_Some, slice_get-get_or, slice_get-map, slice_get_within, option_map, length-map, nil_from_length, sum_by-cons, Entry, slice_get-seam, AreBelow, StandIn, IsPrefixOf, IsClosed, AreFresh, SeatView, entries_of, Full, seats_counted, begins_length, Setup, Ascend, Passage, Ends, IsAllRead, IsOver, SessionEnd, Table, get_set, TableData}
 use Rattle.dg_session.proofs.Coming.{below_stand, stand_on}
 use Rattle.dg_session.proofs.InOrder.{calls_of, fits_of}
 
@@ -106,7 +106,7 @@ pub full_at_close : {t : Setup} {input output : Passage} {xs ys : List SeatView}
     {result : Result ℕ SessionEnd} {H : List Entry} (over : IsOver t input output xs ys result)
     → IsClosed t.table ys H → result ≡ Err (Table Full) → length H ≡ t.table.capacity
 full_at_close {t} {input = input} {ys = ys} {result} {H = H} over closed is =
-    let ends = subst (Ends t (HasEnded result input.after) (length over.answered) over.rest over.after over.end) is over.ends in
+    let ends = subst (Ends t (IsAllRead result input.after) (length over.answered) over.rest over.after over.end) is over.ends in
     let (line, more, cut, few, does) = ends in
     elim does [
       | inl p ↦ absurd cc

@@ -11,7 +11,7 @@
 --   session_alone    a session of the seat that is alone
 --   said_whole       after nothing, all that is kept is what was said since
 --   fewer_left       fewer bytes can still be read
-use Rattle.dg_session.proofs.Common.{◌≡◌, ◌≢◌, ℕ, ◌+◌, ◌-◌, ◌*◌, ◌<◌, ◌≤◌, inl, inr, List, [], ◌∷◌, ◌++◌, length, take, map, Option, None, Some, Result, Ok, Err, OnOk, IfErr, refl, sym, ap, subst, ◌∙◌, arith, append-nil, length-append, All, flat_map, true, false, All-head, All-tail, length-map, slice_index_or, Appends, Consumes, IsAtEnd, SeatView, with_newline, StreamWriting, appends_more, consumes_none, consumes_more, consumes_kept, Setup, IsLine, Passage, passage, State, begun, Cuts, Ends, Halts, HasEnded, Writes, IsOver, IsSession, SoFar, beginning, IsReady, Goes, Says, Takes, IsWritten, MAX_LINE, MAX_LINES, READ_SIZE, SessionEnd, Read, Write, Memory}
+use Rattle.dg_session.proofs.Common.{◌≡◌, ◌≢◌, ℕ, ◌+◌, ◌-◌, ◌*◌, ◌<◌, ◌≤◌, inl, inr, List, [], ◌∷◌, ◌++◌, length, take, map, Option, None, Some, Result, Ok, Err, OnOk, IfErr, refl, sym, ap, subst, ◌∙◌, arith, append-nil, length-append, All, flat_map, true, false, All-head, All-tail, length-map, slice_index_or, Appends, Consumes, IsAtEnd, SeatView, with_newline, StreamWriting, appends_more, consumes_none, consumes_more, consumes_kept, Setup, IsLine, Passage, passage, State, begun, Cuts, Ends, Halts, IsAllRead, Writes, IsOver, IsSession, SoFar, beginning, IsReady, Goes, Says, Takes, IsWritten, MAX_LINE, MAX_LINES, READ_SIZE, SessionEnd, Read, Write, Memory}
 use Rattle.std.specs.Io.KnownBytes.{Keeps}
 use Rattle.dg_lines.specs.Cuts.{lines}
 use Rattle.dg_session.proofs.Cutting.{line_is, cuts_over, cuts_all, cuts_short}
@@ -50,7 +50,7 @@ all_written : (t : Setup) (s z : State) (ls : List (List ℕ)) (output : Passage
 all_written t s z ls output text Write other grown = absurd (other refl)
 all_written t s z ls output text end other grown = grown
 
-ended : (left : Option (List ℕ)) (end : SessionEnd) → end ≢ Read → IsAtEnd left → HasEnded (Err end) left
+ended : (left : Option (List ℕ)) (end : SessionEnd) → end ≢ Read → IsAtEnd left → IsAllRead (Err end) left
 ended left Read other is = absurd (other refl)
 ended left end other is = is
 
@@ -75,7 +75,7 @@ module _ {t : Setup} {input rest old mid : Option (List ℕ)} {xs : List SeatVie
   }
 
   finish : {E : Type 0} {rest' new : Option (List ℕ)} {result : Result ℕ SessionEnd} {bytes text back : List ℕ} {to : SoFar}
-      (f : E → HasEnded result rest') (z : State) (g : Goes t E at bytes back to text) → Consumes rest rest' bytes
+      (f : E → IsAllRead result rest') (z : State) (g : Goes t E at bytes back to text) → Consumes rest rest' bytes
       → Writes t (begun xs) (far.says.goes.ls ++ g.ls) to.state (passage old new) (far.says.text ++ text) result
       → Ends t E to.count (to.pending ++ back) to.state z result
       → IsOver t (passage input rest') (passage old new) xs z.seats result
@@ -83,9 +83,9 @@ module _ {t : Setup} {input rest old mid : Option (List ℕ)} {xs : List SeatVie
       let all = goes_more far.says.goes g in
       let size = length-append far.says.goes.ls g.ls in
       let number : to.count ≡ length (far.says.goes.ls ++ g.ls) = omega (arith, size, far.says.goes.counted, g.counted) in
-      let cut : Cuts (HasEnded result rest') (far.stream ++ bytes) (far.says.goes.ls ++ g.ls) (to.pending ++ back) =
+      let cut : Cuts (IsAllRead result rest') (far.stream ++ bytes) (far.says.goes.ls ++ g.ls) (to.pending ++ back) =
       cuts_over f all.came in
-      let end : Ends t (HasEnded result rest') to.count (to.pending ++ back) to.state z result =
+      let end : Ends t (IsAllRead result rest') to.count (to.pending ++ back) to.state z result =
       ends_over t f to.count (to.pending ++ back) to.state z result ends in
       record {
         stream = far.stream ++ bytes;
@@ -93,7 +93,7 @@ module _ {t : Setup} {input rest old mid : Option (List ℕ)} {xs : List SeatVie
         answered = far.says.goes.ls ++ g.ls;
         rest = to.pending ++ back;
         cut = cut;
-        whole = whole t (HasEnded result rest') to.count (far.stream ++ bytes) (to.pending ++ back)
+        whole = whole t (IsAllRead result rest') to.count (far.stream ++ bytes) (to.pending ++ back)
             (far.says.goes.ls ++ g.ls) to.state z result cut end;
         few = omega (arith, number, g.ready.few);
         after = to.state;
@@ -101,7 +101,7 @@ module _ {t : Setup} {input rest old mid : Option (List ℕ)} {xs : List SeatVie
         answers = all.answers;
         written = written;
         end = z;
-        ends = subst (λ n. Ends t (HasEnded result rest') n (to.pending ++ back) to.state z result) number end;
+        ends = subst (λ n. Ends t (IsAllRead result rest') n (to.pending ++ back) to.state z result) number end;
         seats = refl;
       }
 
@@ -144,9 +144,9 @@ module _ {t : Setup} {input rest rest' old : Option (List ℕ)} {xs : List SeatV
         let same : end ≡ Write = cc in
         subst (λ e. IsOver t (passage input rest') (passage old w'.contents) xs to.state.seats (Err e)) (sym same)
         (finish far f to.state g read (record {
-          told = far.says.goes.ls;
-          last = g.ls;
-          whole = refl;
+          whole = far.says.goes.ls;
+          others = g.ls;
+          lines = refl;
           few = omega (
             arith,
             cuts_short g.came,

@@ -8,7 +8,7 @@
 --   kept_after look p                          == the look that is kept after the entry p: it, if it is a
 --                                                 look; none, if it enters what was computed on the look;
 --                                                 otherwise the one that was kept
---   Says look words made after text            == no entry is made, and these words are said
+--   OnlySays look words made after text        == no entry is made, and these words are said
 --   Enters names look request made after text  == one entry is made, that of the request, and its line is
 --                                                 said
 --   AnswersCommand t look command made after text == the command, with that look kept, makes these entries,
@@ -59,8 +59,8 @@ look_after kept number request = kept
 abbrev pub kept_after : Option ℕ → ℕ × Entry → Option ℕ
 kept_after kept p = look_after kept p.0 p.1.request
 
-abbrev pub Says : Option ℕ → List ℕ → List (ℕ × Entry) → Option ℕ → List ℕ → Type 0
-Says kept words made after text = (made ≡ []) × (after ≡ kept) × (text ≡ words)
+abbrev pub OnlySays : Option ℕ → List ℕ → List (ℕ × Entry) → Option ℕ → List ℕ → Type 0
+OnlySays kept words made after text = (made ≡ []) × (after ≡ kept) × (text ≡ words)
 
 abbrev pub Enters : List (List ℕ) → Option ℕ → Request → List (ℕ × Entry) → Option ℕ → List ℕ
     → Type 0
@@ -72,18 +72,18 @@ abbrev pub AnswersCommand : Setup → Option ℕ → Command → List (ℕ × En
     → Type 0
 AnswersCommand t kept (Call plain) made after text =
     Enters t.names kept (call_request plain) made after text
-AnswersCommand t None Commit made after text = Says None (codes "bad look\n") made after text
+AnswersCommand t None Commit made after text = OnlySays None (codes "bad look\n") made after text
 AnswersCommand t (Some i) Commit made after text = Enters t.names (Some i) (Judge i) made after text
-AnswersCommand t None (Rank k) made after text = Says None (codes "bad look\n") made after text
+AnswersCommand t None (Rank k) made after text = OnlySays None (codes "bad look\n") made after text
 AnswersCommand t (Some i) (Rank k) made after text =
-    ((¬ IsTestable t.table.start.graph.size k) × Says (Some i) (codes "bad trials\n") made after text)
+    ((¬ IsTestable t.table.start.graph.size k) × OnlySays (Some i) (codes "bad trials\n") made after text)
     ⊎ (IsTestable t.table.start.graph.size k
     × Enters t.names (Some i) (RankRequest i k) made after text)
 
 abbrev pub AnswersLine : Setup → Option ℕ → List ℕ → List (ℕ × Entry) → Option ℕ → List ℕ → Type 0
 AnswersLine t kept line made after text =
     ((fault : LineFault) × IsLineFault t.names fault line
-    × Says kept (line_fault_text fault) made after text)
+    × OnlySays kept (line_fault_text fault) made after text)
     ⊎ ((command : Command) × SpellsCommand t.names command line
     × AnswersCommand t kept command made after text)
 

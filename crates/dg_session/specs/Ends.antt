@@ -1,15 +1,15 @@
 -- How a session ends. s is the state after the n lines that are answered, the rest what follows them in the
--- stream, `over` says that no more is to come, and z is the state at the end.
---   Stops t over n rest s z end            == the next line has this end as its outcome
---   Ends t over n rest s z result          == what each end says: nothing is left, and the lines are counted;
+-- stream, `no_more` says that no more is to come, and z is the state at the end.
+--   Stops t no_more n rest s z end         == the next line has this end as its outcome
+--   Ends t no_more n rest s z result       == what each end says: nothing is left, and the lines are counted;
 --                                             reading failed after all whole lines; the writer took no more,
 --                                             there or before; a line is too long, or one too many; memory was
 --                                             refused, there or before; or the session stops at the next line
 --                                             for what the table or a thread refused
---   HasEnded result left                   == nothing is left to read, and no read failed: all lines have come
---   WritesFront t s ls z output text       == the writer took no more: of the lines those of `told` are answered
---                                             with all that they say, and those of `last` with a front of it;
---                                             these have no more bytes than one read and one line
+--   IsAllRead result left                  == nothing is left to read, and no read failed: all lines have come
+--   WritesFront t s ls z output text       == the writer took no more: the answers to the `whole` lines are written
+--                                             whole, and of those to the others a front; the others have no
+--                                             more bytes than one read and one line
 --   Writes t s ls z output text result     == the writer took the text, which answers the lines ls from s to z;
 --                                             or it took no more
 --   IsOver t input output xs ys result     == the session of the seats xs is over, and they are ys. A stream was
@@ -30,34 +30,34 @@ use Rattle.dg_session.specs.declared.ends.SessionEnd.{SessionEnd}
 use Rattle.dg_session.specs.declared.ends.SessionEnd.TheVariants.{Read, Write, LongLine, Turns, Memory}
 
 abbrev pub Stops : Setup → Type 0 → ℕ → List ℕ → State → State → SessionEnd → Type 0
-Stops t over n rest s z end =
-    (line more : List ℕ) × Cuts over rest (line ∷ []) more × (n < MAX_LINES) × Does t s line z (Err end)
+Stops t no_more n rest s z end =
+    (line more : List ℕ) × Cuts no_more rest (line ∷ []) more × (n < MAX_LINES) × Does t s line z (Err end)
 
 abbrev pub Ends : Setup → Type 0 → ℕ → List ℕ → State → State → Result ℕ SessionEnd → Type 0
-Ends t over n rest s z (Ok count) = (z ≡ s) × over × (rest ≡ []) × (count ≡ n)
-Ends t over n rest s z (Err Read) = (z ≡ s) × IsLine rest
-Ends t over n rest s z (Err Write) = (z ≡ s) ⊎ ((end : SessionEnd) × Stops t over n rest s z end)
-Ends t over n rest s z (Err LongLine) = (z ≡ s) × (n < MAX_LINES) × IsTooLong rest
-Ends t over n rest s z (Err Turns) = (z ≡ s) × (n ≡ MAX_LINES) × (1 ≤ length rest)
-Ends t over n rest s z (Err Memory) = (z ≡ s) ⊎ Stops t over n rest s z Memory
-Ends t over n rest s z (Err end) = Stops t over n rest s z end
+Ends t no_more n rest s z (Ok count) = (z ≡ s) × no_more × (rest ≡ []) × (count ≡ n)
+Ends t no_more n rest s z (Err Read) = (z ≡ s) × IsLine rest
+Ends t no_more n rest s z (Err Write) = (z ≡ s) ⊎ ((end : SessionEnd) × Stops t no_more n rest s z end)
+Ends t no_more n rest s z (Err LongLine) = (z ≡ s) × (n < MAX_LINES) × IsTooLong rest
+Ends t no_more n rest s z (Err Turns) = (z ≡ s) × (n ≡ MAX_LINES) × (1 ≤ length rest)
+Ends t no_more n rest s z (Err Memory) = (z ≡ s) ⊎ Stops t no_more n rest s z Memory
+Ends t no_more n rest s z (Err end) = Stops t no_more n rest s z end
 
-abbrev pub HasEnded : Result ℕ SessionEnd → Option (List ℕ) → Type 0
-HasEnded (Err Read) left = ⊥
-HasEnded result left = IsAtEnd left
+abbrev pub IsAllRead : Result ℕ SessionEnd → Option (List ℕ) → Type 0
+IsAllRead (Err Read) left = ⊥
+IsAllRead result left = IsAtEnd left
 
 pub record WritesFront (t : Setup) (s : State) (ls : List (List ℕ)) (z : State) (output : Passage) (text : List ℕ)
     : Type 0 where
-  pub told : List (List ℕ)
-  pub last : List (List ℕ)
-  pub whole : ls ≡ told ++ last
-  pub few : length (flat_map with_newline last) ≤ READ_SIZE + MAX_LINE + 1
+  pub whole : List (List ℕ)
+  pub others : List (List ℕ)
+  pub lines : ls ≡ whole ++ others
+  pub few : length (flat_map with_newline others) ≤ READ_SIZE + MAX_LINE + 1
   pub middle : State
   pub said : List ℕ
   pub more : List ℕ
   pub all : text ≡ said ++ more
-  pub first : Answers t s told middle said
-  pub second : Answers t middle last z more
+  pub first : Answers t s whole middle said
+  pub second : Answers t middle others z more
   pub written : AppendsFront output.before output.after said more
 
 abbrev pub Writes : Setup → State → List (List ℕ) → State → Passage → List ℕ → Result ℕ SessionEnd → Type 0
@@ -70,7 +70,7 @@ pub record IsOver (t : Setup) (input output : Passage) (xs ys : List SeatView) (
   pub read : Consumes input.before input.after stream
   pub answered : List (List ℕ)
   pub rest : List ℕ
-  pub cut : Cuts (HasEnded result input.after) stream answered rest
+  pub cut : Cuts (IsAllRead result input.after) stream answered rest
   pub whole : OnOk result (answered ≡ lines stream)
   pub few : length answered ≤ MAX_LINES
   pub after : State
@@ -78,7 +78,7 @@ pub record IsOver (t : Setup) (input output : Passage) (xs ys : List SeatView) (
   pub answers : Answers t (begun xs) answered after text
   pub written : Writes t (begun xs) answered after output text result
   pub end : State
-  pub ends : Ends t (HasEnded result input.after) (length answered) rest after end result
+  pub ends : Ends t (IsAllRead result input.after) (length answered) rest after end result
   pub seats : end.seats ≡ ys
 
 pub record IsSession (t : Setup) (input output : Passage) (xs ys : List SeatView)

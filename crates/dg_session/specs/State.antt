@@ -4,12 +4,12 @@
 --                                  it; and what all lines have entered, in their order
 --   EntriesSoFarView            == of a state the history and what was entered
 --   begun xs                    == the seats, and no look is kept; there was no line
---   IsFor how n line i text     == of n seats, the line is for that at the place i, from 0, and the text is
+--   IsFor how n line i words    == of n seats, the line is for that at the place i, from 0, and the words are
 --                                  its command line: the line begins with the number i + 1 and a space; or it
 --                                  names no seat, and is for the first
 --   IsForNobody how n line      == the line is for none of n seats
 --   ReplacesAt i xs ys x y      == the list xs has x at the place i, and ys is the same with y there
---   Turn t i text s z outcome   == the command line of the seat at the place i has this outcome, and what it
+--   Turn t i words s z outcome   == the command line of the seat at the place i has this outcome, and what it
 --                                  has entered comes after all that the lines before it left: the history as
 --                                  it leaves it is that which the seat has met
 --   Does t s line z outcome     == the line, in the state s, has this outcome, and the state is z then: it is
@@ -43,17 +43,17 @@ abbrev pub begun : List SeatView → State
 begun xs = record { seats = xs; looks = map (λ x. None) xs; latest = []; entered = [] }
 
 abbrev pub IsFor : LineFormat → ℕ → List ℕ → ℕ → List ℕ → Type 0
-IsFor OneSeat n line i text = (i ≡ 0) × (text ≡ line)
-IsFor BySeat n line i text = IsSeatedLine (i + 1) text line × (i < n)
+IsFor OneSeat n line i words = (i ≡ 0) × (words ≡ line)
+IsFor BySeat n line i words = IsSeatedLine (i + 1) words line × (i < n)
 
 abbrev pub IsForNobody : LineFormat → ℕ → List ℕ → Type 0
-IsForNobody how n line = (i : ℕ) (text : List ℕ) → ¬ IsFor how n line i text
+IsForNobody how n line = (i : ℕ) (words : List ℕ) → ¬ IsFor how n line i words
 
 pub record ReplacesAt {A : Type 0} (i : ℕ) (xs ys : List A) (x y : A) : Type 0 where
   pub old : slice_get xs i ≡ Some x
   pub new : ys ≡ slice_set xs i y
 
-pub record Turn (t : Setup) (i : ℕ) (text : List ℕ) (s z : State) (outcome : Result (List ℕ) SessionEnd)
+pub record Turn (t : Setup) (i : ℕ) (words : List ℕ) (s z : State) (outcome : Result (List ℕ) SessionEnd)
     : Type 0 where
   pub x : SeatView
   pub y : SeatView
@@ -62,7 +62,7 @@ pub record Turn (t : Setup) (i : ℕ) (text : List ℕ) (s z : State) (outcome :
   pub seat : ReplacesAt i s.seats z.seats x y
   pub kept : ReplacesAt i s.looks z.looks look after
   pub made : List (ℕ × Entry)
-  pub hears : OfLine t text y look made after outcome
+  pub hears : OfLine t words y look made after outcome
   pub gained : Gains x y made
   pub order : ComesAfter s.latest made y.met
   pub latest : z.latest ≡ y.met
@@ -72,7 +72,7 @@ abbrev pub Does : Setup → State → List ℕ → State → Result (List ℕ) S
 Does t s line z outcome =
     (IsForNobody t.how (length s.seats) line × (z ≡ s) × (outcome ≡ Ok (line_fault_text Seat)))
     ⊎ ((outcome ≡ Err Memory) × (z ≡ s))
-    ⊎ ((i : ℕ) × (text : List ℕ) × IsFor t.how (length s.seats) line i text × Turn t i text s z outcome)
+    ⊎ ((i : ℕ) × (words : List ℕ) × IsFor t.how (length s.seats) line i words × Turn t i words s z outcome)
 
 unfoldable pub Answers : Setup → State → List (List ℕ) → State → List ℕ → Type 0
 Answers t s [] z text = (z ≡ s) × (text ≡ [])

@@ -1,14 +1,14 @@
 -- Lines of a session, and the streams that they come and go by.
---   IsLine line              == the line has no newline, and at most as many bytes as a line may have
---   EndsInLine stream ls     == the stream is the lines ls, and the last of them has a byte, and no newline
---   Cuts over stream ls rest == the stream is the lines ls, each with its newline, and then the rest; or it is
---                               over, and is these lines, of which the last has no newline
---   IsTooLong rest           == the rest begins with one byte more than a line may have, and no newline
---   Passage                  == what a stream has yet to give, or holds, before and after, if it is known
---   passage old new          == that of these
---   CutOneWay                == a stream is cut into lines in one way: where it begins with lines, and the
---                               rest has no newline, its lines are those lines, and the rest as a last line if
---                               it has a byte
+--   IsLine line                 == the line has no newline, and at most as many bytes as a line may have
+--   EndsInLine stream ls        == the stream is the lines ls, and the last of them has a byte, and no newline
+--   Cuts no_more stream ls rest == the stream is the lines ls, each with its newline, and then the rest; or no
+--                                  more is to come, and it is these lines, of which the last has no newline
+--   IsTooLong rest              == the rest begins with one byte more than a line may have, and no newline
+--   Passage                     == what a stream has yet to give, or holds, before and after, if it is known
+--   passage old new             == that of these
+--   CutOneWay                   == a stream is cut into lines in one way: where it begins with lines, and the
+--                                  rest has no newline, its lines are those lines, and the rest as a last line if
+--                                  it has a byte
 use Rattle.std.specs.Prelude.{◌≡◌, ℕ, ◌+◌, ◌≤◌, ◌⊎◌, List, [], ◌∷◌, ◌++◌, length, Option}
 use Rattle.dg_session.specs.Common.{lines, HasNoNewline, BeginsWithLines, last_line}
 use Rattle.dg_session.specs.declared.ends.TheConstants.{MAX_LINE}
@@ -26,7 +26,7 @@ pub record EndsInLine (stream : List ℕ) (ls : List (List ℕ)) : Type 0 where
   pub some : 1 ≤ length last
 
 abbrev pub Cuts : Type 0 → List ℕ → List (List ℕ) → List ℕ → Type 0
-Cuts over stream ls rest = BeginsWithLines IsLine stream ls rest ⊎ (over × (rest ≡ []) × EndsInLine stream ls)
+Cuts no_more stream ls rest = BeginsWithLines IsLine stream ls rest ⊎ (no_more × (rest ≡ []) × EndsInLine stream ls)
 
 pub record IsTooLong (rest : List ℕ) : Type 0 where
   pub front : List ℕ
