@@ -7,6 +7,7 @@ ghost use Rattle.dg_cli.specs.Refusals.{AskNothing, IsArgsFault};
 ghost use Rattle.dg_cli.specs.Faults.{CallsNoHelp, IsErrorText, HasErrorKind};
 
 use crate::commands::{SUBCOMMANDS, program_command};
+use crate::help_texts::NO_HELP;
 use crate::reading::{Refusal, invocation_in};
 use clap::Command;
 use clap::error::ErrorKind;
@@ -38,24 +39,40 @@ pub fn invocation_of<'a>(alloc: Global, words: &'a [String]) -> Result<Invocatio
 {
     match invocation_of_words(alloc, words) {
         Ok(asked) => Ok(asked),
-        Err(error) => help_or_error(alloc, &error),
+        Err(error) => help_or_error(alloc, words, &error),
     }
 }
 
 /// The answer to words that ask for no command: a text for the standard output after a call for help, else a fault.
-fn help_or_error<'a>(alloc: Global, error: &clap::Error) -> Result<Invocation<'a>, ArgsFault>
+fn help_or_error<'a>(
+    alloc: Global,
+    words: &[String],
+    error: &clap::Error,
+) -> Result<Invocation<'a>, ArgsFault>
     ensures { IsErrorText (kind_of error.now) result }
 {
     if error.kind() == ErrorKind::OutOfMemory {
         return Err(ArgsFault::OutOfMemory);
     }
-    let Ok(text) = format!(in alloc; "{error}") else {
+    let Ok(text) = text_of_error(alloc, words, error) else {
         return Err(ArgsFault::OutOfMemory);
     };
     if error.use_stderr() {
         Err(ArgsFault::CommandLine(text))
     } else {
         Ok(Invocation::Text(text))
+    }
+}
+
+/// The library's text. Who writes `help`, which is no command, is told what to write.
+fn text_of_error(
+    alloc: Global,
+    words: &[String],
+    error: &clap::Error,
+) -> Result<String, AllocError> {
+    match words.get(1) {
+        Some(word) if word.as_str() == "help" => format!(in alloc; "{NO_HELP}"),
+        _ => format!(in alloc; "{error}"),
     }
 }
 

@@ -13,6 +13,15 @@ pub(crate) const STEPS_HELP: &str =
 pub(crate) const DEGREE_HELP: &str =
     "How many dollars are lost: a whole number; at most 1000 can be tested";
 
+pub(crate) const NO_HELP: &str = "error: unrecognized subcommand 'help'
+
+  tip: write 'dollar --help', or 'dollar judge --help' for one command
+
+Usage: dollar <COMMAND>
+
+For more information, try '--help'.
+";
+
 pub(crate) const TURNS_HELP: &str = "How many turns there may be: a whole number from 0 to 65536";
 
 pub(crate) const SCRIPT_HELP: &str = "Text files with the lines of a session each, up to 64 files";
@@ -23,7 +32,7 @@ pub(crate) const RANK_WORKERS_HELP: &str = "Threads that share trials or lines, 
 
 pub(crate) const LINE_WORKERS_HELP: &str = "Threads for --lines or --divisors, 1 to 16; default 1";
 
-pub(crate) const SEATS_HELP: &str = "A game for N seats, 1 to 64: each line begins with one";
+pub(crate) const SEATS_HELP: &str = "N seats play, 1 to 64; each line begins with a seat number";
 
 pub(crate) const LINES_HELP: &str = "FILE has a table on each line, and each is answered";
 
@@ -104,11 +113,11 @@ they come; one that is refused has the fault that a table file would have:
     refused number of amounts
 
 With --numbers, an answer is 1 or 0 for winnable or not, the script, and the
-dollars after it, but a refused line keeps its words:
+dollars after it. A refused line is NA in each column, and then says why:
 
     $ dollar judge triangle.json --divisors amounts.txt --numbers
     1 0 -1 -1 2 0 0
-    refused number of amounts
+    NA NA NA NA NA NA NA # refused number of amounts
 ";
 
 pub(crate) const RANK_MORE: &str = "\
