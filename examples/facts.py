@@ -107,20 +107,20 @@ BN = "Baker, Norine 2007"
 @fact(BN, "r(D) - r(K - D) = deg(D) + 1 - g, on 300 multigraphs")
 def riemann_roch():
     tables = list(multigraphs(300, 7, 1))
-    sides = dollar.rr_all([*tables, *(table.residual() for table in tables)], errors="raise").columns("array").rank
+    sides = dollar.rr_all([*tables, *(table.residual() for table in tables)], errors="raise").columns().rank
     return all(sides[at] - sides[at + 300] == table.degree + 1 - table.genus for at, table in enumerate(tables))
 
 
 @fact(BN, "r(K) = g - 1, on all 143 connected graphs of up to 6 vertices")
 def canonical():
-    found = dollar.rr_all(Table(graph).canonical() for graph in SMALL).columns("array")
+    found = dollar.rr_all(Table(graph).canonical() for graph in SMALL).columns()
     return found.count == 143 and all(rank == genus - 1 for rank, genus in zip(found.rank, found.genus))
 
 
 @fact(BN, "r(D + D') is at least r(D) + r(D')")
 def sums():
     pairs = [(table, table + [random.Random(at).randint(-1, 2) for _ in table.vertices]) for at, table in enumerate(multigraphs(150, 6, 2))]
-    ranks = [dollar.rr_all(tables).columns("array").rank for tables in ([a for a, _ in pairs], [b for _, b in pairs], [a + b for a, b in pairs])]
+    ranks = [dollar.rr_all(tables).columns().rank for tables in ([a for a, _ in pairs], [b for _, b in pairs], [a + b for a, b in pairs])]
     return all(both >= one + other for one, other, both in zip(*ranks) if min(one, other) >= 0)
 
 
@@ -128,7 +128,7 @@ def sums():
 def clifford():
     for table in (Table(graph) for graph in SMALL if len(graph) <= 5):
         for degree in range(2 * table.genus - 1):
-            found = dollar.rr_all(table, divisors=table.reduced_divisors(degree, winnable=True)).columns("array")
+            found = dollar.rr_all(table, divisors=table.reduced_divisors(degree, winnable=True)).columns()
             if any(2 * rank > degree for rank, dual in zip(found.rank, found.dual) if dual >= 0):
                 return False
     return True

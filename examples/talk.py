@@ -3,6 +3,7 @@
 owes most borrows, until nobody owes anything.
 
     examples/talk.py [FILE]"""
+import argparse
 import os
 import sys
 
@@ -24,6 +25,15 @@ def play(table, turns=1000):
         yield "claim", session.ask("claim")
 
 
+def main():
+    reader = argparse.ArgumentParser(description="Plays a game with the program, in which the vertex that owes most borrows.")
+    reader.add_argument("file", metavar="FILE", nargs="?", default=os.path.join(HERE, "triangle.json"), help="a table; without it the triangle")
+    try:
+        for line, answer in play(dollar.Table.read(reader.parse_args().file)):
+            print("%-12s %s" % (line, answer))
+    except (OSError, ValueError, dollar.Fault) as fault:
+        sys.exit("talk.py: %s" % fault)
+
+
 if __name__ == "__main__":
-    for line, answer in play(dollar.Table.read(sys.argv[1] if sys.argv[1:] else os.path.join(HERE, "triangle.json"))):
-        print("%-12s %s" % (line, answer))
+    main()

@@ -16,18 +16,36 @@ from pathlib import Path
 HERE = Path(__file__).resolve().parent
 VERSION = re.search(r'^__version__ = "(.+)"$', (HERE / "dollar" / "__init__.py").read_text(encoding="utf-8"), re.MULTILINE)[1]
 NAME = "dollar-" + VERSION
-METADATA = """Metadata-Version: 2.1
-Name: dollar
-Version: %s
-Summary: The dollar game of Baker and Norine from Python, by the proved program dollar
-Requires-Python: >=3.9
-""" % VERSION
+# Python has no reader of this file before 3.11, and what is asked for here stands in it in these forms alone.
+PROJECT = (HERE / "pyproject.toml").read_text(encoding="utf-8")
+ABOUT = """
+The vertices of a graph hold dollars or owe them; a vertex lends by sending a dollar along each of its edges. The program
+`dollar` tells whether all debts can be cleared and how, and tests ranks, with proved answers. This package asks it from Python.
+
+A wheel that has the program in it needs Linux on a processor with SSE4.2 and POPCNT (x86-64-v2, any since 2013). No licence is
+given yet; share/doc/dollar/copyright has those of the libraries in the program.
+"""
 WHEEL = """Wheel-Version: 1.0
 Generator: backend.py of dollar
 Root-Is-Purelib: %s
-Tag: %s
 """
-COMMANDS = "[console_scripts]\ndollar-board = dollar.__main__:board\n"
+
+
+def field(name):
+    """A text of pyproject.toml."""
+    return re.search(r'^%s = (?:\{ text = )?"(.+?)"' % re.escape(name), PROJECT, re.MULTILINE)[1]
+
+
+def texts(name):
+    """A list of texts of pyproject.toml."""
+    return re.findall(r'"(.+?)"', re.search(r"^%s = \[(.*?)\]" % re.escape(name), PROJECT, re.MULTILINE | re.DOTALL)[1])
+
+
+METADATA = "".join("%s: %s\n" % line for line in [
+    ("Metadata-Version", "2.1"), ("Name", field("name")), ("Version", VERSION), ("Summary", field("description")), ("License", field("license")),
+    ("Keywords", ",".join(texts("keywords"))), *(("Classifier", each) for each in texts("classifiers")),
+    ("Requires-Python", field("requires-python")), ("Description-Content-Type", "text/plain")]) + ABOUT
+COMMANDS = "[console_scripts]\ndollar-board = %s\n" % field("dollar-board")
 
 
 def files_in(folder):
@@ -63,11 +81,17 @@ def record_of(files):
     return "".join(rows)
 
 
+def tags_of(tag):
+    """The lines for a tag, which may have several platforms with a dot between two."""
+    *first, platforms = tag.split("-")
+    return "".join("Tag: %s\n" % "-".join([*first, each]) for each in platforms.split("."))
+
+
 def wheel_of(folder, files, tag="py3-none-any"):
     """Writes a wheel with these files into a folder, and tells its name. Scripts can be run."""
     info = NAME + ".dist-info/"
     files = dict(files, **{info + "METADATA": METADATA.encode(), info + "entry_points.txt": COMMANDS.encode(),
-                           info + "WHEEL": (WHEEL % (str(tag.endswith("any")).lower(), tag)).encode()})
+                           info + "WHEEL": (WHEEL % str(tag.endswith("any")).lower() + tags_of(tag)).encode()})
     files[info + "RECORD"] = (record_of(files) + info + "RECORD,,\n").encode()
     name = "%s-%s.whl" % (NAME, tag)
     with zipfile.ZipFile(Path(folder) / name, "w", zipfile.ZIP_DEFLATED) as wheel:

@@ -19,13 +19,13 @@ if not __package__:
     sys.dont_write_bytecode = True
     sys.path[0] = os.path.dirname(os.path.dirname(os.path.abspath(__file__)))
 
-from dollar import program
-from dollar.commands import judge
-from dollar.drawing import verdict_picture
-from dollar.table import shown_name, text_of
+from dollar import _program as program
+from dollar._commands import judge
+from dollar._drawing import verdict_picture
+from dollar._table import shown_name, text_of
 
-COMMANDS = {"board": "dollar.board.play", "replay": "dollar.board.replay", "sweep": "dollar.cluster",
-            "json": "dollar.as_json", "names": "dollar.names"}
+COMMANDS = {"board": "dollar.board.play", "replay": "dollar.board.replay", "sweep": "dollar._cluster",
+            "json": "dollar._as_json", "names": "dollar._names"}
 
 
 def draw(words: "list[str]") -> int:

@@ -7,8 +7,8 @@ import pickle
 
 import dollar
 from dollar import Fault, Refused, RiemannRoch, Verdict, answer
-from dollar.grammar import GRAMMAR
-from helpers import Test, each, needed, sample
+from dollar._grammar import GRAMMAR
+from helpers import Test, checksum, each, needed, sample
 
 TRIANGLE = {"vertices": ["a", "b", "c"], "edges": [["a", "b", 1], ["b", "c", 1], ["a", "c", 1]], "amounts": [2, -1, -1], "q": "a"}
 LOOPING = dict(TRIANGLE, edges=[["a", "a", 1]])
@@ -154,7 +154,7 @@ class OfAnswers(Test):
         self.assertEqual(row.as_dict(), {"degree": 65, "genus": 66, "rank": 20, "dual": 20})
         place = self.folder() / "rows.csv"
         dollar.to_csv(dollar.rr_all([complete, LOOPING]), place)
-        self.assertEqual(place.read_text(), "table,degree,genus,rank,dual,refused\n0,65,66,20,20,\n1,,,,,edge 0 is a loop\n")
+        self.assertEqual([row["rank"] + row["refused"] for row in csv.DictReader(place.open())], ["20", "edge 0 is a loop"])
         columns = dollar.rr_all([TRIANGLE] * 3).columns()
         frame = pandas.DataFrame(columns)
         self.assertEqual((list(frame.columns), len(frame), str(frame["rank"].dtype), list(columns), columns.count),
@@ -167,14 +167,24 @@ class OfAnswers(Test):
 
     def test_csv(self):
         folder = self.folder()
-        tables = [TRIANGLE, LOOPING]
+        tables, lines = [TRIANGLE, LOOPING], [json.dumps(TRIANGLE), json.dumps(LOOPING)]
         wanted = {
-            "judge": "table,winnable,script,reduced,refused\n0,true,a=0 b=-1 c=-1,a=0 b=0 c=0,\n1,,,,edge 0 is a loop\n",
-            "rank": "table,holds,degree,loss,refused\n0,false,1,a=0 b=0 c=1,\n1,,,,edge 0 is a loop\n",
-            "rr": "table,degree,genus,rank,dual,refused\n0,0,1,0,0,\n1,,,,,edge 0 is a loop\n",
-        }
-        for name, rows in (("judge", dollar.judge_all(tables)), ("rank", dollar.rank_test_all(tables, 1)), ("rr", dollar.rr_all(tables))):
-            self.assertEqual(dollar.to_csv(rows, str(folder / name)), 2)
-            self.assertEqual((folder / name).read_text(), wanted[name])
-            self.assertEqual(len(list(csv.DictReader(io.StringIO(wanted[name])))), 2)
-        self.assertEqual(dollar.to_csv([], str(folder / "none")), 0)
+            "judge 0": (dollar.judge_all(tables), "winnable,script,reduced", "true,a=0 b=-1 c=-1,a=0 b=0 c=0", ",,"),
+            "rank 1": (dollar.rank_test_all(tables, 1), "holds,degree,loss", "false,1,a=0 b=0 c=1", ",,"),
+            "rr 0": (dollar.rr_all(tables), "degree,genus,rank,dual", "0,1,0,0", ",,,")}
+        for asked, (rows, names, first, none) in wanted.items():
+            self.assertEqual(dollar.to_csv(rows, str(folder / asked)), 2)
+            sums = [checksum(asked + "\n", line) for line in lines]
+            self.assertEqual((folder / asked).read_text(), "number,crc32,divisor,%s,refused\n0,%s,a=2 b=-1 c=-1,%s,\n1,%s,a=2 b=-1 c=-1,%s,%s\n" % (
+                names, sums[0], first, sums[1], none, "edge 0 is a loop"))
+        # A sweep over nothing has its header, also of divisors.
+        for rows, names in ((dollar.rr_all([]), "divisor,degree,genus,rank,dual"),
+                            (dollar.judge_all(dollar.Table([[0, 2], [2, 0]]), divisors=[]),
+                             "divisor_0,divisor_1,winnable,script_0,script_1,reduced_0,reduced_1")):
+            self.assertEqual(dollar.to_csv(rows, folder / "none"), 0)
+            self.assertEqual((folder / "none").read_text(), "number,crc32,%s,refused\n" % names)
+
+    def test_columns_are_written_as_columns(self):
+        table, out = dollar.Table([[0, 2], [2, 0]]), io.StringIO()
+        self.assertEqual(dollar.to_csv(dollar.rank_test_all(table, 1, divisors=[[3, 0], [0, 1]]).columns(), out), 2)
+        self.assertEqual(out.getvalue(), "holds,loss_0,loss_1\ntrue,0,0\nfalse,1,0\n")

@@ -2,7 +2,6 @@
 run of the program. And it goes on with a sweep that was interrupted within a row, and refuses the rows of another file."""
 import concurrent.futures
 import contextlib
-import csv
 import io
 import json
 import os
@@ -12,11 +11,10 @@ import signal
 import subprocess
 import sys
 import threading
-import zlib
 from unittest import mock
 
 import dollar
-from dollar import Table, cluster
+from dollar import Table, _cluster as cluster
 from helpers import HUNG, PACKAGE, Test, needed, program, wait_until
 
 SIZE, AT = 20_000, 8_000
@@ -34,25 +32,14 @@ def line(rng, number):
     return json.dumps({"vertices": names, "edges": edges, "amounts": [rng.randint(-3, 4) for _ in names], "q": names[0]}) + "\n"
 
 
-def alone(kind, words, lines, start=0):
-    """The file of a sweep, as the answers of one run of the program on one core make it, with what is found as `to_csv` has it."""
-    answers = subprocess.run([program(), *words], input="".join(lines), stdout=subprocess.PIPE, text=True, check=True).stdout
+def alone(kind, place, *given, divisors=None):
+    """The file of a sweep, as `to_csv` makes it of one run of the program."""
     found = io.StringIO()
-    rows = list(csv.reader(io.StringIO(csv_of(kind, answers))))
-    writer = csv.writer(found, lineterminator="\n")
-    writer.writerow(["line", "crc32", *rows[0][1:]])
-    for number, (row, text) in enumerate(zip(rows[1:], lines), 1):
-        writer.writerow([number, "%08x" % zlib.crc32(text.encode(), start), *row[1:]])
+    ask = {"judge": dollar.judge_all, "rank": dollar.rank_test_all, "rr": dollar.rr_all}[kind]
+    job = ask([], *given)._job if divisors is None else ask(Table(RING), *given, divisors=[], program=program())._job
+    job.kept, job.line = cluster.lines_of(place), bytes
+    dollar.to_csv(dollar._sweeps.Answers(job), found)
     return found.getvalue().encode()
-
-
-def csv_of(kind, answers):
-    """A CSV file of the package for these answers of the program."""
-    file = io.StringIO()
-    read = {"judge": dollar.answers.verdict_of, "rank": dollar.answers.rank_test_of, "rr": dollar.answers.riemann_roch_of}[kind]
-    refused = {"judge": dollar.answers.RefusedVerdict, "rank": dollar.answers.RefusedRankTest, "rr": dollar.answers.RefusedRiemannRoch}[kind]
-    dollar.to_csv((refused(refused=text[8:]) if text.startswith("refused ") else read(text) for text in answers.splitlines()), file)
-    return file.getvalue()
 
 
 # A program that is killed the first time, and once there are rows goes on only when the test wants it to.
@@ -84,7 +71,7 @@ class OfTwoRuns(Test):
         (place / "go").touch()
         self.assertEqual((child.communicate(timeout=HUNG)[1], child.returncode), (b"", 130))
         self.assertTrue((place / "killed").exists())
-        wanted, begun = alone("rank", ["rank", "--lines", "/dev/stdin", "1"], tables), kept.read_bytes()
+        wanted, begun = alone("rank", place / "tables.txt", 1), kept.read_bytes()
         self.assertTrue(wanted.startswith(begun) and 100 < len(begun) < len(wanted))
         self.holds(words, env=dict(environment, DOLLAR=program()))
         self.assertEqual(kept.read_bytes(), wanted)
@@ -97,15 +84,18 @@ class OfAClusterOfTwo(Test):
         given = cluster.words_of(list(map(str, words)))
         options = dict(n_workers=2, threads_per_worker=1, dashboard_address=None, silence_logs=50)
         with distributed.LocalCluster(**options) as workers, distributed.Client(workers) as client:
-            row = cluster.row
+            answered, waiting = cluster.result_of, [AT] if kill else []
 
-            def row_after_killing(command, number, checksum, answer):
-                if kill and number == AT:
+            def answered_after_killing(*about):
+                found = answered(*about)
+                if waiting and about[3].count >= waiting[0]:
+                    waiting.clear()
                     os.kill(workers.workers[0].pid, signal.SIGKILL)
-                return row(command, number, checksum, answer)
+                return found
 
-            with mock.patch.object(cluster, "row", row_after_killing):
-                cluster.swept(client, cluster.sweep_of(given, program()), given.csv)
+            with mock.patch.object(cluster, "result_of", answered_after_killing):
+                cluster.swept(client, cluster.job_of(given, program()), given.csv)
+            self.assertEqual(waiting, [])
         with open(given.csv, "rb") as file:
             return file.read()
 
@@ -120,7 +110,7 @@ class OfAClusterOfTwo(Test):
 
     def test_a_sweep_outlives_a_worker_and_an_interrupt(self):
         kept = self.place / "answers.csv"
-        wanted = alone("judge", ["judge", "--lines", "/dev/stdin"], self.tables)
+        wanted = alone("judge", self.file)
         self.assertEqual(wanted.count(b"\n"), SIZE + 1)
         self.assertEqual(self.swept("judge", self.file, kept, kill=True), wanted)
         for size in (len(wanted) // 3, 10, 0):
@@ -131,17 +121,21 @@ class OfAClusterOfTwo(Test):
     def test_the_other_commands(self):
         few = self.place / "few.txt"
         few.write_text("".join(self.tables[990:1_400]).rstrip("\n"))
-        self.assertEqual(self.swept("rank", few, 2, self.place / "rank.csv"),
-                         alone("rank", ["rank", "--lines", "/dev/stdin", "2"], self.tables[990:1_400]))
-        self.assertEqual(self.swept("rr", few, self.place / "rr.csv"), alone("rr", ["rr", "--lines", "/dev/stdin"], self.tables[990:1_400]))
+        self.assertEqual(self.swept("rank", few, 2, self.place / "rank.csv"), alone("rank", few, 2))
+        self.assertEqual(self.swept("rr", few, self.place / "rr.csv"), alone("rr", few))
         ring, lines = self.place / "ring.json", self.place / "lines.txt"
         ring.write_text(json.dumps(RING))
         amounts = ["%d %d %d\n" % (a, b, c) for a in range(-3, 4) for b in range(-3, 4) for c in range(-3, 4)] + ["1 2\n"]
         lines.write_text("".join(amounts))
         for command, more in (("judge", []), ("rank", [1]), ("rr", [])):
-            self.assertEqual(
-                self.swept(command, ring, *more, "--divisors", lines, self.place / ("divisors_%s.csv" % command)),
-                alone(command, [command, ring, *map(str, more), "--divisors", "/dev/stdin"], amounts, zlib.crc32(ring.read_bytes())))
+            self.assertEqual(self.swept(command, ring, *more, "--divisors", lines, self.place / ("divisors_%s.csv" % command)),
+                             alone(command, lines, *more, divisors=lines))
+        # Python's own sweep over the same divisors goes on with the file, since all that was asked is the same.
+        place, rows = self.place / "divisors_rr.csv", [list(map(int, line.split())) for line in amounts[:-1]]
+        whole = place.read_bytes()
+        place.write_bytes(whole[:1000])
+        self.assertEqual(dollar.to_csv(dollar.rr_all(Table(RING), divisors=rows), place, go_on=True), len(rows))
+        self.assertTrue(whole.startswith(place.read_bytes()))
 
     def test_rows_of_another_sweep_are_refused(self):
         few, other, ring, lines = (self.place / name for name in ("few.txt", "other.txt", "ring.json", "lines.txt"))
@@ -155,8 +149,9 @@ class OfAClusterOfTwo(Test):
         self.swept("judge", ring, "--divisors", lines, divided)
         ring_2 = self.place / "ring_2.json"
         ring_2.write_text(json.dumps(Table(RING, q="b").to_dict()))
-        for words, row in ((["judge", other, kept], "row 51 of "), (["rr", few, kept], "not a CSV file of this sweep"),
-                           (["judge", ring, "--divisors", lines, kept], "row 1 of "), (["judge", ring_2, "--divisors", lines, divided], "row 1 of ")):
+        for words, row in ((["judge", other, kept], "row 50 is about"), (["rr", few, kept], "its header is not"),
+                           (["judge", ring, "--divisors", lines, kept], "its header is not"),
+                           (["judge", ring_2, "--divisors", lines, divided], "row 0 is about")):
             size = os.path.getsize(words[-1])
             with self.assertRaisesRegex(ValueError, row + ".*; nothing was changed"):
                 self.swept(*words)
@@ -178,7 +173,7 @@ class OfAClusterOfTwo(Test):
     def test_each_end_of_a_cluster_is_told_in_a_line(self):
         scheduler = self.begun("dask_scheduler", "--port", "0")
         address = next(found[0] for found in (re.search(r"tcp://\S+:\d+", line) for line in scheduler.stderr) if found)
-        impatient = "import sys; from dollar import cluster, __main__; cluster.PATIENCE = 1.0; sys.exit(__main__.main(sys.argv[1:]))"
+        impatient = "import sys; from dollar import _cluster, __main__; _cluster.PATIENCE = 1.0; sys.exit(__main__.main(sys.argv[1:]))"
         words = [sys.executable, "-c", impatient, "sweep", "--scheduler", address, "judge", self.file, self.place / "ends.csv"]
 
         def swept(then):
@@ -208,7 +203,7 @@ class OfAClusterOfTwo(Test):
                          ("python3 -m dollar sweep: the scheduler is gone; the same command goes on after the last row\n", 1))
 
     def test_it_says_what_is_sooner_than_a_cluster(self):
-        few = cluster.Sweep("judge", ["judge", "--lines", "/dev/stdin"], program(), str(self.file), 0)
+        few = dollar.judge_all([])._job
         for seconds, lines, sooner in ((0.2, 10, "one run of `dollar judge` with --lines"), (9.0, 10, "`--processes 4` without a cluster"),
                                        (2.0, 200_000, "one run of `dollar judge` with --lines"), (11.0, 10, None)):
             pace = cluster.Pace()

@@ -1,6 +1,8 @@
 """Columns: the same numbers as the answers one by one, with numpy and without; what has no place in them is raised. And CSV files that
 are gone on with."""
 import contextlib
+import csv
+import io
 import itertools
 import os
 import pickle
@@ -14,8 +16,8 @@ from array import array
 from unittest import mock
 
 import dollar
-from dollar import Fault, Table, readers, sweeps
-from helpers import PACKAGE, Test, each, needed
+from dollar import Fault, Table, _columns as columns, _readers as readers
+from helpers import PACKAGE, Test, checksum, each, needed
 
 PETERSEN = dollar.example("petersen")
 RING = Table([[0, 1, 0, 3], [1, 0, 1, 0], [0, 1, 0, 1], [3, 0, 1, 0]], names=lambda vertex: "v%d%s" % (vertex, "x" * vertex))
@@ -31,7 +33,7 @@ def divisors(table, count, most=4, seed=1):
 @contextlib.contextmanager
 def without_numpy():
     """What holds where numpy is not here."""
-    with mock.patch.object(sweeps, "numpy_or_none", lambda: None), mock.patch.object(readers, "numpy_or_none", lambda: None):
+    with mock.patch.object(columns, "numpy_or_none", lambda: None):
         yield
 
 
@@ -81,23 +83,15 @@ class OfColumns(Test):
                 self.assertEqual((ints(reduced[0]), ints(reduced[1])), (wanted, [0, 0, 0]))
 
     @each([with_numpy, without_numpy])
-    def test_the_kind_that_is_asked_for(self, given):
+    def test_what_columns_are(self, given):
         numpy, rows = needed("numpy"), divisors(RING, 50, 1)
-        asks = [(lambda: dollar.judge_all(RING, divisors=rows), ["winnable"]), (lambda: dollar.rank_test_all(RING, 1, divisors=rows), ["holds"]),
-                (lambda: dollar.rr_all(RING, divisors=rows), ["degree", "genus", "rank", "dual"])]
+        kind = numpy.ndarray if given is with_numpy else array
         with given():
-            for ask, names in asks:
-                found = ask().columns("array")
-                for name in names:
-                    self.assertIsInstance(getattr(found, name), array)
-                    self.assertEqual(list(getattr(found, name)), list(map(int, getattr(ask().columns(), name))))
+            for found in (dollar.judge_all(RING, divisors=rows).columns(), dollar.rank_test_all(RING, 1, divisors=rows).columns(),
+                          dollar.rr_all(RING, divisors=rows).columns()):
+                self.assertEqual({type(column) for column in found.values()}, {kind})
                 if given is with_numpy:
-                    self.assertIsInstance(getattr(ask().columns("numpy"), names[0]), numpy.ndarray)
-                else:
-                    with self.assertRaises(ImportError):
-                        ask().columns("numpy")
-                with self.assertRaisesRegex(ValueError, "and not 'pandas'"):
-                    ask().columns("pandas")
+                    self.assertEqual({str(column.dtype) for column in found.values()} | {"bool"}, {"int64", "bool"})
 
     @each([with_numpy, without_numpy])
     def test_they_leave_their_process(self, given):
@@ -171,26 +165,37 @@ class OfColumns(Test):
         self.assertEqual(ints(dollar.rr_all(tables).columns().degree), [table.degree for table in tables])
 
     def test_what_is_taken_is_what_the_lines_say(self):
+        refused = b"NA NA NA NA # refused "
+
         def is_right(line, is_test):
-            """Whether a line has four numbers of 64 bits, as the program writes them; or is a test that holds."""
-            return is_test and line == b"1 NA NA NA" or re.fullmatch(rb"(0|-?[1-9]\d*)( (0|-?[1-9]\d*)){3}", line) and all(
+            """Whether a line has four numbers of 64 bits, as the program writes them; or is a test that holds, or refused."""
+            if line.startswith(refused) or is_test and line == b"1 NA NA NA":
+                return True
+            return re.fullmatch(rb"(0|-?[1-9]\d*)( (0|-?[1-9]\d*)){3}", line) and all(
                 -2 ** 63 <= int(number) < 2 ** 63 for number in line.split()) and (not is_test or line[:2] == b"0 ")
 
         rng, taken = random.Random(3), [0, 0]
-        lines = [b"1 0 -1 20\n", b"0 -300 7 0\n", b"1 NA NA NA\n", b"0 999999999999999999 0 -1\n", b"refused shape of amounts\n"]
-        forms = [readers.rank_test_form(Table([[0, 1, 0], [1, 0, 1], [0, 1, 0]])._vertices, 1), readers.riemann_roch_form()]
+        lines = [b"1 0 -1 20\n", b"0 -300 7 0\n", b"1 NA NA NA\n", b"0 999999999999999999 0 -1\n", refused + b"shape of amounts\n"]
+        questions = [readers.RANK, readers.RR]
         for _ in range(10_000):
             piece = b"".join(rng.choices(lines, (9, 9, 1, 9, 0.1), k=rng.randint(1, 4)))
             place = rng.randrange(len(piece))
             put = rng.choice([b"0", b"1", b"9", b"-", b" ", b"\n", b"\t", b"\r", b"+", b"_", b"\xff", b"NA", b""])
             piece = piece[:place] + put + piece[place + rng.randint(0, 1):]
-            for form in forms:
-                found = form.read(piece)
+            for question in questions:
+                try:
+                    found = readers.batch_of(piece, b"", question, 4)
+                except ValueError:
+                    found = None
                 taken[found is None] += 1
                 *read, rest = piece.split(b"\n")
-                self.assertEqual(found is not None, not rest and all(is_right(line, form is forms[0]) for line in read), piece)
+                is_test = question is readers.RANK
+                self.assertEqual(found is not None, not rest and all(is_right(line, is_test) for line in read), piece)
                 if found is not None:
-                    self.assertEqual(b"".join(b"%d %d %d %d\n" % numbers for numbers in zip(*found)), piece.replace(lines[2], b"1 0 0 0\n"))
+                    told = [refused + b"%b\n" % found.faults[at].encode() if at in found.faults else b"%d %d %d %d\n" % numbers
+                            for at, numbers in enumerate(zip(*found.columns))]
+                    wanted = piece.replace(lines[2], b"1 0 0 0\n") if is_test else piece
+                    self.assertEqual(b"".join(told).decode(), wanted.decode(errors="replace"))
         self.assertGreater(min(taken), 1_000)
 
 
@@ -238,18 +243,61 @@ class OfCsvFiles(Test):
             [place % 7 - 3 + more, place % 11 - 5] if place % 1000 else [1000001, 0] for place in range(count)))
 
     def test_a_file_of_another_sweep_is_refused(self):
-        place = self.folder() / "rows.csv"
+        place, table = self.folder() / "rows.csv", Table([[0, 2], [2, 0]])
         self.assertEqual(dollar.to_csv(self.rows(50), place), 50)
         before = place.read_bytes()
-        for other in (self.rows(60, 1), self.rows(30), dollar.rr_all(Table([[0, 2], [2, 0]]), divisors=[[0, 0]] * 60)):
-            with self.assertRaisesRegex(ValueError, "has the rows of another sweep; nothing was changed"):
+        for other, said in ((self.rows(60, 1), "row 1 is about something else"), (self.rows(30), "it has more than the 30 of this one"),
+                            (dollar.judge_all(Table([[0, 3], [3, 0]]), divisors=[[1000001, 0]]), "row 0 is about something else"),
+                            (dollar.rr_all(table, divisors=[[0, 0]] * 60), "its header is not number,crc32,divisor_0,divisor_1,degree")):
+            with self.assertRaisesRegex(ValueError, "has the rows of another sweep: %s.*; nothing was changed" % said):
                 dollar.to_csv(other, place, go_on=True)
             self.assertEqual(place.read_bytes(), before)
+        # Columns do not tell what was asked.
+        with self.assertRaisesRegex(ValueError, "only the answers of a sweep can be gone on with"):
+            dollar.to_csv(dollar.rr_all(table, divisors=[[0, 0]]).columns(), place, go_on=True)
+        self.assertEqual(place.read_bytes(), before)
         # Without it a file is written anew.
         self.assertEqual(dollar.to_csv(self.rows(3), str(place)), 3)
-        self.assertEqual(place.read_text(), "table,winnable,script,reduced,refused\n0,,,,amount of vertex 0\n"
-                         "1,false,0=0 1=-2,0=-6 1=0,\n2,false,0=0 1=-2,0=-5 1=1,\n")
+        sums = [checksum("judge 0\n" + table.to_json(), line) for line in ("1000001 0", "-2 -4", "-1 -3")]
+        self.assertEqual(place.read_text(), "number,crc32,divisor_0,divisor_1,winnable,script_0,script_1,reduced_0,reduced_1,refused\n"
+                         "0,%s,1000001,0,,,,,,amount of vertex 0\n1,%s,-2,-4,false,0,-2,-6,0,\n2,%s,-1,-3,false,0,-2,-5,1,\n" % tuple(sums))
         place.write_text("somebody's\nown\n")
         with self.assertRaises(ValueError):
             dollar.to_csv(self.rows(60), place, go_on=True)
         self.assertEqual(place.read_text(), "somebody's\nown\n")
+        # A rank test of another degree is another sweep.
+        dollar.to_csv(dollar.rank_test_all(table, 1, divisors=[[3, 0]]), place)
+        with self.assertRaisesRegex(ValueError, "row 0 is about something else"):
+            dollar.to_csv(dollar.rank_test_all(table, 2, divisors=[[3, 0]] * 2), place, go_on=True)
+
+    def test_what_goes_wrong_before_an_answer_leaves_a_file_as_it_was(self):
+        place = self.folder() / "rows.csv"
+        place.write_text("of last night\n")
+        for wrong in (lambda: dollar.to_csv(dollar.judge_all([PETERSEN], program="/nowhere/dollar"), place),
+                      lambda: dollar.to_csv(dollar.judge_all(["x"]), place), lambda: dollar.to_csv(dollar.rr(PETERSEN), place),
+                      lambda: dollar.to_csv([dollar.rr(PETERSEN)], place), lambda: dollar.to_csv(dollar.judge_all(RING, divisors=[[1.5] * 4]), place),
+                      lambda: dollar.to_csv(dollar.rr_all([dict(RING.to_dict(), q="z")], errors="raise"), place)):
+            with self.assertRaises((TypeError, FileNotFoundError, Fault)):
+                wrong()
+            self.assertEqual(place.read_text(), "of last night\n")
+
+    @each([RING, ALONE])
+    def test_rows_have_the_divisor_and_what_columns_have(self, table):
+        rows, out = divisors(table, 2_000), io.StringIO()
+        for source in (rows, needed("numpy").array(rows)):
+            out = io.StringIO()
+            dollar.to_csv(dollar.judge_all(table, divisors=source), out)
+            found, columns = list(csv.DictReader(io.StringIO(out.getvalue()))), dollar.judge_all(table, divisors=rows).columns()
+            self.assertEqual([[int(row["divisor_" + name]) for name in table.names] for row in found], rows)
+            for name, column in columns.items():
+                self.assertEqual([row[name] for row in found],
+                                 [str(bool(each)).lower() if name == "winnable" else str(int(each)) for each in column])
+
+    def test_a_first_loss_that_is_not_named_is_left_out(self):
+        for rows in (dollar.rank_test_all(ALONE, 2_000, divisors=[[3_000], [1_000]]),
+                     dollar.rank_test_all([Table(ALONE, [3_000]), Table(ALONE, [1_000])], 2_000)):
+            out = io.StringIO()
+            dollar.to_csv(rows, out)
+            self.assertEqual([(row["holds"], row["degree"], row["refused"]) for row in csv.DictReader(io.StringIO(out.getvalue()))],
+                             [("true", "2000", ""), ("false", "2000", "")])
+            self.assertTrue(out.getvalue().endswith("false,2000,,\n"))

@@ -6,7 +6,7 @@ import random
 
 import dollar
 from dollar import Fault, RankTest, Table
-from dollar.checks import misplaced
+from dollar._checks import misplaced
 from helpers import Test
 from model import Game
 
@@ -140,7 +140,8 @@ class OfDivisors(Test):
         table = Table(ring(3), [1, 2, 0])
         (folder / "long.json").write_text(json.dumps(table.to_dict(), indent=4) + "\n\n")
         self.assertEqual(dollar.rr(folder / "long.json"), dollar.rr(table))
-        for text, said in (("", "not JSON"), ("{}", "shape of top"), ('{"a\nb": 1}', "not JSON"), (json.dumps({**table, "q": "z"}), "no vertex q")):
+        for text, said in (("", "not JSON"), ("{}", "shape of top"), ('{"a\nb": 1}', "not JSON"),
+                           (json.dumps({**table.to_dict(), "q": "z"}), "no vertex q")):
             (folder / "bad.json").write_text(text)
             with self.assertRaisesRegex(Fault, said) as caught:
                 dollar.rr(folder / "bad.json")

@@ -1,5 +1,6 @@
 """Sessions that outlast their program: what is told is kept, and the game goes on from the file. What entries tell, asyncio, and JSON."""
 import asyncio
+import gc
 import json
 import os
 import random
@@ -7,12 +8,13 @@ import signal
 import subprocess
 import sys
 import threading
+import time
 from unittest import mock
 
 import dollar
-from dollar import Ended, Entry, Session, Table
-from dollar.as_json import read
-from dollar.grammar import GRAMMAR
+from dollar import Ended, Entry, Session, Table, _asynchronous as asynchronous
+from dollar._as_json import read
+from dollar._grammar import GRAMMAR
 from helpers import EXAMPLES, HUNG, PACKAGE, Test, each, program, sample, wait_until
 from model import Session as Model, some_command
 from test_session import TABLE
@@ -89,6 +91,23 @@ class OfKeptGames(Test):
             Session(TABLE, keep=place)
         self.assertEqual(place.read_text(), "somebody's own file\n")
 
+    def test_what_does_not_fit_a_kept_game_is_told(self):
+        place = self.folder() / "game"
+        with Session(TABLE, seats=3, keep=place) as session:
+            for line in ("1 claim", "3 lend b", "2 claim"):
+                session.ask(line)
+        before = place.read_bytes()
+        for options, said in (({"seats": 2}, "its answer 2 is '1 moved a=-2 b=2 c=2 d=-1', and the program's 'bad seat'"),
+                              ({}, "its answer 1 is '0 not won', and the program's 'bad word'"),
+                              ({"seats": 3, "cap": 2}, "its answer 3 is '2 not won', and there the session has ended: the history is full"),
+                              ({"seats": 3, "program": self.script("#!/bin/sh\nread line\necho '0 won'\n")},
+                               "its answer 1 is '0 not won', and the program's '0 won'")):
+            with self.assertRaisesRegex(ValueError, "keeps a game that this program and table do not have: " + said):
+                Session(TABLE, keep=place, **options)
+            self.assertEqual(place.read_bytes(), before)
+        with Session(TABLE, seats=3, keep=place) as session:
+            self.assertEqual((len(session.kept), session.now().amounts), (3, (-2, 2, 2, -1)))
+
     def test_what_is_not_kept_is_not_told(self):
         place = self.folder() / "game"
         session = Session(TABLE, keep=place)
@@ -120,11 +139,11 @@ class OfKeptGames(Test):
 
 class OfEntries(Test):
     def test_each_kind_has_a_class(self):
-        kinds = {form: type(dollar.answers.entry(sample(form))).__name__ for form in [*GRAMMAR["replies"], *GRAMMAR["bad"], "turns"]}
+        kinds = {form: type(dollar._answers.entry(sample(form))).__name__ for form in [*GRAMMAR["replies"], *GRAMMAR["bad"], "turns"]}
         self.assertEqual(set(kinds.values()), {
             "Moved", "Given", "Joined", "Looked", "Judged", "Tested", "Stale", "Claimed", "Declined", "Bad", "Turns"})
         for form, kind in kinds.items():
-            entry = dollar.answers.entry(sample(form))
+            entry = dollar._answers.entry(sample(form))
             for name, value in vars(entry).items():
                 if name in getattr(dollar, kind).__annotations__:
                     self.assertIsNotNone(value, form)
@@ -184,6 +203,99 @@ class OfAsyncSessions(Test):
 
         self.assertEqual(asyncio.run(play()), (0, 100, 100, {Ended}))
 
+    @each(["ask", "with"])
+    def test_asyncio_ends_though_a_program_hangs(self, how):
+        """Without any patience: the task is given up, and nothing waits for its answer."""
+        silent, words = self.script("#!/bin/sh\nexec sleep %d\n" % HUNG), {
+            "ask": "    session = await dollar.AsyncSession.open(table, patience=None, program=%r)\n"
+                   "    await asyncio.wait_for(session.ask('look'), 0.2)\n",
+            "with": "    async with dollar.AsyncSession(table, patience=None, program=%r) as session:\n"
+                    "        await asyncio.wait_for(session.ask('look'), 0.2)\n"}
+        text = "import asyncio, dollar\ntable = dollar.Table([[0]])\nasync def play():\n" + words[how] % silent + "asyncio.run(play())\n"
+        began = time.monotonic()
+        done = subprocess.run([sys.executable, "-c", text], stderr=subprocess.PIPE, text=True, env=dict(os.environ, PYTHONPATH=str(PACKAGE)))
+        self.assertIn("TimeoutError", done.stderr.splitlines()[-1])
+        self.assertLess(time.monotonic() - began, HUNG / 2)
+
+    def test_waiting_ones_that_are_cancelled_make_no_entry(self):
+        async def play():
+            async with dollar.AsyncSession(TABLE) as session:
+                first, *others = [asyncio.ensure_future(session.ask("claim")) for _ in range(11)]
+                await asyncio.sleep(0)
+                for other in others:
+                    other.cancel()
+                told = (await first).number
+                await asyncio.gather(*others, return_exceptions=True)
+                return told, (await session.ask("claim")).number
+
+        self.assertEqual(asyncio.run(play()), (0, 1))
+
+    def test_it_is_killed(self):
+        async def play():
+            session = await dollar.AsyncSession.open(TABLE, patience=None, program=self.script("#!/bin/sh\nexec sleep %d\n" % HUNG))
+            task = asyncio.ensure_future(session.ask("look"))
+            await asyncio.sleep(0.1)
+            session.kill()
+            with self.assertRaisesRegex(Ended, "it was killed by `kill`"):
+                await task
+            return await session.close()
+
+        self.assertEqual(asyncio.run(play()), (-signal.SIGKILL, "it was killed by `kill`"))
+
+    def test_a_line_that_was_given_up_does_not_hide_the_next(self):
+        async def play():
+            session = await dollar.AsyncSession.open(TABLE, patience=None)
+            go, exchange = [threading.Event(), threading.Event()], session.session._exchange
+            waits = iter(go)
+
+            def slowly(line):
+                next(waits).wait(20)
+                return exchange(line)
+
+            session.session._exchange = slowly
+            first = asyncio.ensure_future(session.ask("look"))
+            await asyncio.sleep(0.1)
+            first.cancel()
+            await asyncio.gather(first, return_exceptions=True)
+            second = asyncio.ensure_future(session.ask("look"))
+            await asyncio.sleep(0.1)
+            go[0].set()
+            await asyncio.sleep(0.2)
+            is_known = session._working is not None
+            go[1].set()
+            return is_known, str(await second).split()[:2], session._working, await session.close()
+
+        self.assertEqual(asyncio.run(play()), (True, ["1", "looked"], None, (0, "")))
+
+    def test_openings_that_are_cancelled_leave_nothing(self):
+        async def play():
+            tasks = [asyncio.ensure_future(dollar.AsyncSession.open(TABLE)) for _ in range(100)]
+            await asyncio.sleep(0.01)
+            for task in tasks:
+                task.cancel()
+            await asyncio.gather(*tasks, return_exceptions=True)
+
+        before = len(os.listdir("/proc/self/fd")), threading.active_count()
+        asyncio.run(play())
+        # What another test has left may end meanwhile, so there may be less.
+        wait_until(lambda: gc.collect() >= 0 and len(os.listdir("/proc/self/fd")) <= before[0] and threading.active_count() <= before[1])
+
+    def test_500_at_once_leave_nothing(self):
+        async def user(number):
+            async with dollar.AsyncSession(TABLE, seats=2) as session:
+                told = [(await session.lend("b", seat=1 + number % 2)).number for _ in range(5)]
+                return told, dict(session.session.now())
+
+        async def play():
+            return await asyncio.gather(*map(user, range(500)))
+
+        asyncio.run(user(0))
+        before = len(os.listdir("/proc/self/fd")), threading.active_count()
+        found = asyncio.run(play())
+        # b has three neighbours' edges, one to a and two to c, and lends five times.
+        self.assertEqual(found, [([0, 1, 2, 3, 4], {"a": 2, "b": -10, "c": 10, "d": -1})] * 500)
+        wait_until(lambda: len(os.listdir("/proc/self/fd")) <= before[0] and threading.active_count() <= before[1])
+
     def test_a_kept_game_is_played_in_the_thread_of_the_session(self):
         place = self.folder() / "game"
         with Session(TABLE, keep=place) as session:
@@ -192,15 +304,15 @@ class OfAsyncSessions(Test):
         threads = []
 
         class Seen(Session):
-            def _go_on(self, keeping):
+            def _go_on(self, *given):
                 threads.append(threading.current_thread())
-                super()._go_on(keeping)
+                super()._go_on(*given)
 
         async def play():
             async with dollar.AsyncSession(TABLE, keep=place) as session:
                 return len(session.session.kept), (await session.ask("claim")).number
 
-        with mock.patch.object(dollar.session, "Session", Seen):
+        with mock.patch.object(asynchronous, "Session", Seen):
             self.assertEqual(asyncio.run(play()), (3, 3))
         self.assertNotIn(threading.main_thread(), threads)
         self.assertEqual(len(threads), 1)
@@ -225,7 +337,7 @@ class OfJson(Test):
         if form in GRAMMAR["ordered"]:
             entry = text
         found = json.loads(json.dumps(read(entry)))
-        self.assertEqual(found, dollar.answers.numbered(entry).as_dict() if entry != text or "burning" not in text else {
+        self.assertEqual(found, dollar._answers.numbered(entry).as_dict() if entry != text or "burning" not in text else {
             "winnable": text.startswith("w"), "script": {"a": 2, "b": -1}, "reduced": {"a": 2, "b": -1}, "burning": ["a", "b"]})
 
     @each(["", "foo", "0", "0 foo", "0 bad word", "moved a=1", "won", "2 turns", "degree x", "position", "seat 0 calls 1", "refused range",

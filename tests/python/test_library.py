@@ -20,7 +20,7 @@ from unittest import mock
 
 import dollar
 import toolchain
-from dollar import Fault, Table, library
+from dollar import Fault, Table, _library as library
 from helpers import PACKAGE, ROOT, Test, each, needed, program
 
 SEED, ROWS = (int(os.environ.get(name) or other) for name, other in (("SEED", random.randrange(10000)), ("ROWS", 20_000)))
@@ -89,9 +89,9 @@ class OfAnswers(Test):
             rows = [[rng.choice([-4, -2, -1, 0, 0, 1, 1, 2, 3, 5]) for _ in table.vertices] for _ in range(ROWS // 20)]
             for sweep in SWEEPS:
                 self.both(lambda **how: told(sweep(table, divisors=rows, **how)))
-                for kind, source in (("array", rows), ("array", numpy.array(rows)), ("numpy", rows), ("numpy", numpy.array(rows, numpy.int32))):
-                    self.both(lambda **how: {name: (type(column), column.typecode if kind == "array" else column.dtype, list(column)) for name, column
-                                             in sweep(table, divisors=source, **how).columns(kind).items()})
+                for source in (rows, numpy.array(rows), numpy.array(rows, numpy.int32)):
+                    self.both(lambda **how: {name: (type(column), column.dtype, list(column)) for name, column
+                                             in sweep(table, divisors=source, **how).columns().items()})
 
     def test_of_divisors_that_are_refused(self):
         numpy, rng = needed("numpy"), random.Random(SEED + 1)
@@ -106,7 +106,7 @@ class OfAnswers(Test):
                 for sweep in SWEEPS:
                     for errors in "row", "raise":
                         self.both(lambda **how: said(lambda: told(sweep(table, divisors=source(), errors=errors, **how)))[1])
-                    self.both(lambda **how: said(lambda: dict(sweep(table, divisors=source(), **how).columns("array"))))
+                    self.both(lambda **how: said(lambda: list(map(list, sweep(table, divisors=source(), **how).columns().values()))))
 
     def test_of_single_tables(self):
         rng = random.Random(SEED + 2)
@@ -288,7 +288,7 @@ class OfManyAtOnce(Test):
 
         def ask(table):
             mine = rows[table]
-            for found in ([each.rank for each in dollar.rr_all(table, divisors=mine)], dollar.rr_all(table, divisors=mine).columns("array").rank,
+            for found in ([each.rank for each in dollar.rr_all(table, divisors=mine)], dollar.rr_all(table, divisors=mine).columns().rank,
                           [Table(table, row).rank() for row in mine], map(table.asker().rank, mine)):
                 if list(found) != wanted[table]:
                     wrong.append(table)
@@ -315,7 +315,7 @@ class OfManyAtOnce(Test):
         """It comes through in a sweep without end, and while one divisor after another is answered."""
         for words in ("dollar.rr_all(table, divisors=rows).columns()", "list(map(str, dollar.rr_all(table, divisors=rows)))"):
             code = ("import dollar, itertools\ntable = dollar.Table([[0, 22, 22], [22, 0, 22], [22, 22, 0]], [30, 1, 32])\n"
-                    "assert dollar.library.asking('rr', table, None)\nprint(table.rank() >= 0, flush=True)\n"
+                    "assert dollar._library.asking('rr', table, None)\nprint(table.rank() >= 0, flush=True)\n"
                     "rows = itertools.repeat(list(table.amounts))\n" + words)
             child = subprocess.Popen([sys.executable, "-c", code], stdout=subprocess.PIPE, stderr=subprocess.PIPE, text=True,
                                      env=dict(os.environ, PYTHONPATH=str(PACKAGE)))
@@ -359,6 +359,6 @@ class OfManyAtOnce(Test):
         rows.flags.writeable = False
         lent, call = [], asked.call
         asked.call = lambda *words: lent.append(words[3:5]) or call(*words)
-        self.assertEqual(sum(len(told) for told, _ in asked.of_all(rows, iter(()))), 300)
+        self.assertEqual(sum(len(batch.kept) for batch in asked.batches(rows, iter(()))), 300)
         starts = [rows.ctypes.data, *(start + 8 * count for start, count in lent)]
         self.assertEqual(([start for start, _ in lent], starts[-1]), (starts[:-1], rows.ctypes.data + rows.nbytes))

@@ -58,10 +58,12 @@ class OfMeanings(Test):
         child = os.fork()
         if child == 0:
             try:
-                session.ask("look")
-            except ValueError as error:
-                os._exit("belongs to the process %d" % os.getppid() in str(error))
-            os._exit(7)
+                for call in (lambda: session.ask("look"), session.kill):
+                    with self.assertRaisesRegex(ValueError, "belongs to the process %d" % os.getppid()):
+                        call()
+            except BaseException:
+                os._exit(7)
+            os._exit(1)
         self.assertEqual(os.waitstatus_to_exitcode(os.waitpid(child, 0)[1]), 1)
         self.assertEqual((session.ask("look").number, session.close()), (0, (0, "")))
 
@@ -112,7 +114,7 @@ class OfMeanings(Test):
         self.assertEqual(Table(RENAMED, {1: 5}).divisor, {0: 0, 1: 5, 2: 0})
         self.assertEqual(Table(RENAMED, {1: 5}).to_dict()["amounts"], [0, 5, 0])
         verdict, = dollar.judge_all(RENAMED, divisors=[{1: 5}])
-        self.assertEqual(verdict.judged()["amounts"], [0, 5, 0])
+        self.assertEqual(verdict.judged().amounts, (0, 5, 0))
         self.assertEqual(str(verdict), "winnable by 1=0 2=5 3=5 to 1=5 2=0 3=0")
         self.assertEqual(verdict.script, {0: 0, 1: 5, 2: 5})
         again = pickle.loads(pickle.dumps(verdict))
@@ -153,7 +155,7 @@ class OfMeanings(Test):
         verdicts = list(dollar.judge_all(again()))
         for amount, verdict in enumerate(verdicts):
             verdict.check()
-            self.assertEqual(verdict.judged()["amounts"], [amount, 1, -1])
+            self.assertEqual(verdict.judged().amounts, (amount, 1, -1))
         for test in list(dollar.rank_test_all(again(), 1)):
             test.check()
 
@@ -164,7 +166,7 @@ class OfMeanings(Test):
                 row[0] = amount
                 yield row
 
-        self.assertEqual([verdict.judged()["amounts"][0] for verdict in dollar.judge_all(PATH, divisors=again())], [0, 1, 2])
+        self.assertEqual([verdict.judged().amounts[0] for verdict in dollar.judge_all(PATH, divisors=again())], [0, 1, 2])
         self.assertEqual(list(map(int, dollar.rr_all(PATH, divisors=again()).columns().degree)), [0, 1, 2])
 
     @each(["/usr/bin/true", "/bin/cat", "/bin/echo"])

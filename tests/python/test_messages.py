@@ -26,9 +26,9 @@ t.is_reduced("b")
 dollar.rank(t, 1)
     TypeError: rank() takes 1 positional argument but 2 were given
 dollar.rank_test_all(t, 1)
-    TypeError: many tables are asked about, as a list of them, or as `divisors` of one table; and not Table({'vertices': ['a'
+    TypeError: many tables are asked about, as a list of them, or as `divisors` of one table; and not Table(<3 vertices, 3 edges>
 dollar.rr_all(t)
-    TypeError: many tables are asked about, as a list of them, or as `divisors` of one table; and not Table({'vertices': ['a'
+    TypeError: many tables are asked about, as a list of them, or as `divisors` of one table; and not Table(<3 vertices, 3 edges>
 dollar.judge_all("tables.txt")
     TypeError: many tables are asked about, as a list of them, or as `divisors` of one table; and not 'tables.txt'
 dollar.judge_all(N)
@@ -226,7 +226,7 @@ list(dollar.judge_all(t, divisors=[2, -1, -1]))
 list(dollar.judge_all(t, divisors=[[9999999, 0, 0]], errors="raise"))
     Fault: table 0: amount of vertex 0: 9999999, and only -1000000 to 1000000 is possible (status 3)
 dollar.judge_all(t, divisors=[[9999999, 0, 0]]).columns()
-    Fault: table 0: amount of vertex 0: only -1000000 to 1000000 is possible (status 3)
+    Fault: table 0: amount of vertex 0: 9999999, and only -1000000 to 1000000 is possible (status 3)
 dollar.judge_all([t], errors="ignore")
     ValueError: errors are either 'row' or 'raise', and not 'ignore'
 dollar.judge_all([t], ahead=0)
@@ -234,7 +234,53 @@ dollar.judge_all([t], ahead=0)
 dollar.judge_all([t]).columns()
     ValueError: columns by vertices are for `divisors` of one table
 dollar.judge_all(t, divisors=[[1, 2, 3]]).columns("pandas")
-    ValueError: columns are of the kind 'numpy' or 'array', and not 'pandas'
+    TypeError: columns() takes 1 positional argument but 2 were given
+dollar.to_csv(dollar.rr(t), "kept.csv")
+    TypeError: a CSV file has what judge_all, rank_test_all or rr_all give, or columns of that, and not a thing of the type RiemannRoch
+dollar.to_csv([t], "kept.csv")
+    TypeError: a CSV file has what judge_all, rank_test_all or rr_all give, or columns of that, and not a thing of the type list
+dollar.judge(Table(t, [10 ** 30, 0, 0]))
+    Fault: shape of amounts: 1000000000000000000000000000000 at vertex a, and only -1000000 to 1000000 is possible (status 3)
+dollar.judge(Table(t, [0, -10 ** 5000, 0]))
+    Fault: shape of amounts: a number of 5001 digits at vertex b, and only -1000000 to 1000000 is possible (status 3)
+dollar.judge(dict(N, amounts=[0, 2 ** 63, 0]))
+    Fault: shape of amounts: 9223372036854775808 at vertex b, and only -1000000 to 1000000 is possible (status 3)
+list(dollar.judge_all([Table(t, [0, 0, 10 ** 400])], errors="raise"))
+    Fault: table 0: shape of amounts: a number of 401 digits at vertex c, and only -1000000 to 1000000 is possible (status 3)
+list(dollar.judge_all(t, divisors=[[0, 0, 10 ** 5000]], errors="raise"))
+    Fault: table 0: shape of amounts: a number of 5001 digits at vertex c, and only -1000000 to 1000000 is possible (status 3)
+dollar.greedy(t, 10 ** 5000)
+    ValueError: the number of turns: a number of 5001 digits, and only 0 to 65536 is possible
+Table({"vertices": [["a"], "b"], "edges": [], "amounts": [0, 0], "q": "b"})
+    TypeError: ['a'] can't be a vertex: a vertex is a text, a number, a tuple, or whatever has a hash
+Table(dict(N, vertices=None))
+    TypeError: the member vertices is a list, and not None
+Table(dict(N, edges="ab"))
+    TypeError: the member edges is a list, and not 'ab'
+Table(dict(N, edges=[None]))
+    ValueError: edge 0 is not a list of two names and a number: None
+Table(dict(N, edges=[[["a"], "b", 1]]))
+    ValueError: the edge from ['a'] to b has no vertex
+Table(dict(N, amounts={"a": 1}))
+    TypeError: the member amounts is a list, and not {'a': 1}
+Table(dict(N, q=None))
+    ValueError: the member q is a vertex, and not None
+Table([(0, 1), (1, 2), (2, 0)])
+    ValueError: Table.of_edges takes pairs of vertices
+Table.of_edges([("a", "b"), "bc"])
+    ValueError: edge 1 is not a pair of vertices, nor one with a number: 'bc'
+t["vertices"]
+    KeyError: there is no vertex 'vertices': the vertices are a, b, c; t.to_dict() has the members of a table file
+dollar.run("judge", types.SimpleNamespace(nodes=[], edges=[]))
+    TypeError: a word is a text, a number, a place, a list of lines or a Table, and not of the type SimpleNamespace
+t.serve(patience="x")
+    ValueError: patience: 'x', and only more than 0 seconds, or None, is possible
+dollar.rr(N, patience=-1)
+    ValueError: patience: -1, and only more than 0 seconds, or None, is possible
+dollar.picture(t, [1, 2])
+    ValueError: there are 2 lendings for 3 vertices
+t.jacobian()
+    AttributeError: a table has no attribute 'jacobian': t.reduced_divisors(0) are the elements of the Jacobian group
 (lambda a: (list(a), list(a)))(dollar.judge_all([t]))
     ValueError: the answers were taken already: ask again for more
 (lambda a: (a.columns(), a.columns()))(dollar.rr_all([t]))

@@ -1,11 +1,13 @@
 """The package as a whole: installed by pip for each Python that is here, with its examples and its types."""
 import doctest
+import email
 import importlib.util
 import inspect
 import os
 import shutil
 import subprocess
 import sys
+import zipfile
 
 import dollar
 from helpers import EXAMPLES, PACKAGE, Test, each, needed, pythons
@@ -28,7 +30,7 @@ def has(python, module):
 
 
 class OfThePackage(Test):
-    @each(range(9, 14))
+    @each(range(10, 15))
     def test_pip_installs_it_and_its_examples_hold(self, minor):
         python = pythons().get((3, minor))
         if python is None:
@@ -51,6 +53,28 @@ class OfThePackage(Test):
         text = inspect.getdoc(method).replace("  # doctest: +SKIP", "")
         found = doctest.DocTestParser().get_doctest(text, dict(vars(dollar)), name, None, None)
         self.assertEqual((doctest.DocTestRunner().run(found).failed, len(found.examples) > 0), (0, True))
+
+    def test_what_is_told_of_it(self):
+        """The wheel tells what pyproject.toml has, which is read here by Python itself; and each platform of a tag has a line."""
+        project = needed("tomllib").loads((PACKAGE / "pyproject.toml").read_text())["project"]
+        folder = self.folder()
+        words = ("import sys; sys.path.insert(0, %r); import backend; print(backend.wheel_of(%r, {}, 'py3-none-one.two'))"
+                 % (str(PACKAGE), str(folder)))
+        name = self.holds([sys.executable, "-B", "-c", words]).strip()
+        with zipfile.ZipFile(folder / name) as wheel:
+            info = "dollar-%s.dist-info/" % dollar.__version__
+            told = email.message_from_bytes(wheel.read(info + "METADATA"))
+            self.assertEqual((told["Name"], told["Version"], told["Summary"], told["License"], told["Requires-Python"], told["Keywords"].split(",")),
+                             (project["name"], dollar.__version__, project["description"], project["license"]["text"],
+                              project["requires-python"], project["keywords"]))
+            self.assertEqual(told.get_all("Classifier"), project["classifiers"])
+            self.assertIn("dollar-board = %s\n" % project["scripts"]["dollar-board"], wheel.read(info + "entry_points.txt").decode())
+            self.assertEqual(email.message_from_bytes(wheel.read(info + "WHEEL")).get_all("Tag"), ["py3-none-one", "py3-none-two"])
+
+    def test_it_is_imported_from_a_zip_and_without_asyncio(self):
+        archive = shutil.make_archive(str(self.folder() / "dollar"), "zip", PACKAGE, "dollar")
+        words = "import sys, dollar; print('asyncio' in sys.modules, dollar.Table([[0, 1], [1, 0]]).degree, dollar.AsyncSession.__name__)"
+        self.assertEqual(self.holds([sys.executable, "-c", words], cwd="/", env=dict(os.environ, PYTHONPATH=archive)), "False 0 AsyncSession\n")
 
     def test_the_types(self):
         needed("mypy")

@@ -6,7 +6,7 @@ import shutil
 import subprocess
 
 import dollar
-from dollar import names
+from dollar import _names as names
 from helpers import ROOT, Test, each, needed
 from pages import shown
 

@@ -160,7 +160,7 @@ class OfNames(Test):
     def test_any_vertices_serve(self):
         grid = types.SimpleNamespace(nodes=[(0, 0), (0, 1), (1, 1)], edges=[((0, 0), (0, 1)), ((0, 1), (1, 1))])
         table = Table(grid, {(0, 0): 2, (1, 1): -1}, (0, 1))
-        self.assertEqual((table.names, table.q, table["q"], str(dollar.judge(table))),
+        self.assertEqual((table.names, table.q, table.to_dict()["q"], str(dollar.judge(table))),
                          (("v0", "v1", "v2"), (0, 1), "v1", "winnable by v0=2 v1=0 v2=-1 to v0=0 v1=1 v2=0"))
         self.assertEqual(dollar.judge(table).script, {(0, 0): 2, (0, 1): 0, (1, 1): -1})
         self.assertEqual(Table(table, {"v2": 1}).divisor[(1, 1)], 1)

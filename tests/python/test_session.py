@@ -205,4 +205,62 @@ class OfSessions(Test):
         for _ in range(20):
             with Session(TABLE) as session:
                 session.ask("claim")
-        wait_until(lambda: len(os.listdir("/proc/self/fd")) == before)
+        wait_until(lambda: len(os.listdir("/proc/self/fd")) <= before)
+
+    def test_closing_leaves_no_thread(self):
+        before, sessions = threading.active_count(), [Session(TABLE) for _ in range(8)]
+        for session in sessions:
+            self.assertEqual(session.close(), (0, ""))
+        wait_until(lambda: threading.active_count() <= before)
+        # What is asked after that has its answer too, without a thread.
+        for session in sessions:
+            with self.assertRaisesRegex(Ended, "status 0"):
+                session.ask("claim")
+            self.assertEqual((session.close(), session.now().amounts), ((0, ""), (-3, 5, 0, -1)))
+
+    def test_the_table_as_it_stands(self):
+        """After any lines it is the one on which they would be played next: a session on it says what the first one says."""
+        rng = random.Random(5)
+        for seats in (None, 3):
+            with Session(TABLE, seats=seats) as session:
+                for _ in range(60):
+                    line = some_command(rng, "abcd")
+                    session.ask(line if seats is None else "%d %s" % (rng.randint(1, 3), line))
+                now = session.now()
+                shown = session.ask("look" if seats is None else "1 look").amounts
+                self.assertEqual(dict(now), dict(shown))
+                with Session(now) as other:
+                    for command in ("look", "fire a,b", "join b d", "fire b,c", "claim"):
+                        told = [each.ask(command if each is other or seats is None else "1 " + command) for each in (session, other)]
+                        self.assertEqual(*((entry.word, entry.amounts) for entry in told))
+                self.assertEqual(dict(other.now()), dict(session.now()))
+                self.assertEqual(other.now().genus, session.now().genus)
+
+    def test_calls_by_the_vertices_of_the_caller(self):
+        grid = {v: {u for u in ((0, 0), (0, 1), (1, 0), (1, 1)) if sum(map(abs, (u[0] - v[0], u[1] - v[1]))) == 1}
+                for v in ((0, 0), (0, 1), (1, 0), (1, 1))}
+        table = Table.of_edges([(u, v) for u, near in grid.items() for v in near if u < v], {(0, 0): 4, (1, 1): -2})
+        with table.serve() as session, table.serve(seats=2) as seated:
+            for call in (lambda its, **seat: its.lend((0, 0), **seat), lambda its, **seat: its.borrow((1, 1), **seat),
+                         lambda its, **seat: its.fire({(0, 1), (0, 0)}, **seat), lambda its, **seat: its.fire({(1, 0): 2, (0, 1): -1}, **seat),
+                         lambda its, **seat: its.gift((1, 1), 5, **seat), lambda its, **seat: its.join((0, 0), (1, 1), **seat)):
+                one, other = call(session), call(seated, seat=2)
+                self.assertEqual((one, one.seat, other.seat), (other, None, 2))
+            script = {(0, 0): 2, (0, 1): 0, (1, 0): 2, (1, 1): -1}
+            self.assertEqual(session.now().amounts, tuple((table.fire(script) + {(1, 1): 5}).amounts))
+            self.assertEqual((session.now().genus, session.now().neighbors((0, 0))[1, 1]), (2, 1))
+            for wrong, said in ((lambda: session.lend((5, 5)), "there is no vertex"), (lambda: session.gift((0, 0), 1.5), "not a whole number"),
+                                (lambda: session.fire([(0, 0)]), "is a set of vertices, or a dict"),
+                                (lambda: session.fire({(0, 0): 0.5}), "not a whole number")):
+                with self.assertRaisesRegex((TypeError, ValueError), said):
+                    wrong()
+        with Session(EXAMPLES / "triangle.json") as session:
+            self.assertEqual(session.lend("a").amounts, {"a": 0, "b": 0, "c": 0})
+
+    def test_it_is_killed_while_it_waits(self):
+        session = Session(TABLE, patience=None, program=self.script("#!/bin/sh\nexec sleep %d\n" % HUNG))
+        threading.Timer(0.2, session.kill).start()
+        with self.assertRaisesRegex(Ended, "status -9: it was killed by `kill`"):
+            session.ask("look")
+        session.kill()
+        self.assertEqual(session.close(), (-signal.SIGKILL, "it was killed by `kill`"))

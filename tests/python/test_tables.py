@@ -77,7 +77,7 @@ class OfTables(Test):
             self.assertEqual(Table.graph6(networkx.to_graph6_bytes(graph), table.divisor, table.q), table)
             matrix = [[int(graph.has_edge(u, v)) for v in graph] for u in graph]
             self.assertEqual(Table(matrix, list(table.amounts), table.q), table)
-            self.assertTrue(Table(json.loads(table.to_json())) == table == pickle.loads(pickle.dumps(table)) == eval(repr(table)))
+            self.assertTrue(Table(json.loads(table.to_json())) == Table(table.to_dict()) == table == pickle.loads(pickle.dumps(table)))
 
     def test_the_program_reads_what_a_table_says(self):
         networkx = needed("networkx")

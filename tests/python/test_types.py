@@ -32,45 +32,65 @@ reveal_type(dollar.judge(table).winnable)  # is builtins.bool
 dollar.judge(table).script[0] = 1  # error
 reveal_type(dollar.judge(table).script)  # is typing.Mapping[typing.Hashable, builtins.int]
 reveal_type(table.rank())  # is builtins.int
-reveal_type(table + [1, 2])  # is dollar.table.Table
-reveal_type(3 * table)  # is dollar.table.Table
+reveal_type(table)  # is dollar._table.Table[builtins.int]
+reveal_type(named + {"a": 2})  # is dollar._table.Table[builtins.str]
+reveal_type(3 * table)  # is dollar._table.Table[builtins.int]
+reveal_type(table[0] + sum(table.values()))  # is builtins.int
+reveal_type(list(table))  # is builtins.list[builtins.int]
+reveal_type(Table.of_edges([("a", "b")]).gonality())  # is builtins.int
 reveal_type(table.degree)  # is builtins.int
-reveal_type(table.linear_system())  # is dollar.divisors.LinearSystem
-reveal_type(next(dollar.judge_all([table], errors="raise")))  # is dollar.answers.Verdict
-reveal_type(next(dollar.judge_all([table])))  # is Union[dollar.answers.Verdict, dollar.answers.RefusedVerdict]
-reveal_type(next(dollar.rank_test_all([table], 1, errors="raise")))  # is dollar.answers.RankTest
-reveal_type(next(dollar.rr_all([table], errors="row")))  # is Union[dollar.answers.RiemannRoch, dollar.answers.RefusedRiemannRoch]
+reveal_type(table.linear_system())  # is dollar._divisors.LinearSystem[builtins.int]
+reveal_type(next(dollar.judge_all([table], errors="raise")))  # is dollar._answers.Verdict
+reveal_type(next(dollar.judge_all([table])))  # is Union[dollar._answers.Verdict, dollar._answers.RefusedVerdict]
+reveal_type(next(dollar.rank_test_all([table], 1, errors="raise")))  # is dollar._answers.RankTest
+reveal_type(next(dollar.rr_all([table], errors="row")))  # is Union[dollar._answers.RiemannRoch, dollar._answers.RefusedRiemannRoch]
 reveal_type(dollar.rr(table).rank)  # is builtins.int
 reveal_type(dollar.rank(table))  # is builtins.int
-reveal_type(table.fire({0: 1}).lend(1))  # is dollar.table.Table
-reveal_type(next(iter(table.reduced_divisors(2, winnable=True))))  # is dollar.table.Table
+reveal_type(table.fire({0: 1}).lend(1))  # is dollar._table.Table[builtins.int]
+reveal_type(next(iter(table.reduced_divisors(2, winnable=True))))  # is dollar._table.Table[builtins.int]
 dollar.rr_all([table], errors="ignore")  # error
 dollar.judge(table, "b")  # error
 dollar.judge_all(table, [[2, -1]])  # error
 dollar.rank(table, 1)  # error
 table.rank(1)  # error
 found = dollar.judge_all(table, divisors=[[1, 2]]).columns()
-reveal_type(found.winnable)  # is Union[numpy.ndarray[Any, numpy.dtype[numpy.bool_]], array.array[builtins.int]]
-reveal_type(found.script[0].tolist())  # is Union[Any, builtins.list[builtins.int]]
-found.script[0].no_such_thing  # error
+reveal_type(found.winnable)  # is numpy.ndarray[Any, numpy.dtype[numpy.bool_]]
+reveal_type(found.script[0])  # is numpy.ndarray[Any, numpy.dtype[numpy.signedinteger[numpy._typing._64Bit]]]
+(found.script[0] == found.reduced[0] - 1).all()
+found.no_such_thing  # error
 found.script[0] = found.script[1]  # error
-dollar.judge_all(table, divisors=[[1, 2]]).columns("pandas")  # error
-of_numpy = dollar.rank_test_all(table, 1, divisors=[[1, 2]]).columns("numpy")
-reveal_type(of_numpy.holds)  # is numpy.ndarray[Any, numpy.dtype[numpy.bool_]]
-(of_numpy.loss[0] == of_numpy.loss[1] - 1).all()
-of_array = dollar.rr_all(table, divisors=[[1, 2]]).columns("array")
-reveal_type(of_array.rank)  # is array.array[builtins.int]
-reveal_type(of_array.rank[0])  # is builtins.int
+dollar.judge_all(table, divisors=[[1, 2]]).columns("numpy")  # error
+reveal_type(dollar.judge_all([table], errors="raise"))  # is dollar._sweeps.Verdicts[dollar._answers.Verdict]
+dollar.to_csv(found, "found.csv"), dollar.to_csv(dollar.judge_all([table]), "found.csv")
+dollar.to_csv([table], "found.csv")  # error
+Table(table, {0: 1.5})  # error
+table.fire({0: 1.5})  # error
+table + {0: 1.5}  # error
+table.jacobian()  # error
+table.fire({0, 1}), table.fire([1, 2]), table.fire((1, 2)), table.fire({0: 1}), table.fire(table)
+
+
+async def play() -> None:
+    await dollar.AsyncSession.open(table, seat=3)  # error
+    other = await dollar.AsyncSession.open(table, seats=3)
+    reveal_type(await other.lend(0, seat=1))  # is dollar._answers.Entry
+    other.kill()
+
+
 with table.serve() as session:
     entry = session.ask("look")
-    reveal_type(entry)  # is dollar.answers.Entry
+    reveal_type(entry)  # is dollar._answers.Entry
+    reveal_type(session.gift(0, 3))  # is dollar._answers.Entry
+    reveal_type(session.now().amounts)  # is builtins.tuple[builtins.int, ...]
+    session.gift(0, 1.5)  # error
+    session.fire(0)  # error
     reveal_type(entry.amounts)  # is Union[typing.Mapping[typing.Hashable, builtins.int], None]
     if isinstance(entry, dollar.Looked):
         reveal_type(entry.amounts)  # is typing.Mapping[typing.Hashable, builtins.int]
     if isinstance(entry, dollar.Judged):
-        reveal_type(entry.found)  # is dollar.answers.Verdict
+        reveal_type(entry.found)  # is dollar._answers.Verdict
     if isinstance(entry, dollar.Tested):
-        reveal_type(entry.found)  # is dollar.answers.RankTest
+        reveal_type(entry.found)  # is dollar._answers.RankTest
 '''
 
 
@@ -92,7 +112,7 @@ class OfTypes(Test):
             revealed = re.search(r'Revealed type is "(.*)"', text)
             if kind == "error" or revealed:
                 found.setdefault(int(number), "is " + revealed[1] if revealed else "error")
-        sample = SAMPLE if numpy == "with" else SAMPLE.replace("numpy.ndarray[Any, numpy.dtype[numpy.bool_]]", "Any")
+        sample = SAMPLE if numpy == "with" else re.sub(r"is numpy\.ndarray.*", "is Any", SAMPLE)
         wanted = {number: line.partition("  # ")[2] for number, line in enumerate(sample.splitlines(), 1) if "  # " in line}
         self.assertEqual(found, wanted, said)
         self.assertNotRegex(said, "dollar/.*error")

@@ -5,7 +5,7 @@ import asyncio
 import json
 from typing import Any, Callable, Iterable
 
-from dollar.commands import beside
+from dollar._commands import beside
 from dollar.board.game import MOST_LINE, Game, Table
 from dollar.board.pages import asset, forward, page
 from dollar.board.puzzles import CHAPTERS, CHAPTER_GRAPHS, EACH_CHAPTER, GRAPHS, after, chapter, puzzles
@@ -13,9 +13,9 @@ from dollar.board.replay import page as replay_page
 from dollar.board.server import Answer, Nothing, Refused, Request, as_json, new_secret, same, text_in
 from dollar.board.texts import t
 from dollar.board.ways import hint
-from dollar.drawing import USUAL, layout
-from dollar.program import PATIENCE, Fault, call, fault_of
-from dollar.table import EXAMPLES, text_of
+from dollar._drawing import USUAL, layout
+from dollar._program import PATIENCE, Fault, call, fault_of
+from dollar._table import EXAMPLES, text_of
 
 MOST_BODY, AT_ONCE, MOST_GAMES = 1 << 24, 3, 8
 # How many seconds a rank may take, which on some tables is minutes.

@@ -7,9 +7,9 @@ import json
 from typing import Any, Callable, Sequence
 
 from dollar.board.texts import t
-from dollar.drawing import USUAL, layout
-from dollar.grammar import limit
-from dollar.program import PATIENCE, command_line, fault_of
+from dollar._drawing import USUAL, layout
+from dollar._grammar import limit
+from dollar._program import PATIENCE, command_line, fault_of
 
 MOST_SEATS, MOST_LINE = limit("dg_rules::MAX_SEATS"), limit("dg_session::MAX_LINE")
 PIECE = 1 << 16

@@ -12,8 +12,8 @@ import sys
 from typing import Any, Callable, TextIO
 
 from dollar.board.room import Item, Noted, Played, Rewound
-from dollar.program import typed
-from dollar.table import text_of
+from dollar._program import typed
+from dollar._table import text_of
 
 CLASS, TABLES, RESULTS, RECORD = "class.json", "tables.json", "results.jsonl", re.compile(r"room([0-9]{1,2})\.jsonl\Z")
 KINDS = {"played": Played, "rewound": Rewound}

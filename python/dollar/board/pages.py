@@ -10,8 +10,8 @@ from typing import Callable, Mapping
 
 from dollar.board.server import Answer, Nothing, Request
 from dollar.board.texts import TABLES, WEB, in_html, spoken, t, texts
-from dollar.grammar import GRAMMAR
-from dollar.table import text_of
+from dollar._grammar import GRAMMAR
+from dollar._table import text_of
 
 KINDS = {"css": "text/css", "js": "text/javascript"}
 # The modules that pages have as their scripts.

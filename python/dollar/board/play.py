@@ -31,8 +31,8 @@ from dollar.board.keeping import Keeper
 from dollar.board.pages import forward
 from dollar.board.requests import Requests
 from dollar.board.server import ANY, Answer, Request, Server, addresses_of, is_loopback, new_secret
-from dollar.program import Fault, printed, typed
-from dollar.table import EXAMPLES, shown_name, text_of
+from dollar._program import Fault, printed, typed
+from dollar._table import EXAMPLES, shown_name, text_of
 
 # The port of a class in a network, if it is free, since pupils type it.
 LOOPBACK, USUAL_PORT = "127.0.0.1", 8000

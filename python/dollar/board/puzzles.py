@@ -12,11 +12,11 @@ import random
 from collections import Counter
 from typing import Any, List, Sequence, Tuple
 
-from dollar.answers import numbered
+from dollar._answers import numbered
 from dollar.board.texts import t
 from dollar.board.ways import fewest, moves_of
-from dollar.drawing import USUAL, layout
-from dollar.program import PATIENCE, printed
+from dollar._drawing import USUAL, layout
+from dollar._program import PATIENCE, printed
 
 Edges = List[Tuple[int, int]]
 TRIES, LETTERS = 40, "abcdefghijklmnop"

@@ -11,7 +11,7 @@ from pathlib import Path
 from typing import Any
 
 from dollar.board.ways import hint
-from dollar.program import PATIENCE
+from dollar._program import PATIENCE
 
 ROOT = Path(__file__).resolve().parents[2]
 # The longest line of the process, and how long one may take.

@@ -13,11 +13,11 @@ import re
 import sys
 from typing import Any, Iterable, Mapping, cast
 
-from dollar.answers import numbered
+from dollar._answers import numbered
 from dollar.board.pages import filled, one_script, part
-from dollar.drawing import held, layout
-from dollar.program import printed, typed
-from dollar.table import shown_name, text_of
+from dollar._drawing import held, layout
+from dollar._program import printed, typed
+from dollar._table import shown_name, text_of
 
 USAGE = """%(prog)s FILE STEPS > GAME.html            the history is what `dollar rehearse FILE STEPS` prints
        %(prog)s FILE STEPS HISTORY > GAME.html    the history is that of a file; the page says where the program prints another

@@ -17,7 +17,7 @@ from dollar.board.room import Room
 from dollar.board.seats import Seat, clean
 from dollar.board.server import LETTERS, Answer, Nothing, Refused, Request, as_json, new_secret, same, text_in
 from dollar.board.texts import t
-from dollar.program import PATIENCE, Fault, printed
+from dollar._program import PATIENCE, Fault, printed
 
 MOST_BODY, MOST_TABLE = 1 << 14, 1 << 22
 # What may be meant as a short code, and what is counted as a wrong one.

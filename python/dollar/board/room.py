@@ -7,12 +7,12 @@ import json
 import time
 from typing import Any, Callable, NamedTuple, Sequence, Union
 
-from dollar.answers import numbered, verdict_of
+from dollar._answers import numbered, verdict_of
 from dollar.board.game import Game
 from dollar.board.reckoning import Reckoner
 from dollar.board.server import Refused, new_secret
 from dollar.board.texts import t
-from dollar.program import PATIENCE, Fault, printed
+from dollar._program import PATIENCE, Fault, printed
 
 BATCH, LETTERS = 400, 9
 # How many moves a wrong answer costs.

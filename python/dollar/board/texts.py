@@ -8,7 +8,7 @@ import re
 from contextvars import ContextVar
 from typing import Any
 
-from dollar.table import text_of
+from dollar._table import text_of
 
 WEB = os.path.join(os.path.dirname(os.path.abspath(__file__)), "web")
 LANGUAGES = {"en": "texts.json", "de": "texts.de.json"}

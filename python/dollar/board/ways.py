@@ -7,8 +7,8 @@ import json
 import statistics
 from typing import Any, Iterator, Mapping
 
-from dollar.answers import verdict_of
-from dollar.program import PATIENCE, printed
+from dollar._answers import verdict_of
+from dollar._program import PATIENCE, printed
 
 # How many tables, and how many sets of vertices, are looked at for a shortest way.
 SEARCHED, LOOKED = 20000, 200000

@@ -11,14 +11,15 @@ import sys
 import threading
 import time
 from array import array
+from collections.abc import Callable, Iterable, Iterator, Sequence
 from itertools import chain, islice
 from pathlib import Path
-from typing import Any, Callable, Dict, Iterable, Iterator, List, Optional, Sequence, Tuple, Union
+from typing import Any
 
-from dollar.program import CLONE, HOME, IS_IN_CLONE, Place, ProgramNotFound, built
-from dollar.readers import is_array
-from dollar.table import Table
-from dollar.vertices import Dollars
+from dollar._program import CLONE, HOME, IS_IN_CLONE, Place, ProgramNotFound, built
+from dollar._readers import TOO_MANY, Batch, is_array
+from dollar._table import Table
+from dollar._vertices import Dollars
 
 FILE, ABI = "libdollar.so.1", 1
 # What each function is lent: a size, a pointer, or a degree.
@@ -33,10 +34,10 @@ SLOW, PATIENCE = 0.001, 0.05
 # What is told of a row beside 1 and 0: a rank test fails, and its first loss is not named; an amount is none of 64 bits.
 UNNAMED, SHAPE = 2, -128
 # A graph as a function takes it.
-OnGraph = Tuple[int, bytes, int]
+OnGraph = tuple[int, bytes, int]
 
 
-def places(named: Optional[str], program: Optional[str]) -> Iterator[Path]:
+def places(named: str | None, program: str | None) -> Iterator[Path]:
     """Where the library may be. Who names a program wants that one to answer."""
     if named is not None:
         yield from [Path(named)] if named else []
@@ -55,7 +56,7 @@ def places(named: Optional[str], program: Optional[str]) -> Iterator[Path]:
 
 
 @functools.lru_cache(maxsize=None)
-def loaded(named: Optional[str], program: Optional[str]) -> Any:
+def loaded(named: str | None, program: str | None) -> Any:
     """The library, or None."""
     for place in places(named, program):
         try:
@@ -70,7 +71,7 @@ def loaded(named: Optional[str], program: Optional[str]) -> Any:
     return None
 
 
-def on_graph(library: Any, table: Table) -> Optional[OnGraph]:
+def on_graph(library: Any, table: Table[Any]) -> OnGraph | None:
     """The graph of a table, or None if the library refuses it."""
     places = table._vertices.places
     try:
@@ -89,7 +90,7 @@ def refused(what: int) -> str:
 class Asking:
     """A question about divisors on one graph: `judge`, `rank`, the test of a degree, or `rr`, the ranks."""
 
-    def __init__(self, library: Any, graph: OnGraph, table: Table, command: str, degree: int) -> None:
+    def __init__(self, library: Any, graph: OnGraph, table: Table[Any], command: str, degree: int) -> None:
         size = graph[0]
         name, words, wide = {"judge": ("dollar_judge", (table._q,), (size, size, size)), "rr": ("dollar_rank", (), (1, 1)),
                              "rank": ("dollar_rank_test", (degree,), (size,))}[command]
@@ -98,11 +99,11 @@ class Asking:
         self.wide = tuple(zip("bqqb", (1, *wide)))
         self.at_once = 1
 
-    def made(self, rows: int) -> List[array[int]]:
+    def made(self, rows: int) -> list[array[int]]:
         """The arrays for the answers about so many rows: what is told of each, and its numbers."""
         return [array(kind, bytes(rows * each * (8 if kind == "q" else 1))) for kind, each in self.wide]
 
-    def arrays(self, amounts: Tuple[int, int]) -> List[array[int]]:
+    def arrays(self, amounts: tuple[int, int]) -> list[array[int]]:
         """These arrays, filled for the rows of an array, which is given by its address and its length."""
         made, began = self.made(amounts[1] // self.size), time.monotonic()
         if self.call(*self.words, *amounts, *chain.from_iterable(each.buffer_info() for each in made)):
@@ -110,29 +111,30 @@ class Asking:
         self.at_once = min(2 * self.at_once, MOST_ROWS) if time.monotonic() - began < QUICK else max(self.at_once // 2, 1)
         return made
 
-    def columns(self, amounts: Any, degrees: Iterable[int]) -> Tuple[array[int], List[Sequence[int]]]:
-        """What is told of the rows of an array, and their numbers in columns, as the program prints them."""
+    def batch(self, kept: Any, amounts: Any, degrees: Iterable[int]) -> Batch:
+        """What is told of the rows of an array, with the numbers that the program prints."""
         held = amounts.buffer_info() if isinstance(amounts, array) else (amounts.ctypes.data, amounts.size)
         told, *found = self.arrays(held)
+        faults = {} if set(told) <= {0, 1} else {at: refused(what) or TOO_MANY for at, what in enumerate(told) if what not in (0, 1)}
         if self.command == "rr":
-            return told, [list(degrees), [self.genus] * len(told), *found]
-        return told, [told, *(each[v::self.size] for each in found[:2] for v in range(self.size))]
+            return Batch(kept, [list(degrees), [self.genus] * len(told), *found], faults)
+        for at in faults:
+            told[at] = 0
+        return Batch(kept, [told, *(each[v::self.size] for each in found[:2] for v in range(self.size))], faults)
 
-    def of_rows(self, rows: Sequence[Tuple[int, ...]]) -> Tuple[array[int], List[Sequence[int]]]:
-        """What is told of rows of any whole numbers, and their numbers in columns."""
+    def of_rows(self, rows: Sequence[tuple[int, ...]]) -> Batch:
+        """What is told of rows of any whole numbers."""
         try:
-            return self.columns(array("q", [*chain.from_iterable(rows)]), map(sum, rows))
+            return self.batch(rows, array("q", [*chain.from_iterable(rows)]), map(sum, rows))
         except OverflowError:
             wrong = [at for at, row in enumerate(rows) if min(row) < -1 << 63 or max(row) >= 1 << 63]
-        told, columns = self.of_rows([(0,) * self.size if at in wrong else row for at, row in enumerate(rows)])
-        for at in wrong:
-            told[at] = SHAPE
-        return told, columns
+        _, columns, faults = self.of_rows([(0,) * self.size if at in wrong else row for at, row in enumerate(rows)])
+        return Batch(rows, columns, {**faults, **dict.fromkeys(wrong, refused(SHAPE))})
 
-    def batches(self, rows: Iterator[Any], most: int = MOST_ROWS) -> Iterator[List[Any]]:
+    def taken(self, rows: Iterator[Any], most: int) -> Iterator[list[Any]]:
         """The rows as they come, some at a time. What goes wrong is raised after what came before it."""
-        broken: Optional[Exception] = None
-        taken: List[Any] = [None]
+        broken: Exception | None = None
+        taken: list[Any] = [None]
         while taken and not broken:
             taken, began = [], time.monotonic()
             now = began
@@ -149,34 +151,33 @@ class Asking:
         if broken:
             raise broken
 
-    def of_all(self, divisors: Any, rows: Iterator[Tuple[Any, Tuple[int, ...]]]) -> Iterator[Tuple[array[int], List[Sequence[int]]]]:
+    def batches(self, divisors: Any, rows: Iterator[tuple[int, ...]], most: int = MOST_ROWS) -> Iterator[Batch]:
         """What is told of all divisors, some at a time. An array of numpy is not copied if it has numbers of 64 bits, row by row."""
         numpy: Any = sys.modules.get("numpy")
-        if is_array(divisors) and divisors.shape[1] == self.size and numpy.can_cast(divisors.dtype, numpy.int64):
-            values, at = numpy.ascontiguousarray(divisors, dtype=numpy.int64), 0
-            while at < len(values):
-                taken = values[at:at + self.at_once]
-                yield self.columns(taken, taken.sum(axis=1).tolist())
-                at += len(taken)
+        if not (is_array(divisors) and divisors.shape[1] == self.size and numpy.can_cast(divisors.dtype, numpy.int64)):
+            yield from map(self.of_rows, self.taken(rows, most))
             return
-        for batch in self.batches(rows):
-            yield self.of_rows([amounts for _, amounts in batch])
+        values, at = numpy.ascontiguousarray(divisors, dtype=numpy.int64), 0
+        while at < len(values):
+            taken = values[at:at + min(self.at_once, most)]
+            yield self.batch(taken, taken, taken.sum(axis=1).tolist())
+            at += len(taken)
 
 
-def asking(command: str, table: Table, program: Optional[Place], degree: int = 0) -> Optional[Asking]:
+def asking(command: str, table: Table[Any], program: Place | None, degree: int = 0) -> Asking | None:
     """A question of the library, or None if the program is to be asked."""
     if program is not None or 0 < threading.stack_size() < STACK:
         return None
     library = loaded(os.environ.get("DOLLAR_LIBRARY"), os.environ.get("DOLLAR"))
     if library is None or command != "judge" and table.genus > MOST_GENUS:
         return None
-    kept: Dict[Any, Any] = table._kept
+    kept: dict[Any, Any] = table._kept
     if "library" not in kept:
         kept["library"] = on_graph(library, table)
     return kept["library"] and Asking(library, kept["library"], table, command, degree)
 
 
-def told(command: str, table: Any, program: Optional[Place], degree: int = 0) -> Optional[List[array[int]]]:
+def told(command: str, table: Any, program: Place | None, degree: int = 0) -> list[array[int]] | None:
     """What the library tells of a Table, and its numbers; None if the program is to be asked."""
     asked = asking(command, table, program, degree) if isinstance(table, Table) else None
     try:
@@ -191,11 +192,11 @@ class Asker:
     """What answers about one divisor after another on the graph of a table; `help(dollar.Table.asker)` has an example. It serves one thread
     at a time."""
 
-    def __init__(self, table: Table) -> None:
+    def __init__(self, table: Table[Any]) -> None:
         self.table, self._held = table, array("q", bytes(8 * len(table.vertices)))
         self._calls = {command: self._call(command) for command in ("judge", "rr")}
 
-    def _call(self, command: str) -> Optional[Tuple[Callable[[], int], List[array[int]]]]:
+    def _call(self, command: str) -> tuple[Callable[[], int], list[array[int]]] | None:
         """A call about the divisor that is held, and the arrays that it fills."""
         asked = asking(command, self.table, None)
         if asked is None:
@@ -203,7 +204,7 @@ class Asker:
         made = asked.made(1)
         return functools.partial(asked.call, *asked.words, *chain.from_iterable(each.buffer_info() for each in (self._held, *made))), made
 
-    def _told(self, command: str, amounts: Sequence[int]) -> Optional[List[array[int]]]:
+    def _told(self, command: str, amounts: Sequence[int]) -> list[array[int]] | None:
         """What the library tells of these amounts, and its numbers; None if the program is to be asked."""
         call, made = self._calls[command] or (None, [])
         try:
@@ -217,15 +218,15 @@ class Asker:
         amounts: Sequence[int] = divisor if is_plain else self.table._like(divisor)
         return amounts
 
-    def rank(self, divisor: Union[Table, Dollars]) -> int:
+    def rank(self, divisor: Table[Any] | Dollars) -> int:
         """The rank of a divisor."""
         amounts = self._amounts(divisor)
         found = self._told("rr", amounts)
         return found[1][0] if found else self.table._with(tuple(amounts)).rank()
 
-    def winnable(self, divisor: Union[Table, Dollars]) -> bool:
+    def winnable(self, divisor: Table[Any] | Dollars) -> bool:
         """Whether a divisor can be won."""
-        from dollar.commands import judge
+        from dollar._commands import judge
 
         amounts = self._amounts(divisor)
         found = self._told("judge", amounts)

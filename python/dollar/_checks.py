@@ -2,36 +2,39 @@
 
 from __future__ import annotations
 
-from collections.abc import Mapping as AbstractMapping
-from typing import TYPE_CHECKING, Any, Dict, Hashable, Iterable, List, Mapping, Optional, Sequence, Union
+from collections.abc import Hashable, Iterable, Mapping, Sequence
+from typing import TYPE_CHECKING, Any
 
-from dollar.vertices import Dollars, Pairs, Vertex
+from dollar._vertices import Dollars, Pairs, Vertex
 
 if TYPE_CHECKING:
-    from dollar.table import Table
+    from dollar._table import Members, Table
 
 
-def table_of(table: Mapping[str, Any]) -> Table:
+def table_of(table: Members) -> Table[Any]:
     """The table itself, or that of the members of a table file."""
-    from dollar.table import Table
+    from dollar._table import Table
 
-    if not isinstance(table, AbstractMapping):
+    if not isinstance(table, Mapping):
         raise TypeError("a table is a Table or a dict, and not %r" % (table,))
     return table if isinstance(table, Table) else Table(table)
 
 
-def joined(table: Mapping[str, Any], u: Vertex, v: Vertex) -> Dict[str, Any]:
+def joined(table: Members, u: Vertex, v: Vertex) -> dict[str, Any]:
     """The table with one more edge between two vertices, as `join` makes it, as a dict; the amounts are unchanged.
 
     >>> from dollar import Table
     >>> joined(Table([[0, 1], [1, 0]]), 0, 1)["edges"]
     [['0', '1', 1], ['0', '1', 1]]
     """
+    from dollar._table import Table
+
     place = table_of(table).place
-    return dict(table, edges=[*table["edges"], [*(table["vertices"][place(each)] for each in (u, v)), 1]])
+    members: Mapping[str, Any] = table.to_dict() if isinstance(table, Table) else table
+    return dict(members, edges=[*members["edges"], [*(members["vertices"][place(each)] for each in (u, v)), 1]])
 
 
-def edges(table: Mapping[str, Any]) -> Dict[Hashable, Dict[Hashable, int]]:
+def edges(table: Members) -> dict[Hashable, dict[Hashable, int]]:
     """For each vertex its neighbours, with the number of edges to each.
 
     >>> from dollar import Table
@@ -42,7 +45,7 @@ def edges(table: Mapping[str, Any]) -> Dict[Hashable, Dict[Hashable, int]]:
     return {v: {u: count for u, count in zip(its.vertices, row) if count} for v, row in zip(its.vertices, its._near())}
 
 
-def fired(table: Mapping[str, Any], script: Dollars) -> Pairs:
+def fired(table: Members, script: Dollars) -> Pairs:
     """The amounts after each vertex has lent as often as the script says, as `Table.fire` has them.
 
     >>> from dollar import Table
@@ -52,7 +55,7 @@ def fired(table: Mapping[str, Any], script: Dollars) -> Pairs:
     return table_of(table).fire(script).divisor
 
 
-def burnt(table: Mapping[str, Any], amounts: Union[Table, Dollars]) -> List[Any]:
+def burnt(table: Members, amounts: Dollars) -> list[Any]:
     """The vertices in the order in which they burn from q: each the first of those that more edges join to burnt ones than they have
     dollars.
 
@@ -70,7 +73,7 @@ def burnt(table: Mapping[str, Any], amounts: Union[Table, Dollars]) -> List[Any]
         order.append(burning[0])
 
 
-def misplaced(table: Mapping[str, Any], amounts: Dollars, order: Sequence[Vertex]) -> Optional[Vertex]:
+def misplaced(table: Members, amounts: Dollars, order: Sequence[Vertex]) -> Vertex | None:
     """The first vertex of an order that may not burn after those before it, or None: q comes first, and more edges join each other
     vertex to those before it than it has dollars.
 
@@ -88,7 +91,7 @@ def misplaced(table: Mapping[str, Any], amounts: Dollars, order: Sequence[Vertex
     return None
 
 
-def flaw(table: Mapping[str, Any], verdict: Iterable[Any]) -> Optional[str]:
+def flaw(table: Members, verdict: Iterable[Any]) -> str | None:
     """The flaw of a verdict, or None if it is right. The program need not be trusted.
 
     >>> from dollar import Table, judge

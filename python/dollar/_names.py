@@ -4,10 +4,11 @@ from __future__ import annotations
 
 import argparse
 import inspect
-from typing import Any, Iterator, List, Tuple
+from collections.abc import Iterator
+from typing import Any
 
 import dollar
-from dollar.program import typed
+from dollar._program import typed
 
 
 def told(thing: Any) -> str:
@@ -24,9 +25,10 @@ def shown(name: str, thing: Any) -> str:
     return name + str(signature.replace(parameters=given, return_annotation=signature.empty))
 
 
-def members(kind: Any) -> Iterator[Tuple[str, Any]]:
-    """The public methods and properties of a class, in the order of its code."""
-    for name, value in vars(kind).items():
+def members(kind: Any) -> Iterator[tuple[str, Any]]:
+    """The public methods and properties of a class, in the order of its code, and those that it has from others of the package."""
+    kinds = [kind, *(each for each in kind.__mro__[1:] if each.__module__.startswith("dollar."))]
+    for name, value in {name: value for each in reversed(kinds) for name, value in vars(each).items()}.items():
         if not name.startswith("_") and (inspect.isroutine(value) or isinstance(value, property)):
             yield name, getattr(value, "__func__", value)
 
@@ -42,7 +44,7 @@ def page() -> Iterator[str]:
             yield "".join(lines + ["\n"] if lines else [])
 
 
-def main(words: List[str]) -> int:
+def main(words: list[str]) -> int:
     reader = argparse.ArgumentParser(prog=typed("names"), description="Prints a page of all names of the package, from their descriptions.")
     reader.parse_args(words)
     print("\n".join(page()).replace("\n\n\n", "\n\n"), end="")

@@ -20,17 +20,16 @@ import argparse
 import json
 import re
 import sys
-from typing import Dict, List
 
-from dollar.answers import RIEMANN_ROCH, Entry, answer, no_answer, numbered, pairs_of
-from dollar.grammar import GRAMMAR
-from dollar.program import typed
+from dollar._answers import RIEMANN_ROCH, Entry, answer, no_answer, numbered, pairs_of
+from dollar._grammar import GRAMMAR
+from dollar._program import typed
 
 TOTAL = re.compile(r"(degree|genus|rank|dual|entries|gifts) (0|-?[1-9]\d*)|seat ([1-9]\d*) calls (0|[1-9]\d*)", re.ASCII)
 POSITION = re.compile(r"position (\w+=-?\d+(?: \w+=-?\d+)*)", re.ASCII)
 
 
-def read(line: str) -> Dict[str, object]:
+def read(line: str) -> dict[str, object]:
     """The object for a line, which has no newline."""
     if line[:1].isdigit():
         found = numbered(line, re.match(r"\d+ \d", line, re.ASCII) is not None)
@@ -52,7 +51,7 @@ def read(line: str) -> Dict[str, object]:
     return found_without.as_dict()
 
 
-def main(arguments: List[str]) -> int:
+def main(arguments: list[str]) -> int:
     text = (__doc__ or "").partition("\n    >>>")[0].split("\n\n", 2)
     usage = text[1].strip().replace("python3 -m dollar json", typed("json"))
     argparse.ArgumentParser(prog=typed("json"), description=text[0], epilog=text[2], usage=usage,

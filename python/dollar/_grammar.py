@@ -5,9 +5,9 @@ from __future__ import annotations
 
 import json
 import pkgutil
-from typing import Any, Dict
+from typing import Any
 
-GRAMMAR: Dict[str, Any] = json.loads(pkgutil.get_data("dollar", "grammar.json") or b"")
+GRAMMAR: dict[str, Any] = json.loads(pkgutil.get_data("dollar", "grammar.json") or b"")
 
 
 def limit(name: str) -> int:

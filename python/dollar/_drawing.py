@@ -5,11 +5,13 @@ from __future__ import annotations
 
 import itertools
 import math
+from collections.abc import Callable, Iterable, Iterator, Mapping, Sequence
 from html import escape
-from typing import Any, Callable, Dict, Iterable, Iterator, List, Mapping, NamedTuple, Optional, Sequence, Tuple, TypeVar
+from typing import Any, NamedTuple, TypeVar
 
-from dollar import checks
-from dollar.places import Places, centred, places, places_of_text
+from dollar import _checks as checks
+from dollar._places import Places, centred, places, places_of_text
+from dollar._vertices import Dollars
 
 LEAST_ROUND, MOST_ROUND, APART, LEAST_SIZE = 21, 46, 38, 82
 NAME_AT, AMOUNT_AT, NAME_SIZE, AMOUNT_SIZE = -6, 10, 11, 16
@@ -21,10 +23,10 @@ WIDTHS = {**dict.fromkeys("mwMW", 1.0), **dict.fromkeys("fijlrtI-", 0.42), **dic
 HATCH = ('<defs><pattern id="hatch" width="6" height="6" patternUnits="userSpaceOnUse" patternTransform="rotate(45)">'
          '<path d="M0 0V6" stroke="#b3261e" stroke-opacity="0.45" stroke-width="1.3"/></pattern></defs>')
 PLATE = 'paint-order="stroke" stroke="%s" stroke-width="3" stroke-linejoin="round"'
-Point = Tuple[float, float]
+Point = tuple[float, float]
 Thing = TypeVar("Thing")
 # A sign of the legend: how wide it is, its words, and what draws it at a place.
-Sign = Tuple[int, str, Callable[[float, float], Iterable[str]]]
+Sign = tuple[int, str, Callable[[float, float], Iterable[str]]]
 
 
 class Frame(NamedTuple):
@@ -36,8 +38,8 @@ class Frame(NamedTuple):
     amounts: Mapping[str, int]
     lines: Sequence[str] = ()
     order: Sequence[str] = ()
-    added: Optional[Tuple[str, str]] = None
-    script: Optional[Mapping[str, int]] = None
+    added: tuple[str, str] | None = None
+    script: Mapping[str, int] | None = None
 
 
 def width(text: object) -> float:
@@ -74,14 +76,14 @@ def span(found: Places, radius: float) -> float:
     return max(LEAST_SIZE, (2 * radius + APART) / near)
 
 
-def places_for(table: Any, own: Optional[str] = None) -> Places:
+def places_for(table: Any, own: str | None = None) -> Places:
     """The places of a table's vertices: those that a text gives, or else those that its graph has."""
     if own is None:
         return places(table["vertices"], table["edges"])
     return centred(places_of_text(own, table["vertices"]))
 
 
-def layout(table: Any, amounts: Iterable[object], own: Optional[str] = None) -> Dict[str, Any]:
+def layout(table: Any, amounts: Iterable[object], own: str | None = None) -> dict[str, Any]:
     """Where a page has the vertices of a table, and how large they and their names are, if these amounts are to fit. It may be turned if
     nobody has given the places."""
     names, found = table["vertices"], places_for(table, own)
@@ -179,9 +181,9 @@ def signs(frames: Sequence[Frame]) -> Iterator[Sign]:
             '<text x="%.1f" y="%.1f" font-size="11" font-weight="bold" fill="#223">lends 1</text>' % (x, y + 4)]
 
 
-def legend(frames: Sequence[Frame], wide: float) -> List[List[Tuple[float, Sign]]]:
+def legend(frames: Sequence[Frame], wide: float) -> list[list[tuple[float, Sign]]]:
     """The rows of the legend: in each the signs, with their places from the left."""
-    rows: List[List[Tuple[float, Sign]]] = [[]]
+    rows: list[list[tuple[float, Sign]]] = [[]]
     right = 6.0
     for sign in signs(frames):
         needed = sign[0] + width(sign[1]) * 11 + 8
@@ -225,19 +227,18 @@ def parts_of(title: str, frames: Sequence[Frame]) -> Iterator[str]:
     yield "</svg>"
 
 
-def held(table: Any) -> Dict[str, int]:
+def held(table: Any) -> dict[str, int]:
     """The amounts of a table by the names of its vertices."""
     return dict(zip(table["vertices"], table["amounts"]))
 
 
-def by_names(table: Any, of: Mapping[Any, Thing]) -> Dict[str, Thing]:
-    """What belongs to vertices, by their names."""
-    place = getattr(table, "place", None)
-    return {v if place is None else table.names[place(v)]: each for v, each in of.items()}
+def by_names(table: Any, of: Mapping[Any, Thing]) -> dict[str, Thing]:
+    """What belongs to the vertices of a Table, by their names."""
+    return {table.names[table.place(v)]: each for v, each in of.items()}
 
 
-def picture(table: Any, script: Optional[Mapping[Any, int]] = None, order: Sequence[Any] = (),
-            places: Optional[Mapping[Any, Point]] = None) -> str:
+def picture(table: Any, script: Dollars | None = None, order: Sequence[Any] = (),
+            places: Mapping[Any, Point] | None = None) -> str:
     """A picture of a table as SVG: each vertex with its name and its dollars, red and hatched if it is in debt, and q with a double ring.
     Below a vertex is how often the script lets it lend or borrow; the other numbers are the order in which vertices burn. `places` has
     the places of the vertices, x to the right and y down.
@@ -246,19 +247,21 @@ def picture(table: Any, script: Optional[Mapping[Any, int]] = None, order: Seque
     >>> picture(Table([[0, 1], [1, 0]], [2, -1])).startswith("<svg ")
     True
     """
-    checks.table_of(table)
-    found = places_for(table) if places is None else centred(by_names(table, places))
-    lent = None if script is None else by_names(table, script)
-    return pictured("A table", [Frame(table, found, held(table), (), list(by_names(table, dict.fromkeys(order))), None, lent)])
+    its = checks.table_of(table)
+    drawn_table, names = its.to_dict(), its.names
+    found = places_for(drawn_table) if places is None else centred(by_names(its, places))
+    lent = None if script is None else dict(zip(names, its._vertices.amounts(script, "lending")))
+    return pictured("A table", [Frame(drawn_table, found, held(drawn_table), (), [names[its.place(v)] for v in order], None, lent)])
 
 
-def verdict_picture(name: str, table: Any, verdict: Any, own: Optional[str] = None) -> str:
+def verdict_picture(name: str, table: Any, verdict: Any, own: str | None = None) -> str:
     """A picture of a table with the script of its verdict, and beside it of the reduced divisor with the order in which all burns."""
     word, script, reduced = verdict
-    script, reduced = by_names(table, script), by_names(table, reduced)
-    order = by_names(table, dict.fromkeys(getattr(verdict, "burning", None) or checks.burnt(table, reduced)))
+    its = checks.table_of(table)
+    drawn_table, script, reduced = its.to_dict(), by_names(its, script), by_names(its, reduced)
+    order = by_names(its, dict.fromkeys(getattr(verdict, "burning", None) or checks.burnt(its, reduced)))
     says = ["all burns, in this order;", "it can be won" if word == "winnable" else "it can't be won"]
-    found = places_for(table, own)
+    found = places_for(drawn_table, own)
     return pictured("%s, %s by %s" % (name, word, " ".join("%s=%d" % pair for pair in script.items())), [
-        Frame(table, found, held(table), [name, "" if any(script.values()) else "no vertex need lend"], (), None, script),
-        Frame(table, found, reduced, says, list(order))])
+        Frame(drawn_table, found, held(drawn_table), [name, "" if any(script.values()) else "no vertex need lend"], (), None, script),
+        Frame(drawn_table, found, reduced, says, list(order))])

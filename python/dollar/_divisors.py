@@ -2,51 +2,91 @@
 
 from __future__ import annotations
 
+import itertools
 import math
+from collections.abc import Iterator, Sequence
 from fractions import Fraction
-from typing import Any, Iterator, List, Mapping, Optional, Sequence, Tuple
+from typing import Any, Generic
 
-from dollar.answers import RankTest
-from dollar.program import Place
-from dollar.sweeps import judge_all
-from dollar.table import MOST_AMOUNT, Table
+from dollar._answers import RankTest
+from dollar._program import Place
+from dollar._sweeps import judge_all, rank_test_all
+from dollar._table import MOST_AMOUNT, Table, V
 
 
-def losses(size: int, degree: int) -> Iterator[Tuple[int, ...]]:
+def losses(size: int, degree: int) -> Iterator[tuple[int, ...]]:
     """All ways to spread so many dollars over so many vertices, in the order of lists.
 
     >>> list(losses(3, 2))
     [(0, 0, 2), (0, 1, 1), (0, 2, 0), (1, 0, 1), (1, 1, 0), (2, 0, 0)]
     """
-    held, last = [0] * (size - 1) + [degree], size - 1
-    while True:
-        yield tuple(held)
-        # A dollar goes to the place before the last that has some, and the others there to the end.
-        at = next((place for place in range(last, 0, -1) if held[place]), 0)
-        if at == 0:
-            return
-        rest, held[at] = held[at] - 1, 0
-        held[at - 1] += 1
-        held[last] = rest
+    if size == 1:
+        yield (degree,)
+        return
+    for first in range(degree + 1):
+        for rest in losses(size - 1, degree - first):
+            yield (first, *rest)
 
 
-class EffectiveDivisors:
-    """The effective divisors of a degree, in the order of lists, as tables on one graph. `count` is their number."""
+class Divisors(Generic[V]):
+    """Divisors of one degree on one graph, as tables one by one. `len` and `count` are how many there are; `count` also where that is more
+    than Python's `len` can tell."""
 
-    def __init__(self, table: Table, degree: int) -> None:
+    def __init__(self, table: Table[V], degree: int) -> None:
         self.table, self.degree = table, degree
-        size = len(table.vertices)
-        self.count = math.comb(degree + size - 1, size - 1) if degree >= 0 else 0
 
-    def amounts(self) -> Iterator[Tuple[int, ...]]:
+    def amounts(self) -> Iterator[tuple[int, ...]]:
         """The amounts of each."""
-        return losses(len(self.table.vertices), self.degree) if self.count else iter(())
+        raise NotImplementedError
 
-    def __iter__(self) -> Iterator[Table]:
+    @property
+    def count(self) -> int:
+        """How many there are."""
+        raise NotImplementedError
+
+    def __len__(self) -> int:
+        return self.count
+
+    def __bool__(self) -> bool:
+        return next(self.amounts(), None) is not None
+
+    def __iter__(self) -> Iterator[Table[V]]:
         return map(self.table._with, self.amounts())
 
+    def __repr__(self) -> str:
+        return "<%s: degree %d on %d vertices>" % (type(self).__name__, self.degree, len(self.table))
 
-def solved(near: Sequence[Sequence[int]], q: int, amounts: Sequence[Any]) -> Tuple[int, List[Fraction]]:
+
+class EffectiveDivisors(Divisors[V]):
+    """The effective divisors of a degree, in the order of lists, as tables on one graph."""
+
+    @property
+    def count(self) -> int:
+        return math.comb(self.degree + len(self.table) - 1, self.degree) if self.degree >= 0 else 0
+
+    def amounts(self) -> Iterator[tuple[int, ...]]:
+        return losses(len(self.table), self.degree) if self.degree >= 0 else iter(())
+
+
+class Listed(Divisors[V]):
+    """Divisors whose number is known once all are found: then they are kept."""
+
+    _found: list[tuple[int, ...]] | None = None
+
+    def _find(self) -> Iterator[tuple[int, ...]]:
+        raise NotImplementedError
+
+    @property
+    def count(self) -> int:
+        if self._found is None:
+            self._found = list(self._find())
+        return len(self._found)
+
+    def amounts(self) -> Iterator[tuple[int, ...]]:
+        return self._find() if self._found is None else iter(self._found)
+
+
+def solved(near: Sequence[Sequence[int]], q: int, amounts: Sequence[Any]) -> tuple[int, list[Fraction]]:
     """The number of spanning trees, which is the determinant of the Laplacian without q, and the script, 0 at q, that leaves no amount off
     q, in fractions. If the graph is not connected, that is 0 and nothing.
 
@@ -68,7 +108,7 @@ def solved(near: Sequence[Sequence[int]], q: int, amounts: Sequence[Any]) -> Tup
     return int(trees), script[:q] + [Fraction(0)] + script[q:]
 
 
-def level(table: Table) -> Tuple[Table, Sequence[int]]:
+def level(table: Table[Any]) -> tuple[Table[Any], Sequence[int]]:
     """The table itself if its amounts are within the limits, or else an equivalent one that has at each vertex about as many dollars, and
     the script that leads there."""
     amounts, script = table.amounts, [0] * len(table.amounts)
@@ -79,7 +119,7 @@ def level(table: Table) -> Tuple[Table, Sequence[int]]:
     return table._with(table._fired(script)) if any(script) else table, script
 
 
-def superstable(near: Sequence[Sequence[int]], q: int, most: float) -> Iterator[List[int]]:
+def superstable(near: Sequence[Sequence[int]], q: int, most: float) -> Iterator[list[int]]:
     """The reduced divisors with 0 dollars at q and at most so many off q, in the order of lists. The list is the same each time.
 
     If some vertices hold dollars and all burns, a vertex off these may have at most so many that it burns from those that burn before it:
@@ -91,7 +131,7 @@ def superstable(near: Sequence[Sequence[int]], q: int, most: float) -> Iterator[
     rows = {high[v]: sum(count << wide * u for u, count in enumerate(near[v])) for v in range(size)}
     held, lane, everything = [0] * size, (1 << wide - 1) - 1, sum(high[v] for v in others)
 
-    def walk(at: int, fire: int, left: float) -> Iterator[List[int]]:
+    def walk(at: int, fire: int, left: float) -> Iterator[list[int]]:
         v, is_last = others[at], at == len(others) - 1
         hot, cold = fire, everything ^ high[v]
         while hot & cold:
@@ -113,47 +153,59 @@ def superstable(near: Sequence[Sequence[int]], q: int, most: float) -> Iterator[
         yield from walk(0, rows[high[q]] + sum(lane << wide * v for v in range(size)), most)
 
 
-class ReducedDivisors:
-    """The divisors of a degree that are reduced at q, one of each class, as tables on one graph, in the order of lists off q. `count` is the
-    number of classes. Those that can be won, which are fewer, are found without the others."""
+class ReducedDivisors(Listed[V]):
+    """The divisors of a degree that are reduced at q, one of each class, as tables on one graph, in the order of lists off q. How many there
+    are is known before: as many as spanning trees. Those that can be won, which are fewer, are found without the others."""
 
-    def __init__(self, table: Table, degree: int, winnable: bool = False) -> None:
-        self.table, self.degree, self.winnable = table, degree, winnable
+    def __init__(self, table: Table[V], degree: int, winnable: bool = False) -> None:
+        super().__init__(table, degree)
+        self.winnable = winnable
 
     @property
     def count(self) -> int:
-        """How many classes there are."""
-        return solved(self.table._near(), self.table._q, [0] * len(self.table.amounts))[0]
+        return super().count if self.winnable else solved(self.table._near(), self.table._q, [0] * len(self.table))[0]
 
-    def amounts(self) -> Iterator[Tuple[int, ...]]:
+    def _find(self) -> Iterator[tuple[int, ...]]:
         q = self.table._q
         for held in superstable(self.table._near(), q, self.degree if self.winnable else math.inf):
             amounts = held[:]
             amounts[q] = self.degree - sum(held)
             yield tuple(amounts)
 
-    def __iter__(self) -> Iterator[Table]:
-        return map(self.table._with, self.amounts())
 
-
-class LinearSystem:
+class LinearSystem(Listed[V]):
     """The complete linear system of a divisor: the effective divisors that are equivalent to it, as tables on its graph. `candidates` is
-    the number of effective divisors of its degree: so many verdicts are taken."""
+    the number of effective divisors of its degree: so many verdicts are taken, once."""
 
-    def __init__(self, table: Table, program: Optional[Place] = None) -> None:
-        self.table, self.effective, self.program = table, EffectiveDivisors(table, table.degree), program
+    def __init__(self, table: Table[V], program: Place | None = None) -> None:
+        super().__init__(table, table.degree)
+        self.effective, self.program = EffectiveDivisors(table, table.degree), program
         self.candidates = self.effective.count
 
-    def __iter__(self) -> Iterator[Table]:
+    def _find(self) -> Iterator[tuple[int, ...]]:
         differences = (level(each - self.table)[0] for each in self.effective)
-        for each, verdict in zip(self.effective, judge_all(self.table, program=self.program, divisors=differences, errors="raise")):
+        verdicts = judge_all(self.table, program=self.program, divisors=differences, errors="raise")
+        for amounts, verdict in zip(self.effective.amounts(), verdicts):
             if not any(verdict.reduced.values()):
-                yield each
+                yield amounts
 
 
-def flaw_of_rank_test(asked: Mapping[str, Any], test: RankTest, program: Optional[Place]) -> Optional[str]:
+def has_rank_one(table: Table[Any], degree: int, program: Place | None) -> bool:
+    """Whether some divisor of a degree has rank 1 or more. Of each class only the reduced divisor is tried, and only if it has a dollar at
+    q: otherwise none can be lost there."""
+    q = table._q
+    rest = ReducedDivisors(table, degree - 1, winnable=True).amounts()
+    tried = ((*amounts[:q], amounts[q] + 1, *amounts[q + 1:]) for amounts in rest)
+    return any(rank_test_all(table, 1, divisors=tried, errors="raise", program=program))
+
+
+def gonality(table: Table[Any], program: Place | None = None) -> int:
+    """The least degree of a divisor of rank 1 or more."""
+    return next(degree for degree in itertools.count(1) if has_rank_one(table, degree, program))
+
+
+def flaw_of_rank_test(table: Table[Any], test: RankTest, program: Place | None) -> str | None:
     """The flaw of a rank test, or None if it is right."""
-    table = asked if isinstance(asked, Table) else Table(asked)
     size = len(table.vertices)
     if test.loss is None and not test.holds:
         return "no loss is given, so nothing can be checked"

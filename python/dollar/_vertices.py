@@ -2,16 +2,29 @@
 
 from __future__ import annotations
 
+import math
 import operator
 import re
+from collections.abc import Callable, Hashable, Iterable, Iterator, Mapping, Sequence
 from numbers import Number
-from typing import Any, Callable, Dict, Hashable, Iterable, List, Mapping, NoReturn, Optional, Sequence, SupportsIndex, Tuple, Union
+from typing import Any, NoReturn, Protocol, SupportsIndex
 
 Vertex = Hashable
 # Numbers by vertices, of an answer.
 Pairs = Mapping[Hashable, int]
-# Amounts as they are given: in the order of the vertices, or by vertices.
-Dollars = Union[Iterable[SupportsIndex], Mapping[Any, SupportsIndex]]
+
+
+class Row(Protocol):
+    """Whole numbers in the order of the vertices: a list, a tuple, an array of numpy. Python's type of what can be gone through would let
+    a dict pass, whatever its numbers are."""
+
+    def __iter__(self) -> Iterator[SupportsIndex]: ...
+
+    def __getitem__(self, place: int, /) -> SupportsIndex: ...
+
+
+# Amounts as they are given: in the order of the vertices, or by vertices, as a table has them.
+Dollars = Row | Mapping[Any, SupportsIndex]
 
 NAME = re.compile(r"[A-Za-z0-9_]{1,16}", re.ASCII)
 
@@ -33,18 +46,42 @@ def whole(number: object, what: str) -> int:
     raise TypeError("%s is not a whole number: %r" % (what, number))
 
 
+def shown(number: int) -> str:
+    """A number, or how long it is if nobody would read it.
+
+    >>> shown(-20), shown(10 ** 5000)
+    ('-20', 'a number of 5001 digits')
+    """
+    digits = 1 + int(math.log10(abs(number) or 1))
+    return str(number) if digits <= 40 else "a number of %d digits" % digits
+
+
 def within(number: object, what: str, least: int, most: int) -> int:
     """A whole number that is within limits. Another one is a ValueError that has it and the limits."""
     found = whole(number, what)
     if not least <= found <= most:
-        raise ValueError("%s: %d, and only %d to %d is possible" % (what, found, least, most))
+        raise ValueError("%s: %s, and only %d to %d is possible" % (what, shown(found), least, most))
     return found
+
+
+def seconds(patience: object) -> None:
+    """A ValueError if patience is no time that anybody can wait."""
+    if patience is not None and not (isinstance(patience, (int, float)) and patience > 0):
+        raise ValueError("patience: %r, and only more than 0 seconds, or None, is possible" % (patience,))
 
 
 def is_whole(thing: object) -> bool:
     """Whether a thing is a whole number."""
     try:
         return whole(thing, "") is not None
+    except TypeError:
+        return False
+
+
+def is_hashable(thing: object) -> bool:
+    """Whether a thing has a hash: a tuple may be Hashable, and hold a list."""
+    try:
+        return hash(thing) is not None
     except TypeError:
         return False
 
@@ -67,17 +104,20 @@ class Vertices:
 
     __slots__ = ("are_names", "given", "names", "places", "_texts")
 
-    def __init__(self, given: Iterable[Vertex], names: Optional[Callable[[Any], str]] = None) -> None:
+    def __init__(self, given: Iterable[Vertex], names: Callable[[Any], str] | None = None) -> None:
         self.given = tuple(given)
+        wrong = [vertex for vertex in self.given if not is_hashable(vertex)]
+        if wrong:
+            raise TypeError("%r can't be a vertex: a vertex is a text, a number, a tuple, or whatever has a hash" % (wrong[0],))
         self.places = {vertex: place for place, vertex in enumerate(self.given)}
         if len(self.places) != len(self.given):
             twice = next(vertex for place, vertex in enumerate(self.given) if self.places[vertex] != place)
             raise ValueError("the vertex %r is given twice" % (twice,))
         self.names = tuple(named(self.given, names))
         self.are_names = self.given == self.names
-        self._texts: Optional[Dict[str, List[int]]] = None
+        self._texts: dict[str, list[int]] | None = None
 
-    def of_text(self, text: str) -> List[int]:
+    def of_text(self, text: str) -> list[int]:
         """The places of the vertices that have this name, or whose text it is."""
         if self._texts is None:
             self._texts = {}
@@ -120,7 +160,7 @@ class Vertices:
         except TypeError:
             return ""
 
-    def amounts(self, given: Any, what: str = "amount") -> Tuple[int, ...]:
+    def amounts(self, given: Any, what: str = "amount") -> tuple[int, ...]:
         """Amounts in the order of the vertices, or other numbers, as the lendings of a script. A vertex that a dict does not have has 0."""
         if isinstance(given, (set, frozenset, str, bytes, bytearray, memoryview)) or not (hasattr(given, "keys") or hasattr(given, "__iter__")):
             raise TypeError("%ss are a list in the order of the vertices, or a dict, and not %r" % (what, given))
@@ -129,7 +169,7 @@ class Vertices:
             if len(row) != len(self.names):
                 raise ValueError("there are %d %ss for %d vertices" % (len(row), what, len(self.names)))
             return tuple(whole(amount, "the %s of vertex %s" % (what, name)) for name, amount in zip(self.names, row))
-        found: Dict[int, int] = {}
+        found: dict[int, int] = {}
         # A series of pandas may take a key for a place; what stands beside its label is what was meant.
         for key, amount in given.items() if hasattr(given, "items") else ((key, given[key]) for key in given.keys()):
             place = self.place(key)
@@ -153,7 +193,7 @@ class Vertices:
         return self.keyed(texts.values())
 
 
-class Fixed(Dict[Hashable, int]):
+class Fixed(dict[Hashable, int]):
     """Numbers by vertices that can't be changed: who gets an answer may share it.
 
     >>> found = Fixed(a=2, b=-1)
@@ -170,7 +210,7 @@ class Fixed(Dict[Hashable, int]):
 
     __setitem__ = __delitem__ = __ior__ = clear = pop = popitem = setdefault = update = refuse  # type: ignore[assignment]
 
-    def __reduce__(self) -> Tuple[Any, ...]:
+    def __reduce__(self) -> tuple[Any, ...]:
         return type(self), (dict(self),), getattr(self, "__dict__", None)
 
 
@@ -182,7 +222,7 @@ class Amounts(Fixed):
     ({0: 2, 1: -1}, -1, -1, True, None)
     """
 
-    vertices: Optional[Vertices] = None
+    vertices: Vertices | None = None
 
     def __missing__(self, key: object) -> int:
         try:
@@ -202,7 +242,7 @@ class Amounts(Fixed):
         return self.get(key) is not None
 
 
-def by_name(amounts: Mapping[Any, int]) -> Dict[str, int]:
+def by_name(amounts: Mapping[Any, int]) -> dict[str, int]:
     """Numbers by the names of the vertices."""
     vertices = getattr(amounts, "vertices", None)
     if vertices is None:
@@ -210,7 +250,7 @@ def by_name(amounts: Mapping[Any, int]) -> Dict[str, int]:
     return {vertices.names[vertices.places[vertex]]: amount for vertex, amount in amounts.items()}
 
 
-def named(vertices: Sequence[Vertex], names: Optional[Callable[[Any], str]] = None) -> List[str]:
+def named(vertices: Sequence[Vertex], names: Callable[[Any], str] | None = None) -> list[str]:
     """The names of the vertices, which are all different: their texts, or v0, v1 and so on if these can't be names; or those that
     `names` gives.
 

@@ -4,19 +4,18 @@ from __future__ import annotations
 
 import re
 from collections import defaultdict
-from collections.abc import Mapping as AbstractMapping
+from collections.abc import Callable, Iterable, Iterator, Mapping
 from dataclasses import dataclass
 from html import escape
-from typing import (
-    TYPE_CHECKING, Any, Callable, DefaultDict, Dict, Iterable, Iterator, List, Mapping, Optional, Pattern, Tuple, Type, TypeVar, Union)
+from typing import TYPE_CHECKING, Any, TypeVar
 
-from dollar import checks, drawing
-from dollar.grammar import GRAMMAR
-from dollar.program import Fault, Place
-from dollar.vertices import Fixed, Pairs, Vertices, by_name
+from dollar import _checks as checks, _drawing as drawing
+from dollar._grammar import GRAMMAR
+from dollar._program import Fault, Place
+from dollar._vertices import Fixed, Pairs, Vertices, by_name
 
 if TYPE_CHECKING:
-    from dollar.table import Table
+    from dollar._table import Members, Table
 
 Row = TypeVar("Row", bound="Refused")
 
@@ -30,13 +29,13 @@ def pairs_text(amounts: Mapping[Any, int]) -> str:
     return " ".join("%s=%d" % pair for pair in by_name(amounts).items())
 
 
-def pairs_of(text: str, vertices: Optional[Vertices] = None) -> Pairs:
+def pairs_of(text: str, vertices: Vertices | None = None) -> Pairs:
     """The amounts that the program has printed so, by the vertices of a table, or by their names if there is none."""
     found = Fixed((name, int(amount)) for name, amount in (pair.split("=") for pair in text.split(" ")))
     return found if vertices is None else vertices.read(found)
 
 
-def vertices_of(kept: Any) -> Optional[Vertices]:
+def vertices_of(kept: Any) -> Vertices | None:
     """The vertices of a Table, by what was kept of it; those of a dict or a file are their names."""
     return getattr(kept[0] if isinstance(kept, tuple) else kept, "_vertices", None)
 
@@ -44,7 +43,7 @@ def vertices_of(kept: Any) -> Optional[Vertices]:
 class Answer:
     """All answers print as the program prints them, are equal to the tuple of their parts, and can be taken apart like it."""
 
-    def parts(self) -> Tuple[Any, ...]:
+    def parts(self) -> tuple[Any, ...]:
         """The answer as a tuple: its word, its numbers, and its amounts as dicts."""
         raise NotImplementedError
 
@@ -67,7 +66,7 @@ class Answer:
     def __hash__(self) -> int:
         return hash(tuple(frozenset(part.items()) if isinstance(part, dict) else part for part in self.parts()))
 
-    def as_dict(self) -> Dict[str, object]:
+    def as_dict(self) -> dict[str, object]:
         """The answer as a dict for `json.dumps`, amounts by the names of the vertices.
 
         >>> from dollar import Table, judge, rank_test
@@ -90,20 +89,20 @@ class OfTable(Answer):
     """An answer about a table, which it knows if the table was given. What the table is made of is kept, and made when it is asked for."""
 
     @property
-    def table(self) -> Optional[Table]:
+    def table(self) -> Table[Any] | None:
         """The table that was asked about; None for an answer from a history."""
-        from dollar.table import made_of
+        from dollar._table import made_of
 
         found = made_of(vars(self).get("_table"))
         vars(self)["_table"] = found
         return found
 
-    def judged(self, table: Optional[Mapping[str, Any]] = None) -> Mapping[str, Any]:
+    def judged(self, table: Members | None = None) -> Table[Any]:
         """The table that is given, or else the one that was asked about."""
         judged = self.table if table is None else table
         if judged is None:
             raise ValueError("an answer from a history knows no table: say which one it is about")
-        return judged
+        return checks.table_of(judged)
 
 
 @dataclass(frozen=True, eq=False)
@@ -131,7 +130,7 @@ class Verdict(OfTable):
     reduced: Pairs
 
     @property
-    def burning(self) -> Optional[List[Any]]:
+    def burning(self) -> list[Any] | None:
         """The vertices in the order in which they burn in the reduced divisor."""
         found = vars(self).get("_burning")
         return None if found is None else list(found)
@@ -142,10 +141,10 @@ class Verdict(OfTable):
     def __str__(self) -> str:
         return "%s by %s to %s" % (self.parts()[0], pairs_text(self.script), pairs_text(self.reduced))
 
-    def parts(self) -> Tuple[Any, ...]:
+    def parts(self) -> tuple[Any, ...]:
         return "winnable" if self.winnable else "unwinnable", self.script, self.reduced
 
-    def check(self, table: Optional[Mapping[str, Any]] = None) -> None:
+    def check(self, table: Members | None = None) -> None:
         """Checks the verdict by its definition, without any trust in the program. A ValueError says why it is wrong. A verdict of
         `judge` and `judge_all` knows its table.
 
@@ -161,14 +160,14 @@ class Verdict(OfTable):
         if found is not None:
             raise ValueError(found)
 
-    def as_dict(self) -> Dict[str, object]:
+    def as_dict(self) -> dict[str, object]:
         found = super().as_dict()
         if self.burning is not None:
             names = getattr(self.script, "vertices", None)
             found["burning"] = [str(v) if names is None else names.names[names.places[v]] for v in self.burning]
         return found
 
-    def _repr_svg_(self) -> Optional[str]:
+    def _repr_svg_(self) -> str | None:
         table = self.table
         return None if table is None else drawing.picture(table, script=self.script)
 
@@ -188,7 +187,7 @@ class RankTest(OfTable):
 
     holds: bool
     degree: int
-    loss: Optional[Pairs] = None
+    loss: Pairs | None = None
 
     def __bool__(self) -> bool:
         return self.holds
@@ -198,11 +197,11 @@ class RankTest(OfTable):
             return "rank at least %d" % self.degree
         return "rank below %d at %s" % (self.degree, "?" if self.loss is None else pairs_text(self.loss))
 
-    def parts(self) -> Tuple[Any, ...]:
+    def parts(self) -> tuple[Any, ...]:
         word = "rank at least" if self.holds else "rank below"
         return (word, self.degree) if self.loss is None else (word, self.degree, self.loss)
 
-    def check(self, table: Optional[Mapping[str, Any]] = None, *, program: Optional[Place] = None) -> None:
+    def check(self, table: Members | None = None, *, program: Place | None = None) -> None:
         """Checks the test by its definition. A ValueError says why it is wrong. Each loss in the order of lists, up to `loss`, is taken
         from the table, and the verdict on the rest is checked as `Verdict.check` does; so a long test takes long.
 
@@ -214,7 +213,7 @@ class RankTest(OfTable):
             ...
         ValueError: the rest after a loss of {0: 0, 1: 2} can't be won
         """
-        from dollar.divisors import flaw_of_rank_test
+        from dollar._divisors import flaw_of_rank_test
 
         found = flaw_of_rank_test(self.judged(table), self, program)
         if found is not None:
@@ -222,7 +221,7 @@ class RankTest(OfTable):
 
 
 @dataclass(frozen=True, eq=False)
-class RiemannRoch(AbstractMapping[str, int]):
+class RiemannRoch(Mapping[str, int]):
     """The degree, the genus, the rank, and the rank of the dual.
 
     It prints as the program does, and is equal to the dict of its numbers:
@@ -258,7 +257,7 @@ class RiemannRoch(AbstractMapping[str, int]):
     def __hash__(self) -> int:
         return hash(tuple(self.values()))
 
-    def as_dict(self) -> Dict[str, object]:
+    def as_dict(self) -> dict[str, object]:
         """The numbers as a dict for `json.dumps`."""
         return dict(self)
 
@@ -286,20 +285,23 @@ class Entry(Answer):
     ('moved', {0: 1, 1: 0}, True)
     >>> moved == ("moved", {0: 1, 1: 0}), moved
     (True, Moved(word='moved', amounts={0: 1, 1: 0}, number=1))
-    >>> [type(entry(text)).__name__ for text in ("given 1 a=2", "joined 1 a=2", "looked 0 a=2", "winnable by a=0 to a=2", "rank at least 1")]
-    ['Given', 'Joined', 'Looked', 'Judged', 'Tested']
-    >>> [type(entry(text)).__name__ for text in ("stale 1", "not won", "refused gift", "bad name", "turns")]
+    >>> type(looked).__name__, type(verdict).__name__
+    ('Looked', 'Judged')
+    >>> from dollar import answer
+    >>> [type(answer(text)).__name__ for text in ("given 1 a=2", "joined 1 a=2")]
+    ['Given', 'Joined']
+    >>> [type(answer(text)).__name__ for text in ("stale 1", "not won", "refused gift", "bad name", "turns")]
     ['Stale', 'Claimed', 'Declined', 'Bad', 'Turns']
     """
 
     word: str = ""
-    gifts: Optional[int] = None
-    amounts: Optional[Pairs] = None
-    found: Union[Verdict, RankTest, None] = None
-    number: Optional[int] = None
-    seat: Optional[int] = None
-    line: Optional[str] = None
-    step: Optional[int] = None
+    gifts: int | None = None
+    amounts: Pairs | None = None
+    found: Verdict | RankTest | None = None
+    number: int | None = None
+    seat: int | None = None
+    line: str | None = None
+    step: int | None = None
 
     def __new__(cls, word: str = "", *parts: Any, **more: Any) -> Entry:
         """An entry of the kind that its word tells."""
@@ -320,7 +322,7 @@ class Entry(Answer):
     def __repr__(self) -> str:
         return "%s(%s)" % (type(self).__name__, ", ".join("%s=%r" % pair for pair in vars(self).items() if pair[1] is not None))
 
-    def parts(self) -> Tuple[Any, ...]:
+    def parts(self) -> tuple[Any, ...]:
         if self.found is not None:
             return self.found.parts()
         return tuple(part for part in (self.word, self.gifts, self.amounts) if part is not None)
@@ -387,12 +389,12 @@ class Turns(Entry):
     """The end of a greedy game whose turns were used up. `help(dollar.Entry)` has an example."""
 
 
-ENTRIES: Dict[str, Type[Entry]] = {
+ENTRIES: dict[str, type[Entry]] = {
     "moved": Moved, "given": Given, "joined": Joined, "looked": Looked, "winnable": Judged, "unwinnable": Judged, "rank": Tested,
     "stale": Stale, "won": Claimed, "not": Claimed, "refused": Declined, "bad": Bad, "turns": Turns}
 
 
-class History(List[Entry]):
+class History(list[Entry]):
     """The entries of a game, in order, which print as the program prints them.
 
     >>> from dollar import Table, greedy
@@ -404,7 +406,7 @@ class History(List[Entry]):
     def __str__(self) -> str:
         return "\n".join(map(str, self))
 
-    def as_dicts(self) -> List[Dict[str, object]]:
+    def as_dicts(self) -> list[dict[str, object]]:
         """The entries as dicts for `json.dumps`."""
         return [each.as_dict() for each in self]
 
@@ -432,15 +434,15 @@ class Party:
     history: History
     gifts: int
     position: Pairs
-    calls: List[int]
-    faults: Dict[int, str]
+    calls: list[int]
+    faults: dict[int, str]
 
     def __str__(self) -> str:
         seats = ("seat %d calls %d" % (seat, calls) for seat, calls in enumerate(self.calls, 1))
         return "\n".join([*map(str, self.history), "entries %d" % len(self.history), "gifts %d" % self.gifts,
                           "position " + pairs_text(self.position), *seats])
 
-    def as_dict(self) -> Dict[str, object]:
+    def as_dict(self) -> dict[str, object]:
         """The party as a dict for `json.dumps`."""
         return {"history": self.history.as_dicts(), "gifts": self.gifts, "position": by_name(self.position), "calls": self.calls,
                 "faults": {str(seat): text for seat, text in self.faults.items()}}
@@ -470,17 +472,17 @@ class Refused(Fault):
     def __bool__(self) -> bool:
         return False
 
-    def as_dict(self) -> Dict[str, object]:
+    def as_dict(self) -> dict[str, object]:
         """The row as a dict for `json.dumps`."""
         return {name: value for name, value in vars(self).items() if value is not None and name not in vars(Fault("", 3))}
 
-    def __reduce__(self) -> Tuple[Any, ...]:
+    def __reduce__(self) -> tuple[Any, ...]:
         return refusal, (type(self), self.text, self.table), dict(vars(self))
 
 
 @dataclass(eq=False)
 class RefusedVerdict(Refused):
-    """A table that was refused a verdict."""
+    """A table that was refused a verdict. `help(dollar.Refused)` has an example."""
 
     winnable: None = None
     script: None = None
@@ -490,7 +492,7 @@ class RefusedVerdict(Refused):
 
 @dataclass(eq=False)
 class RefusedRankTest(Refused):
-    """A table that was refused a rank test."""
+    """A table that was refused a rank test. `help(dollar.Refused)` has an example."""
 
     holds: None = None
     degree: None = None
@@ -500,7 +502,7 @@ class RefusedRankTest(Refused):
 
 @dataclass(eq=False)
 class RefusedRiemannRoch(Refused):
-    """A table that was refused its four numbers."""
+    """A table that was refused its four numbers. `help(dollar.Refused)` has an example."""
 
     degree: None = None
     genus: None = None
@@ -509,7 +511,7 @@ class RefusedRiemannRoch(Refused):
     refused: str = ""
 
 
-def refusal(kind: Callable[..., Row], text: str, table: Optional[int], more: str = "") -> Row:
+def refusal(kind: Callable[..., Row], text: str, table: int | None, more: str = "") -> Row:
     """The row of such a kind for a table that was refused."""
     row = kind(refused=text)
     Fault.__init__(row, text, 3, table, more)
@@ -521,7 +523,7 @@ AMOUNTS, NATURAL = r"(\w+={0}(?: \w+={0})*)".format(r"(?:0|-?[1-9]\d*)"), r"(0|[
 PARTS = {"P": AMOUNTS, "N": r"(\w+(?: \w+)*)", "g": NATURAL, "k": NATURAL, "?": r"\?"}
 
 
-def form_of(text: str) -> Pattern[str]:
+def form_of(text: str) -> re.Pattern[str]:
     """What reads the texts of a form: its word, and then what stands for its numbers and amounts."""
     found = re.fullmatch(r"(.*?)((?: by)?(?: [Pgk]\b.*)?)", text)
     assert found is not None
@@ -529,7 +531,7 @@ def form_of(text: str) -> Pattern[str]:
 
 
 # What reads each answer of the program, by the first word.
-FORMS: DefaultDict[str, List[Pattern[str]]] = defaultdict(list)
+FORMS: defaultdict[str, list[re.Pattern[str]]] = defaultdict(list)
 for reply in [*GRAMMAR["replies"], *GRAMMAR["ordered"], "rank below k at ?", *GRAMMAR["bad"], "turns"]:
     FORMS[reply.split(" ")[0]].append(form_of(reply))
 
@@ -538,7 +540,7 @@ def no_answer(text: str) -> ValueError:
     return ValueError("no answer of the program: %r" % text)
 
 
-def parts_of(text: str) -> Tuple[str, ...]:
+def parts_of(text: str) -> tuple[str, ...]:
     """The word of an answer, and the texts of its numbers and amounts."""
     for form in FORMS.get(text.partition(" ")[0], ()):
         found = form.fullmatch(text)
@@ -547,7 +549,7 @@ def parts_of(text: str) -> Tuple[str, ...]:
     raise no_answer(text)
 
 
-def entry(text: str, vertices: Optional[Vertices] = None, **more: Any) -> Entry:
+def entry(text: str, vertices: Vertices | None = None, **more: Any) -> Entry:
     """The entry with this text, which has no number and no seat before it; and what else is known of it.
 
     >>> entry("given 1 a=2 b=0 c=-1")
@@ -567,7 +569,7 @@ def entry(text: str, vertices: Optional[Vertices] = None, **more: Any) -> Entry:
     return Entry(word, gifts, amounts, **more)
 
 
-def answer(text: str) -> Union[Verdict, RankTest, Entry]:
+def answer(text: str) -> Verdict | RankTest | Entry:
     """The answer with this text, which has no number before it.
 
     >>> answer("rank below 2 at a=0 b=2"), answer("stale 1")
@@ -577,7 +579,7 @@ def answer(text: str) -> Union[Verdict, RankTest, Entry]:
     return read if read.found is None else read.found
 
 
-def numbered(text: str, with_seat: bool = False, vertices: Optional[Vertices] = None, **more: Any) -> Entry:
+def numbered(text: str, with_seat: bool = False, vertices: Vertices | None = None, **more: Any) -> Entry:
     """The entry of a text that has its number before it, and its seat after that where it has one. An answer that begins with
     `bad` has neither."""
     form = re.fullmatch(r"(\d+) (\d+) (.+)" if with_seat else r"(\d+)() (.+)", text, re.ASCII)
@@ -591,7 +593,7 @@ def numbered(text: str, with_seat: bool = False, vertices: Optional[Vertices] = 
     return found
 
 
-def history(lines: Iterable[str], *, with_seat: bool = False, table: Optional[Mapping[str, object]] = None) -> History:
+def history(lines: Iterable[str], *, with_seat: bool = False, table: Members | None = None) -> History:
     """The entries of these lines, or of a file with them, which have their numbers before them, from 0 on. Amounts are by the vertices of
     the table.
 
@@ -604,20 +606,20 @@ def history(lines: Iterable[str], *, with_seat: bool = False, table: Optional[Ma
     return entries
 
 
-def verdict_of(text: str, table: Any = None, vertices: Optional[Vertices] = None) -> Verdict:
+def verdict_of(text: str, table: Any = None, vertices: Vertices | None = None) -> Verdict:
     """The verdict with this text, on a table, or on what one is made of."""
     word, *rest = parts_of(text)
     if word not in ("winnable", "unwinnable"):
         raise no_answer(text)
     verdict = Verdict(word == "winnable", pairs_of(rest[0], vertices), pairs_of(rest[1], vertices))
-    order: Optional[List[Any]] = rest[2].split(" ") if rest[2:] else None
+    order: list[Any] | None = rest[2].split(" ") if rest[2:] else None
     if order and vertices is not None:
         order = [vertices.given[vertices.names.index(name)] for name in order]
     vars(verdict).update(_table=table, _burning=order)
     return verdict
 
 
-def rank_test_of(text: str, table: Any = None, vertices: Optional[Vertices] = None) -> RankTest:
+def rank_test_of(text: str, table: Any = None, vertices: Vertices | None = None) -> RankTest:
     """The rank test with this text, of a table, or of what one is made of."""
     word, *rest = parts_of(text)
     if word not in ("rank at least", "rank below"):

@@ -12,9 +12,12 @@ import sys
 import sysconfig
 import tempfile
 import weakref
+from collections.abc import Iterable, Iterator, Sequence
 from contextlib import ExitStack, contextmanager
 from pathlib import Path
-from typing import IO, Iterable, Iterator, List, Optional, Sequence, Tuple, Union
+from typing import IO, Union
+
+from dollar._vertices import seconds
 
 Place = Union[str, "os.PathLike[str]"]
 
@@ -45,7 +48,7 @@ class Fault(Exception):
     amount of vertex 0: 2000000, and only -1000000 to 1000000 is possible (status 3)
     """
 
-    def __init__(self, text: str, status: int, table: Optional[int] = None, more: str = "") -> None:
+    def __init__(self, text: str, status: int, table: int | None = None, more: str = "") -> None:
         super().__init__(text, status, table, more)
         self.text, self.status, self.table, self.more = text, status, table, more
 
@@ -104,14 +107,14 @@ def beside() -> Iterator[Path]:
         yield CLONE
 
 
-def find_program(program: Optional[Place] = None) -> str:
+def find_program(program: Place | None = None) -> str:
     """The path of the program. It is the one that is given, or that the variable DOLLAR names; or the one that is built in this clone
     or was installed with the package; or the `dollar` on the PATH.
 
     >>> find_program("/nowhere/dollar")
     Traceback (most recent call last):
         ...
-    dollar.program.ProgramNotFound: the parameter `program` names /nowhere/dollar, and no program is there
+    dollar.ProgramNotFound: the parameter `program` names /nowhere/dollar, and no program is there
     """
     for given, whence in ((program, "the parameter `program`"), (os.environ.get("DOLLAR"), "the variable DOLLAR")):
         if given:
@@ -136,7 +139,7 @@ def typed(command: str) -> str:
 
 
 @contextmanager
-def command_line(words: Iterable[Union[str, bytes]], program: Optional[Place]) -> Iterator[Tuple[List[str], List[int]]]:
+def command_line(words: Iterable[str | bytes], program: Place | None) -> Iterator[tuple[list[str], list[int]]]:
     """The command line of the program with these words, and the descriptors that the child must be handed. A word as bytes stands for
     a file with these bytes, which has no name of its own, so that none is left behind. Descriptors below 3 are the child's standard
     streams, even if they are closed here."""
@@ -154,7 +157,7 @@ def command_line(words: Iterable[Union[str, bytes]], program: Optional[Place]) -
         yield line, descriptors
 
 
-def talk(line: Sequence[str], descriptors: Sequence[int], said: Union[int, IO[bytes]], buffer: int = -1) -> subprocess.Popen[bytes]:
+def talk(line: Sequence[str], descriptors: Sequence[int], said: int | IO[bytes], buffer: int = -1) -> subprocess.Popen[bytes]:
     """A run of this command line with pipes to its input and from its output; what it says on standard error goes to `said`. An
     interrupt at the terminal, or of a notebook, is for Python and not for the run."""
     child = subprocess.Popen(line, bufsize=buffer, stdin=subprocess.PIPE, stdout=subprocess.PIPE, stderr=said, pass_fds=descriptors,
@@ -177,10 +180,11 @@ def let_go() -> None:
 os.register_at_fork(after_in_child=let_go)
 
 
-def call(words: Sequence[Union[str, bytes]], program: Optional[Place] = None,
-         patience: Optional[float] = None) -> Tuple[bytes, bytes, int]:
+def call(words: Sequence[str | bytes], program: Place | None = None,
+         patience: float | None = None) -> tuple[bytes, bytes, int]:
     """What the program prints and says, and its status. A word as bytes stands for a file with these bytes. With `patience` it is
     killed after so many seconds, and a TimeoutError raised."""
+    seconds(patience)
     with command_line(words, program) as (line, descriptors):
         try:
             done = subprocess.run(line, stdin=subprocess.DEVNULL, stdout=subprocess.PIPE, stderr=subprocess.PIPE,
@@ -190,7 +194,7 @@ def call(words: Sequence[Union[str, bytes]], program: Optional[Place] = None,
     return done.stdout, done.stderr, done.returncode
 
 
-def printed(*words: Union[str, bytes], program: Optional[Place] = None, patience: Optional[float] = None) -> str:
+def printed(*words: str | bytes, program: Place | None = None, patience: float | None = None) -> str:
     """What the program prints, or its Fault. A word as bytes stands for a file with these bytes."""
     out, said, status = call(words, program, patience)
     if status:

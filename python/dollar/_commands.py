@@ -5,21 +5,20 @@ from __future__ import annotations
 import json
 import os
 import re
-from collections.abc import Mapping as AbstractMapping
-from typing import Any, Callable, Iterable, List, Optional, Tuple, TypeVar, Union
+from collections.abc import Callable, Iterable, Mapping
+from typing import Any, TypeVar
 
-from dollar.answers import (
+from dollar._answers import (
     Entry, History, Party, RankTest, RiemannRoch, Verdict, history, pairs_of, rank_test_of, riemann_roch_of, verdict_of, vertices_of)
-from dollar.grammar import GRAMMAR, limit
-from dollar.library import UNNAMED, told
-from dollar.program import Fault, Place, call, fault_of, find_program, printed
-from dollar.readers import rank_test_form, verdict_form
-from dollar.table import MOST_AMOUNT, MOST_BYTES, Asked, Table, file_and_table, made_of, members
-from dollar.vertices import within
+from dollar._grammar import GRAMMAR, limit
+from dollar._library import UNNAMED, told
+from dollar._program import Fault, Place, call, fault_of, find_program, printed
+from dollar._readers import TOO_MANY, rank_tests, verdicts
+from dollar._table import MOST_AMOUNT, MOST_BYTES, Asked, Table, file_and_table, made_of, members
+from dollar._vertices import is_whole, shown, within
 
 Lines = Iterable[str]
 Got = TypeVar("Got")
-TOO_MANY = "too many trials"
 MOST_DEGREE, MOST_SEATS, MOST_ENTRIES = (1 << 32) - 1, limit("dg_rules::MAX_SEATS"), limit("dg_rules::MAX_ENTRIES")
 
 
@@ -36,14 +35,20 @@ def lines_text(lines: Lines) -> bytes:
     return "".join(line + "\n" for line in texts).encode()
 
 
-def word_of(thing: object) -> Union[str, bytes]:
+def word_of(thing: object) -> str | bytes:
     """A word of a command line, or the bytes of the file that stands for it: a table, or a list of lines."""
-    if isinstance(thing, (Table, AbstractMapping)) or hasattr(thing, "sandpile"):
+    if isinstance(thing, (Table, Mapping)) or hasattr(thing, "sandpile"):
         return members(thing)  # type: ignore[arg-type]
-    return lines_text(thing) if isinstance(thing, (list, tuple)) else str(thing)
+    if isinstance(thing, (list, tuple)):
+        return lines_text(thing)
+    if isinstance(thing, (str, os.PathLike)):
+        return os.fspath(thing)
+    if is_whole(thing):
+        return str(thing)
+    raise TypeError("a word is a text, a number, a place, a list of lines or a Table, and not of the type %s" % type(thing).__name__)
 
 
-def run(command: str, *given: object, program: Optional[Place] = None) -> List[str]:
+def run(command: str, *given: object, program: Place | None = None) -> list[str]:
     """The lines that a command prints, given tables, lists of lines, numbers, options and places of files. It is a Fault if the program
     refuses them.
 
@@ -58,9 +63,19 @@ def run(command: str, *given: object, program: Optional[Place] = None) -> List[s
         raise Fault(fault.text, fault.status, None, more_of(fault.text, first, first)) from None
 
 
+def first_past_64_bits(table: Any) -> str:
+    """The first amount that has more than 64 bits; a LookupError if there is none."""
+    name, amount = next(((name, amount) for name, amount in zip(table["vertices"], table["amounts"])
+                         if isinstance(amount, int) and not -1 << 63 <= amount < 1 << 63), (None, 0))
+    if name is None:
+        raise LookupError
+    return "%s at vertex %s" % (shown(amount), name)
+
+
 # What can be said of a fault: its text, the value by the members of the table and the number in the text, and the limit.
-BESIDE: List[Tuple[str, Callable[[Any, int], Any], str]] = [
+BESIDE: list[tuple[str, Callable[[Any, int], Any], str]] = [
     ("number of vertices", lambda table, _: len(table["vertices"]), "1 to %d is" % limit("dg_graph::MAX_VERTICES")),
+    ("shape of amounts", lambda table, _: first_past_64_bits(table), "%d to %d is" % (-MOST_AMOUNT, MOST_AMOUNT)),
     ("amount of vertex", lambda table, place: table["amounts"][place], "%d to %d is" % (-MOST_AMOUNT, MOST_AMOUNT)),
     ("valence of vertex", lambda table, place: "%d edges" % sum(edge[2] for edge in table["edges"] if table["vertices"][place] in edge[:2]),
      "0 to %d is" % limit("dg_graph::MAX_VALENCE")),
@@ -74,16 +89,26 @@ BESIDE: List[Tuple[str, Callable[[Any, int], Any], str]] = [
     (TOO_MANY, lambda *_: "", "the degree %d and %d trials are" % (limit("dg_rank::MAX_DEGREE"), limit("dg_rank::MAX_TRIALS")))]
 
 
+def members_kept(kept: Any) -> Any:
+    """The members of a table, by what was kept of it."""
+    if isinstance(kept, bytes):
+        return json.loads(kept)
+    table = made_of(kept) if isinstance(kept, tuple) else kept
+    return table.to_dict() if isinstance(table, Table) else table
+
+
 def beside(text: str, kept: Any) -> str:
     """What is said beside a fault: the value, by what was kept of the table, and the limit."""
     found = re.search(r"\d+", text)
     for begins, value_of, most in BESIDE:
         if text.replace(found[0] if found else "#", "#").startswith(begins):
             try:
-                table = json.loads(kept) if isinstance(kept, bytes) else made_of(kept) if isinstance(kept, tuple) else kept
-                value = str(value_of(table, int(found[0]) if found else 0))
+                value = str(value_of(members_kept(kept), int(found[0]) if found else 0))
             except (LookupError, TypeError, ValueError, RecursionError):
                 value = ""
+                if begins == "shape of amounts":
+                    # It has other causes, and they have nothing to do with a limit.
+                    return ""
             return ", and ".join(filter(None, [value, most and "only %s possible" % most]))
     return ""
 
@@ -95,7 +120,7 @@ def more_of(text: str, table: Any, kept: Any) -> str:
     return ", ".join(filter(None, [beside(text, kept), place]))
 
 
-def asked(table: Asked, ask: Callable[[bytes], str], read: Callable[[str, Any], Got], program: Optional[Place], lines: bytes = b"") -> Got:
+def asked(table: Asked, ask: Callable[[bytes], str], read: Callable[[str, Any], Got], program: Place | None, lines: bytes = b"") -> Got:
     """What is read of an answer about a table. A Fault has the file, the value and the limit beside it, and what is no answer has the
     program."""
     file, kept = file_and_table(table)
@@ -111,7 +136,7 @@ def asked(table: Asked, ask: Callable[[bytes], str], read: Callable[[str, Any], 
         raise ValueError("%s: %s" % (find_program(program), flaw)) from None
 
 
-def line_of(command: str, file: bytes, *words: str, patience: Optional[float] = None, program: Optional[Place] = None) -> str:
+def line_of(command: str, file: bytes, *words: str, patience: float | None = None, program: Place | None = None) -> str:
     """The answer to one table by a line of a sweep, which the program gives also past the limits of one rank test."""
     # A newline in a table file is a space, and so is a tab; neither may be in a name.
     out = printed(command, "--lines", file.replace(b"\n", b"\t") or b"\t", *words, program=program, patience=patience)
@@ -123,7 +148,7 @@ def line_of(command: str, file: bytes, *words: str, patience: Optional[float] = 
     return line
 
 
-def judge(table: Asked, *, program: Optional[Place] = None) -> Verdict:
+def judge(table: Asked, *, program: Place | None = None) -> Verdict:
     """Whether all debts of the table can be cleared, and how.
 
     >>> from dollar import Table
@@ -132,14 +157,15 @@ def judge(table: Asked, *, program: Optional[Place] = None) -> Verdict:
     """
     found = told("judge", table, program)
     if found and isinstance(table, Table):
-        verdict: Verdict = verdict_form(table._vertices).made([found[0][0], *found[1], *found[2]], table)
-        vars(verdict)["_burning"] = [table.vertices[place] for place in found[3]]
+        winnable, script, reduced, order = found
+        verdict: Verdict = verdicts(table._vertices, 0)([winnable[0], *script, *reduced], table)
+        vars(verdict)["_burning"] = [table.vertices[place] for place in order]
         return verdict
     return asked(table, lambda file: printed("judge", "--order", file, program=program).rstrip("\n"),
                  lambda text, kept: verdict_of(text, kept, vertices_of(kept)), program)
 
 
-def rank(table: Asked, *, patience: Optional[float] = None, program: Optional[Place] = None) -> int:
+def rank(table: Asked, *, patience: float | None = None, program: Place | None = None) -> int:
     """The rank of the table: how many dollars can be lost, no matter where, and the table still be won; -1 if it can't be won now. On
     graphs of many edges that may take minutes: with `patience` it is a TimeoutError after so many seconds. `rr_all` has the ranks of
     many tables.
@@ -151,8 +177,8 @@ def rank(table: Asked, *, patience: Optional[float] = None, program: Optional[Pl
     return table.rank(patience=patience, program=program) if isinstance(table, Table) else rr(table, patience=patience, program=program).rank
 
 
-def rank_test(table: Asked, degree: int, *, workers: Optional[int] = None, patience: Optional[float] = None,
-              program: Optional[Place] = None) -> RankTest:
+def rank_test(table: Asked, degree: int, *, workers: int | None = None, patience: float | None = None,
+              program: Place | None = None) -> RankTest:
     """Whether so many dollars can be lost, no matter where, and the table still be won. A test past the limits has an answer
     too, but no first loss; it may take as long as `rank`, and `patience` is the same. `workers` is the number of threads that share
     the test.
@@ -164,7 +190,7 @@ def rank_test(table: Asked, degree: int, *, workers: Optional[int] = None, patie
     degree, more = within(degree, "the degree", 0, MOST_DEGREE), option("workers", workers)
     found = told("rank", table, program, degree) if workers is None else None
     if found and isinstance(table, Table):
-        test: RankTest = rank_test_form(table._vertices, degree).made([found[0][0], *found[1]] if found[0][0] < UNNAMED else [0], table)
+        test: RankTest = rank_tests(table._vertices, degree)([found[0][0], *found[1]] if found[0][0] < UNNAMED else [0], table)
         return test
     word = str(degree)
 
@@ -179,7 +205,7 @@ def rank_test(table: Asked, degree: int, *, workers: Optional[int] = None, patie
     return asked(table, ask, lambda text, kept: rank_test_of(text, kept, vertices_of(kept)), program)
 
 
-def rr(table: Asked, *, patience: Optional[float] = None, program: Optional[Place] = None) -> RiemannRoch:
+def rr(table: Asked, *, patience: float | None = None, program: Place | None = None) -> RiemannRoch:
     """The four numbers of Riemann-Roch. They may take as long as `rank`, and `patience` is the same.
 
     >>> from dollar import Table
@@ -193,7 +219,7 @@ def rr(table: Asked, *, patience: Optional[float] = None, program: Optional[Plac
                  program)
 
 
-def rehearse(table: Asked, steps: Lines, *, program: Optional[Place] = None) -> History:
+def rehearse(table: Asked, steps: Lines, *, program: Place | None = None) -> History:
     """The history of these steps, each a seat and a command.
 
     >>> from dollar import Table
@@ -213,7 +239,7 @@ def rehearse(table: Asked, steps: Lines, *, program: Optional[Place] = None) -> 
     return asked(table, lambda file: printed("rehearse", file, played, program=program), read, program, played)
 
 
-def greedy(table: Asked, turns: int, *, program: Optional[Place] = None) -> History:
+def greedy(table: Asked, turns: int, *, program: Place | None = None) -> History:
     """The history of a game in which the first vertex in debt borrows; the last is `won`, or `turns` if its turns were used up.
 
     >>> from dollar import Table
@@ -234,7 +260,7 @@ def greedy(table: Asked, turns: int, *, program: Optional[Place] = None) -> Hist
     return asked(table, lambda file: printed("greedy", file, word, program=program), read, program)
 
 
-def party(table: Asked, *scripts: Lines, cap: Optional[int] = None, program: Optional[Place] = None) -> Party:
+def party(table: Asked, *scripts: Lines, cap: int | None = None, program: Place | None = None) -> Party:
     """Plays scripts at the same time: lists of lines, each for a seat and without seats in the lines. `faults` has the sessions that
     ended early; a Fault is raised if nothing was played.
 
@@ -265,7 +291,7 @@ def party(table: Asked, *scripts: Lines, cap: Optional[int] = None, program: Opt
     return asked(table, ask, read, program)
 
 
-def seat_fault(line: str) -> Tuple[int, str]:
+def seat_fault(line: str) -> tuple[int, str]:
     """The seat and the text of `dollar: seat I: ..`."""
     _, seat, text = line.split(": ", 2)
     return int(seat.split(" ")[1]), text
@@ -275,6 +301,6 @@ def seat_fault(line: str) -> Tuple[int, str]:
 MOST = {"workers": limit("dg_invocation::MAX_WORKERS"), "cap": limit("dg_invocation::MAX_CAPACITY"), "seats": MOST_SEATS}
 
 
-def option(name: str, number: Optional[int]) -> List[str]:
+def option(name: str, number: int | None) -> list[str]:
     """The words of an option, none where it is not given."""
     return [] if number is None else ["--" + name, str(within(number, name, 1, MOST[name]))]

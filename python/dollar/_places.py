@@ -12,17 +12,18 @@ from __future__ import annotations
 import itertools
 import math
 import random
-from typing import Any, Collection, Dict, Iterable, Iterator, List, Mapping, Optional, Sequence, Set, Tuple
+from collections.abc import Collection, Iterable, Iterator, Mapping, Sequence
+from typing import Any
 
 __all__ = ["places", "places_of_text"]
 
-Point = Tuple[float, float]
+Point = tuple[float, float]
 # The place of each vertex, by its name.
-Places = Dict[Any, Point]
+Places = dict[Any, Point]
 # For each vertex its neighbours.
-Near = Mapping[Any, Set[Any]]
+Near = Mapping[Any, set[Any]]
 # The edges of a graph, whose vertices are numbers, and the places of these.
-Model = Tuple[Sequence[Tuple[int, int]], Sequence[Point]]
+Model = tuple[Sequence[tuple[int, int]], Sequence[Point]]
 
 CUBE_SPOTS = ((-0.95, -0.35), (0.35, -0.35), (0.35, 0.95), (-0.95, 0.95),
               (-0.35, -0.95), (0.95, -0.95), (0.95, 0.35), (-0.35, 0.35))
@@ -77,7 +78,7 @@ def places_of_text(text: str, vertices: Collection[str]) -> Places:
     return {name: found[name] for name in vertices}
 
 
-def coordinate(word: str) -> Optional[float]:
+def coordinate(word: str) -> float | None:
     """The number that a word is, or None."""
     try:
         number = float(word)
@@ -86,9 +87,9 @@ def coordinate(word: str) -> Optional[float]:
     return number if abs(number) <= 1_000_000 else None
 
 
-def neighbours(names: Iterable[Any], edges: Iterable[Sequence[Any]]) -> Dict[Any, Set[Any]]:
+def neighbours(names: Iterable[Any], edges: Iterable[Sequence[Any]]) -> dict[Any, set[Any]]:
     """For each vertex the set of those to which an edge leads."""
-    near: Dict[Any, Set[Any]] = {name: set() for name in names}
+    near: dict[Any, set[Any]] = {name: set() for name in names}
     for u, v, *_ in edges:
         if u != v and u in near and v in near:
             near[u].add(v)
@@ -96,7 +97,7 @@ def neighbours(names: Iterable[Any], edges: Iterable[Sequence[Any]]) -> Dict[Any
     return near
 
 
-def ring(count: int, start: float = -90.0, size: float = 1.0) -> List[Point]:
+def ring(count: int, start: float = -90.0, size: float = 1.0) -> list[Point]:
     """So many places on a circle, clockwise from an angle in degrees; -90 is at the top."""
     turns = [math.radians(start + 360 * i / count) for i in range(count)]
     return [(size * math.cos(turn), size * math.sin(turn)) for turn in turns]
@@ -106,7 +107,7 @@ def count_of_edges(near: Near) -> int:
     return sum(map(len, near.values())) // 2
 
 
-def walk(first: Any, near: Mapping[Any, Iterable[Any]]) -> Dict[Any, int]:
+def walk(first: Any, near: Mapping[Any, Iterable[Any]]) -> dict[Any, int]:
     """The vertices that can be reached from one, each with its distance, nearest first."""
     far, order = {first: 0}, [first]
     # The list grows meanwhile.
@@ -120,7 +121,7 @@ def walk(first: Any, near: Mapping[Any, Iterable[Any]]) -> Dict[Any, int]:
 
 # The shapes. Each gives the places of all vertices, or None.
 
-def known(names: Sequence[Any], near: Near) -> Optional[Places]:
+def known(names: Sequence[Any], near: Near) -> Places | None:
     """At most two vertices, side by side, and the graphs that have a model: the first model that fits."""
     if len(names) <= 2:
         return dict(zip(names, line(len(names))))
@@ -161,7 +162,7 @@ def models(size: int, degree: int) -> Iterator[Model]:
         yield prism(size // 2)
 
 
-def line(size: int) -> List[Point]:
+def line(size: int) -> list[Point]:
     """The places of a path: a line, or one that runs to and fro if it is long."""
     if size <= LONGEST_ROW:
         return [((2 * i - size + 1) / max(size - 1, 1), 0.0) for i in range(size)]
@@ -190,12 +191,12 @@ def prism(size: int) -> Model:
     return lines + [(size + i, size + j) for i, j in lines] + [(i, size + i) for i in range(size)], two_rings(size)
 
 
-def two_rings(size: int) -> List[Point]:
+def two_rings(size: int) -> list[Point]:
     """A ring, and one half as large within it."""
     return ring(size) + ring(size, size=0.5)
 
 
-def tree(names: Sequence[Any], near: Near) -> Optional[Places]:
+def tree(names: Sequence[Any], near: Near) -> Places | None:
     """A tree: its middle at the top, and below each vertex those that hang on it."""
     if count_of_edges(near) != len(names) - 1 or len(walk(names[0], near)) < len(names):
         return None
@@ -213,7 +214,7 @@ def tree(names: Sequence[Any], near: Near) -> Optional[Places]:
     return centred(found)
 
 
-def matching(lines: Sequence[Any], size: int, names: Sequence[Any], near: Near) -> Optional[List[Any]]:
+def matching(lines: Sequence[Any], size: int, names: Sequence[Any], near: Near) -> list[Any] | None:
     """The names in an order in which the graph has just the edges of a model, or None. The first such order by the names."""
     if len(names) != size or count_of_edges(near) != len(lines):
         return None
@@ -221,7 +222,7 @@ def matching(lines: Sequence[Any], size: int, names: Sequence[Any], near: Near) 
     if sorted(map(len, model.values())) != sorted(map(len, near.values())):
         return None
     order = list(walk(0, {i: sorted(model[i]) for i in model}))
-    given: Dict[int, Any] = {}
+    given: dict[int, Any] = {}
 
     def place(number: int) -> bool:
         if number == size:
@@ -255,7 +256,7 @@ def best(names: Sequence[Any], near: Near) -> Places:
     return better(names, near, min(choices, key=lambda found: cost(names, near, found)), draw)
 
 
-def cost(names: Sequence[Any], near: Near, found: Places) -> Tuple[int, int]:
+def cost(names: Sequence[Any], near: Near, found: Places) -> tuple[int, int]:
     return len(crowded(names, near, found)), crossings(near, found)
 
 
@@ -321,17 +322,17 @@ def centred(found: Places) -> Places:
     return {name: ((2 * x - low[0] - high[0]) / wide, (2 * y - low[1] - high[1]) / wide) for name, (x, y) in found.items()}
 
 
-def lines_of(near: Near) -> List[Tuple[Any, Any]]:
+def lines_of(near: Near) -> list[tuple[Any, Any]]:
     """Each edge once."""
     return [(u, v) for u, v in itertools.combinations(near, 2) if v in near[u]]
 
 
-def crowded(names: Sequence[Any], near: Near, found: Places) -> List[Tuple[Any, ...]]:
+def crowded(names: Sequence[Any], near: Near, found: Places) -> list[tuple[Any, ...]]:
     """The vertices that are in the way: three for an edge that goes through the circle of the third, and two, several times, for
     two that are too near to each other."""
     apart = {pair: math.dist(found[pair[0]], found[pair[1]]) for pair in itertools.combinations(names, 2)}
     close = CLOSE * max(NEAREST, min(apart.values(), default=1.0))
-    bad: List[Tuple[Any, ...]] = [pair for pair, far in apart.items() if far < NEAREST for _ in range(9)]
+    bad: list[tuple[Any, ...]] = [pair for pair, far in apart.items() if far < NEAREST for _ in range(9)]
     for u, v in lines_of(near):
         (a, b), (c, d) = found[u], found[v]
         low, high, top, down = min(a, c) - close, max(a, c) + close, min(b, d) - close, max(b, d) + close
