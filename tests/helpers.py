@@ -10,6 +10,7 @@ import sys
 import tempfile
 import time
 import unittest
+import zlib
 from pathlib import Path
 
 import dollar
@@ -29,12 +30,12 @@ def pythons():
     """The Pythons that are here and that serve, those of pyenv among them, by their versions."""
     found = {}
     kept = os.path.join(os.environ.get("PYENV_ROOT", os.path.expanduser("~/.pyenv")), "versions", "*", "bin", "python3")
-    for name in [sys.executable, *("python3.%d" % minor for minor in range(9, 14)), *sorted(glob.glob(kept)), "/usr/bin/python3"]:
+    for name in [sys.executable, *("python3.%d" % minor for minor in range(10, 15)), *sorted(glob.glob(kept)), "/usr/bin/python3"]:
         if shutil.which(name):
             said = subprocess.run([name, "-c", "import sys; print(*sys.version_info[:2])"], stdout=subprocess.PIPE, stderr=subprocess.DEVNULL,
                                   text=True).stdout
             version = tuple(map(int, said.split()))
-            if version >= (3, 9):
+            if version >= (3, 10):
                 found.setdefault(version, name)
     return found
 
@@ -65,6 +66,11 @@ def each(cases):
                     test(self, *(case if isinstance(case, tuple) else (case,)))
         return run
     return of
+
+
+def checksum(asked, line):
+    """What a CSV file has for a line: the checksum of the command, the degree, the table of divisors, and the line, each with a newline."""
+    return "%08x" % zlib.crc32(("%s\n%s\n" % (asked, line)).encode())
 
 
 def sample(form):

@@ -3,7 +3,7 @@ with. A verdict is checked by its definition, a rank test by making the trials."
 import itertools
 import re
 
-from dollar.grammar import GRAMMAR, limit
+from dollar._grammar import GRAMMAR, limit
 
 COMMANDS, KINDS = GRAMMAR["commands"], GRAMMAR["kinds"]
 MOST_EDGES, MOST_AMOUNT, MOST_GIFT = limit("dg_graph::MAX_VALENCE"), limit("dg_chips::MAX_AMOUNT"), limit("dg_rules::MAX_GIFT")

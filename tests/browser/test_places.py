@@ -6,10 +6,10 @@ import random
 import time
 
 from common import EXAMPLES, text_of
-from dollar import places as module
+from dollar import _places as module
 from dollar.board.puzzles import bipartite, complete, grid, petersen, prism, ring
-from dollar.drawing import USUAL, layout
-from dollar.places import places, places_of_text
+from dollar._drawing import USUAL, layout
+from dollar._places import places, places_of_text
 from helpers import equal, expect, tests_of
 
 DRAW = random.Random(7)

@@ -6,7 +6,7 @@ import tempfile
 from browser import LISTED, needed
 from common import EXAMPLES, TRIANGLE, lines_of, refused, script, text_of, written
 from dollar import answer, edges, example, joined
-from dollar.grammar import GRAMMAR
+from dollar._grammar import GRAMMAR
 from helpers import equal, expect, tests_of
 
 STORIES = ("village", "village_story"), ("houses", "tax_on_the_houses"), ("village", "roads_for_the_village")
@@ -123,7 +123,7 @@ def states(table, steps, lines):
 def by_keys(browser, place, table, steps):
     """Goes through a page by keys, forth and back, and compares it at each step."""
     asked, lines = lines_of(f"{steps}.txt"), lines_of(f"{steps}.out")
-    all_states, last = list(states(example(table), asked, lines)), len(asked)
+    all_states, last = list(states(example(table).to_dict(), asked, lines)), len(asked)
     browser.open(place)
     ways = [*(("ArrowRight", i) for i in range(1, last + 1)), *(("ArrowLeft", i) for i in range(last - 1, -1, -1)),
             ("End", last), ("ArrowRight", last), ("Home", 0)]

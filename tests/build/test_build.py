@@ -150,6 +150,8 @@ class OfBuilds(Test):
         taken = f"crates were proved in another checkout, and are taken from {self.caches}/dollar\n"
         self.elsewhere()
         self.assertEqual(self.builds(), f"dollar: {BUILT} of {BUILT} {taken}")
+        # Packages are linked from it.
+        self.assertTrue((self.tree / "out" / "build" / "dollar.o").exists())
         self.edit("dg_cli")
         self.assertIn(f"its crates are proved: {BUILT - 3} of {BUILT}, ", self.builds())
         self.elsewhere()
@@ -184,8 +186,7 @@ class OfBuilds(Test):
             self.edit("dg_system")
             self.builds()
         kept = [len([*folder.iterdir()]) for folder in (self.caches / "dollar").iterdir()]
-        self.assertEqual(kept, [3] * BUILT, "two states and a lock")
-
+        self.assertEqual(kept, [3] * (BUILT + 1), "two states and a lock, of each crate and of the program's object")
 
     @each(list(ENDED.items()))
     def test_a_build_that_is_ended_says_what_is_kept(self, number, status):

@@ -8,7 +8,7 @@ import resource
 
 from runs import SEED, TRIANGLE, WON, Run, checked, refused
 from dollar import answer, flaw
-from dollar.grammar import GRAMMAR, limit
+from dollar._grammar import GRAMMAR, limit
 
 DRAW = random.Random(SEED)
 print(f"SEED={SEED}")

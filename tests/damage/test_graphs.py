@@ -90,7 +90,7 @@ def patterns(size):
 
 
 def judge(checks, what, board):
-    """Has the program judge the table. The script is fired, and the divisor burnt, in python/dollar/checks.py: that its verdict
+    """Has the program judge the table. The script is fired, and the divisor burnt, in python/dollar/_checks.py: that its verdict
     has no flaw proves it, and there is only one such."""
     run = checks.brief("judge", checks.put("board", json.dumps(board).encode()))
     said = run.output.decode("latin-1")

@@ -6,7 +6,7 @@ import resource
 
 from runs import TRIANGLE, Run, checked, refused
 from model import Session
-from dollar.grammar import GRAMMAR
+from dollar._grammar import GRAMMAR
 
 LINES, ROOM = 1000000, 16 << 20
 # Words of each kind.

@@ -7,7 +7,7 @@ import subprocess
 
 from runs import SEED, TRIANGLE, WON, Run, checked, refused
 from dollar import answer, flaw
-from dollar.grammar import limit
+from dollar._grammar import limit
 from helpers import HUNG
 
 DRAW = random.Random(SEED)

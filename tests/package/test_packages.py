@@ -24,7 +24,7 @@ VERDICT = "winnable by a=0 b=-1 c=-1 to a=0 b=0 c=0\n"
 TOOL = ROOT / "tools" / "package"
 # What a package is for, from Python: a verdict on an example, by the library for C if it is packed, and a sweep.
 LINES = f"""import dollar
-assert (dollar.library.asking("judge", dollar.example("triangle"), None) is not None) is {SHARED.exists()}
+assert (dollar._library.asking("judge", dollar.example("triangle"), None) is not None) is {SHARED.exists()}
 print(dollar.judge(dollar.example("triangle")))
 assert [numbers.rank for numbers in dollar.rr_all(dollar.Table([[0, 3], [3, 0]], [amount, 1]) for amount in range(4))] == [0, 1, 1, 2]
 """
