@@ -52,7 +52,7 @@ def with_entries(lesson):
     for text, words in (("x" * 1100, "at most 1024 bytes"), ("a\\nb", "no newline"), ("2 look", "There is no such command.")):
         ann.value(f"void play('{text}')")
         ann.until(f"$('#refused').textContent.includes({json.dumps(words)})")
-    equal(desk.value("viewer.game.length"), 5, "the steps on the teacher's page")
+    desk.has(5)
 
 
 def confirmed(desk, button):
