@@ -7,9 +7,11 @@
 --   wide_held         the same of 128 bits, within 2^126
 --   times_held        so is its value within 2^120, as the crates above cite it
 --   carried_held      a machine's value of what edges carry is that value, within the limit
+--   narrow_held       the same of 32 bits, within 10^9
 --   held_sum          so a machine's sum of two numbers within 2^61 is their sum
+--   held_shift        and its sum of a difference and a number, each within 2^60, is that sum
 --   product_limit     edges that each carry a limited amount carry so many times the limit together
-use Rattle.dg_chips.proofs.Common.{◌≡◌, ℕ, zero, suc, ◌*◌, ◌^◌, ◌≤◌, arith, refl, sym, w64, FitsSigned, ◌∙◌, ap, ⊎_elim, cases_eq, ints, unsigned_abs-mul, mul-le-mul, ℤ, pos, ◌+ℤ◌, ◌-ℤ◌, ◌*ℤ◌, zero-*ℤ, *ℤ_comm, unsigned_abs, w128, to_z, of_z, sum_below, nat_sum_below, Multigraph, IsMultigraph, edges_between, valence, Amounts, gain, within_abs, abs-add, mulz-sub, sum_below-cong, sum_below-scale, sum_below-sub, sum_below-total}
+use Rattle.dg_chips.proofs.Common.{◌≡◌, ℕ, zero, suc, ◌*◌, ◌^◌, ◌≤◌, arith, refl, sym, w32, w64, FitsSigned, ◌∙◌, ap, ⊎_elim, cases_eq, ints, unsigned_abs-mul, mul-le-mul, ℤ, pos, ◌+ℤ◌, ◌-ℤ◌, ◌*ℤ◌, zero-*ℤ, *ℤ_comm, unsigned_abs, w128, to_z, of_z, sum_below, nat_sum_below, Multigraph, IsMultigraph, edges_between, valence, Amounts, gain, within_abs, abs-add, mulz-sub, sum_below-cong, sum_below-scale, sum_below-sub, sum_below-total}
 
 pub sum_below-edges : (n : ℕ) (e : ℕ → ℕ) (y : ℤ) → sum_below n (λ w. pos (e w) *ℤ y) ≡ pos (nat_sum_below n e) *ℤ y
 sum_below-edges n e y =
@@ -49,6 +51,9 @@ held z small = let (low, high) = within_abs z (2 ^ 62) small in (omega (arith, i
 pub wide_held : (z : ℤ) → unsigned_abs z ≤ 2 ^ 126 → FitsSigned w128 z × (to_z w128 (of_z w128 z) ≡ z)
 wide_held z small = let (low, high) = within_abs z (2 ^ 126) small in (omega (arith, ints), omega (arith, ints))
 
+pub narrow_held : (z : ℤ) → unsigned_abs z ≤ 1000000000 → FitsSigned w32 z × (to_z w32 (of_z w32 z) ≡ z)
+narrow_held z small = let (low, high) = within_abs z 1000000000 small in (omega (arith, ints), omega (arith, ints))
+
 pub times_held : (z : ℤ) → unsigned_abs z ≤ 2 ^ 120 → to_z w128 (of_z w128 z) ≡ z
 times_held z small = (wide_held z (omega arith)).1
 
@@ -64,6 +69,15 @@ pub held_sum : (a b : ℤ) → unsigned_abs a ≤ 2 ^ 61 → unsigned_abs b ≤ 
     (to_z w64 (of_z w64 (to_z w64 (of_z w64 a) +ℤ to_z w64 (of_z w64 b))) ≡ a +ℤ b)
 held_sum a b first second =
     rw ((held a (omega arith)).1, (held b (omega arith)).1) (held (a +ℤ b) (abs-add a b (2 ^ 61) (2 ^ 61) first second))
+
+pub held_shift : (a b d : ℤ) → unsigned_abs a ≤ 2 ^ 60 → unsigned_abs b ≤ 2 ^ 60 → unsigned_abs d ≤ 2 ^ 60 →
+    to_z w64 (of_z w64 (to_z w64 (of_z w64 (to_z w64 (of_z w64 a) -ℤ to_z w64 (of_z w64 b))) +ℤ to_z w64 (of_z w64 d)))
+    ≡ a -ℤ b +ℤ d
+held_shift a b d first second third =
+    let (low, high) = within_abs a (2 ^ 60) first in
+    let (low', high') = within_abs b (2 ^ 60) second in
+    let near : unsigned_abs (a -ℤ b) ≤ 2 ^ 61 = omega (arith, ints) in
+    rw ((held a (omega arith)).1, (held b (omega arith)).1) (held_sum (a -ℤ b) d near (omega arith)).1
 
 pub product_limit : (edges most : ℕ) (each : ℤ) (limit : ℕ) → edges ≤ most → unsigned_abs each ≤ limit →
     unsigned_abs (pos edges *ℤ each) ≤ most * limit
