@@ -7,5 +7,5 @@ loop-v-preserved c =
     let inside : c.loop-v.v < length c.loop-v.entries = omega arith in
     record {
       places = length-set _ _ _ ∙ c.loop-v.invariant.places;
-      few = few_set c.loop-v.entries c.loop-v.v _ inside (grind (arith, ints, c.clamp.ensures)) c.loop-v.invariant.few;
+      few = few_set _ c.loop-v.entries c.loop-v.v _ inside (grind (arith, ints, c.clamp.ensures)) c.loop-v.invariant.few;
     }
