@@ -6,8 +6,11 @@
 --   shows_after      what shows the position shows it after the entry, with the amounts after the reply
 --   replies_after    a reply that is right in a state is right after a history that leads to it
 --   right_in         and the other way round
+--   one_entry        a state with one more entry is a state, where there is room
+--   moved_a_move     what is answered as a move is a move
 --   leads_more       a reply that is right after the history leads with its entry to the next state
-use Rattle.dg_rules.proofs.Common.{◌≡◌, ℕ, ◌+◌, ◌<◌, List, [], ◌∷◌, ◌++◌, take, arith, refl, sym, ap, subst, ◌∙◌, length-append, ints, ℤ, pos, Multigraph, size_stays, one_vector, Vector, IsDivisorVector, at, StartData, Position, ShowsPosition, IsAcceptedGift, with_gift, with_join, gifts_in, change_count, scripts_played, after_reply, Replies, RepliesAt, GameState, LeadsTo, IsRightReply, IsNextState, position_of, amounts_after, gifts_after, graph_after, Entry, Request, Move, Gift, Join, Look, Claim, Judge, Reply, Moved, Given, Joined, Looked, Verdict, Stale, Won, NotWon, Refused}
+use Rattle.dg_rules.proofs.Common.{◌≡◌, ◌≢◌, ℕ, ◌+◌, ◌<◌, List, [], ◌∷◌, ◌++◌, take, arith, refl, sym, ap, subst, ◌∙◌, length-append, ints, ℤ, pos, Multigraph, size_stays, one_vector, Vector, IsDivisorVector, at, StartData, Position, ShowsPosition, IsAcceptedGift, with_gift, with_join, gifts_in, change_count, scripts_played, after_reply, Replies, RepliesAt, GameState, IsState, LeadsTo, IsRightReply, IsNextState, position_of, amounts_after, gifts_after, graph_after, Entry, Request, Move, Gift, Join, Look, Claim, Judge, Reply, Moved, Given, Joined, Looked, Verdict, Stale, Won, NotWon, Refused}
+use Rattle.dg_rules.specs.Common.{Move as MoveData}
 use Rattle.dg_rules.specs.History.{position_after}
 use Rattle.dg_rules.specs.declared.entry.Request.TheVariants.{Rank as RankRequest}
 use Rattle.dg_rules.specs.declared.entry.Reply.TheVariants.{Rank as RankReply}
@@ -44,6 +47,31 @@ right_in o H s request reply leads right =
           RepliesAt (record { graph = g; amounts = at s.amounts }) s.q before s.gifts request reply)
           (sym leads.graph) on_amounts,
     )
+
+pub one_entry : (s t : GameState) → IsState s → s ≡ t → t.entries < 65536 →
+    IsState (record { graph = s.graph; q = s.q; amounts = s.amounts; drift = s.drift; gifts = s.gifts; entries = s.entries + 1 })
+one_entry s t state same room =
+    let few : s.entries < 65536 = omega (arith, ap (λ (x : GameState). x.entries) same) in
+    record {
+      graph = state.graph;
+      vertex = state.vertex;
+      size = state.size;
+      divisor = state.divisor;
+      drift_size = state.drift_size;
+      drift_limit = λ v below. omega (arith, state.drift_limit v below);
+      gifts = omega (arith, state.gifts);
+      entries = omega arith;
+    }
+
+pub moved_a_move : (p : Position) (q : ℕ) (before : ℕ → ℕ) (g : ℕ) (request : Request) (d : Vector) →
+    RepliesAt p q before g request (Moved d) → ((m : MoveData) → request ≢ Move m) → ⊥
+moved_a_move p q before g (Move m) d right none = none m refl
+moved_a_move p q before g (Gift v x) d right none = right
+moved_a_move p q before g (Join u v) d right none = right
+moved_a_move p q before g Look d right none = right
+moved_a_move p q before g Claim d right none = right
+moved_a_move p q before g (Judge i) d right none = right
+moved_a_move p q before g (RankRequest i k) d right none = right
 
 pub shown_once : (p : Position) (d e : Vector) → ShowsPosition p d → ShowsPosition p e → d ≡ e
 shown_once p d e first second =
