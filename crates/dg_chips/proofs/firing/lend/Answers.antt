@@ -1,5 +1,5 @@
 -- What is handed on is the number itself, since it fits 32 bits.
-use Rattle.dg_chips.proofs.Common.{◌≡◌, ◌<◌, ◌≤◌, arith, w32, to_z, of_z, to_z-of_z, ℤ}
+use Rattle.dg_chips.proofs.Common.{arith, w32, to_z-of_z}
 use Rattle.dg_chips.proofs.firing.lend.Goals as goal
 
 pub returns-then-v-size : goal.returns-then-v-size

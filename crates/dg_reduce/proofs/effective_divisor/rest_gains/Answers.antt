@@ -1,5 +1,5 @@
 -- One more gain is written, and the others stay.
-use Rattle.dg_reduce.proofs.Common.{◌≡◌, ℕ, ◌∙◌, if◌then◌else◌, ap, arith, ints, length-set, to_z, of_z, pos, in_set}
+use Rattle.dg_reduce.proofs.Common.{◌≡◌, ℕ, ◌∙◌, if◌then◌else◌, ap, arith, ints, length-set, to_z, of_z, in_set}
 use Rattle.dg_chips.proofs.VectorLaws.{filled-set}
 use Rattle.dg_reduce.proofs.Entries.{few_set}
 use mir.Syntax.{w32}

@@ -1,5 +1,5 @@
 -- Space is made in the two lists alone, whose items stay.
-use Rattle.dg_table.proofs.Common.{◌≡◌, [], sym, ap, ◌∙◌, SeatView}
+use Rattle.dg_table.proofs.Common.{[], sym, ap, ◌∙◌, SeatView}
 use Rattle.std.proofs.Common.{append-nil}
 use Rattle.dg_table.proofs.seat.Seat.room.Goals as goal
 
