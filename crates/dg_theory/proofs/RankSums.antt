@@ -1,5 +1,6 @@
 -- The rank of a sum, and Clifford's theorem.
 --   some_left         where a divisor has a degree above 0, some vertex holds a dollar or more
+--   part_more         a part with one more dollar, of those that are left, is a part of one degree more
 --   part_of           of an effective divisor of degree k or more, some part has the degree k
 --   sum_winnable      the sum of two winnable divisors is winnable
 --   rank_of_sum       the rank of a sum is at least the sum of the ranks, where neither is -1
@@ -36,6 +37,17 @@ record IsPart (n : ℕ) (F : Amounts) (k : ℕ) (E : Amounts) : Type 0 where
   of_degree : degree n E ≡ pos k
   within : (v : ℕ) → v < n → E v ≤ℤ F v
 
+part_more : (n : ℕ) (F : Amounts) (k : ℕ) (E : Amounts) (v : ℕ) → IsPart n F k E → v < n → pos 1 ≤ℤ minus F E v →
+    IsPart n F (suc k) (λ w. E w +ℤ only_at v (pos 1) w)
+part_more n F k E v part inside more = record {
+  effective = λ w below. omega (arith, ints, part.effective w below, effective-only_at n v 1 w below);
+  of_degree = omega (arith, ints, sum_below-add n E (only_at v (pos 1)), degree-only_at n v (pos 1) inside, part.of_degree);
+  within = λ w below. ⊎_elim
+      (λ (same : w ≡ v). rw same (omega (arith, ints, only_at-here v (pos 1))))
+      (λ (other : w ≡ v → ⊥). omega (arith, ints, only_at-other v (pos 1) w other, part.within w below))
+      (cases_eq w v);
+}
+
 part_of : (n : ℕ) (F : Amounts) (k : ℕ) → IsEffective n F → pos k ≤ℤ degree n F → (E : Amounts) × IsPart n F k E
 part_of n F zero effective enough = (
   λ _. pos 0,
@@ -48,17 +60,7 @@ part_of n F zero effective enough = (
 part_of n F (suc k) effective enough =
     let (E, part) = part_of n F k effective (omega (arith, ints)) in
     let (v, inside, more) = some_left n (minus F E) (omega (arith, ints, degree-less n F E, part.of_degree)) in
-    let dollar : Amounts = only_at v (pos 1) in (
-      λ w. E w +ℤ dollar w,
-      record {
-        effective = λ w below. omega (arith, ints, part.effective w below, effective-only_at n v 1 w below);
-        of_degree = omega (arith, ints, sum_below-add n E dollar, degree-only_at n v (pos 1) inside, part.of_degree);
-        within = λ w below. ⊎_elim
-            (λ (same : w ≡ v). rw same (omega (arith, ints, only_at-here v (pos 1))))
-            (λ (other : w ≡ v → ⊥). omega (arith, ints, only_at-other v (pos 1) w other, part.within w below))
-            (cases_eq w v);
-      },
-    )
+    (λ w. E w +ℤ only_at v (pos 1) w, part_more n F k E v part inside more)
 
 sum_winnable : (g : Multigraph) (D E : Amounts) → IsWinnable g D → IsWinnable g E → IsWinnable g (λ v. D v +ℤ E v)
 sum_winnable g D E win win' =
