@@ -161,11 +161,13 @@ def silence(folder):
             if number == SILENT - MOST_KEPT:
                 slow = socket.create_connection((place.host, place.port), PATIENCE)
             links.append(socket.create_connection((place.host, place.port), PATIENCE, ("127.0.0.66", 0)))
-            if number % 20 == 0:
+            # Who plays takes time on a busy machine, and the server drops the slow one once that has said nothing for five seconds.
+            if number % 20 == 0 and number < SILENT - MOST_KEPT:
                 equal(ann.play("gift ann 1")[0], 200, f"who plays among {number} silent connections")
         slow.sendall(f"GET {place.path}start HTTP/1.1\r\nHost: {place.host}:{place.port}\r\n\r\n".encode())
         with slow:
             equal(slow.recv(12), b"HTTP/1.1 200", "a connection from another address that was there before")
+        equal(ann.play("gift ann 1")[0], 200, f"who plays among {SILENT} silent connections")
         expect(waited(lambda: len(os.listdir(f"/proc/{child.pid}/fd")) < MOST_KEPT), "so many connections are kept")
         expect(all(ended(link) for link in links), "a silent connection is not dropped")
 
