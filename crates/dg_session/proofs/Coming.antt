@@ -60,8 +60,8 @@ module _ {x m : SeatView} (meets : Keeps x m) where
   gained_met y made g = record {
     number = g.number ∙ meets.number;
     mine = g.mine ∙ ap (λ ps. ps ++ made) meets.mine;
-    heard = g.heard;
-    told = g.told ∙ ap (λ ps. ps ++ g.heard) meets.told;
+    looks = g.looks;
+    told = g.told ∙ ap (λ ps. ps ++ g.looks) meets.told;
     named = g.named;
     stand = g.stand;
     prefix = subst (λ K. IsPrefixOf K y.prefix) meets.prefix g.prefix;

@@ -92,14 +92,14 @@ entered_all {t} {input = input} {xs = xs} {ys} {result} {H} over fresh same clos
     let none = calls_none xs fresh.mine in
     let all = calls_all xs ys fresh same closed in
     let seats = ap calls_of over.seats in
-    let begins : IsPrefixOf over.end.latest H = elim fits.order.met [
+    let begins : IsPrefixOf over.end.history H = elim fits.order.met [
       | inl empty ↦ subst (λ K. IsPrefixOf K H) (sym empty) (H, refl)
       | inr met ↦
           subst (λ K. IsPrefixOf K H) (sym met.3)
           (closed.held met.0 met.1 (sym (ap (λ zs. slice_get zs met.0) over.seats) ∙ met.2)).met
     ] in
     all_numbered H over.end.entered fits.order.ascend
-    (stand_on over.end.latest H over.end.entered begins fits.order.stand)
+    (stand_on over.end.history H over.end.entered begins fits.order.stand)
     (omega (arith, fits.counted, none, all, seats))
 
 pub full_at_close : {t : Setup} {input output : Passage} {xs ys : List SeatView}
@@ -119,7 +119,7 @@ full_at_close {t} {input = input} {ys = ys} {result} {H = H} over closed is =
             ∙ get_set over.after.seats r.0 turn.x turn.y turn.seat.old in
             omega (
               arith,
-              turn.hears.3.1.full,
+              turn.does.3.1.full,
               begins_length turn.y.met H (closed.held r.0 turn.y at).met,
               closed.history.few,
             )

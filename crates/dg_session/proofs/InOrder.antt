@@ -38,17 +38,17 @@ fits_on {n} i s z turn fits =
     record {
       order = record {
         ascend = subst (Ascend 0) (sym turn.entered)
-            (ascend_more 0 (length s.latest) s.entered made (omega arith) fits.order.ascend
-            (below_stand s.latest s.entered fits.order.stand) turn.order.after);
-        stand = subst (StandIn z.latest) (sym turn.entered)
-            (subst (λ L. StandIn L (s.entered ++ made)) (sym turn.latest)
+            (ascend_more 0 (length s.history) s.entered made (omega arith) fits.order.ascend
+            (below_stand s.history s.entered fits.order.stand) turn.order.after);
+        stand = subst (StandIn z.history) (sym turn.entered)
+            (subst (λ L. StandIn L (s.entered ++ made)) (sym turn.history)
             (stand_both y.met s.entered made
-            (stand_on s.latest y.met s.entered turn.order.begins fits.order.stand) turn.order.stand));
+            (stand_on s.history y.met s.entered turn.order.begins fits.order.stand) turn.order.stand));
         met = inr (
           i,
           y,
           ap (λ ys. slice_get ys i) turn.seat.new ∙ get_set s.seats i x y turn.seat.old,
-          turn.latest,
+          turn.history,
         );
       };
       counted =

@@ -22,7 +22,7 @@ pub gains_none : (x y : SeatView) → Keeps x y → Gains x y []
 gains_none x y keeps = record {
   number = keeps.number;
   mine = keeps.mine ∙ sym (append-nil x.mine);
-  heard = [];
+  looks = [];
   told = keeps.told ∙ sym (append-nil x.told);
   named = refl;
   stand = tt;
@@ -64,7 +64,7 @@ entry_made table H request known heard r x y told named stand e = record {
   gained = record {
     number = e.number;
     mine = e.mine;
-    heard = heard;
+    looks = heard;
     told = e.told ∙ told;
     named = named ∙ ap looks_named (sym e.request') ∙ sym (append-nil (looks_named r.1.request));
     stand = subst (λ K. StandIn K heard) (sym e.met) (stand_longer H (r.1 ∷ []) heard stand);

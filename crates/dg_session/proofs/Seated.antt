@@ -36,7 +36,7 @@ Follows x y ps qs = (before made : List (ℕ × Entry)) → length before ≡ le
 module _ {t : Setup} (line text : List ℕ) (xs : List SeatView) (ks : List (Option LookView)) (i : ℕ)
     (d m y : SeatView) (e l : Option LookView) (old new : EntriesSoFarView)
     (for : IsFor t.how (length xs) line i text) (low : i < length xs) (size : length ks ≡ length xs)
-    (meets : HasMet old.latest (slice_index_or xs i d) m) (latest : new.latest ≡ y.met)
+    (meets : HasMet old.history (slice_index_or xs i d) m) (history : new.history ≡ y.met)
     (follows : Follows (slice_index_or xs i d) y old.entered new.entered) where
   turn : (made : List (ℕ × Entry)) (o : Result (List ℕ) SessionEnd)
       → OfLine t text y (look_of (slice_index_or ks i e)) made (look_of l) o → Gains m y made
@@ -53,10 +53,10 @@ module _ {t : Setup} (line text : List ℕ) (xs : List SeatView) (ks : List (Opt
       seat = seat_turned xs i d y low;
       kept = look_turned ks i e l (omega (arith, low, size));
       made = made;
-      hears = hears;
+      does = hears;
       gained = gained_met (met_keeps meets) y made gained;
-      order = comes_from old.latest m.met y.met made meets.met.second gained.order;
-      latest = latest;
+      order = comes_from old.history m.met y.met made meets.met.second gained.order;
+      history = history;
       entered = follows m.mine made (ap length meets.mine) gained.mine (hears_one t text y _ made (look_of l) o hears);
     },
   ))
@@ -123,6 +123,6 @@ halts_by t s z line end does = elim does [
   | inl p ↦ absurd cc
   | inr q ↦ elim q [
     | inl p ↦ absurd cc
-    | inr r ↦ absurd r.3.hears.3
+    | inr r ↦ absurd r.3.does.3
   ]
 ]

@@ -144,9 +144,9 @@ module _ {t : Setup} {input rest rest' old : Option (List ℕ)} {xs : List SeatV
         let same : end ≡ Write = cc in
         subst (λ e. IsOver t (passage input rest') (passage old w'.contents) xs to.state.seats (Err e)) (sym same)
         (finish far f to.state g read (record {
-          whole = far.says.goes.ls;
+          done = far.says.goes.ls;
           others = g.ls;
-          lines = refl;
+          parts = refl;
           few = omega (
             arith,
             cuts_short g.came,

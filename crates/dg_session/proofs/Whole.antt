@@ -129,7 +129,7 @@ whole table names scripts xs ys ends a text many fresh are closed totals enough 
             before = s.before;
             after = s.after;
             seat = fresh.number i s.before s.first;
-            fresh = fresh.mine i s.before s.first;
+            no_calls = fresh.mine i s.before s.first;
             begins = (closed.held i s.after s.last).prefix;
             met = (closed.held i s.after s.last).met;
             own = ap (λ k. entries_of k H) (sym number) ∙ (closed.held i s.after s.last).mine;

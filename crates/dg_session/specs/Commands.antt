@@ -1,39 +1,40 @@
--- What a command and a line come to at one seat. An entry that is made stands, with its number, in the one
--- history that the seat has found (`HasPrefix`), and is answered there as the game answers it. `look` is
--- the number of the look that is kept, if one is; an outcome is a text, or an end of the session.
+-- What a command and a line come to at one seat. An entry that is made stands, with its number, in the history
+-- that the seat has met. That this is one legal history, where the game answers each entry, is said where a
+-- session ends (`IsSession`). `look` is the number of the look that is kept, if one is; an outcome is a text, or
+-- an end of the session.
 --   Setup                                      == what holds for a whole session: how lines name the seats, the
 --                                                 table, the names of its vertices, and how many workers a rank
 --                                                 test has
 --   setup_of how table names workers           == that of these
---   kept_after look p                          == the look that is kept after the entry p: it, if it is a
---                                                 look; none, if it enters what was computed on the look;
---                                                 otherwise the one that was kept
+--   look_after look n request                  == the look that is kept after an entry with the number n: that
+--                                                 number, if it is a look; none, if it enters a verdict or a
+--                                                 rank test; otherwise the one that was kept before
+--   kept_after look p                          == so it is after the entry p, with its number
 --   OnlySays look words made after text        == no entry is made, and these words are said
 --   Enters names look request made after text  == one entry is made, that of the request, and its line is
 --                                                 said
 --   AnswersCommand t look command made after text == the command, with that look kept, makes these entries,
 --                                                 leaves that look, and is answered with the text
---   AnswersLine t look line made after text    == so is the line: by what is wrong with it, or as its command
+--   AnswersLine t look line made after text    == so is the line: with its fault, or as the command that it spells
 --   CallsTable n look command                  == the command makes an entry, if the table takes it: with
 --                                                 that look kept, on n vertices
 --   TriesRank n look command                   == the command tries a rank on the look that is kept
---   RefusesCommand t y look command end        == the command ends the session so, for what the table refused
---                                                 the seat y, or a thread, which only two workers or more ask
---                                                 for
+--   RefusesCommand t y look command end        == the command ends the session so: the table refused its call,
+--                                                 after which the seat is y; or a thread of its rank test did not
+--                                                 start, which needs two workers or more
 --   OfCommand t command y look made after outcome == the command of the seat, which is y then, has this outcome
---   OfLine t line y look made after outcome    == so has the line; if memory was refused, what it makes may
---                                                 be there, and is not told
+--   OfLine t line y look made after outcome    == so has the line; after a refusal of memory it may have made its
+--                                                 entry, though its answer was not told
 --   Ascend n ps                                == the numbers of the entries ps ascend, and are n or more
 --   ComesAfter K made H                        == the history H begins with K, and has the entries made after
 --                                                 it, in order
 --   looks_named request                        == the number of the look that the request is about, if it is
 --                                                 about one
---   Gains x y made                             == the seat is the same, has made these entries, and was told
---                                                 of what it was told, and then of the looks that they are
---                                                 about; the history that it has found begins with the one that
---                                                 it had; the one that it has met has these entries after the
---                                                 one that it had met, and the looks; and where it made none,
---                                                 it found no history
+--   Gains x y made                             == the seat x becomes y by making these entries: it keeps its
+--                                                 number, has made them after what it had made, and is told of
+--                                                 the looks that they are about. What it has found and what it
+--                                                 has met only grow; the entries come after what it had met.
+--                                                 Without an entry it has found nothing new
 use Rattle.std.specs.Prelude.{◌≡◌, ℕ, ◌+◌, ◌≤◌, ◌⊎◌, List, [], ◌∷◌, ◌++◌, length, map, flat_map, Option, Some, None, Result, Ok, Err, codes, ⊤}
 use Rattle.dg_session.specs.Common.{IsTestable, call_request, Entry, Request, Look, Judge, Command, Call, Commit, Rank, IsPrefixOf, SeatView, StandIn, RefusesCall, SpellsCommand, IsLineFault, line_fault_text, entry_text, LineFault, TableData}
 use Rattle.dg_rules.specs.declared.entry.Request.TheVariants.{Rank as RankRequest}
@@ -134,10 +135,10 @@ looks_named request = []
 pub record Gains (x y : SeatView) (made : List (ℕ × Entry)) : Type 0 where
   pub number : y.number ≡ x.number
   pub mine : y.mine ≡ x.mine ++ made
-  pub heard : List (ℕ × Entry)
-  pub told : y.told ≡ x.told ++ heard
-  pub named : map (λ p. p.0) heard ≡ flat_map (λ p. looks_named p.1.request) made
-  pub stand : StandIn y.met heard
+  pub looks : List (ℕ × Entry)
+  pub told : y.told ≡ x.told ++ looks
+  pub named : map (λ p. p.0) looks ≡ flat_map (λ p. looks_named p.1.request) made
+  pub stand : StandIn y.met looks
   pub prefix : IsPrefixOf x.prefix y.prefix
   pub order : ComesAfter x.met made y.met
   pub still : made ≡ [] → y.prefix ≡ x.prefix

@@ -1,24 +1,25 @@
 -- How a session ends. s is the state after the n lines that are answered, the rest what follows them in the
 -- stream, `no_more` says that no more is to come, and z is the state at the end.
 --   Stops t no_more n rest s z end         == the next line has this end as its outcome
---   Ends t no_more n rest s z result       == what each end says: nothing is left, and the lines are counted;
---                                             reading failed after all whole lines; the writer took no more,
---                                             there or before; a line is too long, or one too many; memory was
---                                             refused, there or before; or the session stops at the next line
---                                             for what the table or a thread refused
+--   Ends t no_more n rest s z result       == what each end says. `Ok`: nothing is left, and the lines are counted.
+--                                             `Read`: the rest has no whole line. `LongLine`, `Turns`: the rest
+--                                             begins with what is too long or too much. `Memory`: the next line has
+--                                             this end, or nothing more was entered. `Write`: nothing more was
+--                                             entered, or the session stops at the next line. `Table`, `Spawn`: it
+--                                             stops there
 --   IsAllRead result left                  == nothing is left to read, and no read failed: all lines have come
---   WritesFront t s ls z output text       == the writer took no more: the answers to the `whole` lines are written
---                                             whole, and of those to the others a front; the others have no
+--   WritesFront t s ls z output text       == the writer took no more: the answers to the lines `done` are written,
+--                                             and of those to the others a front, perhaps all; the others have no
 --                                             more bytes than one read and one line
 --   Writes t s ls z output text result     == the writer took the text, which answers the lines ls from s to z;
 --                                             or it took no more
 --   IsOver t input output xs ys result     == the session of the seats xs is over, and they are ys. A stream was
---                                             read, by which the reader's bytes, if known, have become what is
---                                             left. Its first lines are answered, one after another, and what
---                                             was written are the answers. Then it ended so
---   IsSession t input output xs ys result  == so is one after which each seat has its number, and has found a
---                                             history of the table; what the lines entered comes in their order;
---                                             and a seat that is alone has made just that
+--                                             taken from the front of the reader's bytes, if these are known. Its
+--                                             first lines are answered, one after another, and the answers are what
+--                                             was written. Then it ended so
+--   IsSession t input output xs ys result  == a session is over. Each seat has kept its number, and what it knows is
+--                                             of a history of the table; what the lines entered comes in their
+--                                             order; and a seat that is alone has made just that
 use Rattle.std.specs.Prelude.{◌≡◌, ℕ, ◌+◌, ◌<◌, ◌≤◌, ◌⊎◌, List, [], ◌∷◌, ◌++◌, length, All, map, flat_map, Option, Result, Ok, Err, OnOk}
 use Rattle.std.specs.Io.KnownBytes.{Appends, Consumes, IsAtEnd}
 use Rattle.dg_session.specs.Common.{HasPrefix, SeatView, lines, with_newline, AppendsFront}
@@ -48,15 +49,15 @@ IsAllRead result left = IsAtEnd left
 
 pub record WritesFront (t : Setup) (s : State) (ls : List (List ℕ)) (z : State) (output : Passage) (text : List ℕ)
     : Type 0 where
-  pub whole : List (List ℕ)
+  pub done : List (List ℕ)
   pub others : List (List ℕ)
-  pub lines : ls ≡ whole ++ others
+  pub parts : ls ≡ done ++ others
   pub few : length (flat_map with_newline others) ≤ READ_SIZE + MAX_LINE + 1
   pub middle : State
   pub said : List ℕ
   pub more : List ℕ
   pub all : text ≡ said ++ more
-  pub first : Answers t s whole middle said
+  pub first : Answers t s done middle said
   pub second : Answers t middle others z more
   pub written : AppendsFront output.before output.after said more
 

@@ -6,6 +6,6 @@ pub mod State
 pub mod Ends
 pub mod Parties
 pub mod Printed
--- What serves the steps of a session alone.
-pub mod SoFar
 pub mod Common
+-- Words of private functions, for single steps of a session: who reads the promises can skip them.
+pub mod SoFar

@@ -1,19 +1,18 @@
 -- Sessions side by side, and a party: one table, a seat and a thread for each script, and one history of all.
 -- A script is the bytes of a session's lines; x and y are seats before and after.
 --   script_bytes scripts                       == the bytes of each of the scripts
---   IsScriptOver table names script x y end    == a session of the seat over the bytes of the script came to
---                                                 this end, on a table of so many seats and cap cells, of which
---                                                 it found one history, with one worker; the script was in
---                                                 memory and nobody heard what the session had to say, so that
---                                                 no stream failed
+--   IsScriptOver table names script x y end    == a session of the seat x over the bytes of the script, with one
+--                                                 worker, came to this end and left the seat as y. It had no
+--                                                 stream that could fail: the script was in memory, and what it
+--                                                 said was kept by nobody
 --   AreSessions .. scripts xs ys ends          == so did, one beside another, a session of each seat over the
 --                                                 script at its place
 --   FirstHaveRun .. k scripts xs ys            == the first k seats had such sessions, and the others are as
 --                                                 they were
---   SomeHaveRun .. scripts xs ys               == some first seats had them, not all
+--   SomeHaveRun .. scripts xs ys               == the first seats had them, perhaps none and never all
 --   IsSessionsFault .. scripts xs ys fault     == memory was refused, and the seats are as they were; or a
---                                                 thread was not started, of two scripts or more, and some first
---                                                 seats had sessions
+--                                                 thread was not started, of two scripts or more, and the first
+--                                                 seats, perhaps none and never all, had their sessions
 --   IsPartySession table names H s script end  == the entries of the seat s in the history H are those that a
 --                                                 session over the script made for it, which came to this end,
 --                                                 and H begins with the history that it found, and with the one
@@ -22,13 +21,13 @@
 --                                                 a session over it, which came to the end at its place, made
 --                                                 just the entries of its seat in that history; and the text is
 --                                                 the history's, with its totals
---   IsOfSeats n P                              == P holds of n seats as they were at first, and of what they
---                                                 were then
+--   IsOfSeats n P                              == P holds of some n fresh seats and of what they became
 --   IsPartyRefused table names scripts refusal == the party is refused so: memory is wanting; or a thread was
---                                                 not started, of two scripts or more, and some first scripts
---                                                 had sessions, not all; or all had, and then the table was not
---                                                 closed with all its seats, of which no clause tells why: every
---                                                 party may end so
+--                                                 not started, of two scripts or more, and the first seats,
+--                                                 perhaps none and never all, had their sessions; or all
+--                                                 had, and then the table was not closed with all its
+--                                                 seats, of which no clause tells why: every party may end
+--                                                 so
 use Rattle.std.specs.Prelude.{◌≡◌, ◌≢◌, ℕ, zero, suc, ◌+◌, ◌<◌, ◌≤◌, List, [], ◌∷◌, ◌++◌, length, map, slice_get, None, Some, ⊤, Result, Err}
 use Rattle.std.specs.Global.{Vec}
 use Rattle.dg_session.specs.Common.{Vector, position_after, ShowsPosition, Entry, IsPrefixOf, TableData, Shortage, OutOfMemory, Spawn, IsCloseRefused, IsHistoryOf, AreFresh, SeatView, entries_of}
@@ -50,7 +49,7 @@ pub record IsScriptOver (table : TableData) (names : List (List ℕ)) (script : 
   pub session : IsSession (setup_of OneSeat table names 1) (passage (Some script) (Some []))
       (passage None None) (x ∷ []) (y ∷ []) end
   pub read : end ≢ Err Read
-  pub heard : end ≢ Err Write
+  pub write : end ≢ Err Write
 
 unfoldable pub AreSessions : TableData → List (List ℕ) → List (List ℕ) → List SeatView
     → List SeatView → List (Result ℕ SessionEnd) → Type 0
@@ -82,7 +81,7 @@ pub record IsPartySession (table : TableData) (names : List (List ℕ)) (H : Lis
   pub before : SeatView
   pub after : SeatView
   pub seat : before.number ≡ s
-  pub fresh : before.mine ≡ []
+  pub no_calls : before.mine ≡ []
   pub own : entries_of s H ≡ after.mine
   pub begins : IsPrefixOf after.prefix H
   pub met : IsPrefixOf after.met H

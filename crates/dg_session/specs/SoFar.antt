@@ -49,7 +49,7 @@ look_of (Some look) = Some look.receipt.0
 
 abbrev pub state_of : List SeatView → List (Option LookView) → EntriesSoFarView → State
 state_of xs looks entries =
-    record { seats = xs; looks = map look_of looks; latest = entries.latest; entered = entries.entered }
+    record { seats = xs; looks = map look_of looks; history = entries.history; entered = entries.entered }
 
 pub record Seated : Type 0 where
   pub seat : SeatView

@@ -9,17 +9,16 @@
 --                                  names no seat, and is for the first
 --   IsForNobody how n line      == the line is for none of n seats
 --   ReplacesAt i xs ys x y      == the list xs has x at the place i, and ys is the same with y there
---   Turn t i words s z outcome   == the command line of the seat at the place i has this outcome, and what it
---                                  has entered comes after all that the lines before it left: the history as
---                                  it leaves it is that which the seat has met
+--   Turn t i words s z outcome   == the command line, taken by the seat at the place i, has this outcome. No other
+--                                  seat or look changes. What it enters comes after the whole history that the
+--                                  line before left, and it leaves the history that its seat has met then
 --   Does t s line z outcome     == the line, in the state s, has this outcome, and the state is z then: it is
 --                                  for nobody, and answered by `bad seat`; or memory is refused to it; or it
 --                                  is a turn of the seat that it is for
 --   Answers t s ls z text       == the lines ls are answered one after another, from the state s to the state
 --                                  z, with the text
---   AreInOrder s                == the numbers of what the lines have entered ascend; the entries stand in the
---                                  history as the last line left it; and that is the one that a seat has met,
---                                  or has no entry
+--   AreInOrder s                == what the lines have entered has ascending numbers, and stands in the history
+--                                  that the last line left. That history is empty, or one of the seats has met it
 use Rattle.std.specs.Prelude.{◌≡◌, ℕ, ◌+◌, ◌<◌, ◌⊎◌, List, [], ◌∷◌, ◌++◌, length, map, Option, None, Some, slice_get, Result, Ok, Err}
 use Rattle.std.specs.List.{slice_set}
 use Rattle.dg_session.specs.Common.{Entry, SeatView, IsSeatedLine, line_fault_text, Seat, StandIn}
@@ -32,15 +31,15 @@ use Rattle.dg_session.specs.declared.ends.SessionEnd.TheVariants.{Memory}
 pub record State : Type 0 where
   pub seats : List SeatView
   pub looks : List (Option ℕ)
-  pub latest : List Entry
+  pub history : List Entry
   pub entered : List (ℕ × Entry)
 
 pub record EntriesSoFarView : Type 0 where
-  pub latest : List Entry
+  pub history : List Entry
   pub entered : List (ℕ × Entry)
 
 abbrev pub begun : List SeatView → State
-begun xs = record { seats = xs; looks = map (λ x. None) xs; latest = []; entered = [] }
+begun xs = record { seats = xs; looks = map (λ x. None) xs; history = []; entered = [] }
 
 abbrev pub IsFor : LineFormat → ℕ → List ℕ → ℕ → List ℕ → Type 0
 IsFor OneSeat n line i words = (i ≡ 0) × (words ≡ line)
@@ -62,10 +61,10 @@ pub record Turn (t : Setup) (i : ℕ) (words : List ℕ) (s z : State) (outcome 
   pub seat : ReplacesAt i s.seats z.seats x y
   pub kept : ReplacesAt i s.looks z.looks look after
   pub made : List (ℕ × Entry)
-  pub hears : OfLine t words y look made after outcome
+  pub does : OfLine t words y look made after outcome
   pub gained : Gains x y made
-  pub order : ComesAfter s.latest made y.met
-  pub latest : z.latest ≡ y.met
+  pub order : ComesAfter s.history made y.met
+  pub history : z.history ≡ y.met
   pub entered : z.entered ≡ s.entered ++ made
 
 abbrev pub Does : Setup → State → List ℕ → State → Result (List ℕ) SessionEnd → Type 0
@@ -81,6 +80,6 @@ Answers t s (line ∷ ls) z text = (m : State) × (front back : List ℕ) ×
 
 pub record AreInOrder (s : State) : Type 0 where
   pub ascend : Ascend 0 s.entered
-  pub stand : StandIn s.latest s.entered
-  pub met : (s.latest ≡ [])
-      ⊎ ((i : ℕ) × (x : SeatView) × (slice_get s.seats i ≡ Some x) × (s.latest ≡ x.met))
+  pub stand : StandIn s.history s.entered
+  pub met : (s.history ≡ [])
+      ⊎ ((i : ℕ) × (x : SeatView) × (slice_get s.seats i ≡ Some x) × (s.history ≡ x.met))

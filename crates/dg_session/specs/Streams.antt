@@ -1,14 +1,16 @@
 -- Lines of a session, and the streams that they come and go by.
 --   IsLine line                 == the line has no newline, and at most as many bytes as a line may have
 --   EndsInLine stream ls        == the stream is the lines ls, and the last of them has a byte, and no newline
---   Cuts no_more stream ls rest == the stream is the lines ls, each with its newline, and then the rest; or no
---                                  more is to come, and it is these lines, of which the last has no newline
+--   Cuts no_more stream ls rest == the stream is the lines ls, each with its newline, and then the rest. Or no
+--                                  more is to come, the rest is empty, and the stream is the lines ls, of which
+--                                  the last has no newline
 --   IsTooLong rest              == the rest begins with one byte more than a line may have, and no newline
---   Passage                     == what a stream has yet to give, or holds, before and after, if it is known
+--   Passage                     == the bytes that a reader has left, or that a writer holds, before a call and
+--                                  after it; `None` if they can't be known
 --   passage old new             == that of these
---   CutOneWay                   == a stream is cut into lines in one way: where it begins with lines, and the
---                                  rest has no newline, its lines are those lines, and the rest as a last line if
---                                  it has a byte
+--   CutOneWay                   == a stream is cut into lines in one way: if it is some lines, each with its
+--                                  newline, and then a rest without one, then its lines are just these, followed
+--                                  by the rest if that has a byte
 use Rattle.std.specs.Prelude.{◌≡◌, ℕ, ◌+◌, ◌≤◌, ◌⊎◌, List, [], ◌∷◌, ◌++◌, length, Option}
 use Rattle.dg_session.specs.Common.{lines, HasNoNewline, BeginsWithLines, last_line}
 use Rattle.dg_session.specs.declared.ends.TheConstants.{MAX_LINE}

@@ -31,7 +31,7 @@ pub enum SessionEnd {
     /// The table refused a call.
     #[error(transparent)]
     Table(Fault),
-    /// Memory was refused.
+    /// Memory was refused, but not to a call of the table: that is `Table`.
     #[error("{}", Shortage::OutOfMemory)]
     Memory,
     /// A thread of a rank test by two workers or more could not be started.

@@ -10,7 +10,7 @@ use std::marker::Model;
 /// The history after the last line, and the entries that the lines have made so far, in their order.
 #[derive(Drop)]
 pub(crate) struct EntriesSoFar<N: Name> {
-    latest: Prefix<N>,
+    history: Prefix<N>,
     entered: ReceiptSet<N>,
 }
 
@@ -21,38 +21,38 @@ impl<N: Name> Model for EntriesSoFar<N> {
 
     ghost Value = { EntriesSoFarView };
 
-    ghost view = { λ c. record { latest = c.latest; entered = c.entered } };
+    ghost view = { λ c. record { history = c.history; entered = c.entered } };
 
-    ghost invariant = { λ c. IsHistoryOf N.table c.latest };
+    ghost invariant = { λ c. IsHistoryOf N.table c.history };
 }
 
 impl<N: Name> EntriesSoFar<N> {
     /// What no lines have come to.
     pub(crate) fn new() -> EntriesSoFar<N>
-        ensures latest { result.latest ≡ [] }
+        ensures history { result.history ≡ [] }
         ensures entered { result.entered ≡ [] }
     {
         EntriesSoFar {
-            latest: Prefix::new(),
+            history: Prefix::new(),
             entered: ReceiptSet::new(),
         }
     }
 
     /// Tells the seat of the history as the last line left it.
     pub(crate) fn tell(&self, seat: &mut Seat<N>)
-        ensures { HasMet self.now.latest seat.old seat.new }
+        ensures { HasMet self.now.history seat.old seat.new }
     {
-        seat.meet(&self.latest);
+        seat.meet(&self.history);
     }
 
     /// Follows one more line, of the seat, which had made so many calls before it.
     pub(crate) fn follow(&mut self, seat: &Seat<N>, calls: u64)
-        ensures latest { self.new.latest ≡ seat.now.met }
+        ensures history { self.new.history ≡ seat.now.met }
         ensures entered { (before made : List (ℕ × EntryData)) → length before ≡ calls →
             seat.now.mine ≡ before ++ made → length made ≤ 1 →
             self.new.entered ≡ self.old.entered ++ made }
     {
-        self.latest = seat.met().copy();
+        self.history = seat.met().copy();
         if seat.calls() > calls {
             if let Some(receipt) = seat.last_call() {
                 self.entered = self.entered.with(receipt);

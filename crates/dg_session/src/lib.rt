@@ -16,7 +16,7 @@ mod taking;
 mod threads;
 
 pub use dg_lines::{LineFault, OutOfMemory, parse_line, parse_step, reply_text};
-/// Why sessions are not held, or what they came to is not told.
+/// Why `sessions` is refused: none was held, or what the first of them came to is not told.
 pub use dg_system::Shortage as PartyFault;
 pub use ends::{MAX_LINE, MAX_LINES, READ_SIZE, SessionEnd};
 pub use laws::cut_one_way;

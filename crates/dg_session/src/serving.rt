@@ -25,7 +25,8 @@ use std::thread::Threads;
 
 /// Answers the lines that the reader gives, one after another, by the calls that they make for the seat, until there are no
 /// more; and returns how many there were. The answers are written and flushed before more is read. The reader and the writer are
-/// used up: `serve_seats` promises more of them. The conditions are one name per vertex, and 1 to 16 workers.
+/// used up, so no clause says what becomes of them; one of `serve_seats` does. The conditions are one name per vertex, and 1 to
+/// 16 workers.
 ///
 /// It waits for the table's lock. It ends before the input does with `Turns` if a byte follows the millionth line, `LongLine`
 /// if a line has more than 1,024 bytes, `Read` if the reader fails, `Write` if the writer fails or takes no byte, `Table` if
@@ -63,8 +64,10 @@ pub fn serve<N: Name, R: Threads + Wait, I: Read + Drop, O: Write + Drop>(
 }
 
 /// Answers the lines of one or more seats as `serve` answers those of one, over streams that the caller keeps. If the lines name
-/// seats, by their places from 1, each line makes a call of the seat that it names. Each seat keeps a look of its own. A line
+/// seats, by their places from 1, each line is a command of the seat that it names. Each seat keeps a look of its own. A line
 /// for no seat is answered with `bad seat`. The conditions are those of `serve`, and at least one seat.
+///
+/// Once it has ended the looks are gone, and after a refusal of memory the seats may have met longer histories.
 pub fn serve_seats<N: Name, R: Threads + Wait, I: Read, O: Write>(
     rt: &R,
     alloc: Global,

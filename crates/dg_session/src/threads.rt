@@ -29,7 +29,8 @@ struct PartyContext<'a, N: Name, R, G> {
 /// they came to is told in the order of the scripts. The conditions are as many scripts as seats, and one name per vertex.
 ///
 /// Refused with `OutOfMemory`, before the first session, and with `Spawn` if a thread could not be started, which only two
-/// scripts or more ask for: then some first seats had their sessions, not all, and the others know what they knew.
+/// scripts or more ask for: then the first seats, perhaps none and never all, had their sessions, and the others know what they
+/// knew.
 pub fn sessions<N: Name + Send + Sync, R: Threads + Wait + Sync, G: Gate>(
     rt: &R,
     alloc: Global,
