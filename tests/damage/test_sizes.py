@@ -164,23 +164,44 @@ def untouched_input(checks):
             checks.same("the input after %s" % words[0], 0, os.lseek(file.fileno(), 0, os.SEEK_CUR))
 
 
-def texts(checks):
-    """A session answers each line before the next is written, whatever the length of its answer."""
-    child = checks.start("serve", checks.put("triangle", TRIANGLE), stdin=subprocess.PIPE, bufsize=0)
-    amount, lengths = 2, set()
-    for gifts in range(1, 400):
-        more = DRAW.choice([1, 10, 100, 1000, 10000, 100000]) * DRAW.choice([1, -1])
-        more = -more if abs(amount + more) > 1000000 else more
-        amount += more
-        child.stdin.write(b"gift a %d\n" % more)
-        came = child.stdout.readline() if select.select([child.stdout], [], [], HUNG)[0] else b"nothing"
-        checks.same("the answer to gift %d" % gifts, b"%d given %d a=%d b=-1 c=-1\n" % (gifts - 1, gifts, amount), came)
-        lengths.add(len(came))
+def told(child, line):
+    """What comes for a line that is written."""
+    child.stdin.write(line)
+    return child.stdout.readline() if select.select([child.stdout], [], [], HUNG)[0] else b"nothing"
+
+
+def ends(checks, child, what):
+    """Sees that a run ends well once its input does."""
     child.stdin.close()
-    checks.same("the end of a session that was answered line by line", (0, b""), (child.wait(), child.stderr.read()))
+    checks.same("the end of %s that was answered line by line" % what, (0, b""), (child.wait(), child.stderr.read()))
     child.stdout.close()
     child.stderr.close()
 
 
+def texts(checks):
+    """A session answers each line before the next is written, whatever the length of its answer."""
+    child = checks.start("serve", checks.put("triangle", TRIANGLE), stdin=subprocess.PIPE, bufsize=0)
+    amount = 2
+    for gifts in range(1, 400):
+        more = DRAW.choice([1, 10, 100, 1000, 10000, 100000]) * DRAW.choice([1, -1])
+        more = -more if abs(amount + more) > 1000000 else more
+        amount += more
+        came = told(child, b"gift a %d\n" % more)
+        checks.same("the answer to gift %d" % gifts, b"%d given %d a=%d b=-1 c=-1\n" % (gifts - 1, gifts, amount), came)
+    ends(checks, child, "a session")
+
+
+def answers(checks):
+    """So does a sweep, of tables and of amounts, by one worker and by more."""
+    table = checks.put("triangle", TRIANGLE)
+    amounts = [(b"2 -1 -1\n", b"winnable by a=0 b=-1 c=-1 to a=0 b=0 c=0\n"), (b"-1 1 0\n", b"unwinnable by a=0 b=0 c=0 to a=-1 b=1 c=0\n")]
+    for words, lines in (([table, "--divisors"], amounts), (["--lines"], [(b" ".join(TRIANGLE.split()) + b"\n", amounts[0][1])])):
+        for workers in "1", "3":
+            child = checks.start("judge", *words, "/dev/stdin", "--workers", workers, stdin=subprocess.PIPE, bufsize=0)
+            for line, answer in lines * 20:
+                checks.same("the answer to a line of a sweep", answer, told(child, line))
+            ends(checks, child, "a sweep")
+
+
 load_tests = checked(items_of_edges, lengths_of_amounts, names_of_files, parties, workers, capacities, seats, changes, untouched_input,
-                     texts)
+                     texts, answers)
