@@ -4,7 +4,7 @@
 --   fault_number f         == the number below 0 for a fault of a graph: its kind, and 16 times the place of the item or vertex
 --   RefusesGraph n es x    == x says that there are too many items; or, if there are not, why there is no graph of n vertices
 --                             with these edges: its first fault
---   HasGraphWith n es P    == there is such a graph, and P is true of it
+--   HasGraphWith n es P    == there are not too many items, there is such a graph, and P is true of it
 --   RefusesCall n es q x P == x says why there is none; or that there is, but no vertex q of it; or that there are both, but
 --                             the arrays have not the lengths that P asks of the graph
 --   IsAllOrNone all len    == len is all or 0
@@ -43,6 +43,7 @@ abbrev pub RefusesGraph : ℕ → List (List ℕ) → ℤ → Type 0
 RefusesGraph n es x = ((length es ≤ 120) × HasFault n es x) ⊎ ((x ≡ pos 0 -ℤ pos 9) × (120 < length es))
 
 pub record HasGraphWith (n : ℕ) (es : List (List ℕ)) (P : Multigraph → Type 0) : Type 0 where
+  pub few : length es ≤ 120
   pub graph : Multigraph
   pub given : IsGraphOf n (items_of es) graph
   pub answered : P graph

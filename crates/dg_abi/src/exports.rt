@@ -45,8 +45,8 @@ pub extern "C" fn dollar_judge(
     reduced: &mut [i64],
     orders: &mut [u8],
 ) -> i64
-    ensures answered { result ≡ pos 0 → HasGraphWith size edges.now (λ g.
-        FitJudge (length told.old * g.size) (length amounts.now) (length scripts.old) (length reduced.old) (length orders.old)
+    ensures answered { result ≡ pos 0 → HasGraphWith size edges.now (λ g. (q < g.size)
+        × FitJudge (length told.old * g.size) (length amounts.now) (length scripts.old) (length reduced.old) (length orders.old)
         × ((r : ℕ) → r < length told.old → AnswersJudge g q amounts.now (r * g.size) (slice_index_or told.new r (pos 0))
         scripts.old scripts.new reduced.old reduced.new orders.old orders.new)) }
     ensures refused { result ≢ pos 0 → RefusesCall size edges.now q result (λ g.

@@ -1,5 +1,5 @@
 //! The graph of a list of edges.
-ghost use Rattle.std.specs.Prelude.{MatchResult};
+ghost use Rattle.std.specs.Prelude.{◌≤◌, length, MatchResult};
 ghost use Rattle.dg_graph.specs.Items.{IsGraphOf};
 ghost use Rattle.dg_abi.specs.Calls.{RefusesGraph, items_of};
 
@@ -8,7 +8,9 @@ use dg_graph::Graph;
 
 /// The graph of so many vertices with these edges; or the number of what is wrong with them.
 pub(crate) fn graph_of(size: usize, edges: &[[u8; 3]]) -> Result<Graph, i64>
-    ensures { MatchResult result (IsGraphOf size (items_of edges.now)) (RefusesGraph size edges.now) }
+    ensures { MatchResult result
+        (λ graph. (length edges.now ≤ 120) × IsGraphOf size (items_of edges.now) graph)
+        (RefusesGraph size edges.now) }
 {
     if edges.len() > MAX_ITEMS {
         return Err(TOO_MANY_ITEMS);

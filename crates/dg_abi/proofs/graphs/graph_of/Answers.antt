@@ -10,8 +10,10 @@ pub returns-in-Ok : goal.returns-in-Ok
 returns-in-Ok c =
     let same : take (length c.args.edges.now) c.loop-i.items ≡ items_of c.args.edges.now =
     same_items c.loop-i.items c.args.edges.now c.loop-i.i c.loop-i.invariant.size
-    (omega (arith, c.if-edges-gt-MAX_ITEMS.false)) (omega (arith, c.loop-i-test.false)) c.loop-i.invariant.same in
-    subst (λ l. IsGraphOf c.args.size l c.in-Ok.graph) same c.in-Ok.ensures
+    (omega (arith, c.if-edges-gt-MAX_ITEMS.false)) (omega (arith, c.loop-i-test.false)) c.loop-i.invariant.same in (
+      omega (arith, c.if-edges-gt-MAX_ITEMS.false),
+      subst (λ l. IsGraphOf c.args.size l c.in-Ok.graph) same c.in-Ok.ensures,
+    )
 
 pub returns-in-Err : goal.returns-in-Err
 returns-in-Err c =
