@@ -198,8 +198,8 @@ def answers(checks):
     for words, lines in (([table, "--divisors"], amounts), (["--lines"], [(b" ".join(TRIANGLE.split()) + b"\n", amounts[0][1])])):
         for workers in "1", "3":
             child = checks.start("judge", *words, "/dev/stdin", "--workers", workers, stdin=subprocess.PIPE, bufsize=0)
-            for line, answer in lines * 20:
-                checks.same("the answer to a line of a sweep", answer, told(child, line))
+            for line, text in lines * 20:
+                checks.same("the answer to a line of a sweep", text, told(child, line))
             ends(checks, child, "a sweep")
 
 
