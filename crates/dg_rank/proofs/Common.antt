@@ -12,7 +12,7 @@ pub use Rattle.dg_rank.specs.Ladders.{AnswersRankTest, AreTestAnswers, FailsAfte
 pub use Rattle.dg_rank.specs.Limits.{IsPastLimits, HasTrials}
 pub use Rattle.dg_rank.specs.Losses.{AllTrialsWin, IsFirstLossIn, WinsWithout}
 pub use Rattle.dg_rank.specs.Pieces.{piece_start}
-pub use Rattle.dg_rank.specs.Ranks.{FailsFirstAt, IsTestedRank, IsTestable, NeedsTooMany}
+pub use Rattle.dg_rank.specs.Ranks.{FailsFirstAt, IsLesserSide, IsTestedRank, IsTestable, NeedsTooMany}
 pub use Rattle.dg_rank.specs.Trials.{AnyTrial, AreTrialsCounted, IsTrialBefore, IsTrialNumbering, IsTrial}
 pub use Rattle.dg_rank.specs.declared.counting.TheConstants.{MAX_TRIALS}
 pub use Rattle.dg_rank.specs.declared.pieces.Search.{Search}
@@ -27,8 +27,8 @@ pub use Rattle.dg_theory.proofs.Giving.{degree-less, degree-only_at, degree-winn
 pub use Rattle.dg_theory.proofs.LossLaws.{equivalent-loss, loss_bounds_rank}
 pub use Rattle.dg_theory.proofs.Plays.{only_at-here, only_at-other}
 pub use Rattle.dg_theory.proofs.Range.{sum_below-at_most, sum_below-one, sum_below-two}
-pub use Rattle.dg_theory.proofs.RankLaws.{equivalent-rank, poor_rank, rich_rank}
-pub use Rattle.dg_theory.proofs.RankNumbers.{not_rich, rank_of_dual, rank_passes}
+pub use Rattle.dg_theory.proofs.RankLaws.{equivalent-rank, poor_rank, rank_zero, rich_rank}
+pub use Rattle.dg_theory.proofs.RankNumbers.{not_rich, rank_down, rank_of_dual, rank_passes}
 pub use Rattle.dg_theory.proofs.RankSums.{half_of_degree}
 pub use Rattle.dg_theory.proofs.ReducedLaws.{effective_from, reduced_decides}
 pub use Rattle.dg_theory.proofs.SumBounds.{sum_below-at_least}
@@ -51,7 +51,6 @@ pub use Rattle.std.proofs.lemmas.Int.{by_lt_z, clamps, ints}
 pub use Rattle.std.proofs.lemmas.List.{get_or-replicate, get_or-take, get_or_append_left, get_or_past, get_or_push, length-take-le, take_all, take_more_set}
 pub use Rattle.std.proofs.lemmas.List.Sums.{get_or-le-sum_by, sum_by-cons, sum_by_more}
 pub use Rattle.std.proofs.lemmas.Nat.{le-div}
-pub use Rattle.std.specs.Int.{int_max}
 pub use Rattle.std.specs.Int.RustNames.{unsigned_abs}
 pub use Rattle.std.specs.List.{slice_index_or, sum}
 pub use Rattle.std.specs.Prelude.{if◌then◌else◌, Err, MatchBool, MatchOption, None, Ok, Option, Result, Some, is_some, not, slice_index, ⊤, ◌+ℤ◌, ◌<ℤ◌, ◌↔◌, ◌≤ℤ◌}

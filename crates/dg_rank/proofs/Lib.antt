@@ -25,5 +25,6 @@ pub mod SmallDegrees
 pub mod DualTests
 pub mod TestDegrees
 pub mod RankByTests
+pub mod LeastLosses
 pub mod Ladder
 pub mod Common

@@ -1,20 +1,11 @@
 -- Degrees and genera are small.
---   edges_few        a graph has at most 63 edges for each vertex
---   genus_small      the genus of a graph is at most 1,009
+--   edges_few        a graph has at most 63 ends of edges for each vertex
+--   genus_small      the genus of a graph is at most 489
 --   genus_least      and at least -16
 --   degree_small     n amounts within 1,000,000 add up to at most n times as much
-use Rattle.dg_rank.proofs.Common.{◌≡◌, ℕ, zero, suc, ◌+◌, ◌*◌, ◌<◌, ◌≤◌, arith, refl, ⊎_elim, suc-mul, ◌≤ℤ◌, unsigned_abs, cases_eq, ints, pos, ◌-ℤ◌, sum_below, nat_sum_below, Multigraph, edges_between, valence, edge_count, genus, Amounts, degree, sum_below-zero, sum_below-at_least, sum_below-sub, IsGraph}
+use Rattle.dg_rank.proofs.Common.{◌≡◌, ℕ, zero, suc, ◌+◌, ◌*◌, ◌<◌, ◌≤◌, arith, refl, suc-mul, ◌≤ℤ◌, unsigned_abs, ints, pos, ◌-ℤ◌, sum_below, nat_sum_below, Multigraph, valence, edge_count, genus, Amounts, degree, sum_below-zero, sum_below-at_least, sum_below-sub, IsGraph}
 use Rattle.std.proofs.Math.IntN.{◌+ℤ◌}
-
--- the edges to lower vertices are some of the edges
-nat_sum_below-part : (n m : ℕ) (f : ℕ → ℕ) → n ≤ m → nat_sum_below n f ≤ nat_sum_below m f
-nat_sum_below-part n zero f few = let none : n ≡ zero = omega arith in rw none (omega arith)
-nat_sum_below-part n (suc m) f few =
-    ⊎_elim
-    (λ (same : n ≡ suc m). rw same (omega arith))
-    (λ (other : n ≡ suc m → ⊥). let before : nat_sum_below n f ≤ nat_sum_below m f = nat_sum_below-part n m f (omega arith) in
-    omega arith)
-    (cases_eq n (suc m))
+use Rattle.dg_theory.proofs.OrderDegrees.{valence_total}
 
 pub nat_sum_below-times : (n K : ℕ) (f : ℕ → ℕ) → ((w : ℕ) → w < n → f w ≤ K) → nat_sum_below n f ≤ n * K
 nat_sum_below-times zero K f low = omega arith
@@ -24,14 +15,11 @@ nat_sum_below-times (suc n) K f low =
     let more : suc n * K ≡ n * K + K = suc-mul n K in
     omega arith
 
-pub edges_few : (g : Multigraph) → IsGraph g → edge_count g ≤ g.size * 63
+pub edges_few : (g : Multigraph) → IsGraph g → edge_count g + edge_count g ≤ g.size * 63
 edges_few g graph =
-    nat_sum_below-times g.size 63 (λ v. nat_sum_below v (edges_between g v)) (λ v inside.
-    let part : nat_sum_below v (edges_between g v) ≤ valence g v =
-    nat_sum_below-part v g.size (edges_between g v) (omega arith) in
-    omega (arith, part, graph.valences v inside))
+    omega (arith, valence_total g graph.multigraph, nat_sum_below-times g.size 63 (valence g) graph.valences)
 
-pub genus_small : (g : Multigraph) → IsGraph g → genus g ≤ℤ pos 1009
+pub genus_small : (g : Multigraph) → IsGraph g → genus g ≤ℤ pos 489
 genus_small g graph = omega (arith, ints, edges_few g graph, graph.few)
 
 pub genus_least : (g : Multigraph) → IsGraph g → pos 0 ≤ℤ (genus g +ℤ pos 16)

@@ -9,14 +9,16 @@
 --                            tests
 --   AreBothRanks g D r    == r is the ranks of D and of its residual
 --   FailsFirstAt g D k    == k is the least degree of the rank tests that D fails
+--   IsLesserSide g D E m  == the rank of E is m less than that of D, as the tests tell it: D passes those below m,
+--                            and that of k + m exactly where E passes that of k; and E fails from the genus on
 --   IsWorkerCount w       == a rank test may have w workers
 --   IsRankFault n k w e   == a rank test with w workers is refused for this cause, and for no earlier
 --                            one, and never for want of memory; whether a thread really did not start,
 --                            no definition can say
-use Rattle.std.specs.Prelude.{◌≡◌, ℕ, ◌<◌, ◌≤◌, ◌⊎◌, ℤ, pos, ◌+ℤ◌}
+use Rattle.std.specs.Prelude.{◌≡◌, ◌↔◌, ℕ, ◌+◌, ◌<◌, ◌≤◌, ◌⊎◌, ℤ, pos, ◌+ℤ◌, ◌≤ℤ◌}
 use Rattle.dg_chips.specs.Vector.{IsInRange}
 use Rattle.dg_theory.specs.Firing.{Amounts}
-use Rattle.dg_theory.specs.Multigraph.{Multigraph}
+use Rattle.dg_theory.specs.Multigraph.{Multigraph, genus}
 use Rattle.dg_theory.specs.Rank.{minus, canonical, HasRankAtLeast, IsRank}
 use Rattle.dg_rank.specs.Limits.{HasTrials, IsPastLimits}
 use Rattle.dg_rank.specs.declared.rank_fault.RankFault.{RankFault}
@@ -54,6 +56,11 @@ AreBothRanks g D r = IsRank g D r.0 × IsRank g (minus (canonical g) D) r.1
 pub record FailsFirstAt (g : Multigraph) (D : Amounts) (k : ℕ) : Type 0 where
   pub passed : (j : ℕ) → j < k → HasRankAtLeast g D j
   pub fails : ¬ HasRankAtLeast g D k
+
+pub record IsLesserSide (g : Multigraph) (D E : Amounts) (m : ℕ) : Type 0 where
+  pub below : (k : ℕ) → k < m → HasRankAtLeast g D k
+  pub passes : (k : ℕ) → HasRankAtLeast g E k ↔ HasRankAtLeast g D (k + m)
+  pub fails : (k : ℕ) → genus g ≤ℤ pos k → ¬ HasRankAtLeast g E k
 
 abbrev pub IsWorkerCount : ℕ → Type 0
 IsWorkerCount w = (1 ≤ w) × (w ≤ MAX_WORKERS)

@@ -8,6 +8,7 @@ ghost use Rattle.dg_theory.specs.Rank.{minus, canonical, HasRankAtLeast};
 ghost use Rattle.dg_graph.specs.Graph.{IsGraph};
 ghost use Rattle.dg_chips.specs.Vector.{at};
 ghost use Rattle.dg_rank.specs.Asked.{IsMadeOf};
+ghost use Rattle.dg_rank.specs.declared.duals.TheConstants.{MAX_DIFFERENCE};
 ghost use Rattle.dg_rank.specs.Losses.{AreSmallAmounts};
 
 use crate::asked::{Made, find_loss_from};
@@ -16,6 +17,9 @@ use crate::first_loss::effective_with;
 use dg_chips::{Divisor, Wide};
 use dg_graph::Graph;
 use dg_reduce::InverseLaplacian;
+
+/// The ranks of a divisor and of its residual differ by no more.
+pub(crate) const MAX_DIFFERENCE: u32 = 17_000_000;
 
 /// Whether the rank of a divisor is at least k: whether every effective divisor of degree k can be lost and the rest still
 /// won. The test is made of the divisor or of its residual, if that has fewer dollars to take, and on a determining set of
@@ -114,7 +118,7 @@ pub(crate) fn dual_test_degree(graph: &Graph, divisor: &Divisor, k: u32) -> u32
 pub(crate) fn rank_difference(graph: &Graph, divisor: &Divisor) -> i64
     requires { divisor.now.size ≡ graph.now.size }
     ensures apart { result ≡ (degree graph.now.size (at divisor.now) +ℤ pos 1) -ℤ genus graph.now }
-    ensures small { unsigned_abs result ≤ 17000000 }
+    ensures small { unsigned_abs result ≤ MAX_DIFFERENCE }
 {
     let _size = graph.size();
     let _amounts = divisor.size();
@@ -122,7 +126,7 @@ pub(crate) fn rank_difference(graph: &Graph, divisor: &Divisor) -> i64
 }
 
 /// The residual of a divisor: the canonical divisor less it.
-fn dual_amounts(graph: &Graph, divisor: &Divisor) -> Wide
+pub(crate) fn dual_amounts(graph: &Graph, divisor: &Divisor) -> Wide
     requires { divisor.now.size ≡ graph.now.size }
     ensures size { result.size ≡ graph.now.size }
     ensures amounts { (v : ℕ) → v < graph.now.size →

@@ -1,17 +1,15 @@
 use Rattle.dg_rank.proofs.Common.{◌∙◌, arith, at, IsTrial}
-use Rattle.dg_rank.proofs.FirstFrom.{at_last}
 use Rattle.dg_rank.proofs.FixedBeginnings.{all_told, lost_at_last}
-use Rattle.dg_rank.proofs.Starts.{trial_from}
+use Rattle.dg_rank.proofs.LeastLosses.{trial_at_last}
 use Rattle.dg_rank.proofs.duals.all_trials_win.Goals as goal
 use Rattle.dg_rank.proofs.duals.all_trials_win.Goals.{After-all_at_last-first}
 
 first : (c : After-all_at_last-first) → IsTrial c.args.graph.now.size c.args.k c.all_at_last-first.result
 first c =
-    trial_from c.args.graph.now.size c.args.k 0 c.all_at_last-first.result
+    trial_at_last c.args.graph.now.size c.args.k c.all_at_last-first.result c.requires.some
     (c.all_at_last-first.ensures.places ∙ c.size.ensures.size)
-    (at_last c.args.graph.now.size c.args.k 0 c.all_at_last-first.result c.requires.some
     (rw c.size.ensures.size at c.all_at_last-first.ensures.held)
-    (rw c.size.ensures.size at c.all_at_last-first.ensures.empty))
+    (rw c.size.ensures.size at c.all_at_last-first.ensures.empty)
 
 pub effective_with-requires-clause-few : goal.effective_with-requires-clause-few
 effective_with-requires-clause-few c =

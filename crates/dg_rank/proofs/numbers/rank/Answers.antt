@@ -1,4 +1,4 @@
-use Rattle.dg_rank.proofs.Common.{arith, ints, refl, at}
+use Rattle.dg_rank.proofs.Common.{arith, ints, at}
 use Rattle.dg_rank.proofs.RankByTests.{rank_before, in_limits}
 use Rattle.dg_rank.proofs.numbers.rank.Goals as goal
 
@@ -7,7 +7,4 @@ returns c =
     let g = c.args.graph.now in
     let D = at c.args.divisor.now in
     in_limits g D c.in_ok-fails.fails _ (rank_before g D c.in_ok-fails.fails c.in_ok-fails.ensures.0)
-    (omega (arith, ints, c.from.ensures)) (c.in_ok-fails.ensures.1 refl)
-
-pub returns-in_err-fails : goal.returns-in_err-fails
-returns-in_err-fails c = rw c.from_residual.ensures c.in_err-fails.ensures.1
+    (omega (arith, ints, c.from.ensures)) c.in_ok-fails.ensures.1
