@@ -7,6 +7,7 @@ mod program;
 mod running;
 mod serve;
 mod sweeps;
+mod table_source;
 
 pub use fault::{Fault, report, status_of};
 pub use program::perform;

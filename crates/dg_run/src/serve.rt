@@ -10,13 +10,13 @@ ghost use Rattle.dg_run.specs.Sessions.{line_format, session_of, Serves, EndsEar
 ghost use Rattle.dg_run.specs.Streams.{IsInputFault, IsOutputFault};
 
 use crate::fault::Fault;
+use crate::table_source::load_table;
 use dg_file::TableFile;
 use dg_invocation::ServeTask;
 use dg_log::{LogFault, Name, Row};
 use dg_session::{LineFormat, serve_seats};
 use dg_system::{Input, Output, Shortage, Sources};
 use dg_table::Table;
-use dg_tasks::load_table;
 use std::io::{Read, Write};
 use std::marker::Brand;
 use std::mem::forget;

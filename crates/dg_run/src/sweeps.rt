@@ -5,10 +5,11 @@ ghost use Rattle.dg_run.specs.Sweeping.{IsSwept, Sweeps, RefusesLines, RefusesSw
 ghost use Rattle.dg_run.specs.Streams.{IsInputFault, IsOutputFault};
 
 use crate::fault::Fault;
+use crate::table_source::load_table;
 use dg_invocation::SweepTask;
 use dg_sweep::{LineKind, sweep};
 use dg_system::{Input, Output, Sources};
-use dg_tasks::{TaskFault, load_table};
+use dg_tasks::TaskFault;
 use std::io::Write;
 use std::rt::Files;
 use std::sync::Wait;

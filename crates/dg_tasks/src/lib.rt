@@ -12,5 +12,4 @@ mod tasks;
 
 pub use fault::TaskFault;
 pub use laws::rehearsal_text_is_unique;
-pub use table_source::load_table;
 pub use tasks::{answer, answer_alone};

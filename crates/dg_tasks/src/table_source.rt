@@ -10,7 +10,7 @@ use std::rt::Files;
 /// The table of the file with that name.
 ///
 /// Refused with `Source` if the file is not read, and then with `File` if it is no table file.
-pub fn load_table<R, S>(rt: &R, sources: &S, file: &str) -> Result<TableFile, TaskFault>
+pub(crate) fn load_table<R, S>(rt: &R, sources: &S, file: &str) -> Result<TableFile, TaskFault>
 where
     R: Files + AllocGlobal,
     S: Sources,
