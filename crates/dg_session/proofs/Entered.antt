@@ -119,7 +119,7 @@ full_at_close {t} {input = input} {ys = ys} {result} {H = H} over closed is =
             ∙ get_set over.after.seats r.0 turn.x turn.y turn.seat.old in
             omega (
               arith,
-              turn.does.3.1.full,
+              turn.does.3.1.0.full,
               begins_length turn.y.met H (closed.held r.0 turn.y at).met,
               closed.history.few,
             )

@@ -1,7 +1,7 @@
 //! What the lines of a sweep are, and how each is answered.
 ghost use Rattle.std.specs.Prelude.{◌≡◌, ◌≤◌, [], OnOk};
 ghost use Rattle.dg_graph.specs.declared.graph.TheConstants.{MAX_VERTICES};
-ghost use Rattle.dg_sweep.specs.Answers.{columns};
+ghost use Rattle.dg_sweep.specs.Answers.{columns, of_tables};
 ghost use Rattle.dg_sweep.specs.Kinds.{answers_of};
 
 use crate::answering::{Subject, push_answer, push_refusal};
@@ -69,19 +69,7 @@ impl<'a> LineKind<'a> {
         ensures { OnOk result ((answers_of self.now).answers line.now answer.new.items) }
     {
         match self {
-            LineKind::Tables(question) => match read_table(alloc, line) {
-                Ok(table) => {
-                    let start = table.start();
-                    let subject = Subject {
-                        graph: start.graph(),
-                        divisor: start.divisor(),
-                        q: start.q(),
-                        inverse: None,
-                    };
-                    push_answer(*question, &subject, table.names(), answer)
-                }
-                Err(fault) => push_refusal(&fault, self.columns(), answer),
-            },
+            LineKind::Tables(question) => answer_table(alloc, *question, line, answer),
             LineKind::Divisors {
                 question,
                 table,
@@ -102,6 +90,33 @@ impl<'a> LineKind<'a> {
                 }
             }
         }
+    }
+}
+
+/// The answer to the line of a table, into an empty buffer. It stands apart, so that no room is cleared for a table where a line
+/// has only amounts.
+#[inline(never)]
+fn answer_table(
+    alloc: Global,
+    question: Question,
+    line: &[u8],
+    answer: &mut Vec<u8>,
+) -> Result<(), AllocError>
+    requires { answer.old.items ≡ [] }
+    ensures { OnOk result ((of_tables question).answers line.now answer.new.items) }
+{
+    match read_table(alloc, line) {
+        Ok(table) => {
+            let start = table.start();
+            let subject = Subject {
+                graph: start.graph(),
+                divisor: start.divisor(),
+                q: start.q(),
+                inverse: None,
+            };
+            push_answer(question, &subject, table.names(), answer)
+        }
+        Err(fault) => push_refusal(&fault, columns(question, 0), answer),
     }
 }
 

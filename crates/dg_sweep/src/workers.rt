@@ -1,10 +1,10 @@
 //! Lines answered among workers, each with a thread of its own. They take pieces from a counter that no contract
 //! trusts.
-ghost use Rattle.std.specs.Prelude.{◌≡◌, ◌<◌, ◌≤◌, ◌++◌, ℕ, List, [], length, get_or, map, flat_map, All, Contains, IfOk, IfSome, IsOkAnd, OnOk, Err};
+ghost use Rattle.std.specs.Prelude.{◌≡◌, ◌<◌, ◌≤◌, ◌++◌, ℕ, List, [], length, get_or, map, flat_map, All, Contains, IfErr, IfOk, IfSome, IsOkAnd, OnOk, Err};
 ghost use Rattle.dg_sweep.specs.Kinds.{answers_of};
 ghost use Rattle.dg_sweep.specs.Steps.{AnswersFront, EndsWithNewline};
 ghost use Rattle.dg_sweep.specs.Pieces.{AnswersPiece, IsAnswered, LeadsPiece};
-ghost use Rattle.dg_system.specs.declared.shortage.Shortage.TheVariants.{Spawn};
+ghost use Rattle.dg_system.specs.declared.shortage.Shortage.TheVariants.{OutOfMemory, Spawn};
 
 use crate::kinds::LineKind;
 use crate::taking::answer_lines;
@@ -74,13 +74,14 @@ pub(crate) fn answer_batch<'a, R: Threads + Wait + Sync>(
 }
 
 /// The answers to pieces that so many workers take, each the next that none has taken. The first has a thread of its own, and
-/// the others work beside it.
+/// the others work beside it. The condition is that there may be so many.
 fn answer_among<R: Threads + Wait + Sync>(
     context: &SweepContext<'_, R>,
     workers: usize,
     pieces: &[&[u8]],
     next: &AtomicUsize,
 ) -> Result<Vec<PieceAnswer>, Shortage>
+    requires { workers ≤ context.now.workers }
     ensures { IfOk result (λ done.
         All (IsAnswered (answers_of context.now.kind.now) (map (λ piece. piece.now) pieces.now)) done.items) }
 {
@@ -92,7 +93,7 @@ fn answer_among<R: Threads + Wait + Sync>(
             (map (λ piece. piece.now) pieces.entry.now)) done.items) }
     { answer_pieces(context, pieces, next) };
     let mut others = || -> Result<Vec<PieceAnswer>, Shortage>
-        requires { 2 ≤ workers }
+        requires { (2 ≤ workers) × (workers ≤ context.now.workers) }
         ensures { IfOk result (λ done. All (IsAnswered (answers_of context.entry.now.kind.now)
             (map (λ piece. piece.now) pieces.entry.now)) done.items) }
     { answer_among(context, workers - 1, pieces, next) };
@@ -121,8 +122,9 @@ fn answer_pieces<R>(
     pieces: &[&[u8]],
     next: &AtomicUsize,
 ) -> Result<Vec<PieceAnswer>, Shortage>
-    ensures { IfOk result (λ done.
+    ensures answers { IfOk result (λ done.
         All (IsAnswered (answers_of context.now.kind.now) (map (λ piece. piece.now) pieces.now)) done.items) }
+    ensures memory { IfErr result (λ shortage. shortage ≡ OutOfMemory) }
 {
     let mut done = Vec::new(context.alloc);
     for _ in 0..pieces.len() {
@@ -147,6 +149,7 @@ fn answer_piece<R>(
     ensures text { IfOk result (λ answered.
         AnswersPiece (answers_of context.now.kind.now) piece.now answered.text.items) }
     ensures place { IfOk result (λ answered. answered.place ≡ place) }
+    ensures memory { IfErr result (λ shortage. shortage ≡ OutOfMemory) }
 {
     let mut text = Vec::new(context.alloc);
     let mut answer = Vec::new(context.alloc);

@@ -9,7 +9,8 @@
 --                                      of number i
 --   RefusesCall table x f           == if the call of the seat x was refused with f, this is known:
 --                                      after `Full`, the history that it has met then fills the table;
---                                      after `Log`, that has room
+--                                      after `Log`, that has room; and after either the seat has space
+--                                      for one more call, since memory is asked for first
 --   KeepsAfterRefusal f x y         == after the refusal f the seat x, which is y then, knows what it
 --                                      knew; after `OutOfMemory` it has met nothing new
 use Rattle.std.specs.Prelude.{◌≡◌, ℕ, ◌<◌, ◌≤◌, List, true, length, ⊤, ◌⊎◌}
@@ -46,8 +47,8 @@ RefusesSettling table p q i x Log = (length p.entries < table.capacity) ×
 
 abbrev pub RefusesCall : TableData → SeatView → Fault → Type 0
 RefusesCall table x OutOfMemory = ⊤
-RefusesCall table x Full = IsFull table x.met x
-RefusesCall table x Log = length x.met < table.capacity
+RefusesCall table x Full = IsFull table x.met x × (x.space ≡ true)
+RefusesCall table x Log = (length x.met < table.capacity) × (x.space ≡ true)
 
 abbrev pub KeepsAfterRefusal : Fault → SeatView → SeatView → Type 0
 KeepsAfterRefusal f x y = Keeps x y × (f ≡ OutOfMemory → y.met ≡ x.met)

@@ -13,12 +13,12 @@
 --   RefusesTurn c table x a f    == if the turn of the seat x was refused with f, this is known, as of a
 --                                   call; and the choice was not asked, or, if the cell refused the entry,
 --                                   after the history that the seat has met then
-use Rattle.std.specs.Prelude.{◌≡◌, ℕ, ◌<◌, List, length, Option, ◌⊎◌}
+use Rattle.std.specs.Prelude.{◌≡◌, ℕ, List, Option, ◌⊎◌}
 use Rattle.std.specs.Borrow.{Bor}
 use Rattle.std.specs.Fn.{Mut, Called, Takes}
 use Rattle.dg_table.specs.Common.{Multigraph, TableData, Vector, Move, ShowsPosition, position_after, Entry, choice_request}
 use Rattle.dg_table.specs.Answered.{Entering, entering, IsAnsweredAfter}
-use Rattle.dg_table.specs.Faults.{IsFull, MayEnter}
+use Rattle.dg_table.specs.Faults.{MayEnter, RefusesCall}
 use Rattle.dg_table.specs.Seats.{SeatView}
 use Rattle.dg_table.specs.declared.fault.Fault.{Fault}
 use Rattle.dg_table.specs.declared.fault.Fault.TheVariants.{OutOfMemory, Full, Log}
@@ -63,6 +63,6 @@ module _ {F : Type 0} (c : Mut F (Bor Multigraph × (Bor Vector × Unit {0})) (O
 
   abbrev pub RefusesTurn : SeatView → Asking F → Fault → Type 0
   RefusesTurn x a OutOfMemory = a.after ≡ a.before
-  RefusesTurn x a Full = (a.after ≡ a.before) × IsFull table x.met x
-  RefusesTurn x a Log = (length x.met < table.capacity)
+  RefusesTurn x a Full = (a.after ≡ a.before) × RefusesCall table x Full
+  RefusesTurn x a Log = RefusesCall table x Log
       × ((a.after ≡ a.before) ⊎ ((m : Option Move) × IsAskedAfter x.met a m))

@@ -11,7 +11,8 @@ pub enum Fault {
     /// The history has as many entries as it may have.
     #[error("the history is full")]
     Full,
-    /// The seat keeps more than the history holds, or less of its own, or the cell refused the entry.
+    /// The seat keeps more than the history holds, or less of its own; or the history has not reached the look; or the cell
+    /// refused the entry.
     #[error("history cell refused")]
     Log,
 }

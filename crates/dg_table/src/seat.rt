@@ -1,5 +1,5 @@
 //! Seats: who calls a table, and what they know of its history.
-ghost use Rattle.std.specs.Prelude.{ℕ, List, ◌≡◌, ◌+◌, ◌-◌, ◌<◌, ◌≤◌, [], ◌∷◌, ◌++◌, length, slice_get, true, None, Some, IfOk, IfSome, MatchBool, MatchOption, MatchResult};
+ghost use Rattle.std.specs.Prelude.{ℕ, List, ◌≡◌, ◌+◌, ◌-◌, ◌<◌, ◌≤◌, [], ◌∷◌, ◌++◌, length, slice_get, true, false, None, Some, IfOk, OnErr, IfSome, MatchBool, MatchOption, MatchResult};
 ghost use Rattle.dg_chips.specs.Starts.{StartData};
 ghost use Rattle.dg_rules.specs.Replies.{Replies};
 ghost use Rattle.dg_rules.specs.State.{LeadsTo};
@@ -192,13 +192,14 @@ impl<N: Name> Seat<N> {
 
     /// Tells the seat of an entry; each later call then comes after it in the history.
     ///
-    /// Refused if there is not enough memory, and then it knows what it knew.
+    /// Refused if it has no space and there is not enough memory; then it knows what it knew.
     pub fn learn(&mut self, receipt: &Receipt<N>) -> Result<(), OutOfMemory>
         ensures number { self.new.number ≡ self.old.number }
         ensures mine { self.new.mine ≡ self.old.mine }
         ensures told { MatchResult result
             (λ _. self.new.told ≡ self.old.told ++ receipt.now ∷ [])
             (λ _. self.new.told ≡ self.old.told) }
+        ensures refused { OnErr result (self.old.hears ≡ false) }
         ensures prefix { self.new.prefix ≡ self.old.prefix }
         ensures met { self.new.met ≡ self.old.met }
     {

@@ -92,7 +92,7 @@ impl<N: Name> Table<N> {
         Ok((table, all))
     }
 
-    /// Makes space for a call of the seat, and a box for its entry. Refused with `OutOfMemory`, and with `Full` if the seat
+    /// Makes space for a call of the seat, and a box for its entry. Refused with `OutOfMemory`, then with `Full` if the seat
     /// has met a history of as many entries as there may be.
     fn room(&self, alloc: Global, seat: &mut Seat<N>) -> Result<Box<Entry>, Fault>
         ensures kept { Keeps seat.old seat.new }

@@ -54,13 +54,15 @@ impl<'a> Read for Flow<'a> {
 }
 
 // Takes so many bytes a write, and fails if it holds so many; or takes none from there on. Each other write is
-// interrupted, and the first flush after one that is not. It notes whether something was written that is not flushed.
+// interrupted, and the first flush after one that is not; others may fail. It notes whether something was written that is not
+// flushed.
 #[derive(Drop)]
 pub(crate) struct Sip<'a> {
     pub(crate) held: Vec<u8>,
     pub(crate) most: usize,
     pub(crate) fails_at: usize,
     pub(crate) refuses: bool,
+    pub(crate) flush_fails: bool,
     pub(crate) is_interrupted: bool,
     pub(crate) is_held_back: &'a Cell<bool>,
 }
@@ -90,6 +92,9 @@ impl<'a> Write for Sip<'a> {
         if self.is_interrupted {
             return Err(io::Error::from(ErrorKind::Interrupted));
         }
+        if self.flush_fails {
+            return Err(io::Error::from(ErrorKind::Other));
+        }
         self.is_held_back.set(false);
         Ok(())
     }
@@ -115,6 +120,7 @@ fn new_sip(alloc: Global, fails_at: usize, refuses: bool, is_held_back: &Cell<bo
         most: 1,
         fails_at,
         refuses,
+        flush_fails: false,
         is_interrupted: false,
         is_held_back,
     }
@@ -202,6 +208,25 @@ fn ends_where_a_write_fails<R: Threads + Wait + Abort + Sync>(
         owing,
         1,
         TableTest::Session(reader, writer, answer, end),
+    )
+}
+
+// All lines come in one read. Their answers are written, and can't be flushed.
+#[test]
+fn a_session_ends_where_a_flush_fails(rt: HostRuntime) -> Result<(), Fail> {
+    let alloc = rt.alloc();
+    let is_held_back = Cell::new(false);
+    let mut reader = new_flow(TEXT, None, &is_held_back);
+    reader.most = TEXT.len();
+    let mut writer = new_sip(alloc, 1_000, false, &is_held_back);
+    writer.flush_fails = true;
+    on_a_table(
+        &rt,
+        alloc,
+        9,
+        &triangle(&[2, -1, -1])?,
+        1,
+        TableTest::Session(reader, writer, ANSWER, Err(SessionEnd::Write)),
     )
 }
 
