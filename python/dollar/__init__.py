@@ -49,7 +49,7 @@ from dollar._table import Table, example
 if TYPE_CHECKING:
     from dollar._asynchronous import AsyncSession
 
-__version__ = "1.1.0"
+__version__ = "2.0.0"
 
 __all__ = [
     "AsyncSession", "Bad", "Claimed", "Declined", "End", "Ended", "Entry", "Fault", "Given", "History", "Joined", "Judged", "Looked", "Moved",
