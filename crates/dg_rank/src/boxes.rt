@@ -69,7 +69,7 @@ pub(crate) fn find_box_loss(
         let mut fuller = other;
         fuller.give(v, taken);
         let fewer = lack_in_box(&fuller, &open, dollars);
-        if fewer.squares < lack.squares {
+        if fewer.work < lack.work {
             best = fuller;
             lack = fewer;
         } else {
@@ -116,12 +116,12 @@ fn close_with_twins(
     }
 }
 
-/// What is lacking in a box: the vertex that has the most dollars less than may be taken there, if one has less, and the sum
-/// of the squares of what each has less.
+/// What is lacking in a box: the vertex that has the most dollars less than may be taken there, if one has less, and a guess at
+/// how long it takes to close the box.
 #[derive(Clone, Copy)]
 struct Lack {
     vertex: Option<usize>,
-    squares: u32,
+    work: u32,
 }
 
 /// What is lacking in a box.
@@ -132,7 +132,12 @@ fn lack_in_box(left: &EffectiveDivisor, room: &[u32; 16], dollars: u32) -> Lack
 {
     let lacks = left.shortfalls(room, dollars);
     let lanes = u32x16::from_array(lacks);
-    let squares = (lanes * lanes).reduce_sum();
+    // A search at a vertex that lacks some goes on with as many dollars as are beyond what it holds: the more, the longer.
+    let all = u32x16::splat(dollars);
+    let beyond = all - u32x16::from_array(*room).simd_min(all) + lanes;
+    let none = u32x16::splat(0);
+    let longer = beyond * (beyond + all * u32x16::splat(4));
+    let work = lanes.simd_gt(none).select(longer, none).reduce_sum();
     let most = lanes.simd_eq(u32x16::splat(lanes.reduce_max()));
     let v = most.to_bitmask().trailing_zeros() as usize;
     // No clause of the lanes' greatest says that a vertex has it: so what lacks there is looked at once more.
@@ -141,7 +146,7 @@ fn lack_in_box(left: &EffectiveDivisor, room: &[u32; 16], dollars: u32) -> Lack
     } else {
         lacks.iter().position(|lack| *lack > 0)
     };
-    Lack { vertex, squares }
+    Lack { vertex, work }
 }
 
 /// What is left once so many dollars are taken at a vertex and paid back; `None` if that can't be won.

@@ -1,5 +1,5 @@
-//! The rank of a divisor and that of its residual, as numbers. The lesser of the two is told by a least loss, and by the theorem of
-//! Riemann and Roch so is the other.
+//! The rank of a divisor and that of its residual, as numbers. The lesser of the two is told by a least loss, and so, by the
+//! theorem of Riemann and Roch, is the other.
 ghost use Rattle.std.specs.Prelude.{◌≡◌, ◌<◌, ◌≤◌, ◌≤ℤ◌, ◌⊎◌, ◌+◌, pos, MatchOption};
 ghost use Rattle.dg_theory.specs.Multigraph.{genus};
 ghost use Rattle.dg_theory.specs.Firing.{IsEffective};

@@ -258,6 +258,8 @@ fn least_sum(first: &Row, second: &Row, place: usize) -> Option<(i32, usize)>
     ensures least { IfSome result (λ s. (b : ℕ) → b ≤ place → s.0
         ≤ℤ (slice_index_or first.now (place - b) (pos 0) +ℤ slice_index_or second.now b (pos 0))) }
     ensures part { IfSome result (λ s. s.1 ≤ place) }
+    ensures is { IfSome result (λ s. s.0
+        ≡ slice_index_or first.now (place - s.1) (pos 0) +ℤ slice_index_or second.now s.1 (pos 0)) }
 {
     let mut least = first[place].checked_add(second[0])?;
     let mut part = 0;

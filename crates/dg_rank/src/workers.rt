@@ -38,8 +38,8 @@ impl Gate for OpenGate {
 /// not be started. `OutOfMemory` never comes: only threads take memory.
 ///
 /// What no clause says, and only tests show: the trials are shared in as many pieces as there are workers. Each piece has a
-/// thread of its own, which enters the gate once, with the piece's number, from 0 on, before its first trial, also if it has
-/// none to make: the degree may have told the answer before any thread starts.
+/// thread of its own, which enters the gate once, with the piece's number, from 0 on, also if it has no trial to make: the
+/// degree may have told the answer before any thread starts. That it does so before its first trial, not even tests show.
 /// After `TooMany` and `Workers` no gate was entered, and after `Spawn` the threads that were started have ended.
 pub fn rank_with<R: Threads + Wait, G: Gate>(
     rt: &R,

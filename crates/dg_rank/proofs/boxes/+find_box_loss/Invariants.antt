@@ -6,7 +6,7 @@ abbrev pub decreases-find_box_loss : goal.decreases-find_box_loss
 decreases-find_box_loss l = l.dollars
 
 abbrev pub decreases-lacking : goal.decreases-lacking
-decreases-lacking l = sum l.open * 4294967296 + l.lack.squares
+decreases-lacking l = sum l.open * 4294967296 + l.lack.work
 
 abbrev pub invariant-lacking : goal.invariant-lacking
 invariant-lacking l = record {

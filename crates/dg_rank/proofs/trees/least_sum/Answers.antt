@@ -15,6 +15,7 @@ loop-b-preserved c = elim c.if-sum-least.branch [
             grind (arith, ints, to_z-of_z, old, w.if-sum-least.true, sum, c.told-first, c.told-second))
             (cases_eq b c.loop-b.b);
         part = omega arith;
+        is = grind (arith, ints, to_z-of_z, sum, c.told-first, c.told-second);
       }
   | else-sum-least w ↦
       let sum = c.in_ok-sum.ensures in
@@ -27,5 +28,6 @@ loop-b-preserved c = elim c.if-sum-least.branch [
             omega (arith, ints, old, w.least-is))
             (cases_eq b c.loop-b.b);
         part = omega arith;
+        is = grind (arith, w.least-is, w.part-is, c.loop-b.invariant.is);
       }
 ]
