@@ -1,5 +1,5 @@
 //! Readers that remember whether they failed, because the library's streams have no clause for a failure.
-ghost use Rattle.std.specs.Prelude.{◌≡◌, ◌<◌, ◌≤◌, length, take, None, IfSome, OnOk, OnErr, true, false};
+ghost use Rattle.std.specs.Prelude.{◌≡◌, ◌<◌, ◌≤◌, length, take, None, IfSome, OnSome, OnOk, OnErr, true, false};
 ghost use Rattle.std.specs.Io.{ReadsAtMost};
 ghost use Rattle.std.specs.Io.KnownBytes.{Consumes, IsAtEnd, Keeps, ReadConsumes};
 
@@ -71,6 +71,7 @@ impl<I: Read> Input<I> {
         ensures size { length buffer.new.items ≡ length buffer.old.items }
         ensures kept { result ≡ None → Keeps self.old.remaining self.new.remaining }
         ensures failed { result ≡ None → self.new.has_failed ≡ true }
+        ensures noted { OnSome result (self.new.has_failed ≡ self.old.has_failed) }
     {
         self.read(buffer).ok()
     }
