@@ -1,5 +1,5 @@
 //! Sweeping a stream of lines. This is no session: a line changes nothing, and one that is too long does not end it.
-ghost use Rattle.std.specs.Prelude.{◌≡◌, ◌≤◌, [], length, Err, true};
+ghost use Rattle.std.specs.Prelude.{◌≡◌, ◌≢◌, ◌≤◌, [], length, Err, true};
 ghost use Rattle.dg_sweep.specs.Kinds.{answers_of};
 ghost use Rattle.dg_sweep.specs.Sweeps.{IsSweep};
 ghost use Rattle.dg_sweep.specs.declared.ends.TheConstants.{READ_SIZE};
@@ -32,6 +32,7 @@ pub fn sweep<R: Threads + Wait + Sync, I: Read, O: Write>(
     ensures swept { IsSweep (answers_of kind.now) reader.old.remaining reader.new.remaining
         writer.old.contents writer.new.contents result }
     ensures read { result ≡ Err SweepEnd.Read → reader.new.has_failed ≡ true }
+    ensures noted { result ≢ Err SweepEnd.Read → reader.new.has_failed ≡ reader.old.has_failed }
     ensures write { result ≡ Err SweepEnd.Write → writer.new.has_failed ≡ true }
     ensures spawn { result ≡ Err (SweepEnd.Shortage Spawn) → 2 ≤ workers }
 {
@@ -61,6 +62,7 @@ fn sweep_reads<R: Threads + Wait + Sync, I: Read, O: Write>(
     ensures swept { IsSweep (answers_of context.now.kind.now) reader.old.remaining reader.new.remaining
         writer.old.contents writer.new.contents result }
     ensures read { result ≡ Err SweepEnd.Read → reader.new.has_failed ≡ true }
+    ensures noted { result ≢ Err SweepEnd.Read → reader.new.has_failed ≡ reader.old.has_failed }
     ensures write { result ≡ Err SweepEnd.Write → writer.new.has_failed ≡ true }
     ensures spawn { result ≡ Err (SweepEnd.Shortage Spawn) → 2 ≤ context.now.workers }
 {

@@ -23,8 +23,6 @@ pub(crate) struct SweepProgress {
     pub(crate) pending: Vec<u8>,
     /// The answers to what was taken last.
     text: Vec<u8>,
-    /// The buffer in which the answer to a line is made.
-    answer: Vec<u8>,
 }
 
 impl SweepProgress {
@@ -35,7 +33,6 @@ impl SweepProgress {
         SweepProgress {
             pending: Vec::new(alloc),
             text: Vec::new(alloc),
-            answer: Vec::new(alloc),
         }
     }
 
@@ -100,7 +97,7 @@ impl SweepProgress {
         };
         answer_line(context.alloc, context.kind, &self.pending, &mut self.text)?;
         self.pending.clear();
-        let part = answer_batch(context, after, &mut self.text, &mut self.answer)?;
+        let part = answer_batch(context, after, &mut self.text)?;
         keep_part(&mut self.pending, part)
     }
 
@@ -133,21 +130,21 @@ pub(crate) fn answer_lines<'a>(
     kind: &LineKind<'_>,
     bytes: &'a [u8],
     text: &mut Vec<u8>,
-    answer: &mut Vec<u8>,
 ) -> Result<&'a [u8], Shortage>
     ensures answered { IfOk result (λ rest. (said : List ℕ)
         × AnswersFront (answers_of kind.now) bytes.now rest.now said
         × (text.new.items ≡ text.old.items ++ said)) }
     ensures memory { IfErr result (λ shortage. shortage ≡ OutOfMemory) }
 {
+    let mut answer = Vec::new(alloc);
     let mut rest = bytes;
     'lines: loop {
         let (line, after) = cut(rest, b'\n');
         let Some(after) = after else {
             return Ok(line);
         };
-        answer_line(alloc, kind, line, answer)?;
-        text.extend_from_slice(answer)?;
+        answer_line(alloc, kind, line, &mut answer)?;
+        text.extend_from_slice(&answer)?;
         rest = after;
     }
 }

@@ -55,7 +55,6 @@ pub(crate) fn answer_batch<'a, R: Threads + Wait + Sync>(
     context: &SweepContext<'_, R>,
     bytes: &'a [u8],
     text: &mut Vec<u8>,
-    answer: &mut Vec<u8>,
 ) -> Result<&'a [u8], Shortage>
     ensures answered { IfOk result (λ rest. (said : List ℕ)
         × AnswersFront (answers_of context.now.kind.now) bytes.now rest.now said
@@ -64,13 +63,13 @@ pub(crate) fn answer_batch<'a, R: Threads + Wait + Sync>(
 {
     let workers = context.workers.min(bytes.len() / SHARE_SIZE);
     if workers < 2 {
-        return answer_lines(context.alloc, context.kind, bytes, text, answer);
+        return answer_lines(context.alloc, context.kind, bytes, text);
     }
     let (pieces, rest) = cut_pieces(context.alloc, bytes)?;
     let next = AtomicUsize::new(0);
     let done = answer_among(context, workers.min(pieces.len()), &pieces, &next)?;
     push_answers(context, &pieces, &done, text)?;
-    answer_lines(context.alloc, context.kind, rest, text, answer)
+    answer_lines(context.alloc, context.kind, rest, text)
 }
 
 /// The answers to pieces that so many workers take, each the next that none has taken. The first has a thread of its own, and
@@ -152,8 +151,7 @@ fn answer_piece<R>(
     ensures memory { IfErr result (λ shortage. shortage ≡ OutOfMemory) }
 {
     let mut text = Vec::new(context.alloc);
-    let mut answer = Vec::new(context.alloc);
-    match answer_lines(context.alloc, context.kind, piece, &mut text, &mut answer) {
+    match answer_lines(context.alloc, context.kind, piece, &mut text) {
         Ok(_) => Ok(PieceAnswer { place, text }),
         Err(shortage) => Err(shortage),
     }
@@ -213,14 +211,7 @@ fn push_piece_answer<R>(
         text.extend_from_slice(answers)?;
         return Ok(());
     }
-    let mut answer = Vec::new(context.alloc);
-    answer_lines(
-        context.alloc,
-        context.kind,
-        pieces[place],
-        text,
-        &mut answer,
-    )?;
+    answer_lines(context.alloc, context.kind, pieces[place], text)?;
     Ok(())
 }
 

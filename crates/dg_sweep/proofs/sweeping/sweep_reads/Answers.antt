@@ -7,6 +7,7 @@ reads-init g c = (
   swept_none _ c.args.reader.now.remaining c.args.writer.now.contents
       c.args.progress.now.pending.items c.requires.pending,
   c.requires.size,
+  refl,
 )
 
 pub returns-in_default-clause-swept : goal.returns-in_default-clause-swept
@@ -26,6 +27,7 @@ reads-preserved g c = (
       c.feed.new.self.pending.items
       (read_chunk _ _ _ _ _ c.deref.ensures.value c.in-Some.ensures.bytes) c.in-Ok.ensures.passed,
   c.in-Some.ensures.size ∙ c.reads.invariant.1,
+  c.in-Some.ensures.noted ∙ c.reads.invariant.2,
 )
 
 pub returns-in-Err-clause-swept : goal.returns-in-Err-clause-swept
@@ -41,3 +43,15 @@ returns-in-Err-clause-swept g c =
 
 pub returns-clause-swept : goal.returns-clause-swept
 returns-clause-swept g c = sweep_unsaid c.reads.invariant.0
+
+pub returns-in_default-clause-noted : goal.returns-in_default-clause-noted
+returns-in_default-clause-noted g c differ = absurd (differ refl)
+
+pub returns-then-size-eq0-clause-noted : goal.returns-then-size-eq0-clause-noted
+returns-then-size-eq0-clause-noted g c differ = c.in-Some.ensures.noted ∙ c.reads.invariant.2
+
+pub returns-in-Err-clause-noted : goal.returns-in-Err-clause-noted
+returns-in-Err-clause-noted g c differ = c.in-Some.ensures.noted ∙ c.reads.invariant.2
+
+pub returns-clause-noted : goal.returns-clause-noted
+returns-clause-noted g c differ = c.reads.invariant.2
