@@ -116,8 +116,8 @@ fn close_with_twins(
     }
 }
 
-/// What is lacking in a box: the vertex that has the most dollars less than may be taken there, if one has less, and a guess at
-/// how long it takes to close the box.
+/// What is lacking in a box: the last vertex of those that have the most dollars less than may be taken there, if one has less,
+/// and a guess at how long it takes to close the box.
 #[derive(Clone, Copy)]
 struct Lack {
     vertex: Option<usize>,
@@ -139,7 +139,8 @@ fn lack_in_box(left: &EffectiveDivisor, room: &[u32; 16], dollars: u32) -> Lack
     let longer = beyond * (beyond + all * u32x16::splat(4));
     let work = lanes.simd_gt(none).select(longer, none).reduce_sum();
     let most = lanes.simd_eq(u32x16::splat(lanes.reduce_max()));
-    let v = most.to_bitmask().trailing_zeros() as usize;
+    // The last of those that lack most: a loss that holds more there comes earlier among the trials.
+    let v = 63usize.wrapping_sub(most.to_bitmask().leading_zeros() as usize);
     // No clause of the lanes' greatest says that a vertex has it: so what lacks there is looked at once more.
     let vertex = if v < 16 && lacks[v] > 0 {
         Some(v)
