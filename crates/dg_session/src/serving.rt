@@ -86,6 +86,7 @@ pub fn serve_seats<N: Name, R: Threads + Wait, I: Read, O: Write>(
         (passage reader.old.remaining reader.new.remaining)
         (passage writer.old.contents writer.new.contents) seats.old seats.new result }
     ensures read { result ≡ Err SessionEnd.Read → reader.new.has_failed ≡ true }
+    ensures noted { result ≢ Err SessionEnd.Read → reader.new.has_failed ≡ reader.old.has_failed }
     ensures write { result ≡ Err SessionEnd.Write → writer.new.has_failed ≡ true }
 {
     let shared = Shared {
@@ -162,6 +163,7 @@ fn serve_lines<N: Name, R: Threads + Wait, I: Read, O: Write>(
         (passage reader.old.remaining reader.new.remaining)
         (passage writer.old.contents writer.new.contents) seats.old seats.new result }
     ensures read { result ≡ Err SessionEnd.Read → reader.new.has_failed ≡ true }
+    ensures noted { result ≢ Err SessionEnd.Read → reader.new.has_failed ≡ reader.old.has_failed }
     ensures write { result ≡ Err SessionEnd.Write → writer.new.has_failed ≡ true }
 {
     let Ok(mut buffer) = vec![in shared.alloc; 0u8; READ_SIZE] else {
@@ -192,6 +194,7 @@ fn serve_reads<N: Name, R: Threads + Wait, I: Read, O: Write>(
         (passage reader.old.remaining reader.new.remaining)
         (passage writer.old.contents writer.new.contents) seats.old seats.new result }
     ensures read { result ≡ Err SessionEnd.Read → reader.new.has_failed ≡ true }
+    ensures noted { result ≢ Err SessionEnd.Read → reader.new.has_failed ≡ reader.old.has_failed }
     ensures write { result ≡ Err SessionEnd.Write → writer.new.has_failed ≡ true }
 {
     'reads: loop {

@@ -4,13 +4,22 @@ use Rattle.dg_session.proofs.SessionLaws.{so_far_new, so_far_more, session_reads
 use Rattle.dg_session.proofs.serving.serve_reads.Goals as goal
 
 pub reads-init : goal.reads-init
-reads-init g c = (rw c.requires.begins (so_far_new c.requires.some), c.requires.heard, c.requires.buffer)
+reads-init g c = (rw c.requires.begins (so_far_new c.requires.some), c.requires.heard, c.requires.buffer, refl)
 
 pub returns-in_default-clause-session : goal.returns-in_default-clause-session
 returns-in_default-clause-session g c = session_reads c.reads.invariant.0 (c.in_default.ensures.kept refl)
 
 pub returns-in_default-clause-read : goal.returns-in_default-clause-read
 returns-in_default-clause-read g c e = c.in_default.ensures.failed refl
+
+pub returns-in_default-clause-noted : goal.returns-in_default-clause-noted
+returns-in_default-clause-noted g c differ = absurd (differ refl)
+
+pub returns-in-Err-clause-noted : goal.returns-in-Err-clause-noted
+returns-in-Err-clause-noted g c differ = c.in-Some.ensures.noted ∙ c.reads.invariant.3
+
+pub returns-then-size-eq0-clause-noted : goal.returns-then-size-eq0-clause-noted
+returns-then-size-eq0-clause-noted g c differ = c.in-Some.ensures.noted ∙ c.reads.invariant.3
 
 pub returns-in_default-clause-write : goal.returns-in_default-clause-write
 returns-in_default-clause-write g c e = absurd cc
@@ -49,6 +58,7 @@ reads-preserved g c =
           c.take-taken.result takes is) written,
       c.in-Ok.ensures.cleared,
       c.read_some.ensures.size ∙ c.reads.invariant.2,
+      c.in-Some.ensures.noted ∙ c.reads.invariant.3,
     )
 
 pub reads-smaller : goal.reads-smaller
