@@ -2,7 +2,7 @@
 ghost use Rattle.std.specs.Prelude.{◌≡◌, true, IfErr, OnOk};
 ghost use Rattle.dg_session.specs.Streams.{passage};
 ghost use Rattle.dg_run.specs.Performed.{LeavesInput, Performs, RefusesToPerform};
-ghost use Rattle.dg_run.specs.Streams.{IsInputFault, IsOutputFault};
+ghost use Rattle.dg_run.specs.Streams.{IsInputFault, IsOutputFault, TellsOfRead};
 
 use crate::fault::Fault;
 use crate::parties::run_party;
@@ -39,6 +39,8 @@ where
         asked.entry fault output.old.contents output.new.contents) }
     ensures left { LeavesInput asked.entry input.old input.new }
     ensures read { IfErr result (λ fault. IsInputFault fault → input.new.has_failed ≡ true) }
+    ensures whole { OnOk result (input.new.has_failed ≡ input.old.has_failed) }
+    ensures noted { IfErr result (λ fault. TellsOfRead fault input.old input.new) }
     ensures write { IfErr result (λ fault. IsOutputFault fault → output.new.has_failed ≡ true) }
 {
     match asked {

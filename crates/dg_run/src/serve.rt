@@ -7,7 +7,7 @@ ghost use Rattle.dg_session.specs.Streams.{passage};
 ghost use Rattle.dg_rank.specs.Ranks.{IsWorkerCount};
 ghost use Rattle.dg_table.specs.Opened.{IsSeatCount};
 ghost use Rattle.dg_run.specs.Sessions.{line_format, session_of, Serves, EndsEarly, IsServed, RefusesServing};
-ghost use Rattle.dg_run.specs.Streams.{IsInputFault, IsOutputFault};
+ghost use Rattle.dg_run.specs.Streams.{IsInputFault, IsOutputFault, TellsOfRead};
 
 use crate::fault::Fault;
 use crate::table_source::load_table;
@@ -41,6 +41,8 @@ where
         (Serves (S.held sources.now) (passage input.old.remaining input.new.remaining) task.now
         output.old.contents output.new.contents) }
     ensures read { IfErr result (λ fault. IsInputFault fault → input.new.has_failed ≡ true) }
+    ensures whole { OnOk result (input.new.has_failed ≡ input.old.has_failed) }
+    ensures noted { IfErr result (λ fault. TellsOfRead fault input.old input.new) }
     ensures write { IfErr result (λ fault. IsOutputFault fault → output.new.has_failed ≡ true) }
     ensures refused { IfErr result
         (λ fault. RefusesServing (S.held sources.now)
@@ -70,6 +72,8 @@ where
         × IsServed (session_of task.now table.now.start table.now.names)
         (passage input.old.remaining input.new.remaining) (passage output.old.contents output.new.contents) (Ok count)) }
     ensures read { IfErr result (λ fault. IsInputFault fault → input.new.has_failed ≡ true) }
+    ensures whole { OnOk result (input.new.has_failed ≡ input.old.has_failed) }
+    ensures noted { IfErr result (λ fault. TellsOfRead fault input.old input.new) }
     ensures write { IfErr result (λ fault. IsOutputFault fault → output.new.has_failed ≡ true) }
     ensures early { IfErr result (λ fault. EndsEarly (session_of task.now table.now.start table.now.names)
         (passage input.old.remaining input.new.remaining) fault (passage output.old.contents output.new.contents)) }
@@ -118,6 +122,8 @@ where
         × IsServed (setup_of how (table_data_of table.now.start seats (length row.cells)) table.now.names workers)
         (passage input.old.remaining input.new.remaining) (passage output.old.contents output.new.contents) (Ok count)) }
     ensures read { IfErr result (λ fault. IsInputFault fault → input.new.has_failed ≡ true) }
+    ensures whole { OnOk result (input.new.has_failed ≡ input.old.has_failed) }
+    ensures noted { IfErr result (λ fault. TellsOfRead fault input.old input.new) }
     ensures write { IfErr result (λ fault. IsOutputFault fault → output.new.has_failed ≡ true) }
     ensures early { IfErr result (λ fault.
         EndsEarly (setup_of how (table_data_of table.now.start seats (length row.cells)) table.now.names workers)
