@@ -5,12 +5,13 @@
 --   rich_small      amounts that add up to at most M, without a debt, are within M
 --   degree-given    what is given to a vertex changes the degree by as much
 --   form_degree     what amounts are fired to has their degree
+--   own_class       who owes nothing is in their own linear system
 --   given_back      dollars given to a vertex are given to what can be fired there
 --   told_by         what repaying tells of amounts it tells of all that are equivalent to them
 --   trial_small     a trial's amounts are at most 1,000
 --   left_small      small amounts less a trial's are small
 --   left_degree     what is left without a trial adds up to no more than before
-use Rattle.dg_rank.proofs.Common.{◌≡◌, ℕ, ◌+◌, ◌*◌, ◌<◌, ◌≤◌, Bool, true, false, List, arith, sym, ap, ◌∙◌, ⊎_elim, slice_index, ◌≤ℤ◌, MatchBool, unsigned_abs, cases_eq, ints, sum, get_or-le-sum_by, ℤ, pos, ◌-ℤ◌, Multigraph, IsMultigraph, Amounts, degree, only_at, IsEffective, IsEffectiveOff, AreEquivalent, IsWinnable, minus, within_abs, abs_within, equivalent-trans, equivalent-degree, degree-only_at, only_at-here, only_at-other, sum_below-one, sum_below-at_most, sum_below-cong, sum_below-add, equivalent-winnable, IsGraph, Vector, at, IsInLinearSystem, amounts_of_trial, length}
+use Rattle.dg_rank.proofs.Common.{◌≡◌, ℕ, ◌+◌, ◌*◌, ◌<◌, ◌≤◌, Bool, true, false, List, arith, refl, sym, ap, ◌∙◌, ⊎_elim, slice_index, ◌≤ℤ◌, MatchBool, unsigned_abs, cases_eq, ints, sum, get_or-le-sum_by, ℤ, pos, ◌-ℤ◌, Multigraph, IsMultigraph, Amounts, degree, only_at, IsEffective, IsEffectiveOff, AreEquivalent, IsWinnable, minus, within_abs, abs_within, equivalent-refl, equivalent-trans, equivalent-degree, degree-only_at, only_at-here, only_at-other, sum_below-one, sum_below-at_most, sum_below-cong, sum_below-add, equivalent-winnable, IsGraph, Vector, at, IsInLinearSystem, amounts_of_trial, length}
 use Rattle.std.proofs.Math.IntN.{◌+ℤ◌}
 
 pub only_at-more : (v k w : ℕ) → pos 0 ≤ℤ only_at v (pos k) w
@@ -50,6 +51,13 @@ degree-given n A B v k below more =
 pub form_degree : (g : Multigraph) (A : Amounts) (x : Vector) → IsMultigraph g → IsInLinearSystem g A x →
     degree g.size (at x) ≡ degree g.size A
 form_degree g A x graph form = sym (equivalent-degree g A (at x) graph form.led)
+
+pub own_class : (g : Multigraph) (x : Vector) → x.size ≡ g.size → IsEffective g.size (at x) → IsInLinearSystem g (at x) x
+own_class g x size rich = record {
+  size = size;
+  effective = rich;
+  led = equivalent-refl g (at x) (at x) (λ v _. refl);
+}
 
 pub given_back : (g : Multigraph) (A B : Amounts) (x y : Vector) (v k : ℕ) → IsInLinearSystem g A x →
     y.size ≡ x.size → ((w : ℕ) → B w ≡ A w +ℤ only_at v (pos k) w) →

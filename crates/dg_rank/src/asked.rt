@@ -106,7 +106,10 @@ pub(crate) fn find_loss_from(
     let sets = &made.sets;
     if sets[place] == 0 {
         let room = box_on(vertices_from(size, place), dollars);
-        if let Ok(found) = find_box_loss(graph, left, &[0; 16], &room, dollars, true, &mut boxes) {
+        let mut best = *left;
+        if let Ok(found) =
+            find_box_loss(graph, &mut best, &[0; 16], &room, dollars, true, &mut boxes)
+        {
             return found;
         }
     }
@@ -120,7 +123,8 @@ pub(crate) fn find_loss_from(
     }
     let room = box_on(made.set_from(graph, place), dollars);
     let twins = made.twins(graph);
-    match find_box_loss(graph, left, &twins, &room, dollars, false, &mut boxes) {
+    let mut best = *left;
+    match find_box_loss(graph, &mut best, &twins, &room, dollars, false, &mut boxes) {
         Ok(found) => found,
         Err(Stopped) => unreachable!(),
     }

@@ -1,5 +1,5 @@
 //! A search for a loss by boxes: at each vertex so much may be taken, and in all so many dollars.
-ghost use Rattle.std.specs.Prelude.{◌≡◌, ℕ, ◌<◌, ◌≤◌, true, pos, ◌≤ℤ◌, MatchOption, MatchResult, slice_index};
+ghost use Rattle.std.specs.Prelude.{◌≡◌, ℕ, ◌<◌, ◌≤◌, ◌⊎◌, true, pos, ◌≤ℤ◌, MatchOption, MatchResult, slice_index};
 ghost use Rattle.std.specs.List.{sum};
 ghost use Rattle.dg_theory.specs.Firing.{only_at, IsEffective};
 ghost use Rattle.dg_theory.specs.Play.{IsWinnable};
@@ -23,7 +23,8 @@ pub(crate) struct Stopped;
 /// A loss in a box: at most so many dollars in all, and at each vertex at most what there is room for, without which what is
 /// left can't be won. `None` if all of the box can be lost. Where each vertex has as much left as may be taken there, they
 /// can. At any other a loss takes more than is left, or no more: the former are searched, and then the box is closed there.
-/// Once a dollar more was taken and paid back, another divisor of the class is at hand: it is taken where it lacks less.
+/// Once a dollar more was taken and paid back, another divisor of the class is at hand, and so is the one with which a search
+/// beyond it has ended: where that promises a shorter search, it becomes `left`.
 ///
 /// Where the box is closed, it may be closed at twins as well: if such an exchange changes neither the graph nor what is
 /// left and may be taken, who loses more at a twin has a mirror image that was searched. Sets of twins may lack some.
@@ -31,22 +32,23 @@ pub(crate) struct Stopped;
 /// A search that stops does so after so many more boxes; the number is counted down.
 pub(crate) fn find_box_loss(
     graph: &Graph,
-    left: &EffectiveDivisor,
+    left: &mut EffectiveDivisor,
     twins: &[u16; 16],
     room: &[u32; 16],
     dollars: u32,
     stops: bool,
     boxes: &mut u32,
 ) -> Result<Option<Trial>, Stopped>
-    requires size { left.now.size ≡ graph.now.size }
-    requires effective { IsEffective graph.now.size (at left.now) }
-    requires small { HasSmallDegree graph.now.size (at left.now) }
+    requires size { left.old.size ≡ graph.now.size }
+    requires effective { IsEffective graph.now.size (at left.old) }
+    requires small { HasSmallDegree graph.now.size (at left.old) }
     requires twins { HaveOnlyTwins graph.now twins.now }
     requires few { dollars ≤ 1000 }
-    ensures { MatchResult result
+    ensures class { IsInLinearSystem graph.now (at left.old) left.new }
+    ensures told { MatchResult result
         (λ found. MatchOption found
-        (BoxWins graph.now (at left.now) room.now dollars)
-        (IsBoxLoss graph.now (at left.now) room.now dollars))
+        (BoxWins graph.now (at left.old) room.now dollars)
+        (IsBoxLoss graph.now (at left.old) room.now dollars))
         (λ _. stops ≡ true) }
 {
     let size = graph.size();
@@ -58,32 +60,55 @@ pub(crate) fn find_box_loss(
     }
     *boxes = boxes.saturating_sub(1);
     let mut open = *room;
-    let mut best = *left;
-    let mut lack = lack_in_box(&best, &open, dollars);
+    let mut lack = lack_in_box(left, &open, dollars);
     'lacking: while let Some(v) = lack.vertex {
-        let held = held_at(&best, v);
+        let held = held_at(left, v);
         let taken = held + 1;
-        let Some(other) = after_loss(graph, &best, v, taken) else {
+        let Some(mut other) = after_loss(graph, left, v, taken) else {
             return Ok(Some(Trial::all_at_last(size, 0).with_more(v, taken)));
         };
         let mut fuller = other;
         fuller.give(v, taken);
         let fewer = lack_in_box(&fuller, &open, dollars);
         if fewer.work < lack.work {
-            best = fuller;
+            *left = fuller;
             lack = fewer;
         } else {
             let mut beyond = open;
             beyond[v] -= taken;
-            match find_box_loss(graph, &other, twins, &beyond, dollars - taken, stops, boxes) {
+            match find_box_loss(graph, &mut other, twins, &beyond, dollars - taken, stops, boxes) {
                 Ok(Some(trial)) => return Ok(Some(trial.with_more(v, taken))),
-                Ok(None) => close_with_twins(graph, &best, twins[v], &mut open, v, held),
+                Ok(None) => close_with_twins(graph, left, twins[v], &mut open, v, held),
                 Err(stopped) => return Err(stopped),
             }
-            lack = lack_in_box(&best, &open, dollars);
+            other.give(v, taken);
+            lack = lack_in_either(left, &other, &open, dollars);
         }
     }
     Ok(None)
+}
+
+/// What is lacking in a box, once another divisor has become `left` if it promises no longer a search.
+fn lack_in_either(
+    left: &mut EffectiveDivisor,
+    other: &EffectiveDivisor,
+    room: &[u32; 16],
+    dollars: u32,
+) -> Lack
+    requires sizes { left.old.size ≡ other.now.size }
+    requires size { left.old.size ≤ 16 }
+    requires effective { IsEffective left.old.size (at left.old) }
+    requires other { IsEffective left.old.size (at other.now) }
+    ensures either { (left.new ≡ left.old) ⊎ (left.new ≡ other.now) }
+    ensures lack { IsLackInBox left.new.size (at left.new) room.now dollars result.vertex }
+{
+    let lack = lack_in_box(left, room, dollars);
+    let fewer = lack_in_box(other, room, dollars);
+    if fewer.work > lack.work {
+        return lack;
+    }
+    *left = *other;
+    fewer
 }
 
 /// Closes a box at a vertex, for all but what that holds; and so at its twins that hold as much and have as much room.
@@ -116,8 +141,8 @@ fn close_with_twins(
     }
 }
 
-/// What is lacking in a box: the last vertex of those that have the most dollars less than may be taken there, if one has less,
-/// and a guess at how long it takes to close the box.
+/// What is lacking in a box: a vertex that has fewer dollars than may be taken there, if there is one, and a guess at how long it
+/// takes to close the box.
 #[derive(Clone, Copy)]
 struct Lack {
     vertex: Option<usize>,
@@ -132,22 +157,25 @@ fn lack_in_box(left: &EffectiveDivisor, room: &[u32; 16], dollars: u32) -> Lack
 {
     let lacks = left.shortfalls(room, dollars);
     let lanes = u32x16::from_array(lacks);
-    // A search at a vertex that lacks some goes on with as many dollars as are beyond what it holds: the more, the longer.
+    let lacking = lanes.simd_gt(u32x16::splat(0));
+    // A search at a vertex goes on with as many dollars as are beyond what it holds: the more, the longer.
     let all = u32x16::splat(dollars);
     let beyond = all - u32x16::from_array(*room).simd_min(all) + lanes;
-    let none = u32x16::splat(0);
-    let longer = beyond * (beyond + all * u32x16::splat(4));
-    let work = lanes.simd_gt(none).select(longer, none).reduce_sum();
-    let most = lanes.simd_eq(u32x16::splat(lanes.reduce_max()));
-    // The last of those that lack most: a loss that holds more there comes earlier among the trials.
-    let v = 63usize.wrapping_sub(most.to_bitmask().leading_zeros() as usize);
-    // No clause of the lanes' greatest says that a vertex has it: so what lacks there is looked at once more.
+    let work = lacking.select(beyond * beyond, u32x16::splat(0)).reduce_sum();
+    // So a vertex that holds most is best; and the last of these, as a loss there comes earlier among the trials.
+    let v = last_of_least(lacking.select(beyond, u32x16::splat(u32::MAX)));
     let vertex = if v < 16 && lacks[v] > 0 {
         Some(v)
     } else {
         lacks.iter().position(|lack| *lack > 0)
     };
     Lack { vertex, work }
+}
+
+/// The place of the least of some numbers, and of several the last. No clause says so, so it serves as a guess.
+fn last_of_least(numbers: u32x16) -> usize {
+    let least = numbers.simd_eq(u32x16::splat(numbers.reduce_min()));
+    63usize.wrapping_sub(least.to_bitmask().leading_zeros() as usize)
 }
 
 /// What is left once so many dollars are taken at a vertex and paid back; `None` if that can't be won.

@@ -64,7 +64,8 @@ pub(crate) fn find_tree_loss(
     };
     let mut boxes = MAX_TRIED_BOXES;
     let narrow = narrowed(room, &losses);
-    match find_box_loss(graph, left, &[0; 16], &narrow, dollars, true, &mut boxes)? {
+    let mut best = *left;
+    match find_box_loss(graph, &mut best, &[0; 16], &narrow, dollars, true, &mut boxes)? {
         Some(trial) => Ok(Some(trial)),
         None => Err(Stopped),
     }

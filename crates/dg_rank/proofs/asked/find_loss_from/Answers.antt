@@ -11,7 +11,7 @@ returns-in-Ok-clause-told c =
       part = rw c.size-size.ensures.size at c.vertices_from.ensures.part;
       all = rw c.size-size.ensures.size at c.vertices_from.ensures.all;
     }))
-    c.box_on-room.ensures c.in-Ok.ensures
+    c.box_on-room.ensures c.in-Ok.ensures.told
 
 pub returns-in-Ok-told-clause-told : goal.returns-in-Ok-told-clause-told
 returns-in-Ok-told-clause-told c =
@@ -30,7 +30,7 @@ returns-clause-told c =
     let g = c.args.graph.now in
     told_from g (at c.args.left.now) c.args.place (in_set c.set_from.result) c.box_on-room-2.result c.args.dollars
     c.in-Ok-find_box_loss.found c.size-size.ensures.graph.few (omega (arith, c.requires.place))
-    c.set_from.ensures.determines c.box_on-room-2.ensures c.in-Ok-find_box_loss.ensures
+    c.set_from.ensures.determines c.box_on-room-2.ensures c.in-Ok-find_box_loss.ensures.told
 
 pub find_box_loss-requires-clause-twins : goal.find_box_loss-requires-clause-twins
 find_box_loss-requires-clause-twins c = no_twins c.args.graph.now c.size-size.ensures.graph.few
