@@ -5,7 +5,6 @@ pub use Rattle.dg_graph.proofs.SetLaws.{in_set-none}
 pub use Rattle.dg_graph.specs.Graph.{IsGraph}
 pub use Rattle.dg_theory.specs.Sets.{IsSubset}
 unfoldable pub use Rattle.dg_graph.specs.Sets.{in_set}
-pub use Rattle.dg_rank.specs.Asked.{IsMadeOf, DeterminesLossesFrom}
 pub use Rattle.dg_rank.specs.Boxes.{BoxWins, HoldsAt, IsBoxLoss, IsFirstLossFrom, IsFirstTrialIf, IsInBox, IsNotBefore, IsTrialFrom, IsLossFrom, TellsFirstIf, TrialsWinFrom, TrialsWinIf}
 pub use Rattle.dg_rank.specs.Divisors.{HoldsTrial, amounts_of_trial}
 pub use Rattle.dg_rank.specs.Ladders.{AnswersRankTest, AreTestAnswers, FailsAfter, MeetsTooMany, PassesBelow, TestsTellRank, TestsTellBoth}
@@ -35,7 +34,6 @@ pub use Rattle.dg_theory.proofs.SumBounds.{sum_below-at_least}
 pub use Rattle.dg_theory.proofs.SumLaws.{sum_below-add, sum_below-cong, sum_below-zero}
 pub use Rattle.dg_theory.proofs.SumSwap.{sum_below-sub}
 pub use Rattle.dg_theory.proofs.Winning.{equivalent-winnable}
-pub use Rattle.dg_theory.specs.Determining.{HasRankAtLeastOn, Determines}
 pub use Rattle.dg_theory.specs.Firing.{DivisorsAgreeOn, Amounts, AreEquivalent, IsEffectiveOff, IsEffective, degree, only_at}
 pub use Rattle.dg_theory.specs.Multigraph.{IsMultigraph, Multigraph, edge_count, edges_between, genus, valence}
 pub use Rattle.dg_theory.specs.Play.{IsWinnable}

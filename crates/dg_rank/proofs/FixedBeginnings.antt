@@ -11,7 +11,7 @@ use Rattle.dg_rank.proofs.Common.{◌≡◌, ◌≢◌, ℕ, ◌+◌, ◌-◌, �
 use Rattle.std.proofs.Math.IntN.{◌+ℤ◌}
 use Rattle.dg_rank.proofs.Elsewhere.{only_at-more, degree-given}
 use Rattle.dg_rank.proofs.TrialLists.{degree-trial}
-use Rattle.dg_rank.proofs.AskedVertices.{rank_from}
+use Rattle.dg_rank.proofs.AnyLoss.{rank_from}
 use Rattle.dg_rank.proofs.FirstFrom.{first_at_last, first_with}
 
 pub loss_few : (g : Multigraph) (A : Amounts) (r d v : ℕ) (E : List ℕ) → IsLossFrom g A r d E → v < g.size →

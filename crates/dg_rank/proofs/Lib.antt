@@ -16,8 +16,8 @@ pub mod FirstFrom
 pub mod FixedBeginnings
 -- The trials from one on.
 pub mod Starts
--- The vertices that are asked.
-pub mod AskedVertices
+-- The search for any loss.
+pub mod AnyLoss
 -- Leaves that are folded.
 pub mod Leaves
 -- Ranks and rank tests by the residual.

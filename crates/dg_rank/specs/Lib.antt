@@ -9,5 +9,4 @@ pub mod Numbering
 pub mod Losses
 pub mod Boxes
 pub mod Trees
-pub mod Asked
 pub mod Pieces

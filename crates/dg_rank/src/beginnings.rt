@@ -3,10 +3,9 @@ ghost use Rattle.std.specs.Prelude.{◌≡◌, ◌<◌, ◌≤◌, MatchOption};
 ghost use Rattle.dg_theory.specs.Firing.{IsEffective};
 ghost use Rattle.dg_chips.specs.Vector.{at};
 ghost use Rattle.dg_rank.specs.Losses.{HasSmallDegree};
-ghost use Rattle.dg_rank.specs.Asked.{IsMadeOf};
 ghost use Rattle.dg_rank.specs.Boxes.{TrialsWinFrom, IsLossFrom, IsFirstLossFrom};
 
-use crate::asked::{Made, find_loss_from};
+use crate::losses::find_loss_from;
 use crate::boxes::after_loss;
 use crate::enumeration::Trial;
 use dg_graph::Graph;
@@ -15,7 +14,6 @@ use dg_reduce::EffectiveDivisor;
 /// The first loss of the trials of a degree that hold nothing before a place; `None` if all win.
 pub(crate) fn find_first_from(
     graph: &Graph,
-    made: &mut Made,
     left: &EffectiveDivisor,
     dollars: u32,
     place: usize,
@@ -25,23 +23,20 @@ pub(crate) fn find_first_from(
     requires small { HasSmallDegree graph.now.size (at left.now) }
     requires few { dollars ≤ 1000 }
     requires place { place < graph.now.size }
-    requires made { IsMadeOf graph.now made.old }
-    ensures made { IsMadeOf graph.now made.new }
-    ensures first { MatchOption result
+    ensures { MatchOption result
         (TrialsWinFrom graph.now (at left.now) dollars place)
         (IsFirstLossFrom graph.now (at left.now) dollars place) }
 {
-    let Some(known) = find_loss_from(graph, left, made, dollars, place) else {
+    let Some(known) = find_loss_from(graph, left, dollars, place) else {
         return None;
     };
-    Some(first_loss_from(graph, made, left, dollars, place, known))
+    Some(first_loss_from(graph, left, dollars, place, known))
 }
 
 /// The first loss of the trials of a degree that hold nothing before a place, if a loss of at most that degree is known
 /// among these: the amounts are fixed from the first on, at each place the least with which there is a loss of the later ones.
 fn first_loss_from(
     graph: &Graph,
-    made: &mut Made,
     left: &EffectiveDivisor,
     dollars: u32,
     place: usize,
@@ -52,10 +47,8 @@ fn first_loss_from(
     requires small { HasSmallDegree graph.now.size (at left.now) }
     requires few { dollars ≤ 1000 }
     requires place { place < graph.now.size }
-    requires made { IsMadeOf graph.now made.old }
     requires known { IsLossFrom graph.now (at left.now) dollars place known }
-    ensures made { IsMadeOf graph.now made.new }
-    ensures first { IsFirstLossFrom graph.now (at left.now) dollars place result }
+    ensures { IsFirstLossFrom graph.now (at left.now) dollars place result }
 {
     let size = graph.size();
     if place + 1 == size {
@@ -63,15 +56,15 @@ fn first_loss_from(
     }
     let held = known.get(place);
     if held == 0 {
-        return first_loss_from(graph, made, left, dollars, place + 1, known);
+        return first_loss_from(graph, left, dollars, place + 1, known);
     }
-    if let Some(later) = find_loss_from(graph, left, made, dollars, place + 1) {
-        return first_loss_from(graph, made, left, dollars, place + 1, later);
+    if let Some(later) = find_loss_from(graph, left, dollars, place + 1) {
+        return first_loss_from(graph, left, dollars, place + 1, later);
     }
     let Some(other) = after_loss(graph, left, place, 1) else {
         return Trial::all_at_last(size, dollars - 1).with_more(place, 1);
     };
     let mut fewer = known;
     fewer.set(place, held - 1);
-    first_loss_from(graph, made, &other, dollars - 1, place, fewer).with_more(place, 1)
+    first_loss_from(graph, &other, dollars - 1, place, fewer).with_more(place, 1)
 }

@@ -7,11 +7,10 @@ ghost use Rattle.dg_theory.specs.Firing.{degree};
 ghost use Rattle.dg_theory.specs.Rank.{minus, canonical, HasRankAtLeast};
 ghost use Rattle.dg_graph.specs.Graph.{IsGraph};
 ghost use Rattle.dg_chips.specs.Vector.{at};
-ghost use Rattle.dg_rank.specs.Asked.{IsMadeOf};
 ghost use Rattle.dg_rank.specs.declared.duals.TheConstants.{MAX_DIFFERENCE};
 ghost use Rattle.dg_rank.specs.Losses.{AreSmallAmounts};
 
-use crate::asked::{Made, find_loss_from};
+use crate::losses::find_loss_from;
 use crate::enumeration::Trial;
 use crate::first_loss::effective_with;
 use dg_chips::{Divisor, Wide};
@@ -22,8 +21,8 @@ use dg_reduce::InverseLaplacian;
 pub(crate) const MAX_DIFFERENCE: u32 = 17_000_000;
 
 /// Whether the rank of a divisor is at least k: whether every effective divisor of degree k can be lost and the rest still
-/// won. The test is made of the divisor or of its residual, if that has fewer dollars to take, and on a determining set of
-/// vertices. It has no limit, and may take long on a graph of many edges.
+/// won. The test is made of the divisor or of its residual, if that has fewer dollars to take. It has no limit, and may take long
+/// on a graph of many edges.
 pub fn has_rank_at_least(graph: &Graph, divisor: &Divisor, k: u32) -> bool
     requires size { divisor.now.size ≡ graph.now.size }
     requires some { 0 < graph.now.size }
@@ -32,31 +31,28 @@ pub fn has_rank_at_least(graph: &Graph, divisor: &Divisor, k: u32) -> bool
         (¬ HasRankAtLeast graph.now (at divisor.now) k) }
 {
     let _size = graph.size();
-    has_rank_at_least_by(graph, None, &mut Made::nothing(), divisor, k)
+    has_rank_at_least_by(graph, None, divisor, k)
 }
 
-/// What `has_rank_at_least` answers, with any inverse or none. The determining sets that were made for the graph are kept.
+/// What `has_rank_at_least` answers, with any inverse or none.
 pub(crate) fn has_rank_at_least_by(
     graph: &Graph,
     inverse: Option<&InverseLaplacian>,
-    made: &mut Made,
     divisor: &Divisor,
     k: u32,
 ) -> bool
     requires size { divisor.now.size ≡ graph.now.size }
     requires some { 0 < graph.now.size }
-    requires made { IsMadeOf graph.now made.old }
-    ensures made { IsMadeOf graph.now made.new }
-    ensures tells { MatchBool result
+    ensures { MatchBool result
         (HasRankAtLeast graph.now (at divisor.now) k)
         (¬ HasRankAtLeast graph.now (at divisor.now) k) }
 {
     let _size = graph.size();
     // The clause of `size` says that the amounts are within their limit.
     let _amounts = divisor.size();
-    match passes_unasked(graph, inverse, made, divisor, k) {
+    match passes_unasked(graph, inverse, divisor, k) {
         Some(passes) => passes,
-        None => all_trials_win(graph, inverse, made, &Wide::of(divisor), k),
+        None => all_trials_win(graph, inverse, &Wide::of(divisor), k),
     }
 }
 
@@ -73,15 +69,12 @@ pub(crate) fn remaining_degree(divisor: &Divisor, k: u32) -> i64
 pub(crate) fn passes_unasked(
     graph: &Graph,
     inverse: Option<&InverseLaplacian>,
-    made: &mut Made,
     divisor: &Divisor,
     k: u32,
 ) -> Option<bool>
     requires size { divisor.now.size ≡ graph.now.size }
     requires some { 0 < graph.now.size }
-    requires made { IsMadeOf graph.now made.old }
-    ensures made { IsMadeOf graph.now made.new }
-    ensures tells { MatchOption result
+    ensures { MatchOption result
         (k ≤ 1000)
         (λ passes. MatchBool passes
         (HasRankAtLeast graph.now (at divisor.now) k)
@@ -99,7 +92,7 @@ pub(crate) fn passes_unasked(
     if k <= other {
         return None;
     }
-    Some(all_trials_win(graph, inverse, made, &dual_amounts(graph, divisor), other))
+    Some(all_trials_win(graph, inverse, &dual_amounts(graph, divisor), other))
 }
 
 /// The degree at which the residual passes its test exactly if the divisor passes the test of degree k.
@@ -145,7 +138,6 @@ pub(crate) fn dual_amounts(graph: &Graph, divisor: &Divisor) -> Wide
 fn all_trials_win(
     graph: &Graph,
     inverse: Option<&InverseLaplacian>,
-    made: &mut Made,
     amounts: &Wide,
     k: u32,
 ) -> bool
@@ -154,15 +146,13 @@ fn all_trials_win(
     requires size { amounts.now.size ≡ graph.now.size }
     requires range { AreSmallAmounts graph.now.size (at amounts.now) }
     requires few { k ≤ 1000 }
-    requires made { IsMadeOf graph.now made.old }
-    ensures made { IsMadeOf graph.now made.new }
-    ensures told { MatchBool result
+    ensures { MatchBool result
         (HasRankAtLeast graph.now (at amounts.now) k)
         (¬ HasRankAtLeast graph.now (at amounts.now) k) }
 {
     let first = Trial::all_at_last(graph.size(), k);
     match effective_with(graph, inverse, amounts, &first) {
-        Some(left) => find_loss_from(graph, &left, made, k, 0).is_none(),
+        Some(left) => find_loss_from(graph, &left, k, 0).is_none(),
         None => false,
     }
 }

@@ -4,13 +4,11 @@ ghost use Rattle.std.specs.List.{sum};
 ghost use Rattle.dg_theory.specs.Firing.{IsEffective};
 ghost use Rattle.dg_graph.specs.Graph.{IsGraph};
 ghost use Rattle.dg_chips.specs.Vector.{at};
-ghost use Rattle.dg_rank.specs.Asked.{IsMadeOf};
 ghost use Rattle.dg_rank.specs.Boxes.{IsTrialFrom, TellsFirstIf, IsNotBefore, HoldsAt};
 ghost use Rattle.dg_rank.specs.Divisors.{amounts_of_trial};
 ghost use Rattle.dg_rank.specs.Losses.{AreSmallAmounts, HasSmallDegree, WinsWithout, IsFewDivisor};
 ghost use Rattle.dg_rank.specs.Trials.{IsTrial};
 
-use crate::asked::Made;
 use crate::beginnings::find_first_from;
 use crate::boxes::after_loss;
 use crate::enumeration::Trial;
@@ -22,7 +20,6 @@ use dg_reduce::{EffectiveDivisor, InverseLaplacian, reduce_certified};
 pub(crate) fn first_loss(
     graph: &Graph,
     inverse: Option<&InverseLaplacian>,
-    made: &mut Made,
     chips: &Wide,
     k: u32,
     start: Trial,
@@ -31,13 +28,11 @@ pub(crate) fn first_loss(
     requires size { chips.now.size ≡ graph.now.size }
     requires range { AreSmallAmounts graph.now.size (at chips.now) }
     requires few { k ≤ 1000 }
-    requires made { IsMadeOf graph.now made.old }
     requires start { IsTrial graph.now.size k start }
-    ensures made { IsMadeOf graph.now made.new }
-    ensures first { TellsFirstIf graph.now (at chips.now) k 0 (IsNotBefore graph.now.size start) result }
+    ensures { TellsFirstIf graph.now (at chips.now) k 0 (IsNotBefore graph.now.size start) result }
 {
     match effective_with(graph, inverse, chips, &start) {
-        Some(left) => first_loss_on(graph, made, &left, k, 0, start),
+        Some(left) => first_loss_on(graph, &left, k, 0, start),
         None => Some(start),
     }
 }
@@ -46,7 +41,6 @@ pub(crate) fn first_loss(
 /// its last place, it is the first of these. Else those that hold as much at the place come first, and then those that hold more.
 fn first_loss_on(
     graph: &Graph,
-    made: &mut Made,
     left: &EffectiveDivisor,
     dollars: u32,
     place: usize,
@@ -57,15 +51,13 @@ fn first_loss_on(
     requires small { HasSmallDegree graph.now.size (at left.now) }
     requires few { dollars ≤ 1000 }
     requires place { place < graph.now.size }
-    requires made { IsMadeOf graph.now made.old }
     requires places { length start ≡ graph.now.size }
     requires start { IsTrialFrom graph.now.size dollars place (amounts_of_trial start) }
-    ensures made { IsMadeOf graph.now made.new }
-    ensures first { TellsFirstIf graph.now (at left.now) dollars place (IsNotBefore graph.now.size start) result }
+    ensures { TellsFirstIf graph.now (at left.now) dollars place (IsNotBefore graph.now.size start) result }
 {
     let size = graph.size();
     if start.get(size - 1) == dollars {
-        return find_first_from(graph, made, left, dollars, place);
+        return find_first_from(graph, left, dollars, place);
     }
     let held = start.get(place);
     let Some(rest) = after_loss(graph, left, place, held) else {
@@ -73,16 +65,15 @@ fn first_loss_on(
     };
     let mut later = start;
     later.set(place, 0);
-    match first_loss_on(graph, made, &rest, dollars - held, place + 1, later) {
+    match first_loss_on(graph, &rest, dollars - held, place + 1, later) {
         Some(loss) => Some(loss.with_more(place, held)),
-        None => first_loss_above(graph, made, left, dollars, place, held + 1),
+        None => first_loss_above(graph, left, dollars, place, held + 1),
     }
 }
 
 /// The first loss of the trials that hold nothing before a place and so much at least there; `None` if these all win.
 fn first_loss_above(
     graph: &Graph,
-    made: &mut Made,
     left: &EffectiveDivisor,
     dollars: u32,
     place: usize,
@@ -93,9 +84,7 @@ fn first_loss_above(
     requires small { HasSmallDegree graph.now.size (at left.now) }
     requires few { dollars ≤ 1000 }
     requires place { place < graph.now.size }
-    requires made { IsMadeOf graph.now made.old }
-    ensures made { IsMadeOf graph.now made.new }
-    ensures first { TellsFirstIf graph.now (at left.now) dollars place (HoldsAt place least) result }
+    ensures { TellsFirstIf graph.now (at left.now) dollars place (HoldsAt place least) result }
 {
     if least > dollars {
         return None;
@@ -104,7 +93,7 @@ fn first_loss_above(
     let Some(other) = after_loss(graph, left, place, least) else {
         return Some(Trial::all_at_last(size, dollars - least).with_more(place, least));
     };
-    match find_first_from(graph, made, &other, dollars - least, place) {
+    match find_first_from(graph, &other, dollars - least, place) {
         Some(loss) => Some(loss.with_more(place, least)),
         None => None,
     }

@@ -2,7 +2,6 @@
 //! threads of `rank_with`.
 #![tactic(auto)]
 
-mod asked;
 mod beginnings;
 mod boxes;
 mod counting;
@@ -10,6 +9,7 @@ mod duals;
 mod enumeration;
 mod first_loss;
 mod laws;
+mod losses;
 mod numbers;
 mod pieces;
 mod rank_fault;

@@ -6,13 +6,12 @@ ghost use Rattle.dg_theory.specs.Firing.{IsEffective};
 ghost use Rattle.dg_theory.specs.Rank.{HasRankAtLeast};
 ghost use Rattle.dg_graph.specs.Graph.{IsGraph};
 ghost use Rattle.dg_chips.specs.Vector.{at};
-ghost use Rattle.dg_rank.specs.Asked.{IsMadeOf};
 ghost use Rattle.dg_rank.specs.Limits.{IsPastLimits};
 ghost use Rattle.dg_rank.specs.Losses.{AreSmallAmounts, HasSmallDegree};
 ghost use Rattle.dg_rank.specs.declared.duals.TheConstants.{MAX_DIFFERENCE};
 ghost use Rattle.dg_rank.specs.Ranks.{AreBothRanks, IsTestedRank, AreTestedRanks, NeedsTooMany, EitherNeedsMore, FailsFirstAt, IsLesserSide, IsTestable};
 
-use crate::asked::{Made, find_loss_from};
+use crate::losses::find_loss_from;
 use crate::counting::trials;
 use crate::duals::{dual_amounts, dual_test_degree, rank_difference};
 use crate::enumeration::Trial;
@@ -166,28 +165,26 @@ fn first_failing(
 {
     let nothing = Trial::all_at_last(graph.size(), 0);
     match effective_with(graph, inverse, amounts, &nothing) {
-        Some(left) => least_loss(graph, &mut Made::nothing(), &left, most),
+        Some(left) => least_loss(graph, &left, most),
         None => Some(0),
     }
 }
 
 /// The least degree of a loss of at most so many dollars; `None` if each such loss can be borne. Each loss that is found
 /// leaves fewer dollars to ask for, so few searches end with one that finds none.
-fn least_loss(graph: &Graph, made: &mut Made, left: &EffectiveDivisor, most: u32) -> Option<u32>
+fn least_loss(graph: &Graph, left: &EffectiveDivisor, most: u32) -> Option<u32>
     requires some { 0 < graph.now.size }
     requires size { left.now.size ≡ graph.now.size }
     requires effective { IsEffective graph.now.size (at left.now) }
     requires small { HasSmallDegree graph.now.size (at left.now) }
     requires few { most ≤ 1000 }
-    requires made { IsMadeOf graph.now made.old }
-    ensures made { IsMadeOf graph.now made.new }
-    ensures least { MatchOption result
+    ensures { MatchOption result
         (HasRankAtLeast graph.now (at left.now) most)
         (λ k. (k ≤ most) × FailsFirstAt graph.now (at left.now) k) }
 {
-    let loss = find_loss_from(graph, left, made, most, 0)?;
+    let loss = find_loss_from(graph, left, most, 0)?;
     let dollars = loss.to_divisor().degree() as u32;
-    match least_loss(graph, made, left, dollars - 1) {
+    match least_loss(graph, left, dollars - 1) {
         Some(fewer) => Some(fewer),
         None => Some(dollars),
     }

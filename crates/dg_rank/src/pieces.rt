@@ -5,7 +5,6 @@ ghost use Rattle.dg_rank.specs.declared.pieces.Search.{Search};
 ghost use Rattle.dg_rank.specs.Ranks.{IsWorkerCount};
 ghost use Rattle.dg_rank.specs.declared.rank_fault.RankFault.TheVariants.{Spawn};
 
-use crate::asked::Made;
 use crate::enumeration::Trial;
 use crate::first_loss::first_loss;
 use crate::rank_fault::RankFault;
@@ -113,7 +112,7 @@ fn first_loss_between(search: &Search, from: u32, to: u32) -> Option<Trial>
     let (graph, k) = (&search.graph, search.k);
     let size = graph.size();
     let start = Trial::nth(size, k, from);
-    let loss = first_loss(graph, None, &mut Made::nothing(), &search.chips, k, start)?;
+    let loss = first_loss(graph, None, &search.chips, k, start)?;
     if to < search.count && !loss.is_before(&Trial::nth(size, k, to)) {
         return None;
     }

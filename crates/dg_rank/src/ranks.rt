@@ -9,7 +9,6 @@ ghost use Rattle.dg_verdict.specs.RankTests.{IsRightRank};
 ghost use Rattle.dg_rank.specs.Ladders.{AnswersRankTest};
 ghost use Rattle.dg_rank.specs.Ranks.{IsTestable};
 
-use crate::asked::Made;
 use crate::counting::trials;
 use crate::duals::{passes_unasked, remaining_degree};
 use crate::enumeration::Trial;
@@ -76,12 +75,11 @@ fn rank_by_trials(
     let size = graph.size();
     // The clause of `size` says that the amounts are within their limit.
     let _amounts = divisor.size();
-    let mut made = Made::nothing();
-    if let Some(true) = passes_unasked(graph, inverse, &mut made, divisor, k) {
+    if let Some(true) = passes_unasked(graph, inverse, divisor, k) {
         return RankVerdict::AtLeast(k);
     }
     let first = Trial::all_at_last(size, k);
-    let loss = first_loss(graph, inverse, &mut made, &Wide::of(divisor), k, first);
+    let loss = first_loss(graph, inverse, &Wide::of(divisor), k, first);
     verdict_of_loss(k, loss)
 }
 

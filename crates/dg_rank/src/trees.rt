@@ -13,11 +13,10 @@ ghost use Rattle.dg_rank.specs.Losses.{HasSmallDegree};
 ghost use Rattle.dg_rank.specs.Boxes.{BoxWins, IsBoxLoss};
 ghost use Rattle.dg_rank.specs.Trees.{worth, IsLeaf, IsOnlyIn, AreFolded, RowsWin, IsJoined, IsRounded};
 
-use crate::asked::vertices_from;
 use crate::boxes::{Stopped, find_box_loss};
 use crate::enumeration::Trial;
 use dg_graph::{
-    Graph, MAX_VERTICES, contains, intersection, least_vertex, with_vertex, without_vertex,
+    Graph, MAX_VERTICES, complement, contains, intersection, least_vertex, with_vertex, without_vertex,
 };
 use dg_reduce::EffectiveDivisor;
 
@@ -54,7 +53,7 @@ pub(crate) fn find_tree_loss(
     let mut rows = unfolded_rows(left, room, dollars as usize);
     let told = fold_leaves(
         graph,
-        vertices_from(size, 0),
+        complement(size, 0),
         size - 1,
         &mut rows,
         dollars as usize,

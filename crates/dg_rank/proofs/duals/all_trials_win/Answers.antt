@@ -15,12 +15,12 @@ pub effective_with-requires-clause-few : goal.effective_with-requires-clause-few
 effective_with-requires-clause-few c =
     omega (arith, (first (goal.at.effective_with-requires-clause-few c).After-all_at_last-first).amount, c.requires.few)
 
-pub returns-in-Some-clause-told : goal.returns-in-Some-clause-told
-returns-in-Some-clause-told c =
+pub returns-in-Some : goal.returns-in-Some
+returns-in-Some c =
     all_told c.is_none.result c.find_loss_from.result c.args.graph.now (at c.args.amounts.now) (at c.in-Some.left) c.args.k
-    c.requires.some c.in-Some.ensures.form.led c.is_none.ensures c.find_loss_from.ensures.told
+    c.requires.some c.in-Some.ensures.form.led c.is_none.ensures c.find_loss_from.ensures
 
-pub returns-in-None-clause-told : goal.returns-in-None-clause-told
-returns-in-None-clause-told c =
+pub returns-in-None : goal.returns-in-None
+returns-in-None c =
     lost_at_last c.args.graph.now (at c.args.amounts.now) c.args.k c.all_at_last-first.result
-    (first (goal.at.returns-in-None-clause-told c).After-all_at_last-first) c.in-None.ensures
+    (first (goal.at.returns-in-None c).After-all_at_last-first) c.in-None.ensures

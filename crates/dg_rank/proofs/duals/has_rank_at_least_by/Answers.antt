@@ -7,11 +7,11 @@ all_trials_win-requires-clause-range c v inside =
     let below : v < c.args.divisor.now.size = omega (arith, c.requires.size) in
     omega (arith, ints, c.of.ensures.amounts v below, c.size-amounts.ensures.divisor.within v below)
 
-pub returns-in-None-clause-tells : goal.returns-in-None-clause-tells
-returns-in-None-clause-tells c =
+pub returns-in-None : goal.returns-in-None
+returns-in-None c =
     let g = c.args.graph.now in
     decided c.all_trials_win.result
     (equivalent-rank g (at c.of.result) (at c.args.divisor.now) c.args.k
     (equivalent-refl g (at c.of.result) (at c.args.divisor.now)
     (λ v inside. c.of.ensures.amounts v (omega (arith, c.requires.size)))))
-    c.all_trials_win.ensures.told
+    c.all_trials_win.ensures

@@ -23,13 +23,13 @@ step c = record {
   other = rw c.get-held.ensures at c.in-Some.ensures.led;
 }
 
-pub returns-then-get-dollars-clause-first : goal.returns-then-get-dollars-clause-first
-returns-then-get-dollars-clause-first t c =
+pub returns-then-get-dollars : goal.returns-then-get-dollars
+returns-then-get-dollars t c =
     let n = c.args.graph.now.size in
     let held : slice_index c.args.start (n - 1) ≡ c.args.dollars =
     omega (arith, rw c.size-size.ensures.size at c.get.ensures, c.if-get-dollars.true) in
     told_on c.args.graph.now (at c.args.left.now) c.args.dollars c.args.place c.args.start c.find_first_from.result
-    (λ F from. on_all n c.args.dollars c.args.place c.args.start F held c.requires.start from) c.find_first_from.ensures.first
+    (λ F from. on_all n c.args.dollars c.args.place c.args.start F held c.requires.start from) c.find_first_from.ensures
 
 pub after_loss-requires-clause-taken : goal.after_loss-requires-clause-taken
 after_loss-requires-clause-taken t c =
@@ -40,8 +40,8 @@ after_loss-requires-clause-taken t c =
       c.requires.few,
     )
 
-pub returns-in_default-clause-first : goal.returns-in_default-clause-first
-returns-in_default-clause-first t c =
+pub returns-in_default : goal.returns-in_default
+returns-in_default t c =
     start_lost c.args.graph.now (at c.args.left.now) c.args.dollars c.args.place c.args.start c.requires.places c.requires.start
     (some_lost c.args.graph.now (at c.args.left.now) c.args.place c.args.start (rw c.get-held.ensures at c.in_default.ensures))
 
@@ -67,11 +67,8 @@ first_loss_on-requires t c =
               (
                 next,
                 (
-                  c.requires.made,
-                  (
-                    rw c.set.ensures (length-set c.args.start c.args.place 0 ∙ c.requires.places),
-                    rw (c.set.ensures, c.get-held.ensures) (start_later (step (goal.at.first_loss_on-requires t c).In-Some)),
-                  ),
+                  rw c.set.ensures (length-set c.args.start c.args.place 0 ∙ c.requires.places),
+                  rw (c.set.ensures, c.get-held.ensures) (start_later (step (goal.at.first_loss_on-requires t c).In-Some)),
                 ),
               ),
             ),
@@ -88,15 +85,15 @@ pub overflow_add-held : goal.overflow_add-held
 overflow_add-held t c =
     omega (arith, few (goal.at.overflow_add-held t c).After-get-held, c.get-held.ensures, c.requires.few)
 
-pub returns-in-Some-first_loss_on-clause-first : goal.returns-in-Some-first_loss_on-clause-first
-returns-in-Some-first_loss_on-clause-first t c =
-    loss_later (step (goal.at.returns-in-Some-first_loss_on-clause-first t c).In-Some) c.in-Some-first_loss_on.loss
-    c.with_more.result (rw (c.set.ensures, c.get-held.ensures) at c.in-Some-first_loss_on.ensures.first)
+pub returns-in-Some-first_loss_on : goal.returns-in-Some-first_loss_on
+returns-in-Some-first_loss_on t c =
+    loss_later (step (goal.at.returns-in-Some-first_loss_on t c).In-Some) c.in-Some-first_loss_on.loss
+    c.with_more.result (rw (c.set.ensures, c.get-held.ensures) at c.in-Some-first_loss_on.ensures)
     (rw c.get-held.ensures at c.with_more.ensures)
 
-pub returns-in-None-clause-first : goal.returns-in-None-clause-first
-returns-in-None-clause-first t c =
+pub returns-in-None : goal.returns-in-None
+returns-in-None t c =
     told_above c.args.graph.now (at c.args.left.now) (at c.in-Some.rest) c.args.dollars c.args.place c.args.start
-    c.first_loss_above.result (step (goal.at.returns-in-None-clause-first t c).In-Some)
-    (rw (c.set.ensures, c.get-held.ensures) at c.in-None.ensures.first)
-    (rw c.get-held.ensures at c.first_loss_above.ensures.first)
+    c.first_loss_above.result (step (goal.at.returns-in-None t c).In-Some)
+    (rw (c.set.ensures, c.get-held.ensures) at c.in-None.ensures)
+    (rw c.get-held.ensures at c.first_loss_above.ensures)

@@ -3,12 +3,12 @@ use Rattle.dg_rank.proofs.FirstFrom.{first_above, first_at_last, from_few, held_
 use Rattle.dg_rank.proofs.LossBoxes.{taken_small}
 use Rattle.dg_rank.proofs.first_loss.first_loss_above.Goals as goal
 
-pub returns-then-least-dollars-clause-first : goal.returns-then-least-dollars-clause-first
-returns-then-least-dollars-clause-first c F from held = absurd (omega
+pub returns-then-least-dollars : goal.returns-then-least-dollars
+returns-then-least-dollars c F from held = absurd (omega
     (arith, ints, held, from_few c.args.graph.now.size c.args.dollars c.args.place c.args.place F from c.requires.place))
 
-pub returns-in_default-clause-first : goal.returns-in_default-clause-first
-returns-in_default-clause-first c =
+pub returns-in_default : goal.returns-in_default
+returns-in_default c =
     let g = c.args.graph.now in
     let B = minus (at c.args.left.now) (only_at c.args.place (pos c.args.least)) in
     let T = c.all_at_last.result in
@@ -30,19 +30,19 @@ with_more-requires-in-Some-find_first_from-clause-few c =
     omega (
       arith,
       held_few c.args.graph.now (at c.in-Some.other) (c.args.dollars - c.args.least) c.args.place c.args.place
-          c.in-Some-find_first_from.loss c.in-Some-find_first_from.ensures.first c.requires.place,
+          c.in-Some-find_first_from.loss c.in-Some-find_first_from.ensures c.requires.place,
       c.requires.few,
     )
 
-pub returns-in-Some-find_first_from-clause-first : goal.returns-in-Some-find_first_from-clause-first
-returns-in-Some-find_first_from-clause-first c =
+pub returns-in-Some-find_first_from : goal.returns-in-Some-find_first_from
+returns-in-Some-find_first_from c =
     first_above c.args.graph.now (at c.args.left.now) (at c.in-Some.other) c.args.dollars c.args.place c.args.least
     c.in-Some-find_first_from.loss c.with_more-in-Some-find_first_from.result c.requires.place
-    (omega (arith, c.if-least-dollars.false)) c.in-Some.ensures.led c.in-Some-find_first_from.ensures.first
+    (omega (arith, c.if-least-dollars.false)) c.in-Some.ensures.led c.in-Some-find_first_from.ensures
     c.with_more-in-Some-find_first_from.ensures
 
-pub returns-in-None-clause-first : goal.returns-in-None-clause-first
-returns-in-None-clause-first c F from held =
+pub returns-in-None : goal.returns-in-None
+returns-in-None c F from held =
     wins_other c.args.graph.now (at c.args.left.now) (at c.in-Some.other) F c.args.place c.args.least c.in-Some.ensures.led
-    (c.in-None.ensures.first _
+    (c.in-None.ensures _
     (some_less c.args.graph.now.size c.args.dollars c.args.place c.args.least F from c.requires.place held))

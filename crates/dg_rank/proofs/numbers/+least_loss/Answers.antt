@@ -6,7 +6,7 @@ use Rattle.dg_rank.proofs.numbers.+least_loss.Goals.{After-degree-dollars}
 
 pub to_divisor-requires : goal.to_divisor-requires
 to_divisor-requires t c =
-    let loss = c.in_ok-loss.ensures.told in
+    let loss = c.in_ok-loss.ensures in
     omega (
       arith,
       ints,
@@ -21,7 +21,7 @@ counted : (t : ℕ) (c : After-degree-dollars t) →
     (¬ HasRankAtLeast c.args.graph.now (at c.args.left.now) (cast c.degree-dollars.result))
 counted t c =
     loss_counted c.args.graph.now (at c.args.left.now) c.args.most c.in_ok-loss.loss c.to_divisor.result c.degree-dollars.result
-    c.requires.few c.requires.effective c.in_ok-loss.ensures.told c.to_divisor.ensures c.degree-dollars.ensures
+    c.requires.few c.requires.effective c.in_ok-loss.ensures c.to_divisor.ensures c.degree-dollars.ensures
 
 pub overflow_cast-dollars : goal.overflow_cast-dollars
 overflow_cast-dollars t c =
@@ -41,19 +41,19 @@ least_loss-requires t c =
           c.requires.size,
           (
             c.requires.effective,
-            (c.requires.small, (omega (arith, few, c.requires.few), c.find_loss_from.ensures.made)),
+            (c.requires.small, omega (arith, few, c.requires.few)),
           ),
         ),
       ),
     )
 
-pub returns-in-Some-clause-least : goal.returns-in-Some-clause-least
-returns-in-Some-clause-least t c =
-    let (_, _, some, few, _) = counted t (goal.at.returns-in-Some-clause-least t c).After-degree-dollars in
-    let least = c.in-Some.ensures.least in
+pub returns-in-Some : goal.returns-in-Some
+returns-in-Some t c =
+    let (_, _, some, few, _) = counted t (goal.at.returns-in-Some t c).After-degree-dollars in
+    let least = c.in-Some.ensures in
     (omega (arith, some, few, least.0), least.1)
 
-pub returns-in-None-clause-least : goal.returns-in-None-clause-least
-returns-in-None-clause-least t c =
-    let (_, _, _, few, fails) = counted t (goal.at.returns-in-None-clause-least t c).After-degree-dollars in
-    (few, least_fails c.args.graph.now (at c.args.left.now) _ c.in-None.ensures.least fails)
+pub returns-in-None : goal.returns-in-None
+returns-in-None t c =
+    let (_, _, _, few, fails) = counted t (goal.at.returns-in-None t c).After-degree-dollars in
+    (few, least_fails c.args.graph.now (at c.args.left.now) _ c.in-None.ensures fails)

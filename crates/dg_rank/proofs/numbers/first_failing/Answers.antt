@@ -18,7 +18,7 @@ effective_with-requires-clause-few c =
 pub returns-in-Some : goal.returns-in-Some
 returns-in-Some c =
     told_on c.least_loss.result c.args.graph.now (at c.args.amounts.now) (at c.in-Some.left) c.args.most
-    c.in-Some.ensures.form.led c.least_loss.ensures.least
+    c.in-Some.ensures.form.led c.least_loss.ensures
 
 pub returns-in-None : goal.returns-in-None
 returns-in-None c = (

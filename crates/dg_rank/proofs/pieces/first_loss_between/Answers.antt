@@ -29,12 +29,12 @@ returns-in_err-loss c =
     let s = c.args.search.now in
     let d = (goal.at.returns-in_err-loss c).After-nth-start in
     rw c.from_residual.ensures (piece_wins s.graph (at s.chips) s.k s.count c.args.from (limits d) (inside d) c.args.to
-    c.requires.within (rw (start d) at c.in_err-loss.ensures.first))
+    c.requires.within (rw (start d) at c.in_err-loss.ensures))
 
 first : (c : In_ok-loss) → IsFirstTrialIf c.args.search.now.graph (at c.args.search.now.chips) c.args.search.now.k 0
     (IsNotBefore c.args.search.now.graph.size (nth_trial c.args.search.now.graph.size c.args.search.now.k c.args.from))
     c.in_ok-loss.loss
-first c = rw (start (goal.at.In_ok-loss c).After-nth-start) at c.in_ok-loss.ensures.first
+first c = rw (start (goal.at.In_ok-loss c).After-nth-start) at c.in_ok-loss.ensures
 
 pub is_before-requires : goal.is_before-requires
 is_before-requires c =

@@ -8,11 +8,7 @@ use Rattle.dg_rank.proofs.ranks.rank_by_trials.Goals.{After-all_at_last-first, A
 pub passes_unasked-requires : goal.passes_unasked-requires
 passes_unasked-requires c =
     let (count, within) = c.requires.limits in
-    record {
-      size = c.requires.size;
-      some = within.some;
-      made = c.nothing-made.ensures c.args.graph.now within.few;
-    }
+    record { size = c.requires.size; some = within.some; }
 
 held : (c : After-all_at_last-first) → slice_index c.all_at_last-first.result (c.args.graph.now.size - 1) ≡ c.args.k
 held c = rw c.size-size.ensures.size at c.all_at_last-first.ensures.held
@@ -46,7 +42,7 @@ found c =
     let g = c.args.graph.now in
     let S = c.all_at_last-first.result in
     all_told g (at c.of.result) c.args.k 0 S c.first_loss-loss.result
-    (λ F from. on_all g.size c.args.k 0 S F (held d) (first d) from) c.first_loss-loss.ensures.first
+    (λ F from. on_all g.size c.args.k 0 S F (held d) (first d) from) c.first_loss-loss.ensures
 
 pub verdict_of_loss-requires : goal.verdict_of_loss-requires
 verdict_of_loss-requires c =

@@ -1,5 +1,5 @@
 use Rattle.dg_rank.proofs.Common.{refl, equivalent-loss, equivalent-rank, at}
-use Rattle.dg_rank.proofs.AskedVertices.{rank_from}
+use Rattle.dg_rank.proofs.AnyLoss.{rank_from}
 use Rattle.dg_rank.proofs.FirstLosses.{found_loss}
 use Rattle.dg_rank.proofs.ranks.verdict_of_loss.Goals as goal
 

@@ -1,0 +1,63 @@
+//! The search for any loss. It has three ways: a few boxes, which tell most; leaves that are folded, which tell at once what would
+//! take many boxes on trees of multiple edges; and boxes until they tell, for which twins are found.
+ghost use Rattle.std.specs.Prelude.{◌≡◌, ℕ, ◌<◌, ◌≤◌, MatchOption, slice_index};
+ghost use Rattle.dg_theory.specs.Firing.{IsEffective};
+ghost use Rattle.dg_chips.specs.Vector.{at};
+ghost use Rattle.dg_rank.specs.Boxes.{TrialsWinFrom, IsLossFrom};
+ghost use Rattle.dg_rank.specs.Losses.{HasSmallDegree};
+
+use crate::boxes::{Stopped, find_box_loss};
+use crate::enumeration::Trial;
+use crate::trees::{MAX_PLACES, find_tree_loss};
+use dg_graph::Graph;
+use dg_reduce::EffectiveDivisor;
+
+/// So many boxes are searched at first: to fold leaves, or to find twins, takes as long.
+const MAX_PLAIN_BOXES: u32 = 8;
+
+/// A loss of at most so many dollars, of which none are lost before a place; `None` if each such loss can be borne.
+pub(crate) fn find_loss_from(
+    graph: &Graph,
+    left: &EffectiveDivisor,
+    dollars: u32,
+    place: usize,
+) -> Option<Trial>
+    requires size { left.now.size ≡ graph.now.size }
+    requires effective { IsEffective graph.now.size (at left.now) }
+    requires small { HasSmallDegree graph.now.size (at left.now) }
+    requires few { dollars ≤ 1000 }
+    requires place { place < graph.now.size }
+    ensures { MatchOption result
+        (TrialsWinFrom graph.now (at left.now) dollars place)
+        (IsLossFrom graph.now (at left.now) dollars place) }
+{
+    let room = room_from(graph.size(), dollars, place);
+    let mut best = *left;
+    let mut boxes = MAX_PLAIN_BOXES;
+    if let Ok(found) = find_box_loss(graph, &mut best, &[0; 16], &room, dollars, true, &mut boxes) {
+        return found;
+    }
+    if (dollars as usize) < MAX_PLACES {
+        if let Ok(found) = find_tree_loss(graph, left, &room, dollars) {
+            return found;
+        }
+    }
+    let mut best = *left;
+    match find_box_loss(graph, &mut best, &graph.twins(), &room, dollars, false, &mut boxes) {
+        Ok(found) => found,
+        Err(Stopped) => unreachable!(),
+    }
+}
+
+/// Room for so many dollars at each vertex from a place on, and for none before.
+fn room_from(size: usize, dollars: u32, place: usize) -> [u32; 16]
+    requires size { size ≤ 16 }
+    ensures before { (v : ℕ) → v < place → slice_index result v ≡ 0 }
+    ensures past { (v : ℕ) → place ≤ v → v < size → slice_index result v ≡ dollars }
+{
+    let mut room = [0; 16];
+    for v in place..size {
+        room[v] = dollars;
+    }
+    room
+}
