@@ -4,17 +4,16 @@
 --   rows_fold        if the rows win once a leaf is folded, they did before: all that is folded into the leaf fires
 --   none_folded      at first each vertex is folded into itself
 --   box_by_rows      if each row says what is left of the amount there, and they win, all of the box can be lost
---   told_at_last     the rows win if that of the last vertex never says a debt
 --   is_rounded, told_rounds      whole rounds
 --   vertices_without             vertices without one are vertices
-use Rattle.dg_rank.proofs.Common.{if◌then◌else◌, ◌≡◌, ◌≢◌, ℕ, ◌+◌, ◌-◌, ◌<◌, ◌≤◌, inl, inr, refl, sym, ap, ◌∙◌, ⊎_elim, Bool, true, false, List, arith, cases_eq, cases_Bool, both_ways, ints, length, set, get_or-set_same, get_or-set_other, slice_index, ℤ, pos, ◌-ℤ◌, ◌+ℤ◌, ◌≤ℤ◌, unsigned_abs, slice_index_or, Multigraph, IsMultigraph, edges_between, Amounts, degree, only_at, minus, negsuc, Option, Some, None, MatchOption, degree-only_at, only_at-here, only_at-other, sum_below-one, sum_below-two, sum_below-cong, sum_below-add, BoxWins}
+use Rattle.dg_rank.proofs.Common.{if◌then◌else◌, ◌≡◌, ◌≢◌, ℕ, ◌+◌, ◌-◌, ◌<◌, ◌≤◌, inl, inr, refl, sym, ap, ◌∙◌, ⊎_elim, Bool, true, false, List, arith, cases_eq, both_ways, ints, length, set, get_or-set_same, get_or-set_other, slice_index, ℤ, pos, ◌-ℤ◌, ◌+ℤ◌, ◌≤ℤ◌, unsigned_abs, slice_index_or, Multigraph, IsMultigraph, edges_between, Amounts, only_at, minus, negsuc, Option, Some, None, degree-only_at, only_at-here, only_at-other, sum_below-two, sum_below-cong, sum_below-add, BoxWins}
 use Rattle.std.proofs.Common.{min, [], ◌==◌, ◌/◌, mul-suc}
 use Rattle.std.proofs.Math.IntN.{◌*ℤ◌, *ℤ-zero, zero-*ℤ, pos-*ℤ-pos, pos-*ℤ-negsuc}
 use Rattle.std.specs.Int.{int_div_euclid}
 use Rattle.std.specs.Prelude.{IfSome}
 use Rattle.std.specs.Option.{SomeIff}
 use Rattle.std.proofs.lemmas.Bool.Decides.{nat_tests}
-use Rattle.dg_rank.specs.Trees.{worth, IsLeaf, IsOnlyIn, AreFolded, IsRounded, IsJoined, RowsWin}
+use Rattle.dg_rank.specs.Folding.{worth, IsLeaf, AreFolded, IsRounded, IsJoined, RowsWin}
 use Rattle.dg_rank.proofs.Elsewhere.{only_at-more}
 use Rattle.dg_rank.proofs.LossBoxes.{in_few}
 use Rattle.dg_theory.specs.Firing.{gain, fired}
@@ -228,22 +227,6 @@ box_by_rows g A L W room k all rows wins E inside = wins (minus A E) (record {
       let few : E v ≤ℤ pos k = in_few g.size k v room E inside below in
       omega (arith, ints, rows v (unsigned_abs (E v)) below (omega (arith, ints)), inside.within v below);
 })
-
-pub told_at_last : (g : Multigraph) (L : ℕ → Bool) (W : List (List ℤ)) (k root : ℕ) (P : List ℕ → Type 0)
-    (o : Option (List ℕ)) → IsOnlyIn L root → MatchOption o ((t : ℕ) → t ≤ k → pos 0 ≤ℤ worth W root t) P →
-    MatchOption o (RowsWin g L W k) P
-told_at_last g L W k root P (Some E) only told = told
-told_at_last g L W k root P None only high = λ D borne. (
-  [],
-  λ v inside. ⊎_elim
-      (λ (left : L v ≡ true).
-      let most : borne.lost v ≤ℤ degree g.size borne.lost =
-      sum_below-one g.size v borne.lost inside (λ w below _. borne.effective w below) in
-      let here : worth W root (unsigned_abs (borne.lost v)) ≤ℤ D v = rw (← only.only v left) (borne.unfolded v inside left) in
-      omega (arith, ints, high (unsigned_abs (borne.lost v)) (omega (arith, ints, borne.few, borne.effective v inside))))
-      (λ (out : L v ≡ false). borne.folded v inside out)
-      (cases_Bool (L v)),
-)
 
 pub is_rounded : (m : ℕ) (x : ℤ) → 0 < m → IsRounded m x (pos m *ℤ int_div_euclid x (pos m))
 is_rounded m (pos a) some = record {

@@ -20,6 +20,7 @@ pub mod Starts
 pub mod AnyLoss
 -- Leaves that are folded.
 pub mod Leaves
+pub mod SharedLosses
 -- Ranks and rank tests by the residual.
 pub mod SmallDegrees
 pub mod DualTests

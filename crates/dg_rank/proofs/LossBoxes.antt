@@ -1,6 +1,7 @@
 -- Boxes of losses.
 --   in_few         what is in a box holds nowhere more than its dollars
 --   rich_box       where each vertex has as much as may be taken there, all of the box win
+--   room_left      what room is left once dollars are taken at a vertex
 --   some_more      a trial with dollars more at a place
 --   loss_beyond    a loss that takes more at a vertex
 --   nothing_lost   what can't be won is lost with no dollar taken
@@ -37,7 +38,7 @@ rich_box g A r j rich E inside = (
   λ v below. omega (arith, ints, rich v below, inside.within v below, in_few g.size j v r E inside below),
 )
 
-room_left : (r : List ℕ) (v t u : ℕ) → v < length r → t ≤ slice_index r v →
+pub room_left : (r : List ℕ) (v t u : ℕ) → v < length r → t ≤ slice_index r v →
     pos (slice_index (set r v (slice_index r v - t)) u) ≡ pos (slice_index r u) -ℤ only_at v (pos t) u
 room_left r v t u placed few = ⊎_elim
     (λ (there : u ≡ v). rw there

@@ -8,5 +8,6 @@ pub mod Ladders
 pub mod Numbering
 pub mod Losses
 pub mod Boxes
-pub mod Trees
+pub mod Folding
+pub mod Shares
 pub mod Pieces

@@ -5,9 +5,9 @@ ghost use Rattle.dg_chips.specs.Vector.{at};
 ghost use Rattle.dg_rank.specs.Losses.{HasSmallDegree};
 ghost use Rattle.dg_rank.specs.Boxes.{TrialsWinFrom, IsLossFrom, IsFirstLossFrom};
 
-use crate::losses::find_loss_from;
 use crate::boxes::after_loss;
 use crate::enumeration::Trial;
+use crate::losses::find_loss_from;
 use dg_graph::Graph;
 use dg_reduce::EffectiveDivisor;
 

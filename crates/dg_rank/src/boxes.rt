@@ -76,7 +76,15 @@ pub(crate) fn find_box_loss(
         } else {
             let mut beyond = open;
             beyond[v] -= taken;
-            match find_box_loss(graph, &mut other, twins, &beyond, dollars - taken, stops, boxes) {
+            match find_box_loss(
+                graph,
+                &mut other,
+                twins,
+                &beyond,
+                dollars - taken,
+                stops,
+                boxes,
+            ) {
                 Ok(Some(trial)) => return Ok(Some(trial.with_more(v, taken))),
                 Ok(None) => close_with_twins(graph, left, twins[v], &mut open, v, held),
                 Err(stopped) => return Err(stopped),
@@ -161,7 +169,9 @@ fn lack_in_box(left: &EffectiveDivisor, room: &[u32; 16], dollars: u32) -> Lack
     // A search at a vertex goes on with as many dollars as are beyond what it holds: the more, the longer.
     let all = u32x16::splat(dollars);
     let beyond = all - u32x16::from_array(*room).simd_min(all) + lanes;
-    let work = lacking.select(beyond * beyond, u32x16::splat(0)).reduce_sum();
+    let work = lacking
+        .select(beyond * beyond, u32x16::splat(0))
+        .reduce_sum();
     // So a vertex that holds most is best; and the last of these, as a loss there comes earlier among the trials.
     let v = last_of_least(lacking.select(beyond, u32x16::splat(u32::MAX)));
     let vertex = if v < 16 && lacks[v] > 0 {
@@ -204,7 +214,7 @@ pub(crate) fn after_loss(
 }
 
 /// The dollars that a vertex has left.
-fn held_at(left: &EffectiveDivisor, v: usize) -> u32
+pub(crate) fn held_at(left: &EffectiveDivisor, v: usize) -> u32
     requires vertex { v < left.now.size }
     requires effective { IsEffective left.now.size (at left.now) }
     ensures { pos result ≡ at left.now v }

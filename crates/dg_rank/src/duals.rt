@@ -10,9 +10,9 @@ ghost use Rattle.dg_chips.specs.Vector.{at};
 ghost use Rattle.dg_rank.specs.declared.duals.TheConstants.{MAX_DIFFERENCE};
 ghost use Rattle.dg_rank.specs.Losses.{AreSmallAmounts};
 
-use crate::losses::find_loss_from;
 use crate::enumeration::Trial;
 use crate::first_loss::effective_with;
+use crate::losses::find_loss_from;
 use dg_chips::{Divisor, Wide};
 use dg_graph::Graph;
 use dg_reduce::InverseLaplacian;
@@ -135,12 +135,7 @@ pub(crate) fn dual_amounts(graph: &Graph, divisor: &Divisor) -> Wide
 }
 
 /// Whether all trials of degree k win.
-fn all_trials_win(
-    graph: &Graph,
-    inverse: Option<&InverseLaplacian>,
-    amounts: &Wide,
-    k: u32,
-) -> bool
+fn all_trials_win(graph: &Graph, inverse: Option<&InverseLaplacian>, amounts: &Wide, k: u32) -> bool
     requires graph { IsGraph graph.now }
     requires some { 0 < graph.now.size }
     requires size { amounts.now.size ≡ graph.now.size }

@@ -8,13 +8,14 @@ mod counting;
 mod duals;
 mod enumeration;
 mod first_loss;
+mod folding;
 mod laws;
 mod losses;
 mod numbers;
 mod pieces;
 mod rank_fault;
 mod ranks;
-mod trees;
+mod shares;
 mod workers;
 
 pub use counting::{MAX_DEGREE, MAX_TRIALS, trial, trials};

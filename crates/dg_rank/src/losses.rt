@@ -8,7 +8,8 @@ ghost use Rattle.dg_rank.specs.Losses.{HasSmallDegree};
 
 use crate::boxes::{Stopped, find_box_loss};
 use crate::enumeration::Trial;
-use crate::trees::{MAX_PLACES, find_tree_loss};
+use crate::folding::find_folded_loss;
+use crate::shares::MAX_PLACES;
 use dg_graph::Graph;
 use dg_reduce::EffectiveDivisor;
 
@@ -38,12 +39,20 @@ pub(crate) fn find_loss_from(
         return found;
     }
     if (dollars as usize) < MAX_PLACES {
-        if let Ok(found) = find_tree_loss(graph, left, &room, dollars) {
+        if let Ok(found) = find_folded_loss(graph, left, &room, dollars) {
             return found;
         }
     }
     let mut best = *left;
-    match find_box_loss(graph, &mut best, &graph.twins(), &room, dollars, false, &mut boxes) {
+    match find_box_loss(
+        graph,
+        &mut best,
+        &graph.twins(),
+        &room,
+        dollars,
+        false,
+        &mut boxes,
+    ) {
         Ok(found) => found,
         Err(Stopped) => unreachable!(),
     }

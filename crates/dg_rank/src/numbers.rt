@@ -11,11 +11,11 @@ ghost use Rattle.dg_rank.specs.Losses.{AreSmallAmounts, HasSmallDegree};
 ghost use Rattle.dg_rank.specs.declared.duals.TheConstants.{MAX_DIFFERENCE};
 ghost use Rattle.dg_rank.specs.Ranks.{AreBothRanks, IsTestedRank, AreTestedRanks, NeedsTooMany, EitherNeedsMore, FailsFirstAt, IsLesserSide, IsTestable};
 
-use crate::losses::find_loss_from;
 use crate::counting::trials;
 use crate::duals::{dual_amounts, dual_test_degree, rank_difference};
 use crate::enumeration::Trial;
 use crate::first_loss::effective_with;
+use crate::losses::find_loss_from;
 use dg_chips::{Divisor, Wide};
 use dg_graph::Graph;
 use dg_reduce::{EffectiveDivisor, InverseLaplacian};

@@ -1,4 +1,4 @@
-use Rattle.dg_rank.proofs.Common.{◌≤◌, ◌<◌, ◌≡◌, ℕ, List, Option, MatchOption, slice_index, at, BoxWins, IsBoxLoss, TrialsWinFrom, IsLossFrom}
+use Rattle.dg_rank.proofs.Common.{ℕ, List, Option, MatchOption, at, BoxWins, IsBoxLoss, TrialsWinFrom, IsLossFrom}
 use Rattle.dg_rank.proofs.AnyLoss.{no_twins, told_from}
 use Rattle.dg_rank.proofs.losses.find_loss_from.Goals as goal
 use Rattle.dg_rank.proofs.losses.find_loss_from.Goals.{After-room_from-room}
@@ -18,9 +18,9 @@ find_box_loss-requires-clause-twins c = no_twins c.args.graph.now c.size.ensures
 pub returns-in-Ok : goal.returns-in-Ok
 returns-in-Ok c = told (goal.at.returns-in-Ok c).After-room_from-room c.in-Ok.found c.in-Ok.ensures.told
 
-pub returns-in-Ok-find_tree_loss : goal.returns-in-Ok-find_tree_loss
-returns-in-Ok-find_tree_loss c =
-    told (goal.at.returns-in-Ok-find_tree_loss c).After-room_from-room c.in-Ok-find_tree_loss.found c.in-Ok-find_tree_loss.ensures
+pub returns-in-Ok-find_folded_loss : goal.returns-in-Ok-find_folded_loss
+returns-in-Ok-find_folded_loss c =
+    told (goal.at.returns-in-Ok-find_folded_loss c).After-room_from-room c.in-Ok-find_folded_loss.found c.in-Ok-find_folded_loss.ensures
 
 pub returns : goal.returns
 returns c = told (goal.at.returns c).After-room_from-room c.in-Ok-find_box_loss.found c.in-Ok-find_box_loss.ensures.told

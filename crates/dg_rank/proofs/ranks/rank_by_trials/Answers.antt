@@ -8,7 +8,7 @@ use Rattle.dg_rank.proofs.ranks.rank_by_trials.Goals.{After-all_at_last-first, A
 pub passes_unasked-requires : goal.passes_unasked-requires
 passes_unasked-requires c =
     let (count, within) = c.requires.limits in
-    record { size = c.requires.size; some = within.some; }
+    record { size = c.requires.size; some = within.some }
 
 held : (c : After-all_at_last-first) → slice_index c.all_at_last-first.result (c.args.graph.now.size - 1) ≡ c.args.k
 held c = rw c.size-size.ensures.size at c.all_at_last-first.ensures.held
