@@ -76,15 +76,8 @@ pub(crate) fn find_box_loss(
         } else {
             let mut beyond = open;
             beyond[v] -= taken;
-            match find_box_loss(
-                graph,
-                &mut other,
-                twins,
-                &beyond,
-                dollars - taken,
-                stops,
-                boxes,
-            ) {
+            let rest = dollars - taken;
+            match find_box_loss(graph, &mut other, twins, &beyond, rest, stops, boxes) {
                 Ok(Some(trial)) => return Ok(Some(trial.with_more(v, taken))),
                 Ok(None) => close_with_twins(graph, left, twins[v], &mut open, v, held),
                 Err(stopped) => return Err(stopped),
