@@ -6,7 +6,7 @@ pub use Rattle.dg_chips.specs.Vector.{at}
 pub use Rattle.dg_graph.proofs.SetLaws.{in_set-none, no_set}
 pub use Rattle.dg_graph.proofs.Valences.{valence-few, valence-outside}
 pub use Rattle.dg_graph.specs.Graph.{IsGraph}
-pub use Rattle.dg_theory.specs.Sets.{AreDisjoint, IsSetWith, IsSetWithout, IsSubset, IsVertexSet}
+pub use Rattle.dg_theory.specs.Sets.{IsSetWith, IsSetWithout, IsVertexSet}
 unfoldable pub use Rattle.dg_graph.specs.Sets.{in_set}
 pub use Rattle.dg_theory.proofs.BurningLaws.{burnt_reduced, reduced_burnt, rest-out, rest_fires, unburnt_by-below, unburnt_fires}
 pub use Rattle.dg_theory.proofs.Counting.{member_or_none}

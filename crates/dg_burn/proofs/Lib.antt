@@ -5,5 +5,4 @@ pub mod Told
 pub mod Fires
 pub mod Capped
 pub mod Lanes
-pub mod Tried
 pub mod Common

@@ -2,4 +2,3 @@
 -- reader of the contract of burning has to believe stands in dg_theory and dg_graph.
 pub mod SoFar
 pub mod Fires
-pub mod Special

@@ -3,7 +3,5 @@
 
 mod burning;
 mod fire;
-mod special;
 
 pub use burning::{BurnCounts, Burnt, burn, burn_counted, capped_amounts};
-pub use special::determining_set;
