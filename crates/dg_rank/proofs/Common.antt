@@ -3,7 +3,6 @@ pub use Rattle.dg_chips.proofs.VectorLaws.{filled-set}
 pub use Rattle.dg_chips.specs.Vector.{Vector, at}
 pub use Rattle.dg_graph.proofs.SetLaws.{in_set-none}
 pub use Rattle.dg_graph.specs.Graph.{IsGraph}
-pub use Rattle.dg_theory.specs.Sets.{IsSubset}
 unfoldable pub use Rattle.dg_graph.specs.Sets.{in_set}
 pub use Rattle.dg_rank.specs.Boxes.{BoxWins, HoldsAt, IsBoxLoss, IsFirstLossFrom, IsFirstTrialIf, IsInBox, IsNotBefore, IsTrialFrom, IsLossFrom, TellsFirstIf, TrialsWinFrom, TrialsWinIf}
 pub use Rattle.dg_rank.specs.Divisors.{HoldsTrial, amounts_of_trial}

@@ -2,7 +2,6 @@
 --   list_any-among   a list with an element v that passes a test has some element that passes it
 --   among_first      the first element of a list is in it
 --   first_where      the first element of a list that passes a test, and its place
---   into-le-out-once  edges that count where b holds are at most those that count where c fails, if b and c are apart
 --   into-le-out      as many edges at most lead into one set as lead out of another, if the two sets are disjoint
 --   burnt_of_set     if vertices burn, q first, and one of them is in a set without q, some vertex of the set holds
 --                    fewer dollars than edges lead from it out of the set: the first one of the set that burns
@@ -36,7 +35,8 @@ first_where T (x ∷ l) some =
     (suc i, v, place, passes, or_from _ _ no none))
     (cases_Bool (T x))
 
-pub into-le-out-once : (b c : Bool) (e : ℕ) → (b ≡ true → c ≡ false) → (if b then e else 0) ≤ (if c then 0 else e)
+-- edges that count where b holds, and edges that count where c fails
+into-le-out-once : (b c : Bool) (e : ℕ) → (b ≡ true → c ≡ false) → (if b then e else 0) ≤ (if c then 0 else e)
 into-le-out-once true true e apart = absurd (both_ways _ (apart refl) refl)
 into-le-out-once true false e apart = omega arith
 into-le-out-once false c e apart = omega arith

@@ -1,8 +1,6 @@
 -- The names that the proofs of this crate cite, passed on from one place. Declares nothing.
 pub use Rattle.dg_theory.specs.Burning.{IsLeastBurningOrder, IsLegalSetFiring, MayBurn, list_contains, edges_into}
 pub use Rattle.dg_theory.specs.BurningLaws.{OrderShowsReduced, ReducedIffBurnt, GreatestIsUnique, UnburntIsGreatest, unburnt_by}
-pub use Rattle.dg_theory.specs.Determining.{HasRankAtLeastOn, HangsLoosely, IsConnectedSet, IsSupportedOn, MeetsSpecialSets, boundary_divisor, edges_within}
-pub use Rattle.dg_theory.specs.DeterminingLaws.{ConnectedGrows, DeterminesLosses, DeterminesRank, SpecialIsReduced}
 pub use Rattle.dg_theory.specs.Distances.{IsDistance}
 pub use Rattle.dg_theory.specs.DualityLaws.{Clifford, DualTests, CliffordOrRiemannRoch, RankAboveGenus, LossOfDual, RankExists, RankOfDual, RankOfSum, RankIsUnique, RiemannRoch}
 pub use Rattle.dg_theory.specs.EquivalenceLaws.{EquivalenceIsReflexive, EquivalenceIsSymmetric, EquivalenceIsTransitive, EquivalentByPlays, EquivalentDegrees}

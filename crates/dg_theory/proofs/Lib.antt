@@ -68,9 +68,4 @@ pub mod RankSums
 pub mod RankExists
 -- Losses told by burning.
 pub mod Burnings
--- Sets of vertices that determine a rank.
-pub mod Components
-pub mod Special
-pub mod Spreading
-pub mod Determining
 pub mod Common

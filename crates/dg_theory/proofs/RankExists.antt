@@ -19,7 +19,7 @@ use Rattle.dg_theory.proofs.RankLaws.{rank_zero, poor_rank}
 use Rattle.dg_theory.proofs.DualityLaws.{natural}
 use Rattle.dg_theory.proofs.RankSums.{some_left}
 
-pub winnable_or_not : (g : Multigraph) (D : Amounts) → IsMultigraph g → 0 < g.size → IsWinnable g D ⊎ (¬ IsWinnable g D)
+winnable_or_not : (g : Multigraph) (D : Amounts) → IsMultigraph g → 0 < g.size → IsWinnable g D ⊎ (¬ IsWinnable g D)
 winnable_or_not g D graph some =
     let (s, at_q, reduced) = reduced_exists g 0 D graph some in
     let decides = reduced_decides g 0 D (fired g D s) some (equivalent-fired g D s) reduced in
@@ -28,7 +28,7 @@ winnable_or_not g D graph some =
     absurd (omega (arith, ints))))
     (λ (paid : pos 0 ≤ℤ fired g D s 0). inl (decides.1 paid))
 
-abbrev pub lost : ℕ → Amounts → Amounts
+abbrev lost : ℕ → Amounts → Amounts
 lost v D = minus D (only_at v (pos 1))
 
 pass_after_each : (g : Multigraph) (D : Amounts) (k : ℕ) →

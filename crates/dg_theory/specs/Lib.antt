@@ -7,7 +7,6 @@ pub mod Play
 pub mod Reduced
 pub mod Burning
 pub mod Rank
-pub mod Determining
 pub mod Joins
 pub mod Twins
 pub mod Orders
@@ -21,6 +20,5 @@ pub mod ExistenceLaws
 pub mod RankLaws
 pub mod JoinLaws
 pub mod DualityLaws
-pub mod DeterminingLaws
 -- For the proofs of other crates.
 pub mod Distances

@@ -3,8 +3,6 @@
 --   IsSetWith S v T    == T is the set S with v
 --   IsSetWithout S v T == T is the set S without v
 --   IsEmptySet S       == S has no vertex
---   IsSubset S T       == each vertex of S is in T
---   AreDisjoint S T    == no vertex of S is in T
 use Rattle.std.specs.Prelude.{◌≡◌, ◌≢◌, ℕ, ◌<◌, Bool, true, false}
 
 abbrev pub IsVertexSet : ℕ → (ℕ → Bool) → Type 0
@@ -20,9 +18,3 @@ pub record IsSetWithout (S : ℕ → Bool) (v : ℕ) (T : ℕ → Bool) : Type 0
 
 abbrev pub IsEmptySet : (ℕ → Bool) → Type 0
 IsEmptySet S = (v : ℕ) → S v ≡ false
-
-abbrev pub IsSubset : (ℕ → Bool) → (ℕ → Bool) → Type 0
-IsSubset S T = (v : ℕ) → S v ≡ true → T v ≡ true
-
-abbrev pub AreDisjoint : (ℕ → Bool) → (ℕ → Bool) → Type 0
-AreDisjoint S T = (v : ℕ) → S v ≡ true → T v ≡ false

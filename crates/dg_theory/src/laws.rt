@@ -11,7 +11,6 @@ ghost use Rattle.dg_theory.specs.RankLaws.{EquivalentRank, EquivalentLoss, RankI
 ghost use Rattle.dg_theory.specs.DualityLaws.{RiemannRoch, RankOfDual, DualTests, LossOfDual, RankAboveGenus, RankExists, RankIsUnique, RankOfSum, Clifford, CliffordOrRiemannRoch};
 ghost use Rattle.dg_theory.specs.Orders.{LossIffBurns};
 ghost use Rattle.dg_theory.specs.Twins.{ExchangeKeepsWinnable};
-ghost use Rattle.dg_theory.specs.DeterminingLaws.{DeterminesLosses, DeterminesRank, SpecialIsReduced, ConnectedGrows};
 
 /// Firing by one script and then by another is firing by their sum, and keeps the degree. A constant script changes
 /// nothing; two scripts do the same exactly if they differ by a constant.
@@ -112,18 +111,6 @@ pub fn laws_of_duality()
     ensures sum { RankOfSum }
     ensures clifford { Clifford }
     ensures half { CliffordOrRiemannRoch }
-{}
-
-/// Where it is enough to try a rank test. A connected set of vertices is special if nothing hangs loosely on it, and a set
-/// that meets each special set is rank-determining: a divisor that can bear each loss of k dollars within it has a rank of at
-/// least k. So it is with the losses within any set, and with the first loss: only the special sets that this one meets
-/// count. Burning tells whether a set is special: a dollar at each vertex beside it is then reduced. From a part of a
-/// connected set an edge leads to what else is in the set, and so all connected sets can be tried.
-pub fn laws_of_determining()
-    ensures losses { DeterminesLosses }
-    ensures rank { DeterminesRank }
-    ensures special { SpecialIsReduced }
-    ensures grows { ConnectedGrows }
 {}
 
 /// A divisor has a loss of k dollars exactly if some equivalent one, without debt off q, burns from q in some order once at
