@@ -43,7 +43,7 @@ pub use Rattle.dg_verdict.specs.declared.rank_verdict.RankVerdict.TheVariants.{A
 pub use Rattle.std.proofs.Common.{Bool, List, [], add-one, ap, arith, false, get_or-set_other, get_or-set_same, inl, inr, length, length-append, length-set, mul-le-mul_right, of_z, refl, replicate, rules, set, subst, suc, suc-mul, sym, take, to_z, true, w32, w64, zero, ℕ, ⊎_elim, ◌*◌, ◌++◌, ◌+◌, ◌-◌, ◌/◌, ◌<◌, ◌∙◌, ◌∷◌, ◌≡◌, ◌≢◌, ◌≤◌, ◌⊎◌}
 pub use Rattle.std.proofs.Math.IntN.{nat_abs, negsuc, pos, ℤ, ◌-ℤ◌}
 pub use Rattle.std.proofs.Math.Nat.{div-le_of_le-mul, div-mul-le_self, mul-div_cancel_left}
-pub use Rattle.std.proofs.lemmas.Bool.{both_ways, cases_Bool, cases_eq, cases_lt, cond_above, cond_below, false_from_ne_true}
+pub use Rattle.std.proofs.lemmas.Bool.{both_ways, cases_Bool, cases_eq, cases_lt, cond_above, cond_below}
 pub use Rattle.std.proofs.lemmas.Int.{by_lt_z, clamps, ints}
 pub use Rattle.std.proofs.lemmas.List.{get_or-replicate, get_or-take, get_or_append_left, get_or_past, get_or_push, length-take-le, take_all, take_more_set}
 pub use Rattle.std.proofs.lemmas.List.Sums.{get_or-le-sum_by, sum_by-cons, sum_by_more}

@@ -1,6 +1,7 @@
-//! A search for a loss on graphs with leaves, which may hang on any number of edges: leaf after leaf is folded into its only neighbour.
+//! A search for a loss on graphs with leaves, each on any number of edges: leaf after leaf is folded into its only neighbour.
 //! What a vertex and all that is folded into it can bear is told by a row: the least that the vertex is left with once so many
-//! dollars are lost there, if nobody else there may stay in debt.
+//! dollars are lost there, if nobody else there may stay in debt. At last shares of the dollars are searched, among the vertices
+//! that are left.
 ghost use Rattle.std.specs.Prelude.{◌≡◌, ℕ, ◌+◌, ◌-◌, ◌<◌, ◌≤◌, ℤ, pos, ◌+ℤ◌, ◌-ℤ◌, ◌*ℤ◌, ◌≤ℤ◌, true, ⊤, min, length, IfSome, MatchOption, MatchResult, slice_index};
 ghost use Rattle.std.specs.List.{slice_index_or};
 ghost use Rattle.dg_theory.specs.Firing.{IsEffective};
@@ -28,8 +29,7 @@ use dg_reduce::EffectiveDivisor;
 /// The most that a vertex holds where shares are searched: with 16 such amounts a divisor is small.
 const MAX_HELD: i32 = 1_999_000;
 
-/// Shares are searched where the vertices that are left have no more of them: it takes some milliseconds at the most. Where they have
-/// more, boxes are as quick.
+/// Shares are searched where so many trials are left at the most: on most graphs with more of them, boxes are quicker.
 const MAX_SHARES: u32 = 40_000;
 
 /// A loss that rows name is looked for in the least box that holds it. There each box leads on to it, so a few are enough.
@@ -110,8 +110,8 @@ fn unfolded_row(amount: i32, room: u32, dollars: usize) -> Row
     row
 }
 
-/// Folds the leaves of what is left of a graph, so many at most and then as many vertices and one more are left, until there is none.
-/// `None` if then all shares can be borne; else a loss, which the rows tell without proof: what each vertex loses, folded or not.
+/// Folds the leaves of what is left of a graph, one vertex more than `leaves`, until there is no leaf. `None` if then all shares can
+/// be borne; else a loss, which the rows tell without proof: what each vertex loses, folded or not.
 fn fold_leaves(
     graph: &Graph,
     unfolded: u16,
@@ -148,7 +148,7 @@ fn fold_leaves(
     let Some(mut losses) = fold_leaves(graph, fewer, leaves - 1, rows, dollars)? else {
         return Ok(None);
     };
-    // No clause says how many the rows tell.
+    // No clause bounds what the rows tell.
     let part = joined.parts[(losses[parent] as usize).min(MAX_PLACES - 1)];
     losses[parent] = losses[parent].saturating_sub(part);
     losses[leaf] = part;

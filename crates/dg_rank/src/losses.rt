@@ -1,5 +1,5 @@
-//! The search for any loss. It has three ways: a few boxes, which tell most; leaves that are folded, which tell at once what would
-//! take many boxes on trees of multiple edges; and boxes until they tell, for which twins are found.
+//! The search for any loss, in three ways: a few boxes, which often tell; then leaves that are folded, which tell soon what would
+//! take many boxes where multiple edges form a tree, or nearly one; and then boxes until they tell, for which twins are found.
 ghost use Rattle.std.specs.Prelude.{◌≡◌, ℕ, ◌<◌, ◌≤◌, MatchOption, slice_index};
 ghost use Rattle.dg_theory.specs.Firing.{IsEffective};
 ghost use Rattle.dg_chips.specs.Vector.{at};

@@ -1,5 +1,5 @@
-//! A search for a share of dollars that can't be borne. Each vertex pays a price for as many dollars as are lost there; where leaves
-//! are folded into a vertex, that is more than these dollars.
+//! A search for a share of dollars that can't be borne. Each vertex pays a price for as many dollars as are lost there, which is
+//! more than these where leaves are folded into it.
 ghost use Rattle.std.specs.Prelude.{◌≡◌, ℕ, ◌+◌, ◌<◌, ◌≤◌, ◌⊎◌, ⊤, Some, MatchOption, slice_index};
 ghost use Rattle.dg_theory.specs.Firing.{IsEffective};
 ghost use Rattle.dg_chips.specs.Vector.{at};

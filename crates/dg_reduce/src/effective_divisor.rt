@@ -78,12 +78,14 @@ impl EffectiveDivisor {
             ≡ min (slice_index numbers.now v) most - unsigned_abs (at self.now v) }
         ensures past { (v : ℕ) → self.now.size ≤ v → slice_index result v ≡ 0 }
     {
-        let amounts = &self.amounts;
+        let (size, amounts) = (self.size, &self.amounts);
         let mut lacks = [0; 16];
-        for v in 0..self.size {
-            lacks[v] = numbers[v]
+        // As many rounds for each size are done by lanes.
+        for v in 0..16 {
+            let lack = numbers[v]
                 .min(most)
                 .saturating_sub(amounts[v].unsigned_abs());
+            lacks[v] = if v < size { lack } else { 0 };
         }
         lacks
     }

@@ -4,7 +4,7 @@ use Rattle.dg_reduce.proofs.effective_divisor.EffectiveDivisor.shortfalls.Given 
 abbrev pub invariant-loop-v : goal.invariant-loop-v
 invariant-loop-v l = record {
   places : length l.lacks ≡ 16;
-  done : (u : ℕ) → u < l.v →
+  done : (u : ℕ) → u < l.v → u < l.self.size →
       slice_index l.lacks u ≡ min (slice_index l.numbers u) l.most - unsigned_abs (at l.self u);
-  zero : (u : ℕ) → l.v ≤ u → slice_index l.lacks u ≡ 0;
+  past : (u : ℕ) → l.self.size ≤ u → slice_index l.lacks u ≡ 0;
 }
