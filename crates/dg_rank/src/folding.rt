@@ -110,8 +110,8 @@ fn unfolded_row(amount: i32, room: u32, dollars: usize) -> Row
     row
 }
 
-/// Folds the leaves of what is left of a graph, one vertex more than `leaves`, until there is no leaf. `None` if then all shares can
-/// be borne; else a loss, which the rows tell without proof: what each vertex loses, folded or not.
+/// Folds the leaves of what is left of a graph, one vertex more than `leaves`, until there is no leaf. `None` if then all shares
+/// can be borne; else a loss, which the rows tell without proof: what each vertex loses, folded or not.
 fn fold_leaves(
     graph: &Graph,
     unfolded: u16,

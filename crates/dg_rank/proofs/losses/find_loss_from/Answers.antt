@@ -20,7 +20,8 @@ returns-in-Ok c = told (goal.at.returns-in-Ok c).After-room_from-room c.in-Ok.fo
 
 pub returns-in-Ok-find_folded_loss : goal.returns-in-Ok-find_folded_loss
 returns-in-Ok-find_folded_loss c =
-    told (goal.at.returns-in-Ok-find_folded_loss c).After-room_from-room c.in-Ok-find_folded_loss.found c.in-Ok-find_folded_loss.ensures
+    let folded = c.in-Ok-find_folded_loss in
+    told (goal.at.returns-in-Ok-find_folded_loss c).After-room_from-room folded.found folded.ensures
 
 pub returns : goal.returns
 returns c = told (goal.at.returns c).After-room_from-room c.in-Ok-find_box_loss.found c.in-Ok-find_box_loss.ensures.told
