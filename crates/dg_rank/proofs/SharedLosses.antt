@@ -1,6 +1,7 @@
 -- Shares of dollars.
 --   share_few      how many dollars of a share a vertex loses: no more than there are, or than it has room for
 --   rich_shares    where each vertex holds what it may have to pay, all shares can be borne
+--   shares_moved   who can bear them from equivalent amounts can do so from these
 --   shares_told    else, if those that lose so many dollars more at a vertex can, and those that lose fewer there
 --   rows_by_shares if all shares can be borne of what the rows say that is held, for what they say that is paid, the rows win
 use Rattle.dg_rank.proofs.Common.{◌≡◌, ℕ, ◌+◌, ◌-◌, ◌<◌, ◌≤◌, ⊎_elim, Bool, true, false, List, [], arith, cases_eq, cases_Bool, by_lt_z, ints, length, set, replicate, get_or-replicate, get_or-set_same, get_or-set_other, slice_index, ℤ, pos, ◌≤ℤ◌, ◌<ℤ◌, unsigned_abs, Option, Some, None, MatchOption, Multigraph, Amounts, degree, only_at, minus, degree-less, degree-only_at, only_at-here, only_at-other, sum_below-one, equivalent-winnable, AreEquivalent, Vector, at}
@@ -35,6 +36,18 @@ rich_shares g A P f r j rich D after = (
       let part = share_few g.size A D P f r j v after below in
       omega (arith, ints, after.paid v below, rich v (unsigned_abs (after.share v)) below part.room part.few),
 )
+
+pub shares_moved : (g : Multigraph) (A B : Amounts) (P : List (List ℕ)) (f r : List ℕ) (j : ℕ) → AreEquivalent g A B →
+    SharesWin g B P f r j → SharesWin g A P f r j
+shares_moved g A B P f r j (s, leads) wins D after =
+    let D' : Amounts = λ u. D u +ℤ (B u -ℤ A u) in
+    (equivalent-winnable g D D' (s, λ u low. omega (arith, ints, leads u low))).1 (wins D' (record {
+      share = after.share;
+      effective = after.effective;
+      few = after.few;
+      within = after.within;
+      paid = λ u low. omega (arith, ints, after.paid u low);
+    }))
 
 pub shares_told : (g : Multigraph) (A B : Amounts) (P : List (List ℕ)) (f r : List ℕ) (j v t : ℕ) →
     IsLackAt g.size A P f r j v t → v < length f → v < length r → pos 0 ≤ℤ A v →

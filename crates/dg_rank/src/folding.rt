@@ -16,7 +16,6 @@ ghost use Rattle.dg_rank.specs.Folding.{worth, IsLeaf, IsOnlyIn, AreFolded, Rows
 ghost use Rattle.dg_rank.specs.Shares.{price};
 
 use crate::boxes::{Stopped, find_box_loss};
-use crate::counting::capped_trial_count;
 use crate::enumeration::Trial;
 use crate::shares::{MAX_PLACES, Prices, find_share};
 use dg_chips::Wide;
@@ -29,9 +28,6 @@ use dg_reduce::EffectiveDivisor;
 /// The most that a vertex holds where shares are searched: with 16 such amounts a divisor is small.
 const MAX_HELD: i32 = 1_999_000;
 
-/// Shares are searched where so many trials are left at the most: on most graphs with more of them, boxes are quicker.
-const MAX_SHARES: u32 = 40_000;
-
 /// A loss that rows name is looked for in the least box that holds it. There each box leads on to it, so a few are enough.
 const MAX_TRIED_BOXES: u32 = 64;
 
@@ -39,8 +35,7 @@ const MAX_TRIED_BOXES: u32 = 64;
 type Row = [i32; MAX_PLACES];
 
 /// A loss in a box, as `find_box_loss` finds it, by rows. Only that all of the box can be lost rests on them; a loss that they
-/// name is looked for by boxes. It stops where too many shares are left once all leaves are folded, where a number is too large,
-/// and where few boxes find no loss. It stands apart, so that no room is cleared for rows where few boxes tell.
+/// name is looked for by boxes. It stops where there is no leaf, where a number is too large, and where few boxes find no loss. It stands apart, so that no room is cleared for rows where few boxes tell.
 #[inline(never)]
 pub(crate) fn find_folded_loss(
     graph: &Graph,
@@ -129,9 +124,9 @@ fn fold_leaves(
         (λ _. ⊤))
         (λ _. ⊤) }
 {
-    let _size = graph.size();
+    let size = graph.size();
     let Some((leaf, parent)) = find_leaf(graph, unfolded) else {
-        if capped_trial_count(leaves + 1, dollars as u32) > MAX_SHARES {
+        if leaves + 1 == size {
             return Err(Stopped);
         }
         return shared_losses(graph, unfolded, rows, dollars);

@@ -18,7 +18,8 @@ pub(crate) type Prices = [[u32; MAX_PLACES]; MAX_VERTICES];
 
 /// A share of at most so many dollars that can't be borne, with what each vertex lost before; `None` if all can be. No vertex
 /// loses more than there is room for. As in a box, where each vertex holds what it may have to pay, all can be borne. At any
-/// other the share has as many dollars as it can't pay, or fewer: the former are searched, and then there is less room.
+/// other the share has as many dollars as it can't pay, or fewer: the former are searched, and then there is less room. Once they
+/// were paid back, the search goes on with the divisor that is at hand if that promises to be shorter.
 pub(crate) fn find_share(
     graph: &Graph,
     left: &EffectiveDivisor,
@@ -32,53 +33,80 @@ pub(crate) fn find_share(
     requires small { HasSmallDegree graph.now.size (at left.now) }
     requires prices { (v t : ℕ) → v < MAX_VERTICES → t < MAX_PLACES → price prices.now v t ≤ 1000 }
     requires places { (v : ℕ) → v < MAX_VERTICES → slice_index lost.now v + slice_index room.now v < MAX_PLACES }
+    requires few { dollars < MAX_PLACES }
     ensures { MatchOption result
         (SharesWin graph.now (at left.now) prices.now lost.now room.now dollars)
         (λ _. ⊤) }
 {
     let _size = graph.size();
     let mut open = *room;
-    'lacking: while let Some((v, more)) = lacking_share(left, prices, lost, &open, dollars) {
+    let mut best = *left;
+    let mut lack = lacking_share(&best, prices, lost, &open, dollars);
+    'lacking: while let Some((v, more)) = lack.share {
         let before = lost[v];
         let row = &prices[v];
         let paid = row[(before + more) as usize] - row[before as usize];
         let mut losses = *lost;
         losses[v] = before + more;
-        let Some(other) = after_loss(graph, left, v, paid) else {
+        let Some(other) = after_loss(graph, &best, v, paid) else {
             return Some(losses);
         };
-        let mut beyond = open;
-        beyond[v] -= more;
-        if let Some(found) = find_share(graph, &other, prices, &losses, &beyond, dollars - more) {
-            return Some(found);
+        let mut fuller = other;
+        fuller.give(v, paid);
+        let fewer = lacking_share(&fuller, prices, lost, &open, dollars);
+        if fewer.work < lack.work {
+            best = fuller;
+            lack = fewer;
+        } else {
+            let mut beyond = open;
+            beyond[v] -= more;
+            let rest = dollars - more;
+            if let Some(found) = find_share(graph, &other, prices, &losses, &beyond, rest) {
+                return Some(found);
+            }
+            open[v] = more - 1;
+            lack = lacking_share(&best, prices, lost, &open, dollars);
         }
-        open[v] = more - 1;
     }
     None
 }
 
 /// A vertex that may lose more than it can pay for, and the least number of dollars there: a vertex for which that is the
-/// most, since then the fewest are left to search. `None` if all can pay.
+/// most, since then the fewest are left to search. And a guess at how long it takes to search all.
+#[derive(Clone, Copy)]
+struct Lack {
+    share: Option<(usize, u32)>,
+    work: u32,
+}
+
+/// What is lacking of what may have to be paid.
 fn lacking_share(
     left: &EffectiveDivisor,
     prices: &Prices,
     lost: &[u32; 16],
     room: &[u32; 16],
     dollars: u32,
-) -> Option<(usize, u32)>
+) -> Lack
     requires size { left.now.size ≤ MAX_VERTICES }
     requires effective { IsEffective left.now.size (at left.now) }
     requires places { (v : ℕ) → v < MAX_VERTICES → slice_index lost.now v + slice_index room.now v < MAX_PLACES }
-    ensures { IsLackingShare left.now.size (at left.now) prices.now lost.now room.now dollars result }
+    requires few { dollars < MAX_PLACES }
+    ensures { IsLackingShare left.now.size (at left.now) prices.now lost.now room.now dollars result.share }
 {
     let mut lacking = None;
+    let mut work = 0;
     for v in 0..left.size() {
         let most = room[v].min(dollars);
         if let Some(more) = first_unpaid(&prices[v], lost[v], most, held_at(left, v)) {
             lacking = Some(with_more(lacking, (v, more)));
+            let beyond = dollars + 1 - more;
+            work = beyond.wrapping_mul(beyond).wrapping_add(work);
         }
     }
-    lacking
+    Lack {
+        share: lacking,
+        work,
+    }
 }
 
 /// Which of two vertices, each with a number of dollars, has the most; the second if they have as many, or there is no first.
