@@ -33,7 +33,8 @@ find_share-requires t c =
                       arith,
                       rw same at before,
                       rw same at less,
-                      get_or-set_same c.args.lost.now v (slice_index c.args.lost.now v + more) 0 (omega (arith, rw same at below)),
+                      get_or-set_same c.args.lost.now v (slice_index c.args.lost.now v + more) 0
+                          (omega (arith, rw same at below)),
                       get_or-set_same c.lacking.open v (slice_index c.lacking.open v - more) 0
                           (omega (arith, rw same at below, c.lacking.invariant.places)),
                       lack.within,
