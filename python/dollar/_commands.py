@@ -167,7 +167,7 @@ def judge(table: Asked, *, program: Place | None = None) -> Verdict:
 
 def rank(table: Asked, *, patience: float | None = None, program: Place | None = None) -> int:
     """The rank of the table: how many dollars can be lost, no matter where, and the table still be won; -1 if it can't be won now. On
-    graphs of many edges that may take minutes: with `patience` it is a TimeoutError after so many seconds. `rr_all` has the ranks of
+    graphs of many edges that may take long: with `patience` it is a TimeoutError after so many seconds. `rr_all` has the ranks of
     many tables.
 
     >>> from dollar import Table

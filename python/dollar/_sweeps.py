@@ -506,7 +506,7 @@ def rr_all(tables: Tables, *, workers: int | None = ..., errors: Errors = ..., d
 def rr_all(tables: Tables, *, workers: int | None = None, errors: Errors = "row", divisors: Divisors | None = None,
            ahead: int | None = None, patience: float | None = None, progress: bool = False,
            program: Place | None = None) -> RiemannRochs[Any]:
-    """The four numbers of the tables, as `judge_all` has verdicts. On graphs of many edges some ranks take minutes: with `patience` it is a
+    """The four numbers of the tables, as `judge_all` has verdicts. On graphs of many edges some ranks may take long: with `patience` it is a
     TimeoutError if no answer comes for so many seconds, and with `ahead=1` the table is the one whose answer is next.
 
     >>> from dollar import Table

@@ -647,7 +647,7 @@ class Table(Mapping[V, int]):
         return gonality(self, program)
 
     def rank(self, *, patience: float | None = None, program: Place | None = None) -> int:
-        """The rank of the divisor; -1 if it can't be won. On graphs of many edges that may take minutes: with `patience` it is a
+        """The rank of the divisor; -1 if it can't be won. On graphs of many edges that may take long: with `patience` it is a
         TimeoutError after so many seconds. For many divisors `rr_all` has their ranks at a small part of the cost.
 
         >>> Table([[0, 3], [3, 0]], [2, 2]).rank()
