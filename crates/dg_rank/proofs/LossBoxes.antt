@@ -2,6 +2,8 @@
 --   in_few         what is in a box holds nowhere more than its dollars
 --   rich_box       where each vertex has as much as may be taken there, all of the box win
 --   room_left      what room is left once dollars are taken at a vertex
+--   dollar_box     a dollar is borne in a box if it is at each vertex where there is room
+--   holder_wins    who holds a dollar in a divisor of the class can bear to lose it
 --   some_more      a trial with dollars more at a place
 --   loss_beyond    a loss that takes more at a vertex
 --   nothing_lost   what can't be won is lost with no dollar taken
@@ -14,7 +16,7 @@
 --   none_held      a trial of no dollars
 --   class_small    what is equivalent to small amounts is small
 --   taken_small    what is left once dollars are taken
-use Rattle.dg_rank.proofs.Common.{◌≡◌, ℕ, ◌+◌, ◌-◌, ◌<◌, ◌≤◌, inl, inr, sym, List, [], length, arith, ap, ◌∙◌, ⊎_elim, set, length-set, get_or-set_same, get_or-set_other, slice_index, ◌≤ℤ◌, ◌<ℤ◌, cases_eq, ints, by_lt_z, pos, Option, Some, None, MatchOption, Multigraph, Amounts, degree, only_at, AreEquivalent, IsWinnable, minus, degree-less, degree-only_at, only_at-here, only_at-other, sum_below-one, sum_below-zero, equivalent-winnable, win_more, amounts_of_trial, BoxWins, IsBoxLoss, IsInBox, IsMultigraph, Vector, at, IsInLinearSystem}
+use Rattle.dg_rank.proofs.Common.{◌≡◌, ℕ, ◌+◌, ◌-◌, ◌<◌, ◌≤◌, ◌⊎◌, inl, inr, sym, List, [], length, arith, ap, ◌∙◌, ⊎_elim, set, length-set, get_or-set_same, get_or-set_other, slice_index, ◌≤ℤ◌, ◌<ℤ◌, cases_eq, ints, by_lt_z, pos, Option, Some, None, MatchOption, Multigraph, Amounts, degree, only_at, AreEquivalent, IsWinnable, minus, degree-less, degree-only_at, only_at-here, only_at-other, sum_below-one, sum_below-two, sum_below-zero, equivalent-winnable, win_more, amounts_of_trial, BoxWins, IsBoxLoss, IsInBox, IsMultigraph, Vector, at, IsInLinearSystem}
 use Rattle.std.proofs.Common.{min}
 use Rattle.std.proofs.Math.IntN.{◌+ℤ◌, ◌-ℤ◌}
 use Rattle.dg_rank.proofs.Elsewhere.{degree-given, form_degree}
@@ -85,6 +87,45 @@ some_more E p t v inside = ⊎_elim
     get_or-set_other E p v (slice_index E p + t) 0 apart in
     omega (arith, ints, only_at-other p (pos t) v apart))
     (cases_eq v p)
+
+pub dollar_box : (g : Multigraph) (A : Amounts) (r : List ℕ) → ((v : ℕ) → v < g.size → pos 0 ≤ℤ A v) →
+    ((v : ℕ) → v < g.size → (slice_index r v ≡ 0) ⊎ IsWinnable g (minus A (only_at v (pos 1)))) → BoxWins g A r 1
+dollar_box g A r rich borne E inside = ⊎_elim
+    (λ (none : AllBelow g.size (λ u. E u ≤ℤ pos 0)). ([], λ v below. omega (arith, ints, rich v below, none v below)))
+    (λ (first : FirstOf g.size (λ u. E u ≤ℤ pos 0) (λ u. pos 0 <ℤ E u)).
+    let v = first.0 in ⊎_elim
+    (λ (closed : slice_index r v ≡ 0). absurd (omega (arith, ints, first.2, inside.within v first.1)))
+    (λ (win : IsWinnable g (minus A (only_at v (pos 1)))).
+    win_more g (minus A (only_at v (pos 1))) (minus A E)
+    (λ u low. ⊎_elim
+    (λ (same : u ≡ v). rw same (omega (arith, ints, only_at-here v (pos 1), in_few g.size 1 v r E inside first.1)))
+    (λ (other : u ≡ v → ⊥).
+    omega (
+      arith,
+      ints,
+      only_at-other v (pos 1) u other,
+      sum_below-two g.size v u E first.1 low other (λ w below _. inside.effective w below),
+      inside.few,
+      first.2,
+    ))
+    (cases_eq u v))
+    win)
+    (borne v first.1))
+    (first_or_all g.size (λ u. E u ≤ℤ pos 0) (λ u. pos 0 <ℤ E u)
+    (λ u _. by_lt_z (pos 0) (E u) (λ (more : pos 0 <ℤ E u). inr more) (λ (few : E u ≤ℤ pos 0). inl few)))
+
+pub holder_wins : (g : Multigraph) (A : Amounts) (x : Vector) (v : ℕ) → IsInLinearSystem g A x → pos 1 ≤ℤ at x v →
+    IsWinnable g (minus A (only_at v (pos 1)))
+holder_wins g A x v class some =
+    let (s, leads) = class.led in
+    (equivalent-winnable g (minus A (only_at v (pos 1))) (minus (at x) (only_at v (pos 1)))
+    (s, λ u low. omega (arith, ints, leads u low))).1 (
+      [],
+      λ u low. ⊎_elim
+          (λ (same : u ≡ v). rw same (omega (arith, ints, only_at-here v (pos 1))))
+          (λ (other : u ≡ v → ⊥). omega (arith, ints, only_at-other v (pos 1) u other, class.effective u low))
+          (cases_eq u v),
+    )
 
 pub loss_beyond : (g : Multigraph) (A : Amounts) (r : List ℕ) (j v t : ℕ) (E E' : List ℕ) → v < g.size →
     v < length r → t ≤ slice_index r v → t ≤ j →

@@ -12,7 +12,7 @@ ghost use Rattle.dg_rank.specs.Losses.{HasSmallDegree};
 ghost use Rattle.dg_rank.specs.Boxes.{BoxWins, IsBoxLoss, IsLackInBox, HaveOnlyTwins, IsTwinClosed};
 
 use crate::enumeration::Trial;
-use dg_graph::{Graph, contains};
+use dg_graph::{Graph, contains, with_vertex};
 use dg_reduce::EffectiveDivisor;
 use std::simd::prelude::*;
 
@@ -59,6 +59,9 @@ pub(crate) fn find_box_loss(
         return Err(Stopped);
     }
     *boxes = boxes.saturating_sub(1);
+    if dollars == 1 {
+        return Ok(find_dollar_loss(graph, left, room));
+    }
     let mut open = *room;
     let mut lack = lack_in_box(left, &open, dollars);
     'lacking: while let Some(v) = lack.vertex {
@@ -87,6 +90,48 @@ pub(crate) fn find_box_loss(
         }
     }
     Ok(None)
+}
+
+/// A loss of one dollar in a box; `None` if each can be borne. Whoever holds a dollar in some divisor of the class can bear to
+/// lose it, so each that is at hand tells of all its holders.
+fn find_dollar_loss(graph: &Graph, left: &mut EffectiveDivisor, room: &[u32; 16]) -> Option<Trial>
+    requires size { left.old.size ≡ graph.now.size }
+    requires effective { IsEffective graph.now.size (at left.old) }
+    requires small { HasSmallDegree graph.now.size (at left.old) }
+    ensures class { IsInLinearSystem graph.now (at left.old) left.new }
+    ensures told { MatchOption result
+        (BoxWins graph.now (at left.old) room.now 1)
+        (IsBoxLoss graph.now (at left.old) room.now 1) }
+{
+    let size = graph.size();
+    let mut holders = with_holders(left, 0);
+    for v in 0..size {
+        if room[v] == 0 || contains(holders, v) {
+            continue;
+        }
+        let Some(other) = after_loss(graph, left, v, 1) else {
+            return Some(Trial::all_at_last(size, 0).with_more(v, 1));
+        };
+        *left = other;
+        left.give(v, 1);
+        holders = with_holders(left, holders);
+    }
+    None
+}
+
+/// A set with all vertices that hold a dollar.
+fn with_holders(left: &EffectiveDivisor, set: u16) -> u16
+    requires size { left.now.size ≤ 16 }
+    requires effective { IsEffective left.now.size (at left.now) }
+    ensures { (v : ℕ) → in_set result v ≡ true → (in_set set v ≡ true) ⊎ ((v < left.now.size) × (pos 1 ≤ℤ at left.now v)) }
+{
+    let mut all = set;
+    for v in 0..left.size() {
+        if held_at(left, v) > 0 {
+            all = with_vertex(all, v);
+        }
+    }
+    all
 }
 
 /// What is lacking in a box, once another divisor has become `left` if it promises no longer a search.
@@ -160,13 +205,13 @@ fn lack_in_box(left: &EffectiveDivisor, room: &[u32; 16], dollars: u32) -> Lack
     let lanes = u32x16::from_array(lacks);
     let lacking = lanes.simd_gt(u32x16::splat(0));
     // A search at a vertex goes on with as many dollars as are beyond what it holds: the more, the longer.
-    let all = u32x16::splat(dollars);
-    let beyond = all - u32x16::from_array(*room).simd_min(all) + lanes;
+    let (rooms, all) = (u32x16::from_array(*room), u32x16::splat(dollars));
+    let beyond = all - rooms.simd_min(all) + lanes;
     let work = lacking
         .select(beyond * beyond, u32x16::splat(0))
         .reduce_sum();
-    // So a vertex that holds most is best; and the last of these, as a loss there comes earlier among the trials.
-    let v = last_of_least(lacking.select(beyond, u32x16::splat(u32::MAX)));
+    // Of those with the most room the last: a loss there comes earlier among the trials.
+    let v = last_of_most(lacking.select(rooms, u32x16::splat(0)));
     let vertex = if v < 16 && lacks[v] > 0 {
         Some(v)
     } else {
@@ -175,10 +220,10 @@ fn lack_in_box(left: &EffectiveDivisor, room: &[u32; 16], dollars: u32) -> Lack
     Lack { vertex, work }
 }
 
-/// The place of the least of some numbers, and of several the last. No clause says so, so it serves as a guess.
-fn last_of_least(numbers: u32x16) -> usize {
-    let least = numbers.simd_eq(u32x16::splat(numbers.reduce_min()));
-    63usize.wrapping_sub(least.to_bitmask().leading_zeros() as usize)
+/// The place of the greatest of some numbers, and of several the last. No clause says so, so it serves as a guess.
+fn last_of_most(numbers: u32x16) -> usize {
+    let most = numbers.simd_eq(u32x16::splat(numbers.reduce_max()));
+    63usize.wrapping_sub(most.to_bitmask().leading_zeros() as usize)
 }
 
 /// What is left once so many dollars are taken at a vertex and paid back; `None` if that can't be won.
