@@ -25,10 +25,10 @@ NOBODY = 65534
 # When a run in rank tests has taken so much processor time, it is in the midst of them.
 TICKS = 5
 
-# A test of seven dollars takes some 15 ms on this path of double edges that ends in a triangle: each of its 170,544 trials wins.
-# With single edges and half the dollars the genus is 1 and the degree 8, so the rank is 7: any seven vertices can have a dollar
-# there, and so two here.
-SLOW = ('{"vertices":[%s],"edges":[%s,["n","p",2]],"amounts":[%s16],"q":"a"}' % (
+# A test of seven dollars takes some milliseconds on this cycle of double edges: each of its 170,544 trials wins. With single
+# edges and half the dollars the genus is 1 and the degree 8, so the rank is 7: any seven vertices can have a dollar there, and
+# so two here.
+SLOW = ('{"vertices":[%s],"edges":[%s,["a","p",2]],"amounts":[%s16],"q":"a"}' % (
     ",".join('"%s"' % name for name in "abcdefghijklmnop"),
     ",".join('["%s","%s",2]' % ends for ends in zip("abcdefghijklmno", "bcdefghijklmnop")), "0," * 15)).encode()
 
