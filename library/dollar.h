@@ -60,7 +60,7 @@ int64_t dollar_judge(size_t vertices, const dollar_edge *edges, size_t items, si
                      uint8_t *orders, size_t orders_all);
 
 /* The rank of each divisor (-1 if it is not winnable), and that of its residual K - D (told: 0). On a graph of genus 100 and more a
- * rank may take a tenth of a second, and nothing bounds how long. */
+ * rank may take a fifth of a second, and nothing bounds how long. */
 int64_t dollar_rank(size_t vertices, const dollar_edge *edges, size_t items,
                     const int64_t *amounts, size_t all, int8_t *told, size_t rows,
                     int64_t *ranks, size_t ranks_all, int64_t *duals, size_t duals_all);
