@@ -50,4 +50,4 @@ pub use Rattle.std.proofs.lemmas.List.Sums.{get_or-le-sum_by, sum_by-cons, sum_b
 pub use Rattle.std.proofs.lemmas.Nat.{le-div}
 pub use Rattle.std.specs.Int.RustNames.{unsigned_abs}
 pub use Rattle.std.specs.List.{slice_index_or, sum}
-pub use Rattle.std.specs.Prelude.{if◌then◌else◌, Err, MatchBool, MatchOption, None, Ok, Option, Result, Some, is_some, not, slice_index, ⊤, ◌+ℤ◌, ◌<ℤ◌, ◌↔◌, ◌≤ℤ◌}
+pub use Rattle.std.specs.Prelude.{min, if◌then◌else◌, Err, MatchBool, MatchOption, MatchResult, None, Ok, Option, Result, Some, is_some, not, slice_index, ⊤, ◌+ℤ◌, ◌<ℤ◌, ◌↔◌, ◌≤ℤ◌}

@@ -221,7 +221,7 @@ fn lack_in_box(left: &EffectiveDivisor, room: &[u32; 16], dollars: u32) -> Lack
 }
 
 /// The place of the greatest of some numbers, and of several the last. No clause says so, so it serves as a guess.
-fn last_of_most(numbers: u32x16) -> usize {
+pub(crate) fn last_of_most(numbers: u32x16) -> usize {
     let most = numbers.simd_eq(u32x16::splat(numbers.reduce_max()));
     63usize.wrapping_sub(most.to_bitmask().leading_zeros() as usize)
 }

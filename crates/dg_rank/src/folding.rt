@@ -2,7 +2,7 @@
 //! What a vertex and all that is folded into it can bear is told by a row: the least that the vertex is left with once so many
 //! dollars are lost there, if nobody else there may stay in debt. At last shares of the dollars are searched, among the vertices
 //! that are left.
-ghost use Rattle.std.specs.Prelude.{◌≡◌, ℕ, ◌+◌, ◌-◌, ◌<◌, ◌≤◌, ℤ, pos, ◌+ℤ◌, ◌-ℤ◌, ◌*ℤ◌, ◌≤ℤ◌, true, ⊤, min, length, IfSome, MatchOption, MatchResult, slice_index};
+ghost use Rattle.std.specs.Prelude.{false, ◌≡◌, ℕ, ◌+◌, ◌-◌, ◌<◌, ◌≤◌, ℤ, pos, ◌+ℤ◌, ◌-ℤ◌, ◌*ℤ◌, ◌≤ℤ◌, true, ⊤, min, length, IfSome, MatchOption, MatchResult, slice_index};
 ghost use Rattle.std.specs.List.{slice_index_or};
 ghost use Rattle.dg_theory.specs.Firing.{IsEffective};
 ghost use Rattle.dg_theory.specs.Multigraph.{edges_between};
@@ -43,6 +43,7 @@ pub(crate) fn find_folded_loss(
     left: &EffectiveDivisor,
     room: &[u32; 16],
     dollars: u32,
+    searches: u32,
 ) -> Result<Option<Trial>, Stopped>
     requires size { left.now.size ≡ graph.now.size }
     requires effective { IsEffective graph.now.size (at left.now) }
@@ -56,12 +57,14 @@ pub(crate) fn find_folded_loss(
 {
     let size = graph.size();
     let mut rows = unfolded_rows(left, room, dollars as usize);
+    let mut searches_left = searches;
     let told = fold_leaves(
         graph,
         complement(size, 0),
         size - 1,
         &mut rows,
         dollars as usize,
+        &mut searches_left,
     )?;
     let Some(losses) = told else {
         return Ok(None);
@@ -114,6 +117,7 @@ fn fold_leaves(
     leaves: usize,
     rows: &mut [Row; 16],
     dollars: usize,
+    searches: &mut u32,
 ) -> Result<Option<[u32; 16]>, Stopped>
     requires vertices { IsVertexSet graph.now.size (in_set unfolded) }
     requires folded { AreFolded graph.now (in_set unfolded) }
@@ -130,7 +134,7 @@ fn fold_leaves(
         if leaves + 1 == size {
             return Err(Stopped);
         }
-        return shared_losses(graph, unfolded, rows, dollars);
+        return shared_losses(graph, unfolded, rows, dollars, searches);
     };
     if leaves == 0 {
         return Err(Stopped);
@@ -141,7 +145,7 @@ fn fold_leaves(
     };
     rows[parent] = joined.row;
     let fewer = without_vertex(unfolded, leaf);
-    let Some(mut losses) = fold_leaves(graph, fewer, leaves - 1, rows, dollars)? else {
+    let Some(mut losses) = fold_leaves(graph, fewer, leaves - 1, rows, dollars, searches)? else {
         return Ok(None);
     };
     // No clause bounds what the rows tell.
@@ -157,6 +161,7 @@ fn shared_losses(
     unfolded: u16,
     rows: &[Row; 16],
     dollars: usize,
+    searches: &mut u32,
 ) -> Result<Option<[u32; 16]>, Stopped>
     requires few { dollars < MAX_PLACES }
     ensures { MatchResult result
@@ -173,7 +178,7 @@ fn shared_losses(
         return Err(Stopped);
     };
     let dollars = dollars as u32;
-    Ok(find_share(graph, &left, &prices, &[0; 16], &[dollars; 16], dollars))
+    find_share(graph, &left, &prices, &[dollars; 16], dollars, searches)
 }
 
 /// What the vertices that are left hold while nothing is lost, with what is folded into them; nobody else holds anything. `None`
@@ -201,29 +206,31 @@ fn prices_by_rows(unfolded: u16, rows: &[Row; 16], dollars: usize) -> Option<Pri
         price prices v t ≤ 1000) }
     ensures paid { IfSome result (ArePaidByRows (in_set unfolded) rows.now dollars) }
 {
-    let mut prices = [[0; MAX_PLACES]; MAX_VERTICES];
-    for v in 0..MAX_VERTICES {
-        if contains(unfolded, v) {
-            prices[v] = prices_of(&rows[v], dollars)?;
-        }
+    let mut prices = [[0; MAX_VERTICES]; MAX_PLACES];
+    for t in 0..dollars + 1 {
+        prices[t] = prices_at(unfolded, rows, t)?;
     }
     Some(prices)
 }
 
-/// What a vertex pays by its row: what it is left with becomes less by so much. `None` if that is too much.
-fn prices_of(row: &Row, dollars: usize) -> Option<[u32; MAX_PLACES]>
+/// What each vertex that is left pays, by its row, for so many dollars: what it is left with becomes less by so much. `None` if that
+/// is too much.
+fn prices_at(unfolded: u16, rows: &[Row; 16], dollars: usize) -> Option<[u32; MAX_VERTICES]>
     requires few { dollars < MAX_PLACES }
-    ensures cheap { IfSome result (λ prices. (t : ℕ) → t < MAX_PLACES → slice_index prices t ≤ 1000) }
-    ensures paid { IfSome result (λ prices. (t : ℕ) → t ≤ dollars →
-        pos (slice_index prices t) ≡ slice_index_or row.now 0 (pos 0) -ℤ slice_index_or row.now t (pos 0)) }
+    ensures cheap { IfSome result (λ prices. (v : ℕ) → v < MAX_VERTICES → slice_index prices v ≤ 1000) }
+    ensures unfolded { IfSome result (λ prices. (v : ℕ) → v < MAX_VERTICES → in_set unfolded v ≡ true →
+        pos (slice_index prices v) ≡ worth rows.now v 0 -ℤ worth rows.now v dollars) }
+    ensures folded { IfSome result (λ prices. (v : ℕ) → in_set unfolded v ≡ false → slice_index prices v ≡ 0) }
 {
-    let mut prices = [0; MAX_PLACES];
-    for t in 0..dollars + 1 {
-        let price = row[0].checked_sub(row[t])?;
-        if price < 0 || price > 1000 {
-            return None;
+    let mut prices = [0; MAX_VERTICES];
+    for v in 0..MAX_VERTICES {
+        if contains(unfolded, v) {
+            let price = rows[v][0].checked_sub(rows[v][dollars])?;
+            if price < 0 || price > 1000 {
+                return None;
+            }
+            prices[v] = price as u32;
         }
-        prices[t] = price as u32;
     }
     Some(prices)
 }

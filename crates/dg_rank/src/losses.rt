@@ -39,7 +39,7 @@ pub(crate) fn find_loss_from(
         return found;
     }
     if (dollars as usize) < MAX_PLACES {
-        if let Ok(found) = find_folded_loss(graph, left, &room, dollars) {
+        if let Ok(found) = find_folded_loss(graph, left, &room, dollars, u32::MAX) {
             return found;
         }
     }

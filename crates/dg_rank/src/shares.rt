@@ -1,59 +1,67 @@
 //! A search for a share of dollars that can't be borne. Each vertex pays a price for as many dollars as are lost there, which is
 //! more than these where leaves are folded into it.
-ghost use Rattle.std.specs.Prelude.{◌≡◌, ℕ, ◌+◌, ◌<◌, ◌≤◌, ◌⊎◌, ⊤, Some, MatchOption, slice_index};
+ghost use Rattle.std.specs.Prelude.{◌≡◌, ◌≢◌, ℕ, ◌+◌, ◌<◌, ◌≤◌, ◌⊎◌, min, pos, ◌+ℤ◌, ⊤, MatchOption, MatchResult, slice_index};
 ghost use Rattle.dg_theory.specs.Firing.{IsEffective};
 ghost use Rattle.dg_chips.specs.Vector.{at};
 ghost use Rattle.dg_rank.specs.Losses.{HasSmallDegree};
-ghost use Rattle.dg_rank.specs.Shares.{price, SharesWin, IsLackingShare};
+ghost use Rattle.dg_rank.specs.Shares.{price, SharesWin, AreFirstUnpaid, IsShifted};
 
-use crate::boxes::{after_loss, held_at};
+use crate::boxes::{Stopped, after_loss, held_at, last_of_most};
 use dg_graph::{Graph, MAX_VERTICES};
 use dg_reduce::EffectiveDivisor;
+use std::simd::prelude::*;
 
 /// A price for no dollar, for one, and so on: for so many numbers.
 pub(crate) const MAX_PLACES: usize = 64;
 
-/// What each vertex pays, by the dollars that are lost there.
-pub(crate) type Prices = [[u32; MAX_PLACES]; MAX_VERTICES];
+/// What each vertex pays, by the dollars that are lost there: for none, for one, and so on.
+pub(crate) type Prices = [[u32; MAX_VERTICES]; MAX_PLACES];
 
-/// A share of at most so many dollars that can't be borne, with what each vertex lost before; `None` if all can be. No vertex
-/// loses more than there is room for. As in a box, where each vertex holds what it may have to pay, all can be borne. At any
-/// other the share has as many dollars as it can't pay, or fewer: the former are searched, and then there is less room. Once they
-/// were paid back, the search goes on with the divisor that is at hand if that promises to be shorter.
+/// A share of at most so many dollars that can't be borne; `None` if all can be. No vertex loses more than there is room for. As
+/// in a box, where each vertex holds what it may have to pay, all can be borne. At any other the share has as many dollars as it
+/// can't pay, or fewer: the former are searched, and then there is less room. Once they were paid back, the search goes on with
+/// the divisor that is at hand if that promises to be shorter.
+///
+/// It stops after so many more such searches; the number is counted down.
 pub(crate) fn find_share(
     graph: &Graph,
     left: &EffectiveDivisor,
     prices: &Prices,
-    lost: &[u32; 16],
     room: &[u32; 16],
     dollars: u32,
-) -> Option<[u32; 16]>
+    searches: &mut u32,
+) -> Result<Option<[u32; 16]>, Stopped>
     requires size { left.now.size ≡ graph.now.size }
     requires effective { IsEffective graph.now.size (at left.now) }
     requires small { HasSmallDegree graph.now.size (at left.now) }
-    requires prices { (v t : ℕ) → v < MAX_VERTICES → t < MAX_PLACES → price prices.now v t ≤ 1000 }
-    requires places { (v : ℕ) → v < MAX_VERTICES → slice_index lost.now v + slice_index room.now v < MAX_PLACES }
+    requires cheap { (v t : ℕ) → v < MAX_VERTICES → t < MAX_PLACES → price prices.now v t ≤ 1000 }
     requires few { dollars < MAX_PLACES }
-    ensures { MatchOption result
-        (SharesWin graph.now (at left.now) prices.now lost.now room.now dollars)
+    ensures { MatchResult result
+        (λ found. MatchOption found
+        (SharesWin graph.now (at left.now) prices.now room.now dollars)
+        (λ _. ⊤))
         (λ _. ⊤) }
 {
     let _size = graph.size();
+    if *searches == 0 {
+        return Err(Stopped);
+    }
+    *searches -= 1;
+    if dollars == 1 {
+        return Ok(find_dollar_share(graph, left, prices, room));
+    }
     let mut open = *room;
     let mut best = *left;
-    let mut lack = lacking_share(&best, prices, lost, &open, dollars);
-    'lacking: while let Some((v, more)) = lack.share {
-        let before = lost[v];
-        let row = &prices[v];
-        let paid = row[(before + more) as usize] - row[before as usize];
-        let mut losses = *lost;
-        losses[v] = before + more;
+    let mut lack = lacking_share(&best, prices, &open, dollars);
+    'lacking: while let Some(v) = lack.vertex {
+        let more = lack.unpaid[v];
+        let paid = prices[more as usize][v] - prices[0][v];
         let Some(other) = after_loss(graph, &best, v, paid) else {
-            return Some(losses);
+            return Ok(Some(with_dollars([0; 16], v, more)));
         };
         let mut fuller = other;
         fuller.give(v, paid);
-        let fewer = lacking_share(&fuller, prices, lost, &open, dollars);
+        let fewer = lacking_share(&fuller, prices, &open, dollars);
         if fewer.work < lack.work {
             best = fuller;
             lack = fewer;
@@ -61,78 +69,205 @@ pub(crate) fn find_share(
             let mut beyond = open;
             beyond[v] -= more;
             let rest = dollars - more;
-            if let Some(found) = find_share(graph, &other, prices, &losses, &beyond, rest) {
-                return Some(found);
+            let later = shifted(prices, v, more, rest);
+            if let Some(losses) = find_share(graph, &other, &later, &beyond, rest, searches)? {
+                return Ok(Some(with_dollars(losses, v, more)));
             }
             open[v] = more - 1;
-            lack = lacking_share(&best, prices, lost, &open, dollars);
+            let mut unpaid = lack.unpaid;
+            unpaid[v] = 0;
+            lack = Lack::of(unpaid, dollars);
         }
+    }
+    Ok(None)
+}
+
+/// A share of one dollar that can't be borne; `None` if each can be. Whoever can pay for a dollar in some divisor of the class
+/// can bear to lose it, so each that is at hand tells of all who can.
+fn find_dollar_share(
+    graph: &Graph,
+    left: &EffectiveDivisor,
+    prices: &Prices,
+    room: &[u32; 16],
+) -> Option<[u32; 16]>
+    requires size { left.now.size ≡ graph.now.size }
+    requires effective { IsEffective graph.now.size (at left.now) }
+    requires small { HasSmallDegree graph.now.size (at left.now) }
+    requires cheap { (v t : ℕ) → v < MAX_VERTICES → t < MAX_PLACES → price prices.now v t ≤ 1000 }
+    ensures { MatchOption result
+        (SharesWin graph.now (at left.now) prices.now room.now 1)
+        (λ _. ⊤) }
+{
+    let size = graph.size();
+    let mut best = *left;
+    let mut unpaid = first_unpaid(&best, prices, room, 1);
+    for v in 0..size {
+        if unpaid[v] == 0 {
+            continue;
+        }
+        let paid = prices[1][v].saturating_sub(prices[0][v]);
+        let Some(other) = after_loss(graph, &best, v, paid) else {
+            return Some(with_dollars([0; 16], v, 1));
+        };
+        best = other;
+        best.give(v, paid);
+        unpaid = unpaid_in_both(unpaid, first_unpaid(&best, prices, room, 1));
     }
     None
 }
 
-/// A vertex that may lose more than it can pay for, and the least number of dollars there: a vertex for which that is the
-/// most, since then the fewest are left to search. And a guess at how long it takes to search all.
+/// So many dollars more lost at a vertex. No clause says so: what is lost serves as a guess.
+fn with_dollars(losses: [u32; 16], v: usize, dollars: u32) -> [u32; 16]
+    requires { v < 16 }
+{
+    let mut more = losses;
+    more[v] = more[v].saturating_add(dollars);
+    more
+}
+
+/// The prices once some dollars are lost at a vertex, for so many more.
+fn shifted(prices: &Prices, v: usize, lost: u32, dollars: u32) -> Prices
+    requires vertex { v < MAX_VERTICES }
+    requires few { lost + dollars < MAX_PLACES }
+    ensures { IsShifted prices.now result v lost dollars }
+{
+    let mut later = *prices;
+    for t in 0..dollars as usize + 1 {
+        later[t] = with_price(&prices[t], v, prices[lost as usize + t][v]);
+    }
+    later
+}
+
+/// What each vertex pays, but for one, which pays so much.
+fn with_price(prices: &[u32; 16], v: usize, price: u32) -> [u32; 16]
+    requires { v < 16 }
+    ensures here { slice_index result v ≡ price }
+    ensures kept { (u : ℕ) → u ≢ v → slice_index result u ≡ slice_index prices.now u }
+{
+    let mut row = *prices;
+    row[v] = price;
+    row
+}
+
+/// What is lacking of what may have to be paid: for each vertex the least number of dollars for which it can't pay, or 0; a
+/// vertex for which that is the most, since then the fewest are left to search; and a guess at how long it takes to search all.
 #[derive(Clone, Copy)]
 struct Lack {
-    share: Option<(usize, u32)>,
+    unpaid: [u32; 16],
+    vertex: Option<usize>,
     work: u32,
 }
 
+impl Lack {
+    /// With the vertex and the guess for what can't be paid.
+    fn of(unpaid: [u32; 16], dollars: u32) -> Lack
+        ensures unpaid { result.unpaid ≡ unpaid }
+        ensures vertex { MatchOption result.vertex
+            ((v : ℕ) → v < 16 → slice_index unpaid v ≡ 0)
+            (λ v. (v < 16) × (0 < slice_index unpaid v)) }
+    {
+        let lanes = u32x16::from_array(unpaid);
+        let beyond = u32x16::splat(dollars.wrapping_add(1)) - lanes;
+        let none = u32x16::splat(0);
+        let work = lanes
+            .simd_gt(none)
+            .select(beyond * beyond, none)
+            .reduce_sum();
+        let v = last_of_most(lanes);
+        let vertex = if v < 16 && unpaid[v] > 0 {
+            Some(v)
+        } else {
+            unpaid.iter().position(|dollars| *dollars > 0)
+        };
+        Lack {
+            unpaid,
+            vertex,
+            work,
+        }
+    }
+}
+
 /// What is lacking of what may have to be paid.
-fn lacking_share(
-    left: &EffectiveDivisor,
-    prices: &Prices,
-    lost: &[u32; 16],
-    room: &[u32; 16],
-    dollars: u32,
-) -> Lack
+fn lacking_share(left: &EffectiveDivisor, prices: &Prices, room: &[u32; 16], dollars: u32) -> Lack
     requires size { left.now.size ≤ MAX_VERTICES }
     requires effective { IsEffective left.now.size (at left.now) }
-    requires places { (v : ℕ) → v < MAX_VERTICES → slice_index lost.now v + slice_index room.now v < MAX_PLACES }
+    requires small { HasSmallDegree left.now.size (at left.now) }
+    requires cheap { (v t : ℕ) → v < MAX_VERTICES → t < MAX_PLACES → price prices.now v t ≤ 1000 }
     requires few { dollars < MAX_PLACES }
-    ensures { IsLackingShare left.now.size (at left.now) prices.now lost.now room.now dollars result.share }
+    ensures unpaid { AreFirstUnpaid left.now.size (at left.now) prices.now room.now dollars result.unpaid }
+    ensures vertex { MatchOption result.vertex
+        ((v : ℕ) → v < 16 → slice_index result.unpaid v ≡ 0)
+        (λ v. (v < 16) × (0 < slice_index result.unpaid v)) }
 {
-    let mut lacking = None;
-    let mut work = 0;
+    Lack::of(first_unpaid(left, prices, room, dollars), dollars)
+}
+
+/// For each vertex the least number of dollars for which it pays more than it holds, of those that it may lose; 0 if it can pay for
+/// all, and past the last vertex.
+fn first_unpaid(
+    left: &EffectiveDivisor,
+    prices: &Prices,
+    room: &[u32; 16],
+    dollars: u32,
+) -> [u32; 16]
+    requires size { left.now.size ≤ MAX_VERTICES }
+    requires effective { IsEffective left.now.size (at left.now) }
+    requires small { HasSmallDegree left.now.size (at left.now) }
+    requires cheap { (v t : ℕ) → v < MAX_VERTICES → t < MAX_PLACES → price prices.now v t ≤ 1000 }
+    requires few { dollars < MAX_PLACES }
+    ensures { AreFirstUnpaid left.now.size (at left.now) prices.now room.now dollars result }
+{
+    let most = most_payable(left, &prices[0]);
+    let mut unpaid = [0; 16];
+    for t in (1..dollars as usize + 1).rev() {
+        mark_unpaid(most, &prices[t], room, t as u32, &mut unpaid);
+    }
+    unpaid
+}
+
+/// The greatest price that each vertex can pay, if so much is paid there before; no price is too great past the last vertex.
+fn most_payable(left: &EffectiveDivisor, paid: &[u32; 16]) -> [u32; 16]
+    requires size { left.now.size ≤ MAX_VERTICES }
+    requires effective { IsEffective left.now.size (at left.now) }
+    requires small { HasSmallDegree left.now.size (at left.now) }
+    requires cheap { (v : ℕ) → v < MAX_VERTICES → slice_index paid.now v ≤ 1000 }
+    ensures held { (v : ℕ) → v < left.now.size → pos (slice_index result v) ≡ at left.now v +ℤ pos (slice_index paid.now v) }
+    ensures past { (v : ℕ) → left.now.size ≤ v → v < 16 → 1000 ≤ slice_index result v }
+{
+    let mut most = [u32::MAX; 16];
     for v in 0..left.size() {
-        let most = room[v].min(dollars);
-        if let Some(more) = first_unpaid(&prices[v], lost[v], most, held_at(left, v)) {
-            lacking = Some(with_more(lacking, (v, more)));
-            let beyond = dollars + 1 - more;
-            work = beyond.wrapping_mul(beyond).wrapping_add(work);
-        }
+        most[v] = paid[v] + held_at(left, v);
     }
-    Lack {
-        share: lacking,
-        work,
+    most
+}
+
+/// Marks with a number of dollars each vertex that has room for them and that pays more for them than it can.
+fn mark_unpaid(
+    most: [u32; 16],
+    prices: &[u32; 16],
+    room: &[u32; 16],
+    dollars: u32,
+    unpaid: &mut [u32; 16],
+)
+    ensures { (v : ℕ) → v < 16 →
+        ((slice_index most v < slice_index prices.now v) × (dollars ≤ slice_index room.now v) ×
+            (slice_index unpaid.new v ≡ dollars)) ⊎
+        (((slice_index prices.now v ≤ slice_index most v) ⊎ (slice_index room.now v < dollars)) ×
+            (slice_index unpaid.new v ≡ slice_index unpaid.old v)) }
+{
+    for v in 0..16 {
+        let lacks = prices[v] > most[v] && room[v] >= dollars;
+        unpaid[v] = if lacks { dollars } else { unpaid[v] };
     }
 }
 
-/// Which of two vertices, each with a number of dollars, has the most; the second if they have as many, or there is no first.
-fn with_more(first: Option<(usize, u32)>, second: (usize, u32)) -> (usize, u32)
-    ensures { (result ≡ second) ⊎ (first ≡ Some result) }
+/// Which vertices can't pay for a dollar in either of two divisors.
+fn unpaid_in_both(first: [u32; 16], second: [u32; 16]) -> [u32; 16]
+    ensures { (v : ℕ) → v < 16 → slice_index result v ≡ min (slice_index first v) (slice_index second v) }
 {
-    if let Some(known) = first {
-        if known.1 > second.1 {
-            return known;
-        }
+    let mut both = first;
+    for v in 0..16 {
+        both[v] = first[v].min(second[v]);
     }
-    second
-}
-
-/// The least number of dollars for which a vertex pays more than it holds, of at most so many.
-fn first_unpaid(row: &[u32; MAX_PLACES], lost: u32, most: u32, held: u32) -> Option<u32>
-    requires { lost + most < MAX_PLACES }
-    ensures { MatchOption result
-        ((t : ℕ) → t ≤ most → slice_index row.now (lost + t) ≤ slice_index row.now lost + held)
-        (λ t. (0 < t) × (t ≤ most) × (slice_index row.now lost + held < slice_index row.now (lost + t))) }
-{
-    let paid = row[lost as usize];
-    for t in 1..most + 1 {
-        if row[(lost + t) as usize].saturating_sub(paid) > held {
-            return Some(t);
-        }
-    }
-    None
+    both
 }

@@ -2,14 +2,14 @@ use Rattle.dg_rank.proofs.Common.{ℕ, ◌≡◌, ◌<◌, List, [], arith, refl
 use Rattle.dg_rank.specs.Shares.{price}
 use Rattle.dg_rank.proofs.folding.prices_by_rows.Goals as goal
 
-free : (u t : ℕ) → u < 16 → t < 64 → price (replicate 16 (replicate 64 0)) u t ≡ 0
+free : (u t : ℕ) → u < 16 → t < 64 → price (replicate 64 (replicate 16 0)) u t ≡ 0
 free u t below few =
-    rw (get_or-replicate {A = List ℕ} 16 u (replicate 64 0) [] below) (get_or-replicate {A = ℕ} 64 t 0 0 few)
+    rw (get_or-replicate {A = List ℕ} 64 t (replicate 16 0) [] few) (get_or-replicate {A = ℕ} 16 u 0 0 below)
 
-pub loop-v-init : goal.loop-v-init
-loop-v-init c = record {
+pub loop-t-init : goal.loop-t-init
+loop-t-init c = record {
   places = refl;
   cheap = λ u t below few. omega (arith, free u t below few);
-  unfolded = λ u t low left few. absurd (omega arith);
-  folded = λ u t below out few. free u t below (omega (arith, c.requires.few, few));
+  unfolded = λ u t below low left. absurd (omega arith);
+  folded = λ u t low out. absurd (omega arith);
 }

@@ -6,5 +6,5 @@ use Rattle.dg_rank.proofs.folding.shared_losses.Goals as goal
 pub returns : goal.returns
 returns c =
     rows_by_shares c.find_share.result c.args.graph.now (in_set c.args.unfolded) c.args.rows.now c.in-Some-Some.prices
-    c.in-Some-Some.left c.args.dollars (λ _. ⊤)
+    c.in-Some-Some.left c.args.dollars (λ _. ⊤) (λ _. ⊤)
     c.size-size.ensures.graph.few c.in-Some-Some.ensures c.in-Some-Some.ensures'.paid c.find_share.ensures
