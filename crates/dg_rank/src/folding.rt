@@ -35,7 +35,8 @@ const MAX_TRIED_BOXES: u32 = 64;
 type Row = [i32; MAX_PLACES];
 
 /// A loss in a box, as `find_box_loss` finds it, by rows. Only that all of the box can be lost rests on them; a loss that they
-/// name is looked for by boxes. It stops where there is no leaf, where a number is too large, and where few boxes find no loss.
+/// name is looked for by boxes. It stops where there is no leaf, where a number is too large, after so many searches of shares,
+/// and where few boxes find no loss.
 /// It stands apart, so that no room is cleared for rows where few boxes tell.
 #[inline(never)]
 pub(crate) fn find_folded_loss(
