@@ -1,6 +1,6 @@
 -- The first loss by boxes with a fixed beginning.
 --   loss_few       a loss of at most so many dollars holds nowhere more
---   first_skip     the first loss that holds nothing before a place, if there is one, is the first of those that may hold something
+--   first_skip     the first loss that holds nothing before a place is the first of those from an earlier place on
 --   first_unpaid   the first loss where one dollar more can't be won
 --   fewer_lost     a loss without one of its dollars, which is taken
 --   loss_fails     where something can't be lost, a divisor fails its test

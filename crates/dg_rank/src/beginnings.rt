@@ -83,7 +83,7 @@ fn find_last_loss(
     if place == graph.size() {
         return None;
     }
-    match find_loss_soon(graph, left, dollars, place) {
+    match find_loss_soon(graph, left, dollars, place, u32::MAX) {
         Ok(Some(loss)) => Some(last_loss_from(graph, left, dollars, place, loss)),
         Ok(None) => None,
         Err(Stopped) => find_last_by_one(graph, left, dollars, place),

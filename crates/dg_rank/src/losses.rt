@@ -35,7 +35,7 @@ pub(crate) fn find_loss_from(
         (TrialsWinFrom graph.now (at left.old) dollars place)
         (IsLossFrom graph.now (at left.old) dollars place) }
 {
-    if let Ok(found) = find_loss_soon(graph, left, dollars, place) {
+    if let Ok(found) = find_loss_soon(graph, left, dollars, place, u32::MAX) {
         return found;
     }
     let room = room_from(graph.size(), dollars, place);
@@ -46,12 +46,13 @@ pub(crate) fn find_loss_from(
     }
 }
 
-/// What `find_loss_from` tells, if a few boxes tell it, or leaves that are folded.
+/// What `find_loss_from` tells, if a few boxes tell it, or leaves that are folded. No search keeps to the number of shares yet.
 pub(crate) fn find_loss_soon(
     graph: &Graph,
     left: &mut EffectiveDivisor,
     dollars: u32,
     place: usize,
+    shares: u32,
 ) -> Result<Option<Trial>, Stopped>
     requires size { left.old.size ≡ graph.now.size }
     requires effective { IsEffective graph.now.size (at left.old) }
