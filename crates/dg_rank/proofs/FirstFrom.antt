@@ -5,6 +5,7 @@
 --   some_less, some_more   trials less a dollars at p, and with them
 --   from_more        a trial with a dollars more is one of as much more
 --   first_above      the first loss of B with a dollars more at p is that of A among those that hold as much there
+--   none_or_some     a trial holds nothing up to p, or a dollar there
 --   first_with       if those win that hold nothing up to p, the first loss with a dollar at p is the first of all
 --   at_last, none_before, first_at_last   the trial that holds all at the last place comes before all others
 --   held_few         no trial holds more than its degree
@@ -113,6 +114,19 @@ first_above g A B r p a L E inside few other loss is = record {
   more : (v : ℕ) → amounts_of_trial E v ≡ amounts_of_trial L v +ℤ only_at p (pos a) v
   more v = ap (λ (T : List ℕ). amounts_of_trial T v) is ∙ some_more L p a v (omega (arith, loss.places))
 
+pub none_or_some : (n r p : ℕ) (F : Amounts) → p < n → IsTrialFrom n r p F → IsTrialFrom n r (p + 1) F ⊎ HoldsAt p 1 F
+none_or_some n r p F inside from = ⊎_elim
+    (λ (none : F p ≡ pos 0). inl (record {
+      effective = from.effective;
+      of_degree = from.of_degree;
+      empty = λ v low. ⊎_elim
+          (λ (there : v ≡ p). rw there none)
+          (λ (apart : v ≡ p → ⊥). from.empty v (omega arith))
+          (cases_eq v p);
+    }))
+    (λ (held : (pos 0 +ℤ pos 1) ≤ℤ F p). inr (omega (arith, ints)))
+    (as_much_or_more (pos 0) (F p) (from.effective p inside))
+
 pub first_with : (g : Multigraph) (A B : Amounts) (r p : ℕ) (E E' : List ℕ) → p < g.size → 1 ≤ r → IsOther g A B p 1 →
     TrialsWinFrom g A r (p + 1) → IsFirstLossFrom g B (r - 1) p E' → E ≡ set E' p (slice_index E' p + 1) →
     IsFirstLossFrom g A r p E
@@ -123,16 +137,9 @@ first_with g A B r p E E' inside some other wins loss is =
       from = above.from;
       loses = above.loses;
       first = λ F from earlier. ⊎_elim
-          (λ (none : F p ≡ pos 0). wins F (record {
-            effective = from.effective;
-            of_degree = from.of_degree;
-            empty = λ v low. ⊎_elim
-                (λ (there : v ≡ p). rw there none)
-                (λ (apart : v ≡ p → ⊥). from.empty v (omega arith))
-                (cases_eq v p);
-          }))
-          (λ (held : (pos 0 +ℤ pos 1) ≤ℤ F p). above.first F from (omega (arith, ints)) earlier)
-          (as_much_or_more (pos 0) (F p) (from.effective p inside));
+          (λ (none : IsTrialFrom g.size r (p + 1) F). wins F none)
+          (λ (held : HoldsAt p 1 F). above.first F from held earlier)
+          (none_or_some g.size r p F inside from);
     }
 
 pub held_at_last : (n r : ℕ) (E : List ℕ) → slice_index E (n - 1) ≡ r → ((u : ℕ) → u + 1 < n → slice_index E u ≡ 0) →

@@ -14,6 +14,7 @@ pub mod Elsewhere
 pub mod LossBoxes
 pub mod FirstFrom
 pub mod FixedBeginnings
+pub mod LastLosses
 -- The trials from one on.
 pub mod Starts
 -- The search for any loss.

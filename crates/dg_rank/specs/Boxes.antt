@@ -12,6 +12,8 @@
 --                                 v in the box
 --   IsLossFrom g A r d E  == A less E is not winnable, where E is a trial of degree at most r that holds
 --                                 nothing before place d
+--   IsLastLoss g A r p E  == A less the trial E is not winnable, where E begins at p: it is of degree at most r, holds
+--                                 a dollar at p, and nothing before; but A less each trial of degree r that begins later is
 --   IsTrialFrom n r d F        == F is effective, of degree r, and holds nothing before place d
 --   TrialsWinFrom g A r d      == A less each of these is winnable
 --   IsFirstLossFrom g A r d E == the trial E is the first of these without which A is not winnable
@@ -20,7 +22,7 @@
 --   TellsFirstIf g A r d P x == x is this first trial, or they all win
 --   IsNotBefore n S F          == F does not come before the trial S
 --   HoldsAt p a F              == F holds a at least at place p
-use Rattle.std.specs.Prelude.{◌≡◌, ℕ, ◌<◌, ◌⊎◌, true, pos, ◌<ℤ◌, ◌≤ℤ◌, List, Option, MatchOption, length, min, slice_index}
+use Rattle.std.specs.Prelude.{◌≡◌, ℕ, ◌+◌, ◌<◌, ◌≤◌, ◌⊎◌, true, pos, ◌<ℤ◌, ◌≤ℤ◌, List, Option, MatchOption, length, min, slice_index}
 use Rattle.dg_theory.specs.Firing.{Amounts, degree, IsEffective}
 use Rattle.dg_theory.specs.Multigraph.{Multigraph}
 use Rattle.dg_theory.specs.Play.{IsWinnable}
@@ -73,6 +75,12 @@ pub record IsTrialFrom (n r d : ℕ) (F : Amounts) : Type 0 where
 
 abbrev pub TrialsWinFrom : Multigraph → Amounts → ℕ → ℕ → Type 0
 TrialsWinFrom g A r d = (F : Amounts) → IsTrialFrom g.size r d F → IsWinnable g (minus A F)
+
+pub record IsLastLoss (g : Multigraph) (A : Amounts) (r p : ℕ) (E : List ℕ) : Type 0 where
+  pub inside : p < g.size
+  pub loss : IsLossFrom g A r p E
+  pub held : 1 ≤ slice_index E p
+  pub later : TrialsWinFrom g A r (p + 1)
 
 pub record IsFirstLossFrom (g : Multigraph) (A : Amounts) (r d : ℕ) (E : List ℕ) : Type 0 where
   pub places : length E ≡ g.size

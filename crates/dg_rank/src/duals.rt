@@ -147,7 +147,7 @@ fn all_trials_win(graph: &Graph, inverse: Option<&InverseLaplacian>, amounts: &W
 {
     let first = Trial::all_at_last(graph.size(), k);
     match effective_with(graph, inverse, amounts, &first) {
-        Some(left) => find_loss_from(graph, &left, k, 0).is_none(),
+        Some(mut left) => find_loss_from(graph, &mut left, k, 0).is_none(),
         None => false,
     }
 }

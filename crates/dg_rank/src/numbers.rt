@@ -182,7 +182,8 @@ fn least_loss(graph: &Graph, left: &EffectiveDivisor, most: u32) -> Option<u32>
         (HasRankAtLeast graph.now (at left.now) most)
         (λ k. (k ≤ most) × FailsFirstAt graph.now (at left.now) k) }
 {
-    let loss = find_loss_from(graph, left, most, 0)?;
+    let mut best = *left;
+    let loss = find_loss_from(graph, &mut best, most, 0)?;
     let dollars = loss.to_divisor().degree() as u32;
     match least_loss(graph, left, dollars - 1) {
         Some(fewer) => Some(fewer),

@@ -1,5 +1,4 @@
-use Rattle.dg_rank.proofs.Common.{◌+◌, ◌-◌}
 use Rattle.dg_rank.proofs.beginnings.+first_loss_from.Given as goal
 
 abbrev pub decreases-first_loss_from : goal.decreases-first_loss_from
-decreases-first_loss_from l = l.graph.now.size - l.place + l.dollars
+decreases-first_loss_from l = l.dollars

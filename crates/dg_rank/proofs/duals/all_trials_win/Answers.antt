@@ -18,7 +18,7 @@ effective_with-requires-clause-few c =
 pub returns-in-Some : goal.returns-in-Some
 returns-in-Some c =
     all_told c.is_none.result c.find_loss_from.result c.args.graph.now (at c.args.amounts.now) (at c.in-Some.left) c.args.k
-    c.requires.some c.in-Some.ensures.form.led c.is_none.ensures c.find_loss_from.ensures
+    c.requires.some c.in-Some.ensures.form.led c.is_none.ensures c.find_loss_from.ensures.told
 
 pub returns-in-None : goal.returns-in-None
 returns-in-None c =

@@ -1,27 +1,25 @@
-use Rattle.dg_rank.proofs.Common.{ℕ, List, Option, MatchOption, at, BoxWins, IsBoxLoss, TrialsWinFrom, IsLossFrom}
-use Rattle.dg_rank.proofs.AnyLoss.{no_twins, told_from}
+use Rattle.dg_rank.proofs.Common.{true, at}
+use Rattle.dg_rank.proofs.AnyLoss.{told_from}
+use Rattle.dg_rank.proofs.Elsewhere.{told_by}
+use Rattle.dg_rank.proofs.LossBoxes.{box_told, class_small}
 use Rattle.dg_rank.proofs.losses.find_loss_from.Goals as goal
-use Rattle.dg_rank.proofs.losses.find_loss_from.Goals.{After-room_from-room}
 
-told : (c : After-room_from-room) (found : Option (List ℕ)) →
-    MatchOption found (BoxWins c.args.graph.now (at c.args.left.now) c.room_from-room.result c.args.dollars)
-    (IsBoxLoss c.args.graph.now (at c.args.left.now) c.room_from-room.result c.args.dollars) →
-    MatchOption found (TrialsWinFrom c.args.graph.now (at c.args.left.now) c.args.dollars c.args.place)
-    (IsLossFrom c.args.graph.now (at c.args.left.now) c.args.dollars c.args.place)
-told c found =
-    told_from found c.args.graph.now (at c.args.left.now) c.args.place c.room_from-room.result c.args.dollars c.requires.place
-    c.room_from-room.ensures.before (rw c.size.ensures.size at c.room_from-room.ensures.past)
+pub find_box_loss-requires-clause-small : goal.find_box_loss-requires-clause-small
+find_box_loss-requires-clause-small c =
+    class_small c.args.graph.now (at c.args.left.now) c.find_loss_soon.new.left c.size.ensures.graph.multigraph c.requires.small
+    c.find_loss_soon.ensures.class
 
-pub find_box_loss-requires-clause-twins : goal.find_box_loss-requires-clause-twins
-find_box_loss-requires-clause-twins c = no_twins c.args.graph.now c.size.ensures.graph.few
+pub returns-clause-class : goal.returns-clause-class
+returns-clause-class c =
+    told_by true c.args.graph.now (at c.args.left.now) (at c.find_loss_soon.new.left) c.find_box_loss.new.left
+    c.find_loss_soon.ensures.class.led c.find_box_loss.ensures.class
 
-pub returns-in-Ok : goal.returns-in-Ok
-returns-in-Ok c = told (goal.at.returns-in-Ok c).After-room_from-room c.in-Ok.found c.in-Ok.ensures.told
-
-pub returns-in-Ok-find_folded_loss : goal.returns-in-Ok-find_folded_loss
-returns-in-Ok-find_folded_loss c =
-    let folded = c.in-Ok-find_folded_loss in
-    told (goal.at.returns-in-Ok-find_folded_loss c).After-room_from-room folded.found folded.ensures
-
-pub returns : goal.returns
-returns c = told (goal.at.returns c).After-room_from-room c.in-Ok-find_box_loss.found c.in-Ok-find_box_loss.ensures.told
+pub returns-clause-told : goal.returns-clause-told
+returns-clause-told c =
+    let g = c.args.graph.now in
+    let room = c.room_from-room.result in
+    let found = c.in-Ok-find_box_loss.found in
+    told_from found g (at c.args.left.now) c.args.place room c.args.dollars c.requires.place c.room_from-room.ensures.before
+    (rw c.size.ensures.size at c.room_from-room.ensures.past)
+    (box_told found g (at c.args.left.now) (at c.find_loss_soon.new.left) room c.args.dollars
+    c.find_loss_soon.ensures.class.led c.in-Ok-find_box_loss.ensures.told)

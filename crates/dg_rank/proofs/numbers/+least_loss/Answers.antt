@@ -6,7 +6,7 @@ use Rattle.dg_rank.proofs.numbers.+least_loss.Goals.{After-degree-dollars}
 
 pub to_divisor-requires : goal.to_divisor-requires
 to_divisor-requires t c =
-    let loss = c.in_ok-loss.ensures in
+    let loss = c.in_ok-loss.ensures.told in
     omega (
       arith,
       ints,
@@ -21,7 +21,7 @@ counted : (t : ℕ) (c : After-degree-dollars t) →
     (¬ HasRankAtLeast c.args.graph.now (at c.args.left.now) (cast c.degree-dollars.result))
 counted t c =
     loss_counted c.args.graph.now (at c.args.left.now) c.args.most c.in_ok-loss.loss c.to_divisor.result c.degree-dollars.result
-    c.requires.few c.requires.effective c.in_ok-loss.ensures c.to_divisor.ensures c.degree-dollars.ensures
+    c.requires.few c.requires.effective c.in_ok-loss.ensures.told c.to_divisor.ensures c.degree-dollars.ensures
 
 pub overflow_cast-dollars : goal.overflow_cast-dollars
 overflow_cast-dollars t c =
