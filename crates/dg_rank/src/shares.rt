@@ -1,6 +1,6 @@
 //! A search for a share of dollars that can't be borne. Each vertex pays a price for as many dollars as are lost there, which is
 //! more than these where leaves are folded into it.
-ghost use Rattle.std.specs.Prelude.{◌≡◌, ◌≢◌, ℕ, ◌+◌, ◌<◌, ◌≤◌, ◌⊎◌, min, pos, ◌+ℤ◌, ⊤, MatchOption, MatchResult, slice_index};
+ghost use Rattle.std.specs.Prelude.{◌≡◌, ◌≢◌, ℕ, ◌+◌, ◌<◌, ◌≤◌, ◌⊎◌, min, pos, ◌+ℤ◌, ⊤, length, MatchOption, MatchResult, slice_index};
 ghost use Rattle.dg_theory.specs.Firing.{IsEffective};
 ghost use Rattle.dg_chips.specs.Vector.{at};
 ghost use Rattle.dg_rank.specs.Losses.{HasSmallDegree};
@@ -166,9 +166,8 @@ impl Lack {
             ((v : ℕ) → v < 16 → slice_index unpaid v ≡ 0)
             (λ v. (v < 16) × (0 < slice_index unpaid v)) }
     {
-        let lanes = u32x16::from_array(unpaid);
+        let (lanes, none) = (u32x16::from_array(unpaid), u32x16::splat(0));
         let beyond = u32x16::splat(dollars.wrapping_add(1)) - lanes;
-        let none = u32x16::splat(0);
         let work = lanes
             .simd_gt(none)
             .select(beyond * beyond, none)
@@ -217,12 +216,14 @@ fn first_unpaid(
     requires few { dollars < MAX_PLACES }
     ensures { AreFirstUnpaid left.now.size (at left.now) prices.now room.now dollars result }
 {
-    let most = most_payable(left, &prices[0]);
-    let mut unpaid = [0; 16];
+    let most = u32x16::from_array(most_payable(left, &prices[0]));
+    let room = u32x16::from_array(*room);
+    let mut unpaid = u32x16::splat(0);
     for t in (1..dollars as usize + 1).rev() {
-        mark_unpaid(most, &prices[t], room, t as u32, &mut unpaid);
+        let paid = u32x16::from_array(prices[t]);
+        unpaid = with_unpaid(most, paid, room, t as u32, unpaid);
     }
-    unpaid
+    unpaid.to_array()
 }
 
 /// The greatest price that each vertex can pay, if so much is paid there before; no price is too great past the last vertex.
@@ -241,33 +242,34 @@ fn most_payable(left: &EffectiveDivisor, paid: &[u32; 16]) -> [u32; 16]
     most
 }
 
-/// Marks with a number of dollars each vertex that has room for them and that pays more for them than it can.
-fn mark_unpaid(
-    most: [u32; 16],
-    prices: &[u32; 16],
-    room: &[u32; 16],
-    dollars: u32,
-    unpaid: &mut [u32; 16],
-)
-    ensures { (v : ℕ) → v < 16 →
-        ((slice_index most v < slice_index prices.now v) × (dollars ≤ slice_index room.now v) ×
-            (slice_index unpaid.new v ≡ dollars)) ⊎
-        (((slice_index prices.now v ≤ slice_index most v) ⊎ (slice_index room.now v < dollars)) ×
-            (slice_index unpaid.new v ≡ slice_index unpaid.old v)) }
+/// Marks with a number of dollars, some, each vertex that has room for them and that pays more for them than it can.
+fn with_unpaid(most: u32x16, prices: u32x16, room: u32x16, dollars: u32, unpaid: u32x16) -> u32x16
+    requires { 0 < dollars }
+    ensures long { length result ≡ 16 }
+    ensures lanes { (v : ℕ) → v < 16 →
+        ((slice_index most v < slice_index prices v) × (dollars ≤ slice_index room v) ×
+            (slice_index result v ≡ dollars)) ⊎
+        (((slice_index prices v ≤ slice_index most v) ⊎ (slice_index room v < dollars)) ×
+            (slice_index result v ≡ slice_index unpaid v)) }
 {
-    for v in 0..16 {
-        let lacks = prices[v] > most[v] && room[v] >= dollars;
-        unpaid[v] = if lacks { dollars } else { unpaid[v] };
-    }
+    let marked = select_greater(prices, most, u32x16::splat(dollars), unpaid);
+    select_greater(room, u32x16::splat(dollars - 1), marked, unpaid)
 }
 
-/// Which vertices can't pay for a dollar in either of two divisors.
+/// For how many dollars each vertex can't pay in either of two divisors, if it is one or none.
 fn unpaid_in_both(first: [u32; 16], second: [u32; 16]) -> [u32; 16]
     ensures { (v : ℕ) → v < 16 → slice_index result v ≡ min (slice_index first v) (slice_index second v) }
 {
-    let mut both = first;
-    for v in 0..16 {
-        both[v] = first[v].min(second[v]);
-    }
-    both
+    let (first, second) = (u32x16::from_array(first), u32x16::from_array(second));
+    select_greater(first, second, second, first).to_array()
+}
+
+/// By lanes: `more` where the first number is greater than the second, else `other`.
+fn select_greater(first: u32x16, second: u32x16, more: u32x16, other: u32x16) -> u32x16
+    ensures long { length result ≡ 16 }
+    ensures lanes { (v : ℕ) → v < 16 →
+        ((slice_index second v < slice_index first v) × (slice_index result v ≡ slice_index more v)) ⊎
+        ((slice_index first v ≤ slice_index second v) × (slice_index result v ≡ slice_index other v)) }
+{
+    first.simd_gt(second).select(more, other)
 }

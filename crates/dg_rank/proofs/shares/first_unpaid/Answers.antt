@@ -9,7 +9,7 @@ loop-t-preserved c =
     let most = c.most_payable-most.ensures in
     let held = c.loop-t.invariant in
     record {
-      places = omega (arith, c.type_inv.unpaid);
+      places = c.with_unpaid-unpaid.ensures.long;
       paid = λ v s below low within few least. ⊎_elim
           (λ marked. absurd (omega (arith, marked.2, least (omega (arith, marked.2, c.loop-t-test.true)))))
           (λ kept. ⊎_elim
@@ -20,7 +20,7 @@ loop-t-preserved c =
           (λ (other : s ≡ t → ⊥).
           held.paid v s below (omega arith) within few (λ some. omega (arith, kept.1, least (omega (arith, kept.1, some)))))
           (cases_eq s t))
-          (c.mark_unpaid.ensures v (omega (arith, below, c.requires.size)));
+          (c.with_unpaid-unpaid.ensures.lanes v (omega (arith, below, c.requires.size)));
       unpaid = λ v some. ⊎_elim
           (λ (inside : v < 16). ⊎_elim
           (λ marked. ⊎_elim
@@ -35,8 +35,8 @@ loop-t-preserved c =
           (arith, marked.0, most.past v past inside, c.requires.cheap v t inside (omega (arith, c.loop-t.auto.t, c.requires.few)))))
           (cases_lt v c.args.left.now.size))
           (λ kept. rw kept.1 (held.unpaid v (omega (arith, kept.1, some))))
-          (c.mark_unpaid.ensures v inside))
+          (c.with_unpaid-unpaid.ensures.lanes v inside))
           (λ (past : 16 ≤ v).
-          absurd (omega (arith, some, get_or_past c.mark_unpaid.new.unpaid v 0 (omega (arith, past, c.type_inv.unpaid)))))
+          absurd (omega (arith, some, get_or_past c.with_unpaid-unpaid.result v 0 (omega (arith, past, c.with_unpaid-unpaid.ensures.long)))))
           (cases_lt v 16);
     }
