@@ -112,7 +112,6 @@ fn last_loss_from(
     ensures from { place ≤ result.0 }
     ensures last { IsLastLoss graph.now (at left.old) dollars result.0 result.1 }
 {
-    let _size = graph.size();
     if known.get(place) == 0 {
         return last_loss_from(graph, left, dollars, place + 1, known);
     }
