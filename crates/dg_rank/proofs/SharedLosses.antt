@@ -3,12 +3,15 @@
 --   rich_shares    where each vertex holds what it may have to pay, all shares can be borne
 --   shares_moved   who can bear them from equivalent amounts can do so from these
 --   shares_told    else, if those that lose so many dollars more at a vertex can, and those that lose fewer there
---   DollarWins g A P r v == v may lose no dollar, or A less its price is winnable
+--   shares_same    who can bear them by one table can do so by another with the same prices
+--   dollar_told    for one dollar the prices for none and one are enough
+--   dollar_shift   and so they are once some dollars are lost
+--   DollarWins g A o d r v == v may lose no dollar, or A less its price is winnable
 --   payer_wins     what a divisor of the class can pay at a vertex can be paid
 --   dollar_shares  if each vertex can pay for a dollar, all shares of one dollar can be borne
 --   still_first    where there is less room at a vertex, what it can't pay for is beyond
 --   rows_by_shares if all shares can be borne of what the rows say that is held, for what they say that is paid, the rows win
-use Rattle.dg_rank.proofs.Common.{◌≡◌, ℕ, ◌+◌, ◌-◌, ◌<◌, ◌≤◌, ◌⊎◌, inl, inr, ⊎_elim, Bool, true, false, List, [], arith, cases_eq, cases_lt, cases_Bool, get_or_past, by_lt_z, ints, length, set, replicate, get_or-replicate, get_or-set_same, get_or-set_other, slice_index, ℤ, pos, ◌≤ℤ◌, ◌<ℤ◌, unsigned_abs, Option, Some, None, MatchOption, Result, Ok, Err, MatchResult, Multigraph, Amounts, degree, only_at, minus, degree-less, degree-only_at, only_at-here, only_at-other, sum_below-one, sum_below-two, equivalent-winnable, win_more, AreEquivalent, IsWinnable, IsInLinearSystem, Vector, at}
+use Rattle.dg_rank.proofs.Common.{◌≡◌, ℕ, ◌+◌, ◌-◌, ◌<◌, ◌≤◌, ◌⊎◌, ◌∷◌, ◌≢◌, refl, inl, inr, ⊎_elim, Bool, true, false, List, [], arith, cases_eq, cases_lt, cases_Bool, get_or_past, by_lt_z, ints, length, set, replicate, get_or-replicate, get_or-set_same, get_or-set_other, slice_index, slice_index_or, ℤ, pos, ◌≤ℤ◌, ◌<ℤ◌, unsigned_abs, Option, Some, None, MatchOption, Result, Ok, Err, MatchResult, Multigraph, Amounts, degree, only_at, minus, degree-less, degree-only_at, only_at-here, only_at-other, sum_below-one, sum_below-two, equivalent-winnable, win_more, AreEquivalent, IsWinnable, IsInLinearSystem, Vector, at}
 use Rattle.std.proofs.Math.IntN.{◌+ℤ◌, ◌-ℤ◌}
 use Rattle.dg_rank.specs.Shares.{price, IsAfterShare, SharesWin, IsLackAt, AreFirstUnpaid, IsShifted}
 use Rattle.dg_rank.specs.Folding.{RowsWin, IsHeldByRows, ArePaidByRows}
@@ -89,7 +92,7 @@ shares_told g A B P Q r j v t lack placed rich (s, leads) shift beyond closed D 
           (λ (other : u ≡ v → ⊥).
           let stays : minus after.share (only_at v (pos t)) u ≡ after.share u =
           omega (arith, ints, only_at-other v (pos t) u other) in
-          rw (stays, shift.kept u 0 (inl other), shift.kept u (unsigned_abs (after.share u)) (inl other))
+          rw (stays, shift.kept u 0 other (omega arith), shift.kept u (unsigned_abs (after.share u)) other (few_else u low other many))
           (omega (arith, ints, after.paid u low, only_at-other v (pos c) u other)))
           (cases_eq u v);
     }))) where
@@ -98,6 +101,16 @@ shares_told g A B P Q r j v t lack placed rich (s, leads) shift beyond closed D 
 
       D' : Amounts
       D' u = D u +ℤ (B u -ℤ minus A (only_at v (pos c)) u)
+
+      few_else : (u : ℕ) → u < g.size → (u ≡ v → ⊥) → pos t ≤ℤ after.share v → unsigned_abs (after.share u) ≤ j - t
+      few_else u low other many = omega (
+        arith,
+        ints,
+        sum_below-two g.size v u after.share lack.below low other (λ w below _. after.effective w below),
+        after.effective u low,
+        after.few,
+        many,
+      )
 
       at_lack : pos t ≤ℤ after.share v → (B v +ℤ pos (price Q v 0))
           ≤ℤ (D' v +ℤ pos (price Q v (unsigned_abs (minus after.share (only_at v (pos t)) v))))
@@ -111,8 +124,53 @@ shares_told g A B P Q r j v t lack placed rich (s, leads) shift beyond closed D 
           rw (shift.here 0 (omega arith), shift.here (unsigned_abs (minus after.share (only_at v (pos t)) v)) few, rest, none)
           (omega (arith, ints, after.paid v lack.below, only_at-here v (pos c), lack.lacks))
 
-abbrev pub DollarWins : Multigraph → Amounts → List (List ℕ) → List ℕ → ℕ → Type 0
-DollarWins g A P r v = (slice_index r v ≡ 0) ⊎ IsWinnable g (minus A (only_at v (pos (price P v 1 - price P v 0))))
+pub shares_same : (g : Multigraph) (A : Amounts) (P Q : List (List ℕ)) (r : List ℕ) (j : ℕ) →
+    ((v t : ℕ) → t ≤ j → price P v t ≡ price Q v t) → SharesWin g A Q r j → SharesWin g A P r j
+shares_same g A P Q r j same wins D after = wins D (record {
+  share = after.share;
+  effective = after.effective;
+  few = after.few;
+  within = after.within;
+  paid = λ v below.
+      let part = share_few g.size A D P r j v after below in
+      rw (same v 0 (omega arith), same v (unsigned_abs (after.share v)) part.few) at (after.paid v below);
+})
+
+pub dollar_told : (o : Option (List ℕ)) (g : Multigraph) (A : Amounts) (P : List (List ℕ)) (r : List ℕ) (j : ℕ) (Q : List ℕ → Type 0) →
+    j ≡ 1 → MatchOption o (SharesWin g A (slice_index_or P 0 [] ∷ slice_index_or P 1 [] ∷ []) r 1) Q →
+    MatchOption o (SharesWin g A P r j) Q
+dollar_told (Some E) g A P r j Q one told = told
+dollar_told None g A P r j Q one wins = rw one (shares_same g A P (slice_index_or P 0 [] ∷ slice_index_or P 1 [] ∷ []) r 1
+    (λ v t few. ⊎_elim
+    (λ (none : t ≡ 0). rw none refl)
+    (λ (some : t ≡ 0 → ⊥).
+    let is : t ≡ 1 = omega arith in
+    rw is refl)
+    (cases_eq t 0))
+    wins)
+
+pub dollar_shift : (P : List (List ℕ)) (o d : List ℕ) (v t : ℕ) → slice_index o v ≡ price P v t →
+    ((u : ℕ) → u ≢ v → slice_index o u ≡ price P u 0) → slice_index d v ≡ price P v (t + 1) →
+    ((u : ℕ) → u ≢ v → slice_index d u ≡ price P u 1) → IsShifted P (o ∷ d ∷ []) v t 1
+dollar_shift P o d v t here none here' one = record {
+  here = λ s few. ⊎_elim
+      (λ (first : s ≡ 0).
+      let same : t + 0 ≡ t = omega arith in
+      rw (first, same) here)
+      (λ (other : s ≡ 0 → ⊥).
+      let second : s ≡ 1 = omega arith in
+      rw second here')
+      (cases_eq s 0);
+  kept = λ u s apart few. ⊎_elim
+      (λ (first : s ≡ 0). rw first (none u apart))
+      (λ (other : s ≡ 0 → ⊥).
+      let second : s ≡ 1 = omega arith in
+      rw second (one u apart))
+      (cases_eq s 0);
+}
+
+abbrev pub DollarWins : Multigraph → Amounts → List ℕ → List ℕ → List ℕ → ℕ → Type 0
+DollarWins g A o d r v = (slice_index r v ≡ 0) ⊎ IsWinnable g (minus A (only_at v (pos (slice_index d v - slice_index o v))))
 
 pub payer_wins : (g : Multigraph) (A : Amounts) (x : Vector) (v c : ℕ) → IsInLinearSystem g A x → pos c ≤ℤ at x v →
     IsWinnable g (minus A (only_at v (pos c)))
@@ -127,22 +185,22 @@ payer_wins g A x v c class some =
           (cases_eq u v),
     )
 
-pub dollar_shares : (g : Multigraph) (A : Amounts) (P : List (List ℕ)) (r : List ℕ) →
-    ((v : ℕ) → v < g.size → pos 0 ≤ℤ A v) → ((v : ℕ) → v < g.size → DollarWins g A P r v) → SharesWin g A P r 1
-dollar_shares g A P r rich borne D after = ⊎_elim
+pub dollar_shares : (g : Multigraph) (A : Amounts) (o d r : List ℕ) →
+    ((v : ℕ) → v < g.size → pos 0 ≤ℤ A v) → ((v : ℕ) → v < g.size → DollarWins g A o d r v) → SharesWin g A (o ∷ d ∷ []) r 1
+dollar_shares g A o d r rich borne D after = ⊎_elim
     (λ (none : AllBelow g.size (λ u. after.share u ≤ℤ pos 0)). ([], λ v below.
     let nothing : unsigned_abs (after.share v) ≡ 0 = omega (arith, ints, none v below, after.effective v below) in
     omega (arith, ints, rich v below, rw nothing at (after.paid v below))))
     (λ (first : FirstOf g.size (λ u. after.share u ≤ℤ pos 0) (λ u. pos 0 <ℤ after.share u)).
     let v = first.0 in ⊎_elim
     (λ (closed : slice_index r v ≡ 0). absurd (omega (arith, ints, first.2, after.within v first.1)))
-    (λ (win : IsWinnable g (minus A (only_at v (pos (price P v 1 - price P v 0))))).
-    win_more g (minus A (only_at v (pos (price P v 1 - price P v 0)))) D
+    (λ (win : IsWinnable g (minus A (only_at v (pos (slice_index d v - slice_index o v))))).
+    win_more g (minus A (only_at v (pos (slice_index d v - slice_index o v)))) D
     (λ u low. ⊎_elim
     (λ (same : u ≡ v). rw same (
-    let part = share_few g.size A D P r 1 v after first.1 in
+    let part = share_few g.size A D (o ∷ d ∷ []) r 1 v after first.1 in
     let one : unsigned_abs (after.share v) ≡ 1 = omega (arith, ints, part.is, part.few, first.2) in
-    omega (arith, ints, only_at-here v (pos (price P v 1 - price P v 0)), rw one at (after.paid v first.1))))
+    omega (arith, ints, only_at-here v (pos (slice_index d v - slice_index o v)), rw one at (after.paid v first.1))))
     (λ (other : u ≡ v → ⊥).
     let nothing : unsigned_abs (after.share u) ≡ 0 = omega (
       arith,
@@ -152,7 +210,7 @@ dollar_shares g A P r rich borne D after = ⊎_elim
       after.few,
       first.2,
     ) in
-    omega (arith, ints, only_at-other v (pos (price P v 1 - price P v 0)) u other, rw nothing at (after.paid u low)))
+    omega (arith, ints, only_at-other v (pos (slice_index d v - slice_index o v)) u other, rw nothing at (after.paid u low)))
     (cases_eq u v))
     win)
     (borne v first.1))

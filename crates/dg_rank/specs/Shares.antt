@@ -6,9 +6,9 @@
 --   IsLackAt n A P r j v t    == v may lose t dollars, some, and A holds less than it pays for them
 --   AreFirstUnpaid n A P r j l == of the numbers of dollars that v may lose the list l has the least for which A holds less than v
 --                                pays, or 0 if A holds as much for all
---   IsShifted P Q v t j       == by Q as much is paid at v for up to j dollars as by P once t more are lost there, and as much
---                                as by P elsewhere
-use Rattle.std.specs.Prelude.{◌≡◌, ◌≢◌, ℕ, ◌+◌, ◌<◌, ◌≤◌, ◌⊎◌, pos, ◌+ℤ◌, ◌<ℤ◌, ◌≤ℤ◌, List, [], slice_index}
+--   IsShifted P Q v t j       == for up to j dollars as much is paid at v by Q as by P once t more are lost there, and as much
+--                                elsewhere
+use Rattle.std.specs.Prelude.{◌≡◌, ◌≢◌, ℕ, ◌+◌, ◌<◌, ◌≤◌, pos, ◌+ℤ◌, ◌<ℤ◌, ◌≤ℤ◌, List, [], slice_index}
 use Rattle.std.specs.List.{slice_index_or}
 use Rattle.std.specs.Int.RustNames.{unsigned_abs}
 use Rattle.dg_theory.specs.Firing.{Amounts, degree, IsEffective}
@@ -42,4 +42,4 @@ pub record AreFirstUnpaid (n : ℕ) (A : Amounts) (P : List (List ℕ)) (r : Lis
 
 pub record IsShifted (P Q : List (List ℕ)) (v t j : ℕ) : Type 0 where
   pub here : (s : ℕ) → s ≤ j → price Q v s ≡ price P v (t + s)
-  pub kept : (u s : ℕ) → (u ≢ v) ⊎ (j < s) → price Q u s ≡ price P u s
+  pub kept : (u s : ℕ) → u ≢ v → s ≤ j → price Q u s ≡ price P u s

@@ -1,6 +1,6 @@
 //! A search for a share of dollars that can't be borne. Each vertex pays a price for as many dollars as are lost there, which is
 //! more than these where leaves are folded into it.
-ghost use Rattle.std.specs.Prelude.{◌≡◌, ◌≢◌, ℕ, ◌+◌, ◌<◌, ◌≤◌, ◌⊎◌, min, pos, ◌+ℤ◌, ⊤, length, MatchOption, MatchResult, slice_index};
+ghost use Rattle.std.specs.Prelude.{◌≡◌, ◌≢◌, ◌∷◌, [], ◌≤ℤ◌, ℕ, ◌+◌, ◌<◌, ◌≤◌, ◌⊎◌, min, pos, ◌+ℤ◌, ⊤, length, MatchOption, MatchResult, slice_index};
 ghost use Rattle.dg_theory.specs.Firing.{IsEffective};
 ghost use Rattle.dg_chips.specs.Vector.{at};
 ghost use Rattle.dg_rank.specs.Losses.{HasSmallDegree};
@@ -48,7 +48,7 @@ pub(crate) fn find_share(
     }
     *searches -= 1;
     if dollars == 1 {
-        return Ok(find_dollar_share(graph, left, prices, room));
+        return Ok(find_dollar_share(graph, left, prices[0], prices[1], room));
     }
     let mut open = *room;
     let mut best = *left;
@@ -69,8 +69,16 @@ pub(crate) fn find_share(
             let mut beyond = open;
             beyond[v] -= more;
             let rest = dollars - more;
-            let later = shifted(prices, v, more, rest);
-            if let Some(losses) = find_share(graph, &other, &later, &beyond, rest, searches)? {
+            let found = if rest == 1 {
+                let none = with_price(&prices[0], v, prices[more as usize][v]);
+                let one = with_price(&prices[1], v, prices[more as usize + 1][v]);
+                find_dollar_share(graph, &other, none, one, &beyond)
+            } else {
+                let mut later = *prices;
+                shift(&mut later, v, more, rest);
+                find_share(graph, &other, &later, &beyond, rest, searches)?
+            };
+            if let Some(losses) = found {
                 return Ok(Some(with_dollars(losses, v, more)));
             }
             open[v] = more - 1;
@@ -82,38 +90,58 @@ pub(crate) fn find_share(
     Ok(None)
 }
 
-/// A share of one dollar that can't be borne; `None` if each can be. Whoever can pay for a dollar in some divisor of the class
-/// can bear to lose it, so each that is at hand tells of all who can.
+/// A share of one dollar that can't be borne, by the prices for none and for one; `None` if each can be. Whoever can pay for a
+/// dollar in some divisor of the class can bear to lose it, so each that is at hand tells of all who can.
 fn find_dollar_share(
     graph: &Graph,
     left: &EffectiveDivisor,
-    prices: &Prices,
+    none: [u32; 16],
+    one: [u32; 16],
     room: &[u32; 16],
 ) -> Option<[u32; 16]>
     requires size { left.now.size ≡ graph.now.size }
     requires effective { IsEffective graph.now.size (at left.now) }
     requires small { HasSmallDegree graph.now.size (at left.now) }
-    requires cheap { (v t : ℕ) → v < MAX_VERTICES → t < MAX_PLACES → price prices.now v t ≤ 1000 }
+    requires cheap { (v : ℕ) → v < MAX_VERTICES → (slice_index none v ≤ 1000) × (slice_index one v ≤ 1000) }
     ensures { MatchOption result
-        (SharesWin graph.now (at left.now) prices.now room.now 1)
+        (SharesWin graph.now (at left.now) (none ∷ one ∷ []) room.now 1)
         (λ _. ⊤) }
 {
     let size = graph.size();
     let mut best = *left;
-    let mut unpaid = first_unpaid(&best, prices, room, 1);
+    let mut unpaid = unpaid_dollars(&best, &none, &one, room);
     for v in 0..size {
         if unpaid[v] == 0 {
             continue;
         }
-        let paid = prices[1][v].saturating_sub(prices[0][v]);
+        let paid = one[v].saturating_sub(none[v]);
         let Some(other) = after_loss(graph, &best, v, paid) else {
             return Some(with_dollars([0; 16], v, 1));
         };
         best = other;
         best.give(v, paid);
-        unpaid = unpaid_in_both(unpaid, first_unpaid(&best, prices, room, 1));
+        unpaid = unpaid_in_both(unpaid, unpaid_dollars(&best, &none, &one, room));
     }
     None
+}
+
+/// Which vertices may lose a dollar that they can't pay for, by the prices for none and for one: 1 there, and else 0.
+fn unpaid_dollars(
+    left: &EffectiveDivisor,
+    none: &[u32; 16],
+    one: &[u32; 16],
+    room: &[u32; 16],
+) -> [u32; 16]
+    requires size { left.now.size ≤ MAX_VERTICES }
+    requires effective { IsEffective left.now.size (at left.now) }
+    requires small { HasSmallDegree left.now.size (at left.now) }
+    requires cheap { (v : ℕ) → v < MAX_VERTICES → slice_index none.now v ≤ 1000 }
+    ensures { (v : ℕ) → v < left.now.size → slice_index result v ≡ 0 →
+        (slice_index room.now v ≡ 0) ⊎ (pos (slice_index one.now v) ≤ℤ (at left.now v +ℤ pos (slice_index none.now v))) }
+{
+    let most = u32x16::from_array(most_payable(left, none));
+    let (one, room) = (u32x16::from_array(*one), u32x16::from_array(*room));
+    with_unpaid(most, one, room, 1, u32x16::splat(0)).to_array()
 }
 
 /// So many dollars more lost at a vertex. No clause says so: what is lost serves as a guess.
@@ -125,17 +153,18 @@ fn with_dollars(losses: [u32; 16], v: usize, dollars: u32) -> [u32; 16]
     more
 }
 
-/// The prices once some dollars are lost at a vertex, for so many more.
-fn shifted(prices: &Prices, v: usize, lost: u32, dollars: u32) -> Prices
+/// The prices become those once some dollars are lost at a vertex, for so many more.
+fn shift(prices: &mut Prices, v: usize, lost: u32, dollars: u32)
     requires vertex { v < MAX_VERTICES }
+    requires some { 0 < lost }
     requires few { lost + dollars < MAX_PLACES }
-    ensures { IsShifted prices.now result v lost dollars }
+    ensures shifted { IsShifted prices.old prices.new v lost dollars }
+    ensures past { (u t : ℕ) → dollars < t → price prices.new u t ≡ price prices.old u t }
 {
-    let mut later = *prices;
     for t in 0..dollars as usize + 1 {
-        later[t] = with_price(&prices[t], v, prices[lost as usize + t][v]);
+        let row = with_price(&prices[t], v, prices[lost as usize + t][v]);
+        prices[t] = row;
     }
-    later
 }
 
 /// What each vertex pays, but for one, which pays so much.

@@ -1,18 +1,16 @@
-use Rattle.dg_rank.proofs.Common.{◌≡◌, ◌-◌, ◌<◌, ◌≤◌, inl, inr, ⊎_elim, true, arith, ints, cases_eq, cases_lt, slice_index, ◌≤ℤ◌, pos, unsigned_abs, only_at, only_at-here, minus, at, IsInLinearSystem, ℕ, Vector, List, Multigraph, Amounts}
-use Rattle.dg_rank.specs.Shares.{price, AreFirstUnpaid}
+use Rattle.dg_rank.proofs.Common.{◌≡◌, ◌-◌, ◌<◌, ◌≤◌, ◌⊎◌, inl, inr, ⊎_elim, true, arith, ints, cases_eq, slice_index, ◌≤ℤ◌, ◌+ℤ◌, pos, unsigned_abs, only_at, only_at-here, minus, at, IsInLinearSystem, ℕ, Vector, List, Multigraph, Amounts}
 use Rattle.dg_rank.proofs.Elsewhere.{given_back, own_class, rich_small, told_by}
 use Rattle.dg_rank.proofs.LossBoxes.{class_small, taken_small}
 use Rattle.dg_rank.proofs.SharedLosses.{DollarWins, dollar_shares, payer_wins}
 use Rattle.dg_rank.proofs.shares.find_dollar_share.Goals as goal
 
-paid_wins : (g : Multigraph) (A : Amounts) (x : Vector) (P : List (List ℕ)) (r l : List ℕ) (u : ℕ) → IsInLinearSystem g A x →
-    AreFirstUnpaid g.size (at x) P r 1 l → u < g.size → slice_index l u ≡ 0 → DollarWins g A P r u
-paid_wins g A x P r l u class told below none = ⊎_elim
+paid_wins : (g : Multigraph) (A : Amounts) (x : Vector) (o d r : List ℕ) (u : ℕ) → IsInLinearSystem g A x → u < g.size →
+    (slice_index r u ≡ 0) ⊎ (pos (slice_index d u) ≤ℤ (at x u +ℤ pos (slice_index o u))) → DollarWins g A o d r u
+paid_wins g A x o d r u class below payable = ⊎_elim
     (λ (closed : slice_index r u ≡ 0). inl closed)
-    (λ (some : slice_index r u ≡ 0 → ⊥). inr (payer_wins g A x u (price P u 1 - price P u 0) class
-    (omega (arith, ints, class.effective u below,
-    told.paid u 1 below (omega arith) (omega arith) (λ (more : 0 < slice_index l u). absurd (omega (arith, more, none)))))))
-    (cases_eq (slice_index r u) 0)
+    (λ (paid : pos (slice_index d u) ≤ℤ (at x u +ℤ pos (slice_index o u))).
+    inr (payer_wins g A x u (slice_index d u - slice_index o u) class (omega (arith, ints, class.effective u below, paid))))
+    payable
 
 pub loop-v-init : goal.loop-v-init
 loop-v-init c =
@@ -21,8 +19,8 @@ loop-v-init c =
     record {
       class = own;
       small = c.requires.small;
-      payable = λ u below none. paid_wins g (at c.args.left.now) c.args.left.now c.args.prices.now c.args.room.now
-          c.first_unpaid-unpaid.result u own (rw c.requires.size at c.first_unpaid-unpaid.ensures) below none;
+      payable = λ u below none. paid_wins g (at c.args.left.now) c.args.left.now c.args.none c.args.one c.args.room.now u own
+          below (c.unpaid_dollars-unpaid.ensures u (omega (arith, below, c.requires.size)) none);
       done = λ u low. absurd (omega arith);
     }
 
@@ -39,8 +37,8 @@ give-requires-clause-range c =
     below in
     omega arith
 
-pub first_unpaid-requires-clause-small : goal.first_unpaid-requires-clause-small
-first_unpaid-requires-clause-small c =
+pub unpaid_dollars-requires-clause-small : goal.unpaid_dollars-requires-clause-small
+unpaid_dollars-requires-clause-small c =
     let g = c.args.graph.now in
     let A = at c.loop-v.best in
     let v = c.loop-v.v in
@@ -53,7 +51,8 @@ pub loop-v-preserved : goal.loop-v-preserved
 loop-v-preserved c =
     let g = c.args.graph.now in
     let A = at c.loop-v.best in
-    let P = c.args.prices.now in
+    let o = c.args.none in
+    let d = c.args.one in
     let r = c.args.room.now in
     let v = c.loop-v.v in
     let paid = c.saturating_sub-paid.result in
@@ -66,12 +65,13 @@ loop-v-preserved c =
       small = class_small g A c.give.new.self c.size-size.ensures.graph.multigraph c.loop-v.invariant.small form;
       payable = λ u inside none. ⊎_elim
           (λ (before : slice_index c.loop-v.unpaid u ≡ 0). c.loop-v.invariant.payable u inside before)
-          (λ (unpaid : slice_index c.loop-v.unpaid u ≡ 0 → ⊥). paid_wins g (at c.args.left.now) c.give.new.self P r
-          c.first_unpaid.result u class (rw form.size at c.first_unpaid.ensures) inside
-          (omega (arith, c.unpaid_in_both-unpaid.ensures u (omega (arith, inside, c.size-size.ensures.graph.few)), none)))
+          (λ (unpaid : slice_index c.loop-v.unpaid u ≡ 0 → ⊥). paid_wins g (at c.args.left.now) c.give.new.self o d r u class
+          inside (c.unpaid_dollars.ensures u (omega (arith, inside, form.size))
+          (omega (arith, c.unpaid_in_both-unpaid.ensures u (omega (arith, inside, c.size-size.ensures.graph.few)), none))))
           (cases_eq (slice_index c.loop-v.unpaid u) 0);
       done = λ u low. ⊎_elim
-          (λ (same : u ≡ v). rw same (inr (payer_wins g (at c.args.left.now) c.give.new.self v (price P v 1 - price P v 0) class
+          (λ (same : u ≡ v). rw same (inr (payer_wins g (at c.args.left.now) c.give.new.self v
+          (slice_index d v - slice_index o v) class
           (omega (arith, ints, c.give.ensures.amounts v, only_at-here v (pos paid), c.in-Some.ensures.effective v below,
           c.saturating_sub-paid.ensures)))))
           (λ (other : u ≡ v → ⊥). c.loop-v.invariant.done u (omega arith))
@@ -80,5 +80,5 @@ loop-v-preserved c =
 
 pub returns : goal.returns
 returns c =
-    dollar_shares c.args.graph.now (at c.args.left.now) c.args.prices.now c.args.room.now c.requires.effective
+    dollar_shares c.args.graph.now (at c.args.left.now) c.args.none c.args.one c.args.room.now c.requires.effective
     (λ u below. c.loop-v.invariant.done u (omega (arith, c.loop-v-test.false, c.size-size.ensures.size)))
