@@ -1,5 +1,5 @@
-use Rattle.dg_rank.proofs.Common.{◌≡◌, ◌∷◌, [], sym, ◌+◌, ◌-◌, ◌<◌, ◌≤◌, ⊎_elim, inl, inr, arith, ints, ◌∙◌, unsigned_abs, cases_eq, cases_lt, length, length-set, slice_index, pos, only_at, minus, at, IsInLinearSystem, ℕ}
-use Rattle.dg_rank.specs.Shares.{price, IsLackAt}
+use Rattle.dg_rank.proofs.Common.{◌≡◌, ◌∷◌, [], sym, ◌+◌, ◌-◌, ◌<◌, ◌≤◌, ⊎_elim, arith, ints, ◌∙◌, unsigned_abs, cases_eq, cases_lt, length, length-set, slice_index, pos, only_at, minus, at}
+use Rattle.dg_rank.specs.Shares.{price}
 use Rattle.dg_rank.proofs.LossBoxes.{class_small, taken_small}
 use Rattle.dg_rank.proofs.Elsewhere.{given_back, rich_small}
 use Rattle.dg_rank.proofs.SharedLosses.{dollar_shift, dollar_told, rich_shares, shares_moved, shares_told, still_first}

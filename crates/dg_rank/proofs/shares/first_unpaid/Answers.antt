@@ -1,4 +1,4 @@
-use Rattle.dg_rank.proofs.Common.{◌≡◌, ◌-◌, ◌<◌, ◌≤◌, ◌⊎◌, ⊎_elim, arith, ints, cases_eq, cases_lt, get_or_past, slice_index, slice_index_or, [], length, ℕ}
+use Rattle.dg_rank.proofs.Common.{◌≡◌, ◌-◌, ◌<◌, ◌≤◌, ⊎_elim, arith, ints, cases_eq, cases_lt, get_or_past, slice_index}
 use Rattle.dg_rank.specs.Shares.{price}
 use Rattle.dg_rank.proofs.shares.first_unpaid.Goals as goal
 

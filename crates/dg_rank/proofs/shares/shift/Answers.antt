@@ -1,4 +1,4 @@
-use Rattle.dg_rank.proofs.Common.{◌≡◌, ◌≢◌, ℕ, ◌+◌, ◌<◌, ◌≤◌, ⊎_elim, List, [], arith, ap, ◌∙◌, cases_eq, length-set, get_or-set_same, get_or-set_other, slice_index, slice_index_or, set}
+use Rattle.dg_rank.proofs.Common.{◌≡◌, ℕ, ◌+◌, ◌<◌, ⊎_elim, List, [], arith, ap, ◌∙◌, cases_eq, length-set, get_or-set_same, get_or-set_other, slice_index, set}
 use Rattle.dg_rank.specs.Shares.{price}
 use Rattle.dg_rank.proofs.shares.shift.Goals as goal
 
