@@ -92,7 +92,11 @@ shares_told g A B P Q r j v t lack placed rich (s, leads) shift beyond closed D 
           (λ (other : u ≡ v → ⊥).
           let stays : minus after.share (only_at v (pos t)) u ≡ after.share u =
           omega (arith, ints, only_at-other v (pos t) u other) in
-          rw (stays, shift.kept u 0 other (omega arith), shift.kept u (unsigned_abs (after.share u)) other (few_else u low other many))
+          rw (
+            stays,
+            shift.kept u 0 other (omega arith),
+            shift.kept u (unsigned_abs (after.share u)) other (few_else u low other many),
+          )
           (omega (arith, ints, after.paid u low, only_at-other v (pos c) u other)))
           (cases_eq u v);
     }))) where
@@ -136,7 +140,8 @@ shares_same g A P Q r j same wins D after = wins D (record {
       rw (same v 0 (omega arith), same v (unsigned_abs (after.share v)) part.few) at (after.paid v below);
 })
 
-pub dollar_told : (o : Option (List ℕ)) (g : Multigraph) (A : Amounts) (P : List (List ℕ)) (r : List ℕ) (j : ℕ) (Q : List ℕ → Type 0) →
+pub dollar_told : (o : Option (List ℕ)) (g : Multigraph) (A : Amounts) (P : List (List ℕ)) (r : List ℕ) (j : ℕ)
+    (Q : List ℕ → Type 0) →
     j ≡ 1 → MatchOption o (SharesWin g A (slice_index_or P 0 [] ∷ slice_index_or P 1 [] ∷ []) r 1) Q →
     MatchOption o (SharesWin g A P r j) Q
 dollar_told (Some E) g A P r j Q one told = told
@@ -188,9 +193,12 @@ payer_wins g A x v c class some =
 pub dollar_shares : (g : Multigraph) (A : Amounts) (o d r : List ℕ) →
     ((v : ℕ) → v < g.size → pos 0 ≤ℤ A v) → ((v : ℕ) → v < g.size → DollarWins g A o d r v) → SharesWin g A (o ∷ d ∷ []) r 1
 dollar_shares g A o d r rich borne D after = ⊎_elim
-    (λ (none : AllBelow g.size (λ u. after.share u ≤ℤ pos 0)). ([], λ v below.
-    let nothing : unsigned_abs (after.share v) ≡ 0 = omega (arith, ints, none v below, after.effective v below) in
-    omega (arith, ints, rich v below, rw nothing at (after.paid v below))))
+    (λ (none : AllBelow g.size (λ u. after.share u ≤ℤ pos 0)). (
+      [],
+      λ v below.
+          let nothing : unsigned_abs (after.share v) ≡ 0 = omega (arith, ints, none v below, after.effective v below) in
+          omega (arith, ints, rich v below, rw nothing at (after.paid v below)),
+    ))
     (λ (first : FirstOf g.size (λ u. after.share u ≤ℤ pos 0) (λ u. pos 0 <ℤ after.share u)).
     let v = first.0 in ⊎_elim
     (λ (closed : slice_index r v ≡ 0). absurd (omega (arith, ints, first.2, after.within v first.1)))
@@ -234,7 +242,8 @@ still_first n A P r j l v told placed some =
           (λ _. omega (arith, rw same at within, get_or-set_same r v (slice_index l v - 1) 0 placed, some))))
           (λ (other : u ≡ v → ⊥). told.paid u t below
           (omega (arith, within, get_or-set_other r v u (slice_index l v - 1) 0 other)) few
-          (λ more. omega (arith, least (omega (arith, more, get_or-set_other l v u 0 0 other)), get_or-set_other l v u 0 0 other)))
+          (λ more.
+          omega (arith, least (omega (arith, more, get_or-set_other l v u 0 0 other)), get_or-set_other l v u 0 0 other)))
           (cases_eq u v);
       unpaid = λ u more. ⊎_elim
           (λ (same : u ≡ v). absurd (omega (arith, rw same at more, get_or-set_same l v 0 0 listed)))

@@ -1,11 +1,11 @@
 -- Shares of dollars: some are lost at each vertex, which pays a price for as many as are lost there.
 --   price P v t               == what v pays once t dollars are lost there, by the table P
---   IsAfterShare n A P r j D  == of at most j dollars each of n vertices loses some, and no more than the list r has there; and D
---                                holds at least what A does, less what is paid for the share and was not paid for none
+--   IsAfterShare n A P r j D  == of at most j dollars each of n vertices loses some, and no more than the list r has there; and
+--                                D holds at least what A does, less what is paid for the share and was not paid for none
 --   SharesWin g A P r j       == each such D is winnable
 --   IsLackAt n A P r j v t    == v may lose t dollars, some, and A holds less than it pays for them
---   AreFirstUnpaid n A P r j l == of the numbers of dollars that v may lose the list l has the least for which A holds less than v
---                                pays, or 0 if A holds as much for all
+--   AreFirstUnpaid n A P r j l == of the numbers of dollars that v may lose the list l has the least for which A holds less
+--                                than v pays, or 0 if A holds as much for all
 --   IsShifted P Q v t j       == for up to j dollars as much is paid at v by Q as by P once t more are lost there, and as much
 --                                elsewhere
 use Rattle.std.specs.Prelude.{◌≡◌, ◌≢◌, ℕ, ◌+◌, ◌<◌, ◌≤◌, pos, ◌+ℤ◌, ◌<ℤ◌, ◌≤ℤ◌, List, [], slice_index}

@@ -214,8 +214,8 @@ fn prices_by_rows(unfolded: u16, rows: &[Row; 16], dollars: usize) -> Option<Pri
     Some(prices)
 }
 
-/// What each vertex that is left pays, by its row, for so many dollars: what it is left with becomes less by so much. `None` if that
-/// is too much.
+/// What each vertex that is left pays, by its row, for so many dollars: what it is left with becomes less by so much. `None` if
+/// that is too much.
 fn prices_at(unfolded: u16, rows: &[Row; 16], dollars: usize) -> Option<[u32; MAX_VERTICES]>
     requires few { dollars < MAX_PLACES }
     ensures cheap { IfSome result (λ prices. (v : ℕ) → v < MAX_VERTICES → slice_index prices v ≤ 1000) }

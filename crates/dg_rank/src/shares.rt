@@ -230,8 +230,8 @@ fn lacking_share(left: &EffectiveDivisor, prices: &Prices, room: &[u32; 16], dol
     Lack::of(first_unpaid(left, prices, room, dollars), dollars)
 }
 
-/// For each vertex the least number of dollars for which it pays more than it holds, of those that it may lose; 0 if it can pay for
-/// all, and past the last vertex.
+/// For each vertex the least number of dollars for which it pays more than it holds, of those that it may lose; 0 if it can pay
+/// for all, and past the last vertex.
 fn first_unpaid(
     left: &EffectiveDivisor,
     prices: &Prices,
@@ -277,9 +277,9 @@ fn with_unpaid(most: u32x16, prices: u32x16, room: u32x16, dollars: u32, unpaid:
     ensures long { length result ≡ 16 }
     ensures lanes { (v : ℕ) → v < 16 →
         ((slice_index most v < slice_index prices v) × (dollars ≤ slice_index room v) ×
-            (slice_index result v ≡ dollars)) ⊎
+        (slice_index result v ≡ dollars)) ⊎
         (((slice_index prices v ≤ slice_index most v) ⊎ (slice_index room v < dollars)) ×
-            (slice_index result v ≡ slice_index unpaid v)) }
+        (slice_index result v ≡ slice_index unpaid v)) }
 {
     let marked = select_greater(prices, most, u32x16::splat(dollars), unpaid);
     select_greater(room, u32x16::splat(dollars - 1), marked, unpaid)

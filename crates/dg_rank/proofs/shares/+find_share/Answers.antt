@@ -85,8 +85,12 @@ find_share-requires t c =
             (
               λ u s below few. ⊎_elim
                   (λ (low : s < c.args.dollars - more + 1). ⊎_elim
-                  (λ (here : u ≡ v). rw here (omega (arith, shift.shifted.here s (omega arith), cheap v (more + s)
-                  (omega (arith, rw here at below)) (omega (arith, c.requires.few, lack.few)))))
+                  (λ (here : u ≡ v). rw here (omega (
+                    arith,
+                    shift.shifted.here s (omega arith),
+                    cheap v (more + s)
+                        (omega (arith, rw here at below)) (omega (arith, c.requires.few, lack.few)),
+                  )))
                   (λ (other : u ≡ v → ⊥). omega (arith, shift.shifted.kept u s other (omega arith), cheap u s below few))
                   (cases_eq u v))
                   (λ (past : c.args.dollars - more + 1 ≤ s). omega (arith, shift.past u s (omega arith), cheap u s below few))
@@ -123,20 +127,24 @@ lacking-preserved t c =
       vertex = rw c.of-lack.ensures.unpaid c.of-lack.ensures.vertex;
       wins = λ closed. c.lacking.invariant.wins (elim c.if-rest-eq1.branch [
         | then-rest-eq1 w ↦ (
-          let none = w.with_price-none in
-          let one = w.with_price-one in
-          shares_told g A B P (none.result ∷ one.result ∷ []) r j v more lack open' rich led
-          (rw w.if-rest-eq1.true (dollar_shift P none.result one.result v more none.ensures.here none.ensures.kept
-          one.ensures.here one.ensures.kept))
-          (rw w.if-rest-eq1.true
-          (rw (sym w.found-is ∙ c.in_default-found.is) at w.find_dollar_share-found.ensures)) closed)
+            let none = w.with_price-none in
+            let one = w.with_price-one in
+            shares_told g A B P (none.result ∷ one.result ∷ []) r j v more lack open' rich led
+            (rw w.if-rest-eq1.true (dollar_shift P none.result one.result v more none.ensures.here none.ensures.kept
+            one.ensures.here one.ensures.kept))
+            (rw w.if-rest-eq1.true
+            (rw (sym w.found-is ∙ c.in_default-found.is) at w.find_dollar_share-found.ensures)) closed)
         | else-rest-eq1+in_ok-found w ↦ shares_told g A B P w.shift.new.prices r j v more lack open' rich led
-          w.shift.ensures.shifted (rw (sym w.found-is ∙ c.in_default-found.is) at w.in_ok-found.ensures) closed
+            w.shift.ensures.shifted (rw (sym w.found-is ∙ c.in_default-found.is) at w.in_ok-found.ensures) closed
       ]);
     }
 
 pub returns : goal.returns
 returns t c = c.lacking.invariant.wins (rich_shares c.args.graph.now (at c.lacking.best) c.args.prices.now
     c.lacking.open c.args.dollars (λ v s below within few. c.lacking.invariant.unpaid.paid v s below within few
-    (λ more. absurd (omega (arith, more, (rw c.in_default.is at c.lacking.invariant.vertex) v
-    (omega (arith, below, c.size-size.ensures.graph.few)))))))
+    (λ more. absurd (omega (
+      arith,
+      more,
+      (rw c.in_default.is at c.lacking.invariant.vertex) v
+          (omega (arith, below, c.size-size.ensures.graph.few)),
+    )))))

@@ -72,8 +72,14 @@ loop-v-preserved c =
       done = λ u low. ⊎_elim
           (λ (same : u ≡ v). rw same (inr (payer_wins g (at c.args.left.now) c.give.new.self v
           (slice_index d v - slice_index o v) class
-          (omega (arith, ints, c.give.ensures.amounts v, only_at-here v (pos paid), c.in-Some.ensures.effective v below,
-          c.saturating_sub-paid.ensures)))))
+          (omega (
+            arith,
+            ints,
+            c.give.ensures.amounts v,
+            only_at-here v (pos paid),
+            c.in-Some.ensures.effective v below,
+            c.saturating_sub-paid.ensures,
+          )))))
           (λ (other : u ≡ v → ⊥). c.loop-v.invariant.done u (omega arith))
           (cases_eq u v);
     }

@@ -31,12 +31,20 @@ loop-t-preserved c =
             few = omega (arith, c.loop-t.auto.t);
             lacks = omega (arith, ints, marked.0, most.held v below);
           }))
-          (λ (past : c.args.left.now.size ≤ v). absurd (omega
-          (arith, marked.0, most.past v past inside, c.requires.cheap v t inside (omega (arith, c.loop-t.auto.t, c.requires.few)))))
+          (λ (past : c.args.left.now.size ≤ v). absurd (omega (
+            arith,
+            marked.0,
+            most.past v past inside,
+            c.requires.cheap v t inside (omega (arith, c.loop-t.auto.t, c.requires.few)),
+          )))
           (cases_lt v c.args.left.now.size))
           (λ kept. rw kept.1 (held.unpaid v (omega (arith, kept.1, some))))
           (c.with_unpaid-unpaid.ensures.lanes v inside))
           (λ (past : 16 ≤ v).
-          absurd (omega (arith, some, get_or_past c.with_unpaid-unpaid.result v 0 (omega (arith, past, c.with_unpaid-unpaid.ensures.long)))))
+          absurd (omega (
+            arith,
+            some,
+            get_or_past c.with_unpaid-unpaid.result v 0 (omega (arith, past, c.with_unpaid-unpaid.ensures.long)),
+          )))
           (cases_lt v 16);
     }

@@ -6,7 +6,8 @@ abbrev pub invariant-loop-t : goal.invariant-loop-t
 invariant-loop-t l = record {
   places : length l.unpaid ≡ 16;
   paid : (v t : ℕ) → v < l.left.size → l.t ≤ t → t ≤ slice_index l.room v → t ≤ l.dollars →
-      (0 < slice_index l.unpaid v → t < slice_index l.unpaid v) → pos (price l.prices v t) ≤ℤ (at l.left v +ℤ pos (price l.prices v 0));
+      (0 < slice_index l.unpaid v → t < slice_index l.unpaid v) →
+      pos (price l.prices v t) ≤ℤ (at l.left v +ℤ pos (price l.prices v 0));
   unpaid : (v : ℕ) → 0 < slice_index l.unpaid v →
       IsLackAt l.left.size (at l.left) l.prices l.room l.dollars v (slice_index l.unpaid v);
 }

@@ -10,7 +10,8 @@ lane : (xs ys ms os : List ℕ) (v : ℕ) → length xs ≡ 16 → length ys ≡
     ≡ cond (ltb (slice_index ys v) (slice_index xs v)) (slice_index ms v) (slice_index os v)
 lane xs ys ms os v long long' more other below =
     ap (λ bs. slice_index (sel_l bs ms os) v) (tops_compared w32 ltb ys xs)
-    ∙ get_or-sel_l (zip2 ltb ys xs) ms os v 0 (omega (arith, length-zip2 ltb ys xs (long' ∙ sym long))) (omega arith) (omega arith)
+    ∙ get_or-sel_l (zip2 ltb ys xs) ms os v 0 (omega (arith, length-zip2 ltb ys xs (long' ∙ sym long))) (omega arith)
+    (omega arith)
     ∙ ap (λ b. cond b (slice_index ms v) (slice_index os v)) (get_or-zip2 ltb ys xs v 0 0 false (omega arith) (omega arith))
 
 long : (xs ys ms os : List ℕ) → length xs ≡ 16 → length ys ≡ 16 → length ms ≡ 16 → length os ≡ 16 →
@@ -29,8 +30,12 @@ returns-clause-lanes c = λ v below.
     let is = lane c.args.first c.args.second c.args.more c.args.other v c.fits-first.0 c.fits-second.0 c.fits-more.0
     c.fits-other.0 below in
     ⊎_elim
-    (λ (greater : slice_index c.args.second v < slice_index c.args.first v). inl (greater,
-    is ∙ ap (λ b. cond b (slice_index c.args.more v) (slice_index c.args.other v)) (lt-ltb _ _ greater)))
-    (λ (least : slice_index c.args.first v ≤ slice_index c.args.second v). inr (least,
-    is ∙ ap (λ b. cond b (slice_index c.args.more v) (slice_index c.args.other v)) (le-ltb _ _ least)))
+    (λ (greater : slice_index c.args.second v < slice_index c.args.first v). inl (
+      greater,
+      is ∙ ap (λ b. cond b (slice_index c.args.more v) (slice_index c.args.other v)) (lt-ltb _ _ greater),
+    ))
+    (λ (least : slice_index c.args.first v ≤ slice_index c.args.second v). inr (
+      least,
+      is ∙ ap (λ b. cond b (slice_index c.args.more v) (slice_index c.args.other v)) (le-ltb _ _ least),
+    ))
     (cases_lt (slice_index c.args.second v) (slice_index c.args.first v))

@@ -10,7 +10,7 @@ loop-t-preserved c =
     let below : t < 64 = omega (arith, c.requires.few, c.loop-t-test.true, c.loop-t.auto.t-end) in
     let at_row : (u : ℕ) → price (set c.loop-t.prices t row) u t ≡ slice_index row u =
     λ u. ap (λ (x : List ℕ). slice_index x u)
-        (get_or-set_same c.loop-t.prices t row [] (omega (arith, below, before.places))) in
+    (get_or-set_same c.loop-t.prices t row [] (omega (arith, below, before.places))) in
     let elsewhere : (u s : ℕ) → (s ≡ t → ⊥) → price (set c.loop-t.prices t row) u s ≡ price c.loop-t.prices u s =
     λ u s other. ap (λ (x : List ℕ). slice_index x u) (get_or-set_other c.loop-t.prices t s row [] other) in
     record {
