@@ -18,12 +18,12 @@ use Rattle.dg_rank.specs.Folding.{RowsWin, IsHeldByRows, ArePaidByRows}
 use Rattle.dg_rank.proofs.LossBoxes.{room_left}
 use Rattle.dg_theory.proofs.Searching.{AllBelow, FirstOf, first_or_all}
 
-record IsPart (r j : ℕ) (s : ℤ) : Type 0 where
+pub record IsPart (r j : ℕ) (s : ℤ) : Type 0 where
   pub is : pos (unsigned_abs s) ≡ s
   pub room : unsigned_abs s ≤ r
   pub few : unsigned_abs s ≤ j
 
-share_few : (n : ℕ) (A D : Amounts) (P : List (List ℕ)) (r : List ℕ) (j v : ℕ) → (after : IsAfterShare n A P r j D) →
+pub share_few : (n : ℕ) (A D : Amounts) (P : List (List ℕ)) (r : List ℕ) (j v : ℕ) → (after : IsAfterShare n A P r j D) →
     v < n → IsPart (slice_index r v) j (after.share v)
 share_few n A D P r j v after below =
     let some : pos 0 ≤ℤ after.share v = after.effective v below in
@@ -260,7 +260,7 @@ still_first n A P r j l v told placed some =
           (cases_eq u v);
     }
 
-rows_by_share : (o : Option (List ℕ)) (g : Multigraph) (L : ℕ → Bool) (W : List (List ℤ)) (P : List (List ℕ)) (x : Vector)
+pub rows_by_share : (o : Option (List ℕ)) (g : Multigraph) (L : ℕ → Bool) (W : List (List ℤ)) (P : List (List ℕ)) (x : Vector)
     (k : ℕ) (Q : List ℕ → Type 0) → g.size ≤ 16 → IsHeldByRows g L W x → ArePaidByRows L W k P →
     MatchOption o (SharesWin g (at x) P (replicate 16 k) k) Q → MatchOption o (RowsWin g L W k) Q
 rows_by_share (Some E) g L W P x k Q few held paid told = told

@@ -2,9 +2,9 @@
 //! What a vertex and all that is folded into it can bear is told by a row: the least that the vertex is left with once so many
 //! dollars are lost there, if nobody else there may stay in debt. At last shares of the dollars are searched, among the vertices
 //! that are left.
-ghost use Rattle.std.specs.Prelude.{false, ◌≡◌, ℕ, ◌+◌, ◌-◌, ◌<◌, ◌≤◌, ℤ, pos, ◌+ℤ◌, ◌-ℤ◌, ◌*ℤ◌, ◌≤ℤ◌, true, ⊤, min, length, IfSome, MatchOption, MatchResult, slice_index};
+ghost use Rattle.std.specs.Prelude.{false, List, ◌≡◌, ℕ, ◌+◌, ◌-◌, ◌<◌, ◌≤◌, ℤ, pos, ◌+ℤ◌, ◌-ℤ◌, ◌*ℤ◌, ◌≤ℤ◌, true, ⊤, min, length, IfSome, MatchOption, MatchResult, slice_index};
 ghost use Rattle.std.specs.List.{slice_index_or};
-ghost use Rattle.dg_theory.specs.Firing.{IsEffective};
+ghost use Rattle.dg_theory.specs.Firing.{IsEffective, degree};
 ghost use Rattle.dg_theory.specs.Multigraph.{edges_between};
 ghost use Rattle.dg_theory.specs.Sets.{IsVertexSet};
 ghost use Rattle.dg_graph.specs.declared.graph.TheConstants.{MAX_VERTICES};
@@ -13,9 +13,10 @@ ghost use Rattle.dg_chips.specs.Vector.{at};
 ghost use Rattle.dg_rank.specs.Losses.{HasSmallDegree};
 ghost use Rattle.dg_rank.specs.Boxes.{BoxWins, IsBoxLoss};
 ghost use Rattle.dg_rank.specs.Folding.{worth, IsLeaf, IsOnlyIn, AreFolded, RowsWin, IsJoined, IsRounded, IsHeldByRows, ArePaidByRows};
-ghost use Rattle.dg_rank.specs.Shares.{price};
+ghost use Rattle.dg_rank.specs.Shares.{price, SharesWin};
 
-use crate::boxes::{Stopped, find_box_loss};
+use crate::boxes::{Stopped, find_box_loss, held_at};
+use crate::cores::core_of;
 use crate::enumeration::Trial;
 use crate::shares::{MAX_PLACES, Prices, find_share};
 use dg_chips::Wide;
@@ -164,6 +165,8 @@ fn shared_losses(
     dollars: usize,
     searches: &mut u32,
 ) -> Result<Option<[u32; 16]>, Stopped>
+    requires folded { AreFolded graph.now (in_set unfolded) }
+    requires vertices { IsVertexSet graph.now.size (in_set unfolded) }
     requires few { dollars < MAX_PLACES }
     ensures { MatchResult result
         (λ found. MatchOption found
@@ -179,7 +182,111 @@ fn shared_losses(
         return Err(Stopped);
     };
     let dollars = dollars as u32;
+    if is_rich(graph, unfolded, &left, &prices, dollars) {
+        return Ok(None);
+    }
     find_share(graph, &left, &prices, &[dollars; 16], dollars, searches)
+}
+
+/// Whether the degree alone tells that all shares can be borne: each dollar lost costs a dollar at most, and what is left then has
+/// a degree of at least the genus of the core. False says nothing.
+fn is_rich(
+    graph: &Graph,
+    unfolded: u16,
+    left: &EffectiveDivisor,
+    prices: &Prices,
+    dollars: u32,
+) -> bool
+    requires size { left.now.size ≡ graph.now.size }
+    requires effective { IsEffective graph.now.size (at left.now) }
+    requires small { HasSmallDegree graph.now.size (at left.now) }
+    requires held { (v : ℕ) → v < graph.now.size → in_set unfolded v ≡ false → at left.now v ≡ pos 0 }
+    requires paid { (v t : ℕ) → v < MAX_VERTICES → in_set unfolded v ≡ false → t ≤ dollars → price prices.now v t ≡ 0 }
+    requires folded { AreFolded graph.now (in_set unfolded) }
+    requires vertices { IsVertexSet graph.now.size (in_set unfolded) }
+    requires few { dollars < MAX_PLACES }
+    ensures { result ≡ true → (r : List ℕ) → SharesWin graph.now (at left.now) prices.now r dollars }
+{
+    let _size = graph.size();
+    let (held, lost) = (total(left), u64::from(dollars));
+    if held < lost.saturating_add(genus_within(graph, unfolded)) {
+        return false;
+    }
+    if !costs_at_most_a_dollar(prices, dollars) {
+        return false;
+    }
+    let Some(core) = core_of(graph, unfolded) else {
+        return false;
+    };
+    let core_size = core.graph.size();
+    let Ok(genus) = u64::try_from(core.graph.genus()) else {
+        return false;
+    };
+    if core_size == 0 || held < lost + genus {
+        return false;
+    }
+    true
+}
+
+/// The sum of all amounts.
+fn total(left: &EffectiveDivisor) -> u64
+    requires few { left.now.size ≤ MAX_VERTICES }
+    requires effective { IsEffective left.now.size (at left.now) }
+    ensures { pos result ≡ degree left.now.size (at left.now) }
+{
+    let mut sum = 0;
+    for v in 0..left.size() {
+        sum += u64::from(held_at(left, v));
+    }
+    sum
+}
+
+/// The genus of the graph of some vertices, if that is connected. No clause says so: it is a guess.
+fn genus_within(graph: &Graph, set: u16) -> u64 {
+    let (mut ends, mut count) = (2u64, 0u64);
+    for v in 0..graph.size() {
+        if contains(set, v) {
+            ends = ends.saturating_add(edges_into(graph.row(v), set));
+            count = count.saturating_add(1);
+        }
+    }
+    (ends / 2).saturating_sub(count)
+}
+
+/// How many of a row's edges lead to vertices of a set; a guess, too.
+fn edges_into(row: &[u8; 16], set: u16) -> u64 {
+    let mut edges = 0u64;
+    for w in 0..MAX_VERTICES {
+        if contains(set, w) {
+            edges = edges.saturating_add(u64::from(row[w]));
+        }
+    }
+    edges
+}
+
+/// Whether each vertex pays at most a dollar for each that is lost there, of up to so many.
+fn costs_at_most_a_dollar(prices: &Prices, dollars: u32) -> bool
+    requires { dollars < MAX_PLACES }
+    ensures { result ≡ true → (v t : ℕ) → v < MAX_VERTICES → t ≤ dollars → price prices.now v t ≤ price prices.now v 0 + t }
+{
+    for t in 0..dollars as usize + 1 {
+        if !costs_at_most(&prices[0], &prices[t], t as u32) {
+            return false;
+        }
+    }
+    true
+}
+
+/// Whether each vertex pays at most so many dollars more by one row of prices than by another.
+fn costs_at_most(none: &[u32; 16], some: &[u32; 16], dollars: u32) -> bool
+    ensures { result ≡ true → (v : ℕ) → v < 16 → slice_index some.now v ≤ slice_index none.now v + dollars }
+{
+    for v in 0..16 {
+        if some[v].saturating_sub(none[v]) > dollars {
+            return false;
+        }
+    }
+    true
 }
 
 /// What the vertices that are left hold while nothing is lost, with what is folded into them; nobody else holds anything. `None`
