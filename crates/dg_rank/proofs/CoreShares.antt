@@ -1,7 +1,7 @@
 -- Shares on a core.
 --   rich_core  if each dollar lost costs a dollar at most, and what is left of the degree is at least the genus of the core, all
 --              shares can be borne
-use Rattle.dg_rank.proofs.Common.{◌≡◌, ℕ, ◌+◌, ◌<◌, ◌≤◌, ⊎_elim, Bool, true, false, List, arith, ap, cases_Bool, ints, pos, ◌+ℤ◌, ◌-ℤ◌, ◌≤ℤ◌, unsigned_abs, Multigraph, IsMultigraph, genus, Amounts, IsEffective, degree, minus, degree-less, sum_below-cong}
+use Rattle.dg_rank.proofs.Common.{◌≡◌, ℕ, ◌+◌, ◌<◌, ◌≤◌, ⊎_elim, Bool, true, false, List, arith, cases_Bool, ints, pos, ◌+ℤ◌, ◌≤ℤ◌, unsigned_abs, Multigraph, IsMultigraph, genus, Amounts, IsEffective, degree, minus, degree-less}
 use Rattle.dg_rank.specs.Cores.{IsCore}
 use Rattle.dg_rank.specs.Folding.{AreFolded}
 use Rattle.dg_rank.specs.Shares.{price, SharesWin}

@@ -1,4 +1,4 @@
-use Rattle.dg_rank.proofs.Common.{◌+◌, ◌<◌, ◌≤◌, arith, refl, ints, in_set, at, slice_index}
+use Rattle.dg_rank.proofs.Common.{arith, refl, ints, in_set, at, slice_index}
 use Rattle.dg_rank.proofs.CoreShares.{rich_core}
 use Rattle.dg_rank.proofs.folding.is_rich.Goals as goal
 
