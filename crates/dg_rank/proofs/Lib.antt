@@ -22,6 +22,7 @@ pub mod AnyLoss
 -- Leaves that are folded.
 pub mod Leaves
 pub mod SharedLosses
+pub mod CoreWins
 -- Ranks and rank tests by the residual.
 pub mod SmallDegrees
 pub mod DualTests

@@ -9,5 +9,6 @@ pub mod Numbering
 pub mod Losses
 pub mod Boxes
 pub mod Folding
+pub mod Cores
 pub mod Shares
 pub mod Pieces

@@ -4,6 +4,7 @@
 
 mod beginnings;
 mod boxes;
+mod cores;
 mod counting;
 mod duals;
 mod enumeration;

@@ -1,0 +1,5 @@
+use Rattle.dg_rank.proofs.Common.{◌≡◌, ℕ, ◌<◌, ◌≤◌, length, slice_index, in_set, edges_between}
+use Rattle.dg_rank.proofs.cores.add_items.Given as goal
+
+abbrev pub invariant-loop-j : goal.invariant-loop-j
+invariant-loop-j l = (length l.items ≡ 120) × (l.count ≤ 120)
