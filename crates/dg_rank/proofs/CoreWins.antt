@@ -3,7 +3,7 @@
 --   place_of-here     the number of a place among places that rise
 --   core_wins         who wins on the core with at most what is held there wins on the graph, if nobody else is in debt
 --   core_degree       what is held on the core is at most what is held on the graph, if nobody is in debt
-use Rattle.dg_rank.proofs.Common.{if◌then◌else◌, ◌≡◌, ◌≢◌, ℕ, zero, suc, ◌<◌, refl, sym, ap, ◌∙◌, ⊎_elim, Bool, true, false, arith, cases_eq, cases_Bool, both_ways, ints, ℤ, pos, ◌-ℤ◌, ◌+ℤ◌, ◌≤ℤ◌, Multigraph, edges_between, Amounts, IsEffective, IsWinnable, degree, sum_below, sum_below-cong, sum_below-zero}
+use Rattle.dg_rank.proofs.Common.{if◌then◌else◌, ◌≡◌, ◌≢◌, ℕ, zero, suc, ◌<◌, refl, sym, ap, ◌∙◌, ⊎_elim, Bool, true, false, arith, cases_eq, cases_Bool, both_ways, ints, ℤ, pos, ◌-ℤ◌, ◌≤ℤ◌, Multigraph, edges_between, Amounts, IsEffective, IsWinnable, degree, sum_below, sum_below-cong, sum_below-zero}
 use Rattle.std.proofs.Common.{◌==◌}
 use Rattle.std.proofs.Math.IntN.{◌*ℤ◌, *ℤ-zero, zero-*ℤ}
 use Rattle.std.proofs.lemmas.Bool.Decides.{nat_tests}

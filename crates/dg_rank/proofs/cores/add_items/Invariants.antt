@@ -1,4 +1,4 @@
-use Rattle.dg_rank.proofs.Common.{◌≡◌, ℕ, ◌<◌, ◌≤◌, length, slice_index, in_set, edges_between}
+use Rattle.dg_rank.proofs.Common.{◌≡◌, ◌≤◌, length}
 use Rattle.dg_rank.proofs.cores.add_items.Given as goal
 
 abbrev pub invariant-loop-j : goal.invariant-loop-j

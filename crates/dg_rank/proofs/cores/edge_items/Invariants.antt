@@ -1,4 +1,4 @@
-use Rattle.dg_rank.proofs.Common.{◌≡◌, ℕ, ◌<◌, ◌≤◌, length, slice_index, in_set, edges_between}
+use Rattle.dg_rank.proofs.Common.{◌≡◌, ◌≤◌, length}
 use Rattle.dg_rank.proofs.cores.edge_items.Given as goal
 
 abbrev pub invariant-loop-i : goal.invariant-loop-i

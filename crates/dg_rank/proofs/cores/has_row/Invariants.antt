@@ -1,4 +1,4 @@
-use Rattle.dg_rank.proofs.Common.{◌≡◌, ℕ, ◌<◌, ◌≤◌, length, slice_index, in_set, edges_between}
+use Rattle.dg_rank.proofs.Common.{◌≡◌, ℕ, ◌<◌, slice_index, edges_between}
 use Rattle.dg_rank.proofs.cores.has_row.Given as goal
 
 abbrev pub invariant-loop-j : goal.invariant-loop-j

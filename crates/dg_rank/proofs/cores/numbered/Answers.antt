@@ -1,6 +1,5 @@
 use Rattle.dg_rank.proofs.Common.{◌≡◌, ℕ, ◌+◌, ◌<◌, Bool, true, false, sym, ◌∙◌, ⊎_elim, arith, cases_eq, both_ways, in_set, slice_index, set, length-set, get_or-set_same, get_or-set_other}
 use Rattle.dg_rank.specs.Cores.{AreNumbered}
-use Rattle.dg_rank.proofs.CoreWins.{core_wins, core_degree}
 use Rattle.dg_rank.proofs.cores.numbered.Goals as goal
 use Rattle.dg_rank.proofs.cores.numbered.Goals.{then-contains, else-contains}
 
@@ -45,17 +44,17 @@ loop-v-preserved c =
     let L = in_set c.args.unfolded in
     let before = c.loop-v.invariant in elim c.if-contains.branch [
       | then-contains w ↦ rw (w.places-is, w.count-is) (record {
-          places = length-set r m n ∙ before.places;
-          few = omega (arith, before.few);
-          numbered = numbered_with n m L (slice_index r) (slice_index (set r m n)) before.numbered
-              (sym c.contains.ensures ∙ w.if-contains.true)
-              (get_or-set_same r m n 0
-              (omega (arith, before.places, before.few, c.loop-v-test.true, c.requires)))
-              (λ i low. get_or-set_other r m i n 0 (λ same. absurd (omega (arith, same))));
-        })
+        places = length-set r m n ∙ before.places;
+        few = omega (arith, before.few);
+        numbered = numbered_with n m L (slice_index r) (slice_index (set r m n)) before.numbered
+            (sym c.contains.ensures ∙ w.if-contains.true)
+            (get_or-set_same r m n 0
+            (omega (arith, before.places, before.few, c.loop-v-test.true, c.requires)))
+            (λ i low. get_or-set_other r m i n 0 (λ same. absurd (omega (arith, same))));
+      })
       | else-contains w ↦ rw (w.places-is, w.count-is) (record {
-          places = before.places;
-          few = omega (arith, before.few);
-          numbered = numbered_without n m L (slice_index r) before.numbered (sym c.contains.ensures ∙ w.if-contains.false);
-        })
+        places = before.places;
+        few = omega (arith, before.few);
+        numbered = numbered_without n m L (slice_index r) before.numbered (sym c.contains.ensures ∙ w.if-contains.false);
+      })
     ]

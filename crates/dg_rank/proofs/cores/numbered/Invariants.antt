@@ -1,4 +1,4 @@
-use Rattle.dg_rank.proofs.Common.{◌≡◌, ℕ, ◌<◌, ◌≤◌, length, slice_index, in_set, edges_between}
+use Rattle.dg_rank.proofs.Common.{◌≡◌, ◌≤◌, length, slice_index, in_set}
 use Rattle.dg_rank.specs.Cores.{AreNumbered}
 use Rattle.dg_rank.proofs.cores.numbered.Given as goal
 
