@@ -1,5 +1,6 @@
 -- What the graph of the vertices that are left tells of the whole graph.
 --   sum_below-places  a sum of terms that are 0 but at some places, which rise, is the sum of the terms there
+--   core_sum          a sum of terms that are 0 but at the vertices of the core is the sum of the terms there
 --   place_of-here     the number of a place among places that rise
 --   core_wins         who wins on the core with at most what is held there wins on the graph, if nobody else is in debt
 --   core_degree       what is held on the core is at most what is held on the graph, if nobody is in debt
@@ -45,6 +46,14 @@ sum_below-places (suc n) (suc m) p f rises within none = ⊎_elim
     ))
     (cases_eq (p m) n)
 
+core_sum : (g : Multigraph) (L : ℕ → Bool) (h : Multigraph) (p : ℕ → ℕ) (f : ℕ → ℤ) → IsCore g L h p →
+    ((w : ℕ) → w < g.size → L w ≡ false → f w ≡ pos 0) → sum_below g.size f ≡ sum_below h.size (λ i. f (p i))
+core_sum g L h p f core none =
+    sum_below-places g.size h.size p f core.places.rising core.places.below (λ w inside off. ⊎_elim
+    (λ (left : L w ≡ true). let (i, few, here) = core.places.all w inside left in absurd (off i few here))
+    (λ (out : L w ≡ false). none w inside out)
+    (cases_Bool (L w)))
+
 abbrev place_of : (ℕ → ℕ) → ℕ → ℕ → ℕ
 place_of p zero v = 0
 place_of p (suc m) v = if p m == v then m else place_of p m v
@@ -78,7 +87,8 @@ core_wins g L h p D D' (top, by) core more rich win = win_of_script g D s (λ v 
     (λ (out : L v ≡ false). omega (
       arith,
       ints,
-      sum_below-zero g.size (λ w. pos (edges_between g v w) *ℤ (s w -ℤ s v)) (λ w inside. still v w below inside (λ both. both_ways _ out both.0)),
+      sum_below-zero g.size (λ w. pos (edges_between g v w) *ℤ (s w -ℤ s v))
+          (λ w inside. still v w below inside (λ both. both_ways _ out both.0)),
       rich v below out,
     ))
     (cases_Bool (L v))) where
@@ -101,11 +111,8 @@ core_wins g L h p D D' (top, by) core more rich win = win_of_script g D s (λ v 
 
       gain-left : (i : ℕ) → i < h.size → gain g s (p i) ≡ gain h won.0 i
       gain-left i low =
-          sum_below-places g.size h.size p (λ w. pos (edges_between g (p i) w) *ℤ (s w -ℤ s (p i))) core.places.rising core.places.below
-          (λ w inside off. ⊎_elim
-          (λ (left : L w ≡ true). let (j, few, here) = core.places.all w inside left in absurd (off j few here))
-          (λ (out : L w ≡ false). still (p i) w (core.places.below i low) inside (λ both. both_ways _ out both.1))
-          (cases_Bool (L w)))
+          core_sum g L h p (λ w. pos (edges_between g (p i) w) *ℤ (s w -ℤ s (p i))) core
+          (λ w inside out. still (p i) w (core.places.below i low) inside (λ both. both_ways _ out both.1))
           ∙ sum_below-cong h.size (λ j. pos (edges_between g (p i) (p j)) *ℤ (s (p j) -ℤ s (p i)))
           (λ j. pos (edges_between h i j) *ℤ (won.0 j -ℤ won.0 i))
           (λ j few. rw (at_place i low, at_place j few, core.edges i j low few) refl)
@@ -117,10 +124,7 @@ core_degree g L h p F core rich =
     omega (
       arith,
       ints,
-      sum_below-places g.size h.size p held core.places.rising core.places.below (λ w inside off. ⊎_elim
-          (λ (left : L w ≡ true). let (j, few, here) = core.places.all w inside left in absurd (off j few here))
-          (λ (out : L w ≡ false). rw out refl)
-          (cases_Bool (L w))),
+      core_sum g L h p held core (λ w inside out. rw out refl),
       sum_below-cong h.size (λ i. held (p i)) (λ i. F (p i)) (λ i low. rw (core.places.left i low) refl),
       sum_below-le g.size held F (λ w inside. ⊎_elim
           (λ (left : L w ≡ true). rw left (omega (arith, ints)))

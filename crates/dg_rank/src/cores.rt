@@ -21,8 +21,8 @@ pub(crate) struct Core {
     pub(crate) places: [usize; MAX_VERTICES],
 }
 
-/// The graph of the vertices that are left. `None` if they are no graph, or not as many edges join them there, which nothing
-/// shows to be impossible.
+/// The graph of the vertices that are left. `None` if they are not connected, or if its edges are found to be others than
+/// theirs, which nothing shows to be impossible.
 pub(crate) fn core_of(graph: &Graph, unfolded: u16) -> Option<Core>
     ensures { IfSome result (λ c. IsCore graph.now (in_set unfolded) c.graph (slice_index c.places)) }
 {
@@ -57,11 +57,12 @@ fn numbered(size: usize, unfolded: u16) -> (usize, [usize; MAX_VERTICES])
     (count, places)
 }
 
-/// The items of the edges between so many vertices, and how many items there are. That they are all is checked later.
+/// The items of the edges between so many vertices, and how many items there are. That these are right is checked once the
+/// graph is made.
 fn edge_items(graph: &Graph, size: usize, places: &[usize; MAX_VERTICES]) -> (usize, Items)
     requires few { size ≤ MAX_VERTICES }
     requires below { (i : ℕ) → i < size → slice_index places.now i < graph.now.size }
-    ensures { result.0 ≤ 120 }
+    ensures { result.0 ≤ MAX_PAIRS }
 {
     let mut items = [(0, 0, 0); MAX_PAIRS];
     let mut count = 0;
@@ -81,8 +82,8 @@ fn add_items(
 ) -> usize
     requires few { i < MAX_VERTICES }
     requires below { (j : ℕ) → j ≤ i → slice_index places.now j < graph.now.size }
-    requires room { before ≤ 120 }
-    ensures { result ≤ 120 }
+    requires room { before ≤ MAX_PAIRS }
+    ensures { result ≤ MAX_PAIRS }
 {
     let _size = graph.size();
     let row = graph.row(places[i]);
