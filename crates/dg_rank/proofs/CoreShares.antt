@@ -1,11 +1,11 @@
 -- Shares on a core.
 --   rich_core  if each dollar lost costs a dollar at most, and what is left of the degree is at least the genus of the core, all
 --              shares can be borne
-use Rattle.dg_rank.proofs.Common.{◌≡◌, ℕ, ◌+◌, ◌<◌, ◌≤◌, ⊎_elim, Bool, true, false, List, arith, cases_Bool, ints, pos, ◌+ℤ◌, ◌≤ℤ◌, unsigned_abs, Multigraph, IsMultigraph, genus, Amounts, IsEffective, degree, minus, degree-less}
+use Rattle.dg_rank.proofs.Common.{◌≡◌, ℕ, ◌+◌, ◌<◌, ◌≤◌, Bool, false, List, arith, ints, pos, ◌+ℤ◌, ◌≤ℤ◌, unsigned_abs, Multigraph, IsMultigraph, genus, Amounts, IsEffective, degree, minus, degree-less}
 use Rattle.dg_rank.specs.Cores.{IsCore}
 use Rattle.dg_rank.specs.Folding.{AreFolded}
 use Rattle.dg_rank.specs.Shares.{price, SharesWin}
-use Rattle.dg_rank.proofs.CoreWins.{sum_below-places, core_wins, core_degree}
+use Rattle.dg_rank.proofs.CoreWins.{core_sum, core_wins, core_degree}
 use Rattle.dg_rank.proofs.SharedLosses.{share_few}
 use Rattle.dg_theory.proofs.ExistenceLaws.{rich_is_winnable}
 
@@ -21,10 +21,7 @@ rich_core g L h p A P r j graph some folded core effective held free cheap rich 
       arith,
       ints,
       degree-less h.size (λ i. A (p i)) (λ i. after.share (p i)),
-      sum_below-places g.size h.size p A core.places.rising core.places.below (λ w inside off. ⊎_elim
-          (λ (left : L w ≡ true). let (i, few, here) = core.places.all w inside left in absurd (off i few here))
-          (λ (out : L w ≡ false). held w inside out)
-          (cases_Bool (L w))),
+      core_sum g L h p A core held,
       core_degree g L h p after.share core after.effective,
       after.few,
       rich,

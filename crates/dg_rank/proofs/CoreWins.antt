@@ -1,12 +1,14 @@
 -- What the graph of the vertices that are left tells of the whole graph.
 --   sum_below-places  a sum of terms that are 0 but at some places, which rise, is the sum of the terms there
+--   core_sum          a sum of terms that are 0 but at the vertices of the core is the sum of the terms there
 --   place_of-here     the number of a place among places that rise
 --   core_wins         who wins on the core with at most what is held there wins on the graph, if nobody else is in debt
 --   core_degree       what is held on the core is at most what is held on the graph, if nobody is in debt
 use Rattle.dg_rank.proofs.Common.{if◌then◌else◌, ◌≡◌, ◌≢◌, ℕ, zero, suc, ◌<◌, refl, sym, ap, ◌∙◌, ⊎_elim, Bool, true, false, arith, cases_eq, cases_Bool, both_ways, ints, ℤ, pos, ◌-ℤ◌, ◌≤ℤ◌, Multigraph, edges_between, Amounts, IsEffective, IsWinnable, degree, sum_below, sum_below-cong, sum_below-zero}
 use Rattle.std.proofs.Common.{◌==◌}
-use Rattle.std.proofs.Math.IntN.{◌*ℤ◌, *ℤ-zero, zero-*ℤ}
+use Rattle.std.proofs.Math.IntN.{◌*ℤ◌}
 use Rattle.std.proofs.lemmas.Bool.Decides.{nat_tests}
+use Rattle.dg_rank.proofs.Leaves.{term-none}
 use Rattle.dg_rank.specs.Cores.{IsCore}
 use Rattle.dg_rank.specs.Folding.{AreFolded}
 use Rattle.dg_theory.specs.Firing.{gain, fired}
@@ -45,6 +47,14 @@ sum_below-places (suc n) (suc m) p f rises within none = ⊎_elim
     ))
     (cases_eq (p m) n)
 
+pub core_sum : (g : Multigraph) (L : ℕ → Bool) (h : Multigraph) (p : ℕ → ℕ) (f : ℕ → ℤ) → IsCore g L h p →
+    ((w : ℕ) → w < g.size → L w ≡ false → f w ≡ pos 0) → sum_below g.size f ≡ sum_below h.size (λ i. f (p i))
+core_sum g L h p f core none =
+    sum_below-places g.size h.size p f core.places.rising core.places.below (λ w inside off. ⊎_elim
+    (λ (left : L w ≡ true). let (i, few, here) = core.places.all w inside left in absurd (off i few here))
+    (λ (out : L w ≡ false). none w inside out)
+    (cases_Bool (L w)))
+
 abbrev place_of : (ℕ → ℕ) → ℕ → ℕ → ℕ
 place_of p zero v = 0
 place_of p (suc m) v = if p m == v then m else place_of p m v
@@ -59,14 +69,6 @@ place_of-here p (suc m) i rises low = ⊎_elim
     grind (arith, nat_tests, earlier, rest))
     (cases_eq i m)
 
-no_flow : (e : ℕ) (x y : ℤ) → (0 < e → x ≡ y) → pos e *ℤ (x -ℤ y) ≡ pos 0
-no_flow e x y same = ⊎_elim
-    (λ (none : e ≡ 0). rw none (zero-*ℤ (x -ℤ y)))
-    (λ (some : e ≡ 0 → ⊥).
-    let here : x ≡ y = same (omega arith) in
-    let flat : x -ℤ y ≡ pos 0 = omega (arith, ints) in rw flat (*ℤ-zero (pos e)))
-    (cases_eq e 0)
-
 pub core_wins : (g : Multigraph) (L : ℕ → Bool) (h : Multigraph) (p : ℕ → ℕ) (D D' : Amounts) → AreFolded g L →
     IsCore g L h p → ((i : ℕ) → i < h.size → D' i ≤ℤ D (p i)) →
     ((v : ℕ) → v < g.size → L v ≡ false → pos 0 ≤ℤ D v) → IsWinnable h D' → IsWinnable g D
@@ -78,7 +80,8 @@ core_wins g L h p D D' (top, by) core more rich win = win_of_script g D s (λ v 
     (λ (out : L v ≡ false). omega (
       arith,
       ints,
-      sum_below-zero g.size (λ w. pos (edges_between g v w) *ℤ (s w -ℤ s v)) (λ w inside. still v w below inside (λ both. both_ways _ out both.0)),
+      sum_below-zero g.size (λ w. pos (edges_between g v w) *ℤ (s w -ℤ s v))
+          (λ w inside. still v w below inside (λ both. both_ways _ out both.0)),
       rich v below out,
     ))
     (cases_Bool (L v))) where
@@ -90,7 +93,7 @@ core_wins g L h p D D' (top, by) core more rich win = win_of_script g D s (λ v 
 
       still : (v w : ℕ) → v < g.size → w < g.size → ((L v ≡ true) × (L w ≡ true) → ⊥) →
           pos (edges_between g v w) *ℤ (s w -ℤ s v) ≡ pos 0
-      still v w v_in w_in apart = no_flow (edges_between g v w) (s w) (s v) (λ edge. ⊎_elim
+      still v w v_in w_in apart = term-none (edges_between g v w) (s w) (s v) (λ edge. ⊎_elim
           (λ (within : top v ≡ top w). ap (λ u. won.0 (place_of p h.size u)) (sym within))
           (λ (across : (L v ≡ true) × (L w ≡ true)). absurd (apart across))
           (by.across v w v_in w_in edge))
@@ -101,11 +104,8 @@ core_wins g L h p D D' (top, by) core more rich win = win_of_script g D s (λ v 
 
       gain-left : (i : ℕ) → i < h.size → gain g s (p i) ≡ gain h won.0 i
       gain-left i low =
-          sum_below-places g.size h.size p (λ w. pos (edges_between g (p i) w) *ℤ (s w -ℤ s (p i))) core.places.rising core.places.below
-          (λ w inside off. ⊎_elim
-          (λ (left : L w ≡ true). let (j, few, here) = core.places.all w inside left in absurd (off j few here))
-          (λ (out : L w ≡ false). still (p i) w (core.places.below i low) inside (λ both. both_ways _ out both.1))
-          (cases_Bool (L w)))
+          core_sum g L h p (λ w. pos (edges_between g (p i) w) *ℤ (s w -ℤ s (p i))) core
+          (λ w inside out. still (p i) w (core.places.below i low) inside (λ both. both_ways _ out both.1))
           ∙ sum_below-cong h.size (λ j. pos (edges_between g (p i) (p j)) *ℤ (s (p j) -ℤ s (p i)))
           (λ j. pos (edges_between h i j) *ℤ (won.0 j -ℤ won.0 i))
           (λ j few. rw (at_place i low, at_place j few, core.edges i j low few) refl)
@@ -117,10 +117,7 @@ core_degree g L h p F core rich =
     omega (
       arith,
       ints,
-      sum_below-places g.size h.size p held core.places.rising core.places.below (λ w inside off. ⊎_elim
-          (λ (left : L w ≡ true). let (j, few, here) = core.places.all w inside left in absurd (off j few here))
-          (λ (out : L w ≡ false). rw out refl)
-          (cases_Bool (L w))),
+      core_sum g L h p held core (λ w inside out. rw out refl),
       sum_below-cong h.size (λ i. held (p i)) (λ i. F (p i)) (λ i low. rw (core.places.left i low) refl),
       sum_below-le g.size held F (λ w inside. ⊎_elim
           (λ (left : L w ≡ true). rw left (omega (arith, ints)))

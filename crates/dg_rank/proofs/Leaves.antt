@@ -23,7 +23,7 @@ use Rattle.dg_theory.proofs.Products.{mulz-sub}
 use Rattle.dg_theory.proofs.SumSwap.{sum_below-sub}
 use Rattle.dg_theory.proofs.Winning.{equivalent-winnable}
 
-term-none : (e : ℕ) (x y : ℤ) → (0 < e → x ≡ y) → pos e *ℤ (x -ℤ y) ≡ pos 0
+pub term-none : (e : ℕ) (x y : ℤ) → (0 < e → x ≡ y) → pos e *ℤ (x -ℤ y) ≡ pos 0
 term-none e x y same = ⊎_elim
     (λ (none : e ≡ 0). rw none (zero-*ℤ (x -ℤ y)))
     (λ (some : e ≡ 0 → ⊥).

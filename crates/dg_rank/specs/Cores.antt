@@ -1,6 +1,6 @@
 -- The graph of the vertices that are left once leaves are folded, numbered anew.
 --   AreNumbered n L m p == the numbers below n that are in the set L are p 0, p 1, .. p (m - 1), in their order
---   IsCore g L h p      == h has a vertex i for each vertex p i of g that is in L, in their order, and the edges of g between these
+--   IsCore g L h p      == h has a vertex i for each vertex p i of g that is in L, in their order, and the edges between these
 use Rattle.std.specs.Prelude.{◌≡◌, ℕ, ◌<◌, Bool, true}
 use Rattle.dg_theory.specs.Multigraph.{Multigraph, edges_between}
 

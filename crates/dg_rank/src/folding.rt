@@ -188,8 +188,8 @@ fn shared_losses(
     find_share(graph, &left, &prices, &[dollars; 16], dollars, searches)
 }
 
-/// Whether the degree alone tells that all shares can be borne: each dollar lost costs a dollar at most, and what is left then has
-/// a degree of at least the genus of the core. False says nothing.
+/// Whether the degree alone tells that all shares can be borne: each dollar lost costs a dollar at most, and what is left then
+/// has a degree of at least the genus of the core. False says nothing.
 fn is_rich(
     graph: &Graph,
     unfolded: u16,

@@ -7,7 +7,8 @@ returns c = λ _ r.
     let g = c.args.graph.now in
     let core = c.in-Some.core in
     rich_core g (in_set c.args.unfolded) core.graph (slice_index core.places) (at c.args.left.now) c.args.prices.now r
-    c.args.dollars c.size-core_size.ensures.graph.multigraph (omega (arith, c.size-core_size.ensures.size, c.if-core_size-eq0.false))
+    c.args.dollars c.size-core_size.ensures.graph.multigraph
+    (omega (arith, c.size-core_size.ensures.size, c.if-core_size-eq0.false))
     c.requires.folded c.in-Some.ensures
     c.requires.effective c.requires.held
     (λ v t below out few. c.requires.paid v t (omega (arith, below, c.size-size.ensures.graph.few)) out few)
@@ -21,5 +22,4 @@ returns c = λ _ r.
       c.genus.ensures,
       c.in-Ok.ensures.0,
       c.in-Ok.ensures.1,
-      c.genus.type_inv,
     ))
