@@ -30,10 +30,11 @@ overflow_sub-dollars t c = some t (goal.at.overflow_sub-dollars t c).After-size-
 
 pub returns-in_default : goal.returns-in_default
 returns-in_default t c =
-    first_unpaid c.args.graph.now (at c.args.left.now) c.args.dollars c.args.place c.with_more.result c.all_at_last-in_default.result
+    let rest = c.all_at_last-in_default in
+    first_unpaid c.args.graph.now (at c.args.left.now) c.args.dollars c.args.place c.with_more.result rest.result
     c.requires.known.inside (some t (goal.at.returns-in_default t c).After-size-size) c.requires.known.later
-    (c.all_at_last-in_default.ensures.places ∙ c.size-size.ensures.size) (rw c.size-size.ensures.size at c.all_at_last-in_default.ensures.held)
-    (rw c.size-size.ensures.size at c.all_at_last-in_default.ensures.empty) c.with_more.ensures c.in_default.ensures
+    (rest.ensures.places ∙ c.size-size.ensures.size) (rw c.size-size.ensures.size at rest.ensures.held)
+    (rw c.size-size.ensures.size at rest.ensures.empty) c.with_more.ensures c.in_default.ensures
 
 pub overflow_sub-dollars-2 : goal.overflow_sub-dollars-2
 overflow_sub-dollars-2 t c = some t (goal.at.overflow_sub-dollars-2 t c).After-size-size
